@@ -107,50 +107,6 @@ count_stands size shape image head count fits s h c =
       count_is = long;
     }
 
--- the log ends before home
-pub log_before_home : (shape : Shape) (bytes : List ℕ) → IsSuper shape bytes
-    → 2 + (layout_of shape.format).slot_sectors * shape.slots ≤ shape.home
-log_before_home shape bytes super =
-    let same = ap (λ (n : ℕ). n * shape.slots) (sectors_are shape.format) in
-    omega (arith, same, super.home_is.0)
-
-module _ (size : ℕ) (shape : Shape) (before image : Image) (agree : Agree 0 size image before) where
-  -- where a medium is long enough its log agrees
-  log_agrees : (bytes : List ℕ) → IsSuper shape bytes → sectors_of shape ≤ size
-      → Agree 2 (2 + (layout_of shape.format).slot_sectors * shape.slots) image before
-  log_agrees bytes super fits x low high = agree x (omega arith) (omega (arith, fits, log_before_home shape bytes super))
-
-  -- so does each slot
-  slot_agrees : (bytes : List ℕ) → IsSuper shape bytes → sectors_of shape ≤ size → (stamp : ℕ)
-      → Agree (slot_at (layout_of shape.format) shape stamp)
-      (slot_at (layout_of shape.format) shape stamp + (layout_of shape.format).slot_sectors) image before
-  slot_agrees bytes super fits stamp x low high = log_agrees bytes super fits x (omega arith)
-      (omega (arith, slot_inside (layout_of shape.format) (laws_of shape.format) shape stamp super.some_slots))
-
-  -- images with the same sectors stand for the same
-  pub StandsFor-same : (array : Array) (next : ℕ)
-      → StandsFor size shape before array next → StandsFor size shape image array next
-  StandsFor-same array next s =
-      let L = layout_of shape.format in
-      let laws = laws_of shape.format in
-      let super = s.keeps.super in
-      record {
-        fits = s.fits;
-        head = s.head;
-        records = s.records;
-        keeps = Keeps-same (layout_of shape.format) (laws_of shape.format) shape before image s.head s.records array
-            (agree 0 (omega arith) (omega (arith, s.fits, log_before_home shape (before 0) s.keeps.super)))
-            (agree 1 (omega arith) (omega (arith, s.fits, log_before_home shape (before 0) s.keeps.super)))
-            (λ j below. slot_agrees (before 0) s.keeps.super s.fits (s.head + j))
-            (λ x low high. agree x (omega arith) (omega (arith, s.fits)))
-            s.keeps;
-        few = s.few;
-        ends = λ less w. s.ends less
-            (HasWhole-same (layout_of shape.format) (laws_of shape.format) shape image before (s.head + length s.records)
-            (λ x low high. sym (slot_agrees (before 0) s.keeps.super s.fits (s.head + length s.records) x low high)) w);
-        next_is = s.next_is;
-      }
-
 -- an image that stands for something has the shape of its super
 pub StandsFor-shape : (size : ℕ) (shape : Shape) (image : Image) (array : Array) (next : ℕ) → StandsFor size shape image array next
     → HasShape size shape image

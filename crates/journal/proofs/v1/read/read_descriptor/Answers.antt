@@ -1,10 +1,10 @@
-use Rattle.std.proofs.Common.{◌+◌, ◌*◌, ◌%◌, ◌<◌, ℕ, Option, Some, None, IfSome, sym, rules, arith}
-use Rattle.journal.specs.Places.{first_home}
+use Rattle.std.proofs.Common.{◌≡◌, ◌+◌, ◌*◌, ◌%◌, ◌<◌, ℕ, Option, Some, None, IfSome, sym, rules, arith}
 use Rattle.journal.specs.Values.{shape_of}
 use Rattle.journal.specs.Record.{entries_in, numbers_of}
 use Rattle.journal.proofs.ReadingOne.{descriptor_there, commit_there, numbers_of-entries_in}
 use Rattle.journal.proofs.WholeOne.{whole_in}
 use Rattle.journal.proofs.Wholeness.{as_format, of_format}
+use Rattle.medium.specs.Medium.{State, LooksOnly}
 use Rattle.medium.proofs.SectorsRead.{looks_joined, look_below}
 use Rattle.journal.proofs.Within.{within_one}
 use Rattle.journal.proofs.v1.read.read_descriptor.Goals as goal
@@ -15,18 +15,20 @@ IfSome_from : {X : Type 0} (found : Option X) {P Q R S : X → Type 0} → IfSom
 IfSome_from None p q r f = tt
 IfSome_from (Some x) p q r f = f x p q r
 
+-- two reads before home
+two_looks : (end : ℕ) (old mid new : State) {a b : ℕ} → a < end → b < end → LooksOnly (λ s. s ≡ a) old mid → LooksOnly (λ s. s ≡ b) mid new
+    → LooksOnly (λ s. s < end) old new
+two_looks end old mid new {a} {b} la lb first second =
+    looks_joined (λ s. s < end) old mid new (look_below end old mid a la first) (look_below end mid new b lb second)
+
 pub read-requires : goal.read-requires
 read-requires g c =
-    let sizes = c.args.sizes.now in
-    let ends = within_one (shape_of sizes) c.args.stamp c.slot_of-slot.result sizes.home_is sizes.some_slots c.slot_of-slot.ensures
-    c.requires.format in
+    let ends = within_one c.args.sizes.now c.args.stamp c.slot_of-slot.result c.slot_of-slot.ensures c.requires.format in
     omega (arith, ends, c.requires.fits, c.place_of.ensures)
 
 pub read-requires-2 : goal.read-requires-2
 read-requires-2 g c =
-    let sizes = c.args.sizes.now in
-    let ends = within_one (shape_of sizes) c.args.stamp c.slot_of-slot.result sizes.home_is sizes.some_slots c.slot_of-slot.ensures
-    c.requires.format in
+    let ends = within_one c.args.sizes.now c.args.stamp c.slot_of-slot.result c.slot_of-slot.ensures c.requires.format in
     omega (arith, ends, c.requires.fits, c.commit_place.ensures, c.read.ensures.passes.size_stays)
 
 pub returns-clause-reads : goal.returns-clause-reads
@@ -38,8 +40,7 @@ returns-clause-reads g c = record {
       let slot = c.slot_of-slot.ensures in
       let at : ℕ = 2 + 50 * (c.args.stamp % c.args.sizes.now.slots) in
       let exact = c.whole_record.ensures in
-      let ends = within_one shape c.args.stamp c.slot_of-slot.result c.args.sizes.now.home_is c.args.sizes.now.some_slots slot
-      c.requires.format in
+      let ends = within_one c.args.sizes.now c.args.stamp c.slot_of-slot.result slot c.requires.format in
       let sound = g.met.M.Medium.sound c.args.m.now in
       IfSome_from c.whole_record.result exact.some exact.ended exact.inside
       (λ d described ended inside.
@@ -54,15 +55,11 @@ returns-clause-reads g c = record {
         sym (numbers_of-entries_in old.content (at + 1) d.numbers.items),
       ));
   follows =
-      let sizes = c.args.sizes.now in
-      let ends = within_one (shape_of sizes) c.args.stamp c.slot_of-slot.result sizes.home_is sizes.some_slots c.slot_of-slot.ensures
-      c.requires.format in
+      let ends = within_one c.args.sizes.now c.args.stamp c.slot_of-slot.result c.slot_of-slot.ensures c.requires.format in
       let a = c.read.ensures.follows in
       let b = c.read-2.ensures.follows in (
         g.met.M.Medium.follows_through _ _ _ a.0 b.0,
-        looks_joined (λ s. s < first_home (shape_of sizes)) _ _ _
-            (look_below (first_home (shape_of sizes)) _ _ c.place_of.result (omega (arith, ends, c.place_of.ensures)) a.1)
-            (look_below (first_home (shape_of sizes)) _ _ c.commit_place.result (omega (arith, ends, c.commit_place.ensures)) b.1),
+        two_looks c.args.sizes.now.home _ _ _ (omega (arith, ends, c.place_of.ensures)) (omega (arith, ends, c.commit_place.ensures)) a.1 b.1,
       );
 }
 
@@ -83,11 +80,9 @@ returns-in_err-read-clause-reads g c = record {
   passes = search rules;
   finds = search rules;
   follows =
-      let sizes = c.args.sizes.now in
-      let ends = within_one (shape_of sizes) c.args.stamp c.slot_of-slot.result sizes.home_is sizes.some_slots c.slot_of-slot.ensures
-      c.requires.format in
+      let ends = within_one c.args.sizes.now c.args.stamp c.slot_of-slot.result c.slot_of-slot.ensures c.requires.format in
       let a = c.read.ensures.follows in
-      (a.0, look_below (first_home (shape_of sizes)) _ _ c.place_of.result (omega (arith, ends, c.place_of.ensures)) a.1);
+      (a.0, look_below c.args.sizes.now.home _ _ c.place_of.result (omega (arith, ends, c.place_of.ensures)) a.1);
 }
 
 pub returns-in_err-read-2-clause-reads : goal.returns-in_err-read-2-clause-reads
@@ -95,14 +90,10 @@ returns-in_err-read-2-clause-reads g c = record {
   passes = search rules;
   finds = search rules;
   follows =
-      let sizes = c.args.sizes.now in
-      let ends = within_one (shape_of sizes) c.args.stamp c.slot_of-slot.result sizes.home_is sizes.some_slots c.slot_of-slot.ensures
-      c.requires.format in
+      let ends = within_one c.args.sizes.now c.args.stamp c.slot_of-slot.result c.slot_of-slot.ensures c.requires.format in
       let a = c.read.ensures.follows in
       let b = c.read-2.ensures.follows in (
         g.met.M.Medium.follows_through _ _ _ a.0 b.0,
-        looks_joined (λ s. s < first_home (shape_of sizes)) _ _ _
-            (look_below (first_home (shape_of sizes)) _ _ c.place_of.result (omega (arith, ends, c.place_of.ensures)) a.1)
-            (look_below (first_home (shape_of sizes)) _ _ c.commit_place.result (omega (arith, ends, c.commit_place.ensures)) b.1),
+        two_looks c.args.sizes.now.home _ _ _ (omega (arith, ends, c.place_of.ensures)) (omega (arith, ends, c.commit_place.ensures)) a.1 b.1,
       );
 }

@@ -1,6 +1,4 @@
-use Rattle.std.proofs.Common.{◌≡◌, ◌<◌, ◌+◌, ◌*◌, ℕ, List, inl, inr, refl, sym, subst, rules, arith}
-use Rattle.std.specs.Prelude.{Bool, IsTrue, ◌↔◌}
-use Rattle.journal.specs.SectorsTwo.{place_bytes}
+use Rattle.std.proofs.Common.{◌≡◌, ◌<◌, ◌+◌, ◌*◌, ℕ, inl, inr, refl, rules, arith}
 use Rattle.journal.specs.SlotTwo.{HasPlaces}
 use Rattle.journal.specs.SlotReads.{HasPlace}
 use Rattle.journal.proofs.SlotTwo.{untrue}
@@ -12,11 +10,9 @@ returns-in_err-has_stamp g c = record {
   passes = search rules;
   finds = search rules;
   follows =
-      let inv = c.loop-i.invariant in (
-        g.met.M.Medium.follows_through c.args.m.now c.loop-i.m c.has_stamp.new.m inv.follows c.has_stamp.ensures.follows.0,
-        looks_joined (λ s. s < 2 + 249 * c.args.slot + 249) (g.M.Medium.state c.args.m.now) (g.M.Medium.state c.loop-i.m)
-            (g.M.Medium.state c.has_stamp.new.m) inv.looks c.has_stamp.ensures.follows.1,
-      );
+      let inv = c.loop-i.invariant in
+      let next = c.has_stamp.ensures.follows in
+      (g.met.M.Medium.follows_through _ _ _ inv.follows next.0, looks_joined _ _ _ _ inv.looks next.1);
 }
 
 pub returns-then-not-branch : goal.returns-then-not-branch
@@ -26,24 +22,19 @@ returns-then-not-branch g c = record {
       let inv = c.loop-i.invariant in
       let i = c.loop-i.i in
       let old = g.M.Medium.state c.args.m.now in
-      let mid = g.M.Medium.state c.loop-i.m in
       let begin : ℕ = 2 + 249 * c.args.slot in
-      let same = inv.quiet.content_stays (begin + (8 + i)) in
-      let finds = subst (λ (good : Bool). IsTrue good ↔ HasPlace mid.content begin c.args.stamp i) c.if-not-branch.true
-      c.in_ok-has_stamp.ensures.finds in
+      let finds = rw c.if-not-branch.true at c.in_ok-has_stamp.ensures.finds in
       let bad : ¬ HasPlace old.content begin c.args.stamp i =
-      λ has. untrue (finds.1 (subst (λ (bytes : List ℕ). bytes ≡ place_bytes c.args.stamp bytes) (sym same) has)) in (
+      λ has. untrue (finds.1 (rw (inv.quiet.content_stays (begin + (8 + i))) has)) in (
         (untrue, λ all. absurd (bad (all i c.loop-i-test.true))),
         i + 1,
         inr (record { first = i; inside = c.loop-i-test.true; before = inv.stamped; bad = bad; reads_are = refl }),
         omega (arith, inv.calls, c.in_ok-has_stamp.ensures.passes.exact),
       );
   follows =
-      let inv = c.loop-i.invariant in (
-        g.met.M.Medium.follows_through c.args.m.now c.loop-i.m c.has_stamp.new.m inv.follows c.has_stamp.ensures.follows.0,
-        looks_joined (λ s. s < 2 + 249 * c.args.slot + 249) (g.M.Medium.state c.args.m.now) (g.M.Medium.state c.loop-i.m)
-            (g.M.Medium.state c.has_stamp.new.m) inv.looks c.has_stamp.ensures.follows.1,
-      );
+      let inv = c.loop-i.invariant in
+      let next = c.has_stamp.ensures.follows in
+      (g.met.M.Medium.follows_through _ _ _ inv.follows next.0, looks_joined _ _ _ _ inv.looks next.1);
 }
 
 pub returns : goal.returns

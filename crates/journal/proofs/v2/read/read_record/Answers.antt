@@ -8,7 +8,6 @@ use Rattle.medium.proofs.SectorsRead.{looks_joined, looks_below}
 use Rattle.journal.specs.Entry.{Entry}
 use Rattle.journal.specs.Sectors.{IsRising}
 use Rattle.journal.specs.SectorsTwo.{descriptors_of}
-use Rattle.journal.specs.Places.{first_home}
 use Rattle.journal.specs.Values.{shape_of}
 use Rattle.journal.specs.Reads.{ReadsPass, ReadsAllPass}
 use Rattle.journal.specs.Record.{numbers_of}
@@ -53,11 +52,9 @@ returns-in_default g c = record {
         );
       };
   follows =
-      let home = c.args.sizes.now in
-      let ends = within_two (shape_of home) c.args.stamp c.slot_of-slot.result home.home_is home.some_slots c.slot_of-slot.ensures
-      c.requires.format in
+      let ends = within_two c.args.sizes.now c.args.stamp c.slot_of-slot.result c.slot_of-slot.ensures c.requires.format in
       let looks = c.read_count.ensures.reads.follows in
-      (looks.0, looks_below _ (first_home (shape_of home)) _ _ ends looks.1);
+      (looks.0, looks_below _ c.args.sizes.now.home _ _ ends looks.1);
 }
 
 pub returns-then-not-branch : goal.returns-then-not-branch
@@ -86,12 +83,10 @@ returns-then-not-branch g c = record {
         );
       };
   follows =
-      let home = c.args.sizes.now in
-      let ends = within_two (shape_of home) c.args.stamp c.slot_of-slot.result home.home_is home.some_slots c.slot_of-slot.ensures
-      c.requires.format in
+      let ends = within_two c.args.sizes.now c.args.stamp c.slot_of-slot.result c.slot_of-slot.ensures c.requires.format in
       let a = c.read_count.ensures.reads.follows in
       let b = c.read_descriptors.ensures.reads.follows in
-      (g.met.M.Medium.follows_through _ _ _ a.0 b.0, looks_on _ (first_home (shape_of home)) _ _ _ ends a.1 b.1);
+      (g.met.M.Medium.follows_through _ _ _ a.0 b.0, looks_on _ c.args.sizes.now.home _ _ _ ends a.1 b.1);
 }
 
 pub returns-then-are_blocks : goal.returns-then-are_blocks
@@ -113,7 +108,7 @@ returns-then-are_blocks g c = record {
       let named = rw (c.if-not-branch.false, same) at c.in_ok-read_descriptors.ensures.reads.finds in
       let blocks = rw c.deref.ensures.0 at (c.are_blocks.ensures.0 c.if-are_blocks.true) in
       let sound = g.met.M.Medium.sound c.args.m.now in
-      let ends = within_two shape s slot c.args.sizes.now.home_is c.args.sizes.now.some_slots is two in
+      let ends = within_two c.args.sizes.now s slot is two in
       let commit = rw (← named.0) at committed in
       record {
         some = λ stamped. two_whole shape old.content s slot two is c.read_descriptors.new.to.numbers.items
@@ -138,12 +133,10 @@ returns-then-are_blocks g c = record {
         );
       };
   follows =
-      let home = c.args.sizes.now in
-      let ends = within_two (shape_of home) c.args.stamp c.slot_of-slot.result home.home_is home.some_slots c.slot_of-slot.ensures
-      c.requires.format in
+      let ends = within_two c.args.sizes.now c.args.stamp c.slot_of-slot.result c.slot_of-slot.ensures c.requires.format in
       let a = c.read_count.ensures.reads.follows in
       let b = c.read_descriptors.ensures.reads.follows in
-      (g.met.M.Medium.follows_through _ _ _ a.0 b.0, looks_on _ (first_home (shape_of home)) _ _ _ ends a.1 b.1);
+      (g.met.M.Medium.follows_through _ _ _ a.0 b.0, looks_on _ c.args.sizes.now.home _ _ _ ends a.1 b.1);
 }
 
 pub returns-else-are_blocks : goal.returns-else-are_blocks
@@ -189,12 +182,10 @@ returns-else-are_blocks g c = record {
         );
       };
   follows =
-      let home = c.args.sizes.now in
-      let ends = within_two (shape_of home) c.args.stamp c.slot_of-slot.result home.home_is home.some_slots c.slot_of-slot.ensures
-      c.requires.format in
+      let ends = within_two c.args.sizes.now c.args.stamp c.slot_of-slot.result c.slot_of-slot.ensures c.requires.format in
       let a = c.read_count.ensures.reads.follows in
       let b = c.read_descriptors.ensures.reads.follows in
-      (g.met.M.Medium.follows_through _ _ _ a.0 b.0, looks_on _ (first_home (shape_of home)) _ _ _ ends a.1 b.1);
+      (g.met.M.Medium.follows_through _ _ _ a.0 b.0, looks_on _ c.args.sizes.now.home _ _ _ ends a.1 b.1);
 }
 
 pub returns-in_err-count : goal.returns-in_err-count
@@ -202,11 +193,9 @@ returns-in_err-count g c = record {
   passes = search rules;
   finds = search rules;
   follows =
-      let home = c.args.sizes.now in
-      let ends = within_two (shape_of home) c.args.stamp c.slot_of-slot.result home.home_is home.some_slots c.slot_of-slot.ensures
-      c.requires.format in
+      let ends = within_two c.args.sizes.now c.args.stamp c.slot_of-slot.result c.slot_of-slot.ensures c.requires.format in
       let looks = c.read_count.ensures.reads.follows in
-      (looks.0, looks_below _ (first_home (shape_of home)) _ _ ends looks.1);
+      (looks.0, looks_below _ c.args.sizes.now.home _ _ ends looks.1);
 }
 
 pub returns-in_err-read_descriptors : goal.returns-in_err-read_descriptors
@@ -214,10 +203,8 @@ returns-in_err-read_descriptors g c = record {
   passes = search rules;
   finds = search rules;
   follows =
-      let home = c.args.sizes.now in
-      let ends = within_two (shape_of home) c.args.stamp c.slot_of-slot.result home.home_is home.some_slots c.slot_of-slot.ensures
-      c.requires.format in
+      let ends = within_two c.args.sizes.now c.args.stamp c.slot_of-slot.result c.slot_of-slot.ensures c.requires.format in
       let a = c.read_count.ensures.reads.follows in
       let b = c.read_descriptors.ensures.reads.follows in
-      (g.met.M.Medium.follows_through _ _ _ a.0 b.0, looks_on _ (first_home (shape_of home)) _ _ _ ends a.1 b.1);
+      (g.met.M.Medium.follows_through _ _ _ a.0 b.0, looks_on _ c.args.sizes.now.home _ _ _ ends a.1 b.1);
 }
