@@ -11,7 +11,7 @@ use Rattle.journal.specs.Places.{Shape, IsFirstHome, slot_sectors_of, gap_of}
 use Rattle.journal.specs.Spelling.{spelling, number_in, super_mark, head_mark}
 use Rattle.journal.specs.Sectors.{version_of, IsSuper, IsHead, IsRising}
 use Rattle.journal.proofs.AllOrFirst.{all_or_first}
-use Rattle.journal.proofs.SectorNumbers.{head_stamp, super_blocks, super_slots, super_home}
+use Rattle.journal.proofs.SectorNumbers.{head_stamp, shape_in, shape_is}
 
 -- so or not
 abbrev pub Decided : Type 0 → Type 0
@@ -74,17 +74,13 @@ first_home_or_not format slots home =
     let end : ℕ = 2 + slot_sectors_of format * slots in
     both (at_most_or_not end home) (below_or_not home (end + gap_of format))
 
--- a sector is a super of this format or not
-super_of_format : (format : LogFormat) (bytes : List ℕ) → Decided ((shape : Shape) × (shape.format ≡ format) × IsSuper shape bytes)
-super_of_format format bytes =
-    let n = number_in bytes 2 in
-    let k = number_in bytes 3 in
-    let h = number_in bytes 5 in
-    let shape : Shape = record { format = format; blocks = n; slots = k; home = h } in
+-- a sector is a super or not
+pub super_or_not : (bytes : List ℕ) → Decided ((shape : Shape) × IsSuper shape bytes)
+super_or_not bytes =
+    let s : Shape = shape_in bytes in
     along
     (λ w. (
-      shape,
-      refl,
+      s,
       record {
         spelled = w.0;
         some_blocks = w.1.0;
@@ -95,29 +91,9 @@ super_of_format format bytes =
       },
     ))
     (λ w.
-    let same : w.0 ≡ shape = λ i. record {
-      format = w.1 i;
-      blocks = sym (super_blocks w.2) i;
-      slots = sym (super_slots w.2) i;
-      home = sym (super_home w.2) i;
-    } in
-    let s = subst (λ (x : Shape). IsSuper x bytes) same w.2 in
-    (s.spelled, (s.some_blocks, (s.most_blocks, (s.some_slots, (s.most_slots, s.home_is))))))
-    (both (same_or_not bytes (spelling (super_mark ∷ version_of format ∷ n ∷ k ∷ 2 ∷ h ∷ [])))
-    (both (at_most_or_not 1 n)
-    (both (at_most_or_not n (2 ^ 31)) (both (at_most_or_not 1 k) (both (at_most_or_not k 64) (first_home_or_not format k h))))))
-
--- a sector is a super or not
-pub super_or_not : (bytes : List ℕ) → Decided ((shape : Shape) × IsSuper shape bytes)
-super_or_not bytes = elim (super_of_format One bytes) [
-  | inl one ↦ inl (one.0, one.2)
-  | inr no_one ↦ elim (super_of_format Two bytes) [
-    | inl two ↦ inl (two.0, two.2)
-    | inr no_two ↦ inr (λ w. neither w.0 w.0.format refl w.1 no_one no_two)
-  ]
-]
-  where
-    neither : (shape : Shape) (f : LogFormat) → shape.format ≡ f → IsSuper shape bytes
-        → (¬ ((s : Shape) × (s.format ≡ One) × IsSuper s bytes)) → (¬ ((s : Shape) × (s.format ≡ Two) × IsSuper s bytes)) → ⊥
-    neither shape One is s no_one no_two = no_one (shape, is, s)
-    neither shape Two is s no_one no_two = no_two (shape, is, s)
+    let i = subst (λ (x : Shape). IsSuper x bytes) (sym (shape_is w.1)) w.1 in
+    (i.spelled, (i.some_blocks, (i.most_blocks, (i.some_slots, (i.most_slots, i.home_is))))))
+    (both (same_or_not bytes (spelling (super_mark ∷ version_of s.format ∷ s.blocks ∷ s.slots ∷ 2 ∷ s.home ∷ [])))
+    (both (at_most_or_not 1 s.blocks)
+    (both (at_most_or_not s.blocks (2 ^ 31))
+    (both (at_most_or_not 1 s.slots) (both (at_most_or_not s.slots 64) (first_home_or_not s.format s.slots s.home))))))

@@ -1,12 +1,12 @@
 -- The numbers and the entries in the sectors of format 2.
 use Rattle.std.proofs.Common.{◌≡◌, inl, inr, ℕ, zero, suc, ◌+◌, ◌*◌, ◌-◌, ◌^◌, ◌<◌, ◌≤◌, List, [], ◌∷◌, ◌++◌, length, get_or, take, drop, refl}
-use Rattle.std.proofs.Common.{sym, ◌∙◌, ap, arith, length-append}
+use Rattle.std.proofs.Common.{sym, ◌∙◌, ap, subst, arith, length-append}
 use Rattle.std.specs.Prelude.{All, min, zip, slice_range}
 use Rattle.std.specs.List.{flat_map}
 use Rattle.std.proofs.lemmas.Bool.{cases_lt}
 use Rattle.std.proofs.lemmas.List.{take_all, take_at, drop_at, length-take, length-take-le, length-drop, append_assoc, append-nil, take_more}
 use Rattle.std.proofs.lemmas.List.{drop-drop, drop-take, get_or-take, get_or-drop, ext_get_or}
-use Rattle.std.proofs.lemmas.List.Elements.{All-take, All-from_get_or}
+use Rattle.std.proofs.lemmas.List.Elements.{All-take, All-drop, All-from_get_or}
 use Rattle.std.proofs.lemmas.Slice.Zip.{length-zip, get_or-zip}
 use Rattle.std.proofs.lemmas.Grind.{flat_map-append}
 use Rattle.byteorder.specs.Endian.{little_bytes, little_number}
@@ -14,8 +14,8 @@ use Rattle.byteorder.specs.Numbers.{little_number-reads_back, little_from-take}
 use Rattle.journal.specs.Entry.{Entry}
 use Rattle.journal.specs.Spelling.{number_in}
 use Rattle.journal.specs.Sectors.{IsRising}
-use Rattle.journal.specs.SectorsTwo.{padded, entry_bytes, descriptor_bytes, place_bytes, commit_bytes, entries_here, IsDescriptorTwo}
-use Rattle.journal.specs.SectorsTwo.{IsCommitTwo}
+use Rattle.journal.specs.SectorsTwo.{padded, entry_bytes, descriptor_bytes, place_bytes, commit_bytes, entries_here, AreEntriesTwo}
+use Rattle.journal.specs.SectorsTwo.{IsDescriptorTwo, IsCommitTwo}
 
 -- the stamp in a descriptor
 pub descriptor_says : (s : ℕ) (entries : List Entry) (j : ℕ) → s < 2 ^ 64 → number_in (descriptor_bytes s entries j) 1 ≡ s
@@ -159,6 +159,22 @@ pub sized_from : (firsts : List (List ℕ)) (count : ℕ) (bytes : List ℕ) (at
 sized_from firsts count bytes at size inside each = All-from_get_or (λ (first : List ℕ). length first ≡ 8) firsts [] (λ i below.
     let small : i < count = omega arith in
     ap (λ (l : List ℕ). length l) (each i small) ∙ (length_range bytes (at i) (at i + 8) (omega arith) (inside i small) ∙ (omega arith)))
+
+-- what a descriptor may hold, cut from the block numbers of a record
+pub entries_cut : (numbers items : List ℕ) (firsts : List (List ℕ)) (j : ℕ) → length numbers ≤ 240 → 30 * j < length numbers
+    → IsRising numbers → All (λ b. b < 2 ^ 31) numbers → items ≡ take 30 (drop (30 * j) numbers) → length firsts ≡ length items
+    → All (λ (first : List ℕ). length first ≡ 8) firsts → AreEntriesTwo (length numbers) j items firsts
+entries_cut numbers items firsts j few used rising small are each sized =
+    let fits : ℕ → Type 0 = λ b. b < 2147483648 in
+    record {
+      few = few;
+      used = used;
+      many = omega (arith, ap (λ (l : List ℕ). length l) are, length-take 30 (drop (30 * j) numbers), length-drop (30 * j) numbers);
+      each = each;
+      rising = subst IsRising (sym are) (rising_part numbers (30 * j) 30 rising);
+      small = subst (All fits) (sym are) (All-take fits 30 (drop (30 * j) numbers) (All-drop fits (30 * j) numbers small));
+      sized = sized;
+    }
 
 -- the numbers of a commit
 module _ (stamp count : ℕ) (bytes : List ℕ) (c : IsCommitTwo stamp count bytes) where

@@ -25,27 +25,12 @@ module _ (j : ℕ) (numbers more : List ℕ) (long : length numbers ≡ 30 * j) 
       → (k : ℕ) → k < j + 1
       → (fs : List (List ℕ)) × IsDescriptorTwo stamp count k (take 30 (drop (30 * k) (numbers ++ more))) fs (image (at + k))
   described_more image at stamp count firsts is all k below = elim (cases_eq k j) [
-    | inl same ↦
-        let here : take 30 (drop (30 * k) (numbers ++ more)) ≡ more =
-        ap (λ (i : ℕ). take 30 (drop (30 * i) (numbers ++ more))) same ∙ last (omega (arith, is.entries.many)) in (
-          firsts,
-          subst (λ (ns : List ℕ). IsDescriptorTwo stamp count k ns firsts (image (at + k))) (sym here)
-              (subst (λ (i : ℕ). IsDescriptorTwo stamp count i more firsts (image (at + i))) (sym same) is),
-        )
-    | inr other ↦
-        let less : k < j = omega arith in
-        let was = all k less in (
-          (all k less).0,
-          subst (λ (ns : List ℕ). IsDescriptorTwo stamp count k ns (all k less).0 (image (at + k))) (sym (before k less)) (all k less).1,
-        )
+    | inl same ↦ (firsts, rw (same, last (omega (arith, is.entries.many))) is)
+    | inr other ↦ let was = all k (omega arith) in (was.0, rw (before k (omega arith)) was.1)
   ]
 
 -- descriptors that name so many blocks are there
 pub each_there : (image : Image) (at stamp count : ℕ) (numbers : List ℕ) → length numbers ≡ count → HasDescriptors image at stamp numbers
     → (j : ℕ) → j < descriptors_of count → HasDescriptor image at stamp count j
 each_there image at stamp count numbers long has j below =
-    let is = has j (omega (arith, below, long)) in (
-      take 30 (drop (30 * j) numbers),
-      is.0,
-      subst (λ (n : ℕ). IsDescriptorTwo stamp n j (take 30 (drop (30 * j) numbers)) is.0 (image (at + j))) long is.1,
-    )
+    let is = has j (omega (arith, below, long)) in (take 30 (drop (30 * j) numbers), is.0, simp long at is.1)

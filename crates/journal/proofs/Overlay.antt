@@ -6,6 +6,7 @@ use Rattle.std.proofs.lemmas.Bool.{cases_eq}
 use Rattle.std.proofs.lemmas.Bool.Decides.{nat_tests}
 use Rattle.spec.specs.Blocks.{Array}
 use Rattle.journal.specs.Record.{Entry, with_blocks, with_records, Hides}
+use Rattle.journal.proofs.AllOrFirst.{all_or_first}
 
 -- a block depends on that block alone
 pub with_blocks-same : (entries : List Entry) (a c : Array) (b : ℕ) → a b ≡ c b
@@ -30,14 +31,10 @@ with_records-append (x ∷ records) entries a b = with_records-append records en
 pub with_blocks-hides : (entries : List Entry) (i : ℕ) (a c : Array) → i < length entries
     → with_blocks entries a (get_or entries i (0, [])).0 ≡ with_blocks entries c (get_or entries i (0, [])).0
 with_blocks-hides [] i a c below = absurd (omega arith)
-with_blocks-hides (e ∷ entries) zero a c below = found
+with_blocks-hides (e ∷ entries) zero a c below = rw yes
   where
     yes : (e.0 == e.0) ≡ true
     yes = grind (arith, nat_tests)
-
-    found : with_blocks (e ∷ entries) a e.0 ≡ with_blocks (e ∷ entries) c e.0
-    found = ap (λ (t : Bool). if t then e.1 else with_blocks entries a e.0) yes
-        ∙ sym (ap (λ (t : Bool). if t then e.1 else with_blocks entries c e.0) yes)
 with_blocks-hides (e ∷ entries) (suc i) a c below =
     let b = (get_or entries i (0, [])).0 in
     ap (λ (v : List ℕ). if e.0 == b then e.1 else v) (with_blocks-hides entries i a c (omega arith))
@@ -55,10 +52,8 @@ pub with_blocks-home : (entries : List Entry) (a : Array) (b : ℕ) → ((i : �
     → a (get_or entries i (0, [])).0 ≡ (get_or entries i (0, [])).1) → with_blocks entries a b ≡ a b
 with_blocks-home [] a b home = refl
 with_blocks-home (e ∷ entries) a b home = elim (cases_eq e.0 b) [
-  | inl is ↦ ap (λ (t : Bool). if t then e.1 else with_blocks entries a b) (yes is) ∙ sym (home 0 (omega arith)) ∙ ap a is
-  | inr not ↦
-      ap (λ (t : Bool). if t then e.1 else with_blocks entries a b) (no not)
-      ∙ with_blocks-home entries a b (λ i below. home (suc i) (omega arith))
+  | inl is ↦ rw (yes is) (sym (home 0 (omega arith)) ∙ ap a is)
+  | inr not ↦ rw (no not) (with_blocks-home entries a b (λ i below. home (suc i) (omega arith)))
 ]
   where
     yes : e.0 ≡ b → (e.0 == b) ≡ true
@@ -67,32 +62,18 @@ with_blocks-home (e ∷ entries) a b home = elim (cases_eq e.0 b) [
     no : e.0 ≢ b → (e.0 == b) ≡ false
     no not = grind (arith, nat_tests)
 
--- a block is named by the entries or not
-named_or_not : (entries : List Entry) (b : ℕ) → ((i : ℕ) × (i < length entries)
-    × ((get_or entries i (0, [])).0 ≡ b)) ⊎ ((i : ℕ) → i < length entries
-    → (get_or entries i (0, [])).0 ≢ b)
-named_or_not [] b = inr (λ i below. absurd (omega arith))
-named_or_not (e ∷ entries) b = elim (cases_eq e.0 b) [
-  | inl is ↦ inl (0, omega arith, is)
-  | inr not ↦ elim (named_or_not entries b) [
-    | inl found ↦ inl (suc found.0, omega (arith, found.1), found.2)
-    | inr none ↦ inr (nowhere not none)
-  ]
-]
-  where
-    nowhere : e.0 ≢ b → ((i : ℕ) → i < length entries → (get_or entries i (0, [])).0 ≢ b) → (i : ℕ)
-        → i < length (e ∷ entries) → (get_or (e ∷ entries) i (0, [])).0 ≢ b
-    nowhere not none zero below = not
-    nowhere not none (suc i) below = none i (omega arith)
-
 -- once the blocks of a record are copied, and no others changed, home is as if they were laid over it
 pub with_blocks-copied : (entries : List Entry) (old new : Array) → ((i : ℕ) → i < length entries
     → new (get_or entries i (0, [])).0 ≡ (get_or entries i (0, [])).1)
     → ((b : ℕ) → ((i : ℕ) → i < length entries → (get_or entries i (0, [])).0 ≢ b) → new b ≡ old b)
     → (b : ℕ) → new b ≡ with_blocks entries old b
 with_blocks-copied entries old new copied others b =
-    sym (with_blocks-home entries new b copied) ∙ elim (named_or_not entries b) [
-      | inl found ↦
-          subst (λ x. with_blocks entries new x ≡ with_blocks entries old x) found.2 (with_blocks-hides entries found.0 new old found.1)
-      | inr none ↦ with_blocks-same entries new old b (others b none)
+    sym (with_blocks-home entries new b copied) ∙ elim (all_or_first
+    (λ i. (get_or entries i (0, [])).0 ≢ b)
+    (λ i. (get_or entries i (0, [])).0 ≡ b)
+    (length entries)
+    (λ i below. elim (cases_eq (get_or entries i (0, [])).0 b) [ inl is ↦ inr is | inr not ↦ inl not ])) [
+      | inl none ↦ with_blocks-same entries new old b (others b none)
+      | inr one ↦
+          subst (λ x. with_blocks entries new x ≡ with_blocks entries old x) one.3 (with_blocks-hides entries one.0 new old one.1)
     ]

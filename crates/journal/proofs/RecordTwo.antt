@@ -13,7 +13,7 @@ use Rattle.journal.specs.SectorsTwo.{entry_bytes, descriptor_bytes, place_bytes,
 use Rattle.journal.specs.SectorsTwo.{spelled_two, IsDescriptorTwo}
 use Rattle.journal.specs.LayoutLaws.{IsRecordOf}
 use Rattle.journal.specs.Format2.{format2}
-use Rattle.journal.proofs.EntriesTwo.{rising_part}
+use Rattle.journal.proofs.EntriesTwo.{entries_cut}
 
 -- the bytes of entries are those of their numbers and first bytes
 entries_same : (es : List Entry) → flat_map entry_bytes (zip (numbers_of es) (firsts_of es)) ≡ flat_map entry_bytes es
@@ -46,33 +46,18 @@ firsts_of_chunk es j =
 pub descriptor_two : {blocks stamp : ℕ} {es : List Entry} (j : ℕ) → IsRecordOf format2 blocks stamp es → 30 * j < length es
     → IsDescriptorTwo stamp (length es) j (numbers_of (chunk_of es j)) (firsts_of (chunk_of es j)) (descriptor_bytes stamp es j)
 descriptor_two {stamp = stamp} {es = es} j r used =
-    let number : Entry → ℕ = λ e. e.0 in
     let first : Entry → List ℕ = λ e. take 8 e.1 in
-    let fits : ℕ → Type 0 = λ b. b < 2147483648 in
     let full : Entry → Type 0 = λ e. length e.1 ≡ 512 in
     let chunk : List Entry = chunk_of es j in
-    let numbers = numbers_of_chunk es j in
-    let long_numbers = length-map chunk number in
-    let long_firsts = length-map chunk first in
+    let long = length-map es (λ (e : Entry). e.0) in
+    let each = length-map chunk first in
     let sized = All-take full 30 (drop (30 * j) es) (All-drop full (30 * j) es r.fit.sized) in
-    record {
-      spelled = descriptor_spelled stamp es j;
-      least = r.least;
-      most = r.below;
-      entries = record {
-        few = r.fit.few;
-        used = used;
-        many = omega (arith, long_numbers, length-take 30 (drop (30 * j) es), length-drop (30 * j) es);
-        each = omega (arith, long_numbers, long_firsts);
-        rising = subst IsRising (sym numbers) (rising_part (numbers_of es) (30 * j) 30 r.fit.rising);
-        small = subst (All fits) (sym numbers)
-            (All-take fits 30 (drop (30 * j) (numbers_of es)) (All-drop fits (30 * j) (numbers_of es) r.fit.small));
-        sized = All-from_get_or (λ (l : List ℕ). length l ≡ 8) (firsts_of chunk) [] (λ i below.
-            let block = (get_or chunk i (0, [])).1 in
-            rw (get_or-map first chunk i (0, []))
-            (length-take-le 8 block (omega (arith, sized i (0, []) (omega (arith, below, long_firsts))))));
-      };
-    }
+    let entries = entries_cut (numbers_of es) (numbers_of chunk) (firsts_of chunk) j (omega (arith, long, r.fit.few))
+    (omega (arith, long)) r.fit.rising r.fit.small (numbers_of_chunk es j) (each ∙ sym (length-map chunk (λ (e : Entry). e.0)))
+    (All-from_get_or (λ (l : List ℕ). length l ≡ 8) (firsts_of chunk) [] (λ i below.
+    rw (get_or-map first chunk i (0, []))
+    (length-take-le 8 (get_or chunk i (0, [])).1 (omega (arith, sized i (0, []) (omega (arith, below, each))))))) in
+    record { spelled = descriptor_spelled stamp es j; least = r.least; most = r.below; entries = rw long at entries }
 
 -- a data place is one for its own bytes
 pub place_own : (stamp : ℕ) (block sector : List ℕ) → sector ≡ place_bytes stamp block → sector ≡ place_bytes stamp sector

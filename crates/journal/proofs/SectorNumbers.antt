@@ -1,6 +1,7 @@
 -- What a sector's numbers say of the value that it spells, and that this is one.
 use Rattle.std.proofs.Common.{◌≡◌, ◌⊎◌, inl, inr, ⊎_elim, refl, ℕ, suc, ◌+◌, ◌<◌, ◌≤◌, ◌*◌, List, [], ◌∷◌, length, drop, get_or}
 use Rattle.std.proofs.Common.{ap, sym, ◌∙◌, arith}
+use Rattle.std.specs.Prelude.{if◌then◌else◌, ◌==◌}
 use Rattle.std.proofs.lemmas.List.{ext_get_or}
 use Rattle.journal.specs.Places.{Shape, IsFirstHome}
 use Rattle.journal.specs.declared.log_format.LogFormat.{LogFormat}
@@ -44,12 +45,13 @@ pub version_small : (format : LogFormat) → version_of format ≤ 2
 version_small One = omega arith
 version_small Two = omega arith
 
--- formats of one version are one
-pub version_one : (a b : LogFormat) → version_of a ≡ version_of b → a ≡ b
-version_one One One e = refl
-version_one One Two e = absurd (omega arith)
-version_one Two One e = absurd (omega arith)
-version_one Two Two e = refl
+-- the format of a super with this version
+abbrev pub format_in : ℕ → LogFormat
+format_in version = if version == 1 then One else Two
+
+format_is : (format : LogFormat) → format_in (version_of format) ≡ format
+format_is One = refl
+format_is Two = refl
 
 -- a format has version 1 or 2
 pub version_known : (format : LogFormat) → (version_of format ≡ 1) ⊎ (version_of format ≡ 2)
@@ -88,14 +90,26 @@ module _ {shape : Shape} {bytes : List ℕ} (s : IsSuper shape bytes) where
         ∙ spelling-rest (super_mark ∷ version_of shape.format ∷ shape.blocks ∷ shape.slots ∷ 2 ∷ shape.home ∷ []),
   )
 
+-- the only shape whose super a sector may be
+abbrev pub shape_in : List ℕ → Shape
+shape_in bytes = record {
+  format = format_in (number_in bytes 1);
+  blocks = number_in bytes 2;
+  slots = number_in bytes 3;
+  home = number_in bytes 5;
+}
+
+pub shape_is : {shape : Shape} {bytes : List ℕ} → IsSuper shape bytes → shape_in bytes ≡ shape
+shape_is {shape} s = λ i. record {
+  format = (ap format_in (super_version s) ∙ format_is shape.format) i;
+  blocks = super_blocks s i;
+  slots = super_slots s i;
+  home = super_home s i;
+}
+
 -- a super spells one shape
 pub IsSuper-one : (a b : Shape) (bytes : List ℕ) → IsSuper a bytes → IsSuper b bytes → a ≡ b
-IsSuper-one a b bytes s t = λ i. record {
-  format = version_one a.format b.format (sym (super_version s) ∙ super_version t) i;
-  blocks = (sym (super_blocks s) ∙ super_blocks t) i;
-  slots = (sym (super_slots s) ∙ super_slots t) i;
-  home = (sym (super_home s) ∙ super_home t) i;
-}
+IsSuper-one a b bytes s t = sym (shape_is s) ∙ shape_is t
 
 -- the stamp of a head
 pub head_stamp : {stamp : ℕ} {bytes : List ℕ} → IsHead stamp bytes → number_in bytes 1 ≡ stamp

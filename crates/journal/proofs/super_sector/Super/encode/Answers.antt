@@ -1,6 +1,4 @@
-use Rattle.std.proofs.Common.{ℕ, [], ◌∷◌, refl, ap, ◌∙◌}
-use Rattle.journal.specs.Sectors.{version_of}
-use Rattle.journal.specs.Spelling.{spelling}
+use Rattle.std.proofs.Common.{ℕ, [], ◌∷◌, refl, ◌∙◌}
 use Rattle.journal.proofs.OneSpelling.{spelling-none}
 use Rattle.journal.proofs.super_sector.Super.encode.Goals as goal
 
@@ -15,9 +13,7 @@ returns c =
           (c.put-4.ensures (mark ∷ version ∷ sizes.blocks ∷ []) refl
           (c.put-3.ensures (mark ∷ version ∷ []) refl
           (c.put-2.ensures (mark ∷ []) refl (c.put.ensures [] refl spelling-none)))))
-          ∙ ap (λ (v : ℕ). spelling (mark ∷ v ∷ sizes.blocks ∷ sizes.slots ∷ 2 ∷ sizes.home ∷ [])) c.version.ensures
-          ∙ ap (λ (number : ℕ). spelling (number ∷ version_of sizes.format ∷ sizes.blocks ∷ sizes.slots ∷ 2 ∷ sizes.home ∷ []))
-          c.mark_number.ensures;
+          ∙ cc (c.version.ensures, c.mark_number.ensures);
       some_blocks = sizes.some_blocks;
       most_blocks = sizes.most_blocks;
       some_slots = sizes.some_slots;
