@@ -13,23 +13,13 @@ returns-clause-ok g c stamp entries slot below is whole =
     below c.args.first.now is c.read.new.to (rw (c.in_ok-read.ensures.ok, c.copy_place.ensures, slot))
 
 pub returns-in_err-read-clause-reads : goal.returns-in_err-read-clause-reads
-returns-in_err-read-clause-reads g c = record {
-  passes = search rules;
-  quiet = quiet_call _ _ c.read.ensures.passes c.read.ensures.content c.read.ensures.sets;
-  follows = c.read.ensures.follows.0;
-  looks =
-      let s = c.args.sizes.now in
-      let before = place_before s.format s.slots s.home c.args.slot c.args.i s.home_is c.requires.slot c.requires.inside in
-      look_below s.home _ _ c.copy_place.result (omega (arith, c.copy_place.ensures, before)) c.read.ensures.follows.1;
-}
+returns-in_err-read-clause-reads g c =
+    let s = c.args.sizes.now in
+    let before = place_before s.format s.slots s.home c.args.slot c.args.i s.home_is c.requires.slot c.requires.inside in
+    search (rules, quiet_call, look_below, arith)
 
 pub returns-clause-reads : goal.returns-clause-reads
-returns-clause-reads g c = record {
-  passes = search rules;
-  quiet = quiet_call _ _ c.read.ensures.passes c.read.ensures.content c.read.ensures.sets;
-  follows = c.read.ensures.follows.0;
-  looks =
-      let s = c.args.sizes.now in
-      let before = place_before s.format s.slots s.home c.args.slot c.args.i s.home_is c.requires.slot c.requires.inside in
-      look_below s.home _ _ c.copy_place.result (omega (arith, c.copy_place.ensures, before)) c.read.ensures.follows.1;
-}
+returns-clause-reads g c =
+    let s = c.args.sizes.now in
+    let before = place_before s.format s.slots s.home c.args.slot c.args.i s.home_is c.requires.slot c.requires.inside in
+    search (rules, quiet_call, look_below, arith)

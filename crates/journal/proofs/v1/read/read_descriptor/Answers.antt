@@ -76,14 +76,9 @@ returns-clause-all g c entries whole =
     w.fit.inside
 
 pub returns-in_err-read-clause-reads : goal.returns-in_err-read-clause-reads
-returns-in_err-read-clause-reads g c = record {
-  passes = search rules;
-  finds = search rules;
-  follows =
-      let ends = within_one c.args.sizes.now c.args.stamp c.slot_of-slot.result c.slot_of-slot.ensures c.requires.format in
-      let a = c.read.ensures.follows in
-      (a.0, look_below c.args.sizes.now.home _ _ c.place_of.result (omega (arith, ends, c.place_of.ensures)) a.1);
-}
+returns-in_err-read-clause-reads g c =
+    let ends = within_one c.args.sizes.now c.args.stamp c.slot_of-slot.result c.slot_of-slot.ensures c.requires.format in
+    search (rules, look_below, arith)
 
 pub returns-in_err-read-2-clause-reads : goal.returns-in_err-read-2-clause-reads
 returns-in_err-read-2-clause-reads g c = record {

@@ -176,14 +176,9 @@ returns-else-are_blocks g c =
     })
 
 pub returns-in_err-count : goal.returns-in_err-count
-returns-in_err-count g c = record {
-  passes = search rules;
-  finds = search rules;
-  follows =
-      let ends = within_two c.args.sizes.now c.args.stamp c.slot_of-slot.result c.slot_of-slot.ensures c.requires.format in
-      let looks = c.read_count.ensures.reads.follows in
-      (looks.0, looks_below _ c.args.sizes.now.home _ _ ends looks.1);
-}
+returns-in_err-count g c =
+    let ends = within_two c.args.sizes.now c.args.stamp c.slot_of-slot.result c.slot_of-slot.ensures c.requires.format in
+    search (rules, looks_below)
 
 pub returns-in_err-read_descriptors : goal.returns-in_err-read_descriptors
 returns-in_err-read_descriptors g c = record {
