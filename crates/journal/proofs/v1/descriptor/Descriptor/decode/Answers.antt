@@ -1,24 +1,12 @@
 use Rattle.std.proofs.Common.{◌≡◌, rules, arith, length, ◌∙◌, IsTrue}
 use Rattle.journal.proofs.SectorNumbers.{descriptor_stamp, descriptor_count, descriptor_numbers}
 use Rattle.journal.proofs.v1.descriptor.Descriptor.decode.Goals as goal
-use Rattle.journal.proofs.v1.descriptor.Descriptor.decode.Goals.{then-stamp-lt1-via-then-stamp-lt1}
-use Rattle.journal.proofs.v1.descriptor.Descriptor.decode.Goals.{then-stamp-lt1-via-else-stamp-lt1+then-stamp}
-use Rattle.journal.proofs.v1.descriptor.Descriptor.decode.Goals.{then-stamp-lt1-via-else-stamp-lt1+else-stamp+then-count-lt1}
-use Rattle.journal.proofs.v1.descriptor.Descriptor.decode.Goals.{
-  then-stamp-lt1-via-else-stamp-lt1+else-stamp+else-count-lt1+then-count-gt48,
-}
 
 pub returns-then-stamp-lt1-clause-all : goal.returns-then-stamp-lt1-clause-all
 returns-then-stamp-lt1-clause-all c stamp numbers d =
     let st : c.number_at-stamp.result ≡ stamp = c.number_at-stamp.ensures.is ∙ descriptor_stamp d in
     let count : c.number_at-count.result ≡ length numbers = c.number_at-count.ensures.is ∙ descriptor_count d in
-    elim c.then-stamp-lt1.branch [
-      | then-stamp-lt1-via-then-stamp-lt1 w ↦ omega (arith, w.if-stamp-lt1.true, d.least)
-      | then-stamp-lt1-via-else-stamp-lt1+then-stamp w ↦ omega (arith, w.if-stamp.true, d.most)
-      | then-stamp-lt1-via-else-stamp-lt1+else-stamp+then-count-lt1 w ↦ omega (arith, w.if-count-lt1.true, d.block_numbers.some)
-      | then-stamp-lt1-via-else-stamp-lt1+else-stamp+else-count-lt1+then-count-gt48 w ↦
-          omega (arith, w.if-count-gt48.true, d.block_numbers.few)
-    ]
+    search rules
 
 pub returns-then-not-are_block_numbers-clause-all : goal.returns-then-not-are_block_numbers-clause-all
 returns-then-not-are_block_numbers-clause-all c stamp numbers d =

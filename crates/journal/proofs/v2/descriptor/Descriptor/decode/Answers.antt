@@ -1,42 +1,24 @@
-use Rattle.std.proofs.Common.{◌≡◌, ◌<◌, ◌+◌, ◌*◌, ℕ, rules, arith, sym, ◌∙◌, subst, IsTrue}
+use Rattle.std.proofs.Common.{◌≡◌, ◌<◌, ◌+◌, ◌*◌, ◌^◌, ℕ, rules, arith, sym, ◌∙◌, subst, IsTrue}
 use Rattle.std.specs.Prelude.{All}
 use Rattle.journal.specs.Sectors.{IsRising}
 use Rattle.journal.proofs.EntriesTwo.{stamp_is, count_is, index_is, here_is, numbers_are, firsts_are, sized_from}
 use Rattle.journal.proofs.v2.descriptor.Descriptor.decode.Goals as goal
-use Rattle.journal.proofs.v2.descriptor.Descriptor.decode.Goals.{then-stamp-lt1-via-then-stamp-lt1}
-use Rattle.journal.proofs.v2.descriptor.Descriptor.decode.Goals.{then-stamp-lt1-via-else-stamp-lt1+then-stamp}
-use Rattle.journal.proofs.v2.descriptor.Descriptor.decode.Goals.{then-stamp-lt1-via-else-stamp-lt1+else-stamp+then-not-has_entries}
-use Rattle.journal.proofs.v2.descriptor.Descriptor.decode.Goals.{then-not-are_small-via-then-not-are_small}
-use Rattle.journal.proofs.v2.descriptor.Descriptor.decode.Goals.{then-not-are_small-via-else-not-are_small+then-not-are_rising}
 
 pub returns-then-stamp-lt1-clause-all : goal.returns-then-stamp-lt1-clause-all
 returns-then-stamp-lt1-clause-all c stamp count j numbers firsts d =
     let st : c.number_at-stamp.result ≡ stamp = c.number_at-stamp.ensures.is ∙ stamp_is d in
     let many : c.number_at-count.result ≡ count = c.number_at-count.ensures.is ∙ count_is d in
     let index : c.number_at-index.result ≡ j = c.number_at-index.ensures.is ∙ index_is d in
-    elim c.then-stamp-lt1.branch [
-      | then-stamp-lt1-via-then-stamp-lt1 w ↦ omega (arith, w.if-stamp-lt1.true, d.least)
-      | then-stamp-lt1-via-else-stamp-lt1+then-stamp w ↦ omega (arith, w.if-stamp.true, d.most)
-      | then-stamp-lt1-via-else-stamp-lt1+else-stamp+then-not-has_entries w ↦
-          let good : IsTrue w.has_entries.result =
-          w.has_entries.ensures.1 (omega (arith, many, d.entries.few), omega (arith, many, index, d.entries.used)) in
-          search rules
-    ]
+    search rules
 
 pub returns-then-not-are_small-clause-all : goal.returns-then-not-are_small-clause-all
 returns-then-not-are_small-clause-all c stamp count j numbers firsts d =
     let read = c.numbers_at-numbers.ensures in
     let here = here_is d c.count_here-here.ensures c.number_at-count.ensures.is c.number_at-index.ensures.is in
     let same = numbers_are d c.count_here-here.result c.numbers_at-numbers.result.items here read.count read.each in
-    elim c.then-not-are_small.branch [
-      | then-not-are_small-via-then-not-are_small w ↦
-          let good : IsTrue c.are_small.result = c.are_small.ensures.1 (rw (c.deref.ensures.0, same) d.entries.small) in
-          search rules
-      | then-not-are_small-via-else-not-are_small+then-not-are_rising w ↦
-          let good : IsTrue w.are_rising.result =
-          w.are_rising.ensures.1 (rw (w.deref-else-not-are_small.ensures.0, same) d.entries.rising) in
-          search rules
-    ]
+    let small : All (λ b. b < 2 ^ 31) c.numbers_at-numbers.result.items = rw same d.entries.small in
+    let rising : IsRising c.numbers_at-numbers.result.items = rw same d.entries.rising in
+    search rules
 
 pub invariant_of-descriptor : goal.invariant_of-descriptor
 invariant_of-descriptor c =
