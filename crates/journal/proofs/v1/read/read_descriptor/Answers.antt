@@ -81,14 +81,11 @@ returns-in_err-read-clause-reads g c =
     search (rules, look_below, arith)
 
 pub returns-in_err-read-2-clause-reads : goal.returns-in_err-read-2-clause-reads
-returns-in_err-read-2-clause-reads g c = record {
-  passes = search rules;
-  finds = search rules;
-  follows =
-      let ends = within_one c.args.sizes.now c.args.stamp c.slot_of-slot.result c.slot_of-slot.ensures c.requires.format in
-      let a = c.read.ensures.follows in
-      let b = c.read-2.ensures.follows in (
-        g.met.M.Medium.follows_through _ _ _ a.0 b.0,
-        two_looks c.args.sizes.now.home _ _ _ (omega (arith, ends, c.place_of.ensures)) (omega (arith, ends, c.commit_place.ensures)) a.1 b.1,
-      );
-}
+returns-in_err-read-2-clause-reads g c =
+    let ends = within_one c.args.sizes.now c.args.stamp c.slot_of-slot.result c.slot_of-slot.ensures c.requires.format in
+    let a = c.read.ensures.follows in
+    let b = c.read-2.ensures.follows in
+    let through = g.met.M.Medium.follows_through _ _ _ a.0 b.0 in
+    let looks = two_looks c.args.sizes.now.home _ _ _ (omega (arith, ends, c.place_of.ensures)) (omega (arith, ends, c.commit_place.ensures))
+    a.1 b.1 in
+    search rules

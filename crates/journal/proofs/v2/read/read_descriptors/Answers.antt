@@ -97,14 +97,12 @@ returns-clause-reads g c = record {
 }
 
 pub returns-in_err-found-clause-reads : goal.returns-in_err-found-clause-reads
-returns-in_err-found-clause-reads g c = record {
-  passes = search rules;
-  finds = search rules;
-  follows =
-      let inv = c.loop-j.invariant in
-      let next = c.read_descriptor.ensures.reads.follows in
-      (g.met.M.Medium.follows_through _ _ _ inv.follows next.0, looks_joined _ _ _ _ inv.looks next.1);
-}
+returns-in_err-found-clause-reads g c =
+    let inv = c.loop-j.invariant in
+    let next = c.read_descriptor.ensures.reads.follows in
+    let through = g.met.M.Medium.follows_through _ _ _ inv.follows next.0 in
+    let looks = looks_joined _ _ _ _ inv.looks next.1 in
+    search rules
 
 pub returns-in_default-clause-reads : goal.returns-in_default-clause-reads
 returns-in_default-clause-reads g c = record {

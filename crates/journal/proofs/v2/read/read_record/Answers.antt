@@ -181,11 +181,8 @@ returns-in_err-count g c =
     search (rules, looks_below)
 
 pub returns-in_err-read_descriptors : goal.returns-in_err-read_descriptors
-returns-in_err-read_descriptors g c = record {
-  passes = search rules;
-  finds = search rules;
-  follows =
-      let ends = within_two c.args.sizes.now c.args.stamp c.slot_of-slot.result c.slot_of-slot.ensures c.requires.format in
-      follows_on g.M.Medium.state g.M.Medium.follows g.met.M.Medium.follows_through _ c.args.sizes.now.home ends _ _ _
-      c.read_count.ensures.reads.follows c.read_descriptors.ensures.reads.follows;
-}
+returns-in_err-read_descriptors g c =
+    let ends = within_two c.args.sizes.now c.args.stamp c.slot_of-slot.result c.slot_of-slot.ensures c.requires.format in
+    let follows = follows_on g.M.Medium.state g.M.Medium.follows g.met.M.Medium.follows_through _ c.args.sizes.now.home ends _ _ _
+    c.read_count.ensures.reads.follows c.read_descriptors.ensures.reads.follows in
+    search rules

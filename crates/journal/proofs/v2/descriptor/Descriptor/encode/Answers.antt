@@ -1,4 +1,4 @@
-use Rattle.std.proofs.Common.{ℕ, List, [], ◌++◌, refl}
+use Rattle.std.proofs.Common.{ℕ, List, [], ◌++◌, refl, rules}
 use Rattle.byteorder.specs.Endian.{little_bytes}
 use Rattle.journal.proofs.PaddedBytes.{padded-none}
 use Rattle.journal.proofs.v2.descriptor.Descriptor.encode.Goals as goal
@@ -14,9 +14,4 @@ returns c =
     (c.append_number-4.ensures ((mark ++ stamp) ++ count) refl
     (c.append_number-3.ensures (mark ++ stamp) refl
     (c.append_number-2.ensures mark refl (c.append_number.ensures [] refl padded-none)))) in
-    record {
-      spelled = cc (written, c.deref.ensures.0, c.deref-2.ensures.0, c.mark_number.ensures);
-      least = d.least;
-      most = d.most;
-      entries = d.entries;
-    }
+    search rules

@@ -3,15 +3,7 @@ use Rattle.journal.proofs.EntriesTwo.{items_here, sized_from, entries_cut}
 use Rattle.journal.proofs.v2.descriptor.Descriptor.new.Goals as goal
 
 pub returns : goal.returns
-returns c = record {
-  stamp_is = search rules;
-  count = search rules;
-  index_is = search rules;
-  numbers_are =
-      items_here c.list_of.result.items c.args.numbers.now (30 * c.args.index) c.count_here-here.result c.count_here-here.ensures
-      c.list_of.ensures;
-  firsts = search rules;
-}
+returns c = search (rules, items_here)
 
 pub invariant_of-result : goal.invariant_of-result
 invariant_of-result c =
