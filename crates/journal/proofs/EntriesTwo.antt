@@ -4,7 +4,7 @@ use Rattle.std.proofs.Common.{sym, ◌∙◌, ap, subst, arith, length-append}
 use Rattle.std.specs.Prelude.{All, min, zip, slice_range}
 use Rattle.std.specs.List.{flat_map}
 use Rattle.std.proofs.lemmas.Bool.{cases_lt}
-use Rattle.std.proofs.lemmas.List.{take_all, take_at, drop_at, length-take, length-take-le, length-drop, append_assoc, append-nil, take_more}
+use Rattle.std.proofs.lemmas.List.{take_all, take_min, length-take, length-take-le, length-drop, append_assoc, append-nil, take_more}
 use Rattle.std.proofs.lemmas.List.{drop-drop, drop-take, get_or-take, get_or-drop, ext_get_or}
 use Rattle.std.proofs.lemmas.List.Elements.{All-take, All-drop, All-from_get_or}
 use Rattle.std.proofs.lemmas.Slice.Zip.{length-zip, get_or-zip}
@@ -12,6 +12,7 @@ use Rattle.std.proofs.lemmas.Grind.{flat_map-append}
 use Rattle.byteorder.specs.Endian.{little_bytes, little_number}
 use Rattle.byteorder.specs.Numbers.{little_number-reads_back, little_from-take}
 use Rattle.journal.specs.Entry.{Entry}
+use Rattle.journal.proofs.Pieces.{length_pieces, piece_at}
 use Rattle.journal.specs.Spelling.{number_in}
 use Rattle.journal.specs.Sectors.{IsRising}
 use Rattle.journal.specs.SectorsTwo.{padded, entry_bytes, descriptor_bytes, place_bytes, commit_bytes, entries_here, AreEntriesTwo}
@@ -42,40 +43,10 @@ pub place_rest : (s : ℕ) (block : List ℕ) → drop 8 (place_bytes s block) �
 unfolding place_bytes
 place_rest s block = refl
 
--- each entry has the 8 bytes that a descriptor keeps
-abbrev pub AreLong : List Entry → Type 0
-AreLong entries = All (λ (e : Entry). 8 ≤ length e.1) entries
-
+-- an entry takes 16 bytes
 length_entry : (e : Entry) → 8 ≤ length e.1 → length (entry_bytes e) ≡ 16
 unfolding entry_bytes
 length_entry e size = omega (arith, length-append (little_bytes 8 e.0) (take 8 e.1), length-take-le 8 e.1 (omega arith))
-
--- entry e of a descriptor, 16 bytes each
-entry_at : (es : List Entry) (e : ℕ) (rest : List ℕ) → e < length es → AreLong es
-    → take 16 (drop (16 * e) (flat_map entry_bytes es ++ rest)) ≡ entry_bytes (get_or es e (0, []))
-entry_at [] e rest below sized = absurd (omega arith)
-entry_at (x ∷ es) zero rest below sized =
-    rw (append_assoc (entry_bytes x) (flat_map entry_bytes es) rest)
-    (take_at (entry_bytes x) (flat_map entry_bytes es ++ rest) 16 (length_entry x (sized 0 (0, []) (omega arith))))
-entry_at (x ∷ es) (suc e) rest below sized =
-    let step : 16 * suc e ≡ 16 + 16 * e = omega arith in
-    let all = flat_map entry_bytes (x ∷ es) ++ rest in
-    let behind = drop_at (entry_bytes x) (flat_map entry_bytes es ++ rest) 16 (length_entry x (sized 0 (0, []) (omega arith))) in
-    ap (λ (k : ℕ). take 16 (drop k all)) step
-    ∙ ap (λ (l : List ℕ). take 16 l) (sym (drop-drop (16 * e) 16 all))
-    ∙ ap (λ (l : List ℕ). take 16 (drop (16 * e) l)) (ap (λ (l : List ℕ). drop 16 l) (append_assoc (entry_bytes x) _ rest) ∙ behind)
-    ∙ entry_at es e rest (omega arith) (λ k d inside. sized (suc k) d (omega arith))
-
--- entries take 16 bytes each
-length_entries : (es : List Entry) → AreLong es → length (flat_map entry_bytes es) ≡ 16 * length es
-length_entries [] long = refl
-length_entries (x ∷ es) long =
-    omega (
-      arith,
-      length-append (entry_bytes x) (flat_map entry_bytes es),
-      length_entry x (long 0 (0, []) (omega arith)),
-      length_entries es (λ k d below. long (suc k) d (omega arith)),
-    )
 
 module _ (numbers : List ℕ) (firsts : List (List ℕ)) (each : length firsts ≡ length numbers) where
   -- entry e
@@ -86,14 +57,11 @@ module _ (numbers : List ℕ) (firsts : List (List ℕ)) (each : length firsts �
   length_zipped = omega (arith, length-zip numbers firsts)
 
   module _ (sized : All (λ (first : List ℕ). length first ≡ 8) firsts) where
-    pub zipped_long : AreLong (zip numbers firsts)
+    pub zipped_long : All (λ (x : Entry). length (entry_bytes x) ≡ 16) (zip numbers firsts)
     zipped_long e d below =
         let inside : e < length numbers = omega (arith, length_zipped) in
-        omega (
-          arith,
-          ap (λ (x : Entry). length x.1) (get_or-zip numbers firsts e d inside (omega (arith, inside))),
-          sized e d.1 (omega (arith, inside)),
-        )
+        let is = ap (λ (x : Entry). length x.1) (get_or-zip numbers firsts e d inside (omega (arith, inside))) in
+        length_entry (get_or (zip numbers firsts) e d) (omega (arith, is, sized e d.1 (omega (arith, inside))))
 
     -- how many bytes stand behind so many entries
     pub length_so_far : (before : List ℕ) (e : ℕ) → length before ≡ 32 → e ≤ length numbers
@@ -102,7 +70,8 @@ module _ (numbers : List ℕ) (firsts : List (List ℕ)) (each : length firsts �
         omega (
           arith,
           length-append before (flat_map entry_bytes (take e (zip numbers firsts))),
-          length_entries (take e (zip numbers firsts)) (All-take (λ (x : Entry). 8 ≤ length x.1) e (zip numbers firsts) zipped_long),
+          length_pieces entry_bytes 16 (take e (zip numbers firsts))
+              (All-take (λ (x : Entry). length (entry_bytes x) ≡ 16) e (zip numbers firsts) zipped_long),
           length-take e (zip numbers firsts),
           length_zipped,
         )
@@ -139,13 +108,8 @@ rising_part numbers from count rising i j less below =
 pub items_here : (items numbers : List ℕ) (from here : ℕ) → here ≡ min 30 (length numbers - from)
     → items ≡ take (from + here - from) (drop from numbers) → items ≡ take 30 (drop from numbers)
 items_here items numbers from here is are =
-    let count : from + here - from ≡ here = omega arith in
-    are ∙ ap (λ (k : ℕ). take k (drop from numbers)) count ∙ elim (cases_lt 30 (length numbers - from)) [
-      | inl more ↦ let full : here ≡ 30 = omega arith in ap (λ (k : ℕ). take k (drop from numbers)) full
-      | inr all ↦
-          take_all here (drop from numbers) (omega (arith, length-drop from numbers))
-          ∙ sym (take_all 30 (drop from numbers) (omega (arith, length-drop from numbers)))
-    ]
+    let count : from + here - from ≡ min 30 (length (drop from numbers)) = omega (arith, length-drop from numbers) in
+    are ∙ ap (λ (k : ℕ). take k (drop from numbers)) count ∙ take_min 30 (drop from numbers)
 
 -- a part of bytes is as long as it says
 pub length_range : (bytes : List ℕ) (a b : ℕ) → a ≤ b → b ≤ length bytes → length (slice_range bytes a b) ≡ b - a
@@ -209,7 +173,7 @@ module _ {stamp count j : ℕ} {numbers : List ℕ} {firsts : List (List ℕ)} {
   entry_is e below =
       ap (λ (l : List ℕ). take 16 l) (sym (drop-drop (16 * e) 32 bytes))
       ∙ ap (λ (l : List ℕ). take 16 (drop (16 * e) (drop 32 l))) d.spelled
-      ∙ entry_at (zip numbers firsts) e _ (omega (arith, length_zipped numbers firsts d.entries.each))
+      ∙ piece_at entry_bytes 16 (zip numbers firsts) e (0, []) _ (omega (arith, length_zipped numbers firsts d.entries.each))
       (zipped_long numbers firsts d.entries.each d.entries.sized)
       ∙ ap entry_bytes (zipped numbers firsts d.entries.each e below)
 

@@ -37,6 +37,18 @@ pub part_commit : (s : ℕ) (entries : List Entry) (p : ℕ) → length entries 
 unfolding part1
 part_commit s entries p behind = rw (above_is p 1 (omega arith)) (rw (above_is p (length entries + 1) behind) refl)
 
+-- the kinds of parts of a record of n blocks, with so many descriptors, in both formats
+pub data Kind (descriptors n p : ℕ) : Type 0 where
+  Described : p < descriptors → Kind descriptors n p
+  Placed : descriptors ≤ p → p < descriptors + n → Kind descriptors n p
+  Committed : descriptors + n ≤ p → Kind descriptors n p
+
+pub kind_of : (descriptors n p : ℕ) → Kind descriptors n p
+kind_of descriptors n p = elim (cases_lt p descriptors) [
+  | inl d ↦ Described d
+  | inr not ↦ elim (cases_lt p (descriptors + n)) [ inl below ↦ Placed not below | inr all ↦ Committed all ]
+]
+
 pub inside1 : (n p : ℕ) → n ≤ 48 → p < n + 2 → offset1 n p < 50
 inside1 n p few below = grind (arith, offset_early n p, offset_commit n p)
 

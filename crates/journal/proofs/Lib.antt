@@ -1,8 +1,8 @@
+pub mod Pieces
 pub mod OneSpelling
 pub mod SectorNumbers
 pub mod AllOrFirst
 pub mod DecidingSectors
-pub mod PaddedBytes
 pub mod EntriesTwo
 pub mod RecordTwo
 pub mod Apart
@@ -13,8 +13,6 @@ pub mod WrittenRecord
 pub mod Engine
 pub mod FaultLaws
 pub mod Finding
-pub mod PartKinds
-pub mod ExactParts
 pub mod Format1Laws
 pub mod Format2Laws
 pub mod Formats
@@ -25,7 +23,6 @@ pub mod SectorsRead
 pub mod Slots
 pub mod StandingLaws
 pub mod WholeTwo
-pub mod WholeOne
 pub mod SlotTwo
 pub mod Naming
 pub mod Within

@@ -1,4 +1,4 @@
--- The numbers of a sector, written and read back.
+-- The numbers and the bytes of a sector, written and read back.
 use Rattle.std.proofs.Common.{◌≡◌, ℕ, zero, suc, ◌+◌, ◌*◌, ◌-◌, ◌^◌, ◌<◌, ◌≤◌, List, [], ◌∷◌, ◌++◌, length, get_or, take, drop, refl, sym}
 use Rattle.std.proofs.Common.{◌∙◌, ap, arith, length-append}
 use Rattle.std.proofs.lemmas.List.{take_at, drop_at, take_all, drop_all, drop-replicate, length-drop, drop-drop}
@@ -8,14 +8,14 @@ use borrow.Rule.Slice.PartMut.{put_mid, mid_of}
 use Rattle.std.specs.Prelude.{replicate}
 use Rattle.std.specs.List.{flat_map}
 use Rattle.byteorder.specs.Endian.{little_bytes, little_number}
-use Rattle.byteorder.specs.Numbers.{little_number-reads_back}
+use Rattle.byteorder.specs.Numbers.{little_number-reads_back, little_from-take}
 use Rattle.journal.specs.Spelling.{spelling, number_in}
+use Rattle.journal.specs.SectorsTwo.{padded}
+use Rattle.journal.proofs.Pieces.{length_pieces, piece_at}
 
 -- numbers take eight bytes each
-pub length_bytes : (numbers : List ℕ) → length (flat_map (little_bytes 8) numbers) ≡ 8 * length numbers
-length_bytes [] = refl
-length_bytes (n ∷ numbers) =
-    let more = length_bytes numbers in omega (arith, length-append (little_bytes 8 n) (flat_map (little_bytes 8) numbers))
+length_bytes : (numbers : List ℕ) → length (flat_map (little_bytes 8) numbers) ≡ 8 * length numbers
+length_bytes numbers = length_pieces (little_bytes 8) 8 numbers (λ i d below. refl)
 
 -- a number written behind those that are spelled
 pub spelling-put : (i number : ℕ) (numbers sector part : List ℕ) → length numbers ≡ i
@@ -58,17 +58,10 @@ pub spelling-get : (i : ℕ) (numbers sector : List ℕ) → i < length numbers 
     → sector ≡ spelling numbers → number_in sector i ≡ get_or numbers i 0
 unfolding spelling number_in
 spelling-get i numbers sector below small is =
-    rw is (get_from i numbers (replicate (512 - 8 * length numbers) 0) below small)
-  where
-    get_from : (i : ℕ) (numbers zeros : List ℕ) → i < length numbers → get_or numbers i 0 < 2 ^ 64
-        → little_number 8 (drop (8 * i) (flat_map (little_bytes 8) numbers ++ zeros)) ≡ get_or numbers i 0
-    get_from i [] zeros below small = absurd (omega arith)
-    get_from zero (n ∷ numbers) zeros below small = little_number-reads_back 8 n (flat_map (little_bytes 8) numbers ++ zeros) small
-    get_from (suc i) (n ∷ numbers) zeros below small =
-        let step : 8 * suc i ≡ 8 + 8 * i = omega arith in
-        ap (λ (k : ℕ). little_number 8 (drop k (flat_map (little_bytes 8) (n ∷ numbers) ++ zeros))) step
-        ∙ ap (little_number 8) (sym (drop-drop (8 * i) 8 (flat_map (little_bytes 8) (n ∷ numbers) ++ zeros)))
-        ∙ get_from i numbers zeros (omega arith) small
+    let zeros : List ℕ = replicate (512 - 8 * length numbers) 0 in
+    rw is (sym (little_from-take 0 8 8 (drop (8 * i) (flat_map (little_bytes 8) numbers ++ zeros)) (omega arith))
+    ∙ ap (little_number 8) (piece_at (little_bytes 8) 8 numbers i 0 zeros below (λ j d inside. refl))
+    ∙ little_number-reads_back 8 (get_or numbers i 0) [] small)
 
 -- behind the numbers there are zeros
 pub spelling-rest : (numbers : List ℕ)
@@ -76,3 +69,24 @@ pub spelling-rest : (numbers : List ℕ)
 unfolding spelling
 spelling-rest numbers =
     drop_at (flat_map (little_bytes 8) numbers) (replicate (512 - 8 * length numbers) 0) (8 * length numbers) (length_bytes numbers)
+
+-- bytes written behind those that are there
+pub padded-put : (i k : ℕ) (before sector part new : List ℕ) → length before ≡ i → k ≡ length part → i + length part ≤ 512
+    → sector ≡ padded before → new ≡ part → put_mid i k sector new ≡ padded (before ++ part)
+unfolding padded
+padded-put i k before sector part new count same inside is wrote =
+    let left : ℕ = 512 - length before in
+    let fewer : left - k ≡ 512 - length (before ++ part) = omega (arith, length-append before part) in
+    cc (
+      is,
+      take_at before (replicate left 0) i count,
+      drop_at before (replicate left 0) i count,
+      drop-replicate {X = ℕ} k left 0,
+      fewer,
+      wrote,
+      append_assoc before part (replicate (left - k) 0),
+    )
+
+pub padded-none : replicate 512 0 ≡ padded []
+unfolding padded
+padded-none = refl

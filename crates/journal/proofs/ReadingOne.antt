@@ -1,16 +1,19 @@
--- The record that stands in a slot of format 1, read back.
-use Rattle.std.proofs.Common.{◌≡◌, ℕ, zero, suc, ◌+◌, ◌-◌, ◌*◌, ◌%◌, ◌<◌, List, [], ◌∷◌, length, get_or, refl, sym, ◌∙◌, ap, arith}
+-- The record that stands in a slot of format 1, read back; and what makes it whole.
+use Rattle.std.proofs.Common.{◌≡◌, ℕ, zero, suc, ◌+◌, ◌-◌, ◌*◌, ◌%◌, ◌^◌, ◌<◌, List, [], ◌∷◌, length, get_or, refl, sym, ◌∙◌, ap, subst, arith}
+use Rattle.std.specs.Prelude.{All}
 use Rattle.std.proofs.lemmas.List.{length-map}
+use Rattle.std.proofs.lemmas.List.Elements.{All-from_get_or}
 use Rattle.std.proofs.lemmas.List.FromFn.{fill_by_all}
 use Rattle.medium.specs.Medium.{Image}
 use Rattle.journal.specs.Places.{Shape}
 use Rattle.journal.specs.Spelling.{number_in}
-use Rattle.journal.specs.Sectors.{IsDescriptor, IsCommit}
+use Rattle.journal.specs.Sectors.{IsRising, IsDescriptor, IsCommit}
 use Rattle.journal.specs.Record.{Entry, numbers_of, block_of, entries_in}
-use Rattle.journal.specs.Layout.{IsWholeIn}
-use Rattle.journal.specs.Format1.{format1, offset1, descriptor1, commit1, numbers_in, record_in}
+use Rattle.journal.specs.Layout.{AreEntries, IsWholeIn}
+use Rattle.journal.specs.Format1.{format1, offset1, part1, descriptor1, commit1, numbers_in, record_in}
 use Rattle.journal.proofs.SectorNumbers.{descriptor_count, descriptor_number}
 use Rattle.journal.proofs.Format1Laws.{offset_early, offset_commit, part_descriptor, part_place, part_commit, descriptor_of, commit_of}
+use Rattle.journal.proofs.Format1Laws.{Kind, Described, Placed, Committed, kind_of}
 use Rattle.journal.proofs.Wholeness.{record_of}
 
 -- entries are the same by their block numbers and their bytes
@@ -84,3 +87,46 @@ module _ (shape : Shape) (image : Image) (s : ℕ) (es : List Entry) (w : IsWhol
       entries_same es (record_in image at) (numbers ∙ sym (numbers_of-entries_in image (at + 1) (numbers_in (image at))))
       (λ i below. sym (place_there i below) ∙ sym (bytes_of-entries_in image (at + 1) i (numbers_in (image at))
       (omega (arith, below, length-map es f, ap length numbers))))
+
+-- a record is whole where its descriptor and its commit are there
+module _ (shape : Shape) (image : Image) (stamp : ℕ) (numbers : List ℕ)
+    (described : IsDescriptor stamp numbers (image (2 + 50 * (stamp % shape.slots))))
+    (committed : IsCommit stamp (length numbers) (image (2 + 50 * (stamp % shape.slots) + 49)))
+    (below_all : All (λ b. b < shape.blocks) numbers)
+    (sized : (i : ℕ) → i < length numbers → length (image (2 + 50 * (stamp % shape.slots) + 1 + i)) ≡ 512) where
+  abbrev at : ℕ
+  at = 2 + 50 * (stamp % shape.slots)
+
+  abbrev es : List Entry
+  es = entries_in image (2 + 50 * (stamp % shape.slots) + 1) numbers
+
+  names : numbers_of es ≡ numbers
+  names = numbers_of-entries_in image (at + 1) numbers
+
+  many : length es ≡ length numbers
+  many = length-entries_in image (at + 1) numbers
+
+  entries : AreEntries 48 shape.blocks es
+  entries = record {
+    some = omega (arith, many, described.block_numbers.some);
+    few = omega (arith, many, described.block_numbers.few);
+    rising = subst IsRising (sym names) described.block_numbers.rising;
+    inside = subst (λ (l : List ℕ). All (λ b. b < shape.blocks) l) (sym names) below_all;
+    small = subst (λ (l : List ℕ). All (λ b. b < 2 ^ 31) l) (sym names) described.block_numbers.fit;
+    sized = All-from_get_or (λ e. length e.1 ≡ 512) es (0, []) (λ i below.
+        ap (λ (l : List ℕ). length l) (bytes_of-entries_in image (at + 1) i numbers (omega (arith, many))) ∙ sized i (omega (arith, many)));
+  }
+
+  there : (p : ℕ) → Kind 1 (length es) p → image (at + offset1 (length es) p) ≡ part1 stamp es p
+  there p (Described d) =
+      let first : at + offset1 (length es) p ≡ at = omega (arith, offset_early (length es) p (omega arith)) in
+      cc (first, described.spelled, names, part_descriptor stamp es p d)
+  there p (Placed b d) =
+      let next : at + offset1 (length es) p ≡ at + 1 + (p - 1) = omega (arith, offset_early (length es) p (omega arith)) in
+      cc (next, bytes_of-entries_in image (at + 1) (p - 1) numbers (omega (arith, many)), part_place stamp es p b (omega arith))
+  there p (Committed c) =
+      cc (offset_commit (length es) p (omega arith), committed.spelled, many, part_commit stamp es p (omega arith))
+
+  -- these are the blocks of a whole record
+  pub whole_in : IsWholeIn format1 shape image stamp (entries_in image (2 + 50 * (stamp % shape.slots) + 1) numbers)
+  whole_in = record { fit = entries; least = described.least; below = described.most; there = λ p below. there p (kind_of 1 (length es) p) }

@@ -1,5 +1,5 @@
 use Rattle.std.proofs.Common.{arith}
-use Rattle.journal.proofs.PaddedBytes.{padded-put}
+use Rattle.journal.proofs.OneSpelling.{padded-put}
 use Rattle.journal.proofs.v2.sectors.append.Goals as goal
 
 pub returns : goal.returns

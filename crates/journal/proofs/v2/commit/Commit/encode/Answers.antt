@@ -1,7 +1,7 @@
 use Rattle.std.proofs.Common.{ℕ, List, [], ◌++◌, refl, rules}
 use Rattle.byteorder.specs.Endian.{little_bytes}
 use Rattle.journal.specs.SectorsTwo.{commit_bytes}
-use Rattle.journal.proofs.PaddedBytes.{padded-none}
+use Rattle.journal.proofs.OneSpelling.{padded-none}
 use Rattle.journal.proofs.v2.commit.Commit.encode.Goals as goal
 
 pub returns : goal.returns

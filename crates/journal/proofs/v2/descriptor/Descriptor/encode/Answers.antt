@@ -1,6 +1,6 @@
 use Rattle.std.proofs.Common.{ℕ, List, [], ◌++◌, refl, rules}
 use Rattle.byteorder.specs.Endian.{little_bytes}
-use Rattle.journal.proofs.PaddedBytes.{padded-none}
+use Rattle.journal.proofs.OneSpelling.{padded-none}
 use Rattle.journal.proofs.v2.descriptor.Descriptor.encode.Goals as goal
 
 pub returns : goal.returns
