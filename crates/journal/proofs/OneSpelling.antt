@@ -1,7 +1,7 @@
 -- The numbers and the bytes of a sector, written and read back.
-use Rattle.std.proofs.Common.{◌≡◌, ℕ, zero, suc, ◌+◌, ◌*◌, ◌-◌, ◌^◌, ◌<◌, ◌≤◌, List, [], ◌∷◌, ◌++◌, length, get_or, take, drop, refl, sym}
+use Rattle.std.proofs.Common.{◌≡◌, ℕ, ◌+◌, ◌*◌, ◌-◌, ◌^◌, ◌<◌, ◌≤◌, List, [], ◌∷◌, ◌++◌, length, get_or, take, drop, refl, sym}
 use Rattle.std.proofs.Common.{◌∙◌, ap, arith, length-append}
-use Rattle.std.proofs.lemmas.List.{take_at, drop_at, take_all, drop_all, drop-replicate, length-drop, drop-drop}
+use Rattle.std.proofs.lemmas.List.{take_at, drop_at, take_all, drop_all, drop-replicate, length-drop}
 use Rattle.std.proofs.lemmas.List.{append-nil, append_assoc}
 use Rattle.std.proofs.lemmas.Grind.{flat_map-append}
 use borrow.Rule.Slice.PartMut.{put_mid, mid_of}

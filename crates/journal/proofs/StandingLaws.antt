@@ -1,5 +1,5 @@
 -- An image stands for one array and one next stamp.
-use Rattle.std.proofs.Common.{◌≡◌, inl, inr, ℕ, ◌+◌, ◌*◌, ◌<◌, ◌≤◌, List, [], length, get_or, map, refl, sym, ◌∙◌, ap, subst}
+use Rattle.std.proofs.Common.{◌≡◌, inl, inr, ℕ, ◌+◌, ◌<◌, ◌≤◌, List, [], length, get_or, map, refl, sym, ◌∙◌, ap, subst}
 use Rattle.std.proofs.Common.{arith}
 use Rattle.std.proofs.lemmas.Bool.{cases_lt}
 use Rattle.std.proofs.lemmas.List.{ext_get_or}
@@ -9,14 +9,14 @@ use Rattle.medium.specs.Medium.{Image}
 use Rattle.spec.specs.Blocks.{Array}
 use Rattle.journal.specs.Places.{Shape, sectors_of}
 use Rattle.journal.specs.Sectors.{IsSuper, IsHead}
-use Rattle.journal.specs.Record.{Entry, Agree, with_records, home_of}
+use Rattle.journal.specs.Record.{Entry, with_records, home_of}
 use Rattle.journal.specs.Layout.{slot_at}
 use Rattle.journal.specs.Formats.{layout_of}
 use Rattle.journal.specs.Standing.{IsCount, StandsFor}
 use Rattle.journal.specs.ImageFaults.{HasShape}
 use Rattle.journal.proofs.SectorNumbers.{IsSuper-one, IsHead-one}
-use Rattle.journal.proofs.Formats.{laws_of, sectors_are}
-use Rattle.journal.proofs.Wholeness.{IsWhole-one, HasWhole-same, Keeps-same, slot_inside}
+use Rattle.journal.proofs.Formats.{laws_of}
+use Rattle.journal.proofs.Wholeness.{IsWhole-one, HasWhole-same}
 
 -- with one head there are no fewer records of what an image stands for
 not_fewer : (size other : ℕ) (shape : Shape) (image : Image) (a b : Array) (t u : ℕ) (h : StandsFor size shape image a t)

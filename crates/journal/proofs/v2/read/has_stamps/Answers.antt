@@ -1,4 +1,4 @@
-use Rattle.std.proofs.Common.{◌≡◌, ◌<◌, ◌+◌, ◌*◌, ℕ, inl, inr, refl, rules, arith}
+use Rattle.std.proofs.Common.{◌+◌, ◌*◌, ℕ, inl, inr, refl, rules, arith}
 use Rattle.journal.specs.SlotTwo.{HasPlaces}
 use Rattle.journal.specs.SlotReads.{HasPlace}
 use Rattle.journal.proofs.SlotTwo.{untrue}

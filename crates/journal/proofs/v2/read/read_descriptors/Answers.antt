@@ -1,10 +1,9 @@
-use Rattle.std.proofs.Common.{◌≡◌, ◌∙◌, ◌+◌, ◌*◌, ◌<◌, ℕ, List, ◌++◌, length, take, drop, refl, sym, ap, subst, rules, arith}
-use Rattle.std.specs.Prelude.{IfSome, IsSomeAnd}
+use Rattle.std.proofs.Common.{◌≡◌, ◌∙◌, ◌+◌, ◌*◌, ◌<◌, ℕ, List, ◌++◌, length, take, drop, refl, ap, rules, arith}
 use Rattle.std.proofs.Math.Seq.{take-add}
 use Rattle.std.proofs.lemmas.List.{length-append}
 use Rattle.medium.proofs.Moments.{quiet_joined}
 use Rattle.journal.specs.Entry.{Entry, numbers_of}
-use Rattle.journal.specs.SectorsTwo.{descriptors_of, chunk_of, firsts_of, IsDescriptorTwo}
+use Rattle.journal.specs.SectorsTwo.{chunk_of, firsts_of}
 use Rattle.journal.proofs.Naming.{described_more}
 use Rattle.journal.proofs.RecordTwo.{firsts_of_chunk}
 use Rattle.medium.proofs.SectorsRead.{looks_joined}

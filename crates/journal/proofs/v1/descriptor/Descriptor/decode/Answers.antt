@@ -1,4 +1,4 @@
-use Rattle.std.proofs.Common.{◌≡◌, rules, arith, length, ◌∙◌, IsTrue}
+use Rattle.std.proofs.Common.{◌≡◌, rules, length, ◌∙◌, IsTrue}
 use Rattle.journal.proofs.SectorNumbers.{descriptor_stamp, descriptor_count, descriptor_numbers}
 use Rattle.journal.proofs.v1.descriptor.Descriptor.decode.Goals as goal
 
