@@ -21,12 +21,9 @@ length_from k (b ∷ numbers) bytes = let more = length_from (k + 1) numbers byt
 entry_from : (k i : ℕ) (numbers bytes : List ℕ) (d : Entry) → i < length numbers
     → get_or (entries_from k numbers bytes) i d ≡ (get_or numbers i 0, slice_range bytes (512 * (k + i)) (512 * (k + i) + 512))
 entry_from k i [] bytes d below = absurd (omega arith)
-entry_from k zero (b ∷ numbers) bytes d below =
-    let e : k ≡ k + 0 = omega arith in ap (λ (j : ℕ). let x : Entry = (b, slice_range bytes (512 * j) (512 * j + 512)) in x) e
+entry_from k zero (b ∷ numbers) bytes d below = let e : k + 0 ≡ k = omega arith in rw e
 entry_from k (suc i) (b ∷ numbers) bytes d below =
-    let e : k + 1 + i ≡ k + suc i = omega arith in
-    entry_from (k + 1) i numbers bytes d (omega arith)
-    ∙ ap (λ (j : ℕ). let x : Entry = (get_or numbers i 0, slice_range bytes (512 * j) (512 * j + 512)) in x) e
+    let e : k + suc i ≡ k + 1 + i = omega arith in rw e (entry_from (k + 1) i numbers bytes d (omega arith))
 
 pub numbers_of_batch : (numbers bytes : List ℕ) → numbers_of (entries_of numbers bytes) ≡ numbers
 numbers_of_batch numbers bytes = numbers_from 0 numbers bytes
@@ -36,10 +33,7 @@ length_of_batch numbers bytes = length_from 0 numbers bytes
 
 pub entry_of_batch : (i : ℕ) (numbers bytes : List ℕ) (d : Entry) → i < length numbers
     → get_or (entries_of numbers bytes) i d ≡ (get_or numbers i 0, slice_range bytes (512 * i) (512 * i + 512))
-entry_of_batch i numbers bytes d below =
-    let e : 0 + i ≡ i = omega arith in
-    entry_from 0 i numbers bytes d below
-    ∙ ap (λ (j : ℕ). let x : Entry = (get_or numbers i 0, slice_range bytes (512 * j) (512 * j + 512)) in x) e
+entry_of_batch i numbers bytes d below = let e : 0 + i ≡ i = omega arith in rw e at (entry_from 0 i numbers bytes d below)
 
 -- each block has 512 bytes
 pub sized_batch : (numbers bytes : List ℕ) → length bytes ≡ 512 * length numbers

@@ -19,23 +19,23 @@ above_is a b le = grind (arith, nat_tests, le)
 
 pub offset_early : (n p : ℕ) → p < n + 1 → offset1 n p ≡ p
 unfolding offset1
-offset_early n p below = rw (below_is p (n + 1) below) refl
+offset_early n p below = rw (below_is p (n + 1) below)
 
 pub offset_commit : (n p : ℕ) → n + 1 ≤ p → offset1 n p ≡ 49
 unfolding offset1
-offset_commit n p behind = rw (above_is p (n + 1) behind) refl
+offset_commit n p behind = rw (above_is p (n + 1) behind)
 
 pub part_descriptor : (s : ℕ) (entries : List Entry) (p : ℕ) → p < 1 → part1 s entries p ≡ descriptor1 s (numbers_of entries)
 unfolding part1
-part_descriptor s entries p below = rw (below_is p 1 below) refl
+part_descriptor s entries p below = rw (below_is p 1 below)
 
 pub part_place : (s : ℕ) (entries : List Entry) (p : ℕ) → 1 ≤ p → p < length entries + 1 → part1 s entries p ≡ block_of entries (p - 1)
 unfolding part1
-part_place s entries p behind below = rw (above_is p 1 behind) (rw (below_is p (length entries + 1) below) refl)
+part_place s entries p behind below = rw (above_is p 1 behind, below_is p (length entries + 1) below)
 
 pub part_commit : (s : ℕ) (entries : List Entry) (p : ℕ) → length entries + 1 ≤ p → part1 s entries p ≡ commit1 s (length entries)
 unfolding part1
-part_commit s entries p behind = rw (above_is p 1 (omega arith)) (rw (above_is p (length entries + 1) behind) refl)
+part_commit s entries p behind = rw (above_is p 1 (omega arith), above_is p (length entries + 1) behind)
 
 -- the kinds of parts of a record of n blocks, with so many descriptors, in both formats
 pub data Kind (descriptors n p : ℕ) : Type 0 where

@@ -13,32 +13,32 @@ use Rattle.journal.proofs.Format1Laws.{below_is, above_is}
 
 pub offset_descriptor : (n p : ℕ) → p < (n + 29) / 30 → offset2 n p ≡ p
 unfolding offset2
-offset_descriptor n p below = rw (below_is p ((n + 29) / 30) below) refl
+offset_descriptor n p below = rw (below_is p ((n + 29) / 30) below)
 
 pub offset_place : (n p : ℕ) → (n + 29) / 30 ≤ p → p < (n + 29) / 30 + n → offset2 n p ≡ 8 + (p - (n + 29) / 30)
 unfolding offset2
-offset_place n p behind below = rw (above_is p ((n + 29) / 30) behind) (rw (below_is p ((n + 29) / 30 + n) below) refl)
+offset_place n p behind below = rw (above_is p ((n + 29) / 30) behind, below_is p ((n + 29) / 30 + n) below)
 
 pub offset_commit : (n p : ℕ) → (n + 29) / 30 + n ≤ p → offset2 n p ≡ 248
 unfolding offset2
-offset_commit n p behind = rw (above_is p ((n + 29) / 30) (omega arith)) (rw (above_is p ((n + 29) / 30 + n) behind) refl)
+offset_commit n p behind = rw (above_is p ((n + 29) / 30) (omega arith), above_is p ((n + 29) / 30 + n) behind)
 
 pub part_descriptor : (s : ℕ) (entries : List Entry) (p : ℕ) → p < (length entries + 29) / 30
     → part2 s entries p ≡ descriptor_bytes s entries p
 unfolding part2
-part_descriptor s entries p below = rw (below_is p ((length entries + 29) / 30) below) refl
+part_descriptor s entries p below = rw (below_is p ((length entries + 29) / 30) below)
 
 pub part_place : (s : ℕ) (entries : List Entry) (p : ℕ) → (length entries + 29) / 30 ≤ p → p < (length entries + 29) / 30 + length entries
     → part2 s entries p ≡ place_bytes s (block_of entries (p - (length entries + 29) / 30))
 unfolding part2
 part_place s entries p behind below =
-    rw (above_is p ((length entries + 29) / 30) behind) (rw (below_is p ((length entries + 29) / 30 + length entries) below) refl)
+    rw (above_is p ((length entries + 29) / 30) behind, below_is p ((length entries + 29) / 30 + length entries) below)
 
 pub part_commit : (s : ℕ) (entries : List Entry) (p : ℕ) → (length entries + 29) / 30 + length entries ≤ p
     → part2 s entries p ≡ commit_bytes s (length entries)
 unfolding part2
 part_commit s entries p behind =
-    rw (above_is p ((length entries + 29) / 30) (omega arith)) (rw (above_is p ((length entries + 29) / 30 + length entries) behind) refl)
+    rw (above_is p ((length entries + 29) / 30) (omega arith), above_is p ((length entries + 29) / 30 + length entries) behind)
 
 pub inside2 : (n p : ℕ) → n ≤ 240 → p < (n + 29) / 30 + n + 1 → offset2 n p < 249
 inside2 n p few below = grind (arith, offset_descriptor n p, offset_place n p, offset_commit n p)

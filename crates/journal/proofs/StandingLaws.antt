@@ -115,10 +115,5 @@ StandsFor-shape size shape image array next s = record { super = s.keeps.super; 
 -- a count holds in each image with the same sectors
 pub IsCount-same : (shape : Shape) (before image : Image) (head count : ℕ) → ((x : ℕ)
     → image x ≡ before x) → IsCount shape before head count → IsCount shape image head count
-IsCount-same shape before image head count same c = record {
-  few = c.few;
-  whole = λ j below.
-      HasWhole-same (layout_of shape.format) (laws_of shape.format) shape before image (head + j) (λ x low high. same x) (c.whole j below);
-  ends = λ less w. c.ends less
-      (HasWhole-same (layout_of shape.format) (laws_of shape.format) shape image before (head + count) (λ x low high. sym (same x)) w);
-}
+IsCount-same shape before image head count same c =
+    subst (λ (m : Image). IsCount shape m head count) (λ i x. sym (same x) i) c

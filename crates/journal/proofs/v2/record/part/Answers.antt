@@ -6,9 +6,7 @@ use Rattle.journal.proofs.Format2Laws.{offset_descriptor, offset_place, offset_c
 use Rattle.journal.proofs.v2.record.part.Goals as goal
 
 pub returns-then-p-first-clause-offset : goal.returns-then-p-first-clause-offset
-returns-then-p-first-clause-offset c =
-    let first = c.descriptors-first.ensures in
-    omega (arith, first, offset_descriptor (length c.args.numbers.now) c.args.p (omega (arith, first)))
+returns-then-p-first-clause-offset c = grind (arith, offset_descriptor (length c.args.numbers.now) c.args.p)
 
 pub returns-then-p-first-clause-sector : goal.returns-then-p-first-clause-sector
 returns-then-p-first-clause-sector c =
@@ -34,9 +32,7 @@ returns-then-p-first-clause-sector c =
     )
 
 pub returns-then-p-first-2-clause-offset : goal.returns-then-p-first-2-clause-offset
-returns-then-p-first-2-clause-offset c =
-    let first = c.descriptors-first.ensures in
-    omega (arith, first, offset_place (length c.args.numbers.now) c.args.p (omega (arith, first)) (omega (arith, first)))
+returns-then-p-first-2-clause-offset c = grind (arith, offset_place (length c.args.numbers.now) c.args.p)
 
 pub returns-then-p-first-2-clause-sector : goal.returns-then-p-first-2-clause-sector
 returns-then-p-first-2-clause-sector c =
@@ -49,9 +45,7 @@ returns-then-p-first-2-clause-sector c =
     rw (part_place c.args.stamp es c.args.p (omega (arith, first, many)) (omega (arith, first, many)), block, ← i) c.place.ensures
 
 pub returns-else-p-first-2-clause-offset : goal.returns-else-p-first-2-clause-offset
-returns-else-p-first-2-clause-offset c =
-    let first = c.descriptors-first.ensures in
-    omega (arith, first, offset_commit (length c.args.numbers.now) c.args.p (omega (arith, first)))
+returns-else-p-first-2-clause-offset c = grind (arith, offset_commit (length c.args.numbers.now) c.args.p)
 
 pub returns-else-p-first-2-clause-sector : goal.returns-else-p-first-2-clause-sector
 returns-else-p-first-2-clause-sector c =
