@@ -25,13 +25,7 @@ no_fault Sizes {shape} f s = f.3 shape s
 
 -- a version is known or not
 version_or_not : (bytes : List ℕ) → HasVersion bytes ⊎ (¬ HasVersion bytes)
-version_or_not bytes = elim (cases_eq (number_in bytes 1) 1) [
-  | inl one ↦ inl (inl one)
-  | inr no_one ↦ elim (cases_eq (number_in bytes 1) 2) [
-    | inl two ↦ inl (inr two)
-    | inr no_two ↦ inr (λ known. ⊎_elim no_one no_two known)
-  ]
-]
+version_or_not bytes = grind arith
 
 -- a sector is a super or has a fault
 pub super_or_fault : (bytes : List ℕ) → ((shape : Shape)
@@ -68,19 +62,15 @@ stands_or_fault size image = elim (cases_lt 0 size) [
     | inl s ↦ elim (cases_lt size (sectors_of s.0)) [
       | inl short ↦ inr (BadSize, inr (inr (s.0, s.1, short)))
       | inr fits ↦ elim (head_or_not (image 1)) [
-        | inl h ↦ inl (found s.0 h.0 fits s.1 h.1)
+        | inl h ↦
+            let c = count_of s.0 image h.0 in
+            let stood = count_stands size s.0 image h.0 c.0 fits s.1 h.1 c.1 in
+            inl (s.0, stood.array, h.0 + c.0 + 1, stood.stands)
         | inr no_head ↦ inr (BadHead, (s.0, record { super = s.1; fits = fits }, λ stamp h. no_head (stamp, h)))
       ]
     ]
   ]
 ]
-  where
-    found : (shape : Shape) (head : ℕ) → sectors_of shape ≤ size → IsSuper shape (image 0)
-        → IsHead head (image 1) → Stands size image
-    found shape head fits super head_is =
-        let c = count_of shape image head in
-        let stood = count_stands size shape image head c.0 fits super head_is c.1 in
-        (shape, stood.array, head + c.0 + 1, stood.stands)
 
 -- the place of a fault in their order
 abbrev rank : ImageFault → ℕ

@@ -24,6 +24,13 @@ use Rattle.journal.proofs.Format2Laws.{offset_descriptor, offset_place, offset_c
 use Rattle.journal.proofs.ReadingOne.{entries_same}
 use Rattle.journal.proofs.Wholeness.{record_of}
 
+-- the first bytes of the i-th block of a slot, and those in its data place
+abbrev begins_in : Image → ℕ → ℕ → List ℕ
+begins_in image at i = slice_range (image (at + i / 30)) (40 + 16 * (i % 30)) (40 + 16 * (i % 30) + 8)
+
+abbrev rest_in : Image → ℕ → ℕ → List ℕ
+rest_in image at i = drop 8 (image (at + (8 + i)))
+
 module _ (image : Image) (at s : ℕ) (numbers : List ℕ) (commit : IsCommitTwo s (length numbers) (image (at + 248)))
     (described : HasDescriptors image at s numbers) where
   read_count : little_number 8 (drop 16 (image (at + 248))) ≡ length numbers
@@ -73,18 +80,14 @@ module _ (image : Image) (at s : ℕ) (numbers : List ℕ) (commit : IsCommitTwo
         ∙ number_there (i / 30) (i % 30) (omega arith) (omega arith) (omega arith)
         ∙ ap (λ (k : ℕ). get_or numbers k 0) split
 
-    begins_long : length (slice_range (image (at + i / 30)) (40 + 16 * (i % 30)) (40 + 16 * (i % 30) + 8)) ≡ 8
+    begins_long : length (begins_in image at i) ≡ 8
     begins_long = first_long (i / 30) (i % 30) (omega arith) (omega arith) (omega arith)
 
-    read_begins : take 8 (entry_in image at i).1 ≡ slice_range (image (at + i / 30)) (40 + 16 * (i % 30)) (40 + 16 * (i % 30) + 8)
-    read_begins =
-        take_at (slice_range (image (at + i / 30)) (40 + 16 * (i % 30)) (40 + 16 * (i % 30) + 8)) (drop 8 (image (at + (8 + i)))) 8
-        begins_long
+    read_begins : take 8 (entry_in image at i).1 ≡ begins_in image at i
+    read_begins = take_at (begins_in image at i) (rest_in image at i) 8 begins_long
 
-    read_rest : drop 8 (entry_in image at i).1 ≡ drop 8 (image (at + (8 + i)))
-    read_rest =
-        drop_at (slice_range (image (at + i / 30)) (40 + 16 * (i % 30)) (40 + 16 * (i % 30) + 8)) (drop 8 (image (at + (8 + i)))) 8
-        begins_long
+    read_rest : drop 8 (entry_in image at i).1 ≡ rest_in image at i
+    read_rest = drop_at (begins_in image at i) (rest_in image at i) 8 begins_long
 
   -- the record that stands there has these block numbers
   pub numbers_read : numbers_of (record_in image at) ≡ numbers
@@ -179,11 +182,9 @@ module _ (image : Image) (at s : ℕ) (numbers : List ℕ) (commit : IsCommitTwo
             small = subst (All (λ (b : ℕ). b < 2147483648)) (sym numbers_read) small_read;
             sized = All-from_get_or (λ (e : Entry). length e.1 ≡ 512) es (0, []) (λ i below.
                 let in_list : i < length numbers = omega (arith, below, read_long) in
-                let begins = slice_range (image (at + i / 30)) (40 + 16 * (i % 30)) (40 + 16 * (i % 30) + 8) in
-                let rest = drop 8 (image (at + (8 + i))) in
                 rw (read_entry i in_list) (omega (
                   arith,
-                  length-append begins rest,
+                  length-append (begins_in image at i) (rest_in image at i),
                   begins_long i in_list,
                   length-drop 8 (image (at + (8 + i))),
                   sectors i in_list,
@@ -265,6 +266,6 @@ module _ (shape : Shape) (image : Image) (s : ℕ) (es : List Entry) (w : IsWhol
       ∙ get_or-drop (30 * (i / 30)) es (i % 30) (0, []) ∙ ap (λ (k : ℕ). get_or es k (0, [])) split) in
       let rest = ap (λ (l : List ℕ). drop 8 l) (place_there i below) ∙ place_rest s (block_of es i) in
       sym (ap (λ (e : Entry). e.1) (read_entry image at s (numbers_of es) c d i inside)
-      ∙ ap (λ (l : List ℕ). l ++ drop 8 (image (at + (8 + i)))) begins
+      ∙ ap (λ (l : List ℕ). l ++ rest_in image at i) begins
       ∙ ap (λ (l : List ℕ). take 8 (block_of es i) ++ l) rest
       ∙ take-append-drop 8 (block_of es i)))

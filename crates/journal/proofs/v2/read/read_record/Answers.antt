@@ -65,8 +65,7 @@ returns-in_default g c = record {
       };
   follows =
       let ends = within_two c.args.sizes.now c.args.stamp c.slot_of-slot.result c.slot_of-slot.ensures c.requires.format in
-      let looks = c.read_count.ensures.reads.follows in
-      (looks.0, looks_below _ c.args.sizes.now.home _ _ ends looks.1);
+      search (rules, looks_below);
 }
 
 pub returns-then-not-branch : goal.returns-then-not-branch
