@@ -40,11 +40,6 @@ module _ {stamp : ℕ} {numbers bytes : List ℕ} (d : IsDescriptor stamp number
       ext_get_or 0 list numbers (size ∙ same)
       (λ i below. read i (omega (arith, size)) ∙ descriptor_number i (omega (arith, size, same)))
 
--- the version of a format is a small number
-pub version_small : (format : LogFormat) → version_of format ≤ 2
-version_small One = omega arith
-version_small Two = omega arith
-
 -- the format of a super with this version
 abbrev pub format_in : ℕ → LogFormat
 format_in version = if version == 1 then One else Two
@@ -79,7 +74,7 @@ module _ {shape : Shape} {bytes : List ℕ} (s : IsSuper shape bytes) where
 
   -- its version
   pub super_version : number_in bytes 1 ≡ version_of shape.format
-  super_version = spelling-get 1 _ bytes (omega arith) (omega (arith, version_small shape.format)) s.spelled
+  super_version = spelling-get 1 _ bytes (omega arith) (grind (arith, version_known shape.format)) s.spelled
 
   -- a super has no fault
   pub super_begins : HasMagic bytes × HasVersion bytes × HasZeroRest bytes

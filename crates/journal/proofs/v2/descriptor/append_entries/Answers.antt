@@ -12,18 +12,15 @@ pub loop-e-preserved : goal.loop-e-preserved
 loop-e-preserved c before count is =
     let numbers = c.args.numbers.now in
     let firsts = c.args.firsts.now in
-    let e : ℕ = c.loop-e.e in
-    let fm : List ℕ = flat_map entry_bytes (take c.loop-e.e (zip c.args.numbers.now c.args.firsts.now)) in
+    let so_far : List ℕ = before ++ flat_map entry_bytes (take c.loop-e.e (zip c.args.numbers.now c.args.firsts.now)) in
     let number : List ℕ = little_bytes 8 (get_or c.args.numbers.now c.loop-e.e 0) in
-    let long = length_so_far numbers firsts c.requires.each c.requires.sized before e count (omega arith) in
-    c.append.ensures ((before ++ fm) ++ number) (omega (arith, long, length-append (before ++ fm) number))
-    (c.append_number.ensures (before ++ fm) long (c.loop-e.invariant before count is))
-    ∙ ap (λ (l : List ℕ). padded l) (entries_more numbers firsts c.requires.each c.requires.sized before e c.loop-e-test.true)
+    let long = length_so_far numbers firsts c.requires.each c.requires.sized before c.loop-e.e count (omega arith) in
+    rw (← (entries_more numbers firsts c.requires.each c.requires.sized before c.loop-e.e c.loop-e-test.true))
+    (c.append.ensures (so_far ++ number) (omega (arith, long, length-append so_far number))
+    (c.append_number.ensures so_far long (c.loop-e.invariant before count is)))
 
 pub returns : goal.returns
 returns c before count is =
-    let numbers = c.args.numbers.now in
-    let firsts = c.args.firsts.now in
-    c.loop-e.invariant before count is
-    ∙ ap (λ (l : List Entry). padded (before ++ flat_map entry_bytes l))
-    (take_all c.loop-e.e (zip numbers firsts) (omega (arith, length_zipped numbers firsts c.requires.each)))
+    let all : List Entry = zip c.args.numbers.now c.args.firsts.now in
+    let whole = take_all c.loop-e.e all (omega (arith, length_zipped c.args.numbers.now c.args.firsts.now c.requires.each)) in
+    rw whole at (c.loop-e.invariant before count is)

@@ -22,23 +22,12 @@ returns-then-not-are_small-clause-all c stamp count j numbers firsts d =
 
 pub invariant_of-descriptor : goal.invariant_of-descriptor
 invariant_of-descriptor c =
-    let good : IsTrue c.has_entries.result = search rules in
-    let small : IsTrue c.are_small.result = search rules in
-    let rising : IsTrue c.are_rising.result = search rules in
-    record {
-      least = omega arith;
-      most = omega arith;
-      entries = record {
-        few = (c.has_entries.ensures.0 good).0;
-        used = (c.has_entries.ensures.0 good).1;
-        many = c.numbers_at-numbers.ensures.count ∙ c.count_here-here.ensures;
-        each = c.firsts_at-firsts.ensures.count ∙ sym c.numbers_at-numbers.ensures.count;
-        rising = subst IsRising c.deref-else-not-are_small.ensures.0 (c.are_rising.ensures.0 rising);
-        small = subst (All (λ (b : ℕ). b < 2147483648)) c.deref.ensures.0 (c.are_small.ensures.0 small);
-        sized = sized_from c.firsts_at-firsts.result.items c.count_here-here.result c.args.sector.now (λ i. 40 + 16 * i)
-            c.firsts_at-firsts.ensures.count (λ i below. omega (arith, below, c.count_here-here.ensures)) c.firsts_at-firsts.ensures.each;
-      };
-    }
+    let used = c.has_entries.ensures.0 (search rules) in
+    let rising = rw c.deref-else-not-are_small.ensures.0 at (c.are_rising.ensures.0 (search rules)) in
+    let small = rw c.deref.ensures.0 at (c.are_small.ensures.0 (search rules)) in
+    let sized = sized_from c.firsts_at-firsts.result.items c.count_here-here.result c.args.sector.now (λ i. 40 + 16 * i)
+    c.firsts_at-firsts.ensures.count (λ i below. omega (arith, below, c.count_here-here.ensures)) c.firsts_at-firsts.ensures.each in
+    search rules
 
 pub returns-then-eq-clause-all : goal.returns-then-eq-clause-all
 returns-then-eq-clause-all c stamp count j numbers firsts d =
