@@ -1,85 +1,100 @@
--- How many writes and flushes a retire step makes, and all of a record.
-use Rattle.std.proofs.Common.{◌≡◌, ℕ, zero, suc, ◌+◌, ◌-◌, ◌<◌, ◌≤◌, List, [], ◌∷◌, length, refl, sym, ◌∙◌}
-use Rattle.std.proofs.Common.{ap, subst, arith}
-use Rattle.std.specs.Prelude.{Option, Bool}
-use Rattle.journal.specs.declared.log_format.LogFormat.{LogFormat}
+-- Which turn is the next one, and how many calls, writes and flushes it makes.
+use Rattle.std.proofs.Common.{◌≡◌, ℕ, zero, suc, ◌+◌, ◌<◌, ◌≤◌, List, [], length, get_or, refl, ap, arith}
+use Rattle.std.specs.Prelude.{Option, Result}
+use Rattle.medium.specs.Medium.{State}
+use Rattle.medium.specs.declared.fault.MediumFault.{MediumFault}
+use Rattle.journal.specs.declared.head.Head.{Head as HeadOf}
 use Rattle.journal.specs.Places.{Shape, limit_of}
-use Rattle.redo_log.specs.Value.{AllFirsts, Ahead, LogValue, turn_sends, turns_sends, next_sends, sends_of_oldest}
-use Rattle.redo_log.specs.Value.{most_retire_sends, of_oldest}
-use Rattle.redo_log.specs.Stages.{value_at, IsRing}
-use Rattle.redo_log.specs.Turns.{sends_of, IsFlushTurn, IsHeadTurn, IsCopyOf, IsNextTurn}
+use Rattle.journal.specs.declared.log_format.LogFormat.{LogFormat}
 use Rattle.redo_log.specs.declared.turn.Turn.{Turn}
-use Rattle.redo_log.specs.declared.turn.Turn.TheVariants as turn
+use Rattle.redo_log.specs.declared.turn.Turn.TheVariants.{Copy, Flush, Head}
+use Rattle.redo_log.specs.Value.{AllFirsts, LogValue, of_oldest, next_calls, next_sends, turn_calls, turn_sends}
+use Rattle.redo_log.specs.Value.{turns_sends, sends_of_oldest}
+use Rattle.redo_log.specs.Value.{most_retire_sends}
+use Rattle.redo_log.specs.Flushes.{turn_flushes, next_turn_flushes}
+use Rattle.redo_log.specs.Calls.{CallsUpTo}
+use Rattle.redo_log.specs.Steps.{CountsStep}
+use Rattle.redo_log.specs.Held.{turned_of}
+use Rattle.redo_log.specs.Turns.{calls_of, sends_of, flushes_of, IsCopyOf, IsFlushTurn, IsHeadTurn, IsNextTurn}
+use Rattle.redo_log.proofs.LogRules.{IsLog, oldest_few}
 
-copy_sends : (source target : ℕ) (begins : Option (List ℕ)) (t : Turn) → IsCopyOf source target begins t → sends_of t ≡ 1
-copy_sends source target begins (turn.Copy from to first) is = refl
-copy_sends source target begins turn.Flush is = absurd is
-copy_sends source target begins (turn.Head head) is = absurd is
+pub copy_is : (source target : ℕ) (begins : Option (List ℕ)) (turn : Turn) → IsCopyOf source target begins turn
+    → turn ≡ Copy source target begins
+copy_is source target begins (Copy from to first) is = cc (is.0, is.1, is.2)
+copy_is source target begins Flush is = absurd is
+copy_is source target begins (Head h) is = absurd is
 
-flush_turn : (t : Turn) → IsFlushTurn t → sends_of t ≡ 1
-flush_turn (turn.Copy from to first) is = absurd is
-flush_turn turn.Flush is = refl
-flush_turn (turn.Head head) is = absurd is
+pub flush_is : (turn : Turn) → IsFlushTurn turn → turn ≡ Flush
+flush_is (Copy from to first) is = absurd is
+flush_is Flush is = refl
+flush_is (Head h) is = absurd is
 
-head_turn : (stamp : ℕ) (t : Turn) → IsHeadTurn stamp t → sends_of t ≡ 2
-head_turn stamp (turn.Copy from to first) is = absurd is
-head_turn stamp turn.Flush is = absurd is
-head_turn stamp (turn.Head head) is = refl
+pub head_is : (stamp : ℕ) (turn : Turn) → IsHeadTurn stamp turn → (h : HeadOf) × (turn ≡ Head h) × (h.stamp ≡ stamp)
+head_is stamp (Copy from to first) is = absurd is
+head_is stamp Flush is = absurd is
+head_is stamp (Head h) is = (h, refl, is)
 
--- the next turn of a record makes as many writes and flushes as its step
-pub turn_sent : (shape : Shape) (stamp : ℕ) (numbers : List ℕ) (kept : AllFirsts) (turned : ℕ) (t : Turn)
-    → IsNextTurn shape stamp numbers kept turned t → turned < length numbers + 2
-    → sends_of t ≡ turn_sends (length numbers + 2 - turned)
-turn_sent shape stamp numbers kept turned t next below = from (length numbers + 2 - turned) refl
-  where
-    from : (left : ℕ) → left ≡ length numbers + 2 - turned → sends_of t ≡ turn_sends left
-    from zero left_is = absurd (omega (arith, left_is, below))
-    from (suc zero) left_is = head_turn (stamp + 1) t (next.head (omega (arith, left_is, below)))
-    from (suc (suc zero)) left_is = flush_turn t (next.flush (omega (arith, left_is, below)))
-    from (suc (suc (suc left))) left_is = copy_sends _ _ _ t (next.home (omega (arith, left_is, below)))
+-- as many as the turn that it is
+same_counts : (turn is : Turn) → turn ≡ is
+    → (calls_of turn ≡ calls_of is) × (sends_of turn ≡ sends_of is) × (flushes_of turn ≡ flushes_of is)
+same_counts turn is same = (ap (λ (t : Turn). calls_of t) same, ap (λ (t : Turn). sends_of t) same, ap (λ (t : Turn). flushes_of t) same)
 
--- a log of which the oldest record has come so far makes as many by its next step
-pub step_sends : (log : LogValue) (ahead : Ahead) (shape : Shape) (head : ℕ) (waiting : List (List ℕ)) (turned : ℕ)
-    (kept : AllFirsts) (under_way : List ℕ) (made : Option ℕ) (dead : Bool) (numbers : List ℕ) (newer : List (List ℕ))
-    → value_at ahead shape head waiting turned kept under_way made dead ≡ log
-    → waiting ≡ numbers ∷ newer
-    → turn_sends (length numbers + 2 - turned) ≡ next_sends log
-step_sends log ahead shape head waiting turned kept under_way made dead numbers newer shown waits =
-    ap (λ (n : ℕ). turn_sends n) (omega arith)
-    ∙ ap (λ (l : List (List ℕ)). next_sends (value_at ahead shape head l turned kept under_way made dead)) (sym waits)
-    ∙ ap (λ (v : LogValue). next_sends v) shown
+-- as many as the next retire step, of which so many are left
+turn_counts : (shape : Shape) (stamp : ℕ) (numbers : List ℕ) (kept : AllFirsts) (turned left : ℕ) (turn : Turn)
+    → IsNextTurn shape stamp numbers kept turned turn → turned + left ≡ length numbers + 2 → 0 < left
+    → (calls_of turn ≡ turn_calls left) × (sends_of turn ≡ turn_sends left) × (flushes_of turn ≡ turn_flushes left)
+turn_counts shape stamp numbers kept turned zero turn next sum some = absurd (omega (arith, some))
+turn_counts shape stamp numbers kept turned (suc zero) turn next sum some =
+    let h = head_is (stamp + 1) turn (next.head (omega (arith, sum))) in same_counts turn (Head h.0) h.1
+turn_counts shape stamp numbers kept turned (suc (suc zero)) turn next sum some =
+    same_counts turn Flush (flush_is turn (next.flush (omega (arith, sum))))
+turn_counts shape stamp numbers kept turned (suc (suc (suc left))) turn next sum some =
+    same_counts turn (Copy _ _ _) (copy_is _ _ _ turn (next.home (omega (arith, sum))))
 
--- ---- how many they are at most
+few_calls : (left : ℕ) → turn_calls left ≤ 2
+few_calls zero = omega arith
+few_calls (suc zero) = omega arith
+few_calls (suc (suc zero)) = omega arith
+few_calls (suc (suc (suc left))) = omega arith
+
+-- no step makes more than two writes and flushes
+few_sends : (left : ℕ) → turn_sends left ≤ 2
+few_sends zero = omega arith
+few_sends (suc zero) = omega arith
+few_sends (suc (suc zero)) = omega arith
+few_sends (suc (suc (suc left))) = omega arith
+
+pub few_next : (log : LogValue) → next_sends log ≤ 2
+few_next log = few_sends (of_oldest log)
+
+pub counts_of : {log : LogValue} → IsLog log → 0 < of_oldest log → (turn : Turn)
+    → IsNextTurn log.shape log.head (get_or log.waiting 0 []) log.firsts (turned_of log) turn → {result : Result (Unit {0}) MediumFault}
+    → {old new : State} → CallsUpTo (calls_of turn) (sends_of turn) (flushes_of turn) result old new
+    → CountsStep (next_calls log) (next_sends log) (next_turn_flushes log) result old new
+counts_of {log} is owed turn next {result} {old} {new} up =
+    let same = turn_counts log.shape log.head (get_or log.waiting 0 []) log.firsts (turned_of log) (of_oldest log) turn next
+    (omega (arith, is.owed_most)) owed in
+    let now = rw (same.0, same.1, same.2) at up in
+    record {
+      two = omega (arith, now.calls, few_calls (of_oldest log));
+      most = now.calls;
+      exact = now.exact;
+      sent = now.sent;
+      flushed = now.flushed;
+    }
+
+-- ---- how many writes and flushes they are at most
 
 -- each block is written home once, and a flush, the head and a flush follow
 sends_left : (left : ℕ) → turns_sends (suc (suc left)) ≡ left + 3
 sends_left zero = refl
-sends_left (suc left) = let before = sends_left left in omega (arith, before)
+sends_left (suc left) = omega (arith, sends_left left)
 
-few_sends : (format : LogFormat) (n left : ℕ) → n ≤ limit_of format → left ≤ n + 2 → turns_sends left ≤ most_retire_sends format
-few_sends format n zero few within = omega arith
-few_sends format n (suc zero) few within = omega arith
-few_sends format n (suc (suc left)) few within = let all = sends_left left in omega (arith, all, few, within)
+most_sends : (format : LogFormat) (left : ℕ) → left ≤ limit_of format + 2 → turns_sends left ≤ most_retire_sends format
+most_sends format zero within = omega arith
+most_sends format (suc zero) within = omega arith
+most_sends format (suc (suc left)) within = omega (arith, sends_left left, within)
 
 -- those of the oldest record of a log
-pub few_of_oldest : (log : LogValue) (ahead : Ahead) (shape : Shape) (head : ℕ) (waiting : List (List ℕ)) (turned : ℕ)
-    (kept : AllFirsts) (under_way : List ℕ) (made : Option ℕ) (dead : Bool)
-    → value_at ahead shape head waiting turned kept under_way made dead ≡ log → IsRing shape waiting turned under_way made
-    → sends_of_oldest log ≤ most_retire_sends log.shape.format
-few_of_oldest log ahead shape head waiting turned kept under_way made dead shown ring =
-    subst (λ (v : LogValue). sends_of_oldest v ≤ most_retire_sends v.shape.format) shown (from waiting ring)
-  where
-    from : (records : List (List ℕ)) → IsRing shape records turned under_way made
-        → sends_of_oldest (value_at ahead shape head records turned kept under_way made dead) ≤ most_retire_sends shape.format
-    from [] r = few_sends shape.format 0 _ (omega arith) (omega arith)
-    from (numbers ∷ newer) r = few_sends shape.format (length numbers) _ (r.each 0 [] (omega arith)).few (omega arith)
-
--- no step makes more than two
-pub few_next : (log : LogValue) → next_sends log ≤ 2
-few_next log = from (of_oldest log)
-  where
-    from : (left : ℕ) → turn_sends left ≤ 2
-    from zero = omega arith
-    from (suc zero) = omega arith
-    from (suc (suc zero)) = omega arith
-    from (suc (suc (suc left))) = omega arith
+pub few_of_oldest : {log : LogValue} → IsLog log → sends_of_oldest log ≤ most_retire_sends log.shape.format
+few_of_oldest {log} is = most_sends log.shape.format (of_oldest log) (omega (arith, is.owed_most, oldest_few log.shape log.waiting is.each))

@@ -2,7 +2,6 @@
 use Rattle.std.proofs.Common.{◌≡◌, ◌≢◌, inl, inr, ⊎_elim, ℕ, suc, ◌+◌, ◌*◌, ◌%◌, ◌<◌, ◌≤◌, List, [], ◌∷◌, ◌++◌, length, get_or, refl, sym}
 use Rattle.std.proofs.Common.{◌∙◌, ap, subst, arith, length-append}
 use Rattle.std.proofs.lemmas.Bool.{cases_eq}
-use Rattle.std.proofs.Math.Seq.{get_or-append_seam}
 use Rattle.medium.specs.Medium.{State, Image, CutLeaves, Holds, Within, Gains, Only, IsSound}
 use Rattle.medium.specs.Moments.{EachCut}
 use Rattle.spec.specs.Blocks.{Array}
@@ -18,7 +17,7 @@ use Rattle.journal.proofs.RetiredRecord.{CarriesBelow-same}
 use Rattle.redo_log.specs.Logged.{HasRecords, Logged, Laid}
 use Rattle.redo_log.specs.Stages.{IsSized}
 use Rattle.redo_log.specs.Held.{View, with_begun, IsOlder, HasHead, Guards, Shields, with_head}
-use Rattle.redo_log.proofs.LaidBlocks.{IsWhole-same, Laid-slot, Laid-home, Laid-more}
+use Rattle.redo_log.proofs.LaidBlocks.{IsWhole-same, last_whole, Laid-slot, Laid-home, Laid-more}
 
 -- ---- a medium, where a cut leaves the head that a read gives
 
@@ -85,37 +84,33 @@ module _ (shape : Shape) (sized : IsSized shape) (head : ℕ) (view : View) wher
   same_stamp : (image : Image) (o : IsOlder shape head view image) → o.stamp + length (o.passed ∷ view.records) ≡ head + length view.records
   same_stamp image o = omega (arith, o.behind)
 
-  module _ (before image : Image) (place : ℕ) (bytes : List ℕ) (write : Holds place bytes before image) where
-    -- a sector of the slot of the next record is written
-    pub older_slot : (o : ℕ) → o < (layout_of shape.format).slot_sectors
-        → place ≡ 2 + (layout_of shape.format).slot_sectors * ((head + length view.records) % shape.slots) + o
-        → IsOlder shape head view before → IsOlder shape head view image
-    older_slot o small at old =
-        let stamp_is = same_stamp before old in
-        let here : place ≡ 2 + L.slot_sectors * ((old.stamp + length (old.passed ∷ view.records)) % shape.slots) + o =
-        at ∙ ap (λ (s : ℕ). 2 + L.slot_sectors * (s % shape.slots) + o) (sym stamp_is) in
-        record {
-          passed = old.passed;
-          stamp = old.stamp;
-          behind = old.behind;
-          head_is = subst (IsHead old.stamp) (sym (write.elsewhere 1 (λ e. omega (arith, e, at)))) old.head_is;
-          laid = Laid-slot shape sized before image place bytes write old.stamp (old.passed ∷ view.records) view.array o
-              (omega (arith, old.room)) small here old.laid;
-          room = old.room;
-        }
+  module _ (before image : Image) (place : ℕ) (bytes : List ℕ) (write : Holds place bytes before image)
+      (old : IsOlder shape head view before)
+    where
+      -- a sector is written behind the head, and the records stay laid
+      older_with : place ≢ 1 → Laid shape old.stamp (old.passed ∷ view.records) view.array image → IsOlder shape head view image
+      older_with not laid = record {
+        passed = old.passed;
+        stamp = old.stamp;
+        behind = old.behind;
+        head_is = subst (IsHead old.stamp) (sym (write.elsewhere 1 (λ e. not (sym e)))) old.head_is;
+        laid = laid;
+        room = old.room;
+      }
 
-    -- a block that the records hide is written home
-    pub older_home : (b : ℕ) → place ≡ first_home shape + b → Hides view.records b → IsOlder shape head view before
-        → IsOlder shape head view image
-    older_home b at hides old = record {
-      passed = old.passed;
-      stamp = old.stamp;
-      behind = old.behind;
-      head_is = subst (IsHead old.stamp) (sym (write.elsewhere 1 (λ e. omega (arith, e, at, sized.behind)))) old.head_is;
-      laid = Laid-home shape sized before image place bytes write old.stamp (old.passed ∷ view.records) view.array b at
-          (λ a c. hides (with_blocks old.passed a) (with_blocks old.passed c)) old.laid;
-      room = old.room;
-    }
+      -- a sector of the slot of the next record
+      older_slot : (o : ℕ) → o < L.slot_sectors → place ≡ 2 + L.slot_sectors * ((head + length view.records) % shape.slots) + o
+          → IsOlder shape head view image
+      older_slot o small at = older_with (λ e. omega (arith, e, at))
+          (Laid-slot shape sized before image place bytes write old.stamp (old.passed ∷ view.records) view.array o
+          (omega (arith, old.room)) small
+          (at ∙ ap (λ (s : ℕ). 2 + L.slot_sectors * (s % shape.slots) + o) (sym (same_stamp before old))) old.laid)
+
+      -- a block at home that the records hide
+      older_home : (b : ℕ) → place ≡ first_home shape + b → Hides view.records b → IsOlder shape head view image
+      older_home b at hides = older_with (λ e. omega (arith, e, at, sized.behind))
+          (Laid-home shape sized before image place bytes write old.stamp (old.passed ∷ view.records) view.array b at
+          (λ a c. hides (with_blocks old.passed a) (with_blocks old.passed c)) old.laid)
 
   -- an image with an older head, and the same one with the head behind that
   module _ (size : ℕ) (fits : sectors_of shape ≤ size) (image newer : Image) (same : (x : ℕ) → x ≢ 1 → newer x ≡ image x) where
@@ -167,55 +162,21 @@ module _ (shape : Shape) (sized : IsSized shape) (head : ℕ) (view : View) wher
         → Logged shape head (view.records ++ view.under_way ∷ []) (with_blocks view.under_way view.array) newer
         → HasRecords size shape head (view.records ++ view.under_way ∷ []) (with_blocks view.under_way view.array) image
     older_two o now =
-        let longer : length (view.records ++ view.under_way ∷ []) ≡ length view.records + 1 =
-        length-append view.records (view.under_way ∷ []) in
-        let stamp_is = same_stamp image o in
-        let written : IsWhole shape newer (head + length view.records) view.under_way =
-        subst (λ (r : List Entry). IsWhole shape newer (head + length view.records) r)
-        (get_or-append_seam view.records view.under_way [] [])
-        (now.keeps.whole (length view.records) (omega (arith, longer))) in
         let there : IsWhole shape image (o.stamp + length (o.passed ∷ view.records)) view.under_way =
-        subst (λ (s : ℕ). IsWhole shape image s view.under_way) (sym stamp_is)
+        subst (λ (s : ℕ). IsWhole shape image s view.under_way) (sym (same_stamp image o))
         (IsWhole-same shape sized newer image (λ x low high. sym (behind_same x low high)) (head + length view.records) view.under_way
-        written) in
+        (last_whole shape newer head view.records view.under_way now.keeps.whole)) in
         stands_with o.stamp o.passed (view.records ++ view.under_way ∷ []) (with_blocks view.under_way view.array) o.behind o.head_is
         (Laid-more shape image o.stamp (o.passed ∷ view.records) view.under_way view.array there o.laid)
-        (omega (arith, longer, o.room)) now
+        (omega (arith, length-append view.records (view.under_way ∷ []), o.room)) now
 
 -- ---- all images that a cut may leave
 
 module _ (shape : Shape) (head : ℕ) (view : View) where
-  -- a sector is written that has no head
-  pub heads_write : (old new : State) (place : ℕ) (bytes : List ℕ) (retire left : ℕ) → IsSound old
-      → Gains place bytes old.may_leave new.may_leave → new.content 1 ≡ old.content 1 → place ≢ 1 → (retire ≢ 1 → left ≢ 1)
-      → ((before image : Image) → Holds place bytes before image → IsOlder shape head view before → IsOlder shape head view image)
-      → EachCut (HasHead shape head view retire old) old → EachCut (HasHead shape head view left new) new
-  heads_write old new place bytes retire left sound gains same not more older each =
-      each_write (HasHead shape head view retire old) (HasHead shape head view left new) old new place bytes sound gains each
-      (λ image has. ⊎_elim (λ is. inl (is ∙ sym same)) (λ o. inr (more o.0, o.1)) has)
-      (λ before image write has. ⊎_elim (λ is. inl (write.elsewhere 1 (λ e. not (sym e)) ∙ is ∙ sym same))
-      (λ o. inr (more o.0, older before image write o.1)) has)
-
   -- what is written is flushed, and one head is left
   pub heads_flush : (content : Image) (new : State) (left : ℕ) → new.content 1 ≡ content 1 → Only content new.may_leave
       → EachCut (HasHead shape head view left new) new
   heads_flush content new left same only image cut = inl (only 1 (image 1) (cut 1) ∙ sym same)
-
-  -- nothing is written
-  pub heads_quiet : (old new : State) (retire left : ℕ) → new.content 1 ≡ old.content 1 → Within new.may_leave old.may_leave
-      → (retire ≢ 1 → left ≢ 1) → EachCut (HasHead shape head view retire old) old → EachCut (HasHead shape head view left new) new
-  heads_quiet old new retire left same within more each image cut =
-      ⊎_elim (λ is. inl (is ∙ sym same)) (λ o. inr (more o.0, o.1)) (each image (λ s. within s (image s) (cut s)))
-
-  -- where the oldest record is flushed at home there is one head
-  pub one_head : (steps made : ℕ) (m : State) → Shields shape head view steps made 1 m → Guards shape head view steps made 1 m
-  one_head steps made m s = record {
-    each = λ image cut. s.guards.each image (now image cut);
-    homed = λ is image cut. s.guards.homed is image (now image cut);
-  }
-    where
-      now : (image : Image) → CutLeaves m.may_leave image → CutLeaves (with_head m).may_leave image
-      now image cut = ⊎_elim (λ same. same_cut m image same cut) (λ o. absurd (o.0 refl)) (s.heads image cut)
 
   -- an image has what follows from the one with the newest head
   pub each_head : (m : State) (P Q : Image → Type 0) (retire : ℕ) → EachCut (HasHead shape head view retire m) m → EachCut P (with_head m)
@@ -226,31 +187,63 @@ module _ (shape : Shape) (head : ℕ) (view : View) where
       (λ o. older image (put_head m image) (λ x not. updated_elsewhere image 1 (m.content 1) x not) o.1
       (each (put_head m image) (put_cut m image cut))) (heads image cut)
 
-  -- a record is begun
-  pub heads_begun : (entries : List Entry) (m : State) (retire left : ℕ) → (retire ≢ 1 → left ≢ 1)
-      → EachCut (HasHead shape head view retire m) m → EachCut (HasHead shape head (with_begun entries view) left m) m
-  heads_begun entries m retire left more each image cut = ⊎_elim inl
-      (λ o. inr (
-        more o.0,
-        record {
-          passed = o.1.passed;
-          stamp = o.1.stamp;
-          behind = o.1.behind;
-          head_is = o.1.head_is;
-          laid = o.1.laid;
-          room = o.1.room;
-        },
-      )) (each image cut)
+module _ {shape : Shape} {head : ℕ} {view : View} {steps made retire : ℕ} {old : State} (s : Shields shape head view steps made retire old)
+  where
+    -- where the oldest record is flushed at home there is one head
+    pub one_head : retire ≡ 1 → Guards shape head view steps made retire old
+    one_head one = record {
+      each = λ image cut. s.guards.each image (now image cut);
+      homed = λ is image cut. s.guards.homed is image (now image cut);
+    }
+      where
+        now : (image : Image) → CutLeaves old.may_leave image → CutLeaves (with_head old).may_leave image
+        now image cut = ⊎_elim (λ same. same_cut old image same cut) (λ o. absurd (o.0 one)) (s.heads image cut)
 
--- a block of the oldest record is written home
-pub heads_home : (shape : Shape) → IsSized shape → (head : ℕ) (view : View) (old new : State) (to : ℕ) (bytes : List ℕ) (retire left i : ℕ)
-    → IsSound old → 0 < length view.records → i < length (get_or view.records 0 [])
-    → to ≡ first_home shape + (get_or (get_or view.records 0 []) i (0, [])).0 → new.content 1 ≡ old.content 1
-    → Gains to bytes old.may_leave new.may_leave → (retire ≢ 1 → left ≢ 1) → EachCut (HasHead shape head view retire old) old
-    → EachCut (HasHead shape head view left new) new
-heads_home shape sized head view old new to bytes retire left i sound waits below at same gains more heads =
-    heads_write shape head view old new to bytes retire left sound gains same (λ e. omega (arith, e, at, sized.behind)) more
-    (λ before image write.
-    older_home shape sized head view before image to bytes write (get_or (get_or view.records 0 []) i (0, [])).0 at
-    (records-hide view.records 0 i waits below))
-    heads
+    -- a record is begun
+    pub heads_begun : (entries : List Entry) (left : ℕ) → (retire ≢ 1 → left ≢ 1)
+        → EachCut (HasHead shape head (with_begun entries view) left old) old
+    heads_begun entries left more image cut = ⊎_elim inl
+        (λ o. inr (
+          more o.0,
+          record {
+            passed = o.1.passed;
+            stamp = o.1.stamp;
+            behind = o.1.behind;
+            head_is = o.1.head_is;
+            laid = o.1.laid;
+            room = o.1.room;
+          },
+        )) (s.heads image cut)
+
+    module _ (new : State) (left : ℕ) (same : new.content 1 ≡ old.content 1) (more : retire ≢ 1 → left ≢ 1) where
+      -- nothing is written
+      pub heads_quiet : Within new.may_leave old.may_leave → EachCut (HasHead shape head view left new) new
+      heads_quiet within image cut =
+          ⊎_elim (λ is. inl (is ∙ sym same)) (λ o. inr (more o.0, o.1)) (s.heads image (λ s. within s (image s) (cut s)))
+
+      -- a sector is written that has no head
+      heads_write : (place : ℕ) (bytes : List ℕ) → IsSound old → Gains place bytes old.may_leave new.may_leave → place ≢ 1
+          → ((before image : Image) → Holds place bytes before image → IsOlder shape head view before → IsOlder shape head view image)
+          → EachCut (HasHead shape head view left new) new
+      heads_write place bytes sound gains not older =
+          each_write (HasHead shape head view retire old) (HasHead shape head view left new) old new place bytes sound gains s.heads
+          (λ image has. ⊎_elim (λ is. inl (is ∙ sym same)) (λ o. inr (more o.0, o.1)) has)
+          (λ before image write has. ⊎_elim (λ is. inl (write.elsewhere 1 (λ e. not (sym e)) ∙ is ∙ sym same))
+          (λ o. inr (more o.0, older before image write o.1)) has)
+
+      -- one of the slot of the next record
+      pub heads_slot : IsSized shape → IsSound old → (o : ℕ) (bytes : List ℕ) → o < (layout_of shape.format).slot_sectors
+          → Gains (2 + (layout_of shape.format).slot_sectors * ((head + length view.records) % shape.slots) + o)
+          bytes old.may_leave new.may_leave
+          → EachCut (HasHead shape head view left new) new
+      heads_slot sized sound o bytes small gains = heads_write _ bytes sound gains (λ e. omega (arith, e))
+          (λ before image write older. older_slot shape sized head view before image _ bytes write older o small refl)
+
+      -- a block of the oldest record is written home
+      pub heads_home : IsSized shape → IsSound old → (i : ℕ) (bytes : List ℕ) → 0 < length view.records
+          → i < length (get_or view.records 0 [])
+          → Gains (first_home shape + (get_or (get_or view.records 0 []) i (0, [])).0) bytes old.may_leave new.may_leave
+          → EachCut (HasHead shape head view left new) new
+      heads_home sized sound i bytes waits below gains = heads_write _ bytes sound gains (λ e. omega (arith, e, sized.behind))
+          (λ before image write older. older_home shape sized head view before image _ bytes write older _ refl
+          (records-hide view.records 0 i waits below))

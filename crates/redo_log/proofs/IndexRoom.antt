@@ -1,6 +1,6 @@
 -- That an index has room for a record more, and what it is then.
 use Rattle.std.proofs.Common.{◌≡◌, ◌≢◌, inl, inr, ⊎_elim, ℕ, suc, zero, ◌+◌, ◌-◌, ◌*◌, ◌/◌, ◌%◌, ◌<◌, ◌≤◌, List, [], ◌∷◌, ◌++◌, length}
-use Rattle.std.proofs.Common.{get_or, eqb, Some, None, Option, refl, sym, ◌∙◌, ap, arith}
+use Rattle.std.proofs.Common.{get_or, drop, eqb, Some, None, Option, refl, sym, ◌∙◌, ap, arith}
 use Rattle.std.specs.Prelude.{Bool, true, false, ◌==◌, if◌then◌else◌, slice_index, map, MatchOption}
 use Rattle.std.specs.List.{AllByRecursion, IsDistinct, list_any}
 use Rattle.std.proofs.lemmas.Bool.{cases_eq, cases_lt}
@@ -190,10 +190,11 @@ index_more slots stamp records numbers old new is sorted looks = record {
 }
 
 -- the index without the copies of the oldest record
-pub index_fewer : (slots stamp : ℕ) (numbers : List ℕ) (newer : List (List ℕ)) (old new : List Copied)
-    → IsIndex slots stamp (numbers ∷ newer) old → length (numbers ∷ newer) ≤ slots → IsSorted new
-    → ((b : ℕ) → look new b ≡ outside (stamp % slots) (look old b)) → IsIndex slots (stamp + 1) newer new
-index_fewer slots stamp numbers newer old new is few sorted looks = record {
+pub index_fewer : (slots stamp : ℕ) (waiting : List (List ℕ)) (old new : List Copied)
+    → IsIndex slots stamp waiting old → 0 < length waiting → length waiting ≤ slots → IsSorted new
+    → ((b : ℕ) → look new b ≡ outside (stamp % slots) (look old b)) → IsIndex slots (stamp + 1) (drop 1 waiting) new
+index_fewer slots stamp [] old new is some few sorted looks = absurd (omega arith)
+index_fewer slots stamp (numbers ∷ newer) old new is some few sorted looks = record {
   sorted = sorted;
   looks = λ b. looks b ∙ ap (outside (stamp % slots)) (is.looks b) ∙ copies_of-fewer slots stamp numbers newer b few;
 }

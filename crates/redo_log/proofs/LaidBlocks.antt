@@ -6,7 +6,7 @@ use Rattle.std.proofs.lemmas.Bool.{cases_eq, cases_lt}
 use Rattle.std.proofs.lemmas.Nat.{mod_below}
 use Rattle.std.proofs.lemmas.List.{get_or_append_left, length-map}
 use Rattle.std.proofs.Math.Seq.{get_or-append_seam}
-use Rattle.medium.specs.Medium.{Image, Holds}
+use Rattle.medium.specs.Medium.{Image, Stays, Holds}
 use Rattle.spec.specs.Blocks.{Array}
 use Rattle.journal.specs.Places.{Shape, first_home}
 use Rattle.journal.specs.Sectors.{IsRising}
@@ -136,33 +136,45 @@ module _ (shape : Shape) (sized : IsSized shape) where
   Laid-oldest before image bytes write head (r ∷ records) array some homed laid =
       Laid-head before image bytes write head r records array homed laid
 
-  -- the same content
-  pub Laid-stays : (before image : Image) → ((x : ℕ) → image x ≡ before x) → (head : ℕ) (records : List (List Entry)) (array : Array)
-      → Laid shape head records array before → Laid shape head records array image
-  Laid-stays before image same head records array laid = record {
-    whole = λ j below. IsWhole-same before image (λ x low high. same x) (head + j) (get_or records j []) (laid.whole j below);
-    blocks = λ b below.
-        with_records-same records (home_of shape image) (home_of shape before) b (same (first_home shape + b)) ∙ laid.blocks b below;
-  }
+-- the same content
+pub Laid-stays : (shape : Shape) (before image : Image) → Stays before image → (head : ℕ) (records : List (List Entry)) (array : Array)
+    → Laid shape head records array before → Laid shape head records array image
+Laid-stays shape before image same head records array laid = record {
+  whole = λ j below.
+      let w = laid.whole j below in
+      record { fit = w.fit; least = w.least; below = w.below; there = λ p less. same _ ∙ w.there p less };
+  blocks = λ b below.
+      with_records-same records (home_of shape image) (home_of shape before) b (same (first_home shape + b)) ∙ laid.blocks b below;
+}
+
+-- with the record behind the others all are whole
+pub whole_more : (shape : Shape) (image : Image) (head : ℕ) (records : List (List Entry)) (entries : List Entry)
+    → IsWhole shape image (head + length records) entries
+    → ((j : ℕ) → j < length records → IsWhole shape image (head + j) (get_or records j []))
+    → (j : ℕ) → j < length (records ++ entries ∷ []) → IsWhole shape image (head + j) (get_or (records ++ entries ∷ []) j [])
+whole_more shape image head records entries whole others j below = elim (cases_lt j (length records)) [
+  | inl old ↦
+      subst (λ (r : List Entry). IsWhole shape image (head + j) r) (sym (get_or_append_left records (entries ∷ []) [] j old)) (others j old)
+  | inr last ↦
+      let here : length records ≡ j = omega (arith, last, below, length-append records (entries ∷ [])) in
+      subst (λ (k : ℕ). IsWhole shape image (head + k) (get_or (records ++ entries ∷ []) k [])) here
+      (subst (λ (r : List Entry). IsWhole shape image (head + length records) r) (sym (get_or-append_seam records entries [] [])) whole)
+]
+
+-- and the last one of them
+pub last_whole : (shape : Shape) (image : Image) (head : ℕ) (records : List (List Entry)) (entries : List Entry)
+    → ((j : ℕ) → j < length (records ++ entries ∷ []) → IsWhole shape image (head + j) (get_or (records ++ entries ∷ []) j []))
+    → IsWhole shape image (head + length records) entries
+last_whole shape image head records entries whole =
+    subst (λ (r : List Entry). IsWhole shape image (head + length records) r) (get_or-append_seam records entries [] [])
+    (whole (length records) (omega (arith, length-append records (entries ∷ []))))
 
 -- the record behind the others counts too
 pub Laid-more : (shape : Shape) (image : Image) (head : ℕ) (records : List (List Entry)) (entries : List Entry) (array : Array)
     → IsWhole shape image (head + length records) entries → Laid shape head records array image
     → Laid shape head (records ++ entries ∷ []) (with_blocks entries array) image
-Laid-more shape image head records entries array whole laid =
-    let longer : length (records ++ entries ∷ []) ≡ length records + 1 = length-append records (entries ∷ []) in
-    record {
-      whole = λ j below. elim (cases_lt j (length records)) [
-        | inl old ↦
-            subst (λ (r : List Entry). IsWhole shape image (head + j) r) (sym (get_or_append_left records (entries ∷ []) [] j old))
-            (laid.whole j old)
-        | inr last ↦
-            let here : j ≡ length records = omega arith in
-            let is : get_or (records ++ entries ∷ []) j [] ≡ entries =
-            ap (λ (k : ℕ). get_or (records ++ entries ∷ []) k []) here ∙ get_or-append_seam records entries [] [] in
-            subst (λ (r : List Entry). IsWhole shape image (head + j) r) (sym is)
-            (subst (λ (s : ℕ). IsWhole shape image (head + s) entries) (sym here) whole)
-      ];
-      blocks = λ b below. with_records-append records entries (home_of shape image) b
-          ∙ with_blocks-same entries (with_records records (home_of shape image)) array b (laid.blocks b below);
-    }
+Laid-more shape image head records entries array whole laid = record {
+  whole = whole_more shape image head records entries whole laid.whole;
+  blocks = λ b below. with_records-append records entries (home_of shape image) b
+      ∙ with_blocks-same entries (with_records records (home_of shape image)) array b (laid.blocks b below);
+}

@@ -1,7 +1,5 @@
 pub mod OneSector
 pub mod BatchRecord
-pub mod RetireCalls
-pub mod LogFields
 pub mod RecordSteps
 pub mod CoveredRecord
 pub mod IndexRoom
@@ -14,7 +12,6 @@ pub mod Heads
 pub mod RetireTurns
 pub mod SortedIndex
 pub mod LoggedImage
-pub mod FirstHead
 pub mod GuardedCuts
 pub mod LaidBlocks
 pub mod MergedIndex
@@ -22,13 +19,8 @@ pub mod Newest
 pub mod PassedHead
 pub mod RingRecords
 pub mod CallsSent
-pub mod OldestRecord
-pub mod OldestTurn
-pub mod SectorsRead
-pub mod SparedSectors
 pub mod RecordTurns
 pub mod StoredLog
-pub mod CopiedTurns
-pub mod TurnPremises
 pub mod RecordCalls
-pub mod RecordCounted
+pub mod LogRules
+pub mod HeldLog

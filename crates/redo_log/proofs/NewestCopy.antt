@@ -1,6 +1,6 @@
 -- Where the newest bytes of a block stand.
 use Rattle.std.proofs.Common.{◌≡◌, ◌≢◌, ℕ, zero, suc, ◌+◌, ◌<◌, List, [], ◌∷◌, length, get_or, refl, sym, ◌∙◌, ap, subst, arith}
-use Rattle.std.specs.Prelude.{if◌then◌else◌, ◌==◌, Bool, true, false, map, Contains}
+use Rattle.std.specs.Prelude.{if◌then◌else◌, ◌==◌, Bool, true, false, Contains}
 use Rattle.std.proofs.lemmas.Bool.Decides.{nat_tests}
 use Rattle.std.proofs.lemmas.List.{length-map}
 use Rattle.std.proofs.lemmas.List.Elements.{Contains-get_or}
@@ -8,11 +8,15 @@ use Rattle.std.proofs.Math.ListN.{get_or-map}
 use Rattle.medium.specs.Medium.{State}
 use Rattle.spec.specs.Blocks.{Array}
 use Rattle.journal.specs.Places.{first_home}
-use Rattle.journal.specs.Sectors.{IsRising}
 use Rattle.journal.specs.Record.{Entry, numbers_of, block_of, with_blocks, with_records, home_of}
 use Rattle.journal.specs.Formats.{IsWhole}
+use Rattle.journal.specs.Copies.{first_of}
 use Rattle.redo_log.specs.Value.{LogValue, IsNewestCopy, HasNoCopy}
+use Rattle.redo_log.specs.Firsts.{first_kept}
 use Rattle.redo_log.specs.Held.{View, HoldsView}
+use Rattle.redo_log.proofs.KeptFirsts.{kept_is}
+use Rattle.redo_log.proofs.LogRules.{IsLog}
+use Rattle.redo_log.proofs.HeldLog.{many, named, count}
 
 -- a block that a record does not name is that of the array
 with_blocks-none : (entries : List Entry) (a : Array) (b : ℕ) → ((i : ℕ) → i < length entries → (get_or entries i (0, [])).0 ≢ b)
@@ -65,10 +69,6 @@ with_records-at (r ∷ records) a b (suc age) i waits below is first newest =
     with_records-at records (with_blocks r a) b age i (omega arith) below is first
     (λ j later inside. newest (suc j) (omega arith) (omega arith))
 
--- the numbers of the j-th record
-numbers_at : (records : List (List Entry)) (j : ℕ) → get_or (map (λ r. numbers_of r) records) j [] ≡ numbers_of (get_or records j [])
-numbers_at records j = let f : List Entry → List ℕ = λ r. numbers_of r in get_or-map f records j []
-
 -- a number that a record's list doesn't contain names none of its blocks
 unnamed : (entries : List Entry) (numbers : List ℕ) (b : ℕ) → numbers ≡ numbers_of entries → ¬ Contains numbers b → (i : ℕ)
     → i < length entries → (get_or entries i (0, [])).0 ≢ b
@@ -80,45 +80,35 @@ unnamed entries numbers b is none i below e =
     (subst (Contains (numbers_of entries)) named (Contains-get_or (numbers_of entries) i 0 inside)))
 
 module _ (log : LogValue) (m : State) (view : View) (holds : HoldsView log m view) (live : log.dead ≡ false) where
-  -- the block numbers of a record
-  record_is : (j : ℕ) → get_or log.waiting j [] ≡ numbers_of (get_or view.records j [])
-  record_is j = ap (λ (l : List (List ℕ)). get_or l j []) holds.durable ∙ numbers_at view.records j
-
-  as_many : length log.waiting ≡ length view.records
-  as_many =
-      let f : List Entry → List ℕ = λ r. numbers_of r in
-      omega (arith, ap (λ (l : List (List ℕ)). length l) holds.durable, length-map view.records f)
-
   -- a block without a logged copy is read at home
   pub home_is : (b : ℕ) → b < log.shape.blocks → HasNoCopy log b → m.content (first_home log.shape + b) ≡ view.array b
   home_is b below none =
       sym (with_records-none view.records (home_of log.shape m.content) b
-      (λ j waits. unnamed (get_or view.records j []) (get_or log.waiting j []) b (record_is j) (none j (omega (arith, as_many)))))
+      (λ j waits. unnamed (get_or view.records j []) (get_or log.waiting j []) b (named holds j) (none j (omega (arith, many holds)))))
       ∙ (holds.stores live).laid.blocks b below
 
-  -- the newest copy of a block is in a whole record, and has its bytes
-  pub copy_is : (b slot place : ℕ) → b < log.shape.blocks → ((j : ℕ) → j < length log.waiting → IsRising (get_or log.waiting j []))
-      → (copy : IsNewestCopy log b slot place)
-      → (place < length (get_or view.records copy.age []))
+  -- the newest copy of a block is in a whole record, and has its bytes, with the first ones that are kept
+  pub copy_is : IsLog log → (b slot place : ℕ) → (copy : IsNewestCopy log b slot place) → (place < length (get_or view.records copy.age []))
       × IsWhole log.shape m.content (log.head + copy.age) (get_or view.records copy.age [])
       × (block_of (get_or view.records copy.age []) place ≡ view.array b)
-  copy_is b slot place below rising copy =
+      × (first_kept log.firsts copy.age place ≡ first_of log.shape.format (get_or view.records copy.age []) place)
+  copy_is is b slot place copy =
       let f : Entry → ℕ = λ e. e.0 in
       let entries = get_or view.records copy.age [] in
-      let numbers = get_or log.waiting copy.age [] in
-      let waits : copy.age < length view.records = omega (arith, copy.waits, as_many) in
-      let long : length numbers ≡ length entries =
-      omega (arith, ap (λ (l : List ℕ). length l) (record_is copy.age), length-map entries f) in
-      let inside : place < length entries = omega (arith, copy.inside) in
-      let number : (i : ℕ) → get_or numbers i 0 ≡ (get_or entries i (0, [])).0 = λ i.
-      ap (λ (l : List ℕ). get_or l i 0) (record_is copy.age) ∙ get_or-map f entries i (0, []) in
+      let each = is.each copy.age [] copy.waits in
+      let waits : copy.age < length view.records = omega (arith, copy.waits, many holds) in
+      let inside : place < length entries = omega (arith, copy.inside, count holds copy.age) in
+      let below : b < log.shape.blocks = omega (arith, each.inside place 0 copy.inside, copy.named) in
+      let number : (i : ℕ) → get_or (get_or log.waiting copy.age []) i 0 ≡ (get_or entries i (0, [])).0 = λ i.
+      ap (λ (l : List ℕ). get_or l i 0) (named holds copy.age) ∙ get_or-map f entries i (0, []) in
       let first : (j : ℕ) → j < place → (get_or entries j (0, [])).0 ≢ b = λ j less e.
-      omega (arith, rising copy.age copy.waits j place less copy.inside, number j, e, copy.named) in (
+      omega (arith, each.rising j place less copy.inside, number j, e, copy.named) in (
         inside,
         (holds.stores live).laid.whole copy.age waits,
         sym (with_records-at view.records (home_of log.shape m.content) b copy.age place waits inside (sym (number place) ∙ copy.named)
             first
-            (λ j later waiting. unnamed (get_or view.records j []) (get_or log.waiting j []) b (record_is j)
-            (copy.newest j later (omega (arith, as_many)))))
+            (λ j later waiting. unnamed (get_or view.records j []) (get_or log.waiting j []) b (named holds j)
+            (copy.newest j later (omega (arith, many holds)))))
             ∙ (holds.stores live).laid.blocks b below,
+        kept_is log.shape.format view.records view.under_way log.firsts holds.firsts copy.age place waits inside,
       )

@@ -1,5 +1,5 @@
 -- The calls that write a record, one by one.
-use Rattle.std.proofs.Common.{◌≡◌, ◌⊎◌, inr, ℕ, ◌+◌, ◌*◌, ◌-◌, ◌/◌, ◌%◌, ◌<◌, ◌≤◌, List, [], length, sym, ◌∙◌, ap, subst, arith}
+use Rattle.std.proofs.Common.{◌≡◌, ◌⊎◌, inr, ℕ, ◌+◌, ◌*◌, ◌-◌, ◌/◌, ◌%◌, ◌<◌, ◌≤◌, List, [], length, refl, sym, ◌∙◌, ap, subst, arith}
 use Rattle.std.specs.Prelude.{slice_range, Result, Ok, Err, OnOk, OnErr}
 use Rattle.std.proofs.lemmas.Result.{on_ok_weaker}
 use Rattle.medium.specs.Medium.{State, Stays, Holds, Within, Gains, Only, Passes, IsSound}
@@ -16,10 +16,19 @@ use Rattle.journal.specs.Formats.{layout_of}
 use Rattle.journal.proofs.BatchEntries.{length_of_batch, entry_of_batch}
 use Rattle.journal.proofs.Format1Laws as one
 use Rattle.journal.proofs.Format2Laws as two
-use Rattle.redo_log.specs.Calls.{Write, Flush, placed, MakesCall}
+use Rattle.redo_log.specs.Calls.{Call, Write, Flush, placed, IsFlush, IsWriteOf, MakesCall}
+
+-- a flush, and a write of these bytes
+pub flush_is : (call : Call) → IsFlush call → call ≡ Flush
+flush_is (Write place bytes) is = absurd is
+flush_is Flush is = refl
+
+pub write_is : (place : ℕ) (bytes : List ℕ) (call : Call) → IsWriteOf place bytes call → call ≡ Write place bytes
+write_is place bytes (Write sector written) is = cc (is.0, is.1)
+write_is place bytes Flush is = absurd is
 
 -- a good write holds the bytes, and a refused one may
-either_way : {P Q : Type 0} (result : Result (Unit {0}) MediumFault) → OnOk result P → OnErr result (Q ⊎ P) → Q ⊎ P
+pub either_way : {P Q : Type 0} (result : Result (Unit {0}) MediumFault) → OnOk result P → OnErr result (Q ⊎ P) → Q ⊎ P
 either_way (Ok done) ok err = inr ok
 either_way (Err fault) ok err = err
 

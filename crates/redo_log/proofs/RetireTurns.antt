@@ -1,368 +1,320 @@
 -- Each turn that retires the oldest durable record: what the log and its medium hold after it.
-use Rattle.std.proofs.Common.{◌≡◌, ◌≢◌, ◌⊎◌, inl, inr, ⊎_elim, ℕ, ◌+◌, ◌-◌, ◌<◌, ◌≤◌, List, [], ◌∷◌, length, get_or, drop, refl, ◌∙◌}
-use Rattle.std.proofs.Common.{ap, subst, arith}
-use Rattle.std.specs.Prelude.{All, true, false, Option, Some, None}
+use Rattle.std.proofs.Common.{◌≡◌, ◌≢◌, inl, inr, ⊎_elim, ℕ, ◌+◌, ◌-◌, ◌<◌, ◌≤◌, List, [], length, get_or, drop, refl, sym, ◌∙◌}
+use Rattle.std.proofs.Common.{ap, subst, arith, length-drop}
+use Rattle.std.specs.Prelude.{true, false, map, Option, slice_index}
 use Rattle.std.proofs.lemmas.Bool.{cases_eq, cases_lt}
-use Rattle.std.proofs.lemmas.List.{length-map}
+use Rattle.std.proofs.lemmas.List.{drop-map}
 use Rattle.std.proofs.Math.ListN.{get_or-map}
-use Rattle.medium.specs.Medium.{State, Image, Holds, Gains, IsSound}
+use Rattle.medium.specs.Medium.{State, Holds, Gains, IsSound}
 use Rattle.medium.specs.Moments.{LeavesOnly}
-use Rattle.medium.proofs.Moments.{quiet_leaves}
+use Rattle.medium.proofs.Moments.{quiet_leaves, weaker}
 use Rattle.journal.specs.declared.head.Head.{Head as HeadOf}
-use Rattle.journal.specs.Places.{Shape}
-use Rattle.journal.specs.Sectors.{IsRising}
+use Rattle.journal.specs.Places.{sectors_of, first_home, first_data_of}
+use Rattle.journal.specs.Sectors.{IsRising, IsHead}
 use Rattle.journal.specs.Record.{Entry, numbers_of}
-use Rattle.journal.specs.Layout.{Layout}
+use Rattle.journal.specs.Layout.{slot_at}
 use Rattle.journal.specs.Formats.{layout_of, IsWhole}
-use Rattle.journal.specs.Staged.{HasSlots}
+use Rattle.journal.specs.Copies.{begun_with}
+use Rattle.journal.proofs.CopiedBlock.{begun_is}
 use Rattle.redo_log.specs.declared.turn.Turn.{Turn}
 use Rattle.redo_log.specs.declared.turn.Turn.TheVariants.{Copy, Flush, Head}
-use Rattle.redo_log.specs.Value.{AllFirsts, LogValue, Ahead, steps_for, of_oldest}
-use Rattle.redo_log.specs.Stages.{value_at, steps_at, begun_at, needed_at, AreInside, IsRecord, IsSized}
-use Rattle.redo_log.specs.Calls.{gaining}
-use Rattle.redo_log.specs.Turns.{begun_with, head_bytes, MayTurn, IsTurned, IsNextTurn, IsFlushTurn, IsHeadTurn}
-use Rattle.redo_log.specs.Held.{View, view_retired, image_view, written_of, made_of, turned_of, MayLeave, Stores, Safe, Guards, HoldsView}
-use Rattle.redo_log.specs.Held.{with_head, Shields}
+use Rattle.redo_log.specs.Value.{LogValue, Ahead, IsSentHome, IsRetireStepped, of_oldest, ahead_of}
+use Rattle.redo_log.specs.Stages.{needed_at}
+use Rattle.redo_log.specs.Firsts.{first_kept}
+use Rattle.redo_log.specs.Calls.{gaining, WritesOnly}
+use Rattle.redo_log.specs.Turns.{head_bytes, MayTurn, IsTurned, IsNextTurn}
+use Rattle.redo_log.specs.Held.{View, view_retired, made_of, turned_of, needed_of, with_head, MayLeave, Stores, Safe}
+use Rattle.redo_log.specs.Held.{Guards, Shields, HoldsView}
+use Rattle.redo_log.proofs.BatchRecord.{count_of}
 use Rattle.redo_log.proofs.OneSector.{moments_have}
-use Rattle.redo_log.proofs.BatchRecord.{count_of, record_entries}
-use Rattle.redo_log.proofs.RecordSteps.{steps_are, one_left}
 use Rattle.redo_log.proofs.CoveredRecord.{needed_one}
-use Rattle.redo_log.proofs.Heads.{head_sound, head_only, head_gains, heads_home}
-use Rattle.redo_log.proofs.Heads.{heads_flush, one_head}
+use Rattle.redo_log.proofs.Heads.{head_sound, head_only, head_gains, heads_home, heads_flush, one_head}
 use Rattle.redo_log.proofs.LoggedImage.{Logged-records}
 use Rattle.redo_log.proofs.PassedHead.{ahead_guards, ahead_heads}
-use Rattle.redo_log.proofs.StoredLog.{drop-length, Stores-stays, Stores-turned, home_stores}
-use Rattle.redo_log.proofs.GuardedCalls.{safe_either, home_each, homed_guards, head_each, head_guards, slots_less}
-use Rattle.redo_log.proofs.GuardedCalls.{past_records}
-use Rattle.redo_log.proofs.OldestRecord.{of_oldest_is, turned_of_is, needed_of_is}
-use Rattle.redo_log.proofs.GuardedCuts.{leave_of}
-use Rattle.redo_log.proofs.TurnPremises.{needs_then, needs_more, still_held, passed_held}
-use Rattle.redo_log.proofs.CopiedTurns.{BringsHome, new_head, brings_home}
-use Rattle.redo_log.proofs.KeptFirsts.{kept_is}
-use Rattle.journal.proofs.Formats.{laws_of}
+use Rattle.redo_log.proofs.StoredLog.{Stores-stays, home_stores, head_stores}
+use Rattle.redo_log.proofs.GuardedCalls.{Stands, stands_less, logged_of, home_each, homed_guards, head_each, head_guards, past_records}
+use Rattle.redo_log.proofs.GuardedCuts.{leave_of, guards_leave, logged_leaves}
+use Rattle.redo_log.proofs.KeptFirsts.{kept_is, retired_kept}
+use Rattle.redo_log.proofs.CallsSent.{copy_is, flush_is, head_is}
+use Rattle.redo_log.proofs.LogRules.{IsLog, retired_of, one_waits, nothing_home, not_homed}
+use Rattle.redo_log.proofs.HeldLog.{many, named, count, stands_then, goes_on}
 
-module _ (ahead : Ahead) (shape : Shape) (sized : IsSized shape) (head : ℕ) (numbers : List ℕ) (newer : List (List ℕ)) (turned : ℕ)
-    (kept : AllFirsts) (under_way : List ℕ) (writing : Option ℕ) (past : ahead.home ≤ head)
-    (away : turned < length numbers → ahead.home ≢ head) (view : View)
-    (each : All (AreInside shape) (numbers ∷ newer))
-    (fits_slots : length (numbers ∷ newer) + begun_at writing ≤ shape.slots)
-    (so_far : turned < length numbers + 2)
-    (under : (made : ℕ) → writing ≡ Some made
-    → IsRecord shape (head + length (numbers ∷ newer)) under_way × (made < steps_for shape.format (length under_way))) where
-  abbrev L : Layout
-  L = layout_of shape.format
+-- no count falls in a turn
+pub turn_moments : (turn : Turn) (old new : State) → IsSound old → MayTurn turn old new → LeavesOnly (λ _. Unit {0}) old new
+turn_moments (Copy from to first) old new sound adds = weaker _ (λ _. Unit {0}) old new (λ image left. tt) adds.moments
+turn_moments Flush old new sound adds = quiet_leaves (λ _. Unit {0}) old new sound (λ image cut. tt) adds
+turn_moments (Head h) old new sound adds = weaker _ (λ _. Unit {0}) old new (λ image left. tt) adds.moments
 
-  -- a log whose oldest record has come so far
-  abbrev pub waiting_log : ℕ → LogValue
-  waiting_log t = value_at ahead shape head (numbers ∷ newer) t kept under_way writing false
+-- the bytes that a head turn writes are those of the new head
+new_head : (h : HeadOf) (next : ℕ) → h.stamp ≡ next → IsHead next (head_bytes h.stamp)
+new_head h next is = record {
+  spelled = ap (λ (n : ℕ). head_bytes n) is;
+  least = omega (arith, h.least, is);
+  most = omega (arith, h.most, is);
+}
 
-  -- where so much was done ahead
-  abbrev pub sent_log : Ahead → ℕ → LogValue
-  sent_log sent t = value_at sent shape head (numbers ∷ newer) t kept under_way writing false
+module _ {log : LogValue} (is : IsLog log) (live : log.dead ≡ false) (owed : 0 < of_oldest log) {old : State}
+    (sound : IsSound old) {view : View}
+    (hv : HoldsView log old view) where
+  abbrev oldest : List Entry
+  oldest = get_or view.records 0 []
 
-  -- how many steps the record under way needs, and how many calls of it are made
-  abbrev steps : ℕ
-  steps = steps_at shape.format (length under_way) writing
+  waits : 0 < length view.records
+  waits = omega (arith, many hv, one_waits is owed)
 
-  abbrev made : ℕ
-  made = made_of (value_at ahead shape head (numbers ∷ newer) turned kept under_way writing false)
+  stands : Stands log.shape log.head view log.steps_left (made_of log)
+  stands = stands_then hv is log.steps_left (omega arith)
 
-  abbrev left : ℕ → ℕ
-  left t = length numbers + 2 - t
+  stored : Stores log.shape log.head view log.steps_left (made_of log) (turned_of log) old.content
+  stored = hv.stores live
 
-  -- how many it needs, where a flush that covers its blocks counts
-  abbrev needs : Ahead → ℕ → ℕ
-  needs sent t = needed_at sent head (head + length (numbers ∷ newer)) (length numbers + 2 - t)
+  guarded : view.ours ≡ true → Shields log.shape log.head view log.steps_left (made_of log) (needed_of log) old
+  guarded ours = hv.guards live ours
 
-  -- a record whose blocks went home by retire steps needs its flush
-  not_covered : turned < length numbers → needs ahead (turned + 1) ≢ 1
-  not_covered below one = ⊎_elim (λ e. omega (arith, e, below)) (λ covered. away below covered.1)
-      (needed_one ahead head (head + length (numbers ∷ newer)) (length numbers + 2 - (turned + 1)) one)
+  -- what it needs where so many retire steps are left of it
+  needs_one : of_oldest log ≡ 1 → needed_of log ≡ 1
+  needs_one one = ap (λ (l : ℕ). needed_at log.ahead log.head (log.head + length log.waiting) l) one
 
-  first : AreInside shape numbers
-  first = each 0 [] (omega arith)
+  -- ---- a turn that brings the next block home
+  module _ (below : 2 < of_oldest log) (from : ℕ) (begins : Option (List ℕ)) (new : State)
+      (brought : begun_with begins (old.content from) ≡ (get_or (get_or view.records 0 []) (turned_of log) (0, [])).1) where
+    inside : turned_of log < length oldest
+    inside = omega (arith, below, is.owed_most, count hv 0)
 
-  -- where a record is under way its steps are these
-  begun_or_not : (w : Option ℕ) → writing ≡ w
-      → (steps_at shape.format (length under_way) w ≡ 0)
-      ⊎ ((m : ℕ) × (writing ≡ Some m) × (steps_at shape.format (length under_way) w ≡ steps_for shape.format (length under_way) - m))
-  begun_or_not None is = inl refl
-  begun_or_not (Some m) is = inr (m, is, refl)
+    abbrev to : ℕ
+    to = first_home log.shape + (get_or oldest (turned_of log) (0, [])).0
 
-  module _ (old : State) (sound : IsSound old) (hv : HoldsView (waiting_log turned) old view) where
-    many : length newer + 1 ≡ length view.records
-    many =
-        let f : List Entry → List ℕ = λ r. numbers_of r in
-        omega (arith, ap (λ (l : List (List ℕ)). length l) hv.durable, length-map view.records f)
+    abbrev bytes : List ℕ
+    bytes = begun_with begins (old.content from)
 
-    waits : 0 < length view.records
-    waits = omega (arith, many)
+    home_leaves : MayTurn (Copy from to begins) old new → view.ours ≡ true → LeavesOnly (MayLeave old.size log view) old new
+    home_leaves adds ours =
+        let gained : State = record old { may_leave = gaining to bytes old.may_leave } in
+        let s = guarded ours in
+        moments_have (MayLeave old.size log view) to bytes old new adds
+        (leave_of old.size log view gained (needed_of log) hv.fits is.sized (Safe log.shape log.head view log.steps_left (made_of log))
+        (heads_home s gained (needed_of log) refl (λ not. not) is.sized sound (turned_of log) bytes waits inside (λ s c left. left))
+        (home_each stands (head_sound old sound) s.guards (with_head gained) bytes (turned_of log) waits inside
+        (head_gains old gained to bytes refl (λ s c left. left)))
+        (logged_of stands))
 
-    numbers_are : numbers ≡ numbers_of (get_or view.records 0 [])
-    numbers_are =
-        let f : List Entry → List ℕ = λ r. numbers_of r in
-        ap (λ (l : List (List ℕ)). get_or l 0 []) hv.durable ∙ get_or-map f view.records 0 []
-
-    count : length numbers ≡ length (get_or view.records 0 [])
-    count = count_of numbers (get_or view.records 0 []) numbers_are
-
-    under_count : length under_way ≡ length view.under_way
-    under_count = count_of under_way view.under_way hv.under_way
-
-    rising : IsRising (numbers_of (get_or view.records 0 []))
-    rising = subst IsRising numbers_are first.rising
-
-    slots : 0 < steps_at shape.format (length under_way) writing → HasSlots (layout_of shape.format) (image_view shape head view)
-    slots some = elim (begun_or_not writing refl) [
-      | inl none ↦ absurd (omega (arith, none, some))
-      | inr begun ↦
-          let u = under begun.0 begun.1 in
-          let one : begun_at writing ≡ 1 = ap (λ (w : Option ℕ). begun_at w) begun.1 in
-          let stamp_is : head + length (numbers ∷ newer) ≡ head + length view.records = omega (arith, many) in
-          let rec : IsRecord shape (head + length view.records) under_way = subst (λ (s : ℕ). IsRecord shape s under_way) stamp_is u.0 in
-          record {
-            some = sized.some;
-            room = omega (arith, many, fits_slots, one);
-            behind = sized.behind;
-            under_way = record_entries shape (head + length view.records) under_way view.under_way sized rec hv.under_way hv.sized;
-          }
-    ]
-
-    few_under_way : 0 < steps_at shape.format (length under_way) writing → length view.under_way ≤ (layout_of shape.format).most
-    few_under_way some = (slots some).under_way.fit.few
-
-    -- once all of it is written one step is left at most
-    short : (layout_of shape.format).parts (length view.under_way) ≤ written_of shape view made
-        → steps_at shape.format (length under_way) writing ≤ 2
-    short all = elim (begun_or_not writing refl) [
-      | inl none ↦ omega (arith, none)
-      | inr begun ↦
-          let u = under begun.0 begun.1 in
-          let all_steps : steps_for shape.format (length under_way) ≡ L.parts (length view.under_way) + 1 + _ =
-          ap (λ (k : ℕ). steps_for shape.format k) under_count ∙ steps_are shape.format (length view.under_way) in
-          let m_is : made ≡ begun.0 = omega (arith, begun.2, u.1) in
-          let one = one_left (L.early (length view.under_way)) (L.parts (length view.under_way))
-          ((laws_of shape.format).last_is_late (length view.under_way)) begun.0
-          (subst (λ (m : ℕ). L.parts (length view.under_way) ≤ written_of shape view m) m_is all) in
-          omega (arith, begun.2, all_steps, one)
-    ]
-
-    turned_is : turned_of (waiting_log turned) ≡ turned
-    turned_is = turned_of_is ahead shape head (numbers ∷ newer) turned kept under_way writing false ∙ (omega (arith, so_far))
-
-    stored : Stores shape head view steps made turned old.content
-    stored = subst (λ (t : ℕ). Stores shape head view steps made t old.content) turned_is (hv.stores refl)
-
-    guarded : view.ours ≡ true → Shields shape head view steps made (needs ahead turned) old
-    guarded ours =
-        subst (λ (r : ℕ). Shields shape head view steps made r old)
-        (needed_of_is ahead shape head (numbers ∷ newer) turned kept under_way writing false) (hv.guards refl ours)
-
-    whole : IsWhole shape old.content head (get_or view.records 0 [])
-    whole =
-        let none : head + 0 ≡ head = omega arith in
-        subst (λ (s : ℕ). IsWhole shape old.content s (get_or view.records 0 [])) none (stored.laid.whole 0 waits)
-
-    -- what the next turn does, where not all is home
-    brings : (turn : Turn) → turned < length numbers → IsNextTurn shape head numbers kept turned turn
-        → BringsHome shape old.content (get_or view.records 0 []) turned turn
-    brings turn below next =
-        let inside : turned < length (get_or view.records 0 []) = omega (arith, below, count) in
-        brings_home shape old.content head (get_or view.records 0 []) numbers numbers_are whole turned inside _
-        (kept_is shape.format view.records view.under_way kept hv.firsts 0 turned waits inside) turn (next.home below)
-
-    -- with the record under way or without it a cut may leave the image
-    safe_leaves : (image : Image) → Safe shape head view steps made image → MayLeave old.size (waiting_log turned) view image
-    safe_leaves image safe = ⊎_elim
-        (λ rest. inl (Logged-records old.size shape head view.records view.array image hv.fits rest))
-        (λ both. inr (inl (both.0, short both.1, Logged-records old.size shape head _ _ image hv.fits both.2)))
-        (safe_either shape sized head view steps made image slots hv.few safe)
-
-    -- the oldest record is flushed at home, and the one head is there
-    one_now : turned ≡ length numbers + 1 → view.ours ≡ true → Guards shape head view steps made 1 old
-    one_now last ours =
-        let one : left turned ≡ 1 = omega (arith, last) in
-        let needs_one : needs ahead turned ≡ 1 = ap (λ (l : ℕ). needed_at ahead head (head + length (numbers ∷ newer)) l) one in
-        one_head shape head view steps made old (subst (λ (r : ℕ). Shields shape head view steps made r old) needs_one (guarded ours))
-
-    module _ (new : State) where
-      -- a record that still waits
-      held : (sent : Ahead) (same_size : new.size ≡ old.size) (t : ℕ) → t < length numbers + 2
-          → Stores shape head view steps made t new.content
-          → (view.ours ≡ true → Shields shape head view steps made (needs sent t) new) → HoldsView (sent_log sent t) new view
-      held sent same_size t below s g =
-          still_held ahead shape sized head numbers newer turned kept under_way writing view old hv slots short new same_size sent t
-          below s g
-
-      -- a turn before the flush
-      home_leaves : (turn : Turn) → BringsHome shape old.content (get_or view.records 0 []) turned turn
-          → MayTurn turn old new → view.ours ≡ true → LeavesOnly (MayLeave old.size (waiting_log turned) view) old new
-      home_leaves (Copy from to begin) does adds ours =
-          let bytes : List ℕ = begun_with begin (old.content from) in
-          let gained : State = record old { may_leave = gaining to (begun_with begin (old.content from)) old.may_leave } in
-          moments_have (MayLeave old.size (waiting_log turned) view) to (begun_with begin (old.content from)) old new adds
-          (leave_of old.size (waiting_log turned) view gained (needs ahead turned) hv.fits sized (Safe shape head view steps made)
-          (heads_home shape sized head view old gained to (begun_with begin (old.content from)) (needs ahead turned) (needs ahead turned)
-          turned sound waits does.below does.at refl (λ s c left. left) (λ not. not) (guarded ours).heads)
-          (home_each shape sized head view (with_head old) (with_head gained) (head_sound old sound) steps made slots to
-          (begun_with begin (old.content from)) (head_gains old gained to (begun_with begin (old.content from)) refl (λ s c left. left))
-          turned waits does.below does.at (guarded ours).guards.each)
-          (λ image safe. ⊎_elim inl (λ both. inr (both.0, short both.1, both.2))
-          (safe_either shape sized head view steps made image slots hv.few safe)))
-      home_leaves Flush does adds ours = absurd does
-      home_leaves (Head h) does adds ours = absurd does
-
-      flush_leaves : (turn : Turn) → IsFlushTurn turn → MayTurn turn old new → view.ours ≡ true
-          → LeavesOnly (MayLeave old.size (waiting_log turned) view) old new
-      flush_leaves (Copy from to begin) is adds ours = absurd is
-      flush_leaves Flush is adds ours = quiet_leaves (MayLeave old.size (waiting_log turned) view) old new sound (hv.leaves ours) adds
-      flush_leaves (Head h) is adds ours = absurd is
-
-      head_leaves : (turn : Turn) → turned ≡ length numbers + 1 → IsHeadTurn (head + 1) turn
-          → MayTurn turn old new → view.ours ≡ true → LeavesOnly (MayLeave old.size (waiting_log turned) view) old new
-      head_leaves (Copy from to begin) last is adds ours = absurd is
-      head_leaves Flush last is adds ours = absurd is
-      head_leaves (Head h) last is adds ours =
-          let gained : State = record old { may_leave = gaining 1 (head_bytes h.stamp) old.may_leave } in
-          let one : left turned ≡ 1 = omega (arith, last) in
-          let last_one : of_oldest (waiting_log turned) ≡ 1 =
-          of_oldest_is ahead shape head (numbers ∷ newer) turned kept under_way writing false ∙ one in
-          moments_have (MayLeave old.size (waiting_log turned) view) 1 (head_bytes h.stamp) old new adds
-          (λ image cut. ⊎_elim (safe_leaves image)
-          (λ past. ⊎_elim
-          (λ rest. inr (inr (
-            waits,
-            omega (arith, last_one),
-            Logged-records old.size shape (head + 1) (drop 1 view.records) view.array image hv.fits rest,
-          )))
-          (λ both. inr (inl (both.0, short both.1, past_records old.size shape head view image hv.fits waits past.1 both.2)))
-          (safe_either shape sized (head + 1) (view_retired 1 view) steps made image
-          (λ some. slots_less shape head view waits (slots some)) (omega (arith, hv.few, drop-length view.records waits))
-          past.0))
-          (head_each shape sized head view old gained sound steps made slots (head_bytes h.stamp) waits
-          (new_head h.stamp (head + 1) h.least h.most is) (λ s c left. left)
-          (one_now last ours) image cut))
-
-      -- at each moment of the next turn a cut leaves what it might leave before, and with the new head the same array
-      pub turn_leaves : (turn : Turn) → IsNextTurn shape head numbers kept turned turn → MayTurn turn old new → view.ours ≡ true
-          → LeavesOnly (MayLeave old.size (waiting_log turned) view) old new
-      turn_leaves turn next adds ours = elim (cases_lt turned (length numbers)) [
-        | inl below ↦ home_leaves turn (brings turn below next) adds ours
-        | inr all ↦ elim (cases_eq turned (length numbers)) [
-          | inl is ↦ flush_leaves turn (next.flush is) adds ours
-          | inr not ↦
-              let last : turned ≡ length numbers + 1 = omega (arith, all, not, so_far) in
-              head_leaves turn last (next.head last) adds ours
-        ]
-      ]
-
-      module _ (same_size : new.size ≡ old.size) where
-        home_held : (sent : Ahead) → needs sent (turned + 1) ≢ 1 → (turn : Turn) → turned < length numbers
-            → BringsHome shape old.content (get_or view.records 0 []) turned turn → MayTurn turn old new
-            → IsTurned turn old new → HoldsView (sent_log sent (turned + 1)) new view
-        home_held sent not (Copy from to begin) below does adds wrote =
-            held sent same_size (turned + 1) (omega (arith, below))
-            (home_stores shape sized head view steps made turned old.content new.content to (begun_with begin (old.content from)) wrote
-            few_under_way waits rising does.below does.at does.bytes stored)
-            (λ ours.
-            let same : new.content 1 ≡ old.content 1 = wrote.elsewhere 1 (λ e. omega (arith, e, does.at, sized.behind)) in
-            record {
-              guards = record {
-                each = home_each shape sized head view (with_head old) (with_head new) (head_sound old sound) steps made slots to
-                    (begun_with begin (old.content from))
-                    (head_gains old new to (begun_with begin (old.content from)) same adds.sets)
-                    turned waits does.below does.at (guarded ours).guards.each;
-                homed = λ e. absurd (not e);
-              };
-              heads = heads_home shape sized head view old new to (begun_with begin (old.content from)) (needs ahead turned)
-                  (needs sent (turned + 1)) turned sound waits does.below does.at same adds.sets (λ _. not)
-                  (guarded ours).heads;
-            })
-        home_held sent not Flush below does adds wrote = absurd does
-        home_held sent not (Head h) below does adds wrote = absurd does
-
-        -- after a turn ahead too
-        pub sent_held : (sent : Ahead) → needs sent (turned + 1) ≢ 1 → (turn : Turn) → turned < length numbers
-            → IsNextTurn shape head numbers kept turned turn → MayTurn turn old new → IsTurned turn old new
-            → HoldsView (sent_log sent (turned + 1)) new view
-        sent_held sent not turn below next adds wrote = home_held sent not turn below (brings turn below next) adds wrote
-
-        -- the blocks are flushed at home
-        flush_held : (turn : Turn) → turned ≡ length numbers → IsFlushTurn turn → IsTurned turn old new
-            → HoldsView (waiting_log (turned + 1)) new view
-        flush_held (Copy from to begin) all is wrote = absurd is
-        flush_held Flush all is wrote =
-            let s = Stores-stays shape sized head view steps steps made made turned old.content new.content wrote.0 (λ some. some)
-            (omega arith) stored in
-            let there : length (get_or view.records 0 []) ≤ turned = omega (arith, all, count) in
-            held ahead same_size (turned + 1) (omega (arith, all))
-            (Stores-turned shape sized head view steps made turned (turned + 1) new.content (λ i low high. omega (arith, high, there))
-            s)
-            (λ ours. record {
-              guards = homed_guards shape sized head view (with_head old) (with_head new) (head_sound old sound) steps made
-                  (needs ahead turned) (needs ahead (turned + 1)) turned
-                  (head_only old.content new (wrote.0 1) wrote.1) there stored.copied (guarded ours).guards;
-              heads = heads_flush shape head view old.content new (needs ahead (turned + 1)) (wrote.0 1) wrote.1;
-            })
-        flush_held (Head h) all is wrote = absurd is
-
-        -- after a turn that is not the last the log and its medium hold the same view
-        pub turn_held : (turn : Turn) → turned ≤ length numbers → IsNextTurn shape head numbers kept turned turn
-            → MayTurn turn old new → IsTurned turn old new → HoldsView (waiting_log (turned + 1)) new view
-        turn_held turn more next adds wrote = elim (cases_lt turned (length numbers)) [
-          | inl below ↦ home_held ahead (not_covered below) turn below (brings turn below next) adds wrote
-          | inr all ↦
-              let is : turned ≡ length numbers = omega (arith, all, more) in
-              flush_held turn is (next.flush is) wrote
-        ]
-
-        -- the log after the last turn, with one record less
-        abbrev retired_log : LogValue
-        retired_log = value_at ahead shape (head + 1) newer 0 (drop 1 kept) under_way writing false
-
-        -- the head goes past the record
-        past_held : (bytes : List ℕ) → turned ≡ length numbers + 1 → Holds 1 bytes old.content new.content
-            → (view.ours ≡ true → Shields shape (head + 1) (view_retired 1 view) steps made (needs_then ahead shape head newer) new)
-            → HoldsView retired_log new (view_retired 1 view)
-        past_held bytes last wrote guards =
-            passed_held ahead shape sized head numbers newer turned kept under_way writing view old hv slots short new same_size stored
-            (omega (arith, last, count)) bytes wrote guards
-
-        abbrev after : ℕ
-        after = needs_then ahead shape head newer
-
-        -- it is flushed
-        head_held : (turn : Turn) → turned ≡ length numbers + 1 → IsHeadTurn (head + 1) turn
-            → MayTurn turn old new → IsTurned turn old new → HoldsView retired_log new (view_retired 1 view)
-        head_held (Copy from to begin) last is adds wrote = absurd is
-        head_held Flush last is adds wrote = absurd is
-        head_held (Head h) last is adds wrote = past_held (head_bytes h.stamp) last wrote.0 (λ ours. record {
-          guards = head_guards shape sized head view old (with_head new) sound steps made slots (head_bytes h.stamp) waits
-              (new_head h.stamp (head + 1) h.least h.most is) after (needs_more ahead shape head newer past) wrote.0
-              (head_only new.content new refl wrote.1) (one_now last ours);
-          heads = heads_flush shape (head + 1) (view_retired 1 view) new.content new after refl wrote.1;
+    home_held : (ahead : Ahead) → needed_of (record log { retire_steps_left = log.retire_steps_left - 1; ahead = ahead }) ≢ 1
+        → new.size ≡ old.size → MayTurn (Copy from to begins) old new → IsTurned (Copy from to begins) old new
+        → HoldsView (record log { retire_steps_left = log.retire_steps_left - 1; ahead = ahead }) new view
+    home_held ahead not same_size adds wrote =
+        let rising : IsRising (numbers_of oldest) = subst IsRising (named hv 0) (is.each 0 [] (one_waits is owed)).rising in
+        let same : new.content 1 ≡ old.content 1 = wrote.elsewhere 1 (λ e. omega (arith, e, is.sized.behind)) in
+        let next = record log { retire_steps_left = log.retire_steps_left - 1; ahead = ahead } in
+        goes_on hv is log.steps_left (log.retire_steps_left - 1) ahead new (omega arith) same_size live
+        (home_stores stored is.sized new.content bytes (turned_of next)
+        (λ some. (stands.slots some).under_way.fit.few) waits rising inside wrote
+        brought (omega (arith, below, is.owed_most)))
+        (λ ours.
+        let s = guarded ours in record {
+          guards = record {
+            each = home_each stands (head_sound old sound) s.guards (with_head new) bytes (turned_of log) waits inside
+                (head_gains old new to bytes same adds.sets);
+            homed = λ e. absurd (not e);
+          };
+          heads = heads_home s new (needed_of next) same (λ _. not) is.sized sound (turned_of log) bytes waits inside adds.sets;
         })
 
-        -- it is not flushed yet, and a slot is free besides the one that is passed
-        pub ahead_held : (h : HeadOf) → h.stamp ≡ head + 1 → turned ≡ length numbers + 1
-            → length (numbers ∷ newer) + begun_at writing < shape.slots → Gains 1 (head_bytes h.stamp) old.may_leave new.may_leave
-            → Holds 1 (head_bytes h.stamp) old.content new.content
-            → HoldsView (value_at ahead shape (head + 1) newer 0 (drop 1 kept) under_way writing false) new (view_retired 1 view)
-        ahead_held h is last besides gains wrote =
-            let fewer : length view.records ≡ length (drop 1 view.records) + 1 = drop-length view.records waits in
-            past_held (head_bytes h.stamp) last wrote (λ ours. record {
-              guards = ahead_guards shape sized head view old new sound steps made slots (head_bytes h.stamp) waits
-                  (new_head h.stamp (head + 1) h.least h.most is) after (needs_more ahead shape head newer past) wrote gains
-                  (one_now last ours);
-              heads = ahead_heads shape sized head view old new sound steps made slots (head_bytes h.stamp) waits
-                  (new_head h.stamp (head + 1) h.least h.most is) after (needs_more ahead shape head newer past) wrote gains
-                  (omega (arith, fewer, many, besides)) (one_now last ours);
-            })
+  -- ---- the flush of its blocks
+  flush_held : of_oldest log ≡ 2 → (new : State) → new.size ≡ old.size → IsTurned Flush old new
+      → HoldsView (record log { retire_steps_left = log.retire_steps_left - 1 }) new view
+  flush_held two new same_size wrote =
+      let next = record log { retire_steps_left = log.retire_steps_left - 1 } in
+      let there : length oldest ≤ turned_of log = omega (arith, two, count hv 0) in
+      goes_on hv is log.steps_left (log.retire_steps_left - 1) log.ahead new (omega arith) same_size live
+      (Stores-stays stored log.steps_left (made_of log) (turned_of next) new.content wrote.0 (λ some. some) (omega arith)
+      (λ i low high. omega (arith, high, there)))
+      (λ ours. record {
+        guards = homed_guards stands (head_sound old sound) (guarded ours).guards (with_head new)
+            (head_only old.content new (wrote.0 1) wrote.1)
+            stored (needed_of next) there;
+        heads = heads_flush log.shape log.head view old.content new (needed_of next) (wrote.0 1) wrote.1;
+      })
 
-        -- after the last turn they hold the one without the record
-        pub turn_last : (turn : Turn) → length numbers < turned → IsNextTurn shape head numbers kept turned turn
-            → MayTurn turn old new → IsTurned turn old new
-            → HoldsView (value_at ahead shape (head + 1) newer 0 (drop 1 kept) under_way writing false) new (view_retired 1 view)
-        turn_last turn past next adds wrote =
-            let last : turned ≡ length numbers + 1 = omega (arith, past, so_far) in
-            head_held turn last (next.head last) adds wrote
+  -- ---- the head is written past it
+  module _ (one : of_oldest log ≡ 1) (h : HeadOf) (stamp_is : h.stamp ≡ log.head + 1) (new : State) where
+    head_now : IsHead (log.head + 1) (head_bytes h.stamp)
+    head_now = new_head h (log.head + 1) stamp_is
+
+    one_now : view.ours ≡ true → Guards log.shape log.head view log.steps_left (made_of log) (needed_of log) old
+    one_now ours = one_head (guarded ours) (needs_one one)
+
+    stands_past : Stands log.shape (log.head + 1) (view_retired 1 view) log.steps_left (made_of log)
+    stands_past = stands_less stands waits
+
+    -- at each moment a cut leaves what it might leave before, and with the new head the same array
+    pub head_leaves : WritesOnly 1 (head_bytes h.stamp) old new → view.ours ≡ true → LeavesOnly (MayLeave old.size log view) old new
+    head_leaves adds ours =
+        let gained : State = record old { may_leave = gaining 1 (head_bytes h.stamp) old.may_leave } in
+        moments_have (MayLeave old.size log view) 1 (head_bytes h.stamp) old new adds
+        (λ image cut. ⊎_elim (λ safe. logged_leaves old.size log view image hv.fits (logged_of stands image safe))
+        (λ past. ⊎_elim
+        (λ rest. inr (inr (
+          waits,
+          omega (arith, one),
+          Logged-records old.size log.shape (log.head + 1) (drop 1 view.records) view.array image hv.fits rest,
+        )))
+        (λ both. inr (inl (both.0, both.1, past_records old.size log.shape log.head view image hv.fits waits past.1 both.2)))
+        (logged_of stands_past image past.0))
+        (head_each stands sound (one_now ours) gained (head_bytes h.stamp) waits head_now (needs_one one) (λ s c left. left) image cut))
+
+    -- then the log has one record less, where this guards it
+    past_held : new.size ≡ old.size → Holds 1 (head_bytes h.stamp) old.content new.content
+        → (view.ours ≡ true
+        → Shields log.shape (log.head + 1) (view_retired 1 view) log.steps_left (made_of log) (needed_of (retired_of log)) new)
+        → HoldsView (retired_of log) new (view_retired 1 view)
+    past_held same_size wrote guards =
+        let fits : sectors_of log.shape ≤ new.size = omega (arith, same_size, hv.fits) in
+        let fewer = length-drop 1 view.records in
+        let f : List Entry → List ℕ = λ r. numbers_of r in
+        let durable : drop 1 log.waiting ≡ map f (drop 1 view.records) = ap (λ (l : List (List ℕ)). drop 1 l)
+        hv.durable ∙ drop-map f 1 view.records in
+        let second : length (get_or (drop 1 log.waiting) 0 []) ≡ length (get_or (drop 1 view.records) 0 []) =
+        count_of _ _ (ap (λ (l : List (List ℕ)). get_or l 0 []) durable ∙ get_or-map f (drop 1 view.records) 0 []) in
+        record {
+          fits = fits;
+          durable = durable;
+          under_way = hv.under_way;
+          next = omega (arith, hv.next, fewer, waits);
+          few = omega (arith, hv.few, fewer);
+          sized = hv.sized;
+          firsts = retired_kept log.shape.format view.records view.under_way log.firsts hv.firsts waits;
+          leaves = λ ours. guards_leave new.size (retired_of log) (view_retired 1 view) new stands_past fits (guards ours);
+          stores = λ _. head_stores stored is.sized new.content (head_bytes h.stamp) (turned_of (retired_of log)) waits
+              (omega (arith, one, count hv 0)) (λ i low high. nothing_home log i low (omega (arith, high, second))) wrote;
+          guards = λ _. guards;
+        }
+
+    -- nothing of the next one is flushed at home yet
+    needs_more : needed_of (retired_of log) ≢ 1
+    needs_more e = ⊎_elim (λ l. not_homed log l) (λ covered. omega (arith, covered.1, is.past))
+        (needed_one log.ahead (log.head + 1) (log.head + 1 + length (drop 1 log.waiting)) (of_oldest (retired_of log)) e)
+
+    -- so a log that counts it holds what the medium does
+    pub retired_held : (then : LogValue) → IsRetireStepped log then → HoldsView (retired_of log) new (view_retired 1 view)
+        → HoldsView then new (view_retired (then.head - log.head) view)
+    retired_held then stepped held =
+        let past : 1 ≡ log.head + 1 - log.head = omega arith in
+        subst (λ (v : LogValue). HoldsView v new (view_retired (v.head - log.head) view))
+        (sym (stepped.last (omega (arith, one, stepped.some))))
+        (subst (λ (n : ℕ). HoldsView (retired_of log) new (view_retired n view)) past held)
+
+    -- the head is flushed
+    head_held : new.size ≡ old.size → IsTurned (Head h) old new → HoldsView (retired_of log) new (view_retired 1 view)
+    head_held same_size wrote = past_held same_size wrote.0 (λ ours. record {
+      guards = head_guards stands sound (one_now ours) (with_head new) (head_bytes h.stamp) waits head_now (needs_one one)
+          (needed_of (retired_of log)) needs_more wrote.0 (head_only new.content new refl wrote.1);
+      heads = heads_flush log.shape (log.head + 1) (view_retired 1 view) new.content new (needed_of (retired_of log)) refl wrote.1;
+    })
+
+    -- it is not flushed yet, and a slot is free besides the one that is passed
+    pub ahead_held : log.next - log.head < log.shape.slots → new.size ≡ old.size → Gains 1 (head_bytes h.stamp) old.may_leave new.may_leave
+        → Holds 1 (head_bytes h.stamp) old.content new.content → HoldsView (retired_of log) new (view_retired 1 view)
+    ahead_held besides same_size gains wrote = past_held same_size wrote (λ ours. record {
+      guards = ahead_guards stands sound (one_now ours) (needs_one one) new (head_bytes h.stamp) waits head_now (needed_of (retired_of log))
+          needs_more wrote gains;
+      heads = ahead_heads stands sound (one_now ours) (needs_one one) new (head_bytes h.stamp) waits head_now (needed_of (retired_of log))
+          needs_more wrote gains (omega (arith, besides, hv.next, length-drop 1 view.records, waits));
+    })
+
+  -- ---- the next turn of the oldest record
+  module _ (turn : Turn) (next : IsNextTurn log.shape log.head (get_or log.waiting 0 []) log.firsts (turned_of log) turn) (new : State)
+      (adds : MayTurn turn old new) where
+    -- it brings a block home
+    abbrev Copies : Option (List ℕ) → ℕ → Type 0
+    Copies begins from = (turn ≡ Copy from (first_home log.shape + (get_or oldest (turned_of log) (0, [])).0) begins)
+        × (begun_with begins (old.content from) ≡ (get_or oldest (turned_of log) (0, [])).1)
+
+    copies : 2 < of_oldest log → (begins : Option (List ℕ)) × (from : ℕ) × Copies begins from
+    copies below =
+        let t = turned_of log in
+        let inside : t < length oldest = omega (arith, below, is.owed_most, count hv 0) in
+        let f : Entry → ℕ = λ e. e.0 in
+        let number : slice_index (get_or log.waiting 0 []) t ≡ (get_or oldest t (0, [])).0 =
+        ap (λ (l : List ℕ). slice_index l t) (named hv 0) ∙ get_or-map f oldest t (0, []) in
+        let whole : IsWhole log.shape old.content log.head oldest =
+        subst (λ (s : ℕ). IsWhole log.shape old.content s oldest) (omega arith) (stored.laid.whole 0 waits) in
+        let from : ℕ = slot_at (layout_of log.shape.format) log.shape log.head + first_data_of log.shape.format + t in
+        let begins = first_kept log.firsts 0 t in (
+          begins,
+          from,
+          (
+            copy_is from _ begins turn (next.home (omega (arith, below, is.owed_most)))
+                ∙ ap (λ (b : ℕ). Copy from (first_home log.shape + b) begins) number,
+            begun_is log.shape.format log.shape old.content log.head oldest whole t inside begins
+                (kept_is log.shape.format view.records view.under_way log.firsts hv.firsts 0 t waits inside) (old.content from) refl,
+          ),
+        )
+
+    flushes : of_oldest log ≡ 2 → turn ≡ Flush
+    flushes two = flush_is turn (next.flush (omega (arith, two)))
+
+    leads : of_oldest log ≡ 1 → (h : HeadOf) × (turn ≡ Head h) × (h.stamp ≡ log.head + 1)
+    leads one = head_is (log.head + 1) turn (next.head (omega (arith, one)))
+
+    -- at each moment a cut leaves what it might leave before
+    pub turn_leaves : view.ours ≡ true → LeavesOnly (MayLeave old.size log view) old new
+    turn_leaves ours = elim (cases_lt 2 (of_oldest log)) [
+      | inl below ↦
+          let c = copies below in
+          home_leaves below c.1 c.0 new c.2.1 (subst (λ (t : Turn). MayTurn t old new) c.2.0 adds) ours
+      | inr few ↦ elim (cases_eq (of_oldest log) 2) [
+        | inl two ↦
+            quiet_leaves (MayLeave old.size log view) old new sound (hv.leaves ours)
+            (subst (λ (t : Turn). MayTurn t old new) (flushes two) adds)
+        | inr not ↦
+            let one : of_oldest log ≡ 1 = omega (arith, not, few, owed) in
+            let l = leads one in
+            head_leaves one l.0 l.2 new (subst (λ (t : Turn). MayTurn t old new) l.1 adds) ours
+      ]
+    ]
+
+    -- the log that counts the turn holds what the medium does
+    module _ (same_size : new.size ≡ old.size) (done : IsTurned turn old new) (then : LogValue) where
+      at_home : (below : 2 < of_oldest log) (ahead : Ahead)
+          → needed_of (record log { retire_steps_left = log.retire_steps_left - 1; ahead = ahead }) ≢ 1
+          → HoldsView (record log { retire_steps_left = log.retire_steps_left - 1; ahead = ahead }) new view
+      at_home below ahead not =
+          let c = copies below in
+          home_held below c.1 c.0 new c.2.1 ahead not same_size (subst (λ (t : Turn). MayTurn t old new) c.2.0 adds)
+          (subst (λ (t : Turn). IsTurned t old new) c.2.0 done)
+
+      -- a record whose blocks go home by retire steps needs its flush
+      goes_home : 2 < of_oldest log → HoldsView (record log { retire_steps_left = log.retire_steps_left - 1 }) new view
+      goes_home below = at_home below log.ahead
+          (λ one. ⊎_elim (λ e. omega (arith, e, below)) (λ covered. is.away below covered.1)
+          (needed_one log.ahead log.head (log.head + length log.waiting) _ one))
+
+      pub stepped_held : IsRetireStepped log then → HoldsView then new (view_retired (then.head - log.head) view)
+      stepped_held stepped = elim (cases_eq (of_oldest log) 1) [
+        | inl one ↦
+            let l = leads one in
+            retired_held one l.0 l.2 new then stepped
+            (head_held one l.0 l.2 new same_size (subst (λ (t : Turn). IsTurned t old new) l.1 done))
+        | inr not ↦
+            let here : 0 ≡ log.head - log.head = omega arith in
+            subst (λ (v : LogValue). HoldsView v new (view_retired (v.head - log.head) view))
+            (sym (stepped.more (omega (arith, not, owed, stepped.some))))
+            (subst (λ (n : ℕ). HoldsView (record log { retire_steps_left = log.retire_steps_left - 1 }) new (view_retired n view)) here
+            (elim (cases_lt 2 (of_oldest log)) [
+              | inl below ↦ goes_home below
+              | inr few ↦
+                  let two : of_oldest log ≡ 2 = omega (arith, few, not, owed) in
+                  flush_held two new same_size (subst (λ (t : Turn). IsTurned t old new) (flushes two) done)
+            ]))
+      ]
+
+      -- so it does ahead
+      pub sent_held : 2 < of_oldest log → IsSentHome log then → HoldsView then new view
+      sent_held away home = elim (cases_lt 3 (of_oldest log)) [
+        | inl more ↦ subst (λ (v : LogValue). HoldsView v new view) (sym (home.more more)) (goes_home away)
+        | inr few ↦
+            let last : of_oldest log ≡ 3 = omega (arith, few, away) in
+            subst (λ (v : LogValue). HoldsView v new view) (sym (home.last last)) (at_home away (ahead_of log)
+            (λ one. ⊎_elim (λ e. omega (arith, e, last)) (λ covered. omega (arith, covered.2))
+            (needed_one (ahead_of log) log.head (log.head + length log.waiting) _ one)))
+      ]

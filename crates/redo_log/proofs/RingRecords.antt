@@ -1,15 +1,16 @@
 -- How the records of a ring come and go.
-use Rattle.std.proofs.Common.{◌≡◌, ℕ, zero, suc, ◌+◌, ◌*◌, ◌<◌, ◌≤◌, List, [], ◌∷◌, ◌++◌, length, drop, refl, sym, ◌∙◌, ap, arith}
-use Rattle.std.proofs.Common.{length-append}
-use Rattle.std.specs.Prelude.{All, Bool, Option, Some, None, sum_by, slice_index_or}
+use Rattle.std.proofs.Common.{◌≡◌, ◌⊎◌, inl, inr, ℕ, zero, suc, ◌+◌, ◌*◌, ◌<◌, ◌≤◌, List, [], ◌∷◌, ◌++◌, length, drop, refl, sym, ap, arith}
+use Rattle.std.proofs.Common.{length-append, length-drop}
+use Rattle.std.specs.Prelude.{All, Option, Some, None, sum_by, slice_index_or}
 use Rattle.std.proofs.lemmas.List.{map-append}
+use Rattle.std.proofs.lemmas.List.Elements.{All-append}
 use Rattle.std.proofs.lemmas.List.Sums.{sum_by-cons}
 use Rattle.arrayvec.specs.ArrayVec.{ArrayVec}
 use Rattle.journal.specs.Places.{Shape, limit_of}
-use Rattle.redo_log.specs.Value.{AllFirsts, Ahead, retire_steps_of, most_retire_steps, IsRetireStepped}
-use Rattle.redo_log.specs.Stages.{value_at, oldest_at, begun_at, AreInside, IsOldest, IsUnderWay, IsRing}
+use Rattle.redo_log.specs.Value.{retire_steps_of, most_retire_steps}
+use Rattle.redo_log.specs.Stages.{oldest_at, AreInside, IsOldest, IsRing}
 use Rattle.redo_log.proofs.RecordSteps.{few_turns}
-use Rattle.redo_log.specs.Shown.{lists_of, firsts_in}
+use Rattle.redo_log.specs.Shown.{lists_of}
 
 -- the oldest of these records, and the others
 pub front_is : (records : List (ArrayVec ℕ)) (first : ArrayVec ℕ) → 0 < length records → first ≡ slice_index_or records 0 first
@@ -21,22 +22,6 @@ front_is (r ∷ records) first some is = ap (λ (x : ArrayVec ℕ). x.items ∷ 
 pub lists_more : (records : List (ArrayVec ℕ)) (last : ArrayVec ℕ) → lists_of (records ++ last ∷ []) ≡ lists_of records ++ last.items ∷ []
 lists_more records last = let f : ArrayVec ℕ → List ℕ = λ r. r.items in map-append f records (last ∷ [])
 
--- without the first record there are the others
-pub firsts_less : (records left : List (ArrayVec (List ℕ))) → left ≡ drop 1 records → drop 1 (firsts_in records) ≡ firsts_in left
-firsts_less [] left is = ap (λ (l : List (ArrayVec (List ℕ))). firsts_in l) (sym is)
-firsts_less (r ∷ records) left is = ap (λ (l : List (ArrayVec (List ℕ))). firsts_in l) (sym is)
-
-pub few_under_way : (shape : Shape) (numbers : List ℕ) (made : Option ℕ) → IsUnderWay shape numbers made
-    → length numbers ≤ limit_of shape.format
-few_under_way shape numbers None is = omega (arith, ap (λ (l : List ℕ). length l) is)
-few_under_way shape numbers (Some w) is = is.0.few
-
-All_more : {X : Type 0} (P : X → Type 0) (xs : List X) (x : X) → All P xs → P x → All P (xs ++ x ∷ [])
-All_more P [] x each last zero d below = last
-All_more P [] x each last (suc k) d below = absurd (omega arith)
-All_more P (y ∷ xs) x each last zero d below = each zero d (omega arith)
-All_more P (y ∷ xs) x each last (suc k) d below = All_more P xs x (λ j e less. each (suc j) e (omega arith)) last k d (omega arith)
-
 oldest_more : (waiting : List (List ℕ)) (turned : ℕ) (numbers : List ℕ) → IsOldest waiting turned
     → IsOldest (waiting ++ numbers ∷ []) turned
 oldest_more [] turned numbers is = omega (arith, is)
@@ -46,62 +31,39 @@ oldest_more (n ∷ waiting) turned numbers is = is
 pub ring_durable : (shape : Shape) (waiting : List (List ℕ)) (turned : ℕ) (numbers : List ℕ) (made : ℕ)
     → IsRing shape waiting turned numbers (Some made) → IsRing shape (waiting ++ numbers ∷ []) turned [] None
 ring_durable shape waiting turned numbers made ring = record {
-  each = All_more (AreInside shape) waiting numbers ring.each ring.record_under_way.0;
+  each = All-append (AreInside shape) waiting (numbers ∷ []) ring.each (one ring.record_under_way.0);
   fits = omega (arith, ring.fits, length-append waiting (numbers ∷ []));
   oldest = oldest_more waiting turned numbers ring.oldest;
   record_under_way = refl;
 }
-
-next_oldest : (waiting : List (List ℕ)) → IsOldest waiting 0
-next_oldest [] = refl
-next_oldest (n ∷ waiting) = omega arith
+  where
+    one : AreInside shape numbers → All (AreInside shape) (numbers ∷ [])
+    one is zero d below = is
+    one is (suc k) d below = absurd (omega arith)
 
 -- the oldest record is retired
-pub ring_retired : (shape : Shape) (numbers : List ℕ) (newer : List (List ℕ)) (turned : ℕ) (under_way : List ℕ) (made : Option ℕ)
-    → IsRing shape (numbers ∷ newer) turned under_way made → IsRing shape newer 0 under_way made
-ring_retired shape numbers newer turned under_way made ring = record {
-  each = λ j d below. ring.each (suc j) d (omega arith);
-  fits = omega (arith, ring.fits);
-  oldest = next_oldest newer;
+pub ring_retired : (shape : Shape) (waiting : List (List ℕ)) (turned : ℕ) (under_way : List ℕ) (made : Option ℕ)
+    → IsRing shape waiting turned under_way made → IsRing shape (drop 1 waiting) 0 under_way made
+ring_retired shape waiting turned under_way made ring = record {
+  each = fewer waiting ring.each;
+  fits = omega (arith, ring.fits, length-drop 1 waiting);
+  oldest = next (drop 1 waiting);
   record_under_way = ring.record_under_way;
 }
+  where
+    fewer : (records : List (List ℕ)) → All (AreInside shape) records → All (AreInside shape) (drop 1 records)
+    fewer [] each = each
+    fewer (n ∷ newer) each = λ j d below. each (suc j) d (omega arith)
 
-pub retire_steps_some : (numbers : List ℕ) → 1 ≤ length numbers
-    → retire_steps_of numbers ≡ length numbers + 2
-retire_steps_some [] some = absurd (omega arith)
-retire_steps_some (n ∷ numbers) some = refl
+    next : (records : List (List ℕ)) → IsOldest records 0
+    next [] = refl
+    next (n ∷ newer) = omega arith
 
--- what the newer records still need
-all_needed : (shape : Shape) (newer : List (List ℕ)) → All (AreInside shape) newer
-    → oldest_at newer 0 + sum_by retire_steps_of (drop 1 newer) ≡ sum_by retire_steps_of newer
-all_needed shape [] each = refl
-all_needed shape (n ∷ newer) each =
-    let all : sum_by retire_steps_of (n ∷ newer)
-    ≡ retire_steps_of n + sum_by retire_steps_of newer =
-    sum_by-cons retire_steps_of n newer in
-    let rest : sum_by retire_steps_of (drop 1 (n ∷ newer)) ≡ sum_by retire_steps_of newer = refl in
-    omega (arith, all, rest, retire_steps_some n (each zero [] (omega arith)).some)
-
--- the last retire step of the oldest record
-pub retired_last : (ahead : Ahead) (shape : Shape) (head : ℕ) (numbers : List ℕ) (newer : List (List ℕ)) (turned : ℕ)
-    (kept : AllFirsts) (under_way : List ℕ)
-    (made : Option ℕ) (dead : Bool) (rest : AllFirsts) → drop 1 kept ≡ rest → All (AreInside shape) newer → turned ≡ length numbers + 1
-    → IsRetireStepped (value_at ahead shape head (numbers ∷ newer) turned kept under_way made dead)
-    (value_at ahead shape (head + 1) newer 0 rest under_way made dead)
-retired_last ahead shape head numbers newer turned kept under_way made dead rest less each is = record {
-  some = omega (arith, is);
-  more = λ m. absurd (omega (arith, is, m));
-  last = λ e.
-      let next_is : head + 1 + length newer + begun_at made ≡ head + length (numbers ∷ newer) + begun_at made = omega arith in
-      let left : oldest_at newer 0
-      + (sum_by retire_steps_of (drop 1 newer) + retire_steps_of under_way)
-      ≡ sum_by retire_steps_of newer + retire_steps_of under_way =
-      omega (arith, all_needed shape newer each) in
-      let new = value_at ahead shape (head + 1) newer 0 (drop 1 kept) under_way made dead in
-      ap (λ (k : AllFirsts). record new { firsts = k }) (sym less)
-      ∙ ap (λ (n : ℕ). record new { next = n }) next_is
-      ∙ ap (λ (n : ℕ). record new { next = head + length (numbers ∷ newer) + begun_at made; retire_steps_left = n }) left;
-}
+-- how many retire steps a record needs
+pub steps_of_one : (numbers : List ℕ)
+    → ((length numbers ≡ 0) × (retire_steps_of numbers ≡ 0)) ⊎ (retire_steps_of numbers ≡ length numbers + 2)
+steps_of_one [] = inl (refl, refl)
+steps_of_one (n ∷ numbers) = inr refl
 
 few_newer : (shape : Shape) (most : ℕ) → ((n : ℕ) → n ≤ limit_of shape.format → n + 2 ≤ most)
     → (newer : List (List ℕ)) → All (AreInside shape) newer → sum_by retire_steps_of newer ≤ most * length newer
@@ -113,7 +75,7 @@ few_newer shape most few (n ∷ newer) each =
     ≡ retire_steps_of n + sum_by retire_steps_of newer =
     sum_by-cons retire_steps_of n newer in
     let one : most * (length newer + 1) ≡ most * length newer + most = omega arith in
-    omega (arith, all, rest, retire_steps_some n first.some, few (length n) first.few, one)
+    omega (arith, all, rest, steps_of_one n, first.some, few (length n) first.few, one)
 
 -- how many retire steps a log needs at most
 pub few_steps : (shape : Shape) (waiting : List (List ℕ)) (turned : ℕ) (numbers : List ℕ) → All (AreInside shape) waiting

@@ -1,26 +1,24 @@
 -- How many flushes a step of a log makes.
-use Rattle.std.proofs.Common.{◌≡◌, ◌≢◌, ◌⊎◌, inl, inr, ⊎_elim, ℕ, zero, suc, ◌+◌, ◌*◌, ◌<◌, ◌≤◌, List, length, refl}
-use Rattle.std.proofs.Common.{sym, ◌∙◌, ap, arith, Result}
-use Rattle.std.specs.Prelude.{Option}
-use Rattle.std.proofs.lemmas.Bool.{cases_lt, ne_eqb}
+use Rattle.std.proofs.Common.{◌≡◌, inl, inr, ℕ, ◌+◌, ◌*◌, ◌<◌, ◌≤◌, List, length, refl, sym, ◌∙◌, ap, arith, Result}
+use Rattle.std.proofs.lemmas.Bool.{ne_eqb}
 use Rattle.medium.specs.Medium.{State, Passes}
 use Rattle.medium.specs.declared.fault.MediumFault.{MediumFault}
 use Rattle.medium.specs.declared.fault.MediumFault.TheVariants as fault
 use Rattle.journal.specs.declared.log_format.LogFormat.{LogFormat}
 use Rattle.journal.specs.declared.log_format.LogFormat.TheVariants.{One, Two}
-use Rattle.journal.specs.Places.{Shape}
-use Rattle.journal.specs.SectorsTwo.{descriptors_of}
 use Rattle.journal.specs.Record.{entries_of}
+use Rattle.journal.specs.Layout.{Layout}
 use Rattle.journal.specs.Formats.{layout_of}
-use Rattle.redo_log.specs.Calls.{Call, Write, Flush, fault_of, IsFlush, IsWriteOf, IsFlushDue, IsNextCall}
-use Rattle.redo_log.specs.Flushes.{step_flushes, turn_flushes}
-use Rattle.redo_log.specs.Value.{AllFirsts, steps_for}
-use Rattle.redo_log.specs.Stages.{written_at}
-use Rattle.redo_log.specs.Turns.{flushes_of, IsFlushTurn, IsHeadTurn, IsHomeTurn, IsCopyOf, IsNextTurn}
-use Rattle.redo_log.specs.declared.turn.Turn.{Turn}
-use Rattle.redo_log.specs.declared.turn.Turn.TheVariants as turn
 use Rattle.journal.proofs.BatchEntries.{length_of_batch}
-use Rattle.redo_log.proofs.RecordSteps.{due_or_not, written_soon, written_late, flush_some, flush_none}
+use Rattle.journal.proofs.Formats.{laws_of}
+use Rattle.redo_log.specs.Calls.{Call, Write, Flush, fault_of, IsFlushDue, IsNextCall}
+use Rattle.redo_log.specs.Flushes.{step_flushes, next_step_flushes}
+use Rattle.redo_log.specs.Value.{LogValue, steps_for}
+use Rattle.redo_log.specs.Stages.{written_at}
+use Rattle.redo_log.specs.Held.{made_of}
+use Rattle.redo_log.proofs.RecordSteps.{due_or_not, steps_are, last_call, one_left}
+use Rattle.redo_log.proofs.RecordCalls.{flush_is, write_is}
+use Rattle.redo_log.proofs.LogRules.{IsLog}
 
 -- whether a call of a record is a flush
 abbrev pub flushes_in : Call → ℕ
@@ -33,95 +31,58 @@ pub call_flushes : (call : Call) (old new : State) {result : Result (Unit {0}) M
 call_flushes (Write place bytes) old new {result} passes = omega (arith, passes.others_made fault.Flush (λ e. absurd (cc e)))
 call_flushes Flush old new {result} passes = passes.made_is
 
-is_flush : (call : Call) → IsFlush call → flushes_in call ≡ 1
-is_flush (Write place bytes) is = absurd is
-is_flush Flush is = refl
-
-is_write : (place : ℕ) (bytes : List ℕ) (call : Call) → IsWriteOf place bytes call → flushes_in call ≡ 0
-is_write place bytes (Write sector written) is = refl
-is_write place bytes Flush is = absurd is
-
 -- a flush is due with the last step, and in format 1 before the commit
+module _ (format : LogFormat) (n made left : ℕ) (sum : made + left ≡ steps_for format n) (some : 0 < left) where
+  abbrev L : Layout
+  L = layout_of format
+
+  late : L.early n < L.parts n
+  late = (laws_of format).last_is_late n
+
+  all_due : left ≡ 1 → L.parts n ≤ written_at (L.early n) made
+  all_due one = last_call (L.early n) (L.parts n) late made (omega (arith, sum, some, steps_are format n))
+      (omega (arith, sum, one, steps_are format n))
+
+  last_due : L.parts n ≤ written_at (L.early n) made → left ≡ 1
+  last_due all = omega (arith, one_left (L.early n) (L.parts n) late made all, steps_are format n, sum, some)
+
+one_flush : (format : LogFormat) → step_flushes format 1 ≡ 1
+one_flush One = refl
+one_flush Two = refl
+
 due_is : (format : LogFormat) (n made left : ℕ) → made + left ≡ steps_for format n → 0 < left → IsFlushDue (layout_of format) n made
     → step_flushes format left ≡ 1
-due_is One n made left sum some due = ⊎_elim
-    (λ (early : (0 < n + 1) × (made ≡ n + 1)). ap (λ (l : ℕ). step_flushes One l) (third early.1))
-    (λ (all : n + 2 ≤ written_at (n + 1) made). ap (λ (l : ℕ). step_flushes One l) (last all (cases_lt (n + 1) made)))
-    due
-  where
-    third : made ≡ n + 1 → left ≡ 3
-    third early = omega (arith, sum, early)
-
-    last : n + 2 ≤ written_at (n + 1) made → ((n + 1 < made) ⊎ (made ≤ n + 1)) → left ≡ 1
-    last all (inl late) = omega (arith, written_late (n + 1) made late, flush_some (n + 1) (omega arith), all, sum, some)
-    last all (inr soon) = absurd (omega (arith, written_soon (n + 1) made soon, all, soon))
-due_is Two n made left sum some due = ⊎_elim
-    (λ (early : (0 < 0) × (made ≡ 0)). absurd (omega (arith, early.0)))
-    (λ (all : descriptors_of n + n + 1 ≤ written_at 0 made). ap (λ (l : ℕ). step_flushes Two l) (last all (cases_lt 0 made)))
-    due
-  where
-    last : descriptors_of n + n + 1 ≤ written_at 0 made → ((0 < made) ⊎ (made ≤ 0)) → left ≡ 1
-    last all (inl late) = omega (arith, written_late 0 made late, flush_none 0 (omega arith), all, sum, some)
-    last all (inr soon) = absurd (omega (arith, written_soon 0 made soon, all, soon))
-
-none_at : (format : LogFormat) (left : ℕ) → left ≢ 1 → (format ≡ One → left ≢ 3) → step_flushes format left ≡ 0
-none_at One left one three = rw (ne_eqb left 1 one) (rw (ne_eqb left 3 (three refl)) refl)
-none_at Two left one three = rw (ne_eqb left 1 one) refl
+due_is format n made left sum some (inr all) = ap (λ (l : ℕ). step_flushes format l)
+    (last_due format n made left sum some all) ∙ one_flush format
+due_is One n made left sum some (inl early) = let third : left ≡ 3 = omega (arith, sum, early.1) in ap (λ (l : ℕ). step_flushes One l) third
+due_is Two n made left sum some (inl early) = absurd (omega (arith, early.0))
 
 -- with no other step
 not_due : (format : LogFormat) (n made left : ℕ) → made + left ≡ steps_for format n → 0 < left
     → (¬ IsFlushDue (layout_of format) n made) → step_flushes format left ≡ 0
-not_due One n made left sum some not = none_at One left
-    (λ one. not (inr (omega (arith, written_late (n + 1) made (omega (arith, sum, one)), flush_some (n + 1) (omega arith), sum, one))))
-    (λ same three. not (inl (omega arith, omega (arith, sum, three))))
-not_due Two n made left sum some not = none_at Two left
-    (λ one. not (inr (omega (arith, written_late 0 made (omega (arith, sum, one)), flush_none 0 (omega arith), sum, one))))
-    (λ same three. cc same)
+not_due One n made left sum some not = rw (
+  ne_eqb left 1 (λ one. not (inr (all_due One n made left sum some one))),
+  ne_eqb left 3 (λ three. not (inl (omega arith, omega (arith, sum, three)))),
+) refl
+not_due Two n made left sum some not = rw (ne_eqb left 1 (λ one. not (inr (all_due Two n made left sum some one)))) refl
 
--- the next call of a record is as many flushes as its step
-pub next_flushes : (shape : Shape) (stamp : ℕ) (numbers bytes : List ℕ) (made left : ℕ) (call : Call)
-    → length bytes ≡ 512 * length numbers → made + left ≡ steps_for shape.format (length numbers) → 0 < left
-    → IsNextCall (layout_of shape.format) shape stamp (entries_of numbers bytes) made call
-    → flushes_in call ≡ step_flushes shape.format left
-next_flushes shape stamp numbers bytes made left call size sum some next =
+-- the next call of a record makes the flushes of the step
+pub step_flushed : {log : LogValue} → IsLog log → 0 < log.steps_left → {numbers : List ℕ} (bytes : List ℕ) → numbers ≡ log.under_way
+    → length bytes ≡ 512 * length numbers → (call : Call)
+    → IsNextCall (layout_of log.shape.format) log.shape (log.head + length log.waiting) (entries_of numbers bytes) (made_of log) call
+    → {result : Result (Unit {0}) MediumFault} → {old new : State} → Passes (fault_of call) result old new
+    → new.made fault.Flush ≡ old.made fault.Flush + next_step_flushes log
+step_flushed {log} is some {numbers} bytes same size call next {result} {old} {new} passes =
     let n : ℕ = length (entries_of numbers bytes) in
-    let many : n ≡ length numbers = length_of_batch numbers bytes in
-    let all : made + left ≡ steps_for shape.format n = sum ∙ ap (λ (k : ℕ). steps_for shape.format k) (sym many) in
-    ⊎_elim
-    (λ (due : IsFlushDue (layout_of shape.format) n made).
-    is_flush call (next.0 due) ∙ sym (due_is shape.format n made left all some due))
-    (λ (not : ¬ IsFlushDue (layout_of shape.format) n made).
-    is_write _ _ call (next.1 not) ∙ sym (not_due shape.format n made left all some not))
-    (due_or_not (layout_of shape.format) n made)
-
--- ---- retire steps
-
-copy_flushes : (source target : ℕ) (begins : Option (List ℕ)) (t : Turn) → IsCopyOf source target begins t → flushes_of t ≡ 0
-copy_flushes source target begins (turn.Copy from to first) is = refl
-copy_flushes source target begins turn.Flush is = absurd is
-copy_flushes source target begins (turn.Head head) is = absurd is
-
-flush_turn : (t : Turn) → IsFlushTurn t → flushes_of t ≡ 1
-flush_turn (turn.Copy from to first) is = absurd is
-flush_turn turn.Flush is = refl
-flush_turn (turn.Head head) is = absurd is
-
-head_turn : (stamp : ℕ) (t : Turn) → IsHeadTurn stamp t → flushes_of t ≡ 1
-head_turn stamp (turn.Copy from to first) is = absurd is
-head_turn stamp turn.Flush is = absurd is
-head_turn stamp (turn.Head head) is = refl
-
--- a turn that brings a block home makes none
-pub home_flushes : (shape : Shape) (stamp : ℕ) (numbers : List ℕ) (first : Option (List ℕ)) (turned : ℕ) (t : Turn)
-    → IsHomeTurn shape stamp numbers first turned t → flushes_of t ≡ 0
-home_flushes shape stamp numbers first turned t is = copy_flushes _ _ _ t is
-
--- the next turn of a record makes as many flushes as its step
-pub turn_flushed : (shape : Shape) (stamp : ℕ) (numbers : List ℕ) (kept : AllFirsts) (turned left : ℕ) (t : Turn)
-    → IsNextTurn shape stamp numbers kept turned t → turned + left ≡ length numbers + 2
-    → 0 < left → flushes_of t ≡ turn_flushes left
-turn_flushed shape stamp numbers kept turned zero t next sum some = absurd (omega (arith, some))
-turn_flushed shape stamp numbers kept turned (suc zero) t next sum some = head_turn (stamp + 1) t (next.head (omega (arith, sum)))
-turn_flushed shape stamp numbers kept turned (suc (suc zero)) t next sum some = flush_turn t (next.flush (omega (arith, sum)))
-turn_flushed shape stamp numbers kept turned (suc (suc (suc left))) t next sum some =
-    home_flushes shape stamp numbers _ turned t (next.home (omega (arith, sum)))
+    let many : length log.under_way ≡ n = sym (length_of_batch numbers bytes ∙ ap (λ (l : List ℕ). length l) same) in
+    let sum : made_of log + log.steps_left ≡ steps_for log.shape.format n =
+    omega (arith, is.most_left, ap (λ (k : ℕ). steps_for log.shape.format k) many) in
+    let flushes : flushes_in call ≡ next_step_flushes log = elim (due_or_not (layout_of log.shape.format) n (made_of log)) [
+      | inl due ↦
+          ap (λ (c : Call). flushes_in c) (flush_is call (next.0 due))
+          ∙ sym (due_is log.shape.format n (made_of log) log.steps_left sum some due)
+      | inr not ↦
+          ap (λ (c : Call). flushes_in c) (write_is _ _ call (next.1 not))
+          ∙ sym (not_due log.shape.format n (made_of log) log.steps_left sum some not)
+    ] in
+    omega (arith, call_flushes call old new passes, flushes)

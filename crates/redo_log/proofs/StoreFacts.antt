@@ -1,8 +1,7 @@
 -- What a store on top of a log cites.
-use Rattle.std.proofs.Common.{◌≡◌, ◌≢◌, ◌⊎◌, inl, inr, ⊎_elim, ℕ, ◌+◌, ◌<◌, ◌≤◌, List, [], ◌∷◌, ◌++◌, length, get_or, drop, refl, sym, ◌∙◌}
+use Rattle.std.proofs.Common.{◌≡◌, ◌≢◌, ◌⊎◌, inl, inr, ⊎_elim, ℕ, ◌+◌, ◌-◌, ◌<◌, ◌≤◌, List, [], ◌∷◌, ◌++◌, length, drop, refl, sym, ◌∙◌}
 use Rattle.std.proofs.Common.{ap, subst, arith, length-append}
 use Rattle.std.specs.Prelude.{Bool, true, false}
-use Rattle.std.proofs.Math.ListN.{get_or-map}
 use Rattle.medium.specs.Medium.{State, Image, CutLeaves, IsSound}
 use Rattle.medium.specs.Moments.{EachCut}
 use Rattle.spec.specs.Blocks.{Array}
@@ -25,12 +24,13 @@ use Rattle.redo_log.specs.Held.{View, resting_view, with_begun, image_view, writ
 use Rattle.redo_log.specs.Held.{needed_of, MayLeave, Safe, Shields, stamps_of, HoldsView}
 use Rattle.redo_log.proofs.RecordSteps.{none_written, steps_some}
 use Rattle.redo_log.proofs.CoveredRecord.{needed_covered}
-use Rattle.redo_log.proofs.BatchRecord.{count_of}
 use Rattle.redo_log.proofs.Heads.{head_cut, heads_begun, put_head, put_cut}
 use Rattle.redo_log.proofs.LoggedImage.{Logged-records}
 use Rattle.redo_log.proofs.KeptFirsts.{none_kept, begun_kept}
-pub use Rattle.redo_log.proofs.LogFields.{quiet_held, durable_whole}
-pub use Rattle.redo_log.proofs.NewestCopy.{home_is, copy_is}
+use Rattle.redo_log.proofs.StoredLog.{Stores-stays}
+use Rattle.redo_log.proofs.HeldLog.{count, going_held, died_held}
+pub use Rattle.redo_log.proofs.HeldLog.{quiet_held}
+pub use Rattle.redo_log.proofs.NewestCopy.{home_is}
 
 -- a new log holds a medium whose blocks are at home and whose log is fresh
 pub idle_holds : (shape : Shape) (next : ℕ) (array : Array) (ours : Bool) (m : State) → IsSound m → sectors_of shape ≤ m.size
@@ -69,52 +69,24 @@ idle_holds shape next array ours m sound fits home fresh = record {
 
 -- a log that is given up holds what a cut may leave
 pub died_holds : (log : LogValue) (m : State) (view : View) → HoldsView log m view → HoldsView (died log) m view
-died_holds log m view holds = record {
-  fits = holds.fits;
-  durable = holds.durable;
-  under_way = holds.under_way;
-  next = holds.next;
-  few = holds.few;
-  sized = holds.sized;
-  firsts = holds.firsts;
-  leaves = holds.leaves;
-  stores = λ live. cc live;
-  guards = λ live ours. cc live;
-}
+died_holds log m view holds = died_held holds m refl holds.leaves
 
 -- a flush that was made stands for the one that the oldest record needs
 pub settled_holds : (log : LogValue) (m : State) (view : View) → HoldsView log m view → IsCovered log → HoldsView (settled log) m view
 settled_holds log m view holds covered =
-    let f : List Entry → List ℕ = λ r. numbers_of r in
+    let needed = λ (left : ℕ). needed_at log.ahead log.head (log.head + length log.waiting) left in
     let one : of_oldest (settled log) ≡ 1 = omega (arith, covered.flushes) in
     let needs : needed_of log ≡ needed_of (settled log) =
-    ap (λ (l : ℕ). needed_at log.ahead log.head (log.head + length log.waiting) l) covered.flushes
-    ∙ (needed_covered log.ahead log.head (log.head + length log.waiting) covered.oldest covered.since
-    ∙ sym (ap (λ (l : ℕ). needed_at log.ahead log.head (log.head + length log.waiting) l) one)) in
-    let home : length (get_or log.waiting 0 []) ≡ length (get_or view.records 0 []) =
-    count_of (get_or log.waiting 0 []) (get_or view.records 0 [])
-    (ap (λ (l : List (List ℕ)). get_or l 0 []) holds.durable ∙ get_or-map f view.records 0 []) in
-    let was : turned_of log ≡ length (get_or view.records 0 []) = omega (arith, covered.flushes, home) in
-    let all : length (get_or view.records 0 []) ≤ turned_of log = omega (arith, was) in
-    record {
-      fits = holds.fits;
-      durable = holds.durable;
-      under_way = holds.under_way;
-      next = holds.next;
-      few = holds.few;
-      sized = holds.sized;
-      firsts = holds.firsts;
-      leaves = λ ours image cut. ⊎_elim (λ rest. inl rest)
-          (λ other. ⊎_elim (λ both. inr (inl both)) (λ less. absurd (omega (arith, less.1, covered.flushes))) other)
-          (holds.leaves ours image cut);
-      stores = λ live. record {
-        laid = (holds.stores live).laid;
-        written = (holds.stores live).written;
-        copied = λ i low high. (holds.stores live).copied i (omega (arith, high, all)) high;
-      };
-      guards = λ live ours. subst (λ (n : ℕ). Shields log.shape log.head view log.steps_left (made_of log) n m) needs
-          (holds.guards live ours);
-    }
+    ap needed covered.flushes
+    ∙ needed_covered log.ahead log.head (log.head + length log.waiting) covered.oldest covered.since
+    ∙ sym (ap needed one) in
+    going_held holds log.steps_left (log.retire_steps_left - 1) log.ahead log.dead m refl
+    (λ ours image cut. ⊎_elim (λ rest. inl rest)
+    (λ other. ⊎_elim (λ both. inr (inl both)) (λ less. absurd (omega (arith, less.1, covered.flushes))) other)
+    (holds.leaves ours image cut))
+    (λ live. Stores-stays (holds.stores live) log.steps_left (made_of log) (turned_of (settled log)) m.content (λ s. refl) (λ some. some)
+    (omega arith) (λ i low high. omega (arith, high, covered.flushes, count holds 0)))
+    (λ live ours. subst (λ (n : ℕ). Shields log.shape log.head view log.steps_left (made_of log) n m) needs (holds.guards live ours))
 
 -- whichever head an image has, it has the blocks of one that the log's guard speaks of
 pub blocks_guarded : (log : LogValue) (m : State) (view : View) → HoldsView log m view → log.dead ≡ false → view.ours ≡ true
@@ -207,8 +179,8 @@ begun_holds log m view numbers bytes holds room batch =
               };
           homed = λ is. (holds.guards live ours).guards.homed (needs ∙ is);
         };
-        heads = heads_begun log.shape log.head view (entries_of numbers bytes) m (needed_of log) (needed_of (begun numbers firsts log))
-            (λ not is. not (needs ∙ is)) (holds.guards live ours).heads;
+        heads = heads_begun (holds.guards live ours) (entries_of numbers bytes) (needed_of (begun numbers firsts log))
+            (λ not is. not (needs ∙ is));
       };
     }
   where

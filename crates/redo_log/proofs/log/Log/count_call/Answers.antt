@@ -10,7 +10,7 @@ use Rattle.redo_log.specs.Index.{look, with_copies, IsIndex}
 use Rattle.redo_log.proofs.CoveredRecord.{ahead_durable}
 use Rattle.redo_log.proofs.RingRecords.{lists_more, ring_durable}
 use Rattle.redo_log.proofs.IndexRoom.{record_room, index_more}
-use Rattle.redo_log.proofs.OldestTurn.{many_lists}
+use Rattle.redo_log.proofs.LogRules.{many_lists}
 use Rattle.redo_log.proofs.log.Log.count_call.Goals as goal
 
 -- the durable records after the last step

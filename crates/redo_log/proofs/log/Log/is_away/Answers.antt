@@ -1,20 +1,14 @@
-use Rattle.std.proofs.Common.{◌≡◌, ◌<◌, length, drop, arith, rules}
+use Rattle.std.proofs.Common.{◌≡◌, ◌<◌, length, arith, rules}
 use Rattle.std.proofs.lemmas.Bool.Decides.{nat_tests}
-use Rattle.journal.specs.Values.{shape_of}
-use Rattle.redo_log.specs.Shown.{kept_in, lists_of, ahead_in}
-use Rattle.redo_log.proofs.RetireCalls.{left_is}
-use Rattle.redo_log.proofs.RingRecords.{front_is}
+use Rattle.redo_log.proofs.LogRules.{left_of}
 use Rattle.redo_log.proofs.log.Log.is_away.Goals as goal
 
 pub returns-in-Some : goal.returns-in-Some
 returns-in-Some c =
     let i = c.self.inside in
     let some : 0 < length i.waiting.items = search rules in
-    let front = front_is i.waiting.items c.in-Some.oldest.now some c.in-Some.ensures.lookup in
     let turns : c.len.result ≡ length c.in-Some.oldest.now.items = c.len.ensures.value in
-    let left = left_is c.args.self.now (ahead_in i) (shape_of i.sizes) i.head (lists_of i.waiting.items) i.turned (kept_in i)
-    i.under_way.items
-    i.made i.dead c.in-Some.oldest.now.items (lists_of (drop 1 i.waiting.items)) c.self.view_is front in (
+    let left = left_of i c.self.view_is c.in-Some.oldest.now some c.in-Some.ensures.lookup in (
       λ test. let below : i.turned < c.len.result = grind (arith, nat_tests) in omega (arith, left, turns, below),
       λ away. let below : i.turned < c.len.result = omega (arith, left, turns, away) in grind (arith, nat_tests),
     )

@@ -1,16 +1,21 @@
-use Rattle.std.proofs.Common.{◌≡◌, ◌+◌, ◌^◌, ◌<◌, length, ap, arith, rules}
+use Rattle.std.proofs.Common.{◌≡◌, ◌≢◌, ◌+◌, ◌<◌, true, arith, rules}
 use Rattle.std.proofs.lemmas.Result.{on_ok_weaker}
+use Rattle.medium.specs.declared.fault.MediumFault.TheVariants as fault
 use Rattle.medium.proofs.Moments.{one_call}
-use Rattle.journal.specs.Values.{shape_of}
-use Rattle.redo_log.specs.Value.{LogValue}
-use Rattle.redo_log.specs.Stages.{begun_at}
-use Rattle.redo_log.specs.Shown.{kept_in, lists_of, ahead_in}
-use Rattle.redo_log.proofs.LogFields.{sizes_sized, step_cuts, step_dead, step_flushed}
-use Rattle.redo_log.proofs.SectorsRead.{call_looks}
-use Rattle.redo_log.proofs.SparedSectors.{call_spares}
-use Rattle.redo_log.proofs.OldestTurn.{many_lists}
-use Rattle.redo_log.proofs.RecordCounted.{counted_held, counted_whole}
+use Rattle.medium.proofs.SectorsRead.{no_looks}
+use Rattle.medium.proofs.SparedSectors.{spared_behind}
+use Rattle.journal.specs.Places.{first_home, sectors_of}
+use Rattle.redo_log.specs.Calls.{Call, Write, Flush, fault_of}
+use Rattle.redo_log.specs.Held.{View, MayLeave, HoldsView}
+use Rattle.redo_log.proofs.StepFlushes.{step_flushed}
+use Rattle.redo_log.proofs.LogRules.{log_is, call_of}
+use Rattle.redo_log.proofs.HeldLog.{dead_held}
+use Rattle.redo_log.proofs.RecordTurns.{step_leaves, counted_held, counted_whole}
 use Rattle.redo_log.proofs.log.Log.make_call.Goals as goal
+
+no_read : (call : Call) → fault_of call ≢ fault.Read
+no_read (Write place bytes) e = cc e
+no_read Flush e = cc e
 
 pub returns : goal.returns
 returns g c =
@@ -19,63 +24,44 @@ returns g c =
     let old = g.M.Medium.state c.args.m.now in
     let new = g.M.Medium.state c.make_next.new.m in
     let sound = g.met.M.Medium.sound c.args.m.now in
-    let most : i.head + length (lists_of i.waiting.items) + begun_at i.made < 2 ^ 63 =
-    omega (arith, c.self.invariant.most, many_lists i.waiting.items) in
-    let stamp : i.head + c.len.result ≡ i.head + length (lists_of i.waiting.items) = omega (
-      arith,
-      c.len.ensures,
-      many_lists
-          i.waiting.items,
-    ) in
-    let numbers = c.args.numbers.now in
-    let bytes = c.args.bytes.now in
-    let call = c.make_next.ensures.makes.call in
-    let next = c.make_next.ensures.makes.next in
-    let made = c.make_next.ensures.makes.makes in
+    let is = log_is i c.self.view_is c.self.invariant in
+    let here = call_of i c.self.view_is c.self.invariant c.in-Some.made (i.head + c.len.result) c.in-Some.is (omega (arith, c.len.ensures))
+    c.make_next.ensures.makes in
+    let made = here.makes in
+    let live = c.requires.on.live in
+    let some = c.requires.under_way in
+    let cuts = λ (view : View) (holds : HoldsView log old view) (ours : view.ours ≡ true).
+    one_call (MayLeave old.size log view) old new sound made.passes (holds.leaves ours)
+    (step_leaves is live some sound holds c.args.bytes.now c.requires.numbers c.requires.bytes here.call here.next new made.adds ours) in
     record {
       passes = record {
         calls = record {
           one = search rules;
           sent = search rules;
-          flushed = step_flushed (ahead_in i) (shape_of i.sizes) (sizes_sized i.sizes) i.head (lists_of i.waiting.items) i.turned
-              (kept_in i)
-              i.under_way.items i.made i.dead log c.self.view_is c.requires.on.live c.self.invariant.ring c.self.invariant.ahead_is
-              c.self.invariant.least most numbers bytes c.in-Some.made c.in-Some.is c.requires.numbers c.requires.bytes
-              (i.head + c.len.result) stamp old new call c.make_next.result made.passes next;
+          flushed = step_flushed is some c.args.bytes.now c.requires.numbers c.requires.bytes here.call here.next made.passes;
         };
         failures = search rules;
         size = search rules;
         follows = c.make_next.ensures.follows;
       };
       leaves = record {
-        cuts = λ view holds ours.
-            step_cuts (ahead_in i) (shape_of i.sizes) (sizes_sized i.sizes) i.head (lists_of i.waiting.items) i.turned (kept_in i)
-            i.under_way.items i.made i.dead log c.self.view_is c.requires.on.live c.self.invariant.ring c.self.invariant.ahead_is
-            c.self.invariant.least most numbers bytes c.in-Some.made c.in-Some.is c.requires.numbers c.requires.bytes
-            (i.head + c.len.result) stamp old new sound call c.make_next.result made.passes next made.adds view holds ours;
+        cuts = cuts;
         moments = one_call (λ _. Unit {0}) old new sound made.passes (λ image cut. tt) (λ image cut. tt);
-        spares = call_spares (shape_of i.sizes) log old new (ap (λ (v : LogValue). v.shape) c.self.view_is) call
-            c.make_next.ensures.makes.inside made.spares;
-        looks = call_looks log old new call made.passes;
+        spares = spared_behind (first_home log.shape) (sectors_of log.shape) old new (omega arith)
+            (made.spares (first_home log.shape) here.inside);
+        looks = no_looks (λ s. s < first_home log.shape) old new (made.passes.looked_stays (no_read here.call));
       };
-      dead = λ view holds.
-          step_dead (ahead_in i) (shape_of i.sizes) (sizes_sized i.sizes) i.head (lists_of i.waiting.items) i.turned (kept_in i)
-          i.under_way.items i.made i.dead log c.self.view_is c.requires.on.live c.self.invariant.ring c.self.invariant.ahead_is
-          c.self.invariant.least most numbers bytes c.in-Some.made c.in-Some.is c.requires.numbers c.requires.bytes (i.head + c.len.result)
-          stamp old new sound call c.make_next.result made.passes next made.adds view holds (g.met.M.Medium.sound c.make_next.new.m);
+      dead = λ view holds. dead_held holds new (g.met.M.Medium.sound c.make_next.new.m) made.passes.size_stays (cuts view holds);
       counted = λ view holds entries progress then stepped.
           on_ok_weaker c.make_next.result
-          (λ done. counted_held (ahead_in i) (shape_of i.sizes) (sizes_sized i.sizes) i.head (lists_of i.waiting.items) i.turned (kept_in i)
-          i.under_way.items i.made i.dead log c.self.view_is c.requires.on.live c.self.invariant.ring c.self.invariant.ahead_is
-          c.self.invariant.least most numbers bytes c.in-Some.made c.in-Some.is c.requires.numbers c.requires.bytes (i.head + c.len.result)
-          stamp old new sound call c.make_next.result made.passes next made.adds view holds entries done then progress stepped)
+          (λ done. counted_held is live some sound holds c.args.bytes.now c.requires.numbers c.requires.bytes
+          here.call here.next new made.adds
+          made.passes.size_stays entries done then progress stepped)
           made.done;
       durable = λ view holds entries ours then stepped.
           on_ok_weaker c.make_next.result
-          (λ done. counted_whole (ahead_in i) (shape_of i.sizes) (sizes_sized i.sizes) i.head (lists_of i.waiting.items) i.turned
-          (kept_in i)
-          i.under_way.items i.made i.dead log c.self.view_is c.requires.on.live c.self.invariant.ring c.self.invariant.ahead_is
-          c.self.invariant.least most numbers bytes c.in-Some.made c.in-Some.is c.requires.numbers c.requires.bytes (i.head + c.len.result)
-          stamp old new sound call c.make_next.result made.passes next made.adds view holds entries done then ours stepped)
+          (λ done. counted_whole is live some sound holds c.args.bytes.now c.requires.numbers c.requires.bytes
+          here.call here.next new made.adds
+          made.passes.size_stays entries done then ours stepped)
           made.done;
     }

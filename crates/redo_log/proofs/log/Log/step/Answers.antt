@@ -1,8 +1,8 @@
-use Rattle.std.proofs.Common.{◌≡◌, sym, ◌∙◌, subst, arith}
+use Rattle.std.proofs.Common.{◌≡◌, subst, arith}
 use Rattle.redo_log.specs.declared.progress.Progress.{Progress}
 use Rattle.redo_log.specs.declared.progress.Progress.TheVariants.{Durable}
 use Rattle.redo_log.specs.Value.{IsStepped}
-use Rattle.redo_log.proofs.LogFields.{on_ok_here}
+use Rattle.redo_log.proofs.HeldLog.{on_ok_here}
 use Rattle.std.proofs.lemmas.Grind.{common_steps}
 use Rattle.redo_log.proofs.log.Log.step.Goals as goal
 
@@ -11,11 +11,11 @@ returns g c = record {
   answers = grind (arith, common_steps);
   passes = grind (arith, common_steps);
   holds = λ view holds entries.
-      on_ok_here c.make_call.result (sym c.is_err.ensures.value ∙ c.if-is_err.false)
+      on_ok_here c.make_call.result c.is_err.ensures.value c.if-is_err.false
       (c.make_call.ensures.counted view holds entries c.count_call.result c.count_call.new.self c.count_call.ensures);
   durable = λ view holds entries ours told.
       let last : c.count_call.result ≡ Durable = cc told in
-      on_ok_here c.make_call.result (sym c.is_err.ensures.value ∙ c.if-is_err.false)
+      on_ok_here c.make_call.result c.is_err.ensures.value c.if-is_err.false
       (c.make_call.ensures.durable view holds entries ours c.count_call.new.self
       (subst (λ (p : Progress). IsStepped p c.args.self.now c.count_call.new.self) last c.count_call.ensures));
   leaves = c.make_call.ensures.leaves;

@@ -1,0 +1,163 @@
+-- What follows of what a log and its medium hold, and what they hold where only its counts change.
+use Rattle.std.proofs.Common.{◌≡◌, ℕ, ◌+◌, ◌-◌, ◌<◌, ◌≤◌, List, [], length, get_or, refl, sym, ◌∙◌, ap, subst, arith}
+use Rattle.std.specs.Prelude.{Bool, true, false, Result, Ok, Err, OnOk, is_err}
+use Rattle.std.proofs.lemmas.List.{length-map}
+use Rattle.std.proofs.Math.ListN.{get_or-map}
+use Rattle.medium.specs.Medium.{State, IsSound}
+use Rattle.medium.specs.Moments.{EachCut, LeavesOnly, IsQuiet}
+use Rattle.medium.specs.declared.fault.MediumFault.{MediumFault}
+use Rattle.medium.proofs.Moments.{at_exit, shrunk, started}
+use Rattle.medium.proofs.SectorsRead.{no_looks}
+use Rattle.medium.proofs.SparedSectors.{spared_start}
+use Rattle.journal.specs.Places.{first_home, sectors_of}
+use Rattle.journal.specs.Record.{Entry, numbers_of}
+use Rattle.journal.specs.Formats.{layout_of}
+use Rattle.journal.proofs.Engine.{rests_logged}
+use Rattle.journal.proofs.Formats.{laws_of}
+use Rattle.redo_log.specs.Value.{LogValue, Ahead, steps_of, steps_for, died}
+use Rattle.redo_log.specs.Logged.{Logged}
+use Rattle.redo_log.specs.Stages.{IsRecord, IsSized}
+use Rattle.redo_log.specs.Held.{View, made_of, turned_of, needed_of, with_head, HasDurable, MayLeave, Stores, Shields, HoldsView}
+use Rattle.redo_log.specs.Steps.{LeavesLog}
+use Rattle.redo_log.proofs.BatchRecord.{count_of, record_entries}
+use Rattle.redo_log.proofs.RecordSteps.{steps_are, one_left}
+use Rattle.redo_log.proofs.Heads.{head_within, older_one, heads_quiet, each_head}
+use Rattle.redo_log.proofs.LoggedImage.{Logged-records}
+use Rattle.redo_log.proofs.GuardedCalls.{Stands}
+use Rattle.redo_log.proofs.GuardedCuts.{guards_leave}
+use Rattle.redo_log.proofs.StoredLog.{Stores-stays}
+use Rattle.redo_log.proofs.LogRules.{IsLog}
+
+-- the same records, with other counts
+abbrev pub going : LogValue → ℕ → ℕ → Ahead → Bool → LogValue
+going log left retire ahead dead = record log { steps_left = left; retire_steps_left = retire; ahead = ahead; dead = dead }
+
+module _ {log : LogValue} {m : State} {view : View} (hv : HoldsView log m view) where
+  -- as many records, with these block numbers
+  pub many : length log.waiting ≡ length view.records
+  many =
+      let f : List Entry → List ℕ = λ r. numbers_of r in
+      ap (λ (l : List (List ℕ)). length l) hv.durable ∙ length-map view.records f
+
+  pub named : (j : ℕ) → get_or log.waiting j [] ≡ numbers_of (get_or view.records j [])
+  named j =
+      let f : List Entry → List ℕ = λ r. numbers_of r in
+      ap (λ (l : List (List ℕ)). get_or l j []) hv.durable ∙ get_or-map f view.records j []
+
+  pub count : (j : ℕ) → length (get_or log.waiting j []) ≡ length (get_or view.records j [])
+  count j = count_of (get_or log.waiting j []) (get_or view.records j []) (named j)
+
+  pub under_count : length log.under_way ≡ length view.under_way
+  under_count = count_of log.under_way view.under_way hv.under_way
+
+  pub going_held : (left retire : ℕ) (ahead : Ahead) (dead : Bool) (new : State) → new.size ≡ m.size
+      → (view.ours ≡ true → EachCut (MayLeave m.size (going log left retire ahead dead) view) new)
+      → (dead ≡ false → Stores log.shape log.head view left (made_of (going log left retire ahead dead))
+      (turned_of (going log left retire ahead dead)) new.content)
+      → (dead ≡ false → view.ours ≡ true → Shields log.shape log.head view left (made_of (going log left retire ahead dead))
+      (needed_of (going log left retire ahead dead)) new) → HoldsView (going log left retire ahead dead) new view
+  going_held left retire ahead dead new same leaves stores guards = record {
+    fits = omega (arith, same, hv.fits);
+    durable = hv.durable;
+    under_way = hv.under_way;
+    next = hv.next;
+    few = hv.few;
+    sized = hv.sized;
+    firsts = hv.firsts;
+    leaves = λ ours. subst (λ (n : ℕ). EachCut (MayLeave n (going log left retire ahead dead) view) new) (sym same) (leaves ours);
+    stores = stores;
+    guards = guards;
+  }
+
+  -- a dead log and its medium hold what a cut may leave
+  pub died_held : (new : State) → new.size ≡ m.size → (view.ours ≡ true → EachCut (MayLeave m.size log view) new)
+      → HoldsView (died log) new view
+  died_held new same leaves = going_held log.steps_left log.retire_steps_left log.ahead true new same leaves
+      (λ live. cc live) (λ live ours. cc live)
+
+  pub dead_held : (new : State) → IsSound new → new.size ≡ m.size
+      → (view.ours ≡ true → LeavesOnly (MayLeave m.size log view) m new) → HoldsView (died log) new view
+  dead_held new sound same cuts = died_held new same (λ ours. at_exit (MayLeave m.size log view) m new sound (cuts ours))
+
+  -- where nothing is under way a cut leaves the durable records of a live log, whichever head is there
+  pub durable_whole : IsSized log.shape → log.dead ≡ false → view.ours ≡ true → log.steps_left ≡ 0 → EachCut (HasDurable m.size log view) m
+  durable_whole sized live ours no_steps =
+      each_head log.shape log.head view m (Logged log.shape log.head view.records view.array) (HasDurable m.size log view)
+      (needed_of log) (hv.guards live ours).heads
+      (λ image cut.
+      rests_logged (layout_of log.shape.format) (laws_of log.shape.format) log.shape sized.some image log.head
+      view.records view.array hv.few
+      (((hv.guards live ours).guards.each image cut).rests no_steps))
+      (λ image rest. Logged-records m.size log.shape log.head view.records view.array image hv.fits rest)
+      (λ image newer same older rest. older_one log.shape sized log.head view m.size hv.fits image newer same older rest)
+
+  module _ (is : IsLog log) where
+    -- its records stand in slots of their own, also once more steps of the one under way are made
+    pub stands_then : (left : ℕ) → left ≤ log.steps_left
+        → Stands log.shape log.head view left (steps_of log.shape.format log.under_way - left)
+    stands_then left fewer = record {
+      sized = is.sized;
+      slots = λ some.
+          let left_now : 0 < log.steps_left = omega (arith, some, fewer) in
+          record {
+            some = is.sized.some;
+            room = omega (arith, many, is.room left_now);
+            behind = is.sized.behind;
+            under_way = record_entries log.shape (log.head + length view.records) log.under_way view.under_way is.sized
+                (subst (λ (n : ℕ). IsRecord log.shape (log.head + n) log.under_way) many (is.record_is left_now)) hv.under_way hv.sized;
+          };
+      few = hv.few;
+      short = λ all.
+          let L = layout_of log.shape.format in
+          let n = length view.under_way in
+          let steps = ap (λ (k : ℕ). steps_for log.shape.format k) under_count ∙ steps_are log.shape.format n in
+          omega (
+            arith,
+            is.most_left,
+            fewer,
+            steps,
+            one_left (L.early n) (L.parts n) ((laws_of log.shape.format).last_is_late n)
+                (steps_of log.shape.format log.under_way - left) all,
+          );
+    }
+
+    -- the view stays, where this is stored and guards it
+    pub goes_on : (left retire : ℕ) (ahead : Ahead) (new : State) → left ≤ log.steps_left → new.size ≡ m.size → log.dead ≡ false
+        → Stores log.shape log.head view left (made_of (going log left retire ahead log.dead))
+        (turned_of (going log left retire ahead log.dead)) new.content
+        → (view.ours ≡ true → Shields log.shape log.head view left (made_of (going log left retire ahead log.dead))
+        (needed_of (going log left retire ahead log.dead)) new) → HoldsView (going log left retire ahead log.dead) new view
+    goes_on left retire ahead new fewer same live stores guards = going_held left retire ahead log.dead new same
+        (λ ours. guards_leave m.size (going log left retire ahead log.dead) view new (stands_then left fewer) hv.fits (guards ours))
+        (λ _. stores) (λ _. guards)
+
+-- calls that wrote nothing leave what the log and its medium hold
+pub quiet_held : (log : LogValue) (view : View) (old new : State) → IsQuiet old new → HoldsView log old view → HoldsView log new view
+quiet_held log view old new quiet holds =
+    going_held holds log.steps_left log.retire_steps_left log.ahead log.dead new quiet.size_stays
+    (λ ours. shrunk (MayLeave old.size log view) old new quiet.sets_shrink (holds.leaves ours))
+    (λ live. Stores-stays (holds.stores live) log.steps_left (made_of log) (turned_of log) new.content quiet.content_stays (λ some. some)
+    (omega arith) (λ i low high. low))
+    (λ live ours.
+    let s = holds.guards live ours in
+    let within = head_within old new (quiet.content_stays 1) quiet.sets_shrink in record {
+      guards = record {
+        each = shrunk _ (with_head old) (with_head new) within s.guards.each;
+        homed = λ is. shrunk _ (with_head old) (with_head new) within (s.guards.homed is);
+      };
+      heads = heads_quiet s new (needed_of log) (quiet.content_stays 1) (λ not. not) quiet.sets_shrink;
+    })
+
+-- a call that is good did this
+pub on_ok_here : {P : Type 0} (r : Result (Unit {0}) MediumFault) {refused : Bool} → refused ≡ is_err r → refused ≡ false → OnOk r P → P
+on_ok_here (Ok done) told good did = did
+on_ok_here (Err fault) told good did = cc (told, good)
+
+-- no call leaves what a cut may leave
+pub leaves_none : (log : LogValue) (m : State) → IsSound m → LeavesLog log m m
+leaves_none log m sound = record {
+  cuts = λ view holds ours. started (MayLeave m.size log view) m sound (holds.leaves ours);
+  moments = started (λ _. Unit {0}) m sound (λ image cut. tt);
+  spares = spared_start (sectors_of log.shape) m sound;
+  looks = no_looks (λ s. s < first_home log.shape) m m refl;
+}

@@ -1,0 +1,230 @@
+-- What is true of every log, as a caller sees it, whatever its fields are.
+use Rattle.std.proofs.Common.{◌≡◌, ◌≢◌, ⊎_elim, ℕ, suc, ◌+◌, ◌-◌, ◌*◌, ◌^◌, ◌<◌, ◌≤◌, List, [], ◌∷◌, ◌++◌, length, get_or}
+use Rattle.std.proofs.Common.{drop, refl, sym, ◌∙◌}
+use Rattle.std.proofs.Common.{ap, subst, arith}
+use Rattle.std.specs.Prelude.{All, Bool, Option, Some, None, Result, sum_by, slice_index_or}
+use Rattle.std.proofs.lemmas.Bool.{cases_lt}
+use Rattle.std.proofs.lemmas.List.{length-map}
+use Rattle.std.proofs.lemmas.List.Sums.{sum_by-cons, sum_by-append}
+use Rattle.arrayvec.specs.ArrayVec.{ArrayVec}
+use Rattle.medium.specs.Medium.{State}
+use Rattle.medium.specs.declared.fault.MediumFault.{MediumFault}
+use Rattle.journal.specs.Places.{Shape, limit_of}
+use Rattle.journal.specs.Record.{Entry}
+use Rattle.journal.specs.Values.{shape_of}
+use Rattle.journal.specs.declared.super_sector.Super.{Super}
+use Rattle.journal.proofs.Formats.{sectors_are}
+use Rattle.redo_log.specs.declared.turn.Turn.{Turn}
+use Rattle.redo_log.specs.declared.log.Log.TheInside.{Inside}
+use Rattle.redo_log.specs.Value.{AllFirsts, LogValue, Ahead, steps_of, retire_steps_of, behind_oldest, of_oldest}
+use Rattle.redo_log.specs.Stages.{value_at, steps_at, oldest_at, begun_at, AreInside, IsRecord, IsOldest, IsUnderWay, IsRing, IsAheadOf}
+use Rattle.redo_log.specs.Stages.{IsSized}
+use Rattle.redo_log.specs.Shown.{lists_of, ahead_in, kept_in, shown, Invariant}
+use Rattle.redo_log.specs.Calls.{MakesNext}
+use Rattle.redo_log.specs.Turns.{IsNextTurn, StaysInImage}
+use Rattle.redo_log.specs.Held.{made_of, turned_of, stamps_of}
+use Rattle.redo_log.proofs.RingRecords.{front_is, steps_of_one}
+
+-- the record under way is durable
+abbrev pub durable_of : LogValue → LogValue
+durable_of log = record log { under_way = []; waiting = log.waiting ++ log.under_way ∷ []; steps_left = 0 }
+
+-- the oldest record is retired
+abbrev pub retired_of : LogValue → LogValue
+retired_of log = record log {
+  head = log.head + 1;
+  waiting = drop 1 log.waiting;
+  retire_steps_left = behind_oldest log;
+  firsts = drop 1 log.firsts;
+}
+
+pub record IsLog (log : LogValue) : Type 0 where
+  pub sized : IsSized log.shape
+  -- a record under way has a stamp and a slot of its own
+  pub record_is : 0 < log.steps_left → IsRecord log.shape (log.head + length log.waiting) log.under_way
+  pub room : 0 < log.steps_left → length log.waiting < log.shape.slots
+  pub most_left : log.steps_left ≤ steps_of log.shape.format log.under_way
+  pub each : All (AreInside log.shape) log.waiting
+  -- retire steps are owed to the oldest record that waits
+  pub alone : length log.waiting ≡ 0 → log.retire_steps_left ≡ behind_oldest log
+  pub owed : 0 < length log.waiting → 0 < of_oldest log
+  pub owed_most : of_oldest log ≤ length (get_or log.waiting 0 []) + 2
+  -- what went home ahead is retired, or its blocks are at home
+  pub past : log.ahead.home ≤ log.head
+  pub away : 2 < of_oldest log → log.ahead.home ≢ log.head
+
+-- where retire steps are owed to the oldest record, one waits
+pub one_waits : {log : LogValue} → IsLog log → 0 < of_oldest log → 0 < length log.waiting
+one_waits {log} is owed = ⊎_elim
+    (λ (some : 0 < length log.waiting). some)
+    (λ (none : length log.waiting ≤ 0). absurd (omega (arith, owed, is.alone (omega (arith, none)))))
+    (cases_lt 0 (length log.waiting))
+
+-- ---- what the fields make of it
+
+pub sizes_sized : (sizes : Super) → IsSized (shape_of sizes)
+sizes_sized sizes = record {
+  some = sizes.some_slots;
+  behind = subst (λ (n : ℕ). 2 + n * sizes.slots ≤ sizes.home) (sym (sectors_are sizes.format)) sizes.home_is.0;
+  small = sizes.most_blocks;
+}
+
+-- as many lists as records
+pub many_lists : (records : List (ArrayVec ℕ)) → length (lists_of records) ≡ length records
+many_lists records = let f : ArrayVec ℕ → List ℕ = λ r. r.items in length-map records f
+
+under : (shape : Shape) (items : List ℕ) (writing : Option ℕ) → IsUnderWay shape items writing
+    → (steps_at shape.format (length items) writing ≤ steps_of shape.format items)
+    × (0 < steps_at shape.format (length items) writing → AreInside shape items × (begun_at writing ≡ 1))
+under shape items None is = (omega arith, λ some. absurd (omega (arith, some)))
+under shape items (Some made) is = (omega arith, λ some. (is.0, refl))
+
+oldest : (waiting : List (List ℕ)) (turned : ℕ) → IsOldest waiting turned → (length waiting ≡ 0 → oldest_at waiting turned ≡ 0)
+    × (0 < length waiting → 0 < oldest_at waiting turned)
+    × (oldest_at waiting turned ≤ length (get_or waiting 0 []) + 2 - turned)
+oldest [] turned is = (λ none. refl, λ some. absurd (omega arith), omega arith)
+oldest (n ∷ newer) turned is = (λ none. absurd (omega arith), λ some. omega (arith, is), omega arith)
+
+value_is : (ahead : Ahead) (shape : Shape) (head : ℕ) (waiting : List (List ℕ)) (turned : ℕ) (kept : AllFirsts) (items : List ℕ)
+    (writing : Option ℕ) (dead : Bool) → IsSized shape → 1 ≤ head → head + length waiting + begun_at writing < 2 ^ 63
+    → IsRing shape waiting turned items writing → IsAheadOf ahead head waiting turned
+    → IsLog (value_at ahead shape head waiting turned kept items writing dead)
+value_is ahead shape head waiting turned kept items writing dead sized least most ring sent =
+    let under_way = under shape items writing ring.record_under_way in
+    let at = oldest waiting turned ring.oldest in
+    record {
+      sized = sized;
+      record_is = λ some. record {
+        least = omega (arith, least);
+        most = omega (arith, most, (under_way.1 some).1);
+        numbers_are = (under_way.1 some).0;
+      };
+      room = λ some. omega (arith, ring.fits, (under_way.1 some).1);
+      most_left = under_way.0;
+      each = ring.each;
+      alone = λ none. omega (arith, at.0 none);
+      owed = λ some. omega (arith, at.1 some);
+      owed_most = omega (arith, at.2);
+      past = ⊎_elim (λ (less : ahead.home < head). omega (arith, less)) (λ same. omega (arith, same.0)) sent;
+      away = λ more same. ⊎_elim (λ (less : ahead.home < head). omega (arith, less, same)) (λ home. omega (arith, more, home.2, at.2)) sent;
+    }
+
+module _ (i : Inside) {log : LogValue} (is : shown i ≡ log) where
+  pub log_is : Invariant i → IsLog log
+  log_is inv = subst IsLog is (value_is (ahead_in i) (shape_of i.sizes) i.head (lists_of i.waiting.items) i.turned (kept_in i)
+      i.under_way.items i.made i.dead (sizes_sized i.sizes) inv.least (omega (arith, inv.most, many_lists i.waiting.items)) inv.ring
+      inv.ahead_is)
+
+  -- a record stands in front
+  module _ (first : ArrayVec ℕ) (some : 0 < length i.waiting.items) (there : first ≡ slice_index_or i.waiting.items 0 first) where
+    pub front : lists_of i.waiting.items ≡ first.items ∷ lists_of (drop 1 i.waiting.items)
+    front = front_is i.waiting.items first some there
+
+    pub left_of : of_oldest log ≡ length first.items + 2 - i.turned
+    left_of =
+        let left : of_oldest (shown i) ≡ oldest_at (lists_of i.waiting.items) i.turned = omega arith in
+        sym (ap (λ (v : LogValue). of_oldest v) is) ∙ left ∙ ap (λ (l : List (List ℕ)). oldest_at l i.turned) front
+
+    -- its next turn, as a caller sees the log
+    pub next_of : 0 < of_oldest log → (turn : Turn)
+        → StaysInImage (IsNextTurn (shape_of i.sizes) i.head first.items (kept_in i) i.turned turn) (shape_of i.sizes) turn
+        → StaysInImage (IsNextTurn log.shape log.head (get_or log.waiting 0 []) log.firsts (turned_of log) turn) log.shape turn
+    next_of owed turn next =
+        let numbers : first.items ≡ get_or (lists_of i.waiting.items) 0 [] = sym (ap (λ (l : List (List ℕ)). get_or l 0 []) front) in
+        let same : of_oldest (shown i) ≡ of_oldest log = ap (λ (v : LogValue). of_oldest v) is in
+        let turned : i.turned ≡ turned_of (shown i) = omega (arith, left_of, same, owed, ap (λ (l : List ℕ). length l) numbers) in
+        subst (λ (v : LogValue). StaysInImage (IsNextTurn v.shape v.head (get_or v.waiting 0 []) v.firsts (turned_of v) turn) v.shape turn)
+        is
+        (subst (λ (l : List ℕ). StaysInImage (IsNextTurn (shape_of i.sizes) i.head l (kept_in i) (turned_of (shown i)) turn)
+        (shape_of i.sizes) turn) numbers
+        (subst (λ (n : ℕ). StaysInImage (IsNextTurn (shape_of i.sizes) i.head first.items (kept_in i) n turn) (shape_of i.sizes) turn)
+        turned next))
+
+  -- the next call of the record under way too
+  pub call_of : Invariant i → (made stamp : ℕ) → i.made ≡ Some made → stamp ≡ i.head + length i.waiting.items → {entries : List Entry}
+      → {result : Result (Unit {0}) MediumFault} → {old new : State} → MakesNext (shape_of i.sizes) stamp entries made result old new
+      → MakesNext log.shape (log.head + length log.waiting) entries (made_of log) result old new
+  call_of inv made stamp at stamp_is {entries} {result} {old} {new} makes =
+      let ring = subst (IsUnderWay (shape_of i.sizes) i.under_way.items) at inv.ring.record_under_way in
+      let left = ap (λ (w : Option ℕ). steps_at i.sizes.format (length i.under_way.items) w) at in
+      let made_is : made ≡ made_of (shown i) = omega (arith, left, ring.1) in
+      let here : stamp ≡ i.head + length (lists_of i.waiting.items) = omega (arith, stamp_is, many_lists i.waiting.items) in
+      subst (λ (v : LogValue). MakesNext v.shape (v.head + length v.waiting) entries (made_of v) result old new) is
+      (subst (λ (k : ℕ). MakesNext (shape_of i.sizes) (i.head + length (lists_of i.waiting.items)) entries k result old new) made_is
+      (subst (λ (n : ℕ). MakesNext (shape_of i.sizes) n entries made result old new) here makes))
+
+-- ---- the oldest record, as others come and go
+
+-- a record takes a stamp
+pub one_stamp : (numbers : List ℕ) → 1 ≤ length numbers → stamps_of numbers ≡ 1
+one_stamp [] some = absurd (omega arith)
+one_stamp (n ∷ numbers) some = refl
+
+steps_of_all : (waiting : List (List ℕ))
+    → sum_by retire_steps_of waiting ≡ retire_steps_of (get_or waiting 0 []) + sum_by retire_steps_of (drop 1 waiting)
+steps_of_all [] = refl
+steps_of_all (n ∷ newer) = sum_by-cons retire_steps_of n newer
+
+-- the oldest record has no more blocks than any
+pub oldest_few : (shape : Shape) (waiting : List (List ℕ)) → All (AreInside shape) waiting
+    → length (get_or waiting 0 []) ≤ limit_of shape.format
+oldest_few shape [] each = omega arith
+oldest_few shape (n ∷ newer) each = (each 0 [] (omega arith)).few
+
+-- one record more
+one_more : (waiting : List (List ℕ)) (numbers : List ℕ)
+    → (length waiting ≡ 0 → (get_or (waiting ++ numbers ∷ []) 0 [] ≡ numbers)
+    × (sum_by retire_steps_of (drop 1 waiting) ≡ 0)
+    × (sum_by retire_steps_of (drop 1 (waiting ++ numbers ∷ [])) ≡ 0))
+    × (0 < length waiting → (get_or (waiting ++ numbers ∷ []) 0 [] ≡ get_or waiting 0 [])
+    × (sum_by retire_steps_of (drop 1 (waiting ++ numbers ∷ [])) ≡ sum_by retire_steps_of (drop 1 waiting) + retire_steps_of numbers))
+one_more [] numbers = (λ none. (refl, refl, refl), λ some. absurd (omega arith))
+one_more (n ∷ newer) numbers = (
+  λ none. absurd (omega arith),
+  λ some. (refl, sum_by-append retire_steps_of newer (numbers ∷ []) ∙ omega (arith, sum_by-cons retire_steps_of numbers [])),
+)
+
+module _ (log : LogValue) where
+  -- the record that is durable now is the oldest one, and no turn of it is made
+  pub durable_alone : IsLog log → 0 < log.steps_left → length log.waiting ≡ 0
+      → (2 < of_oldest (durable_of log)) × (turned_of (durable_of log) ≡ 0)
+  durable_alone is left none =
+      let one = (one_more log.waiting log.under_way).0 none in
+      let long = ap (λ (l : List ℕ). length l) one.0 in
+      let steps = steps_of_one log.under_way in
+      let some = (is.record_is left).numbers_are.some in
+      (omega (arith, one.1, one.2, is.alone none, some, steps), omega (arith, one.1, one.2, is.alone none, some, steps, long))
+
+  -- or the oldest one stays it
+  pub durable_more : 0 < length log.waiting
+      → (of_oldest (durable_of log) ≡ of_oldest log) × (turned_of (durable_of log) ≡ turned_of log)
+  durable_more some =
+      let more = (one_more log.waiting log.under_way).1 some in
+      let long = ap (λ (l : List ℕ). length l) more.0 in (omega (arith, more.1), omega (arith, more.1, long))
+
+  -- of the record behind the oldest no block is home, and it is not flushed there
+  pub nothing_home : (i : ℕ) → i < turned_of (retired_of log) → ¬ (i < length (get_or (drop 1 log.waiting) 0 []))
+  nothing_home i low high = omega (arith, steps_of_all (drop 1 log.waiting), steps_of_one (get_or (drop 1 log.waiting) 0 []), low, high)
+
+  pub not_homed : of_oldest (retired_of log) ≢ 1
+  not_homed one = omega (arith, steps_of_all (drop 1 log.waiting), steps_of_one (get_or (drop 1 log.waiting) 0 []), one)
+
+-- the next record needs all its retire steps
+next_left : (shape : Shape) (newer : List (List ℕ)) → All (AreInside shape) newer
+    → oldest_at newer 0 + sum_by retire_steps_of (drop 1 newer) ≡ sum_by retire_steps_of newer
+next_left shape [] each = refl
+next_left shape (n ∷ newer) each = omega (arith, steps_of_all (n ∷ newer), steps_of_one n, (each 0 [] (omega arith)).some)
+
+-- as fields have it, the log with the oldest record retired
+pub retired_value : (ahead : Ahead) (shape : Shape) (head : ℕ) (waiting : List (List ℕ)) (turned : ℕ) (kept : AllFirsts) (items : List ℕ)
+    (writing : Option ℕ) (dead : Bool) → All (AreInside shape) waiting → 0 < length waiting
+    → value_at ahead shape (head + 1) (drop 1 waiting) 0 (drop 1 kept) items writing dead
+    ≡ retired_of (value_at ahead shape head waiting turned kept items writing dead)
+retired_value ahead shape head [] turned kept items writing dead each some = absurd (omega arith)
+retired_value ahead shape head (n ∷ newer) turned kept items writing dead each some =
+    let old = value_at ahead shape head (n ∷ newer) turned kept items writing dead in
+    let new = value_at ahead shape (head + 1) newer 0 (drop 1 kept) items writing dead in
+    let next : new.next ≡ old.next = omega arith in
+    let left : new.retire_steps_left ≡ behind_oldest old = omega
+    (arith, next_left shape newer (λ j d below. each (suc j) d (omega arith))) in
+    ap (λ (m : ℕ). record new { next = m }) next ∙ ap (λ (m : ℕ). record new { next = old.next; retire_steps_left = m }) left
