@@ -1,17 +1,17 @@
 -- How an index and a record's rising block numbers merge, the greatest block first.
 use Rattle.std.proofs.Common.{◌≡◌, ◌≢◌, inl, inr, ℕ, zero, suc, ◌+◌, ◌-◌, ◌<◌, ◌≤◌, List, [], ◌∷◌, ◌++◌, length, get_or, take, drop, set}
-use Rattle.std.proofs.Common.{Some, refl, sym, ◌∙◌, ap, subst, append_assoc, if◌then◌else◌, Option, arith}
-use Rattle.std.specs.Prelude.{◌==◌, Bool, true, false, slice_index}
+use Rattle.std.proofs.Common.{Some, sym, ◌∙◌, ap, subst, append_assoc, Option, arith}
+use Rattle.std.specs.Prelude.{slice_index}
 use Rattle.std.specs.List.{remove_range}
 use Rattle.std.proofs.lemmas.Bool.{cases_eq}
 use Rattle.std.proofs.lemmas.Bool.Decides.{nat_tests}
-use Rattle.std.proofs.lemmas.List.{drop-set, take-set-le, get_or-take, length-set}
-use Rattle.std.proofs.Math.Seq.{take-suc, drop-cons, drop-length}
+use Rattle.std.proofs.lemmas.List.{drop-set, drop_more, get_or-set_other, length-set}
+use Rattle.std.proofs.Math.Seq.{take-suc}
 use Rattle.journal.specs.Sectors.{IsRising}
 use Rattle.redo_log.specs.declared.index.Copied.{Copied}
 use Rattle.redo_log.specs.Index.{look, with_copy, with_copies, block_at, IsSorted}
 use Rattle.redo_log.proofs.SortedIndex.{blank, IsAbove, sorted_cons, above_cons, look_above}
-use Rattle.redo_log.proofs.Newest.{with_copies-same, with_copies-other, none_in_record}
+use Rattle.redo_log.proofs.Newest.{with_here, with_other, with_copies-same, with_copies-none}
 
 -- the old entries from `left` on, merged with the numbers from `place` on: all that is left of both is below
 pub record IsTail (old : List Copied) (slot : ℕ) (numbers : List ℕ) (left place : ℕ) (tail : List Copied) : Type 0 where
@@ -32,40 +32,38 @@ pub record IsLeft (old : List Copied) (block was left : ℕ) : Type 0 where
   pub below : (i : ℕ) → i < left → block_at old i < block
   pub gone : (b : ℕ) → block ≢ b → look (drop left old) b ≡ look (drop was old) b
 
-module _ (old : List Copied) (slot : ℕ) (numbers : List ℕ) where
-  -- nothing is merged yet
-  pub tail_none : IsTail old slot numbers (length old) (length numbers) []
-  tail_none = record {
-    sorted = λ i j less below. absurd (omega arith);
-    over_entries = λ i less j below. absurd (omega arith);
-    over_numbers = λ i less j below. absurd (omega arith);
-    looks = λ b. sym (ap (λ (l : List ℕ). with_copies slot (length numbers) l (look (drop (length old) old)) b) (drop-length numbers)
-        ∙ ap (λ (l : List Copied). look l b) (drop-length old));
-  }
+-- the entries of an index from `to` on are such a tail, and its first `left` ones are the old ones
+pub record IsMerging (old : List Copied) (slot : ℕ) (numbers : List ℕ) (left place to : ℕ) (index : List Copied) : Type 0 where
+  pub entries : left ≤ length old
+  pub places : place ≤ length numbers
+  pub room : left + place ≤ to
+  pub inside : to ≤ length index
+  pub front : (i : ℕ) → i < left → get_or index i blank ≡ get_or old i blank
+  pub tail : IsTail old slot numbers left place (drop to index)
 
+module _ (old : List Copied) (slot : ℕ) (numbers : List ℕ) (sorted : IsSorted old) (rising : IsRising numbers) where
   -- a block below the tail is not named by the numbers in it
   passes : (left place : ℕ) (tail : List Copied) (b : ℕ) (copies : ℕ → Option (ℕ × ℕ)) → IsTail old slot numbers left place tail
       → IsAbove (b + 1) tail → with_copies slot place (drop place numbers) copies b ≡ copies b
   passes left place tail b copies merged above =
-      with_copies-other slot place (drop place numbers) copies b
-      (none_in_record slot place (drop place numbers) (look (drop left old)) b (sym (merged.looks b) ∙ look_above tail b above)).1
+      with_copies-none slot place (drop place numbers) (look (drop left old)) copies b (sym (merged.looks b) ∙ look_above tail b above)
 
   -- the last old entry that is left goes before the tail
-  pub entry_goes : (left place : ℕ) (c : Copied) (tail : List Copied) → IsSorted old → left < length old → c ≡ get_or old left blank
-      → ((i : ℕ) → i < place → slice_index numbers i < c.block) → IsTail old slot numbers (suc left) place tail
+  entry_goes : (left place : ℕ) (c : Copied) (tail : List Copied) → left < length old → c ≡ get_or old left blank
+      → ((i : ℕ) → i < place → slice_index numbers i < c.block) → IsTail old slot numbers (left + 1) place tail
       → IsTail old slot numbers left place (c ∷ tail)
-  entry_goes left place c tail sorted inside is over merged = record {
+  entry_goes left place c tail inside is over merged = record {
     sorted = sorted_cons c tail above merged.sorted;
     over_entries = λ i less.
         above_cons (block_at old i + 1) c tail (omega (arith, block, sorted i left less inside)) (merged.over_entries i (omega arith));
     over_numbers = λ i less. above_cons (slice_index numbers i + 1) c tail (omega (arith, over i less)) (merged.over_numbers i less);
     looks = λ b. elim (cases_eq c.block b) [
       | inl same ↦ here c tail b same
-          ∙ (sym (here c (drop (suc left) old) b same) ∙ ap (λ (l : List Copied). look l b) (sym split)
-          ∙ sym (passes (suc left) place tail b (look (drop left old)) merged (subst (λ (n : ℕ). IsAbove (n + 1) tail) same above)))
+          ∙ (sym (here c (drop (left + 1) old) b same) ∙ ap (λ (l : List Copied). look l b) (sym split)
+          ∙ sym (passes (left + 1) place tail b (look (drop left old)) merged (subst (λ (n : ℕ). IsAbove (n + 1) tail) same above)))
       | inr not ↦ behind c tail b not ∙ (merged.looks b
-          ∙ with_copies-same slot place (drop place numbers) (look (drop (suc left) old)) (look (drop left old)) b
-          (sym (behind c (drop (suc left) old) b not) ∙ ap (λ (l : List Copied). look l b) (sym split)))
+          ∙ with_copies-same slot place (drop place numbers) (look (drop (left + 1) old)) (look (drop left old)) b
+          (sym (behind c (drop (left + 1) old) b not) ∙ ap (λ (l : List Copied). look l b) (sym split)))
     ];
   }
     where
@@ -75,111 +73,41 @@ module _ (old : List Copied) (slot : ℕ) (numbers : List ℕ) where
       above : IsAbove (c.block + 1) tail
       above = subst (λ (n : ℕ). IsAbove (n + 1) tail) (sym block) (merged.over_entries left (omega arith))
 
-      split : drop left old ≡ c ∷ drop (suc left) old
-      split = drop-cons old left blank inside ∙ ap (λ (x : Copied). x ∷ drop (suc left) old) (sym is)
+      split : drop left old ≡ c ∷ drop (left + 1) old
+      split = drop_more old left blank inside ∙ ap (λ (x : Copied). x ∷ drop (left + 1) old) (sym is)
+
+  -- the entry of a number of the record
+  abbrev pub entry_of : ℕ → Copied
+  entry_of place = record { block = slice_index numbers place; slot = slot; place = place }
 
   -- the last number that is left goes before the tail
-  pub number_goes : (was left place : ℕ) (c : Copied) (tail : List Copied) → IsRising numbers → place < length numbers
-      → c.block ≡ slice_index numbers place → c.slot ≡ slot → c.place ≡ place → IsLeft old c.block was left
-      → IsTail old slot numbers was (suc place) tail → IsTail old slot numbers left place (c ∷ tail)
-  number_goes was left place c tail rising inside block in_slot in_place stays merged = record {
-    sorted = sorted_cons c tail above merged.sorted;
-    over_entries = λ i less. above_cons (block_at old i + 1) c tail (omega (arith, stays.below i less))
-        (merged.over_entries i (omega (arith, less, stays.fewer)));
-    over_numbers = λ i less. above_cons (slice_index numbers i + 1) c tail (omega (arith, block, rising i place less inside))
-        (merged.over_numbers i (omega arith));
-    looks = λ b. elim (cases_eq c.block b) [
-      | inl same ↦
-          here c tail b same
-          ∙ (ap (λ (s : ℕ). Some (s, c.place)) in_slot
-          ∙ ap (λ (p : ℕ). Some (slot, p)) in_place
-          ∙ (sym (named b (sym block ∙ same))
-          ∙ (sym (passes was (suc place) tail b with_it merged (subst (λ (n : ℕ). IsAbove (n + 1) tail) same above))
-          ∙ sym (first b))))
-      | inr not ↦
-          behind c tail b not
-          ∙ (merged.looks b
-          ∙ (with_copies-same slot (suc place) (drop (suc place) numbers) (look (drop was old)) with_it b
-          (sym (stays.gone b not) ∙ sym (other b (λ is. not (block ∙ is))))
-          ∙ sym (first b)))
-    ];
-  }
-    where
-      with_it : ℕ → Option (ℕ × ℕ)
-      with_it = with_copy (slice_index numbers place) (slot, place) (look (drop left old))
-
-      one : place + 1 ≡ suc place
-      one = omega arith
-
-      first : (b : ℕ)
-          → with_copies slot place (drop place numbers) (look (drop left old)) b
-          ≡ with_copies slot (suc place) (drop (suc place) numbers) with_it b
-      first b = ap (λ (l : List ℕ). with_copies slot place l (look (drop left old)) b) (drop-cons numbers place 0 inside)
-          ∙ ap (λ (p : ℕ). with_copies slot p (drop (suc place) numbers) with_it b) one
-
-      named : (b : ℕ) → slice_index numbers place ≡ b → with_it b ≡ Some (slot, place)
-      named b is =
-          let same : (slice_index numbers place == b) ≡ true = grind (arith, nat_tests, is) in
-          ap (λ (t : Bool). if t then Some (slot, place) else look (drop left old) b) same
-
-      other : (b : ℕ) → slice_index numbers place ≢ b → with_it b ≡ look (drop left old) b
-      other b not =
-          let differ : (slice_index numbers place == b) ≡ false = grind (arith, nat_tests, not) in
-          ap (λ (t : Bool). if t then Some (slot, place) else look (drop left old) b) differ
-
-      above : IsAbove (c.block + 1) tail
-      above = subst (λ (n : ℕ). IsAbove (n + 1) tail) (sym block) (merged.over_numbers place (omega arith))
-
-  -- all that is left goes before the tail as it is
-  pub rest_goes : (left : ℕ) (tail : List Copied) → IsSorted old → left ≤ length old → IsTail old slot numbers left 0 tail
-      → IsTail old slot numbers 0 0 (take left old ++ tail)
-  rest_goes zero tail sorted fits merged = merged
-  rest_goes (suc left) tail sorted fits merged =
-      subst (IsTail old slot numbers 0 0)
-      (sym (ap (λ (l : List Copied). l ++ tail) (take-suc old left blank (omega arith))
-      ∙ append_assoc (take left old) (get_or old left blank ∷ []) tail))
-      (rest_goes left (get_or old left blank ∷ tail) sorted (omega arith)
-      (entry_goes left 0 (get_or old left blank) tail sorted (omega arith) refl (λ i less. absurd (omega arith)) merged))
-
--- the entries of an index from `to` on are such a tail, and its first `left` ones are the old ones
-pub record IsMerging (old : List Copied) (slot : ℕ) (numbers : List ℕ) (left place to : ℕ) (index : List Copied) : Type 0 where
-  pub entries : left ≤ length old
-  pub places : place ≤ length numbers
-  pub room : left + place ≤ to
-  pub inside : to ≤ length index
-  pub front : take left index ≡ take left old
-  pub tail : IsTail old slot numbers left place (drop to index)
-
-take_fewer : (n m : ℕ) (index : List Copied) → n ≤ m → take n (take m index) ≡ take n index
-take_fewer zero m index le = refl
-take_fewer (suc n) zero index le = absurd (omega (arith, le))
-take_fewer (suc n) (suc m) [] le = refl
-take_fewer (suc n) (suc m) (c ∷ index) le = ap (λ (l : List Copied). c ∷ l) (take_fewer n m index (omega arith))
-
-module _ (old : List Copied) (slot : ℕ) (numbers : List ℕ) (sorted : IsSorted old) (rising : IsRising numbers) where
-  -- at the beginning there is room for all numbers
-  pub merging_none : (index : List Copied) → take (length old) index ≡ take (length old) old → length index ≡ length old + length numbers
-      → IsMerging old slot numbers (length old) (length numbers) (length index) index
-  merging_none index front long = record {
-    entries = omega arith;
-    places = omega arith;
-    room = omega (arith, long);
-    inside = omega arith;
-    front = front;
-    tail = subst (IsTail old slot numbers (length old) (length numbers)) (sym (drop-length index)) (tail_none old slot numbers);
-  }
-
-  front_fewer : (left was : ℕ) (index : List Copied) → left ≤ was → take was index ≡ take was old → take left index ≡ take left old
-  front_fewer left was index le front =
-      sym (take_fewer left was index le) ∙ (ap (λ (l : List Copied). take left l) front ∙ take_fewer left was old le)
-
-  -- an entry that is left is the old one
-  pub entry_is : (was i : ℕ) (index : List Copied) → i < was → take was index ≡ take was old → get_or index i blank ≡ get_or old i blank
-  entry_is was i index less front =
-      sym (get_or-take was index i blank less) ∙ (ap (λ (l : List Copied). get_or l i blank) front ∙ get_or-take was old i blank less)
-
-  drop_set : (index : List Copied) (to : ℕ) (c : Copied) → to < length index → drop to (set index to c) ≡ c ∷ drop (suc to) index
-  drop_set index to c below = let one : to + 1 ≡ suc to = omega arith in drop-set index to c below ∙ ap (λ (n : ℕ). c ∷ drop n index) one
+  number_goes : (was left place : ℕ) (tail : List Copied) → place < length numbers → IsLeft old (slice_index numbers place) was left
+      → IsTail old slot numbers was (place + 1) tail → IsTail old slot numbers left place (entry_of place ∷ tail)
+  number_goes was left place tail inside stays merged =
+      let n = slice_index numbers place in
+      let above = merged.over_numbers place (omega arith) in
+      let with_it = with_copy n (slot, place) (look (drop left old)) in
+      let first = λ (b : ℕ). ap (λ (l : List ℕ). with_copies slot place l (look (drop left old)) b) (drop_more numbers place 0 inside) in
+      record {
+        sorted = sorted_cons (entry_of place) tail above merged.sorted;
+        over_entries = λ i less. above_cons (block_at old i + 1) (entry_of place) tail (omega (arith, stays.below i less))
+            (merged.over_entries i (omega (arith, less, stays.fewer)));
+        over_numbers = λ i less. above_cons (slice_index numbers i + 1) (entry_of place) tail (omega (arith, rising i place less inside))
+            (merged.over_numbers i (omega arith));
+        looks = λ b. elim (cases_eq n b) [
+          | inl same ↦
+              here (entry_of place) tail b same
+              ∙ sym (with_here n (slot, place) (look (drop left old)) b same)
+              ∙ sym (passes was (place + 1) tail b with_it merged (subst (λ (m : ℕ). IsAbove (m + 1) tail) same above))
+              ∙ sym (first b)
+          | inr not ↦
+              behind (entry_of place) tail b not
+              ∙ merged.looks b
+              ∙ with_copies-same slot (place + 1) (drop (place + 1) numbers) (look (drop was old)) with_it b
+              (sym (stays.gone b not) ∙ sym (with_other n (slot, place) (look (drop left old)) b not))
+              ∙ sym (first b)
+        ];
+      }
 
   -- a block above the last number that is left is above all
   all_below : (place block : ℕ) → place ≤ length numbers → (0 < place → slice_index numbers (place - 1) < block) → (i : ℕ) → i < place
@@ -191,92 +119,93 @@ module _ (old : List Copied) (slot : ℕ) (numbers : List ℕ) (sorted : IsSorte
         omega (arith, rising i (place - 1) below (omega (arith, less, fits)), last (omega arith))
   ]
 
-  entry_moved : (left place to : ℕ) (index : List Copied) → (0 < place → slice_index numbers (place - 1) < block_at index left)
-      → IsMerging old slot numbers (suc left) place (suc to) index
-      → IsMerging old slot numbers left place to (set index to (get_or index left blank))
-  entry_moved left place to index over merged =
-      let c = get_or index left blank in
-      record {
-        entries = omega (arith, merged.entries);
-        places = merged.places;
-        room = omega (arith, merged.room);
-        inside = omega (arith, merged.inside, length-set index to c);
-        front = take-set-le left index to c (omega (arith, merged.room)) ∙ front_fewer left (suc left) index (omega arith) merged.front;
-        tail = subst (IsTail old slot numbers left place) (sym (drop_set index to c (omega (arith, merged.inside))))
-            (entry_goes old slot numbers left place c (drop (suc to) index) sorted (omega (arith, merged.entries))
-            (entry_is (suc left) left index (omega arith) merged.front) (all_below place c.block merged.places over) merged.tail);
-      }
+  -- an entry goes to the end of the room
+  module _ (was left before place till to : ℕ) (index : List Copied) (c : Copied) (room : till ≡ to + 1)
+      (merged : IsMerging old slot numbers was before till index) where
+    goes : left ≤ was → place ≤ before → left + place ≤ to → IsTail old slot numbers left place (c ∷ drop till index)
+        → IsMerging old slot numbers left place to (set index to c)
+    goes fewer less enough tail =
+        let below : to < length index = omega (arith, room, merged.inside) in
+        record {
+          entries = omega (arith, merged.entries, fewer);
+          places = omega (arith, merged.places, less);
+          room = enough;
+          inside = omega (arith, below, length-set index to c);
+          front = λ i inside. get_or-set_other index to i c blank (λ e. omega (arith, e, inside, enough))
+              ∙ merged.front i (omega (arith, inside, fewer));
+          tail = subst (IsTail old slot numbers left place)
+              (sym (drop-set index to c below ∙ ap (λ (n : ℕ). c ∷ drop n index) (sym room))) tail;
+        }
 
-  -- the last entry that is left moves to the end of the room, above all numbers that are left
-  pub entry_moves : (was left place till to : ℕ) (index : List Copied) → was ≡ suc left → till ≡ suc to
+  -- the last entry that is left, above all numbers that are left
+  pub entry_moves : (was left place till to : ℕ) (index : List Copied) → was ≡ left + 1 → till ≡ to + 1
       → (0 < place → slice_index numbers (place - 1) < block_at index left) → IsMerging old slot numbers was place till index
       → IsMerging old slot numbers left place to (set index to (get_or index left blank))
-  entry_moves was left place till to index one_less before over merged =
-      entry_moved left place to index over
-      (subst (λ (n : ℕ). IsMerging old slot numbers n place (suc to) index) one_less
-      (subst (λ (n : ℕ). IsMerging old slot numbers was place n index) before merged))
+  entry_moves was left place till to index one_less room over merged =
+      let c = get_or index left blank in
+      goes was left place place till to index c room merged (omega arith) (omega arith) (omega (arith, merged.room, one_less, room))
+      (entry_goes left place c (drop till index) (omega (arith, merged.entries, one_less)) (merged.front left (omega (arith, one_less)))
+      (all_below place c.block merged.places over)
+      (subst (λ (n : ℕ). IsTail old slot numbers n place (drop till index)) one_less merged.tail))
 
-  number_moved : (was left place to : ℕ) (index : List Copied) (c : Copied) → c.block ≡ slice_index numbers place → c.slot ≡ slot
-      → c.place ≡ place → IsLeft old c.block was left → IsMerging old slot numbers was (suc place) (suc to) index
-      → IsMerging old slot numbers left place to (set index to c)
-  number_moved was left place to index c block in_slot in_place stays merged = record {
-    entries = omega (arith, merged.entries, stays.fewer);
-    places = omega (arith, merged.places);
-    room = omega (arith, merged.room, stays.fewer);
-    inside = omega (arith, merged.inside, length-set index to c);
-    front = take-set-le left index to c (omega (arith, merged.room, stays.fewer)) ∙ front_fewer left was index stays.fewer merged.front;
-    tail = subst (IsTail old slot numbers left place) (sym (drop_set index to c (omega (arith, merged.inside))))
-        (number_goes old slot numbers was left place c (drop (suc to) index) rising (omega (arith, merged.places)) block in_slot in_place
-        stays merged.tail);
-  }
+  -- the last number that is left, above all entries that are left then
+  pub number_enters : (was left before place till to : ℕ) (index : List Copied) → before ≡ place + 1 → till ≡ to + 1
+      → IsLeft old (slice_index numbers place) was left → IsMerging old slot numbers was before till index
+      → IsMerging old slot numbers left place to (set index to (entry_of place))
+  number_enters was left before place till to index one_less room stays merged =
+      goes was left before place till to index (entry_of place) room merged stays.fewer (omega (arith, one_less))
+      (omega (arith, merged.room, one_less, room, stays.fewer))
+      (number_goes was left place (drop till index) (omega (arith, merged.places, one_less)) stays
+      (subst (λ (n : ℕ). IsTail old slot numbers was n (drop till index)) one_less merged.tail))
 
-  -- the last number that is left enters at the end of the room, above all entries that are left then
-  pub number_enters : (was left before place till to : ℕ) (index : List Copied) (c : Copied) → before ≡ suc place → till ≡ suc to
-      → c.block ≡ slice_index numbers place → c.slot ≡ slot → c.place ≡ place → IsLeft old c.block was left
-      → IsMerging old slot numbers was before till index → IsMerging old slot numbers left place to (set index to c)
-  number_enters was left before place till to index c one_less earlier block in_slot in_place stays merged =
-      number_moved was left place to index c block in_slot in_place stays
-      (subst (λ (n : ℕ). IsMerging old slot numbers was n (suc to) index) one_less
-      (subst (λ (n : ℕ). IsMerging old slot numbers was before n index) earlier merged))
+  module _ (was left : ℕ) (index : List Copied) (block : ℕ) (fits : was ≤ length old)
+      (front : (i : ℕ) → i < was → get_or index i blank ≡ get_or old i blank) where
+    block_is : (i : ℕ) → i < was → block_at index i ≡ block_at old i
+    block_is i less = ap (λ (x : Copied). x.block) (front i less)
 
-  -- all entries that are left have smaller blocks
-  pub left_all : (was left : ℕ) (index : List Copied) (block : ℕ) → was ≤ length old → take was index ≡ take was old → left ≡ was
-      → (0 < was → block_at index (was - 1) < block) → IsLeft old block was left
-  left_all was left index block fits front same last = record {
-    fewer = omega arith;
-    below = λ i less. elim (cases_eq i (was - 1)) [
-      | inl is ↦ omega (arith, ap (block_at old) is, block_is (was - 1) (omega (arith, less)), last (omega (arith, less)))
-      | inr not ↦
-          let lower : i < was - 1 = omega (arith, not, less) in
-          omega (
-            arith,
-            sorted i (was - 1) lower (omega (arith, less, fits)),
-            block_is (was - 1) (omega (arith, less)),
-            last (omega (arith, less)),
-          )
-    ];
-    gone = λ b not. ap (λ (n : ℕ). look (drop n old) b) same;
-  }
-    where
-      block_is : (i : ℕ) → i < was → block_at index i ≡ block_at old i
-      block_is i less = ap (λ (x : Copied). x.block) (entry_is was i index less front)
+    -- all entries that are left have smaller blocks
+    pub left_all : left ≡ was → (0 < was → block_at index (was - 1) < block) → IsLeft old block was left
+    left_all same last = record {
+      fewer = omega arith;
+      below = λ i less.
+          let greatest = block_is (was - 1) (omega (arith, less)) in
+          elim (cases_eq i (was - 1)) [
+            | inl is ↦ omega (arith, ap (block_at old) is, greatest, last (omega (arith, less)))
+            | inr not ↦
+                let lower : i < was - 1 = omega (arith, not, less) in
+                omega (arith, sorted i (was - 1) lower (omega (arith, less, fits)), greatest, last (omega (arith, less)))
+          ];
+      gone = λ b not. ap (λ (n : ℕ). look (drop n old) b) same;
+    }
 
-  -- the last entry has this block
-  pub left_less : (was left : ℕ) (index : List Copied) (block : ℕ) → was ≤ length old → take was index ≡ take was old → was ≡ suc left
-      → block_at index left ≡ block → IsLeft old block was left
-  left_less was left index block fits front one_more is = record {
-    fewer = omega arith;
-    below = λ i less. omega (arith, sorted i left less (omega arith), block_is);
-    gone = λ b not. ap (λ (l : List Copied). look l b) (drop-cons old left blank (omega arith))
-        ∙ (behind (get_or old left blank) (drop (suc left) old) b (λ same. not (sym block_is ∙ same))
-        ∙ ap (λ (n : ℕ). look (drop n old) b) (sym one_more));
-  }
-    where
-      block_is : block_at old left ≡ block
-      block_is = sym (ap (λ (x : Copied). x.block) (entry_is was left index (omega arith) front)) ∙ is
+    -- the last entry has this block
+    pub left_less : was ≡ left + 1 → block_at index left ≡ block → IsLeft old block was left
+    left_less one_more is =
+        let block_now : block_at old left ≡ block = sym (block_is left (omega (arith, one_more))) ∙ is in
+        record {
+          fewer = omega arith;
+          below = λ i less. omega (arith, sorted i left less (omega arith), block_now);
+          gone = λ b not. ap (λ (l : List Copied). look l b) (drop_more old left blank (omega arith))
+              ∙ (behind (get_or old left blank) (drop (left + 1) old) b (λ same. not (sym block_now ∙ same))
+              ∙ ap (λ (n : ℕ). look (drop n old) b) (sym one_more));
+        }
+
+  -- all that is left goes before the tail as it is
+  rest_goes : (left : ℕ) (index tail : List Copied) → left ≤ length old → left ≤ length index
+      → ((i : ℕ) → i < left → get_or index i blank ≡ get_or old i blank) → IsTail old slot numbers left 0 tail
+      → IsTail old slot numbers 0 0 (take left index ++ tail)
+  rest_goes zero index tail fits inside front merged = merged
+  rest_goes (suc left) index tail fits inside front merged =
+      let one : suc left ≡ left + 1 = omega arith in
+      let c = get_or index left blank in
+      subst (IsTail old slot numbers 0 0)
+      (sym (ap (λ (l : List Copied). l ++ tail) (take-suc index left blank (omega arith)) ∙ append_assoc (take left index) (c ∷ []) tail))
+      (rest_goes left index (c ∷ tail) (omega arith) (omega arith) (λ i less. front i (omega arith))
+      (entry_goes left 0 c tail (omega arith) (front left (omega arith)) (λ i less. absurd (omega arith))
+      (subst (λ (n : ℕ). IsTail old slot numbers n 0 tail) one merged)))
 
   -- at the end nothing of the record is left
   pub merging_ends : (left to : ℕ) (index : List Copied) → IsMerging old slot numbers left 0 to index
       → IsTail old slot numbers 0 0 (remove_range index left to)
-  merging_ends left to index merged = subst (λ (l : List Copied). IsTail old slot numbers 0 0 (l ++ drop to index)) (sym merged.front)
-      (rest_goes old slot numbers left (drop to index) sorted merged.entries merged.tail)
+  merging_ends left to index merged =
+      rest_goes left index (drop to index) merged.entries (omega (arith, merged.room, merged.inside)) merged.front merged.tail

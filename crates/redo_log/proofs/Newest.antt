@@ -1,11 +1,19 @@
 -- The newest copies of the blocks of some records.
-use Rattle.std.proofs.Common.{◌≡◌, ◌≢◌, ◌⊎◌, inl, inr, ⊎_elim, ℕ, zero, suc, ◌+◌, ◌%◌, ◌<◌, ◌≤◌, List, [], ◌∷◌, ◌++◌, length, get_or}
-use Rattle.std.proofs.Common.{if◌then◌else◌, Some, None, Option, refl, sym, ◌∙◌, ap, arith}
-use Rattle.std.specs.Prelude.{◌==◌, Bool, true, false, slice_index, Contains}
+use Rattle.std.proofs.Common.{◌≡◌, ◌≢◌, ◌⊎◌, inl, inr, ℕ, zero, suc, ◌+◌, ◌%◌, ◌<◌, ◌≤◌, List, [], ◌∷◌, ◌++◌, length, get_or}
+use Rattle.std.proofs.Common.{if◌then◌else◌, Some, None, Option, refl, sym, ◌∙◌, ap, subst, arith}
+use Rattle.std.specs.Prelude.{◌==◌, slice_index, Contains}
 use Rattle.std.proofs.lemmas.Bool.{cases_eq}
 use Rattle.std.proofs.lemmas.Bool.Decides.{nat_tests}
+use Rattle.std.proofs.lemmas.List.{get_or_default}
 use Rattle.journal.proofs.Slots.{other_slot}
 use Rattle.redo_log.specs.Index.{Copies, no_copies, with_copy, with_copies, copies_of, outside}
+
+-- a copy put over others, at its block and at another
+pub with_here : (block : ℕ) (copy : ℕ × ℕ) (old : Copies) (b : ℕ) → block ≡ b → with_copy block copy old b ≡ Some copy
+with_here block copy old b same = grind (arith, nat_tests, same)
+
+pub with_other : (block : ℕ) (copy : ℕ × ℕ) (old : Copies) (b : ℕ) → block ≢ b → with_copy block copy old b ≡ old b
+with_other block copy old b not = grind (arith, nat_tests, not)
 
 -- the same copies under a copy
 pub with_copy-same : (block : ℕ) (copy : ℕ × ℕ) (old new : Copies) (b : ℕ) → old b ≡ new b
@@ -73,46 +81,44 @@ copies_of-fewer slots stamp numbers records b few =
     (λ j below is. other_slot stamp (stamp + 1 + j) slots (omega arith) (omega arith) (sym is))
     (outside-gone (stamp % slots) 0 numbers no_copies b refl)
 
--- where a copy comes from
-pub from_record : (slot place : ℕ) (numbers : List ℕ) (old : Copies) (b : ℕ) (copy : ℕ × ℕ)
-    → with_copies slot place numbers old b ≡ Some copy
-    → ((copy.0 ≡ slot) × ((k : ℕ) × ((copy.1 ≡ place + k) × ((k < length numbers) × (slice_index numbers k ≡ b)))))
-    ⊎ ((old b ≡ Some copy) × ((k : ℕ) → k < length numbers → slice_index numbers k ≢ b))
-from_record slot place [] old b copy is = inr (is, λ k below. absurd (omega arith))
-from_record slot place (n ∷ numbers) old b copy is =
-    elim (from_record slot (place + 1) numbers (with_copy n (slot, place) old) b copy is) [
-      | inl found ↦ inl (found.0, (suc found.1.0, (omega (arith, found.1.1.0), (omega (arith, found.1.1.1.0), found.1.1.1.1))))
-      | inr older ↦ elim (cases_eq n b) [
-        | inl here ↦
-            let both : Some (slot, place) ≡ Some copy =
-            sym (ap (λ (t : Bool). if t then Some (slot, place) else old b) (is_same n b here)) ∙ older.0 in
-            let copy_is : (slot, place) ≡ copy = cc both in
-            inl (
-              ap (λ (c : ℕ × ℕ). c.0) (sym copy_is),
-              (zero, ((let at : copy.1 ≡ place = ap (λ (c : ℕ × ℕ). c.1) (sym copy_is) in omega (arith, at)), (omega arith, here))),
-            )
-        | inr not ↦ inr (sym (ap (λ (t : Bool). if t then Some (slot, place) else old b) (is_other n b not)) ∙ older.0, none not older.1)
-      ]
-    ]
-  where
-    is_same : (n b : ℕ) → n ≡ b → (n == b) ≡ true
-    is_same n b same = grind (arith, nat_tests, same)
+-- a record does not name the block
+abbrev Unnamed : List ℕ → ℕ → Type 0
+Unnamed numbers b = (k : ℕ) → k < length numbers → slice_index numbers k ≢ b
 
-    is_other : (n b : ℕ) → n ≢ b → (n == b) ≡ false
-    is_other n b not = grind (arith, nat_tests, not)
+none_more : (n : ℕ) (numbers : List ℕ) (b : ℕ) → n ≢ b → Unnamed numbers b → Unnamed (n ∷ numbers) b
+none_more n numbers b not others zero below = not
+none_more n numbers b not others (suc k) below = others k (omega arith)
 
-    none : n ≢ b → ((k : ℕ) → k < length numbers → slice_index numbers k ≢ b) → (k : ℕ) → k < length (n ∷ numbers)
-        → slice_index (n ∷ numbers) k ≢ b
-    none not others zero below is = not is
-    none not others (suc k) below is = others k (omega arith) is
+no_number : (numbers : List ℕ) (b : ℕ) → Unnamed numbers b → ¬ Contains numbers b
+no_number numbers b none (k, below, is) = none k below (get_or_default numbers k 0 b below ∙ is)
 
-no_number : (numbers : List ℕ) (b : ℕ) → ((k : ℕ) → k < length numbers → slice_index numbers k ≢ b) → ¬ Contains numbers b
-no_number numbers b none (k, below, is) = none k below (default_is numbers k below is)
-  where
-    default_is : (numbers : List ℕ) (k : ℕ) → k < length numbers → get_or numbers k b ≡ b → get_or numbers k 0 ≡ b
-    default_is [] k below is = absurd (omega arith)
-    default_is (n ∷ numbers) zero below is = is
-    default_is (n ∷ numbers) (suc k) below is = default_is numbers k (omega arith) is
+-- a copy is one of the record, or none of it is one of the block
+from_record : (slot place : ℕ) (numbers : List ℕ) (old : Copies) (b : ℕ)
+    → ((k : ℕ) × (k < length numbers) × (slice_index numbers k ≡ b) × (with_copies slot place numbers old b ≡ Some (slot, place + k)))
+    ⊎ (Unnamed numbers b × (with_copies slot place numbers old b ≡ old b))
+from_record slot place [] old b = inr (λ k below. absurd (omega arith), refl)
+from_record slot place (n ∷ numbers) old b = elim (from_record slot (place + 1) numbers (with_copy n (slot, place) old) b) [
+  | inl found ↦
+      let at : place + 1 + found.0 ≡ place + suc found.0 = omega arith in
+      inl (suc found.0, omega (arith, found.1), found.2, found.3 ∙ ap (λ (p : ℕ). Some (slot, p)) at)
+  | inr older ↦ elim (cases_eq n b) [
+    | inl is ↦
+        let at : place ≡ place + 0 = omega arith in
+        inl (zero, omega arith, is, older.1 ∙ with_here n (slot, place) old b is ∙ ap (λ (p : ℕ). Some (slot, p)) at)
+    | inr not ↦ inr (none_more n numbers b not older.0, older.1 ∙ with_other n (slot, place) old b not)
+  ]
+]
+
+-- a record that has no copy of the block leaves its copy, whichever it is
+pub with_copies-none : (slot place : ℕ) (numbers : List ℕ) (old new : Copies) (b : ℕ) → with_copies slot place numbers old b ≡ None
+    → with_copies slot place numbers new b ≡ new b
+with_copies-none slot place numbers old new b is = elim (from_record slot place numbers old b) [
+  | inl found ↦ absurd (cc (found.3, is))
+  | inr older ↦ elim (from_record slot place numbers new b) [
+    | inl found ↦ absurd (older.0 found.0 found.1 found.2)
+    | inr same ↦ same.1
+  ]
+]
 
 -- the copy stands in the record of this age, and no newer one has the block
 pub record IsNewest (slots stamp : ℕ) (records : List (List ℕ)) (block : ℕ) (copy : ℕ × ℕ) : Type 0 where
@@ -123,94 +129,75 @@ pub record IsNewest (slots stamp : ℕ) (records : List (List ℕ)) (block : ℕ
   pub named : slice_index (get_or records age []) copy.1 ≡ block
   pub newest : (newer : ℕ) → age < newer → newer < length records → ¬ Contains (get_or records newer []) block
 
--- no record has the block
-abbrev pub NamesNone : List (List ℕ) → ℕ → Type 0
-NamesNone records block = (age : ℕ) → age < length records → ¬ Contains (get_or records age []) block
+-- no record from this age on has the block
+abbrev NamesNone : ℕ → List (List ℕ) → ℕ → Type 0
+NamesNone least records block = (age : ℕ) → least ≤ age → age < length records → ¬ Contains (get_or records age []) block
 
-names_none : (numbers : List ℕ) (records : List (List ℕ)) (b : ℕ) → ¬ Contains numbers b → NamesNone records b
-    → NamesNone (numbers ∷ records) b
-names_none numbers records b first others zero below = first
-names_none numbers records b first others (suc age) below = others age (omega arith)
+behind : (least : ℕ) (numbers : List ℕ) (records : List (List ℕ)) (b : ℕ) → NamesNone least records b
+    → NamesNone (suc least) (numbers ∷ records) b
+behind least numbers records b none zero less below = absurd (omega arith)
+behind least numbers records b none (suc age) less below = none age (omega arith) (omega arith)
 
-from_records : (slots stamp : ℕ) (records : List (List ℕ)) (old : Copies) (b : ℕ) (copy : ℕ × ℕ)
-    → copies_of slots stamp records old b ≡ Some copy → IsNewest slots stamp records b copy ⊎ ((old b ≡ Some copy) × NamesNone records b)
-from_records slots stamp [] old b copy is = inr (is, λ age below. absurd (omega arith))
-from_records slots stamp (r ∷ records) old b copy is =
-    elim (from_records slots (stamp + 1) records (with_copies (stamp % slots) 0 r old) b copy is) [
-      | inl found ↦ inl (record {
-        age = suc found.age;
-        waits = omega (arith, found.waits);
-        slot_is = let same : stamp + 1 + found.age ≡ stamp + suc found.age = omega arith in found.slot_is ∙ ap (λ (s : ℕ). s % slots) same;
-        inside = found.inside;
-        named = found.named;
-        newest = later found.age found.newest;
-      })
-      | inr older ↦ elim (from_record (stamp % slots) 0 r old b copy older.0) [
-        | inl here ↦ inl (record {
-          age = 0;
-          waits = omega arith;
-          slot_is = let same : stamp ≡ stamp + 0 = omega arith in here.0 ∙ ap (λ (s : ℕ). s % slots) same;
-          inside = omega (arith, here.1.1.0, here.1.1.1.0);
-          named = let at : copy.1 ≡ here.1.0 = omega (arith, here.1.1.0) in ap (λ (k : ℕ). slice_index r k) at ∙ here.1.1.1.1;
-          newest = first older.1;
-        })
-        | inr before ↦ inr (before.0, names_none r records b (no_number r b before.1) older.1)
+names_none : (numbers : List ℕ) (records : List (List ℕ)) (b : ℕ) → ¬ Contains numbers b → NamesNone 0 records b
+    → NamesNone 0 (numbers ∷ records) b
+names_none numbers records b first others zero least below = first
+names_none numbers records b first others (suc age) least below = others age (omega arith) (omega arith)
+
+-- a copy is the newest one of the records, or none of them has the block
+from_records : (slots stamp : ℕ) (records : List (List ℕ)) (old : Copies) (b : ℕ)
+    → ((copy : ℕ × ℕ) × IsNewest slots stamp records b copy × (copies_of slots stamp records old b ≡ Some copy))
+    ⊎ (NamesNone 0 records b × (copies_of slots stamp records old b ≡ old b))
+from_records slots stamp [] old b = inr (λ age least below. absurd (omega arith), refl)
+from_records slots stamp (r ∷ records) old b =
+    elim (from_records slots (stamp + 1) records (with_copies (stamp % slots) 0 r old) b) [
+      | inl found ↦
+          let same : stamp + 1 + found.1.age ≡ stamp + suc found.1.age = omega arith in
+          let later = behind (suc found.1.age) r records b (λ age least. found.1.newest age (omega (arith, least))) in
+          inl (
+            found.0,
+            record {
+              age = suc found.1.age;
+              waits = omega (arith, found.1.waits);
+              slot_is = found.1.slot_is ∙ ap (λ (s : ℕ). s % slots) same;
+              inside = found.1.inside;
+              named = found.1.named;
+              newest = λ newer less. later newer (omega (arith, less));
+            },
+            found.2,
+          )
+      | inr older ↦ elim (from_record (stamp % slots) 0 r old b) [
+        | inl here ↦
+            let same : stamp ≡ stamp + 0 = omega arith in
+            let at : 0 + here.0 ≡ here.0 = omega arith in
+            let later = behind 0 r records b older.0 in
+            inl (
+              (stamp % slots, 0 + here.0),
+              record {
+                age = 0;
+                waits = omega arith;
+                slot_is = ap (λ (s : ℕ). s % slots) same;
+                inside = omega (arith, here.1);
+                named = ap (λ (k : ℕ). slice_index r k) at ∙ here.2;
+                newest = λ newer less. later newer (omega (arith, less));
+              },
+              older.1 ∙ here.3,
+            )
+        | inr before ↦ inr (names_none r records b (no_number r b before.0) older.0, older.1 ∙ before.1)
       ]
     ]
-  where
-    later : (age : ℕ) → ((newer : ℕ) → age < newer → newer < length records → ¬ Contains (get_or records newer []) b) → (newer : ℕ)
-        → suc age < newer → newer < length (r ∷ records) → ¬ Contains (get_or (r ∷ records) newer []) b
-    later age newest zero less below = absurd (omega arith)
-    later age newest (suc newer) less below = newest newer (omega arith) (omega arith)
-
-    first : NamesNone records b → (newer : ℕ) → 0 < newer → newer < length (r ∷ records) → ¬ Contains (get_or (r ∷ records) newer []) b
-    first none zero less below = absurd (omega arith)
-    first none (suc newer) less below = none newer (omega arith)
 
 -- the copy is the newest one
 pub newest_is : (slots stamp : ℕ) (records : List (List ℕ)) (b : ℕ) (copy : ℕ × ℕ) → copies_of slots stamp records no_copies b ≡ Some copy
     → IsNewest slots stamp records b copy
-newest_is slots stamp records b copy is =
-    ⊎_elim (λ found. found) (λ older. absurd (cc older.0)) (from_records slots stamp records no_copies b copy is)
-
--- a record that does not name the block leaves its copy
-pub with_copies-other : (slot place : ℕ) (numbers : List ℕ) (old : Copies) (b : ℕ)
-    → ((k : ℕ) → k < length numbers → slice_index numbers k ≢ b) → with_copies slot place numbers old b ≡ old b
-with_copies-other slot place [] old b none = refl
-with_copies-other slot place (n ∷ numbers) old b none =
-    let not : n ≢ b = none 0 (omega arith) in
-    let other : (n == b) ≡ false = grind (arith, nat_tests, not) in
-    with_copies-other slot (place + 1) numbers (with_copy n (slot, place) old) b (λ k below. none (suc k) (omega arith))
-    ∙ ap (λ (t : Bool). if t then Some (slot, place) else old b) other
-
--- a block without a copy is not named by the record put over
-pub none_in_record : (slot place : ℕ) (numbers : List ℕ) (old : Copies) (b : ℕ) → with_copies slot place numbers old b ≡ None
-    → (old b ≡ None) × ((k : ℕ) → k < length numbers → slice_index numbers k ≢ b)
-none_in_record slot place [] old b is = (is, λ k below. absurd (omega arith))
-none_in_record slot place (n ∷ numbers) old b is =
-    let older = none_in_record slot (place + 1) numbers (with_copy n (slot, place) old) b is in
-    elim (cases_eq n b) [
-      | inl here ↦
-          let same : (n == b) ≡ true = grind (arith, nat_tests, here) in
-          let both : Some (slot, place) ≡ None = sym (ap (λ (t : Bool). if t then Some (slot, place) else old b) same) ∙ older.0 in
-          absurd (cc both)
-      | inr not ↦ let other : (n == b) ≡ false = grind (arith, nat_tests, not) in
-          (sym (ap (λ (t : Bool). if t then Some (slot, place) else old b) other) ∙ older.0, both not older.1)
-    ]
-  where
-    both : n ≢ b → ((k : ℕ) → k < length numbers → slice_index numbers k ≢ b) → (k : ℕ) → k < length (n ∷ numbers)
-        → slice_index (n ∷ numbers) k ≢ b
-    both not others zero below is = not is
-    both not others (suc k) below is = others k (omega arith) is
-
-none_in_records : (slots stamp : ℕ) (records : List (List ℕ)) (old : Copies) (b : ℕ) → copies_of slots stamp records old b ≡ None
-    → (old b ≡ None) × NamesNone records b
-none_in_records slots stamp [] old b is = (is, λ age below. absurd (omega arith))
-none_in_records slots stamp (r ∷ records) old b is =
-    let older = none_in_records slots (stamp + 1) records (with_copies (stamp % slots) 0 r old) b is in
-    let first = none_in_record (stamp % slots) 0 r old b older.0 in
-    (first.0, names_none r records b (no_number r b first.1) older.1)
+newest_is slots stamp records b copy is = elim (from_records slots stamp records no_copies b) [
+  | inl found ↦ subst (IsNewest slots stamp records b) (cc (found.2, is)) found.1
+  | inr older ↦ absurd (cc (older.1, is))
+]
 
 -- there is no copy
-pub none_is : (slots stamp : ℕ) (records : List (List ℕ)) (b : ℕ) → copies_of slots stamp records no_copies b ≡ None → NamesNone records b
-none_is slots stamp records b is = (none_in_records slots stamp records no_copies b is).1
+pub none_is : (slots stamp : ℕ) (records : List (List ℕ)) (b : ℕ) → copies_of slots stamp records no_copies b ≡ None
+    → (age : ℕ) → age < length records → ¬ Contains (get_or records age []) b
+none_is slots stamp records b is age = elim (from_records slots stamp records no_copies b) [
+  | inl found ↦ absurd (cc (found.2, is))
+  | inr older ↦ older.0 age (omega arith)
+]

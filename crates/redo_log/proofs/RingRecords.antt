@@ -1,6 +1,10 @@
 -- How the records of a ring come and go.
-use Rattle.std.proofs.Common.{◌≡◌, ◌⊎◌, inl, inr, ℕ, zero, suc, ◌+◌, ◌*◌, ◌<◌, ◌≤◌, List, [], ◌∷◌, ◌++◌, length, drop, refl, sym, ap, arith}
+use Rattle.std.proofs.Common.{◌≡◌, ◌⊎◌, inl, inr, ℕ, zero, suc, ◌+◌, ◌-◌, ◌*◌, ◌%◌, ◌<◌, ◌≤◌, List, [], ◌∷◌, ◌++◌, length}
+use Rattle.std.proofs.Common.{drop, refl, sym, ◌∙◌, ap, arith}
 use Rattle.std.proofs.Common.{length-append, length-drop}
+use Rattle.std.proofs.Math.Nat.{mod-add-mod, add-mod_left, mod-eq_of_lt}
+use Rattle.std.proofs.lemmas.Bool.{cases_lt}
+use Rattle.std.proofs.lemmas.Nat.{mod_below}
 use Rattle.std.specs.Prelude.{All, Option, Some, None, sum_by, slice_index_or}
 use Rattle.std.proofs.lemmas.List.{map-append}
 use Rattle.std.proofs.lemmas.List.Elements.{All-append}
@@ -107,3 +111,21 @@ few_steps shape waiting turned numbers each few =
           few_turns shape.format (length n) (each zero [] (omega arith)).few,
           few_newer shape most (few_turns shape.format) newer (λ j d below. each (suc j) d (omega arith)),
         )
+
+-- how old the record in a slot is
+pub age_is : (slots head age slot : ℕ) → age < slots → slot ≡ (head + age) % slots → (slot + slots - head % slots) % slots ≡ age
+age_is slots head age slot near is =
+    let low : head % slots < slots = mod_below head slots (omega (arith, near)) in
+    let sum : slot ≡ (head % slots + age) % slots = is ∙ sym (mod-add-mod head slots age) in
+    elim (cases_lt (head % slots + age) slots) [
+      | inl less ↦
+          let over : slot + slots - head % slots ≡ slots + age = omega (arith, sum ∙ mod-eq_of_lt less, low) in
+          ap (λ (n : ℕ). n % slots) over ∙ add-mod_left slots age ∙ mod-eq_of_lt near
+      | inr more ↦
+          let rest : head % slots + age - slots < slots = omega (arith, low, near) in
+          let turn : head % slots + age ≡ slots + (head % slots + age - slots) = omega (arith, more) in
+          let here : slot ≡ head % slots + age - slots =
+          sum ∙ ap (λ (n : ℕ). n % slots) turn ∙ add-mod_left slots (head % slots + age - slots) ∙ mod-eq_of_lt rest in
+          let left : slot + slots - head % slots ≡ age = omega (arith, here, more, low) in
+          ap (λ (n : ℕ). n % slots) left ∙ mod-eq_of_lt near
+    ]

@@ -1,4 +1,4 @@
-use Rattle.std.proofs.Common.{◌≡◌, ◌<◌, ◌≤◌, ◌-◌, ℕ, get_or, take, refl, ◌∙◌, ap, subst, arith, rules}
+use Rattle.std.proofs.Common.{◌≡◌, ◌<◌, ◌≤◌, ◌-◌, ℕ, get_or, take, ◌∙◌, ap, subst, arith, rules}
 use Rattle.redo_log.specs.Index.{block_at}
 use Rattle.redo_log.proofs.MergedIndex.{IsLeft, IsMerging, entry_moves, number_enters, left_all, left_less, merging_ends}
 use Rattle.redo_log.proofs.index.merge.Goals.{else-left-gt0-via-then-left-gt0+else-index-left, else-left-gt0-via-else-left-gt0}
@@ -37,8 +37,8 @@ loop-place-preserved c =
     ] in
     number_enters old c.args.slot c.args.numbers.now c.requires.sorted c.requires.numbers.rising l.left c.if-left-gt0-2.left l.place
     (l.place - 1)
-    l.to (l.to - 1) l.index (record { block = block; slot = c.args.slot; place = l.place - 1 }) (omega (arith, c.loop-place-test.true))
-    (omega (arith, c.loop-place-test.true, l.invariant.room)) refl refl refl stays l.invariant
+    l.to (l.to - 1) l.index (omega (arith, c.loop-place-test.true))
+    (omega (arith, c.loop-place-test.true, l.invariant.room)) stays l.invariant
 
 pub returns : goal.returns
 returns c =
