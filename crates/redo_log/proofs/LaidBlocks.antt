@@ -111,30 +111,23 @@ module _ (shape : Shape) (sized : IsSized shape) where
           write.elsewhere (first_home shape + (get_or entries j (0, [])).0) (λ e. omega arith) ∙ homed j (omega arith) inside
     ]
 
-  -- the head goes past a record whose blocks are at home
-  Laid-head : (before image : Image) (bytes : List ℕ) → Holds 1 bytes before image
-      → (head : ℕ) (entries : List Entry) (records : List (List Entry)) (array : Array) → AreHome shape entries (length entries) before
-      → Laid shape head (entries ∷ records) array before → Laid shape (head + 1) records array image
-  Laid-head before image bytes write head entries records array homed laid = record {
-    whole = λ j below.
-        let stamp : head + suc j ≡ head + 1 + j = omega arith in
-        IsWhole-same before image (λ x low high. write.elsewhere x (λ e. omega arith)) (head + 1 + j) (get_or records j [])
-        (subst (λ (s : ℕ). IsWhole shape before s (get_or records j [])) stamp (laid.whole (suc j) (omega arith)));
-    blocks = λ b below.
-        with_records-same records (home_of shape image) (with_blocks entries (home_of shape before)) b
-        (write.elsewhere (first_home shape + b) (λ e. omega (arith, e, sized.behind))
-        ∙ sym (with_blocks-home entries (home_of shape before) b (λ i inside. homed i inside inside)))
-        ∙ laid.blocks b below;
-  }
-
   -- the head goes past the oldest record, whose blocks are at home
   pub Laid-oldest : (before image : Image) (bytes : List ℕ) → Holds 1 bytes before image
       → (head : ℕ) (records : List (List Entry)) (array : Array) → 0 < length records
       → AreHome shape (get_or records 0 []) (length (get_or records 0 [])) before → Laid shape head records array before
       → Laid shape (head + 1) (drop 1 records) array image
   Laid-oldest before image bytes write head [] array some homed laid = absurd (omega arith)
-  Laid-oldest before image bytes write head (r ∷ records) array some homed laid =
-      Laid-head before image bytes write head r records array homed laid
+  Laid-oldest before image bytes write head (r ∷ records) array some homed laid = record {
+    whole = λ j below.
+        let stamp : head + suc j ≡ head + 1 + j = omega arith in
+        IsWhole-same before image (λ x low high. write.elsewhere x (λ e. omega arith)) (head + 1 + j) (get_or records j [])
+        (subst (λ (s : ℕ). IsWhole shape before s (get_or records j [])) stamp (laid.whole (suc j) (omega arith)));
+    blocks = λ b below.
+        with_records-same records (home_of shape image) (with_blocks r (home_of shape before)) b
+        (write.elsewhere (first_home shape + b) (λ e. omega (arith, e, sized.behind))
+        ∙ sym (with_blocks-home r (home_of shape before) b (λ i inside. homed i inside inside)))
+        ∙ laid.blocks b below;
+  }
 
 -- the same content
 pub Laid-stays : (shape : Shape) (before image : Image) → Stays before image → (head : ℕ) (records : List (List Entry)) (array : Array)

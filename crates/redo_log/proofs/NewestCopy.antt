@@ -23,28 +23,15 @@ with_blocks-none : (entries : List Entry) (a : Array) (b : ℕ) → ((i : ℕ) �
     → with_blocks entries a b ≡ a b
 with_blocks-none [] a b none = refl
 with_blocks-none (e ∷ entries) a b none =
-    ap (λ (t : Bool). if t then e.1 else with_blocks entries a b) no
-    ∙ with_blocks-none entries a b (λ i below. none (suc i) (omega arith))
-  where
-    no : (e.0 == b) ≡ false
-    no = let not : e.0 ≢ b = none 0 (omega arith) in grind (arith, nat_tests)
+    grind (arith, nat_tests, none 0 (omega arith), with_blocks-none entries a b (λ i below. none (suc i) (omega arith)))
 
 -- a block that a record names first at this place is the one there
-with_blocks-at : (entries : List Entry) (a : Array) (i : ℕ) → i < length entries
-    → ((j : ℕ) → j < i → (get_or entries j (0, [])).0 ≢ (get_or entries i (0, [])).0)
-    → with_blocks entries a (get_or entries i (0, [])).0 ≡ (get_or entries i (0, [])).1
-with_blocks-at [] a i below first = absurd (omega arith)
-with_blocks-at (e ∷ entries) a zero below first = ap (λ (t : Bool). if t then e.1 else with_blocks entries a e.0) yes
-  where
-    yes : (e.0 == e.0) ≡ true
-    yes = grind (arith, nat_tests)
-with_blocks-at (e ∷ entries) a (suc i) below first =
-    let b = (get_or entries i (0, [])).0 in
-    ap (λ (t : Bool). if t then e.1 else with_blocks entries a b) no
-    ∙ with_blocks-at entries a i (omega arith) (λ j less. first (suc j) (omega arith))
-  where
-    no : (e.0 == (get_or entries i (0, [])).0) ≡ false
-    no = let not : e.0 ≢ (get_or entries i (0, [])).0 = first 0 (omega arith) in grind (arith, nat_tests)
+with_blocks-at : (entries : List Entry) (a : Array) (b i : ℕ) → i < length entries → (get_or entries i (0, [])).0 ≡ b
+    → ((j : ℕ) → j < i → (get_or entries j (0, [])).0 ≢ b) → with_blocks entries a b ≡ (get_or entries i (0, [])).1
+with_blocks-at [] a b i below is first = absurd (omega arith)
+with_blocks-at (e ∷ entries) a b zero below is first = grind (arith, nat_tests, is)
+with_blocks-at (e ∷ entries) a b (suc i) below is first =
+    grind (arith, nat_tests, first 0 (omega arith), with_blocks-at entries a b i (omega arith) is (λ j less. first (suc j) (omega arith)))
 
 -- no record names the block
 abbrev NamesNone : List (List Entry) → ℕ → Type 0
@@ -64,7 +51,7 @@ with_records-at : (records : List (List Entry)) (a : Array) (b age i : ℕ) → 
 with_records-at [] a b age i waits below is first newest = absurd (omega arith)
 with_records-at (r ∷ records) a b zero i waits below is first newest =
     with_records-none records (with_blocks r a) b (λ j inside. newest (suc j) (omega arith) (omega arith))
-    ∙ ap (with_blocks r a) (sym is) ∙ with_blocks-at r a i below (λ j less e. first j less (e ∙ is))
+    ∙ with_blocks-at r a b i below is first
 with_records-at (r ∷ records) a b (suc age) i waits below is first newest =
     with_records-at records (with_blocks r a) b age i (omega arith) below is first
     (λ j later inside. newest (suc j) (omega arith) (omega arith))

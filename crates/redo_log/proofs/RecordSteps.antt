@@ -1,5 +1,5 @@
 -- How many calls and turns a record takes, and how far it is after so many.
-use Rattle.std.proofs.Common.{◌≡◌, ◌⊎◌, inl, inr, ⊎_elim, ℕ, ◌+◌, ◌-◌, ◌<◌, ◌≤◌, refl, arith}
+use Rattle.std.proofs.Common.{◌≡◌, ◌≢◌, ◌⊎◌, inl, inr, ℕ, ◌+◌, ◌-◌, ◌<◌, ◌≤◌, refl, arith}
 use Rattle.std.proofs.lemmas.Bool.{cases_eq, cases_lt}
 use Rattle.journal.specs.declared.log_format.LogFormat.{LogFormat}
 use Rattle.journal.specs.declared.log_format.LogFormat.TheVariants.{One, Two}
@@ -11,118 +11,74 @@ use Rattle.redo_log.specs.Value.{steps_for, most_steps, most_retire_steps}
 use Rattle.redo_log.specs.Stages.{flush_of, written_at, flushed_at}
 use Rattle.redo_log.specs.Calls.{IsFlushDue}
 
-pub flush_some : (early : ℕ) → 0 < early → flush_of early ≡ 1
+-- the early parts have a flush, where there are any
+pub flush_is : (e : ℕ) → ((e ≡ 0) × (flush_of e ≡ 0)) ⊎ ((0 < e) × (flush_of e ≡ 1))
 unfolding flush_of
-flush_some early some = rw (below_is 0 early some) refl
+flush_is e = elim (cases_lt 0 e) [
+  | inl some ↦ inr (some, rw (below_is 0 e some) refl)
+  | inr none ↦ inl (omega (arith, none), rw (above_is 0 e none) refl)
+]
 
-pub flush_none : (early : ℕ) → early ≤ 0 → flush_of early ≡ 0
-unfolding flush_of
-flush_none early none = rw (above_is 0 early none) refl
-
-pub written_soon : (early made : ℕ) → made ≤ early → written_at early made ≡ made
-unfolding written_at
-written_soon early made soon = rw (above_is early made soon) refl
-
-pub written_late : (early made : ℕ) → early < made → written_at early made ≡ made - flush_of early
-unfolding written_at
-written_late early made late = rw (below_is early made late) refl
-
-pub flushed_soon : (early made : ℕ) → made ≤ early → flushed_at early made ≡ 0
-unfolding flushed_at
-flushed_soon early made soon = rw (above_is early made soon) refl
-
-pub flushed_late : (early made : ℕ) → early < made → flushed_at early made ≡ early
-unfolding flushed_at
-flushed_late early made late = rw (below_is early made late) refl
+-- they come first, and then it
+pub written_is : (e made : ℕ) → ((made ≤ e) × (written_at e made ≡ made) × (flushed_at e made ≡ 0))
+    ⊎ ((e < made) × (written_at e made ≡ made - flush_of e) × (flushed_at e made ≡ e))
+unfolding written_at flushed_at
+written_is e made = elim (cases_lt e made) [
+  | inl late ↦ inr (late, rw (below_is e made late) refl, rw (below_is e made late) refl)
+  | inr soon ↦ inl (soon, rw (above_is e made soon) refl, rw (above_is e made soon) refl)
+]
 
 -- the steps are a call for each part, a flush, and one for the early parts where there are any
 pub steps_are : (format : LogFormat) (n : ℕ) → steps_for format n ≡ (layout_of format).parts n + 1 + flush_of ((layout_of format).early n)
-steps_are One n = omega (arith, flush_some (n + 1) (omega arith))
-steps_are Two n = omega (arith, flush_none 0 (omega arith))
+steps_are One n = omega (arith, flush_is (n + 1))
+steps_are Two n = omega (arith, flush_is 0)
 
 module _ (e parts : ℕ) (late : e < parts) where
-  -- no more parts are written than there are
-  pub written_most : (made : ℕ) → made < parts + 1 + flush_of e → written_at e made ≤ parts
-  written_most made below = ⊎_elim
-      (λ (l : e < made). omega (arith, written_late e made l, below))
-      (λ (s : made ≤ e). omega (arith, written_soon e made s, late))
-      (cases_lt e made)
-
   -- once all are written the early ones are flushed
   pub all_flushed : (made : ℕ) → parts ≤ written_at e made → e ≤ flushed_at e made
-  all_flushed made all = ⊎_elim
-      (λ (l : e < made). omega (arith, flushed_late e made l))
-      (λ (s : made ≤ e). absurd (omega (arith, written_soon e made s, late, all)))
-      (cases_lt e made)
+  all_flushed made all = omega (arith, written_is e made, late, all)
 
   -- the last call is the one after the last part
   pub last_call : (made : ℕ) → made < parts + 1 + flush_of e → parts + 1 + flush_of e ≤ made + 1 → parts ≤ written_at e made
-  last_call made below last = ⊎_elim
-      (λ (l : e < made). omega (arith, written_late e made l, below, last))
-      (λ (s : made ≤ e). absurd (omega (arith, last, late)))
-      (cases_lt e made)
+  last_call made below last = omega (arith, written_is e made, flush_is e, late, below, last)
 
   pub not_last : (made : ℕ) → made + 1 < parts + 1 + flush_of e → written_at e made < parts
-  not_last made below = ⊎_elim
-      (λ (l : e < made). omega (arith, written_late e made l, below))
-      (λ (s : made ≤ e). omega (arith, written_soon e made s, late))
-      (cases_lt e made)
+  not_last made below = omega (arith, written_is e made, flush_is e, late, below)
 
   -- once all are written one step is left at most
   pub one_left : (made : ℕ) → parts ≤ written_at e made → parts + 1 + flush_of e - made ≤ 1
-  one_left made all = ⊎_elim
-      (λ (l : e < made). omega (arith, written_late e made l, all))
-      (λ (s : made ≤ e). absurd (omega (arith, written_soon e made s, late, all)))
-      (cases_lt e made)
+  one_left made all = omega (arith, written_is e made, flush_is e, late, all)
 
   -- the early flush
   pub early_written : (made : ℕ) → 0 < e → made ≡ e
       → (written_at e made ≡ e) × (written_at e (made + 1) ≡ e) × (flushed_at e (made + 1) ≡ e)
   early_written made some is = (
-    omega (arith, written_soon e made (omega (arith, is)), is),
-    omega (arith, written_late e (made + 1) (omega (arith, is)), flush_some e some, is),
-    omega (arith, flushed_late e (made + 1) (omega (arith, is))),
+    omega (arith, written_is e made, is),
+    omega (arith, written_is e (made + 1), flush_is e, some, is),
+    omega (arith, written_is e (made + 1), is),
   )
 
   -- a part is written
-  pub part_written : (made : ℕ) → ¬ ((0 < e) × (made ≡ e))
+  pub part_written : (made : ℕ) → (e ≤ 0) ⊎ (made ≢ e)
       → (written_at e (made + 1) ≡ written_at e made + 1) × (flushed_at e (made + 1) ≡ flushed_at e made)
-  part_written made not = elim (cases_lt made e) [
-    | inl soon ↦ (
-      omega (arith, written_soon e made (omega (arith, soon)), written_soon e (made + 1) (omega (arith, soon))),
-      omega (arith, flushed_soon e made (omega (arith, soon)), flushed_soon e (made + 1) (omega (arith, soon))),
-    )
-    | inr past ↦ elim (cases_eq made e) [
-      | inl is ↦
-          let none : e ≤ 0 = ⊎_elim (λ (some : 0 < e). absurd (not (some, is))) (λ (z : e ≤ 0). z) (cases_lt 0 e) in (
-            omega (arith, written_soon e made (omega (arith, is)), written_late e (made + 1) (omega (arith, is)), flush_none e none, is),
-            omega (arith, flushed_soon e made (omega (arith, is)), flushed_late e (made + 1) (omega (arith, is)), none),
-          )
-      | inr apart ↦
-          let l : e < made = omega (arith, past, apart) in (
-            late_more made l (cases_lt 0 e),
-            omega (arith, flushed_late e made l, flushed_late e (made + 1) (omega (arith, l))),
-          )
-    ]
-  ]
-    where
-      late_more : (made : ℕ) → e < made → (0 < e) ⊎ (e ≤ 0) → written_at e (made + 1) ≡ written_at e made + 1
-      late_more made l (inl some) = omega (arith, written_late e made l, written_late e (made + 1) (omega (arith, l)), flush_some e some, l)
-      late_more made l (inr none) = omega (arith, written_late e made l, written_late e (made + 1) (omega (arith, l)), flush_none e none, l)
+  part_written made not = (
+    omega (arith, written_is e made, written_is e (made + 1), flush_is e, not),
+    omega (arith, written_is e made, written_is e (made + 1), not),
+  )
 
 -- nothing is written at first
 pub none_written : (e : ℕ) → (written_at e 0 ≡ 0) × (flushed_at e 0 ≡ 0)
-none_written e = (written_soon e 0 (omega arith), flushed_soon e 0 (omega arith))
+none_written e = (omega (arith, written_is e 0), omega (arith, written_is e 0))
 
 -- a flush is due, or it is not
 pub due_or_not : (L : Layout) (n made : ℕ) → IsFlushDue L n made ⊎ (¬ IsFlushDue L n made)
 due_or_not L n made = elim (cases_lt (written_at (L.early n) made) (L.parts n)) [
   | inr all ↦ inl (inr all)
   | inl some ↦ elim (cases_eq made (L.early n)) [
-    | inr not ↦ inr (λ due. ⊎_elim (λ early. not early.1) (λ all. absurd (omega (arith, some, all))) due)
+    | inr not ↦ inr (λ due. omega (arith, due, some, not))
     | inl is ↦ elim (cases_lt 0 (L.early n)) [
       | inl more ↦ inl (inl (more, is))
-      | inr none ↦ inr (λ due. ⊎_elim (λ early. absurd (omega (arith, none, early.0))) (λ all. absurd (omega (arith, some, all))) due)
+      | inr none ↦ inr (λ due. omega (arith, due, some, none))
     ]
   ]
 ]

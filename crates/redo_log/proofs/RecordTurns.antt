@@ -172,7 +172,8 @@ module _ {log : LogValue} (is : IsLog log) (live : log.dead ≡ false) (some : 0
 
       after : (written_of log.shape view (made_of log + 1) ≡ k + 1)
           × (flushed_of log.shape view (made_of log + 1) ≡ flushed_of log.shape view (made_of log))
-      after = part_written (L.early n) (L.parts n) late (made_of log) (λ early. not (inl early))
+      after = part_written (L.early n) (L.parts n) late (made_of log) (⊎_elim
+          (λ (some : 0 < L.early n). inr (λ is. not (inl (some, is)))) inl (cases_lt 0 (L.early n)))
 
       part_leaves : MayAdd (Write place bytes) old new → view.ours ≡ true → EachCut (MayLeave old.size log view) new
       part_leaves adds ours =

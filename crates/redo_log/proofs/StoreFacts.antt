@@ -1,6 +1,6 @@
 -- What a store on top of a log cites.
 use Rattle.std.proofs.Common.{◌≡◌, ◌≢◌, ◌⊎◌, inl, inr, ⊎_elim, ℕ, ◌+◌, ◌-◌, ◌<◌, ◌≤◌, List, [], ◌∷◌, ◌++◌, length, drop, refl, sym, ◌∙◌}
-use Rattle.std.proofs.Common.{ap, subst, arith, length-append}
+use Rattle.std.proofs.Common.{ap, subst, arith, length-append, length-drop}
 use Rattle.std.specs.Prelude.{Bool, true, false}
 use Rattle.medium.specs.Medium.{State, Image, CutLeaves, IsSound}
 use Rattle.medium.specs.Moments.{EachCut}
@@ -28,6 +28,7 @@ use Rattle.redo_log.proofs.Heads.{head_cut, heads_begun, put_head, put_cut}
 use Rattle.redo_log.proofs.LoggedImage.{Logged-records}
 use Rattle.redo_log.proofs.KeptFirsts.{none_kept, begun_kept}
 use Rattle.redo_log.proofs.StoredLog.{Stores-stays}
+use Rattle.redo_log.proofs.LogRules.{one_stamp}
 use Rattle.redo_log.proofs.HeldLog.{count, going_held, died_held}
 pub use Rattle.redo_log.proofs.HeldLog.{quiet_held}
 pub use Rattle.redo_log.proofs.NewestCopy.{home_is}
@@ -109,12 +110,10 @@ may_leave_ours size log view image found =
     let longer : log.head + length (view.records ++ view.under_way ∷ []) + 1 ≡ log.head + length view.records + 2 =
     omega (arith, length-append view.records (view.under_way ∷ [])) in
     inr (both.0, subst (IsOurs size log.shape image (with_blocks view.under_way view.array)) longer both.2.ours))
-    (λ less. inl (subst (IsOurs size log.shape image view.array) (same_stamp view.records less.0) less.2.ours)) more) found
-  where
-    same_stamp : (records : List (List Entry)) → 0 < length records
-        → log.head + 1 + length (drop 1 records) + 1 ≡ log.head + length records + 1
-    same_stamp [] some = absurd (omega arith)
-    same_stamp (r ∷ records) some = omega arith
+    (λ less.
+    let same : log.head + 1 + length (drop 1 view.records) + 1 ≡ log.head + length view.records + 1 =
+    omega (arith, length-drop 1 view.records, less.0) in
+    inl (subst (IsOurs size log.shape image view.array) same less.2.ours)) more) found
 
 -- a record is begun in a log with room
 pub begun_holds : (log : LogValue) (m : State) (view : View) (numbers bytes : List ℕ) → HoldsView log m view → HasRoom log
@@ -155,8 +154,7 @@ begun_holds log m view numbers bytes holds room batch =
       stores = λ live. record {
         laid = (holds.stores live).laid;
         written = λ left p low small. absurd (omega (arith, low, w));
-        copied =
-            subst (λ (t : ℕ). AreHome log.shape (oldest_of view) t m.content) turned (holds.stores live).copied;
+        copied = λ i low high. (holds.stores live).copied i (omega (arith, low, turned)) high;
       };
       guards = λ live ours. record {
         guards = record {
@@ -164,18 +162,9 @@ begun_holds log m view numbers bytes holds room batch =
               let rests = ((holds.guards live ours).guards.each image cut).rests room.no_steps in
               record {
                 rests = λ none. absurd (some_steps (omega (arith, none)));
-                guarded = λ _. subst
-                    (λ (k : ℕ). Guarded (layout_of log.shape.format)
-                    (image_view log.shape log.head (with_begun (entries_of numbers bytes) view)) k
-                    (flushed_of log.shape (with_begun (entries_of numbers bytes) view) (made_of (begun numbers firsts log))) image)
-                    (sym w)
-                    (subst
-                    (λ (d : ℕ). Guarded (layout_of log.shape.format)
-                    (image_view log.shape log.head (with_begun (entries_of numbers bytes) view)) 0 d image)
-                    (sym f)
-                    (rests_begun (layout_of log.shape.format) (laws_of log.shape.format)
-                    (image_view log.shape log.head (with_begun (entries_of numbers bytes) view)) rests.keeps.super.some_slots few
-                    image (record { keeps = rests.keeps; carries = rests.carries })));
+                guarded = λ _. rw (w, f) (rests_begun (layout_of log.shape.format) (laws_of log.shape.format)
+                    (image_view log.shape log.head (with_begun (entries_of numbers bytes) view))
+                    rests.keeps.super.some_slots few image rests);
               };
           homed = λ is. (holds.guards live ours).guards.homed (needs ∙ is);
         };
@@ -187,10 +176,6 @@ begun_holds log m view numbers bytes holds room batch =
     no_entries : (entries : List Entry) → numbers_of entries ≡ [] → entries ≡ []
     no_entries [] none = refl
     no_entries (e ∷ entries) none = absurd (cc none)
-
-    one_stamp : (numbers : List ℕ) → 1 ≤ length numbers → stamps_of numbers ≡ 1
-    one_stamp [] some = absurd (omega arith)
-    one_stamp (n ∷ numbers) some = refl
 
     some_steps : steps_of log.shape.format numbers ≡ 0 → ⊥
     some_steps none = absurd (omega (arith, none, steps_some log.shape.format (length numbers)))
