@@ -1,9 +1,10 @@
 -- What is true of every log, as a caller sees it, whatever its fields are.
-use Rattle.std.proofs.Common.{◌≡◌, ◌≢◌, ⊎_elim, ℕ, suc, ◌+◌, ◌-◌, ◌*◌, ◌^◌, ◌<◌, ◌≤◌, List, [], ◌∷◌, ◌++◌, length, get_or}
+use Rattle.std.proofs.Common.{◌≡◌, ◌≢◌, inl, inr, ⊎_elim, ℕ, suc, ◌+◌, ◌-◌, ◌*◌, ◌^◌, ◌<◌, ◌≤◌, List, [], ◌∷◌, ◌++◌, length, get_or}
 use Rattle.std.proofs.Common.{drop, refl, sym, ◌∙◌}
-use Rattle.std.proofs.Common.{ap, subst, arith}
+use Rattle.std.proofs.Common.{ap, subst, arith, length-drop}
 use Rattle.std.specs.Prelude.{All, Bool, Option, Some, None, Result, sum_by, slice_index_or}
-use Rattle.std.proofs.lemmas.Bool.{cases_lt}
+use Rattle.std.proofs.Math.Nat.{mul-le-mul_left}
+use Rattle.std.proofs.lemmas.Bool.{cases_eq, cases_lt}
 use Rattle.std.proofs.lemmas.List.{length-map}
 use Rattle.std.proofs.lemmas.List.Sums.{sum_by-cons, sum_by-append}
 use Rattle.arrayvec.specs.ArrayVec.{ArrayVec}
@@ -16,14 +17,15 @@ use Rattle.journal.specs.declared.super_sector.Super.{Super}
 use Rattle.journal.proofs.Formats.{sectors_are}
 use Rattle.redo_log.specs.declared.turn.Turn.{Turn}
 use Rattle.redo_log.specs.declared.log.Log.TheInside.{Inside}
-use Rattle.redo_log.specs.Value.{AllFirsts, LogValue, Ahead, steps_of, retire_steps_of, behind_oldest, of_oldest}
+use Rattle.redo_log.specs.Value.{AllFirsts, LogValue, Ahead, HasRoom, most_retire_steps, steps_of, retire_steps_of}
+use Rattle.redo_log.specs.Value.{behind_oldest, of_oldest}
 use Rattle.redo_log.specs.Stages.{value_at, steps_at, oldest_at, begun_at, AreInside, IsRecord, IsOldest, IsUnderWay, IsRing, IsAheadOf}
 use Rattle.redo_log.specs.Stages.{IsSized}
 use Rattle.redo_log.specs.Shown.{lists_of, ahead_in, kept_in, shown, Invariant}
 use Rattle.redo_log.specs.Calls.{MakesNext}
 use Rattle.redo_log.specs.Turns.{IsNextTurn, StaysInImage}
 use Rattle.redo_log.specs.Held.{made_of, turned_of, stamps_of}
-use Rattle.redo_log.proofs.RingRecords.{front_is, steps_of_one}
+use Rattle.redo_log.proofs.RingRecords.{front_is, steps_of_one, few_steps, inside_fewer}
 
 -- the record under way is durable
 abbrev pub durable_of : LogValue → LogValue
@@ -45,6 +47,7 @@ pub record IsLog (log : LogValue) : Type 0 where
   pub room : 0 < log.steps_left → length log.waiting < log.shape.slots
   pub most_left : log.steps_left ≤ steps_of log.shape.format log.under_way
   pub each : All (AreInside log.shape) log.waiting
+  pub taken : length log.waiting ≤ log.next - log.head
   -- retire steps are owed to the oldest record that waits
   pub alone : length log.waiting ≡ 0 → log.retire_steps_left ≡ behind_oldest log
   pub owed : 0 < length log.waiting → 0 < of_oldest log
@@ -102,6 +105,7 @@ value_is ahead shape head waiting turned kept items writing dead sized least mos
       room = λ some. omega (arith, ring.fits, (under_way.1 some).1);
       most_left = under_way.0;
       each = ring.each;
+      taken = omega arith;
       alone = λ none. omega (arith, at.0 none);
       owed = λ some. omega (arith, at.1 some);
       owed_most = omega (arith, at.2);
@@ -170,6 +174,33 @@ pub oldest_few : (shape : Shape) (waiting : List (List ℕ)) → All (AreInside 
     → length (get_or waiting 0 []) ≤ limit_of shape.format
 oldest_few shape [] each = omega arith
 oldest_few shape (n ∷ newer) each = (each 0 [] (omega arith)).few
+
+-- with one more a log with room owes no more than its slots may need
+pub few_begun : {log : LogValue} → IsLog log → HasRoom log → (numbers : List ℕ) → length numbers ≤ limit_of log.shape.format
+    → log.retire_steps_left + retire_steps_of numbers ≤ most_retire_steps log.shape.format * log.shape.slots
+few_begun {log} is room numbers few = from (limit_of log.shape.format + 2) (omega arith)
+  where
+    none : retire_steps_of log.under_way ≡ 0
+    none = ap (λ (l : List ℕ). retire_steps_of l) room.none_under_way
+
+    from : (most : ℕ) → limit_of log.shape.format + 2 ≤ most → log.retire_steps_left + retire_steps_of numbers ≤ most * log.shape.slots
+    from most enough =
+        let newer = few_steps log.shape most enough (drop 1 log.waiting) (inside_fewer log.shape log.waiting is.each) in
+        let one : most * (length (drop 1 log.waiting) + 1) ≡ most * length (drop 1 log.waiting) + most = omega arith in
+        let all : most * (length log.waiting + 1) ≤ most * log.shape.slots =
+        mul-le-mul_left most (omega (arith, is.taken, room.free)) in
+        let more : most * (length log.waiting + 1) ≡ most * length log.waiting + most = omega arith in
+        let oldest = oldest_few log.shape log.waiting is.each in
+        elim (cases_eq (length log.waiting) 0) [
+          | inl nothing ↦
+              let fewer : most * length (drop 1 log.waiting) ≡ most * 0 =
+              ap (λ (n : ℕ). most * n) (omega (arith, length-drop 1 log.waiting, nothing)) in
+              omega (arith, is.alone nothing, none, newer, fewer, steps_of_one numbers, few, enough, all, more)
+          | inr some ↦
+              let fewer : most * length log.waiting ≡ most * (length (drop 1 log.waiting) + 1) =
+              ap (λ (n : ℕ). most * n) (omega (arith, length-drop 1 log.waiting, some)) in
+              omega (arith, none, newer, one, fewer, oldest, is.owed_most, steps_of_one numbers, few, enough, all, more)
+        ]
 
 -- one record more
 one_more : (waiting : List (List ℕ)) (numbers : List ℕ)

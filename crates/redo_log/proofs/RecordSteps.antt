@@ -83,13 +83,10 @@ due_or_not L n made = elim (cases_lt (written_at (L.early n) made) (L.parts n)) 
   ]
 ]
 
--- the limits of steps and retire steps
+-- the limit of steps
 pub few_steps_for : (format : LogFormat) (n : ℕ) → n ≤ limit_of format → steps_for format n ≤ most_steps format
 few_steps_for One n few = omega (arith, few)
 few_steps_for Two n few = omega (arith, few)
-
-pub few_turns : (format : LogFormat) (n : ℕ) → n ≤ limit_of format → n + 2 ≤ most_retire_steps format
-few_turns format n few = omega (arith, few)
 
 -- a record needs steps
 pub steps_some : (format : LogFormat) (n : ℕ) → 0 < steps_for format n

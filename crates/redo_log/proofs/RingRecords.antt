@@ -13,7 +13,6 @@ use Rattle.arrayvec.specs.ArrayVec.{ArrayVec}
 use Rattle.journal.specs.Places.{Shape, limit_of}
 use Rattle.redo_log.specs.Value.{retire_steps_of, most_retire_steps}
 use Rattle.redo_log.specs.Stages.{oldest_at, AreInside, IsOldest, IsRing}
-use Rattle.redo_log.proofs.RecordSteps.{few_turns}
 use Rattle.redo_log.specs.Shown.{lists_of}
 
 -- the oldest of these records, and the others
@@ -45,20 +44,20 @@ ring_durable shape waiting turned numbers made ring = record {
     one is zero d below = is
     one is (suc k) d below = absurd (omega arith)
 
+pub inside_fewer : (shape : Shape) (records : List (List ℕ)) → All (AreInside shape) records → All (AreInside shape) (drop 1 records)
+inside_fewer shape [] each = each
+inside_fewer shape (n ∷ newer) each = λ j d below. each (suc j) d (omega arith)
+
 -- the oldest record is retired
 pub ring_retired : (shape : Shape) (waiting : List (List ℕ)) (turned : ℕ) (under_way : List ℕ) (made : Option ℕ)
     → IsRing shape waiting turned under_way made → IsRing shape (drop 1 waiting) 0 under_way made
 ring_retired shape waiting turned under_way made ring = record {
-  each = fewer waiting ring.each;
+  each = inside_fewer shape waiting ring.each;
   fits = omega (arith, ring.fits, length-drop 1 waiting);
   oldest = next (drop 1 waiting);
   record_under_way = ring.record_under_way;
 }
   where
-    fewer : (records : List (List ℕ)) → All (AreInside shape) records → All (AreInside shape) (drop 1 records)
-    fewer [] each = each
-    fewer (n ∷ newer) each = λ j d below. each (suc j) d (omega arith)
-
     next : (records : List (List ℕ)) → IsOldest records 0
     next [] = refl
     next (n ∷ newer) = omega arith
@@ -69,48 +68,14 @@ pub steps_of_one : (numbers : List ℕ)
 steps_of_one [] = inl (refl, refl)
 steps_of_one (n ∷ numbers) = inr refl
 
-few_newer : (shape : Shape) (most : ℕ) → ((n : ℕ) → n ≤ limit_of shape.format → n + 2 ≤ most)
-    → (newer : List (List ℕ)) → All (AreInside shape) newer → sum_by retire_steps_of newer ≤ most * length newer
-few_newer shape most few [] each = omega arith
-few_newer shape most few (n ∷ newer) each =
-    let rest = few_newer shape most few newer (λ j d below. each (suc j) d (omega arith)) in
-    let first = each zero [] (omega arith) in
-    let all : sum_by retire_steps_of (n ∷ newer)
-    ≡ retire_steps_of n + sum_by retire_steps_of newer =
-    sum_by-cons retire_steps_of n newer in
+-- how many some records need at most
+pub few_steps : (shape : Shape) (most : ℕ) → limit_of shape.format + 2 ≤ most → (records : List (List ℕ)) → All (AreInside shape) records
+    → sum_by retire_steps_of records ≤ most * length records
+few_steps shape most few [] each = omega arith
+few_steps shape most few (n ∷ newer) each =
+    let rest = few_steps shape most few newer (λ j d below. each (suc j) d (omega arith)) in
     let one : most * (length newer + 1) ≡ most * length newer + most = omega arith in
-    omega (arith, all, rest, steps_of_one n, first.some, few (length n) first.few, one)
-
--- how many retire steps a log needs at most
-pub few_steps : (shape : Shape) (waiting : List (List ℕ)) (turned : ℕ) (numbers : List ℕ) → All (AreInside shape) waiting
-    → length numbers ≤ limit_of shape.format
-    → oldest_at waiting turned
-    + (sum_by retire_steps_of (drop 1 waiting) + retire_steps_of numbers)
-    ≤ most_retire_steps shape.format * (length waiting + 1)
-few_steps shape waiting turned numbers each few =
-    let one : most * (length waiting + 1) ≡ most * length waiting + most = omega arith in
-    omega (arith, oldest_few waiting each, one_few numbers few, one)
-  where
-    most : ℕ
-    most = most_retire_steps shape.format
-
-    one_few : (numbers : List ℕ) → length numbers ≤ limit_of shape.format → retire_steps_of numbers ≤ most
-    one_few [] few = omega arith
-    one_few (n ∷ numbers) few = few_turns shape.format (length (n ∷ numbers)) few
-
-    oldest_few : (waiting : List (List ℕ)) → All (AreInside shape) waiting
-        → oldest_at waiting turned + sum_by retire_steps_of (drop 1 waiting) ≤ most * length waiting
-    oldest_few [] each = omega arith
-    oldest_few (n ∷ newer) each =
-        let rest : sum_by retire_steps_of (drop 1 (n ∷ newer)) ≡ sum_by retire_steps_of newer = refl in
-        let more : most * (length newer + 1) ≡ most * length newer + most = omega arith in
-        omega (
-          arith,
-          rest,
-          more,
-          few_turns shape.format (length n) (each zero [] (omega arith)).few,
-          few_newer shape most (few_turns shape.format) newer (λ j d below. each (suc j) d (omega arith)),
-        )
+    omega (arith, sum_by-cons retire_steps_of n newer, rest, steps_of_one n, (each zero [] (omega arith)).few, few, one)
 
 -- how old the record in a slot is
 pub age_is : (slots head age slot : ℕ) → age < slots → slot ≡ (head + age) % slots → (slot + slots - head % slots) % slots ≡ age
