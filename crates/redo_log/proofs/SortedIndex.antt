@@ -88,65 +88,51 @@ sorted_cons c index above sorted (suc i) (suc j) less below = sorted i j (omega 
 pub look_above : (index : List Copied) (block : ℕ) → IsAbove (block + 1) index → look index block ≡ None
 look_above index block above = look-absent index block (λ j less same. omega (arith, above j less))
 
-decided : (t : Bool) → (t ≡ true) ⊎ (t ≡ false)
-decided true = inl refl
-decided false = inr refl
-
 module _ (slot : ℕ) where
   -- the entry stands in another slot
   abbrev pub is_outside : Copied → Bool
   is_outside c = if c.slot == slot then false else true
 
-  filter_yes : (c : Copied) (index : List Copied) → is_outside c ≡ true → filter is_outside (c ∷ index) ≡ c ∷ filter is_outside index
-  filter_yes c index stays = ap (λ (t : Bool). if t then c ∷ filter is_outside index else filter is_outside index) stays
-
-  filter_no : (c : Copied) (index : List Copied) → is_outside c ≡ false → filter is_outside (c ∷ index) ≡ filter is_outside index
-  filter_no c index goes = ap (λ (t : Bool). if t then c ∷ filter is_outside index else filter is_outside index) goes
+  -- it stays, or it goes
+  filtered : (P : List Copied → Type 0) (c : Copied) (index : List Copied) → (c.slot ≢ slot → P (c ∷ filter is_outside index))
+      → (c.slot ≡ slot → P (filter is_outside index)) → P (filter is_outside (c ∷ index))
+  filtered P c index stays goes =
+      let Q : Bool → Type 0 = λ t. P (if t then c ∷ filter is_outside index else filter is_outside index) in
+      elim (cases_eq c.slot slot) [
+        | inl here ↦ let no : false ≡ is_outside c = grind (arith, nat_tests, here) in subst Q no (goes here)
+        | inr there ↦ let yes : true ≡ is_outside c = grind (arith, nat_tests, there) in subst Q yes (stays there)
+      ]
 
   above_filter : (least : ℕ) (index : List Copied) → IsAbove least index → IsAbove least (filter is_outside index)
   above_filter least [] above = above
   above_filter least (c ∷ index) above =
       let rest = above_filter least index (λ i below. above (suc i) (omega arith)) in
-      elim (decided (is_outside c)) [
-        | inl stays ↦
-            subst (IsAbove least) (sym (filter_yes c index stays))
-            (above_cons least c (filter is_outside index) (above zero (omega arith)) rest)
-        | inr goes ↦ subst (IsAbove least) (sym (filter_no c index goes)) rest
-      ]
+      filtered (IsAbove least) c index (λ there. above_cons least c (filter is_outside index)
+      (above zero (omega arith)) rest) (λ here. rest)
 
   -- what is left is sorted
   pub sorted_filter : (index : List Copied) → IsSorted index → IsSorted (filter is_outside index)
   sorted_filter [] sorted = sorted
   sorted_filter (c ∷ index) sorted =
       let rest = sorted_filter index (sorted_tail c index sorted) in
-      elim (decided (is_outside c)) [
-        | inl stays ↦
-            subst IsSorted (sym (filter_yes c index stays))
-            (sorted_cons c (filter is_outside index) (above_filter (c.block + 1) index (above_tail c index sorted)) rest)
-        | inr goes ↦ subst IsSorted (sym (filter_no c index goes)) rest
-      ]
+      let above = above_filter (c.block + 1) index (above_tail c index sorted) in
+      filtered (λ l. IsSorted l) c index (λ there. sorted_cons c (filter is_outside index) above rest) (λ here. rest)
 
   -- and has the copies outside the slot
   pub look_filter : (index : List Copied) → IsSorted index → (b : ℕ) → look (filter is_outside index) b ≡ outside slot (look index b)
   look_filter [] sorted b = refl
   look_filter (c ∷ index) sorted b =
-      let rest : look (filter is_outside index) b ≡ outside slot (look index b) = look_filter index (sorted_tail c index sorted) b in
-      let gone : c.block ≡ b → look (filter is_outside index) b ≡ None = λ same. look_above (filter is_outside index) b
-      (above_filter (b + 1) index (subst (λ (n : ℕ). IsAbove (n + 1) index) same (above_tail c index sorted))) in
-      elim (cases_eq c.slot slot) [
-        | inl here ↦
-            let goes : is_outside c ≡ false = grind (arith, nat_tests, here) in
-            ap (λ (l : List Copied). look l b) (filter_no c index goes) ∙ dropped here rest gone (cases_eq c.block b)
-        | inr there ↦
-            let stays : is_outside c ≡ true = grind (arith, nat_tests, there) in
-            ap (λ (l : List Copied). look l b) (filter_yes c index stays) ∙ kept there rest (cases_eq c.block b)
-      ]
+      let rest = look_filter index (sorted_tail c index sorted) b in
+      filtered (λ l. look l b ≡ outside slot (look (c ∷ index) b)) c index
+      (λ there. kept there rest (cases_eq c.block b)) (λ here. dropped here rest (cases_eq c.block b))
     where
-      dropped : c.slot ≡ slot → look (filter is_outside index) b ≡ outside slot (look index b)
-          → (c.block ≡ b → look (filter is_outside index) b ≡ None) → (c.block ≡ b) ⊎ (c.block ≢ b)
+      dropped : c.slot ≡ slot → look (filter is_outside index) b ≡ outside slot (look index b) → (c.block ≡ b) ⊎ (c.block ≢ b)
           → look (filter is_outside index) b ≡ outside slot (look (c ∷ index) b)
-      dropped here rest gone (inl same) = gone same ∙ grind (arith, nat_tests, same, here)
-      dropped here rest gone (inr not) = rest ∙ grind (arith, nat_tests, not)
+      dropped here rest (inl same) =
+          look_above (filter is_outside index) b
+          (above_filter (b + 1) index (subst (λ (n : ℕ). IsAbove (n + 1) index) same (above_tail c index sorted)))
+          ∙ grind (arith, nat_tests, same, here)
+      dropped here rest (inr not) = rest ∙ grind (arith, nat_tests, not)
 
       kept : c.slot ≢ slot → look (filter is_outside index) b ≡ outside slot (look index b) → (c.block ≡ b) ⊎ (c.block ≢ b)
           → look (c ∷ filter is_outside index) b ≡ outside slot (look (c ∷ index) b)

@@ -11,10 +11,10 @@ returns-clause-writes g c =
     let new = g.M.Medium.state c.write.new.self in
     record {
       done = search rules;
-      adds = quiet_write c.args.to (begun_with c.args.first.now (old.content c.args.from)) c.put_first.new.sector old mid new
-          (g.met.M.Medium.sound c.args.m.now)
-          (c.put_first.ensures ∙ ap (λ (l : List ℕ). begun_with c.args.first.now l) c.in_ok-read.ensures.ok) c.read.ensures.passes
-          c.read.ensures.sets c.write.ensures.passes c.write.ensures.sets;
+      adds = quiet_write c.args.to (begun_with c.args.first.now (old.content c.args.from)) old (g.met.M.Medium.sound c.args.m.now) mid new
+          c.read.ensures.passes c.write.ensures.passes c.put_first.new.sector
+          (c.put_first.ensures ∙ ap (λ (l : List ℕ). begun_with c.args.first.now l) c.in_ok-read.ensures.ok)
+          c.read.ensures.sets c.write.ensures.sets;
       spares = search rules;
     }
 

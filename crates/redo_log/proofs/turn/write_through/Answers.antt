@@ -9,8 +9,8 @@ returns-clause-writes g c =
     let new = g.M.Medium.state c.flush.new.self in
     record {
       done = search rules;
-      adds = write_quiet c.args.place c.args.sector.now old mid new (g.met.M.Medium.sound c.args.m.now) c.write.ensures.passes
-          c.write.ensures.sets c.flush.ensures.passes c.flush.ensures.sets;
+      adds = write_quiet c.args.place c.args.sector.now old (g.met.M.Medium.sound c.args.m.now) mid new c.write.ensures.passes
+          c.flush.ensures.passes c.write.ensures.sets c.flush.ensures.sets;
       spares = search rules;
     }
 

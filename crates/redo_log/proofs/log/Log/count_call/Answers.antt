@@ -10,7 +10,7 @@ use Rattle.redo_log.specs.Index.{look, with_copies, IsIndex}
 use Rattle.redo_log.proofs.CoveredRecord.{ahead_durable}
 use Rattle.redo_log.proofs.RingRecords.{lists_more, ring_durable}
 use Rattle.redo_log.proofs.IndexRoom.{record_room, index_more}
-use Rattle.redo_log.proofs.LogRules.{many_lists}
+use Rattle.redo_log.proofs.LogRules.{many_lists, log_is}
 use Rattle.redo_log.proofs.log.Log.count_call.Goals as goal
 
 -- the durable records after the last step
@@ -66,25 +66,19 @@ invariant_of-self-2 c =
           c.self.invariant.ahead_is);
     }
 
--- the block numbers of the record under way
-numbers_inside : (shape : Shape) (waiting : List (List ℕ)) (turned : ℕ) (under_way numbers : List ℕ) (made : Option ℕ) (m : ℕ)
-    → IsRing shape waiting turned under_way made → made ≡ Some m → numbers ≡ under_way → AreInside shape numbers
-numbers_inside shape waiting turned under_way numbers made m ring is same =
-    subst (AreInside shape) (sym same) ((subst (λ (o : Option ℕ). IsUnderWay shape under_way o) is ring.record_under_way).0)
-
 pub enter_record-requires-clause-numbers : goal.enter_record-requires-clause-numbers
 enter_record-requires-clause-numbers c =
-    let i = c.self.inside in
-    let inside = numbers_inside (shape_of i.sizes) (lists_of i.waiting.items) i.turned i.under_way.items c.args.numbers.now i.made
-    c.in-Some.made c.self.invariant.ring c.in-Some.is (c.requires.1 ∙ ap (λ (v : LogValue). v.under_way) (sym c.self.view_is)) in
+    let numbers = ((log_is c.self.inside c.self.view_is c.self.invariant).record_is c.requires.0).numbers_are in
+    let inside : AreInside c.args.self.now.shape c.args.numbers.now = rw c.requires.1 numbers in
     record { few = search rules; rising = inside.rising; below = search rules }
 
 pub enter_record-requires-clause-fits : goal.enter_record-requires-clause-fits
 enter_record-requires-clause-fits c =
     let i = c.self.inside in
-    let inside = numbers_inside (shape_of i.sizes) (lists_of i.waiting.items) i.turned i.under_way.items c.args.numbers.now i.made
-    c.in-Some.made c.self.invariant.ring c.in-Some.is (c.requires.1 ∙ ap (λ (v : LogValue). v.under_way) (sym c.self.view_is)) in
+    let is = log_is i c.self.view_is c.self.invariant in
+    let few = (is.record_is c.requires.0).numbers_are.few in
+    let limit = ap (λ (v : LogValue). limit_of v.shape.format) c.self.view_is in
     let one : begun_at i.made ≡ 1 = ap (λ (w : Option ℕ). begun_at w) c.in-Some.is in
     record_room i.sizes.slots i.head (limit_of i.sizes.format) (lists_of i.waiting.items) i.index.items c.self.invariant.index_is
     (omega (arith, c.self.invariant.ring.fits, one)) (λ age below. (c.self.invariant.ring.each age [] below).few) (vec_capacity i.index)
-    (length c.args.numbers.now) inside.few c.self.invariant.index_room
+    (length c.args.numbers.now) (omega (arith, few, limit, ap (λ (l : List ℕ). length l) c.requires.1)) c.self.invariant.index_room

@@ -31,7 +31,7 @@ returns g c =
     let stamp : h.stamp ≡ log.head + 1 = c.new.ensures ∙ ap (λ (v : LogValue). v.head + 1) c.self.view_is in
     let passes = c.write.ensures.passes in
     let adds = subst (λ (b : List ℕ). WritesOnly 1 b old new) c.encode.ensures.spelled
-    (one_write 1 c.encode.result old new sound passes c.write.ensures.sets) in
+    (one_write 1 c.encode.result old sound new passes c.write.ensures.sets) in
     let cuts = λ (view : View) (holds : HoldsView log old view). head_leaves is live owed sound holds one h stamp new adds in
     record {
       passes = grind (arith, common_steps);
