@@ -16,8 +16,6 @@ module _ (L : Layout) (laws : Laws L) (shape : Shape) (image : Image) where
   last_carries : (stamp : ℕ) (es : List Entry) → IsWholeIn L shape image stamp es
       → L.carries (L.slot_sectors - 1) stamp (image (slot_at L shape stamp + (L.slot_sectors - 1)))
   last_carries stamp es w =
-      let n : ℕ = length es in
-      let p : ℕ = L.parts (length es) - 1 in
       let some = laws.some_parts (length es) in
       let inside : L.parts (length es) - 1 < L.parts (length es) = omega (arith, some) in
       let late = laws.last_is_late (length es) in

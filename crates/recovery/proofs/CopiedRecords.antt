@@ -1,9 +1,9 @@
 -- What a cut leaves while records are copied home, and what home then holds.
-use Rattle.std.proofs.Common.{◌≡◌, inl, inr, ⊎_elim, ℕ, zero, suc, ◌+◌, ◌*◌, ◌<◌, ◌≤◌, List, [], ◌∷◌, ◌++◌, length, take, get_or, refl, sym}
+use Rattle.std.proofs.Common.{◌≡◌, inl, inr, ⊎_elim, ℕ, ◌+◌, ◌*◌, ◌<◌, ◌≤◌, List, [], ◌∷◌, ◌++◌, length, take, get_or, refl, sym}
 use Rattle.std.proofs.Common.{◌∙◌, ap, subst, arith, Result}
 use Rattle.std.proofs.Math.ListN.{get_or-map}
 use Rattle.std.proofs.lemmas.Bool.{cases_eq}
-use Rattle.std.proofs.lemmas.List.{length-map}
+use Rattle.std.proofs.lemmas.List.{length-map, take_more}
 use Rattle.medium.specs.Medium.{State, Image, Sets, CutLeaves, Within, Gains, Passes, IsSound}
 use Rattle.medium.specs.Moments.{StaysWithin, IsQuiet}
 use Rattle.medium.specs.declared.fault.MediumFault.{MediumFault}
@@ -11,13 +11,12 @@ use Rattle.medium.proofs.Moments.{started_within, goes_on_within, joined_same, w
 use Rattle.medium.proofs.Moments.{updated_elsewhere}
 use Rattle.journal.specs.declared.log_format.LogFormat.{LogFormat}
 use Rattle.journal.specs.Places.{Shape, first_home, sectors_of, IsFirstHome}
-use Rattle.journal.specs.Record.{Entry, numbers_of, block_of, with_blocks, with_records, home_of, Agree}
-use Rattle.journal.specs.Layout.{slot_at}
+use Rattle.journal.specs.Record.{Entry, numbers_of, block_of, with_blocks, with_records, home_of}
 use Rattle.journal.specs.Formats.{layout_of, IsWhole}
 use Rattle.journal.proofs.Formats.{laws_of, sectors_are}
 use Rattle.journal.proofs.Overlay.{with_blocks-copied, with_blocks-same, with_records-append}
 use Rattle.journal.proofs.Wholeness.{IsWhole-one, IsWhole-same, slot_inside}
-use Rattle.recovery.specs.Copies.{freed_at, calls_of, copy_calls, IsHomeOf, IsHomeInRecord, IsHomeInRecords}
+use Rattle.recovery.specs.Copies.{freed_at, calls_of, copy_calls, IsHomeOf, IsHomeInRecord, IsHomeInRecords, IsCopied, AreCopied}
 
 -- before the first call
 pub none_copied : (places : ℕ → Type 0) (m : State) → IsSound m → StaysWithin (freed_at places m.may_leave) m m
@@ -42,18 +41,17 @@ sector_copied place bytes old mid new {first} {second} {one} {two} sound read wi
     bound : Sets
     bound = freed_at (λ x. x ≡ place) old.may_leave
 
+-- an image that a cut may leave has in one sector what a cut may leave there
+pub one_changed : (m : State) (s : ℕ) (c : List ℕ) → IsSound m → m.may_leave s c → CutLeaves m.may_leave (updated m.content s c)
+one_changed m s c sound left t = elim (cases_eq t s) [
+  | inl is ↦ rw (updated_here m.content s c t is, is) left
+  | inr not ↦ rw (updated_elsewhere m.content s c t not) (sound.holds_content t)
+]
+
 -- a bound on the images is one on the sets
 pub sets_within : (bound : Sets) (old new : State) → IsSound new → StaysWithin bound old new → Within new.may_leave bound
-sets_within bound old new sound within s c left =
-    subst (bound s) (updated_here new.content s c s refl) (at_exit (CutLeaves bound) old new sound within (updated new.content s c) cut s)
-  where
-    cut : CutLeaves new.may_leave (updated new.content s c)
-    cut t = elim (cases_eq t s) [
-      | inl is ↦
-          let P : ℕ → Type 0 = λ u. new.may_leave u c in
-          subst (new.may_leave t) (sym (updated_here new.content s c t is)) (subst P (sym is) left)
-      | inr not ↦ subst (new.may_leave t) (sym (updated_elsewhere new.content s c t not)) (sound.holds_content t)
-    ]
+sets_within bound old new sound within s c left = subst (bound s) (updated_here new.content s c s refl)
+    (at_exit (CutLeaves bound) old new sound within (updated new.content s c) (one_changed new s c sound left) s)
 
 -- copies, and then others
 pub copies_joined : (some more all : ℕ → Type 0) (old mid new : State) → IsSound mid → ((x : ℕ) → some x → all x)
@@ -105,26 +103,14 @@ pub log_ends : (shape : Shape) → IsFirstHome shape.format shape.slots shape.ho
     → 2 + (layout_of shape.format).slot_sectors * shape.slots ≤ first_home shape
 log_ends shape home = let same = ap (λ (n : ℕ). n * shape.slots) (sectors_are shape.format) in omega (arith, same, home.0)
 
--- so does each slot of it
-pub in_slot : (shape : Shape) (stamp x : ℕ) → 1 ≤ shape.slots → IsFirstHome shape.format shape.slots shape.home
-    → x < slot_at (layout_of shape.format) shape stamp + (layout_of shape.format).slot_sectors → x < first_home shape
-in_slot shape stamp x some home below =
-    omega (arith, slot_inside (layout_of shape.format) (laws_of shape.format) shape stamp some, log_ends shape home)
-
--- a slot is the same in images with the same log
-pub slot_same : (shape : Shape) (p q : Image) (stamp : ℕ) → 1 ≤ shape.slots → IsFirstHome shape.format shape.slots shape.home
-    → ((x : ℕ) → x < first_home shape → p x ≡ q x)
-    → Agree (slot_at (layout_of shape.format) shape stamp)
-    (slot_at (layout_of shape.format) shape stamp + (layout_of shape.format).slot_sectors) p q
-slot_same shape p q stamp some home log x low high = log x (in_slot shape stamp x some home high)
-
--- so is the record in it
+-- a record is the same in images with the same log
 pub whole_same : (shape : Shape) (before image : Image) (stamp : ℕ) (entries : List Entry) → 1 ≤ shape.slots
     → IsFirstHome shape.format shape.slots shape.home → ((y : ℕ) → y < first_home shape → image y ≡ before y)
     → IsWhole shape before stamp entries → IsWhole shape image stamp entries
 whole_same shape before image stamp entries some home log w =
+    let inside = slot_inside (layout_of shape.format) (laws_of shape.format) shape stamp some in
     IsWhole-same (layout_of shape.format) (laws_of shape.format) shape before image stamp entries
-    (slot_same shape image before stamp some home log) w
+    (λ x low high. log x (omega (arith, high, inside, log_ends shape home))) w
 
 -- home is behind the log
 pub not_in_log : (shape : Shape) (image : Image) (head count x : ℕ) → x < first_home shape → ¬ IsHomeInRecords shape image head count x
@@ -144,32 +130,20 @@ pub home_same : (shape : Shape) (before image : Image) (stamp x : ℕ) → 1 ≤
 home_same shape before image stamp x some first log home =
     (home.0, whole_same shape before image stamp home.0 some first log home.1, home.2)
 
-take_suc : (j : ℕ) (records : List (List Entry)) → j < length records → take (suc j) records ≡ take j records ++ get_or records j [] ∷ []
-take_suc j [] below = absurd (omega arith)
-take_suc zero (r ∷ records) below = refl
-take_suc (suc j) (r ∷ records) below = ap (λ (l : List (List Entry)). r ∷ l) (take_suc j records (omega arith))
-
-take_more : (j : ℕ) (records : List (List Entry)) → j < length records → take (j + 1) records ≡ take j records ++ get_or records j [] ∷ []
-take_more j records below = let e : j + 1 ≡ suc j = omega arith in ap (λ (k : ℕ). take k records) e ∙ take_suc j records below
-
--- one more record laid over home
-pub one_more_home : (shape : Shape) (old mid new : Image) (records : List (List Entry)) (j : ℕ) → j < length records
-    → ((b : ℕ) → mid (first_home shape + b) ≡ with_records (take j records) (home_of shape old) b)
-    → ((b : ℕ) → new (first_home shape + b) ≡ with_blocks (get_or records j []) (home_of shape mid) b)
-    → (b : ℕ) → new (first_home shape + b) ≡ with_records (take (j + 1) records) (home_of shape old) b
-one_more_home shape old mid new records j below before now b =
-    now b ∙ with_blocks-same (get_or records j []) (home_of shape mid) (with_records (take j records) (home_of shape old)) b (before b)
-    ∙ sym (with_records-append (take j records) (get_or records j []) (home_of shape old) b)
-    ∙ ap (λ (l : List (List Entry)). with_records l (home_of shape old) b) (sym (take_more j records below))
-
 copy_calls-append : (format : LogFormat) (records : List (List Entry)) (entries : List Entry)
     → copy_calls format (records ++ entries ∷ []) ≡ copy_calls format records + calls_of format (length entries)
 copy_calls-append format [] entries = omega arith
 copy_calls-append format (r ∷ records) entries = let more = copy_calls-append format records entries in omega (arith, more)
 
 -- one more record copied
-pub copy_calls-more : (format : LogFormat) (j : ℕ) (records : List (List Entry)) → j < length records
-    → copy_calls format (take (j + 1) records) ≡ copy_calls format (take j records) + calls_of format (length (get_or records j []))
-copy_calls-more format j records below =
-    ap (λ (l : List (List Entry)). copy_calls format l) (take_more j records below)
-    ∙ copy_calls-append format (take j records) (get_or records j [])
+pub one_more_copied : (shape : Shape) (old mid new : State) (stamp : ℕ) (records : List (List Entry)) (j : ℕ) → j < length records
+    → IsWhole shape mid.content stamp (get_or records j [])
+    → ((x : ℕ) → ¬ IsHomeInRecord shape mid.content stamp x → new.content x ≡ mid.content x) → AreCopied shape (take j records) old mid
+    → IsCopied shape (get_or records j []) mid new → AreCopied shape (take (j + 1) records) old new
+one_more_copied shape old mid new stamp records j below whole elsewhere before now = rw (take_more records j [] below) (record {
+  home = λ b. record_home shape mid.content new.content stamp (get_or records j []) whole now.home elsewhere b
+      ∙ with_blocks-same (get_or records j []) (home_of shape mid.content) (with_records (take j records) (home_of shape old.content)) b
+      (before.home b)
+      ∙ sym (with_records-append (take j records) (get_or records j []) (home_of shape old.content) b);
+  exact = omega (arith, before.exact, now.exact, copy_calls-append shape.format (take j records) (get_or records j []));
+})

@@ -61,55 +61,27 @@ counts_stand old answer has head are =
 -- a refused look is a refused survey
 pub look_refusal : (least : ℕ) (old new : State) (fault : StartFault) → IsLookCause old new fault → IsQuiet old new
     → IsRefusalBy least IsQuiet old new fault
-look_refusal least old new NoMemory h quiet = h
-look_refusal least old new Read h quiet = h
-look_refusal least old new Write h quiet = h
-look_refusal least old new Flush h quiet = h
 look_refusal least old new BadSuper h quiet = (h, quiet)
 look_refusal least old new BadVersion h quiet = (h, quiet)
 look_refusal least old new BadSize h quiet = (h, quiet)
 look_refusal least old new BadHead h quiet = (h, quiet)
 look_refusal least old new StampsUsedUp h quiet = absurd h
 look_refusal least old new LogTooSmall h quiet = absurd h
+look_refusal least old new fault h quiet = h
 
 -- contents that stand for something have none of the faults
-look_served : (old new : State) (fault : StartFault) → IsLookCause old new fault → Stands old.size old.content → IsDeviceFault fault
-look_served old new NoMemory h s = absurd h
-look_served old new Read h s = (medium.Read, refl)
-look_served old new Write h s = (medium.Write, refl)
-look_served old new Flush h s = (medium.Flush, refl)
-look_served old new BadSuper h s = absurd (HasFault-stands old.size old.content image.BadSuper h s)
-look_served old new BadVersion h s = absurd (HasFault-stands old.size old.content image.BadVersion h s)
-look_served old new BadSize h s = absurd (HasFault-stands old.size old.content image.BadSize h s)
-look_served old new BadHead h s = absurd (HasFault-stands old.size old.content image.BadHead h s)
-look_served old new StampsUsedUp h s = absurd h
-look_served old new LogTooSmall h s = absurd h
-
 pub refused_look : (old new : State) (fault : StartFault) → IsLookCause old new fault → IsLookRefusal old new fault
-refused_look old new fault h = record { cause = h; served = look_served old new fault h }
-
--- a call that the medium refused after reads
-module _ (old mid new : State) (quiet : IsQuiet old mid) where
-  later : (kind : MediumFault) → IsRefusedCall mid new kind → IsRefusedCall old new kind
-  later kind h = let stays = quiet.refused_stay kind in record {
-    grew = omega (arith, quiet.failures_stay, h.grew);
-    kind_grew = omega (arith, stays, h.kind_grew);
-  }
-
-  call_refused : (kind : MediumFault) → IsRefusedCall mid new kind → IsLookCause old new (start_fault_of kind)
-  call_refused medium.Read h = later medium.Read h
-  call_refused medium.Write h = later medium.Write h
-  call_refused medium.Flush h = later medium.Flush h
-
-  pub look_refused : (kind : MediumFault) → IsRefusedCall mid new kind → IsLookRefusal old new (start_fault_of kind)
-  look_refused kind h = refused_look old new (start_fault_of kind) (call_refused kind h)
-
--- what was counted after reads was there before
-pub counts_before : (shape : Shape) (old mid : State) (head : ℕ) (counts : List ℕ) → IsQuiet old mid
-    → AreCounts shape mid.content head counts → AreCounts shape old.content head counts
-counts_before shape old mid head counts quiet are =
-    let path : mid.content ≡ old.content = λ i s. quiet.content_stays s i in
-    subst (λ (i : Image). AreCounts shape i head counts) path are
+refused_look old new fault h = record { cause = h; served = served fault h }
+  where
+    served : (fault : StartFault) → IsLookCause old new fault → Stands old.size old.content → IsDeviceFault fault
+    served Read h s = (medium.Read, refl)
+    served Write h s = (medium.Write, refl)
+    served Flush h s = (medium.Flush, refl)
+    served BadSuper h s = absurd (HasFault-stands old.size old.content image.BadSuper h s)
+    served BadVersion h s = absurd (HasFault-stands old.size old.content image.BadVersion h s)
+    served BadSize h s = absurd (HasFault-stands old.size old.content image.BadSize h s)
+    served BadHead h s = absurd (HasFault-stands old.size old.content image.BadHead h s)
+    served fault h s = absurd h
 
 -- the record of a stamp has so many blocks
 abbrev pub HasCount : Shape → Image → ℕ → ℕ → Type 0
@@ -133,12 +105,6 @@ pub one_counted : (shape : Shape) (image : Image) (head j count : ℕ) (before a
     → after ≡ before ++ count ∷ [] → ((k : ℕ) → k < j → HasCount shape image (head + k) (slice_index before k))
     → HasCount shape image (head + j) count → (k : ℕ) → k < j + 1 → HasCount shape image (head + k) (slice_index after k)
 one_counted shape image head j count before after long is each here k below = elim (cases_lt k j) [
-  | inl less ↦
-      let same : get_or after k 0 ≡ get_or before k 0 =
-      ap (λ (l : List ℕ). get_or l k 0) is ∙ get_or_append_left before (count ∷ []) 0 k (omega (arith, less, long)) in
-      subst (HasCount shape image (head + k)) (sym same) (each k less)
-  | inr more ↦
-      let at : k ≡ j = omega (arith, below, more) in
-      subst (λ (n : ℕ). HasCount shape image (head + n) (slice_index after n)) (sym at)
-      (subst (HasCount shape image (head + j)) (sym (ap (λ (l : List ℕ). get_or l j 0) is ∙ get_or_push before count 0 j long)) here)
+  | inl less ↦ rw (is, get_or_append_left before (count ∷ []) 0 k (omega (arith, less, long))) (each k less)
+  | inr more ↦ let at : k ≡ j = omega (arith, below, more) in rw (at, is, get_or_push before count 0 j long) here
 ]

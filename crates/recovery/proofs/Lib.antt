@@ -8,9 +8,9 @@ pub mod InspectedImage
 pub mod SurveyCalls
 pub mod OneTry
 pub mod CopiedRecords
+pub mod JoinedCalls
 pub mod FoundRecords
 pub mod NamedBlocks
-pub mod RecoveryExits
 pub mod MigrationCuts
 pub mod HeadMoves
 pub mod WholeRecovery

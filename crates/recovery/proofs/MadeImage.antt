@@ -4,8 +4,7 @@ use Rattle.std.specs.Prelude.{replicate}
 use Rattle.medium.specs.Medium.{State, Image, CutLeaves, Holds, Within, Gains, Passes, IsSound}
 use Rattle.medium.specs.Moments.{EachCut, IsFlushed, LeavesOnly, StaysWithin, SparesFrom}
 use Rattle.medium.specs.declared.fault.MediumFault.{MediumFault}
-use Rattle.medium.proofs.Moments.{started, gains_within, goes_on, goes_on_within, weaker, joined_same, at_exit, each_write}
-use Rattle.medium.proofs.Moments.{shrunk}
+use Rattle.medium.proofs.Moments.{gains_within, one_call, goes_on, goes_on_within, weaker, joined_same, at_exit, each_write, shrunk}
 use Rattle.medium.proofs.SparedSectors.{HasSpared, spared_joined}
 use Rattle.spec.specs.Blocks.{Array}
 use Rattle.journal.specs.Places.{Shape, first_home, sectors_of}
@@ -36,29 +35,23 @@ cleared_freed places old new within =
     weaker (CutLeaves (cleared_at places old.may_leave)) (CutLeaves (freed_at places old.may_leave)) old new
     (λ image cut s. ⊎_elim inl (λ zeros. inr zeros.0) (cut s)) within
 
--- what each image is after a write
-pub each_with : (place : ℕ) (bytes : List ℕ) (old new : State) → IsSound old → Gains place bytes old.may_leave new.may_leave
-    → EachCut (WithOrWithout place bytes old.may_leave) new
-each_with place bytes old new sound gains =
-    each_write (CutLeaves old.may_leave) (WithOrWithout place bytes old.may_leave) old new place bytes sound gains
-    (λ image cut. cut) (λ image cut. inl cut) (λ before image holds cut. inr (before, cut, holds))
-
 -- a write
-pub sector_written : (place : ℕ) (bytes : List ℕ) (old new : State) {fault : MediumFault} {result : Result (Unit {0}) MediumFault}
-    → IsSound old → Passes fault result old new → Gains place bytes old.may_leave new.may_leave
-    → LeavesOnly (WithOrWithout place bytes old.may_leave) old new
-sector_written place bytes old new {fault} {result} sound wrote gains =
-    goes_on (WithOrWithout place bytes old.may_leave) old old new
-    (started (WithOrWithout place bytes old.may_leave) old sound (λ image cut. inl cut)) wrote
-    (each_with place bytes old new sound gains)
+module _ (place : ℕ) (bytes : List ℕ) (old mid : State) {one : MediumFault} {first : Result (Unit {0}) MediumFault} (sound : IsSound old)
+    (wrote : Passes one first old mid) (gains : Gains place bytes old.may_leave mid.may_leave) where
+  each_with : EachCut (WithOrWithout place bytes old.may_leave) mid
+  each_with =
+      each_write (CutLeaves old.may_leave) (WithOrWithout place bytes old.may_leave) old mid place bytes sound gains
+      (λ image cut. cut) (λ image cut. inl cut) (λ before image holds cut. inr (before, cut, holds))
 
--- and a flush
-pub sector_flushed : (place : ℕ) (bytes : List ℕ) (old mid new : State) {one two : MediumFault}
-    {first second : Result (Unit {0}) MediumFault} → IsSound old → Passes one first old mid → Gains place bytes old.may_leave mid.may_leave
-    → Passes two second mid new → Within new.may_leave mid.may_leave → LeavesOnly (WithOrWithout place bytes old.may_leave) old new
-sector_flushed place bytes old mid new {one} {two} {first} {second} sound wrote gains flush within =
-    goes_on (WithOrWithout place bytes old.may_leave) old mid new (sector_written place bytes old mid sound wrote gains) flush
-    (shrunk (WithOrWithout place bytes old.may_leave) mid new within (each_with place bytes old mid sound gains))
+  pub sector_written : LeavesOnly (WithOrWithout place bytes old.may_leave) old mid
+  sector_written = one_call (WithOrWithout place bytes old.may_leave) old mid sound wrote (λ image cut. inl cut) each_with
+
+  -- and a flush
+  pub sector_flushed : (new : State) {two : MediumFault} {second : Result (Unit {0}) MediumFault} → Passes two second mid new
+      → Within new.may_leave mid.may_leave → LeavesOnly (WithOrWithout place bytes old.may_leave) old new
+  sector_flushed new {two} {second} flush within =
+      goes_on (WithOrWithout place bytes old.may_leave) old mid new sector_written flush
+      (shrunk (WithOrWithout place bytes old.may_leave) mid new within each_with)
 
 -- a sector before these is written
 pub through_spares : (first place : ℕ) (bytes : List ℕ) (old new : State) → place < first → IsSound new

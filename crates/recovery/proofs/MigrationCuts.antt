@@ -1,5 +1,5 @@
 -- What a cut leaves while an image of format 1 becomes one of format 2.
-use Rattle.std.proofs.Common.{◌≡◌, ◌⊎◌, inl, inr, ⊎_elim, ℕ, ◌+◌, ◌*◌, ◌<◌, ◌≤◌, List, length, refl, sym, ◌∙◌, ap, subst, arith}
+use Rattle.std.proofs.Common.{◌≡◌, ◌≢◌, ◌⊎◌, inl, inr, ⊎_elim, ℕ, ◌+◌, ◌*◌, ◌<◌, ◌≤◌, List, length, refl, sym, ◌∙◌, subst, arith}
 use Rattle.std.specs.Prelude.{replicate, min}
 use Rattle.std.proofs.lemmas.Bool.{cases_lt}
 use Rattle.medium.specs.Medium.{State, Image, CutLeaves, Holds, IsSound}
@@ -22,52 +22,39 @@ use Rattle.journal.proofs.StandingLaws.{StandsFor-one, StandsFor-shape}
 use Rattle.recovery.specs.Causes.{HasFewSlots}
 use Rattle.recovery.specs.Copies.{cleared_at, WithOrWithout, IsBetween, HasNewHead, copy_calls, most_start_of}
 use Rattle.recovery.specs.Tries.{AreTriesOf}
-use Rattle.recovery.specs.Recovered.{IsRecoveredFrom, IsFresh, IsOursForSome, StandsForOneOf, LeavesAtLeast}
-use Rattle.recovery.specs.Migrated.{CanMigrate, IsMadeTwo, IsMigratedFrom, IsFreshInEither, IsOursInEither, StandsInEither, MigrationLeaves}
-use Rattle.recovery.specs.Migrated.{most_migration_sends}
+use Rattle.recovery.specs.Recovered.{IsRecoveredFrom, IsFresh, StandsForOneOf, LeavesAtLeast}
+use Rattle.recovery.specs.Migrated.{CanMigrate, IsMadeOf, IsMigratedFrom, IsFreshInEither, IsOursInEither, StandsInEither, MigrationLeaves}
 use Rattle.recovery.specs.declared.recovered.Recovered.{Recovered}
 use Rattle.recovery.proofs.CarriedStamps.{zeros_carry}
 use Rattle.recovery.proofs.CopiedRecords.{log_ends}
-use Rattle.recovery.proofs.WholeRecovery.{calls_made, made_joined}
+use Rattle.recovery.proofs.WholeRecovery.{calls_made}
 use Rattle.recovery.proofs.ReplayedImages.{fresh_ours}
 use Rattle.recovery.proofs.CallsSent.{start_migrates, made_migrates}
 use Rattle.recovery.proofs.SectorsRead.{looked_before}
 
 module _ (shape : Shape) (array : Array) (next : ℕ) (before image : Image) (fresh : IsFresh shape array next before) where
-  ends : 2 + (layout_of shape.format).slot_sectors * shape.slots ≤ first_home shape
-  ends = log_ends shape fresh.super.home_is
-
-  -- zeros in some sectors of the log
-  pub cleared_fresh : 1 ≤ next → ((x : ℕ) → (image x ≡ before x) ⊎ (IsBetween 2 (first_home shape) x × (image x ≡ replicate 512 0)))
+  -- zeros in some sectors of the log, and the same head
+  still_fresh : 1 ≤ next → IsHead next (image 1)
+      → ((x : ℕ) → x ≢ 1 → (image x ≡ before x) ⊎ (IsBetween 2 (first_home shape) x × (image x ≡ replicate 512 0)))
       → IsFresh shape array next image
-  cleared_fresh least each = record {
-    super = subst (IsSuper shape) (sym (outside 0 (λ b. omega (arith, b.0)))) fresh.super;
-    head = subst (IsHead next) (sym (outside 1 (λ b. omega (arith, b.0)))) fresh.head;
-    home = λ b below. outside (first_home shape + b) (λ between. omega (arith, between.1)) ∙ fresh.home b below;
+  still_fresh least head each = record {
+    super = subst (IsSuper shape) (sym (outside 0 (λ e. omega arith) (λ b. omega (arith, b.0)))) fresh.super;
+    head = head;
+    home = λ b below. outside (first_home shape + b) (λ e. omega (arith, e, log_ends shape fresh.super.home_is))
+        (λ between. omega (arith, between.1)) ∙ fresh.home b below;
     carries = λ slot o stamp low small carries. ⊎_elim
         (λ was. fresh.carries slot o stamp low small (subst ((layout_of shape.format).carries o stamp) was carries))
         (λ zeros.
         let none = (laws_of shape.format).zeros o stamp (subst ((layout_of shape.format).carries o stamp) zeros.1 carries) in
         omega (arith, none, least))
-        (each (2 + (layout_of shape.format).slot_sectors * slot + o));
+        (each (2 + (layout_of shape.format).slot_sectors * slot + o) (λ e. omega (arith, e)));
   }
     where
-      outside : (x : ℕ) → ¬ IsBetween 2 (first_home shape) x → image x ≡ before x
-      outside x not = ⊎_elim (λ was. was) (λ zeros. absurd (not zeros.0)) (each x)
-
-  -- the same head again
-  pub headed_fresh : HasNewHead next before image → IsFresh shape array next image
-  headed_fresh moved = record {
-    super = subst (IsSuper shape) (sym (moved.elsewhere 0 (λ e. omega arith))) fresh.super;
-    head = moved.head;
-    home = λ b below. moved.elsewhere (first_home shape + b) (λ e. omega (arith, e, ends)) ∙ fresh.home b below;
-    carries = λ slot o stamp low small carries. fresh.carries slot o stamp low small
-        (subst ((layout_of shape.format).carries o stamp)
-        (moved.elsewhere (2 + (layout_of shape.format).slot_sectors * slot + o) (λ e. omega (arith, e))) carries);
-  }
+      outside : (x : ℕ) → x ≢ 1 → ¬ IsBetween 2 (first_home shape) x → image x ≡ before x
+      outside x apart not = ⊎_elim (λ was. was) (λ zeros. absurd (not zeros.0)) (each x apart)
 
 -- a log of zeros under the super of format 2
-pub two_fresh : (shape : Shape) (array : Array) (next : ℕ) (image : Image) → IsSuper (migrated shape) (image 0) → IsHead next (image 1)
+two_fresh : (shape : Shape) (array : Array) (next : ℕ) (image : Image) → IsSuper (migrated shape) (image 0) → IsHead next (image 1)
     → ((x : ℕ) → 2 ≤ x → x < first_home shape → image x ≡ replicate 512 0)
     → ((b : ℕ) → b < shape.blocks → image (first_home shape + b) ≡ array b) → IsFresh (migrated shape) array next image
 two_fresh shape array next image super head zeros home = record {
@@ -82,36 +69,30 @@ module _ (shape : Shape) (array : Array) (next : ℕ) (old cleared : State) (lea
     (fresh : IsFresh shape array next old.content) (sound_cleared : IsSound cleared)
     (within : StaysWithin (cleared_at (IsBetween 2 (first_home shape)) old.may_leave) old cleared) where
   wiped : LeavesOnly (IsFresh shape array next) old cleared
-  wiped =
-      weaker (CutLeaves (cleared_at (IsBetween 2 (first_home shape)) old.may_leave)) (IsFresh shape array next) old cleared
-      (λ image cut. cleared_fresh shape array next old.content image fresh least
-      (λ x. ⊎_elim (λ was. inl (flushed x (image x) was)) (λ zeros. inr zeros) (cut x))) within
-
-  wiped_each : EachCut (IsFresh shape array next) cleared
-  wiped_each = at_exit (IsFresh shape array next) old cleared sound_cleared wiped
-
-  either_leaves : (new : State) → LeavesOnly (IsFresh shape array next) old new → LeavesOnly (IsFreshInEither shape array next) old new
-  either_leaves new leaves = weaker (IsFresh shape array next) (IsFreshInEither shape array next) old new (λ image f. inl f) leaves
+  wiped = weaker (CutLeaves (cleared_at (IsBetween 2 (first_home shape)) old.may_leave)) (IsFresh shape array next) old cleared
+      (λ image cut. still_fresh shape array next old.content image fresh least
+      (⊎_elim (λ was. subst (IsHead next) (sym (flushed 1 (image 1) was)) fresh.head) (λ zeros. absurd (omega (arith, zeros.0.0))) (cut 1))
+      (λ x apart. ⊎_elim (λ was. inl (flushed x (image x) was)) (λ zeros. inr zeros) (cut x))) within
 
   -- while the log is wiped
   pub wiped_leaves : LeavesOnly (IsFreshInEither shape array next) old cleared
-  wiped_leaves = either_leaves cleared wiped
+  wiped_leaves = weaker (IsFresh shape array next) (IsFreshInEither shape array next) old cleared (λ image f. inl f) wiped
 
   module _ (headed : State)
       (moments : LeavesOnly (λ image. CutLeaves cleared.may_leave image ⊎ HasNewHead next cleared.content image) cleared headed) where
     rehead : LeavesOnly (IsFresh shape array next) old headed
     rehead =
+        let each = at_exit (IsFresh shape array next) old cleared sound_cleared wiped in
         joined_same (IsFresh shape array next) old cleared headed wiped
         (weaker (λ image. CutLeaves cleared.may_leave image ⊎ HasNewHead next cleared.content image) (IsFresh shape array next) cleared
         headed
-        (λ image either. ⊎_elim (wiped_each image)
-        (λ moved.
-        headed_fresh shape array next cleared.content image (wiped_each cleared.content sound_cleared.holds_content) moved)
-        either) moments)
+        (λ image either. ⊎_elim (each image)
+        (λ moved. still_fresh shape array next cleared.content image (each cleared.content sound_cleared.holds_content) least moved.head
+        (λ x apart. inl (moved.elsewhere x apart))) either) moments)
 
     -- and the head is written
     pub headed_leaves : LeavesOnly (IsFreshInEither shape array next) old headed
-    headed_leaves = either_leaves headed rehead
+    headed_leaves = weaker (IsFresh shape array next) (IsFreshInEither shape array next) old headed (λ image f. inl f) rehead
 
     -- and the super of format 2
     pub made_leaves : (new : State) (bytes : List ℕ) → IsSound headed → IsFlushed headed
@@ -133,24 +114,19 @@ module _ (shape : Shape) (array : Array) (next : ℕ) (old cleared : State) (lea
             (λ x low high. holds.elsewhere x (λ e. omega (arith, low, e)) ∙ done x (before x) (cut x) ∙ zeros x low high)
             (λ b below. holds.elsewhere (first_home shape + b) (λ e. omega (arith, e, log_ends shape f.super.home_is)) ∙ f.home b below)
 
--- what stands for one of the arrays does so in either format
-recovery_cuts : (old new : State) → LeavesOnly (StandsForOneOf old) old new → LeavesOnly (StandsInEither old) old new
-recovery_cuts old new cuts =
-    weaker (StandsForOneOf old) (StandsInEither old) old new
-    (λ image o. record {
-      before = o.before;
-      allowed = o.allowed;
-      shape = o.shape;
-      array = o.array;
-      next = o.next;
-      was = o.was;
-      is = inl o.is;
-    }) cuts
-
 -- what a recovery leaves
 pub recovery_leaves : (old new : State) → LeavesAtLeast 5 old new → MigrationLeaves old new
 recovery_leaves old new leaves = record {
-  cuts = λ each. recovery_cuts old new (leaves.all.cuts each);
+  cuts = λ each. weaker (StandsForOneOf old) (StandsInEither old) old new
+      (λ image o. record {
+        before = o.before;
+        allowed = o.allowed;
+        shape = o.shape;
+        array = o.array;
+        next = o.next;
+        was = o.was;
+        is = inl o.is;
+      }) (leaves.all.cuts each);
   after_flush = λ shape array next ours more image since. inl (leaves.all.after_flush shape array next ours more image since);
   spares = leaves.all.spares;
   small = leaves.small;
@@ -162,21 +138,23 @@ recovery_leaves old new leaves = record {
 
 module _ (old mid : State) (found : Recovered) (recovered : IsRecoveredFrom old mid found) (enough : ¬ HasFewSlots 5 old.size old.content)
     (one : found.sizes.format ≡ One) where
+  has_shape : HasShape old.size (shape_of found.sizes) old.content
+  has_shape = StandsFor-shape old.size (shape_of found.sizes) old.content recovered.array found.next recovered.stood
+
   -- there is room for a slot of format 2
   pub can_migrate : CanMigrate (shape_of found.sizes)
   can_migrate = record {
     one = one;
-    room = elim (cases_lt found.sizes.slots 5) [
-      | inl few ↦ absurd (enough (record {
-        shape = shape_of found.sizes;
-        has = StandsFor-shape old.size (shape_of found.sizes) old.content recovered.array found.next recovered.stood;
-        head = recovered.stood.head;
-        head_is = recovered.stood.keeps.head_is;
-        one = one;
-        few = few;
-      }))
-      | inr room ↦ room
-    ];
+    room = ⊎_elim
+        (λ few. absurd (enough (record {
+          shape = shape_of found.sizes;
+          has = has_shape;
+          head = recovered.stood.head;
+          head_is = recovered.stood.keeps.head_is;
+          one = one;
+          few = few;
+        })))
+        (λ room. room) (cases_lt found.sizes.slots 5);
   }
 
   -- the calls of a recovery of format 1
@@ -187,20 +165,6 @@ module _ (old mid : State) (found : Recovered) (recovered : IsRecoveredFrom old 
       (λ (f : LogFormat). AreTriesOf f (shape_of found.sizes) old.content recovered.stood.head
       (min (length recovered.stood.records + 1) found.sizes.slots) (old.calls + 6 + copy_calls f recovered.stood.records) mid.calls)
       one recovered.calls
-
-  some_calls : old.calls + 2 ≤ mid.calls
-  some_calls = omega (arith, tried)
-
-  -- how many they are at most
-  pub few_calls : (new : State)
-      → ((shape : Shape) → HasShape old.size shape old.content → mid.calls ≤ old.calls + 6 + most_start_of shape.format * shape.slots)
-      → new.calls ≤ mid.calls + (50 * found.sizes.slots + 5) → new.calls ≤ old.calls + 6 + 738 * 64
-  few_calls new most last =
-      let first = subst (λ (f : LogFormat). mid.calls ≤ old.calls + 6 + most_start_of f * found.sizes.slots) one
-      (most (shape_of found.sizes)
-      (StandsFor-shape old.size (shape_of found.sizes) old.content recovered.array found.next recovered.stood)) in
-      let slots = found.sizes.most_slots in
-      omega (arith, first, last, slots)
 
   module _ (new : State) (spares : SparesFrom (first_home (shape_of found.sizes)) mid new) where
     -- the home sectors hold what recovery left there
@@ -213,18 +177,15 @@ module _ (old mid : State) (found : Recovered) (recovered : IsRecoveredFrom old 
         (sound_old : IsSound old) (sound_mid : IsSound mid)
         (leaves : (array : Array) → IsFresh (shape_of found.sizes) array found.next mid.content
         → LeavesOnly (IsFreshInEither (shape_of found.sizes) array found.next) mid new) where
-      -- what contents stand for that are ours
-      same_for : (shape : Shape) (array : Array) (next : ℕ) → IsOurs old.size shape old.content array next
-          → (shape ≡ shape_of found.sizes) × (next ≡ found.next)
-      same_for shape array next ours =
+      -- each image is ours for the contents
+      leaves_ours : (shape : Shape) (array : Array) (next : ℕ) → IsOurs old.size shape old.content array next
+          → LeavesOnly (IsOursInEither old.size shape array next) mid new
+      leaves_ours shape array next ours =
           let same = StandsFor-one old.size old.size shape (shape_of found.sizes) old.content array recovered.array next found.next
           ours.stands recovered.stood in
-          (same.0, same.1)
-
-      here_ours : (array : Array) → IsOurs old.size (shape_of found.sizes) old.content array found.next
-          → LeavesOnly (IsOursInEither old.size (shape_of found.sizes) array found.next) mid new
-      here_ours array ours =
-          weaker (IsFreshInEither (shape_of found.sizes) array found.next) (IsOursInEither old.size (shape_of found.sizes) array found.next)
+          let here = rw (same.0, same.1) at ours in
+          rw (same.0, same.1)
+          (weaker (IsFreshInEither (shape_of found.sizes) array found.next) (IsOursInEither old.size (shape_of found.sizes) array found.next)
           mid new
           (λ image either. ⊎_elim
           (λ was. inl (inr (fresh_ours old.size (shape_of found.sizes) array found.next image recovered.stood.fits was)))
@@ -232,74 +193,59 @@ module _ (old mid : State) (found : Recovered) (recovered : IsRecoveredFrom old 
             can_migrate,
             fresh_ours old.size (migrated (shape_of found.sizes)) array found.next image recovered.stood.fits two,
           )) either)
-          (leaves array (fresh (shape_of found.sizes) array found.next ours mid.content sound_mid.holds_content))
-
-      -- each image is ours for the contents
-      leaves_ours : (shape : Shape) (array : Array) (next : ℕ) → IsOurs old.size shape old.content array next
-          → LeavesOnly (IsOursInEither old.size shape array next) mid new
-      leaves_ours shape array next ours =
-          let same = same_for shape array next ours in
-          subst (λ (s : Shape). LeavesOnly (IsOursInEither old.size s array next) mid new) (sym same.0)
-          (subst (λ (n : ℕ). LeavesOnly (IsOursInEither old.size (shape_of found.sizes) array n) mid new) (sym same.1)
-          (here_ours array (subst (λ (n : ℕ). IsOurs old.size (shape_of found.sizes) old.content array n) same.1
-          (subst (λ (s : Shape). IsOurs old.size s old.content array next) same.0 ours))))
+          (leaves array (fresh (shape_of found.sizes) array found.next here mid.content sound_mid.holds_content)))
 
       pub migration_leaves : LeavesAtLeast 5 old mid → new.calls ≤ mid.calls + (50 * found.sizes.slots + 5)
           → SendsUpTo (50 * found.sizes.slots + 5) mid new → new.looked ≡ mid.looked → MigrationLeaves old new
       migration_leaves start last making same = record {
-        cuts = λ each. joined_same (StandsInEither old) old mid new (first.cuts each) (later each);
+        cuts = λ each.
+            let e = each old.content sound_old.holds_content in
+            joined_same (StandsInEither old) old mid new (first.cuts each)
+            (weaker (IsOursInEither old.size e.0 e.1 e.2) (StandsInEither old) mid new
+            (λ image is. record {
+              before = old.content;
+              allowed = sound_old.holds_content;
+              shape = e.0;
+              array = e.1;
+              next = e.2;
+              was = e.3;
+              is = is;
+            })
+            (leaves_ours e.0 e.1 e.2 e.3));
         after_flush = λ shape array next ours more image since. ⊎_elim
-            (λ was. first.after_flush shape array next ours some_calls image was) (λ now. now)
-            ((leaves_ours shape array next ours).before (old.calls + 1) image (omega (arith, some_calls)) since);
+            (λ was. first.after_flush shape array next ours (omega (arith, tried)) image was) (λ now. now)
+            ((leaves_ours shape array next ours).before (old.calls + 1) image (omega (arith, tried)) since);
         spares = record {
-          behind = λ shape has.
-              let same : shape ≡ shape_of found.sizes =
-              IsSuper-one shape (shape_of found.sizes) (old.content 0) has.super recovered.stood.keeps.super in
-              let home = ap (λ (s : Shape). s.home) same in
-              spared_joined (sectors_of shape) old mid new (first.spares.behind shape has)
-              (spared_behind (first_home (shape_of found.sizes)) (sectors_of shape) mid new (omega (arith, home)) spares);
+          behind = λ shape has. rw (one_shape shape has)
+              (spared_joined (sectors_of (shape_of found.sizes)) old mid new (first.spares.behind (shape_of found.sizes) has_shape)
+              (spared_behind (first_home (shape_of found.sizes)) (sectors_of (shape_of found.sizes)) mid new (omega arith) spares));
           unserved = λ none.
               let past = none (shape_of found.sizes) recovered.array found.next recovered.stood in
-              let left = recovered.stamp_left in
-              absurd (omega (arith, past, left));
+              absurd (omega (arith, past, recovered.stamp_left));
         };
         small = λ few. absurd (enough few);
-        moments = made_joined old mid new start.all.moments (calls_made _ mid new spares.moments);
-        calls = few_calls new start.all.most last;
-        sends = λ shape has.
-            let same : shape ≡ shape_of found.sizes =
-            IsSuper-one shape (shape_of found.sizes) (old.content 0) has.super recovered.stood.keeps.super in
-            subst (λ (s : Shape). SendsUpTo (most_migration_sends s.format s.slots) old new) (sym same)
+        moments = joined_same (λ _. Unit {0}) old mid new start.all.moments (calls_made _ mid new spares.moments);
+        calls =
+            let most = subst (λ (f : LogFormat). mid.calls ≤ old.calls + 6 + most_start_of f * found.sizes.slots) one
+            (start.all.most (shape_of found.sizes) has_shape) in
+            omega (arith, most, last, found.sizes.most_slots);
+        sends = λ shape has. rw (one_shape shape has)
             (made_migrates found.sizes.format found.sizes.slots (sent old) (sent mid) (sent new) one
-            (start.all.sends.most (shape_of found.sizes)
-            (StandsFor-shape old.size (shape_of found.sizes) old.content recovered.array found.next recovered.stood)) making);
+            (start.all.sends.most (shape_of found.sizes) has_shape) making);
         looks = looked_before old mid new start.all.looks same;
       }
         where
           first : MigrationLeaves old mid
           first = recovery_leaves old mid start
 
-          later : EachCut (IsOursForSome old.size) old → LeavesOnly (StandsInEither old) mid new
-          later each =
-              let e = each old.content sound_old.holds_content in
-              weaker (IsOursInEither old.size e.0 e.1 e.2) (StandsInEither old) mid new
-              (λ image is. record {
-                before = old.content;
-                allowed = sound_old.holds_content;
-                shape = e.0;
-                array = e.1;
-                next = e.2;
-                was = e.3;
-                is = is;
-              })
-              (leaves_ours e.0 e.1 e.2 e.3)
+          one_shape : (shape : Shape) → HasShape old.size shape old.content → shape ≡ shape_of found.sizes
+          one_shape shape has = IsSuper-one shape (shape_of found.sizes) (old.content 0) has.super recovered.stood.keeps.super
 
-    module _ (answer : Recovered) (sizes_are : shape_of answer.sizes ≡ migrated (shape_of found.sizes)) (next_is : answer.next ≡ found.next)
-        (made : IsMadeTwo (shape_of found.sizes) found.next new) where
+    module _ (answer : Recovered) (is : IsMadeOf found new answer) where
       here_fresh : (array : Array) → ((b : ℕ) → b < found.sizes.blocks → recovered.array b ≡ array b)
           → IsFresh (migrated (shape_of found.sizes)) array found.next new.content
       here_fresh array same =
-          two_fresh (shape_of found.sizes) array found.next new.content made.super made.head made.zeros
+          two_fresh (shape_of found.sizes) array found.next new.content is.made.super is.made.head is.made.zeros
           (λ b below. kept_home b below ∙ same b below)
 
       pub migrated_fresh : (shape : Shape) (array : Array) (next : ℕ) → IsOurs old.size shape old.content array next
@@ -307,25 +253,23 @@ module _ (old mid : State) (found : Recovered) (recovered : IsRecoveredFrom old 
       migrated_fresh shape array next ours image cut =
           let same = StandsFor-one old.size old.size (shape_of found.sizes) shape old.content recovered.array array found.next next
           recovered.stood ours.stands in
-          subst (λ (i : Image). IsFresh (shape_of answer.sizes) array next i)
-          (sym (only_image new.content new.may_leave made.flushed image cut))
-          (subst (λ (s : Shape). IsFresh s array next new.content) (sym sizes_are)
-          (subst (λ (n : ℕ). IsFresh (migrated (shape_of found.sizes)) array n new.content) same.1 (here_fresh array same.2)))
+          rw (only_image new.content new.may_leave is.made.flushed image cut, is.sizes_are, ← same.1) (here_fresh array same.2)
 
       pub migrated_from : new.calls ≡ mid.calls + (50 * found.sizes.slots + 5) → IsMigratedFrom old new answer
-      migrated_from counted = subst (λ (n : ℕ). IsMigratedFrom old new (record { sizes = answer.sizes; next = n })) (sym next_is) (record {
-        shape = shape_of found.sizes;
-        could = can_migrate;
-        sizes_are = sizes_are;
-        array = recovered.array;
-        stood = recovered.stood;
-        stamp_left = recovered.stamp_left;
-        made = made;
-        home = kept_home;
-        behind = λ x past. spares.content x (omega (arith, past))
-            ∙ recovered.elsewhere x (λ e. omega (arith, e, past, log_ends (shape_of found.sizes) recovered.stood.keeps.super.home_is))
-            (inr past);
-        ours = fresh_ours old.size (migrated (shape_of found.sizes)) recovered.array found.next new.content recovered.stood.fits
-            (here_fresh recovered.array (λ b below. refl));
-        calls = omega (arith, tried, counted);
-      })
+      migrated_from counted =
+          subst (λ (n : ℕ). IsMigratedFrom old new (record { sizes = answer.sizes; next = n })) (sym is.next_is) (record {
+            shape = shape_of found.sizes;
+            could = can_migrate;
+            sizes_are = is.sizes_are;
+            array = recovered.array;
+            stood = recovered.stood;
+            stamp_left = recovered.stamp_left;
+            made = is.made;
+            home = kept_home;
+            behind = λ x past. spares.content x (omega (arith, past))
+                ∙ recovered.elsewhere x (λ e. omega (arith, e, past, log_ends (shape_of found.sizes) recovered.stood.keeps.super.home_is))
+                (inr past);
+            ours = fresh_ours old.size (migrated (shape_of found.sizes)) recovered.array found.next new.content recovered.stood.fits
+                (here_fresh recovered.array (λ b below. refl));
+            calls = omega (arith, tried, counted);
+          })

@@ -43,12 +43,11 @@ calls_made Two shape image stamp read n reads old mid new is long first last =
     let made = is.2 in omega (arith, made, long, first, last)
 
 -- and at most so many
-pub most_copied : (format : LogFormat) (n old mid new : ℕ) → n ≤ limit_of format → mid ≤ old + record_reads_of format
-    → new ≤ mid + 2 * n → new ≤ old + most_calls_of format
-most_copied One n old mid new few first last = omega (arith, few, first, last)
-most_copied Two n old mid new few first last = omega (arith, few, first, last)
+pub most_copied : (format : LogFormat) (n : ℕ) → n ≤ limit_of format → record_reads_of format + 2 * n ≤ most_calls_of format
+most_copied One n few = omega (arith, few)
+most_copied Two n few = omega (arith, few)
 
 -- those of the reads alone are fewer
-pub most_missed : (format : LogFormat) (old mid : ℕ) → mid ≤ old + record_reads_of format → mid ≤ old + most_calls_of format
-most_missed One old mid first = omega (arith, first)
-most_missed Two old mid first = omega (arith, first)
+pub most_missed : (format : LogFormat) → record_reads_of format ≤ most_calls_of format
+most_missed One = omega arith
+most_missed Two = omega arith

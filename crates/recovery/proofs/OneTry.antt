@@ -99,12 +99,11 @@ try_read Two shape image stamp read reads places before mid after is made asked 
     )
 
 -- the reads of a record and those of its data places
-pub most_tried : (format : LogFormat) (count before mid after : ℕ) → count ≤ 240 → mid ≤ before + record_reads_of format
-    → after ≤ mid + stamp_reads_of format count → after ≤ before + most_reads_of format
-most_tried One count before mid after few first last = omega (arith, first, last)
-most_tried Two count before mid after few first last = omega (arith, few, first, last)
+pub most_tried : (format : LogFormat) (count : ℕ) → count ≤ 240 → record_reads_of format + stamp_reads_of format count ≤ most_reads_of format
+most_tried One count few = omega arith
+most_tried Two count few = omega (arith, few)
 
 -- fewer than a slot has sectors
-pub few_tried : (format : LogFormat) (before after : ℕ) → after ≤ before + most_reads_of format → after ≤ before + 250
-few_tried One before after most = omega (arith, most)
-few_tried Two before after most = omega (arith, most)
+pub few_tried : (format : LogFormat) → most_reads_of format ≤ 250
+few_tried One = omega arith
+few_tried Two = omega arith

@@ -1,7 +1,5 @@
 -- Images go on standing for what they stood for while their records are copied home.
-use Rattle.std.proofs.Common.{◌≡◌, ◌⊎◌, ⊎_elim, ℕ, ◌+◌, ◌<◌, ◌≤◌, List, [], length, get_or, sym, ◌∙◌, ap, subst, arith}
-use Rattle.std.proofs.Math.ListN.{get_or-map}
-use Rattle.std.proofs.lemmas.List.{length-map}
+use Rattle.std.proofs.Common.{◌≡◌, ◌⊎◌, ⊎_elim, ℕ, ◌+◌, ◌<◌, ◌≤◌, List, [], length, get_or, refl, sym, ◌∙◌, subst, arith}
 use Rattle.medium.specs.Medium.{Image}
 use Rattle.spec.specs.Blocks.{Array}
 use Rattle.journal.specs.Places.{Shape, first_home, sectors_of, IsFirstHome}
@@ -11,11 +9,11 @@ use Rattle.journal.specs.Formats.{layout_of, IsWhole}
 use Rattle.journal.specs.Standing.{IsOurs}
 use Rattle.journal.proofs.Formats.{laws_of}
 use Rattle.journal.proofs.Overlay.{with_records-same, records-hide}
-use Rattle.journal.proofs.Wholeness.{IsWhole-one, CarriesBelow-agree}
+use Rattle.journal.proofs.Wholeness.{CarriesBelow-agree}
 use Rattle.recovery.specs.Copies.{IsHomeInRecords, HasNewHead}
 use Rattle.recovery.specs.Recovered.{IsFresh}
 use Rattle.recovery.proofs.CarriedStamps.{carried_whole, carries_later}
-use Rattle.recovery.proofs.CopiedRecords.{log_ends, whole_same, not_in_log}
+use Rattle.recovery.proofs.CopiedRecords.{log_ends, home_in_whole, long_as, number_of, whole_same, not_in_log}
 
 -- a block that is copied is hidden by the records
 pub home_hidden : (shape : Shape) (image : Image) (head : ℕ) (records : List (List Entry))
@@ -23,20 +21,12 @@ pub home_hidden : (shape : Shape) (image : Image) (head : ℕ) (records : List (
     → IsHomeInRecords shape image head (length records) (first_home shape + b) → Hides records b
 home_hidden shape image head records whole b home =
     let j = home.0 in
-    let entries = home.2.0 in
-    let i = home.2.2.0 in
-    let same : entries ≡ get_or records j [] = IsWhole-one (layout_of shape.format) (laws_of shape.format) shape image (head + j) entries
-    (get_or records j []) home.2.1 (whole j home.1) in
-    let f : Entry → ℕ = λ e. e.0 in
-    let short : i < length (numbers_of entries) = home.2.2.1 in
-    let inside : i < length entries = omega (arith, short, length-map entries f) in
-    let long : length entries ≡ length (get_or records j []) = ap (λ (l : List Entry). length l) same in
-    let named : first_home shape + b ≡ first_home shape + get_or (numbers_of entries) i 0 = home.2.2.2 in
-    let number : get_or (numbers_of entries) i 0 ≡ (get_or entries i (0, [])).0 = get_or-map f entries i (0, []) in
-    let moved : (get_or entries i (0, [])).0 ≡ (get_or (get_or records j []) i (0, [])).0 =
-    ap (λ (l : List Entry). (get_or l i (0, [])).0) same in
-    let is : (get_or (get_or records j []) i (0, [])).0 ≡ b = omega (arith, named, number, moved) in
-    subst (Hides records) is (records-hide records j i home.1 (omega (arith, inside, long)))
+    let es = get_or records j [] in
+    let here = home_in_whole shape image (head + j) es (first_home shape + b) (whole j home.1) home.2 in
+    let is = here.2 in
+    let long = long_as es (numbers_of es) refl in
+    let number = number_of es (numbers_of es) here.0 refl in
+    subst (Hides records) (omega (arith, is, number)) (records-hide records j here.0 home.1 (omega (arith, here.1, long)))
 
 -- copies of its records at home change nothing of what an image stands for
 pub copies_ours : (size : ℕ) (shape : Shape) (start : Image) (array : Array) (next : ℕ) (ours : IsOurs size shape start array next)

@@ -1,18 +1,12 @@
 -- Each sector that a recovery reads is one of the log.
-use Rattle.std.proofs.Common.{◌≡◌, ℕ, ◌<◌, sym, subst}
-use Rattle.medium.specs.Medium.{State, Image, LooksOnly}
+use Rattle.std.proofs.Common.{◌≡◌, ◌<◌}
+use Rattle.medium.specs.Medium.{State, LooksOnly}
 use Rattle.medium.specs.Moments.{IsQuiet}
 use Rattle.medium.proofs.SectorsRead.{no_looks, looks_joined, looks_below, look_below}
 use Rattle.journal.specs.Places.{Shape, first_home}
 use Rattle.journal.specs.ImageFaults.{HasShape}
 use Rattle.recovery.specs.Looks.{HoldsLog, LooksAtLog}
-
--- calls that wrote nothing leave the log where it was
-pub holds_after : (near : ℕ) (old mid : State) → IsQuiet old mid → HoldsLog near old.size old.content → HoldsLog near mid.size mid.content
-holds_after near old mid quiet holds =
-    let path : old.content ≡ mid.content = λ i s. sym (quiet.content_stays s) i in
-    subst (λ (n : ℕ). HoldsLog near n mid.content) (sym quiet.size_stays)
-    (subst (λ (i : Image). HoldsLog near old.size i) path holds)
+use Rattle.recovery.proofs.FoundRecords.{quiet_after}
 
 -- no call, or none that reads
 pub none_looked : (old new : State) → new.looked ≡ old.looked → LooksAtLog old new
@@ -21,7 +15,8 @@ none_looked old new same near holds = no_looks (λ s. s < near) old new same
 -- calls that read nothing and changed nothing, and then others
 pub looked_later : (old mid new : State) → IsQuiet old mid → mid.looked ≡ old.looked → LooksAtLog mid new → LooksAtLog old new
 looked_later old mid new quiet same later near holds =
-    looks_joined (λ s. s < near) old mid new (no_looks (λ s. s < near) old mid same) (later near (holds_after near old mid quiet holds))
+    looks_joined (λ s. s < near) old mid new (no_looks (λ s. s < near) old mid same)
+    (later near (quiet_after (λ n i. HoldsLog near n i) old mid quiet holds))
 
 -- calls that read sectors of the log, and then others that do
 pub looked_on : (shape : Shape) (old mid new : State) → HasShape old.size shape old.content → LooksAtLog old mid

@@ -1,18 +1,17 @@
 -- The sectors behind the image are spared.
-use Rattle.std.proofs.Common.{◌≡◌, inl, inr, ⊎_elim, ℕ, ◌+◌, ◌≤◌, List, refl, sym, subst, arith}
-use Rattle.std.proofs.lemmas.Bool.{cases_eq}
+use Rattle.std.proofs.Common.{◌≡◌, ⊎_elim, ℕ, ◌+◌, ◌≤◌, refl, subst, arith}
 use Rattle.medium.specs.Medium.{State, CutLeaves, IsSound}
 use Rattle.medium.specs.Moments.{LeavesOnly, StaysWithin, IsQuiet, SparesFrom}
-use Rattle.medium.proofs.Moments.{weaker, at_exit, updated, updated_here, updated_elsewhere}
-use Rattle.medium.proofs.SparedSectors.{HasSpared, spared_quiet, spared_joined, spared_behind}
+use Rattle.medium.proofs.Moments.{weaker, at_exit, updated, updated_here}
+use Rattle.medium.proofs.SparedSectors.{HasSpared, spared_quiet, spared_joined}
 use Rattle.journal.specs.Places.{Shape, sectors_of}
 use Rattle.journal.specs.Values.{shape_of}
 use Rattle.journal.proofs.SectorNumbers.{IsSuper-one}
-use Rattle.recovery.specs.Copies.{freed_at, IsHomeInRecords}
+use Rattle.recovery.specs.Copies.{freed_at}
 use Rattle.recovery.specs.Found.{IsFound}
 use Rattle.recovery.specs.Recovered.{SparesTheRest}
 use Rattle.recovery.specs.declared.found.Found.{Found}
-use Rattle.recovery.proofs.CopiedRecords.{not_behind}
+use Rattle.recovery.proofs.CopiedRecords.{one_changed}
 use Rattle.recovery.proofs.FoundRecords.{found_stands}
 
 -- what each image spares at each moment, the sets spare
@@ -21,17 +20,9 @@ pub spared_by : (first : ℕ) (old new : State) → IsSound new → ((s : ℕ) �
 spared_by first old new sound content moments = record {
   content = content;
   sets = λ s c le left. subst (old.may_leave s) (updated_here new.content s c s refl)
-      (at_exit (HasSpared first old) old new sound moments (updated new.content s c) (cut s c left) s le);
+      (at_exit (HasSpared first old) old new sound moments (updated new.content s c) (one_changed new s c sound left) s le);
   moments = moments;
 }
-  where
-    cut : (s : ℕ) (c : List ℕ) → new.may_leave s c → CutLeaves new.may_leave (updated new.content s c)
-    cut s c left t = elim (cases_eq t s) [
-      | inl is ↦
-          let P : ℕ → Type 0 = λ u. new.may_leave u c in
-          subst (new.may_leave t) (sym (updated_here new.content s c t is)) (subst P (sym is) left)
-      | inr not ↦ subst (new.may_leave t) (sym (updated_elsewhere new.content s c t not)) (sound.holds_content t)
-    ]
 
 -- calls that write in places before these sectors alone
 pub spared_within : (first : ℕ) (places : ℕ → Type 0) (old new : State) → IsSound new → ((s : ℕ) → first ≤ s → ¬ places s)
@@ -49,34 +40,15 @@ quiet_spares old new sound quiet = record {
   unserved = λ none. spared_quiet 0 old new sound quiet;
 }
 
--- the copies
-pub copies_spare : (found : Found) (seen copied : State) → IsSound copied
-    → ((x : ℕ) → ¬ IsHomeInRecords (shape_of found.sizes) seen.content found.head found.count x → copied.content x ≡ seen.content x)
-    → StaysWithin (freed_at (IsHomeInRecords (shape_of found.sizes) seen.content found.head found.count) seen.may_leave) seen copied
-    → SparesFrom (sectors_of (shape_of found.sizes)) seen copied
-copies_spare found seen copied sound elsewhere within =
-    spared_within (sectors_of (shape_of found.sizes)) (IsHomeInRecords (shape_of found.sizes) seen.content found.head found.count) seen
-    copied sound (not_behind (shape_of found.sizes) seen.content found.head found.count) elsewhere within
-
--- and the new head
-pub moves_spare : (found : Found) (seen copied new : State) → SparesFrom (sectors_of (shape_of found.sizes)) seen copied
-    → SparesFrom 2 copied new → SparesFrom (sectors_of (shape_of found.sizes)) seen new
-moves_spare found seen copied new copies moved =
-    spared_joined (sectors_of (shape_of found.sizes)) seen copied new copies
-    (spared_behind 2 (sectors_of (shape_of found.sizes)) copied new (omega arith) moved)
-
 -- a recovery of what was found
 pub found_spares : (found : Found) (old seen new : State) → IsSound old → IsQuiet old seen → IsFound old.size old.content found
     → SparesFrom (sectors_of (shape_of found.sizes)) seen new → SparesTheRest old new
 found_spares found old seen new sound quiet is rest = record {
-  behind = λ shape has.
-      let same : shape ≡ shape_of found.sizes = IsSuper-one shape (shape_of found.sizes) (old.content 0) has.super is.shape.super in
-      subst (λ (s : Shape). SparesFrom (sectors_of s) old new) (sym same)
+  behind = λ shape has. rw (IsSuper-one shape (shape_of found.sizes) (old.content 0) has.super is.shape.super)
       (spared_joined (sectors_of (shape_of found.sizes)) old seen new
       (spared_quiet (sectors_of (shape_of found.sizes)) old seen sound quiet) rest);
   unserved = λ none.
       let st = found_stands old.size old.content found is in
       let past = none (shape_of found.sizes) st.array (found.head + found.count + 1) st.stands in
-      let left = is.stamp_left in
-      absurd (omega (arith, past, left));
+      absurd (omega (arith, past, is.stamp_left));
 }

@@ -1,242 +1,328 @@
--- A whole recovery: a flush, reads, copies and the new head.
-use Rattle.std.proofs.Common.{◌≡◌, ◌⊎◌, inl, inr, ⊎_elim, ℕ, ◌+◌, ◌<◌, List, [], length, get_or, sym, ◌∙◌, ap, subst, arith}
+-- A whole recovery: a flush, reads, copies and the new head; and what it leaves up to each of its exits.
+use Rattle.std.proofs.Common.{◌≡◌, ◌⊎◌, inl, inr, ⊎_elim, ℕ, ◌+◌, ◌*◌, ◌<◌, ◌≤◌, List, [], length, get_or, sym, ◌∙◌, ap, subst, arith, Result}
 use Rattle.std.specs.Prelude.{min}
-use Rattle.medium.specs.Medium.{State, Image, CutLeaves, Only, IsSound}
-use Rattle.medium.specs.Moments.{EachCut, IsFlushed, LeavesOnly, StaysWithin, IsQuiet}
+use Rattle.medium.specs.Medium.{State, Image, CutLeaves, Stays, Within, Only, Passes, LooksOnly, IsSound}
+use Rattle.medium.specs.Moments.{EachCut, IsFlushed, LeavesOnly, IsQuiet, SparesFrom}
+use Rattle.medium.specs.Sent.{SendsUpTo}
+use Rattle.medium.specs.declared.fault.MediumFault.{MediumFault}
+use Rattle.medium.specs.declared.fault.MediumFault.TheVariants.{Flush}
 use Rattle.spec.specs.Blocks.{Array}
-use Rattle.medium.proofs.Moments.{joined_same, weaker, at_exit, only_image, quiet_joined, quiet_leaves}
-use Rattle.journal.specs.Places.{Shape, first_home}
+use Rattle.medium.proofs.CallsSent.{none_sent, flush_sends}
+use Rattle.medium.proofs.Moments.{joined_same, weaker, at_exit, only_image, quiet_call, quiet_joined, quiet_leaves}
+use Rattle.medium.proofs.SectorsRead.{no_looks, looks_joined}
+use Rattle.medium.proofs.SparedSectors.{spared_quiet, spared_joined, spared_behind}
+use Rattle.journal.specs.Places.{Shape, first_home, sectors_of, limit_of}
 use Rattle.journal.specs.Sectors.{IsSuper}
 use Rattle.journal.specs.Values.{shape_of}
 use Rattle.journal.specs.Record.{Entry, with_records, home_of}
 use Rattle.journal.specs.Formats.{IsWhole}
 use Rattle.journal.specs.Standing.{StandsFor, IsOurs}
+use Rattle.journal.specs.ImageFaults.{HasShape}
 use Rattle.journal.proofs.SectorNumbers.{IsSuper-one}
-use Rattle.recovery.specs.Copies.{freed_at, copy_calls, AreCopied, IsHomeInRecords, HasNewHead}
+use Rattle.recovery.specs.Causes.{HasFewSlots}
+use Rattle.recovery.specs.Calls.{CopiesPass, MovesHead}
+use Rattle.recovery.specs.Copies.{freed_at, copy_calls, most_calls_of, most_start_of, AreCopied, IsHomeInRecords, HasNewHead}
 use Rattle.recovery.specs.Tries.{AreTries}
-use Rattle.recovery.proofs.SurveyCalls.{tries_moved}
-use Rattle.recovery.specs.Found.{IsFound}
-use Rattle.recovery.specs.Recovered.{IsRecoveredFrom, IsFresh, IsOursForSome, IsOursWithNext, StandsForOneOf}
+use Rattle.recovery.specs.Found.{IsFound, IsSurvey, SurveysAtMost}
+use Rattle.recovery.specs.Unread.{LooksNowhere}
+use Rattle.recovery.specs.Recovered.{IsRecoveredAtLeast, IsFresh, IsOursForSome, IsOursWithNext, StandsForOneOf, LeavesAtLeast}
 use Rattle.recovery.specs.declared.found.Found.{Found}
+use Rattle.recovery.proofs.CallsSent.{few_sent, found_sent}
 use Rattle.recovery.proofs.CopiedRecords.{log_ends, not_in_log, not_behind}
-use Rattle.recovery.proofs.FoundRecords.{found_stands, found_matches, found_before}
+use Rattle.recovery.proofs.FoundRecords.{quiet_before, quiet_after, found_stands, found_matches}
 use Rattle.recovery.proofs.ReplayedImages.{copies_ours, new_head_fresh, fresh_ours}
+use Rattle.recovery.proofs.SectorsRead.{none_looked, looked_later, looked_on}
+use Rattle.recovery.proofs.SparedSectors.{spared_within, quiet_spares, found_spares}
+use Rattle.recovery.proofs.SurveyCalls.{tries_moved, most_start, few_starts}
 
 -- before the first call an image that is allowed stands for itself
-pub itself : (old : State) → EachCut (IsOursForSome old.size) old → EachCut (StandsForOneOf old) old
+itself : (old : State) → EachCut (IsOursForSome old.size) old → EachCut (StandsForOneOf old) old
 itself old each image cut =
     let e = each image cut in record { before = image; allowed = cut; shape = e.0; array = e.1; next = e.2; was = e.3; is = inl e.3 }
-
--- calls that wrote nothing
-pub quiet_cuts : (old new : State) → IsSound old → IsQuiet old new → EachCut (IsOursForSome old.size) old
-    → LeavesOnly (StandsForOneOf old) old new
-quiet_cuts old new sound quiet each = quiet_leaves (StandsForOneOf old) old new sound (itself old each) quiet
 
 -- whatever has been left, calls were made
 pub calls_made : (P : Image → Type 0) (old new : State) → LeavesOnly P old new → LeavesOnly (λ _. Unit {0}) old new
 calls_made P old new left = weaker P (λ _. Unit {0}) old new (λ image p. tt) left
 
--- so they were by calls that wrote nothing
-pub quiet_made : (old new : State) → IsSound old → IsQuiet old new → LeavesOnly (λ _. Unit {0}) old new
-quiet_made old new sound quiet = quiet_leaves (λ _. Unit {0}) old new sound (λ image cut. tt) quiet
+-- a flush was made
+pub record IsFlush (result : Result (Unit {0}) MediumFault) (old mid : State) : Type 0 where
+  pub sound : IsSound old
+  pub passes : Passes Flush result old mid
+  pub content : Stays old.content mid.content
+  pub sets : Within mid.may_leave old.may_leave
 
--- and by some calls and then others
-pub made_joined : (old mid new : State) → LeavesOnly (λ _. Unit {0}) old mid → LeavesOnly (λ _. Unit {0}) mid new
-    → LeavesOnly (λ _. Unit {0}) old new
-made_joined old mid new first second = joined_same (λ _. Unit {0}) old mid new first second
+-- it was good, and a survey was made
+pub record IsSurveyed (result : Result (Unit {0}) MediumFault) (old mid seen : State) : Type 0 where
+  pub flush : IsFlush result old mid
+  pub sound : IsSound mid
+  pub only : Only old.content mid.may_leave
+  pub reads : SurveysAtMost mid seen
 
-module _ (old mid seen : State) (sound : IsSound old) (sound_mid : IsSound mid) (flushed : IsQuiet old mid)
-    (counted : mid.calls ≡ old.calls + 1) (only : Only old.content mid.may_leave) (quiet : IsQuiet mid seen) where
-  -- from the first good flush up to the first write there is one image
-  pub seen_image : (image : Image) → seen.left_since (old.calls + 1) image → image ≡ old.content
-  seen_image image since =
-      let here : seen.left_since mid.calls image = subst (λ (t : ℕ). seen.left_since t image) (sym counted) since in
-      only_image old.content mid.may_leave only image
-      (⊎_elim (λ was. sound_mid.only_now image was) (λ now. now) (quiet.nothing_else mid.calls image (omega arith) here))
+-- what was found is copied to these sectors
+abbrev pub AreTargets : Found → Image → ℕ → Type 0
+AreTargets found image x = IsHomeInRecords (shape_of found.sizes) image found.head found.count x
 
-  pub seen_after : (shape : Shape) (array : Array) (next : ℕ) → IsOurs old.size shape old.content array next → (image : Image)
-      → seen.left_since (old.calls + 1) image → IsOursWithNext old.size shape array next image
-  seen_after shape array next ours image since =
-      inl (subst (λ (i : Image). IsOurs old.size shape i array next) (sym (seen_image image since)) ours)
+-- copies were made of what the survey found
+pub record IsCopying {X : Type 0} (least : ℕ) (mid seen copied : State) (found : Found) (result : Result X MediumFault)
+    : Type 0 where
+  pub survey : IsSurvey least mid seen found
+  pub sound : IsSound copied
+  pub copies : CopiesPass (AreTargets found seen.content) (most_calls_of found.sizes.format * found.count) seen copied result
+  pub sends : SendsUpTo (limit_of found.sizes.format * found.count) seen copied
+  pub looks : LooksOnly (λ s. s < first_home (shape_of found.sizes)) seen copied
 
-  -- up to the first write
-  pub seen_cuts : EachCut (IsOursForSome old.size) old → LeavesOnly (StandsForOneOf old) old seen
-  seen_cuts each = quiet_cuts old seen sound (quiet_joined old mid seen flushed quiet) each
+-- they were good, and the head was moved
+pub record IsMoving {X : Type 0} (seen copied new : State) (found : Found) (result : Result X MediumFault) : Type 0 where
+  pub done : (records : List (List Entry)) → found.count ≡ length records
+      → ((k : ℕ) → k < length records → IsWhole (shape_of found.sizes) seen.content (found.head + k) (get_or records k []))
+      → AreCopied (shape_of found.sizes) records seen copied
+  pub moves : MovesHead (found.head + found.count + 1) copied new result
+  pub sends : SendsUpTo 3 copied new
+  pub looks : LooksNowhere copied new
+
+module _ (least : ℕ) (old mid : State) {result : Result (Unit {0}) MediumFault} (flush : IsFlush result old mid) where
+  pub flushed : IsQuiet old mid
+  flushed = quiet_call old mid flush.passes flush.content flush.sets
+
+  unlooked : LooksNowhere old mid
+  unlooked = flush.passes.looked_stays (λ e. cc e)
+
+  -- a flush
+  pub flush_leaves : LeavesAtLeast least old mid
+  flush_leaves = record {
+    all = record {
+      cuts = λ each. quiet_leaves (StandsForOneOf old) old mid flush.sound (itself old each) flushed;
+      after_flush = λ shape array next ours more. absurd (omega (arith, flush.passes.calls_are, more));
+      spares = quiet_spares old mid flush.sound flushed;
+      moments = quiet_leaves (λ _. Unit {0}) old mid flush.sound (λ image cut. tt) flushed;
+      calls = omega (arith, flush.passes.calls_are);
+      most = λ shape has. omega (arith, flush.passes.calls_are);
+      sends = few_sent old mid (omega (arith, flush_sends old mid flush.passes));
+      looks = none_looked old mid unlooked;
+    };
+    small = λ few. spared_quiet 0 old mid flush.sound flushed;
+  }
+
+module _ (least : ℕ) (old mid seen : State) {result : Result (Unit {0}) MediumFault} (known : IsSurveyed result old mid seen) where
+  before : IsQuiet old mid
+  before = flushed least old mid known.flush
+
+  quiet : IsQuiet old seen
+  quiet = quiet_joined old mid seen before known.reads.quiet
 
   same : seen.content ≡ old.content
-  same = λ i s. (quiet.content_stays s ∙ flushed.content_stays s) i
+  same = λ i s. quiet.content_stays s i
 
-  -- at any moment from the first write on each image is ours for the contents
-  abbrev pub LeavesOurs : State → Shape → Type 0
-  LeavesOurs later shape =
-      (array : Array) (next : ℕ) → IsOurs old.size shape old.content array next
-      → LeavesOnly (IsOursWithNext old.size shape array next) seen later
+  counted : mid.calls ≡ old.calls + 1
+  counted = known.flush.passes.calls_are
 
-  pub later_cuts : (later : State) (shape : Shape) → LeavesOurs later shape
-      → ((other : Shape) → IsSuper other (old.content 0) → other ≡ shape) → EachCut (IsOursForSome old.size) old
-      → LeavesOnly (StandsForOneOf old) old later
-  later_cuts later shape leaves one each =
-      let e = each old.content sound.holds_content in
-      let ours : IsOurs old.size shape old.content e.1 e.2 =
-      subst (λ (s : Shape). IsOurs old.size s old.content e.1 e.2) (one e.0 e.3.stands.keeps.super) e.3 in
-      joined_same (StandsForOneOf old) old seen later (seen_cuts each)
-      (weaker (IsOursWithNext old.size shape e.1 e.2) (StandsForOneOf old) seen later
-      (λ image is. record {
-        before = old.content;
-        allowed = sound.holds_content;
-        shape = shape;
-        array = e.1;
-        next = e.2;
-        was = ours;
-        is = is;
-      })
-      (leaves e.1 e.2 ours))
+  -- from the first good flush up to the first write there is one image
+  seen_after : (shape : Shape) (array : Array) (next : ℕ) → IsOurs old.size shape old.content array next → (image : Image)
+      → seen.left_since (old.calls + 1) image → IsOursWithNext old.size shape array next image
+  seen_after shape array next ours image since =
+      let here : seen.left_since mid.calls image = subst (λ (t : ℕ). seen.left_since t image) (sym counted) since in
+      let is = only_image old.content mid.may_leave known.only image
+      (⊎_elim (λ was. known.sound.only_now image was) (λ now. now) (known.reads.quiet.nothing_else mid.calls image (omega arith) here)) in
+      inl (subst (λ (i : Image). IsOurs old.size shape i array next) (sym is) ours)
 
-  pub later_after : (later : State) (shape : Shape) → LeavesOurs later shape
-      → ((other : Shape) → IsSuper other (old.content 0) → other ≡ shape) → (other : Shape) (array : Array) (next : ℕ)
-      → IsOurs old.size other old.content array next → (image : Image) → later.left_since (old.calls + 1) image
-      → IsOursWithNext old.size other array next image
-  later_after later shape leaves one other array next ours image since =
-      let is : other ≡ shape = one other ours.stands.keeps.super in
-      let here : IsOurs old.size shape old.content array next = subst (λ (s : Shape). IsOurs old.size s old.content array next) is ours in
-      ⊎_elim (λ was. seen_after other array next ours image was)
-      (λ now. subst (λ (s : Shape). IsOursWithNext old.size s array next image) (sym is) now)
-      ((leaves array next here).before (old.calls + 1) image (omega (arith, counted, quiet.later)) since)
+  -- and the survey
+  pub survey_leaves : LeavesAtLeast least old seen
+  survey_leaves = record {
+    all = record {
+      cuts = λ each. quiet_leaves (StandsForOneOf old) old seen known.flush.sound (itself old each) quiet;
+      after_flush = λ shape array next ours more image since. seen_after shape array next ours image since;
+      spares = quiet_spares old seen known.flush.sound quiet;
+      moments = quiet_leaves (λ _. Unit {0}) old seen known.flush.sound (λ image cut. tt) quiet;
+      calls = let most = known.reads.calls in omega (arith, counted, most);
+      most = λ shape has. most_start shape.format shape.slots old.calls mid.calls seen.calls seen.calls 0 counted
+          (known.reads.most shape (quiet_after (λ n i. HasShape n shape i) old mid before has)) (omega arith) (omega arith);
+      sends = few_sent old seen (omega (arith, flush_sends old mid known.flush.passes, none_sent mid seen known.reads.reads));
+      looks = looked_later old mid seen before (unlooked least old mid known.flush) known.reads.looks;
+    };
+    small = λ few. spared_quiet 0 old seen known.flush.sound quiet;
+  }
 
-  module _ (found : Found) (at_mid : IsFound mid.size mid.content found) where
-    at_old : IsFound old.size old.content found
-    at_old = found_before old mid found flushed at_mid
+  module _ (copied : State) (found : Found) {X : Type 0} {copies : Result X MediumFault} (copying : IsCopying least mid seen copied found copies)
+    where
+      abbrev shape : Shape
+      shape = shape_of found.sizes
 
-    pub one_shape : (other : Shape) → IsSuper other (old.content 0) → other ≡ shape_of found.sizes
-    one_shape other s = IsSuper-one other (shape_of found.sizes) (old.content 0) s at_old.shape.super
+      at_old : IsFound old.size old.content found
+      at_old = quiet_before (λ n i. IsFound n i found) old mid before copying.survey.is
 
-    module _ (copied : State) (sound_copied : IsSound copied)
-        (within : StaysWithin (freed_at (IsHomeInRecords (shape_of found.sizes) seen.content found.head found.count) seen.may_leave) seen
-        copied) where
+      one_shape : (other : Shape) → IsSuper other (old.content 0) → other ≡ shape_of found.sizes
+      one_shape other s = IsSuper-one other shape (old.content 0) s at_old.shape.super
+
+      enough : ¬ HasFewSlots least old.size old.content
+      enough few = copying.survey.room (quiet_after (λ n i. HasFewSlots least n i) old mid before few)
+
+      -- at any moment from the first write on each image is ours for the contents
+      abbrev LeavesOurs : State → Type 0
+      LeavesOurs later = (array : Array) (next : ℕ) → IsOurs old.size (shape_of found.sizes) old.content array next
+          → LeavesOnly (IsOursWithNext old.size (shape_of found.sizes) array next) seen later
+
+      -- what such calls behind the survey leave
+      module _ (later : State) (leaves : LeavesOurs later) (spares : SparesFrom (sectors_of (shape_of found.sizes)) seen later)
+          (calls : later.calls ≤ seen.calls + most_calls_of found.sizes.format * found.count + 3)
+          (sends : SendsUpTo (limit_of found.sizes.format * found.count + 3) seen later)
+          (looks : LooksOnly (λ s. s < first_home (shape_of found.sizes)) seen later) where
+        later_cuts : EachCut (IsOursForSome old.size) old → LeavesOnly (StandsForOneOf old) old later
+        later_cuts each =
+            let sound = known.flush.sound in
+            let e = each old.content sound.holds_content in
+            let ours : IsOurs old.size shape old.content e.1 e.2 =
+            subst (λ (s : Shape). IsOurs old.size s old.content e.1 e.2) (one_shape e.0 e.3.stands.keeps.super) e.3 in
+            joined_same (StandsForOneOf old) old seen later (survey_leaves.all.cuts each)
+            (weaker (IsOursWithNext old.size shape e.1 e.2) (StandsForOneOf old) seen later
+            (λ image is. record {
+              before = old.content;
+              allowed = sound.holds_content;
+              shape = shape;
+              array = e.1;
+              next = e.2;
+              was = ours;
+              is = is;
+            })
+            (leaves e.1 e.2 ours))
+
+        later_after : (other : Shape) (array : Array) (next : ℕ) → IsOurs old.size other old.content array next → (image : Image)
+            → later.left_since (old.calls + 1) image → IsOursWithNext old.size other array next image
+        later_after other array next ours image since =
+            let is : other ≡ shape = one_shape other ours.stands.keeps.super in
+            let here = subst (λ (s : Shape). IsOurs old.size s old.content array next) is ours in
+            ⊎_elim (λ was. seen_after other array next ours image was)
+            (λ now. subst (λ (s : Shape). IsOursWithNext old.size s array next image) (sym is) now)
+            ((leaves array next here).before (old.calls + 1) image (omega (arith, counted, known.reads.quiet.later)) since)
+
+        few_made : later.calls ≤ old.calls + 6 + most_start_of found.sizes.format * found.sizes.slots
+        few_made = most_start found.sizes.format found.sizes.slots old.calls mid.calls seen.calls later.calls found.count counted
+            (known.reads.most shape copying.survey.is.shape) calls copying.survey.is.count.few
+
+        later_leaves : LeavesAtLeast least old later
+        later_leaves = record {
+          all = record {
+            cuts = later_cuts;
+            after_flush = λ other array next ours more image since. later_after other array next ours image since;
+            spares = found_spares found old seen later known.flush.sound quiet at_old spares;
+            moments = joined_same (λ _. Unit {0}) old seen later survey_leaves.all.moments (calls_made _ seen later spares.moments);
+            calls = few_starts found.sizes.format found.sizes.slots old.calls later.calls found.sizes.most_slots few_made;
+            most = λ other has. subst (λ (s : Shape). later.calls ≤ old.calls + 6 + most_start_of s.format * s.slots)
+                (sym (one_shape other has.super)) few_made;
+            sends = found_sent old later found at_old
+                (omega (arith, flush_sends old mid known.flush.passes, none_sent mid seen known.reads.reads, sends));
+            looks = looked_on shape old seen later at_old.shape survey_leaves.all.looks looks;
+          };
+          small = λ few. absurd (enough few);
+        }
+
       -- each sector is as it was, or is the home of a block that is copied
-      pub each_sector : (image : Image)
-          → CutLeaves (freed_at (IsHomeInRecords (shape_of found.sizes) seen.content found.head found.count) seen.may_leave) image → (x : ℕ)
-          → (image x ≡ old.content x) ⊎ IsHomeInRecords (shape_of found.sizes) old.content found.head found.count x
+      each_sector : (image : Image) → CutLeaves (freed_at (AreTargets found seen.content) seen.may_leave) image → (x : ℕ)
+          → (image x ≡ old.content x) ⊎ AreTargets found old.content x
       each_sector image cut x = ⊎_elim
-          (λ left. inl (only x (image x) (quiet.sets_shrink x (image x) left)))
-          (λ home. inr (subst (λ (i : Image). IsHomeInRecords (shape_of found.sizes) i found.head found.count x) same home))
-          (cut x)
+          (λ left. inl (known.only x (image x) (known.reads.quiet.sets_shrink x (image x) left)))
+          (λ home. inr (subst (λ (i : Image). AreTargets found i x) same home)) (cut x)
 
       copied_ours : (array : Array) (next : ℕ) → IsOurs old.size (shape_of found.sizes) old.content array next → (image : Image)
-          → CutLeaves (freed_at (IsHomeInRecords (shape_of found.sizes) seen.content found.head found.count) seen.may_leave) image
-          → IsOurs old.size (shape_of found.sizes) image array next
+          → CutLeaves (freed_at (AreTargets found seen.content) seen.may_leave) image → IsOurs old.size (shape_of found.sizes) image array next
       copied_ours array next ours image cut =
           let f = found_matches old.size old.content found at_old array next ours.stands in
-          copies_ours old.size (shape_of found.sizes) old.content array next ours found.head found.count f.0 f.1 image
-          (each_sector image cut)
+          copies_ours old.size shape old.content array next ours found.head found.count f.0 f.1 image (each_sector image cut)
 
-      pub copied_leaves : LeavesOurs copied (shape_of found.sizes)
+      copied_leaves : LeavesOurs copied
       copied_leaves array next ours =
-          weaker (CutLeaves (freed_at (IsHomeInRecords (shape_of found.sizes) seen.content found.head found.count) seen.may_leave))
-          (IsOursWithNext old.size (shape_of found.sizes) array next) seen copied
-          (λ image cut. inl (copied_ours array next ours image cut)) within
+          weaker (CutLeaves (freed_at (AreTargets found seen.content) seen.may_leave)) (IsOursWithNext old.size shape array next) seen copied
+          (λ image cut. inl (copied_ours array next ours image cut)) copying.copies.moments
 
-      module _
-          (elsewhere : (x : ℕ) → ¬ IsHomeInRecords (shape_of found.sizes) seen.content found.head found.count x
-          → copied.content x ≡ seen.content x)
-          (copies : (records : List (List Entry)) → found.count ≡ length records
-          → ((k : ℕ) → k < length records → IsWhole (shape_of found.sizes) seen.content (found.head + k) (get_or records k []))
-          → AreCopied (shape_of found.sizes) records seen copied) where
+      copied_spares : SparesFrom (sectors_of (shape_of found.sizes)) seen copied
+      copied_spares = spared_within (sectors_of shape) (AreTargets found seen.content) seen copied copying.sound
+          (not_behind shape seen.content found.head found.count) copying.copies.elsewhere copying.copies.moments
+
+      -- and the copies
+      pub copies_leave : LeavesAtLeast least old copied
+      copies_leave = later_leaves copied copied_leaves copied_spares (omega (arith, copying.copies.calls)) (omega (arith, copying.sends))
+          copying.looks
+
+      module _ (new : State) {Y : Type 0} {moved : Result Y MediumFault} (moving : IsMoving seen copied new found moved) where
         copied_log : (x : ℕ) → x < first_home (shape_of found.sizes) → copied.content x ≡ old.content x
         copied_log x below =
-            elsewhere x (not_in_log (shape_of found.sizes) seen.content found.head found.count x below) ∙ ap (λ (i : Image). i x) same
+            copying.copies.elsewhere x (not_in_log shape seen.content found.head found.count x below) ∙ quiet.content_stays x
 
-        -- the records are whole before they are copied
-        seen_whole : (array : Array) (next : ℕ) (s : StandsFor old.size (shape_of found.sizes) old.content array next) → (k : ℕ)
-            → k < length s.records → IsWhole (shape_of found.sizes) seen.content (found.head + k) (get_or s.records k [])
-        seen_whole array next s k less =
+        -- the records of what the contents stand for are copied
+        all_copied : (array : Array) (next : ℕ) (s : StandsFor old.size (shape_of found.sizes) old.content array next)
+            → AreCopied (shape_of found.sizes) s.records seen copied
+        all_copied array next s =
             let f = found_matches old.size old.content found at_old array next s in
-            let head = f.0 in
-            let e : s.head + k ≡ found.head + k = omega (arith, head) in
-            subst (λ (i : Image). IsWhole (shape_of found.sizes) i (found.head + k) (get_or s.records k [])) (sym same)
-            (subst (λ (n : ℕ). IsWhole (shape_of found.sizes) old.content n (get_or s.records k [])) e (s.keeps.whole k less))
+            moving.done s.records f.1 (λ k less. subst (λ (i : Image). IsWhole shape i (found.head + k) (get_or s.records k [])) (sym same)
+            (subst (λ (n : ℕ). IsWhole shape old.content (n + k) (get_or s.records k [])) (sym f.0) (s.keeps.whole k less)))
 
-        copied_home : (array : Array) (next : ℕ) (s : StandsFor old.size (shape_of found.sizes) old.content array next) → (b : ℕ)
+        copied_home : (array : Array) (next : ℕ) → StandsFor old.size (shape_of found.sizes) old.content array next → (b : ℕ)
             → b < found.sizes.blocks → copied.content (first_home (shape_of found.sizes) + b) ≡ array b
-        copied_home array next s b below =
-            let f = found_matches old.size old.content found at_old array next s in
-            (copies s.records f.1 (seen_whole array next s)).home b
-            ∙ ap (λ (i : Image). with_records s.records (home_of (shape_of found.sizes) i) b) same ∙ s.keeps.blocks b below
-
-        next_is : (array : Array) (next : ℕ) → StandsFor old.size (shape_of found.sizes) old.content array next
-            → found.head + found.count + 1 ≡ next
-        next_is array next s =
-            let f = found_matches old.size old.content found at_old array next s in
-            let head = f.0 in
-            let count = f.1 in
-            omega (arith, head, count, s.next_is)
+        copied_home array next s b below = (all_copied array next s).home b
+            ∙ ap (λ (i : Image). with_records s.records (home_of shape i) b) same ∙ s.keeps.blocks b below
 
         moved_fresh : (array : Array) (next : ℕ) → IsOurs old.size (shape_of found.sizes) old.content array next → (image : Image)
             → HasNewHead (found.head + found.count + 1) copied.content image → IsFresh (shape_of found.sizes) array next image
         moved_fresh array next ours image moved =
-            new_head_fresh old.size (shape_of found.sizes) old.content array next ours copied.content image copied_log
-            (copied_home array next ours.stands)
-            (subst (λ (n : ℕ). HasNewHead n copied.content image) (next_is array next ours.stands) moved)
+            let f = found_matches old.size old.content found at_old array next ours.stands in
+            let is : found.head + found.count + 1 ≡ next = omega (arith, f.0, f.1, ours.stands.next_is) in
+            new_head_fresh old.size shape old.content array next ours copied.content image copied_log
+            (copied_home array next ours.stands) (subst (λ (n : ℕ). HasNewHead n copied.content image) is moved)
 
-        module _ (new : State)
-            (moments : LeavesOnly
-            (λ image. CutLeaves copied.may_leave image ⊎ HasNewHead (found.head + found.count + 1) copied.content image) copied
-            new) where
-          pub moved_leaves : LeavesOurs new (shape_of found.sizes)
-          moved_leaves array next ours =
-              joined_same (IsOursWithNext old.size (shape_of found.sizes) array next) seen copied new (copied_leaves array next ours)
-              (weaker (λ image. CutLeaves copied.may_leave image ⊎ HasNewHead (found.head + found.count + 1) copied.content image)
-              (IsOursWithNext old.size (shape_of found.sizes) array next) copied new
-              (λ image either. ⊎_elim
-              (λ cut. inl (copied_ours array next ours image
-              (at_exit
-              (CutLeaves (freed_at (IsHomeInRecords (shape_of found.sizes) seen.content found.head found.count)
-              seen.may_leave))
-              seen copied sound_copied within image cut)))
-              (λ moved. inr (fresh_ours old.size (shape_of found.sizes) array next image at_old.shape.fits
-              (moved_fresh array next ours image moved))) either) moments)
+        moved_leaves : LeavesOurs new
+        moved_leaves array next ours =
+            joined_same (IsOursWithNext old.size shape array next) seen copied new (copied_leaves array next ours)
+            (weaker (λ image. CutLeaves copied.may_leave image ⊎ HasNewHead (found.head + found.count + 1) copied.content image)
+            (IsOursWithNext old.size shape array next) copied new
+            (λ image either. ⊎_elim
+            (λ cut. at_exit (IsOursWithNext old.size shape array next) seen copied copying.sound (copied_leaves array next ours) image cut)
+            (λ moved. inr (fresh_ours old.size shape array next image at_old.shape.fits (moved_fresh array next ours image moved)))
+            either) moving.moves.moments)
 
-          module _ (moved : HasNewHead (found.head + found.count + 1) copied.content new.content) (done : IsFlushed new) where
-            pub recovered_fresh : (other : Shape) (array : Array) (next : ℕ) → IsOurs old.size other old.content array next
-                → EachCut (IsFresh other array next) new
-            recovered_fresh other array next ours image cut =
-                let is : other ≡ shape_of found.sizes = one_shape other ours.stands.keeps.super in
-                let here : IsOurs old.size (shape_of found.sizes) old.content array next =
-                subst (λ (s : Shape). IsOurs old.size s old.content array next) is ours in
-                subst (λ (s : Shape). IsFresh s array next image) (sym is)
-                (subst (λ (i : Image). IsFresh (shape_of found.sizes) array next i)
-                (sym (only_image new.content new.may_leave done image cut)) (moved_fresh array next here new.content moved))
+        -- and the new head
+        pub moves_leave : LeavesAtLeast least old new
+        moves_leave = later_leaves new moved_leaves
+            (spared_joined (sectors_of shape) seen copied new copied_spares
+            (spared_behind 2 (sectors_of shape) copied new (omega arith) moving.moves.spares))
+            (omega (arith, copying.copies.calls, moving.moves.calls)) (omega (arith, copying.sends, moving.sends))
+            (looks_joined _ seen copied new copying.looks (no_looks _ copied new moving.looks))
 
-            pub recovered_from : AreTries (shape_of found.sizes) mid.content found.head (min (found.count + 1) found.sizes.slots)
-                (mid.calls + 2) seen.calls → new.calls ≡ copied.calls + 3 → IsRecoveredFrom old new
-                (record { sizes = found.sizes; next = found.head + found.count + 1 })
-            recovered_from inspected last =
-                let st = found_stands old.size old.content found at_old in
-                let f = found_matches old.size old.content found at_old st.array (found.head + found.count + 1) st.stands in
-                let shape = shape_of found.sizes in
-                let there : mid.content ≡ old.content = λ i s. flushed.content_stays s i in
-                let tries = min (found.count + 1) found.sizes.slots in
-                let here = subst (λ (i : Image). AreTries shape i found.head tries (mid.calls + 2) seen.calls) there inspected in
-                let from = subst (λ (n : ℕ). AreTries shape old.content n tries (mid.calls + 2) seen.calls) f.0 here in
-                let tried = subst
-                (λ (n : ℕ). AreTries shape old.content st.stands.head (min (n + 1) found.sizes.slots) (mid.calls + 2) seen.calls)
-                f.1 from in
-                let ends = log_ends (shape_of found.sizes) at_old.shape.super.home_is in
-                let copying = (copies st.stands.records f.1 (seen_whole st.array (found.head + found.count + 1) st.stands)).exact in
-                record {
+        module _ (head : HasNewHead (found.head + found.count + 1) copied.content new.content) (done : IsFlushed new) where
+          pub recovery_fresh : (other : Shape) (array : Array) (next : ℕ) → IsOurs old.size other old.content array next
+              → EachCut (IsFresh other array next) new
+          recovery_fresh other array next ours image cut =
+              let is : other ≡ shape = one_shape other ours.stands.keeps.super in
+              let here = subst (λ (s : Shape). IsOurs old.size s old.content array next) is ours in
+              subst (λ (s : Shape). IsFresh s array next image) (sym is)
+              (subst (IsFresh shape array next) (sym (only_image new.content new.may_leave done image cut))
+              (moved_fresh array next here new.content head))
+
+          pub recovery_from : new.calls ≡ copied.calls + 3
+              → IsRecoveredAtLeast least old new (record { sizes = found.sizes; next = found.head + found.count + 1 })
+          recovery_from last =
+              let st = found_stands old.size old.content found at_old in
+              let s = st.stands in
+              let tries = quiet_before (λ n i. AreTries shape i found.head (min (found.count + 1) found.sizes.slots) (mid.calls + 2) seen.calls)
+              old mid before copying.survey.exact in
+              let copied_all = all_copied st.array (found.head + found.count + 1) s in
+              record {
+                from = record {
                   array = st.array;
-                  stood = st.stands;
+                  stood = s;
                   stamp_left = at_old.stamp_left;
                   flushed = done;
-                  head = moved.head;
-                  home = λ b below. moved.elsewhere (first_home (shape_of found.sizes) + b) (λ e. omega (arith, e, ends))
-                      ∙ copied_home st.array (found.head + found.count + 1) st.stands b below;
-                  elsewhere = λ x not other. moved.elsewhere x not
+                  head = head.head;
+                  home = λ b below. head.elsewhere (first_home shape + b) (λ e. omega (arith, e, log_ends shape at_old.shape.super.home_is))
+                      ∙ copied_home st.array (found.head + found.count + 1) s b below;
+                  elsewhere = λ x not other. head.elsewhere x not
                       ∙ ⊎_elim (copied_log x)
-                      (λ past. elsewhere x (not_behind (shape_of found.sizes) seen.content found.head found.count x past)
-                      ∙ ap (λ (i : Image). i x) same) other;
-                  calls = tries_moved found.sizes.format shape old.content st.stands.head
-                      (min (length st.stands.records + 1) found.sizes.slots) (mid.calls + 2) seen.calls
-                      (old.calls + 6 + copy_calls found.sizes.format st.stands.records) new.calls
-                      (copy_calls found.sizes.format st.stands.records + 3) (omega (arith, counted)) (omega (arith, copying, last)) tried;
-                }
+                      (λ past. copying.copies.elsewhere x (not_behind shape seen.content found.head found.count x past)
+                      ∙ quiet.content_stays x) other;
+                  calls = tries_moved found.sizes.format shape old.content s.head (min (length s.records + 1) found.sizes.slots)
+                      (mid.calls + 2) seen.calls (old.calls + 6 + copy_calls found.sizes.format s.records) new.calls
+                      (copy_calls found.sizes.format s.records + 3) (omega (arith, counted)) (omega (arith, copied_all.exact, last))
+                      (subst (λ (n : ℕ). AreTries shape old.content n (min (length s.records + 1) found.sizes.slots) (mid.calls + 2) seen.calls)
+                      (sym st.head_is) (subst (λ (n : ℕ). AreTries shape old.content found.head (min (n + 1) found.sizes.slots) (mid.calls + 2)
+                      seen.calls) (sym st.count_is) tries));
+                };
+                room = enough;
+              }

@@ -1,20 +1,14 @@
-use Rattle.std.proofs.Common.{◌≡◌, ◌<◌, ◌≤◌, ◌+◌, ◌*◌, ℕ, List, length}
+use Rattle.std.proofs.Common.{◌≡◌, ◌<◌, ◌+◌, ◌*◌, ℕ, Ok, length}
 use Rattle.std.specs.Prelude.{slice_index}
-use Rattle.medium.specs.Moments.{IsQuiet}
+use Rattle.journal.specs.Reads.{ReadsPass}
 use Rattle.journal.specs.Values.{shape_of}
-use Rattle.journal.specs.Record.{Entry}
-use Rattle.journal.specs.Formats.{IsWhole}
-use Rattle.recovery.specs.Causes.{MakesReadsAlone}
+use Rattle.recovery.proofs.InspectedImage.{HasCount}
 use Rattle.recovery.proofs.inspection.count_waiting.Given as goal
 
 abbrev pub invariant-loop-j : goal.invariant-loop-j
 invariant-loop-j g l = record {
-  quiet : IsQuiet (g.M.Medium.state l.fn.m) (g.M.Medium.state l.m);
-  reads : MakesReadsAlone (g.M.Medium.state l.fn.m) (g.M.Medium.state l.m);
-  calls : (g.M.Medium.state l.m).calls ≤ (g.M.Medium.state l.fn.m).calls + 250 * l.j;
+  passes : ReadsPass {X = Unit {0}} (250 * l.j) (g.M.Medium.state l.fn.m) (g.M.Medium.state l.m) (Ok tt);
   long : length l.waiting.items ≡ l.j;
-  each : (k : ℕ) → k < l.j → (entries : List Entry)
-      × IsWhole (shape_of l.sizes) (g.M.Medium.state l.fn.m).content (l.head + k) entries
-      × (slice_index l.waiting.items k ≡ length entries);
+  each : (k : ℕ) → k < l.j → HasCount (shape_of l.sizes) (g.M.Medium.state l.fn.m).content (l.head + k) (slice_index l.waiting.items k);
   follows : g.M.Medium.follows l.fn.m l.m;
 }

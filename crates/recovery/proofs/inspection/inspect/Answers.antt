@@ -3,7 +3,9 @@ use Rattle.std.proofs.lemmas.Result.{err_from_is_err_and}
 use Rattle.medium.proofs.Moments.{quiet_call, quiet_joined}
 use Rattle.journal.specs.Sectors.{IsHead}
 use Rattle.journal.specs.Values.{shape_of}
-use Rattle.recovery.proofs.InspectedImage.{counts_stand, counts_before, refused_look}
+use Rattle.recovery.specs.Inspected.{AreCounts}
+use Rattle.recovery.proofs.FoundRecords.{quiet_before}
+use Rattle.recovery.proofs.InspectedImage.{counts_stand, refused_look}
 use Rattle.recovery.proofs.inspection.inspect.Goals as goal
 
 pub returns-in_err-sizes-clause-err : goal.returns-in_err-sizes-clause-err
@@ -23,7 +25,7 @@ returns-clause-ok g c =
     let waiting = c.in_ok-waiting.waiting in
     counts_stand old (record { sizes = c.in_ok-sizes.sizes; head = stamp; waiting = waiting }) c.in_ok-sizes.ensures.ok
     (subst (IsHead stamp) (c.in_ok-read.ensures.ok ∙ quiet.content_stays 1) c.in-Some.ensures.some)
-    (counts_before (shape_of c.in_ok-sizes.sizes) old mid stamp waiting.items seen c.in_ok-waiting.ensures.finds)
+    (quiet_before (λ n i. AreCounts (shape_of c.in_ok-sizes.sizes) i stamp waiting.items) old mid seen c.in_ok-waiting.ensures.finds)
 
 pub returns-clause-looks : goal.returns-clause-looks
 returns-clause-looks g c =

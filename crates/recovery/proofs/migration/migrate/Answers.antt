@@ -4,19 +4,27 @@ use Rattle.medium.specs.Moments.{EachCut}
 use Rattle.journal.specs.Places.{Shape}
 use Rattle.journal.specs.Values.{shape_of}
 use Rattle.journal.proofs.SectorNumbers.{IsSuper-one}
-use Rattle.recovery.specs.Causes.{start_fault_of}
-use Rattle.recovery.specs.Migrated.{IsMigrationRefusal}
+use Rattle.recovery.specs.Causes.{start_fault_of, WritesNothing}
+use Rattle.recovery.specs.Migrated.{IsMigrationRefusal, MigrationLeaves}
 use Rattle.recovery.specs.Recovered.{IsFresh}
-use Rattle.recovery.proofs.Causes.{served_slots, refused_later}
+use Rattle.recovery.proofs.Causes.{served_slots, refused_later, call_refuses}
 use Rattle.recovery.proofs.MigrationCuts.{can_migrate, recovery_leaves, migration_leaves, migrated_fresh, migrated_from}
+use Rattle.recovery.proofs.migration.migrate.Given as given
 use Rattle.recovery.proofs.migration.migrate.Goals as goal
+use Rattle.recovery.proofs.migration.migrate.Goals.{After-make_two}
+
+-- format 2 is made, good or refused
+makes : (g : given.Over) (c : After-make_two g) → MigrationLeaves (g.M.Medium.state c.args.m.now) (g.M.Medium.state c.make_two.new.m)
+makes g c =
+    let start = c.in_ok-found.ensures in
+    let making = c.make_two.ensures in
+    migration_leaves _ _ _ start.ok.from start.ok.room (c.migrates.ensures.0 c.if-migrates.true) _ making.leaves.spares start.fresh
+    (g.met.M.Medium.sound c.args.m.now) (g.met.M.Medium.sound c.recover_at_least.new.m)
+    making.leaves.cuts c.recover_at_least.ensures.leaves making.calls.calls making.leaves.sends making.leaves.looked_stays
 
 pub make_two-requires-clause-can : goal.make_two-requires-clause-can
 make_two-requires-clause-can g c =
-    let old = g.M.Medium.state c.args.m.now in
-    let mid = g.M.Medium.state c.recover_at_least.new.m in
-    let found = c.in_ok-found.ensures.ok in
-    can_migrate old mid c.in_ok-found.found found.from found.room (c.migrates.ensures.0 c.if-migrates.true)
+    let start = c.in_ok-found.ensures.ok in can_migrate _ _ _ start.from start.room (c.migrates.ensures.0 c.if-migrates.true)
 
 pub returns-in_err-found-clause-err : goal.returns-in_err-found-clause-err
 returns-in_err-found-clause-err g c =
@@ -26,7 +34,7 @@ returns-in_err-found-clause-err g c =
     let why = c.in_err-found.ensures.err in
     let refusal : IsMigrationRefusal old mid c.in_err-found.field-0.0 = record {
       cause = why;
-      served = λ shape array next s left some. served_slots 5 old mid c.in_err-found.field-0.0 why shape array next s left some;
+      served = λ shape array next s left some. served_slots 5 old mid shape array next s left some c.in_err-found.field-0.0 why;
     } in
     rw (p.1, p.2) refusal
 
@@ -39,84 +47,41 @@ returns-in_err-make_two-clause-err g c =
     let p = err_from_is_err_and back.result back.ensures.1 in
     let kind = c.in_err-make_two.field-0.0 in
     let before = c.recover_at_least.ensures.leaves.all.moments in
-    let refusal : IsMigrationRefusal old new (start_fault_of c.in_err-make_two.field-0.0) = record {
-      cause = refused_later 5 (λ _. Unit {0}) old mid new before kind c.in_err-make_two.ensures.cause;
+    let refusal : IsMigrationRefusal old new (start_fault_of kind) = record {
+      cause = call_refuses 5 WritesNothing old new kind
+          (refused_later old mid new before.failures_stay before.refused_stay kind c.in_err-make_two.ensures.cause);
       served = λ shape array next s left some. (kind, refl);
     } in
     rw (p.1, p.2) refusal
 
 pub returns-in_err-found-clause-leaves : goal.returns-in_err-found-clause-leaves
-returns-in_err-found-clause-leaves g c =
-    let old = g.M.Medium.state c.args.m.now in
-    let mid = g.M.Medium.state c.recover_at_least.new.m in
-    recovery_leaves old mid c.recover_at_least.ensures.leaves
+returns-in_err-found-clause-leaves g c = recovery_leaves _ _ c.recover_at_least.ensures.leaves
 
 pub returns-else-migrates-clause-leaves : goal.returns-else-migrates-clause-leaves
-returns-else-migrates-clause-leaves g c =
-    let old = g.M.Medium.state c.args.m.now in
-    let mid = g.M.Medium.state c.recover_at_least.new.m in
-    recovery_leaves old mid c.recover_at_least.ensures.leaves
+returns-else-migrates-clause-leaves g c = recovery_leaves _ _ c.recover_at_least.ensures.leaves
 
 pub returns-in_err-make_two-clause-leaves : goal.returns-in_err-make_two-clause-leaves
-returns-in_err-make_two-clause-leaves g c =
-    let old = g.M.Medium.state c.args.m.now in
-    let mid = g.M.Medium.state c.recover_at_least.new.m in
-    let new = g.M.Medium.state c.make_two.new.m in
-    let found = c.in_ok-found.found in
-    let start = c.in_ok-found.ensures in
-    let making = c.make_two.ensures in
-    let sound = g.met.M.Medium.sound c.args.m.now in
-    let sound_mid = g.met.M.Medium.sound c.recover_at_least.new.m in
-    migration_leaves old mid found start.ok.from start.ok.room
-    (c.migrates.ensures.0 c.if-migrates.true) new making.leaves.spares start.fresh sound sound_mid
-    making.leaves.cuts c.recover_at_least.ensures.leaves making.calls.calls making.leaves.sends
-    making.leaves.looked_stays
+returns-in_err-make_two-clause-leaves g c = makes g (goal.at.returns-in_err-make_two-clause-leaves g c).After-make_two
 
 pub returns-in_ok-make_two-clause-leaves : goal.returns-in_ok-make_two-clause-leaves
-returns-in_ok-make_two-clause-leaves g c =
-    let old = g.M.Medium.state c.args.m.now in
-    let mid = g.M.Medium.state c.recover_at_least.new.m in
-    let new = g.M.Medium.state c.make_two.new.m in
-    let found = c.in_ok-found.found in
-    let start = c.in_ok-found.ensures in
-    let making = c.make_two.ensures in
-    let sound = g.met.M.Medium.sound c.args.m.now in
-    let sound_mid = g.met.M.Medium.sound c.recover_at_least.new.m in
-    migration_leaves old mid found start.ok.from start.ok.room
-    (c.migrates.ensures.0 c.if-migrates.true) new making.leaves.spares start.fresh sound sound_mid
-    making.leaves.cuts c.recover_at_least.ensures.leaves making.calls.calls making.leaves.sends
-    making.leaves.looked_stays
+returns-in_ok-make_two-clause-leaves g c = makes g (goal.at.returns-in_ok-make_two-clause-leaves g c).After-make_two
 
 pub returns-in_ok-make_two-clause-ok : goal.returns-in_ok-make_two-clause-ok
 returns-in_ok-make_two-clause-ok g c =
-    let old = g.M.Medium.state c.args.m.now in
-    let mid = g.M.Medium.state c.recover_at_least.new.m in
-    let new = g.M.Medium.state c.make_two.new.m in
-    let found = c.in_ok-found.found in
-    let start = c.in_ok-found.ensures in
-    let making = c.make_two.ensures in
+    let start = c.in_ok-found.ensures.ok in
     let done = c.in_ok-make_two.ensures in
-    migrated_from old mid found start.ok.from start.ok.room (c.migrates.ensures.0 c.if-migrates.true) new making.leaves.spares
-    c.in_ok-make_two.field-0 done.ok.sizes_are done.ok.next_is done.ok.made done.calls.exact
+    migrated_from _ _ _ start.from start.room (c.migrates.ensures.0 c.if-migrates.true) _ c.make_two.ensures.leaves.spares _ done.ok
+    done.calls.exact
 
 pub returns-in_ok-make_two-clause-fresh : goal.returns-in_ok-make_two-clause-fresh
 returns-in_ok-make_two-clause-fresh g c shape array next ours =
-    let old = g.M.Medium.state c.args.m.now in
-    let mid = g.M.Medium.state c.recover_at_least.new.m in
-    let new = g.M.Medium.state c.make_two.new.m in
-    let found = c.in_ok-found.found in
-    let start = c.in_ok-found.ensures in
-    let making = c.make_two.ensures in
-    let done = c.in_ok-make_two.ensures in
-    migrated_fresh old mid found start.ok.from start.ok.room (c.migrates.ensures.0 c.if-migrates.true) new making.leaves.spares
-    c.in_ok-make_two.field-0 done.ok.sizes_are done.ok.next_is done.ok.made shape array next ours
+    let start = c.in_ok-found.ensures.ok in
+    migrated_fresh _ _ _ start.from start.room (c.migrates.ensures.0 c.if-migrates.true) _ c.make_two.ensures.leaves.spares _
+    c.in_ok-make_two.ensures.ok shape array next ours
 
 pub returns-else-migrates-clause-fresh : goal.returns-else-migrates-clause-fresh
 returns-else-migrates-clause-fresh g c shape array next ours =
-    let old = g.M.Medium.state c.args.m.now in
-    let mid = g.M.Medium.state c.recover_at_least.new.m in
-    let found = c.in_ok-found.found in
     let from = c.in_ok-found.ensures.ok.from in
-    let is : shape ≡ shape_of found.sizes =
-    IsSuper-one shape (shape_of found.sizes) (old.content 0) ours.stands.keeps.super from.stood.keeps.super in
-    subst (λ (s : Shape). EachCut (IsFresh s array next) mid) is (c.in_ok-found.ensures.fresh shape array next ours)
+    let is = IsSuper-one shape (shape_of c.in_ok-found.found.sizes) _ ours.stands.keeps.super from.stood.keeps.super in
+    subst (λ (s : Shape). EachCut (IsFresh s array next) (g.M.Medium.state c.recover_at_least.new.m)) is
+    (c.in_ok-found.ensures.fresh shape array next ours)

@@ -38,9 +38,8 @@ returns-in_err-write g c = record {
       let second = c.write.ensures in
       let head = subst (λ (n : ℕ). IsHead n c.encode.result) c.new.ensures c.encode.ensures in
       record {
-        moments = head_written c.args.stamp c.encode.result old mid new head sound sound_mid first.passes first.sets
-            c.in_ok-flush.ensures.ok
-            second.passes second.sets;
+        moments = head_written c.args.stamp old mid sound first.passes first.sets c.in_ok-flush.ensures.ok sound_mid new c.encode.result
+            head second.passes second.sets;
         spares = spared_joined 2 old mid new (spared_silent 2 old mid sound first.passes first.content first.sets)
             (spared_write 2 mid new 1 c.encode.result sound_mid (omega arith) second.passes second.sets c.in_err-write.ensures.err);
         calls = omega (arith, first.passes.calls_are, second.passes.calls_are);
@@ -72,8 +71,8 @@ returns g c = record {
       let before = spared_joined 2 old mid written (spared_silent 2 old mid sound first.passes first.content first.sets)
       (spared_write 2 mid written 1 c.encode.result sound_mid (omega arith) second.passes second.sets (inr c.in_ok-write.ensures.ok)) in
       record {
-        moments = head_flushed c.args.stamp c.encode.result old mid written new head sound sound_mid first.passes first.sets
-            c.in_ok-flush.ensures.ok second.passes second.sets third.passes third.sets;
+        moments = head_flushed c.args.stamp old mid sound first.passes first.sets c.in_ok-flush.ensures.ok sound_mid written
+            c.encode.result head second.passes second.sets new third.passes third.sets;
         spares = spared_joined 2 old written new before (spared_silent 2 written new sound_written third.passes third.content third.sets);
         calls = omega (arith, first.passes.calls_are, second.passes.calls_are, third.passes.calls_are);
         exact = search rules;

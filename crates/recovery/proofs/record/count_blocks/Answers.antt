@@ -1,15 +1,14 @@
-use Rattle.std.proofs.Common.{◌≡◌, ◌∙◌, ◌<◌, ◌≤◌, length, sym, ap, subst, arith, rules}
+use Rattle.std.proofs.Common.{◌≡◌, ◌∙◌, ◌<◌, ◌≤◌, ◌+◌, length, sym, ap, subst, arith, rules}
 use Rattle.std.proofs.lemmas.List.{length-map}
-use Rattle.std.specs.Prelude.{ℕ, Bool, Option, Some, None, MatchOption}
-use Rattle.medium.specs.Medium.{Image}
-use Rattle.medium.proofs.Moments.{quiet_joined}
+use Rattle.std.specs.Prelude.{ℕ, Option, Some, None, MatchOption}
 use Rattle.medium.proofs.SectorsRead.{looks_joined}
-use Rattle.journal.specs.Places.{first_home}
 use Rattle.journal.specs.Values.{shape_of}
 use Rattle.journal.specs.Entry.{Entry}
-use Rattle.journal.specs.Reading.{AreStamped, IsReadForStamps, FindsRecord, found_in}
+use Rattle.journal.specs.Reading.{AreStamped, IsReadForStamps}
 use Rattle.journal.proofs.Finding.{stamped_whole}
 use Rattle.journal.proofs.SlotTwo.{untrue}
+use Rattle.recovery.proofs.FoundRecords.{quiet_before, quiet_after}
+use Rattle.recovery.proofs.JoinedCalls.{reads_on}
 use Rattle.recovery.proofs.OneTry.{try_missed, try_read, most_tried}
 use Rattle.recovery.proofs.record.count_blocks.Goals as goal
 
@@ -23,99 +22,69 @@ returns-then-not-branch g c = record {
   passes = search rules;
   finds =
       let shape = shape_of c.args.sizes.now in
-      let old = g.M.Medium.state c.args.m.now in
-      let mid = g.M.Medium.state c.read_record.new.m in
-      let finds = subst (λ (b : Bool). FindsRecord shape c.args.stamp old mid (found_in b c.read_record.new.to))
-      c.if-not-branch.true c.in_ok-read_record.ensures.finds in
+      let finds = rw c.if-not-branch.true at c.in_ok-read_record.ensures.finds in
       record {
-        exact = try_missed shape.format shape old.content c.args.stamp finds.exact.0 old.calls mid.calls finds.exact.1 finds.exact.2;
+        exact = try_missed shape.format shape _ c.args.stamp finds.exact.0 (g.M.Medium.state c.args.m.now).calls
+            (g.M.Medium.state c.read_record.new.m).calls finds.exact.1 finds.exact.2;
         counted = λ whole. finds.all whole.0 whole.1;
       };
   follows = search rules;
 }
 
 pub returns-in_err-are_stamped : goal.returns-in_err-are_stamped
-returns-in_err-are_stamped g c = record {
-  passes =
-      let old = g.M.Medium.state c.args.m.now in
-      let mid = g.M.Medium.state c.read_record.new.m in
-      let new = g.M.Medium.state c.are_stamped.new.m in
-      let first = c.read_record.ensures.passes in
-      let last = c.are_stamped.ensures.passes in
-      let few : length c.read_record.new.to.numbers.items ≤ 240 = search rules in
-      record {
-        quiet = quiet_joined old mid new first.quiet last.quiet;
-        reads = λ kind other. last.reads kind other ∙ first.reads kind other;
-        calls = most_tried c.args.sizes.now.format c.len-count.result old.calls mid.calls new.calls
-            (omega (arith, few, c.len-count.ensures.value)) first.calls last.calls;
-        cause = search rules;
-      };
-  finds = search rules;
-  follows =
-      let shape = shape_of c.args.sizes.now in (
-        g.met.M.Medium.follows_through c.args.m.now c.read_record.new.m c.are_stamped.new.m c.read_record.ensures.follows.0
-            c.are_stamped.ensures.follows.0,
-        looks_joined (λ s. s < first_home shape) (g.M.Medium.state c.args.m.now) (g.M.Medium.state c.read_record.new.m)
-            (g.M.Medium.state c.are_stamped.new.m) c.read_record.ensures.follows.1 c.are_stamped.ensures.follows.1,
+returns-in_err-are_stamped g c =
+    let few : length c.read_record.new.to.numbers.items ≤ 240 = search rules in
+    record {
+      passes = reads_on c.read_record.ensures.passes c.are_stamped.ensures.passes
+          (most_tried c.args.sizes.now.format c.len-count.result (omega (arith, few, c.len-count.ensures.value))) (search rules);
+      finds = search rules;
+      follows = (
+        g.met.M.Medium.follows_through _ _ _ c.read_record.ensures.follows.0 c.are_stamped.ensures.follows.0,
+        looks_joined _ _ _ _ c.read_record.ensures.follows.1 c.are_stamped.ensures.follows.1,
       );
-}
+    }
 
 pub returns : goal.returns
-returns g c = record {
-  passes =
-      let old = g.M.Medium.state c.args.m.now in
-      let mid = g.M.Medium.state c.read_record.new.m in
-      let new = g.M.Medium.state c.are_stamped.new.m in
-      let first = c.read_record.ensures.passes in
-      let last = c.are_stamped.ensures.passes in
-      let few : length c.read_record.new.to.numbers.items ≤ 240 = search rules in
-      record {
-        quiet = quiet_joined old mid new first.quiet last.quiet;
-        reads = λ kind other. last.reads kind other ∙ first.reads kind other;
-        calls = most_tried c.args.sizes.now.format c.len-count.result old.calls mid.calls new.calls
-            (omega (arith, few, c.len-count.ensures.value)) first.calls last.calls;
-        cause = tt;
-      };
-  finds =
-      let shape = shape_of c.args.sizes.now in
-      let old = g.M.Medium.state c.args.m.now in
-      let mid = g.M.Medium.state c.read_record.new.m in
-      let new = g.M.Medium.state c.are_stamped.new.m in
-      let path : mid.content ≡ old.content = λ i x. c.read_record.ensures.passes.quiet.content_stays x i in
-      let finds = subst (λ (b : Bool). FindsRecord shape c.args.stamp old mid (found_in b c.read_record.new.to))
-      c.if-not-branch.false c.in_ok-read_record.ensures.finds in
-      let asked = c.in_ok-are_stamped.ensures.finds in
-      let count : c.len-count.result ≡ length c.read_record.new.to.numbers.items = c.len-count.ensures.value in
-      let places = subst (λ (i : Image). IsReadForStamps shape.format shape i c.args.stamp c.len-count.result asked.exact.0) path
-      asked.exact.1 in
-      let f : Entry → ℕ = λ e. e.0 in
-      record {
-        exact = try_read shape.format shape old.content c.args.stamp c.read_record.new.to finds.exact.0 asked.exact.0 old.calls mid.calls
-            new.calls
-            finds.exact.1 finds.exact.2
-            (subst (λ (n : ℕ). IsReadForStamps shape.format shape old.content c.args.stamp n asked.exact.0) count places) asked.exact.2;
+returns g c =
+    let shape = shape_of c.args.sizes.now in
+    let stamp = c.args.stamp in
+    let old = g.M.Medium.state c.args.m.now in
+    let mid = g.M.Medium.state c.read_record.new.m in
+    let quiet = c.read_record.ensures.passes.quiet in
+    let read = c.read_record.new.to in
+    let few : length c.read_record.new.to.numbers.items ≤ 240 = search rules in
+    let finds = rw c.if-not-branch.false at c.in_ok-read_record.ensures.finds in
+    let asked = c.in_ok-are_stamped.ensures.finds in
+    let count : c.len-count.result ≡ length c.read_record.new.to.numbers.items = c.len-count.ensures.value in
+    let f : Entry → ℕ = λ e. e.0 in
+    record {
+      passes = reads_on c.read_record.ensures.passes c.are_stamped.ensures.passes
+          (most_tried c.args.sizes.now.format c.len-count.result (omega (arith, few, count))) tt;
+      finds = record {
+        exact = try_read shape.format shape old.content stamp read finds.exact.0 asked.exact.0 old.calls mid.calls
+            (g.M.Medium.state c.are_stamped.new.m).calls finds.exact.1 finds.exact.2
+            (subst (λ (n : ℕ). IsReadForStamps shape.format shape old.content stamp n asked.exact.0) count
+            (quiet_before (λ n i. IsReadForStamps shape.format shape i stamp c.len-count.result asked.exact.0) old mid quiet asked.exact.1))
+            asked.exact.2;
         counted = option_weaker c.counted.result
             (λ not whole.
-            let all = stamped_whole shape old.content c.args.stamp whole.0 whole.1 in
             let many : length whole.0 ≡ c.len-count.result =
             sym (count ∙ ap (λ l. length l) (finds.all whole.0 whole.1).numbers_are ∙ length-map whole.0 f) in
-            let there = subst (λ (n : ℕ). AreStamped shape.format shape old.content c.args.stamp n) many all in
-            let now = subst (λ (i : Image). AreStamped shape.format shape i c.args.stamp c.len-count.result) (sym path) there in
-            untrue (sym not ∙ asked.is.1 now))
+            let there = subst (λ (n : ℕ). AreStamped shape.format shape old.content stamp n) many
+            (stamped_whole shape old.content stamp whole.0 whole.1) in
+            untrue (sym not ∙ asked.is.1
+            (quiet_after (λ n i. AreStamped shape.format shape i stamp c.len-count.result) old mid quiet there)))
             (λ blocks is.
-            let good = subst (λ (i : Image). AreStamped shape.format shape i c.args.stamp c.len-count.result) path (asked.is.0 is.0) in
-            let whole = finds.some (subst (λ (n : ℕ). AreStamped shape.format shape old.content c.args.stamp n) count good) in (
+            let good = quiet_before (λ n i. AreStamped shape.format shape i stamp c.len-count.result) old mid quiet (asked.is.0 is.0) in
+            let whole = finds.some (subst (λ (n : ℕ). AreStamped shape.format shape old.content stamp n) count good) in (
               whole.0,
               whole.1,
               is.1 ∙ count ∙ ap (λ l. length l) (finds.all whole.0 whole.1).numbers_are ∙ length-map whole.0 f,
             ))
             c.counted.ensures;
       };
-  follows =
-      let shape = shape_of c.args.sizes.now in (
-        g.met.M.Medium.follows_through c.args.m.now c.read_record.new.m c.are_stamped.new.m c.read_record.ensures.follows.0
-            c.are_stamped.ensures.follows.0,
-        looks_joined (λ s. s < first_home shape) (g.M.Medium.state c.args.m.now) (g.M.Medium.state c.read_record.new.m)
-            (g.M.Medium.state c.are_stamped.new.m) c.read_record.ensures.follows.1 c.are_stamped.ensures.follows.1,
+      follows = (
+        g.met.M.Medium.follows_through _ _ _ c.read_record.ensures.follows.0 c.are_stamped.ensures.follows.0,
+        looks_joined _ _ _ _ c.read_record.ensures.follows.1 c.are_stamped.ensures.follows.1,
       );
-}
+    }

@@ -10,5 +10,5 @@ returns-clause-err g c =
     let new = g.M.Medium.state c.recover_at_least.new.m in
     IfErr-weaker c.recover_at_least.result (IsRefusalBy 0 WritesNothing old new) (IsRecoveryRefusal old new) (λ fault h. record {
       cause = refusal_cause old new fault h;
-      served = λ shape array next s left. served_slots 0 old new fault h shape array next s left (λ few. no_few old few);
+      served = λ shape array next s left. served_slots 0 old new shape array next s left (no_few old) fault h;
     }) c.recover_at_least.ensures.err

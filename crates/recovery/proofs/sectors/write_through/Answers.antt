@@ -24,8 +24,8 @@ returns-clause-writes g c =
     let flushed = c.flush.ensures in
     record {
       elsewhere = λ x not. flushed.content x ∙ c.in_ok-write.ensures.ok.elsewhere x not;
-      moments = sector_flushed c.args.place c.args.sector.now old written new (g.met.M.Medium.sound c.args.m.now)
-          wrote.passes wrote.sets flushed.passes flushed.sets;
+      moments = sector_flushed c.args.place c.args.sector.now old written (g.met.M.Medium.sound c.args.m.now)
+          wrote.passes wrote.sets new flushed.passes flushed.sets;
       calls = omega (arith, wrote.passes.calls_are, flushed.passes.calls_are);
       exact = search rules;
       cause = search rules;

@@ -1,150 +1,104 @@
-use Rattle.std.proofs.Common.{◌≡◌, ◌<◌, ◌≤◌, inl, inr, ◌∙◌, ◌+◌, ℕ, refl, sym, subst, arith, rules}
+use Rattle.std.proofs.Common.{◌≡◌, ◌<◌, ◌+◌, ◌*◌, inl, inr, ℕ, refl, subst, arith, rules}
 use Rattle.std.specs.Prelude.{min}
 use Rattle.std.proofs.lemmas.Bool.{cases_eq}
-use Rattle.medium.specs.Medium.{Image}
-use Rattle.medium.proofs.Moments.{quiet_start, quiet_joined}
-use Rattle.journal.specs.Places.{first_home}
+use Rattle.medium.proofs.Moments.{quiet_start}
+use Rattle.medium.proofs.SectorsRead.{no_looks, looks_joined}
 use Rattle.journal.specs.Values.{shape_of}
 use Rattle.journal.specs.Formats.{HasWhole}
-use Rattle.recovery.proofs.FoundRecords.{has_whole_same}
+use Rattle.recovery.specs.Copies.{most_reads_of}
 use Rattle.recovery.specs.Tries.{IsTryOf, AreTries}
-use Rattle.recovery.proofs.SurveyCalls.{no_tries, tries_more, no_reads, reads_more, reads_stay}
-use Rattle.medium.proofs.SectorsRead.{no_looks, looks_joined}
+use Rattle.recovery.proofs.FoundRecords.{quiet_before}
+use Rattle.recovery.proofs.JoinedCalls.{reads_on}
+use Rattle.recovery.proofs.SurveyCalls.{no_tries, tries_more, each_once_more}
+use Rattle.recovery.proofs.survey.count_whole.Given as given
 use Rattle.recovery.proofs.survey.count_whole.Goals as goal
+use Rattle.recovery.proofs.survey.count_whole.Goals.{In_ok-count_blocks}
+
+-- one stamp more was tried
+one_more : (g : given.Over) (c : In_ok-count_blocks g) → AreTries (shape_of c.args.sizes.now) (g.M.Medium.state c.args.m.now).content
+    c.args.head (c.loop-j.j + 1) (g.M.Medium.state c.args.m.now).calls (g.M.Medium.state c.count_blocks.new.m).calls
+one_more g c =
+    let shape = shape_of c.args.sizes.now in
+    let mid = g.M.Medium.state c.loop-j.m in
+    let new = g.M.Medium.state c.count_blocks.new.m in
+    tries_more shape.format shape _ c.args.head c.loop-j.j _ mid.calls new.calls c.loop-j.invariant.tries
+    (quiet_before (λ n i. IsTryOf shape.format shape i (c.args.head + c.loop-j.j) mid.calls new.calls) _ mid
+    c.loop-j.invariant.passes.quiet c.in_ok-count_blocks.ensures.finds.exact)
 
 pub loop-j-init : goal.loop-j-init
-loop-j-init g c = record {
-  quiet = quiet_start (g.M.Medium.state c.args.m.now);
-  reads = λ kind other. λ i. (g.M.Medium.state c.args.m.now).made kind;
-  tries = no_tries c.args.sizes.now.format (shape_of c.args.sizes.now) (g.M.Medium.state c.args.m.now).content c.args.head
-      (g.M.Medium.state c.args.m.now).calls;
-  most = no_reads c.args.sizes.now.format (g.M.Medium.state c.args.m.now).calls;
-  whole = λ k below. absurd (omega arith);
-  follows = g.met.M.Medium.follows_itself c.args.m.now;
-  looks = no_looks (λ s. s < first_home (shape_of c.args.sizes.now)) (g.M.Medium.state c.args.m.now) (g.M.Medium.state c.args.m.now) refl;
-}
+loop-j-init g c =
+    let old = g.M.Medium.state c.args.m.now in
+    record {
+      passes = record { quiet = quiet_start old; reads = λ kind other. refl; calls = omega arith; cause = tt };
+      tries = no_tries c.args.sizes.now.format (shape_of c.args.sizes.now) old.content c.args.head old.calls;
+      whole = λ k below. absurd (omega arith);
+      follows = g.met.M.Medium.follows_itself c.args.m.now;
+      looks = no_looks _ old old refl;
+    }
 
 pub loop-j-preserved : goal.loop-j-preserved
 loop-j-preserved g c =
     let shape = shape_of c.args.sizes.now in
     let old = g.M.Medium.state c.args.m.now in
-    let mid = g.M.Medium.state c.loop-j.m in
-    let new = g.M.Medium.state c.count_blocks.new.m in
     let inv = c.loop-j.invariant in
     let j = c.loop-j.j in
     let counted = rw c.in-Some.is at c.in_ok-count_blocks.ensures.finds.counted in
-    let here : HasWhole shape mid.content (c.args.head + j) = (counted.0, counted.1) in
-    let same : mid.content ≡ old.content = λ i s. inv.quiet.content_stays s i in
-    let there = has_whole_same shape mid.content old.content (c.args.head + j) (λ x. sym (inv.quiet.content_stays x)) here in
+    let there = quiet_before (λ n i. HasWhole shape i (c.args.head + j)) old _ inv.passes.quiet (counted.0, counted.1) in
     record {
-      quiet = quiet_joined old mid new inv.quiet c.count_blocks.ensures.passes.quiet;
-      reads = λ kind other. c.count_blocks.ensures.passes.reads kind other ∙ inv.reads kind other;
-      tries = tries_more c.args.sizes.now.format shape old.content c.args.head j old.calls mid.calls new.calls inv.tries
-          (subst (λ (i : Image). IsTryOf c.args.sizes.now.format shape i (c.args.head + j) mid.calls new.calls) same
-          c.in_ok-count_blocks.ensures.finds.exact);
-      most = reads_more c.args.sizes.now.format j old.calls mid.calls new.calls inv.most c.count_blocks.ensures.passes.calls;
+      passes = reads_on inv.passes c.count_blocks.ensures.passes (omega arith) tt;
+      tries = one_more g (goal.at.loop-j-preserved g c).In_ok-count_blocks;
       whole = λ k below. elim (cases_eq j k) [
         | inl is ↦ subst (λ n. HasWhole shape old.content (c.args.head + n)) is there
         | inr not ↦ inv.whole k (omega arith)
       ];
-      follows = g.met.M.Medium.follows_through c.args.m.now c.loop-j.m c.count_blocks.new.m inv.follows c.count_blocks.ensures.follows.0;
-      looks = looks_joined (λ s. s < first_home shape) old mid new inv.looks c.count_blocks.ensures.follows.1;
+      follows = g.met.M.Medium.follows_through _ _ _ inv.follows c.count_blocks.ensures.follows.0;
+      looks = looks_joined _ _ _ _ inv.looks c.count_blocks.ensures.follows.1;
     }
 
 pub returns-in_err-count_blocks : goal.returns-in_err-count_blocks
-returns-in_err-count_blocks g c = record {
-  passes =
-      let format = c.args.sizes.now.format in
-      let old = g.M.Medium.state c.args.m.now in
-      let mid = g.M.Medium.state c.loop-j.m in
-      let new = g.M.Medium.state c.count_blocks.new.m in
-      let inv = c.loop-j.invariant in
-      let j = c.loop-j.j in
-      let last = c.count_blocks.ensures.passes in
-      let more : j + 1 ≤ c.args.sizes.now.slots = omega (arith, c.loop-j-test.true) in
-      record {
-        quiet = quiet_joined old mid new inv.quiet last.quiet;
-        reads = λ kind other. last.reads kind other ∙ inv.reads kind other;
-        calls = reads_stay format (j + 1) c.args.sizes.now.slots old.calls new.calls more
-            (reads_more format j old.calls mid.calls new.calls inv.most last.calls);
-        cause = search rules;
-      };
-  finds = search rules;
-  follows =
-      let inv = c.loop-j.invariant in (
-        g.met.M.Medium.follows_through c.args.m.now c.loop-j.m c.count_blocks.new.m inv.follows c.count_blocks.ensures.follows.0,
-        looks_joined (λ s. s < first_home (shape_of c.args.sizes.now)) (g.M.Medium.state c.args.m.now) (g.M.Medium.state c.loop-j.m)
-            (g.M.Medium.state c.count_blocks.new.m) inv.looks c.count_blocks.ensures.follows.1,
+returns-in_err-count_blocks g c =
+    let reads = most_reads_of c.args.sizes.now.format in
+    let inv = c.loop-j.invariant in
+    record {
+      passes = reads_on inv.passes c.count_blocks.ensures.passes
+          (each_once_more reads c.loop-j.j c.args.sizes.now.slots c.loop-j-test.true) (search rules);
+      finds = search rules;
+      follows = (
+        g.met.M.Medium.follows_through _ _ _ inv.follows c.count_blocks.ensures.follows.0,
+        looks_joined _ _ _ _ inv.looks c.count_blocks.ensures.follows.1,
       );
-}
+    }
 
 pub returns-in_default : goal.returns-in_default
-returns-in_default g c = record {
-  passes =
-      let format = c.args.sizes.now.format in
-      let old = g.M.Medium.state c.args.m.now in
-      let mid = g.M.Medium.state c.loop-j.m in
-      let new = g.M.Medium.state c.count_blocks.new.m in
-      let inv = c.loop-j.invariant in
-      let j = c.loop-j.j in
-      let last = c.count_blocks.ensures.passes in
-      let more : j + 1 ≤ c.args.sizes.now.slots = omega (arith, c.loop-j-test.true) in
-      record {
-        quiet = quiet_joined old mid new inv.quiet last.quiet;
-        reads = λ kind other. last.reads kind other ∙ inv.reads kind other;
-        calls = reads_stay format (j + 1) c.args.sizes.now.slots old.calls new.calls more
-            (reads_more format j old.calls mid.calls new.calls inv.most last.calls);
-        cause = tt;
-      };
-  finds =
-      let shape = shape_of c.args.sizes.now in
-      let old = g.M.Medium.state c.args.m.now in
-      let mid = g.M.Medium.state c.loop-j.m in
-      let new = g.M.Medium.state c.count_blocks.new.m in
-      let inv = c.loop-j.invariant in
-      let j = c.loop-j.j in
-      let same : mid.content ≡ old.content = λ i s. inv.quiet.content_stays s i in
-      let last = subst (λ (i : Image). IsTryOf c.args.sizes.now.format shape i (c.args.head + j) mid.calls new.calls) same
-      c.in_ok-count_blocks.ensures.finds.exact in
-      let below = c.loop-j-test.true in
-      let many : j + 1 ≡ min (j + 1) c.args.sizes.now.slots = omega (arith, below) in
-      record {
-        exact = subst (λ (n : ℕ). AreTries shape old.content c.args.head n old.calls new.calls) many
-            (tries_more c.args.sizes.now.format shape old.content c.args.head j old.calls mid.calls new.calls inv.tries last);
+returns-in_default g c =
+    let reads = most_reads_of c.args.sizes.now.format in
+    let inv = c.loop-j.invariant in
+    let below = c.loop-j-test.true in
+    let many : c.loop-j.j + 1 ≡ min (c.loop-j.j + 1) c.args.sizes.now.slots = omega (arith, below) in
+    record {
+      passes = reads_on inv.passes c.count_blocks.ensures.passes
+          (each_once_more reads c.loop-j.j c.args.sizes.now.slots below) tt;
+      finds = record {
+        exact = rw (← many) (one_more g (goal.at.returns-in_default g c).In_ok-count_blocks);
         is = search rules;
       };
-  follows =
-      let inv = c.loop-j.invariant in (
-        g.met.M.Medium.follows_through c.args.m.now c.loop-j.m c.count_blocks.new.m inv.follows c.count_blocks.ensures.follows.0,
-        looks_joined (λ s. s < first_home (shape_of c.args.sizes.now)) (g.M.Medium.state c.args.m.now) (g.M.Medium.state c.loop-j.m)
-            (g.M.Medium.state c.count_blocks.new.m) inv.looks c.count_blocks.ensures.follows.1,
+      follows = (
+        g.met.M.Medium.follows_through _ _ _ inv.follows c.count_blocks.ensures.follows.0,
+        looks_joined _ _ _ _ inv.looks c.count_blocks.ensures.follows.1,
       );
-}
+    }
 
 pub returns : goal.returns
-returns g c = record {
-  passes =
-      let old = g.M.Medium.state c.args.m.now in
-      let new = g.M.Medium.state c.loop-j.m in
-      let inv = c.loop-j.invariant in
-      record {
-        quiet = inv.quiet;
-        reads = inv.reads;
-        calls = reads_stay c.args.sizes.now.format c.loop-j.j c.args.sizes.now.slots old.calls new.calls
-            (omega (arith, c.loop-j.auto.j-end))
-            inv.most;
-        cause = tt;
-      };
-  finds =
-      let shape = shape_of c.args.sizes.now in
-      let old = g.M.Medium.state c.args.m.now in
-      let new = g.M.Medium.state c.loop-j.m in
-      let j = c.loop-j.j in
-      let slots = c.args.sizes.now.slots in
-      let many : j ≡ min (slots + 1) slots = omega (arith, c.loop-j-test.false) in
-      record {
-        exact = subst (λ (n : ℕ). AreTries shape old.content c.args.head n old.calls new.calls) many c.loop-j.invariant.tries;
+returns g c =
+    let inv = c.loop-j.invariant in
+    let slots = c.args.sizes.now.slots in
+    let all : c.loop-j.j ≡ slots = omega (arith, c.loop-j.auto.j-end, c.loop-j-test.false) in
+    let many : c.loop-j.j ≡ min (slots + 1) slots = omega (arith, all) in
+    record {
+      passes = record { quiet = inv.passes.quiet; reads = inv.passes.reads; calls = rw (← all) inv.passes.calls; cause = tt };
+      finds = record {
+        exact = rw (← many) inv.tries;
         is = search rules;
       };
-  follows = search rules;
-}
+      follows = search rules;
+    }

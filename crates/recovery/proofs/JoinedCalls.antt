@@ -1,0 +1,66 @@
+-- Calls, and then others: what they are together.
+use Rattle.std.proofs.Common.{◌≡◌, ℕ, ◌+◌, ◌≤◌, ◌∙◌, Result, arith}
+use Rattle.std.specs.Prelude.{OnOk, IfErr}
+use Rattle.medium.specs.Medium.{State, Image, LooksOnly, IsSound}
+use Rattle.medium.specs.declared.fault.MediumFault.{MediumFault}
+use Rattle.medium.proofs.Moments.{quiet_joined}
+use Rattle.medium.proofs.SectorsRead.{looks_joined, looks_wider}
+use Rattle.journal.specs.Reads.{IsRefusedCall, ReadsPass}
+use Rattle.recovery.specs.Calls.{FollowsBy, WritesPass, WritesAllPass, CopiesPass}
+use Rattle.recovery.proofs.CopiedRecords.{quiet_within, copies_joined}
+
+-- reads
+pub reads_on : {X Y Z : Type 0} {few many most : ℕ} {old mid new : State} {one : Result X MediumFault} {two : Result Y MediumFault}
+    {result : Result Z MediumFault} → ReadsPass few old mid one → ReadsPass many mid new two → few + many ≤ most
+    → IfErr result (IsRefusedCall old new) → ReadsPass most old new result
+reads_on first second fit cause = record {
+  quiet = quiet_joined _ _ _ first.quiet second.quiet;
+  reads = λ kind other. second.reads kind other ∙ first.reads kind other;
+  calls = omega (arith, first.calls, second.calls, fit);
+  cause = cause;
+}
+
+-- copies
+pub copies_on : {X Y Z : Type 0} {some more all : ℕ → Type 0} {few many most : ℕ} {old mid new : State} {one : Result X MediumFault}
+    {two : Result Y MediumFault} {result : Result Z MediumFault} → IsSound mid → ((x : ℕ) → some x → all x) → ((x : ℕ) → more x → all x)
+    → CopiesPass some few old mid one → CopiesPass more many mid new two → few + many ≤ most
+    → IfErr result (IsRefusedCall old new) → CopiesPass all most old new result
+copies_on {some = some} {more = more} {all = all} {old = old} {mid = mid} {new = new} sound f g first second fit cause = record {
+  elsewhere = λ x not. second.elsewhere x (λ h. not (g x h)) ∙ first.elsewhere x (λ h. not (f x h));
+  moments = copies_joined some more all old mid new sound f g first.moments second.moments;
+  calls = omega (arith, first.calls, second.calls, fit);
+  cause = cause;
+}
+
+-- reads copy nothing
+pub none_copies : {X Y : Type 0} {places : ℕ → Type 0} {few most : ℕ} {old new : State} {reads : Result X MediumFault}
+    {result : Result Y MediumFault} → IsSound old → ReadsPass few old new reads → few ≤ most → IfErr result (IsRefusedCall old new)
+    → CopiesPass places most old new result
+none_copies {places = places} {old = old} {new = new} sound passes fit cause = record {
+  elsewhere = λ x not. passes.quiet.content_stays x;
+  moments = quiet_within places old new sound passes.quiet;
+  calls = omega (arith, passes.calls, fit);
+  cause = cause;
+}
+
+-- what an exact count says beside the copies
+pub all_pass : {X : Type 0} {places : ℕ → Type 0} {P : Image → Type 0} {count : ℕ} {old new : State} {result : Result X MediumFault}
+    → WritesAllPass places P count old new result → WritesPass places P count old new result
+all_pass all = record { elsewhere = all.elsewhere; moments = all.moments; calls = all.calls; cause = all.cause }
+
+pub pass_all : {X : Type 0} {places : ℕ → Type 0} {P : Image → Type 0} {count : ℕ} {old new : State} {result : Result X MediumFault}
+    → WritesPass places P count old new result → OnOk result (new.calls ≡ old.calls + count)
+    → WritesAllPass places P count old new result
+pass_all pass exact =
+    record { elsewhere = pass.elsewhere; moments = pass.moments; calls = pass.calls; exact = exact; cause = pass.cause }
+
+-- calls that read sectors with P
+pub follows_on : {M : Type 0} {state : M → State} {Follows : M → M → Type 0} {P Q : ℕ → Type 0} {few many most : ℕ} {old mid new : M}
+    → ((a b c : M) → Follows a b → Follows b c → Follows a c) → ((s : ℕ) → Q s → P s)
+    → FollowsBy state Follows few (LooksOnly P) old mid → FollowsBy state Follows many (LooksOnly Q) mid new → few + many ≤ most
+    → FollowsBy state Follows most (LooksOnly P) old new
+follows_on through wider first second fit = record {
+  follows = through _ _ _ first.follows second.follows;
+  sent = omega (arith, first.sent, second.sent, fit);
+  looks = looks_joined _ _ _ _ first.looks (looks_wider _ _ _ _ wider second.looks);
+}
