@@ -5,7 +5,6 @@ use Rattle.std.proofs.lemmas.Bool.{cases_lt}
 use Rattle.std.proofs.lemmas.List.{ext_get_or, get_or-map, length-map, get_or_append_left, get_or_push}
 use Rattle.medium.specs.Medium.{State, Image}
 use Rattle.medium.specs.Moments.{IsQuiet}
-use Rattle.medium.specs.declared.fault.MediumFault.{MediumFault}
 use Rattle.medium.specs.declared.fault.MediumFault.TheVariants as medium
 use Rattle.journal.specs.Places.{Shape}
 use Rattle.journal.specs.Sectors.{IsHead}
@@ -18,11 +17,11 @@ use Rattle.journal.proofs.Formats.{laws_of}
 use Rattle.journal.proofs.Wholeness.{IsWhole-one}
 use Rattle.journal.proofs.StandingLaws.{count_stands}
 use Rattle.journal.proofs.FaultLaws.{HasFault-stands}
-use Rattle.recovery.specs.Causes.{start_fault_of, IsRefusedCall, IsRefusalBy, IsDeviceFault}
+use Rattle.recovery.specs.Causes.{IsRefusalBy, IsDeviceFault}
 use Rattle.recovery.specs.Inspected.{AreCounts, IsInspected, IsLookCause, IsLookRefusal}
 use Rattle.recovery.specs.declared.inspection.Inspection.{Inspection}
 use Rattle.recovery.specs.declared.start_fault.StartFault.{StartFault}
-use Rattle.recovery.specs.declared.start_fault.StartFault.TheVariants.{NoMemory, Read, Write, Flush, BadSuper, BadVersion, BadSize, BadHead}
+use Rattle.recovery.specs.declared.start_fault.StartFault.TheVariants.{Read, Write, Flush, BadSuper, BadVersion, BadSize, BadHead}
 use Rattle.recovery.specs.declared.start_fault.StartFault.TheVariants.{StampsUsedUp, LogTooSmall}
 
 -- the counts are those of the records, in order

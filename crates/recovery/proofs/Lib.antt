@@ -3,7 +3,6 @@ pub mod Causes
 pub mod Zeros
 pub mod SparedSectors
 pub mod MadeImage
-pub mod Made
 pub mod InspectedImage
 pub mod SurveyCalls
 pub mod OneTry

@@ -4,7 +4,7 @@ use Rattle.medium.specs.Medium.{State, CutLeaves, IsSound}
 use Rattle.medium.specs.Moments.{LeavesOnly, StaysWithin, IsQuiet, SparesFrom}
 use Rattle.medium.proofs.Moments.{weaker, at_exit, updated, updated_here}
 use Rattle.medium.proofs.SparedSectors.{HasSpared, spared_quiet, spared_joined}
-use Rattle.journal.specs.Places.{Shape, sectors_of}
+use Rattle.journal.specs.Places.{sectors_of}
 use Rattle.journal.specs.Values.{shape_of}
 use Rattle.journal.proofs.SectorNumbers.{IsSuper-one}
 use Rattle.recovery.specs.Copies.{freed_at}

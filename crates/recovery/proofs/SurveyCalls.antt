@@ -1,6 +1,5 @@
 -- How many calls the tries of a survey are, and those of a recovery.
-use Rattle.std.proofs.Common.{◌≡◌, inl, inr, ℕ, ◌+◌, ◌*◌, ◌<◌, ◌≤◌, [], ◌∷◌, ◌++◌, refl, sym, subst, arith, mul-le-mul_left}
-use Rattle.std.specs.Prelude.{slice_index}
+use Rattle.std.proofs.Common.{◌≡◌, inl, inr, ℕ, ◌+◌, ◌*◌, ◌<◌, ◌≤◌, [], ◌∷◌, ◌++◌, refl, arith, mul-le-mul_left}
 use Rattle.std.proofs.lemmas.Bool.{cases_lt}
 use Rattle.std.proofs.lemmas.List.{length-append, get_or_append_left, get_or_push}
 use Rattle.std.proofs.lemmas.List.Sums.{sum_by_push}
@@ -9,7 +8,7 @@ use Rattle.journal.specs.declared.log_format.LogFormat.{LogFormat}
 use Rattle.journal.specs.declared.log_format.LogFormat.TheVariants.{One, Two}
 use Rattle.journal.specs.Places.{Shape}
 use Rattle.recovery.specs.Copies.{most_reads_of, most_calls_of, most_start_of}
-use Rattle.recovery.specs.Tries.{IsTryTwo, IsTryOf, AreTriesOf}
+use Rattle.recovery.specs.Tries.{IsTryOf, AreTriesOf}
 
 -- none so far
 pub no_tries : (format : LogFormat) (shape : Shape) (image : Image) (first at : ℕ) → AreTriesOf format shape image first 0 at at

@@ -1,6 +1,5 @@
-use Rattle.std.proofs.Common.{◌≡◌, ◌∙◌, ◌+◌, ◌++◌, ◌<◌, List, [], ℕ, length, drop, get_or, sym, ap, subst, arith, rules}
+use Rattle.std.proofs.Common.{◌≡◌, ◌∙◌, ◌+◌, ◌++◌, List, [], ℕ, length, drop, get_or, sym, ap, subst, arith, rules}
 use Rattle.std.specs.Prelude.{Some}
-use Rattle.medium.specs.Medium.{Image}
 use Rattle.medium.proofs.SectorsRead.{looks_joined}
 use Rattle.medium.proofs.CallsSent.{none_sent}
 use Rattle.journal.specs.Places.{first_home}

@@ -1,16 +1,14 @@
-use Rattle.std.proofs.Common.{◌≡◌, ◌+◌, ◌*◌, ◌<◌, ◌≤◌, List, ℕ, [], length, get_or, refl, sym, subst, arith, rules}
+use Rattle.std.proofs.Common.{◌≡◌, ◌+◌, ◌*◌, ◌<◌, ◌≤◌, ℕ, [], length, get_or, refl, sym, arith, rules}
 use Rattle.std.specs.Prelude.{IfErr}
-use Rattle.std.proofs.Common.{Result, mul-le-mul_left}
+use Rattle.std.proofs.Common.{Result}
 use Rattle.std.proofs.lemmas.List.{take_all}
 use Rattle.medium.specs.declared.fault.MediumFault.{MediumFault}
 use Rattle.medium.proofs.SectorsRead.{no_looks}
 use Rattle.journal.specs.Places.{first_home, limit_of}
 use Rattle.journal.specs.Reads.{IsRefusedCall}
 use Rattle.journal.specs.Values.{shape_of}
-use Rattle.journal.specs.Record.{Entry}
-use Rattle.journal.specs.Formats.{IsWhole}
 use Rattle.recovery.specs.Calls.{CopiesPass}
-use Rattle.recovery.specs.Copies.{AreCopied, IsHomeInRecord, IsHomeInRecords, most_calls_of}
+use Rattle.recovery.specs.Copies.{IsHomeInRecords, most_calls_of}
 use Rattle.recovery.proofs.CopiedRecords.{none_copied, one_more_copied, not_in_log, whole_same, home_same}
 use Rattle.recovery.proofs.JoinedCalls.{copies_on, follows_on}
 use Rattle.recovery.proofs.SurveyCalls.{each_once_more}

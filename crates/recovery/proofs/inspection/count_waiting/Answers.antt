@@ -1,4 +1,4 @@
-use Rattle.std.proofs.Common.{rules, ◌≡◌, ◌+◌, ◌*◌, ◌∷◌, ◌∙◌, [], length, ap, arith}
+use Rattle.std.proofs.Common.{rules, ◌+◌, ◌∷◌, ◌∙◌, [], length, ap, arith}
 use Rattle.std.proofs.lemmas.List.{length-append}
 use Rattle.journal.specs.Formats.{HasWhole}
 use Rattle.journal.specs.Values.{shape_of}
