@@ -46,7 +46,7 @@
 extern "C" {
 #endif
 
-/* The version, 0.12.0: two bytes hold the first number, and one byte each of the others. The library
+/* The version, 0.14.0: two bytes hold the first number, and one byte each of the others. The library
  * tells its own. Where the two differ, header and library are not of one version. */
 #define USBDISK_VERSION 0x000E00u
 
@@ -161,9 +161,10 @@ uint32_t usbdisk_look(const uint8_t sector[512], struct usbdisk_layout *layout);
  * many as usbdisk_room tells for the image.
  *
  * Answers 0, a number from 1 to 10, or STARTED, BAD_PACKET_SIZE, BAD_IDENTITY, LITTLE_ROOM or BAD_LENGTH:
- * the first that applies, in this order, before those from 1 to 10. LITTLE_ROOM comes exactly where sector 0
- * is a super and the room is less than usbdisk_room tells for it. At all but 0 the handle stays as it was,
- * and no memory is kept; at the first four none is taken. */
+ * the first that applies, in this order, before those from 1 to 10; but NO_MEMORY may come before
+ * BAD_LENGTH. LITTLE_ROOM comes exactly where sector 0 is a super and the room is less than usbdisk_room
+ * tells for it. At all but 0 the handle stays as it was, and no memory is kept; at the first four none is
+ * taken. */
 uint32_t usbdisk_start(struct usbdisk *disk, const uint8_t *near, size_t near_size, uint64_t sectors,
                        const struct usbdisk_device *device, const struct usbdisk_identity *identity,
                        uint32_t packet, uint32_t span, size_t room);
@@ -287,8 +288,8 @@ uint32_t usbdisk_lay_log(struct usbdisk_image *image, const uint8_t *near, size_
  *
  * near: the device's first sectors, as many as usbdisk_near tells. room: how many writes and flushes the
  * handle has room for; enough are 98 * slots + 9 for format 1, and 240 * slots + 4 for format 2, with the
- * slots of the image. Takes memory for a copy of `near`, and 528 bytes for each call of the room. With
- * less room than is needed it answers WRITE_REFUSED or FLUSH_REFUSED.
+ * slots of the image. Takes memory for a copy of `near`, 528 bytes for each call of the room, and 168 more.
+ * With less room than is needed it answers WRITE_REFUSED or FLUSH_REFUSED.
  *
  * Answers 0, a number from 1 to 10, STARTED or BAD_LENGTH. At all but 0 the handle stays as it was, and
  * nothing is for the device to do: the image is as it was. */

@@ -13,7 +13,7 @@
 #include <stdlib.h>
 #include <string.h>
 
-enum { BLOCKS = 40, SLOTS = 2, MOST = 4, WRITES = 400, SECTORS = 2 + 249 * SLOTS + BLOCKS + 3 };
+enum { BLOCKS = 40, SLOTS = 3, MOST = 4, WRITES = 400, SECTORS = 2 + 249 * SLOTS + BLOCKS + 3 };
 enum { SPAN = 8, RUN = 16, BEHIND = 0xC7 };
 
 static const struct usbdisk_identity who = { "EXAMPLE ", "JUDGE           ", "0001",
@@ -310,6 +310,8 @@ int main(int count, char **words)
 {
     long lives = count > 1 ? atol(words[1]) : 1000;
     seed = (count > 2 ? strtoull(words[2], NULL, 0) : 1) * 0x9E3779B97F4A7C15u;
+    if (!seed)
+        seed = 1; /* at 0 the generator stands still */
     for (uint32_t format = 1; format <= 2; format++) {
         bool good = make_image(format);
         for (long life = 0; good && life < lives; life++) {
