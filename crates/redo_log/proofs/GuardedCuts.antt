@@ -46,7 +46,4 @@ pub durable_numbers : (records : List (List Entry)) (entries : List Entry) (wait
     → waiting ≡ map (λ r. numbers_of r) records → numbers ≡ numbers_of entries
     → waiting ++ numbers ∷ [] ≡ map (λ r. numbers_of r) (records ++ entries ∷ [])
 durable_numbers records entries waiting numbers is one =
-    let f : List Entry → List ℕ = λ r. numbers_of r in
-    ap (λ (l : List (List ℕ)). l ++ numbers ∷ []) is
-    ∙ ap (λ (l : List ℕ). map f records ++ l ∷ []) one
-    ∙ sym (map-append f records (entries ∷ []))
+    let f : List Entry → List ℕ = λ r. numbers_of r in rw (is, one) (sym (map-append f records (entries ∷ [])))

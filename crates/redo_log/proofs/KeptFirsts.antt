@@ -26,9 +26,7 @@ pub begun_kept : (format : LogFormat) (records : List (List Entry)) (under_way e
 begun_kept One records under_way entries kept is none some = is
 begun_kept Two records under_way [] kept is none some = absurd (omega (arith, some))
 begun_kept Two records under_way (e ∷ entries) kept is none some =
-    let f : List Entry → List (List ℕ) = λ r. firsts_of r in
-    ap (λ (l : AllFirsts). l ++ firsts_of (e ∷ entries) ∷ [])
-    (is ∙ ap (λ (u : List Entry). map f records ++ begun_firsts u) none ∙ append-nil (map f records))
+    let f : List Entry → List (List ℕ) = λ r. firsts_of r in rw (is, none, append-nil (map f records)) refl
 
 -- it is durable
 pub durable_kept : (format : LogFormat) (records : List (List Entry)) (under_way : List Entry) (kept : AllFirsts)

@@ -146,12 +146,10 @@ pub whole_more : (shape : Shape) (image : Image) (head : ℕ) (records : List (L
     → ((j : ℕ) → j < length records → IsWhole shape image (head + j) (get_or records j []))
     → (j : ℕ) → j < length (records ++ entries ∷ []) → IsWhole shape image (head + j) (get_or (records ++ entries ∷ []) j [])
 whole_more shape image head records entries whole others j below = elim (cases_lt j (length records)) [
-  | inl old ↦
-      subst (λ (r : List Entry). IsWhole shape image (head + j) r) (sym (get_or_append_left records (entries ∷ []) [] j old)) (others j old)
+  | inl old ↦ rw (get_or_append_left records (entries ∷ []) [] j old) (others j old)
   | inr last ↦
-      let here : length records ≡ j = omega (arith, last, below, length-append records (entries ∷ [])) in
-      subst (λ (k : ℕ). IsWhole shape image (head + k) (get_or (records ++ entries ∷ []) k [])) here
-      (subst (λ (r : List Entry). IsWhole shape image (head + length records) r) (sym (get_or-append_seam records entries [] [])) whole)
+      let here : j ≡ length records = omega (arith, last, below, length-append records (entries ∷ [])) in
+      rw (here, get_or-append_seam records entries [] []) whole
 ]
 
 -- and the last one of them
@@ -159,8 +157,7 @@ pub last_whole : (shape : Shape) (image : Image) (head : ℕ) (records : List (L
     → ((j : ℕ) → j < length (records ++ entries ∷ []) → IsWhole shape image (head + j) (get_or (records ++ entries ∷ []) j []))
     → IsWhole shape image (head + length records) entries
 last_whole shape image head records entries whole =
-    subst (λ (r : List Entry). IsWhole shape image (head + length records) r) (get_or-append_seam records entries [] [])
-    (whole (length records) (omega (arith, length-append records (entries ∷ []))))
+    rw (get_or-append_seam records entries [] []) at (whole (length records) (omega (arith, length-append records (entries ∷ []))))
 
 -- the record behind the others counts too
 pub Laid-more : (shape : Shape) (image : Image) (head : ℕ) (records : List (List Entry)) (entries : List Entry) (array : Array)

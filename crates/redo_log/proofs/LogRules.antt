@@ -137,12 +137,7 @@ module _ (i : Inside) {log : LogValue} (is : shown i ≡ log) where
         let numbers : first.items ≡ get_or (lists_of i.waiting.items) 0 [] = sym (ap (λ (l : List (List ℕ)). get_or l 0 []) front) in
         let same : of_oldest (shown i) ≡ of_oldest log = ap (λ (v : LogValue). of_oldest v) is in
         let turned : i.turned ≡ turned_of (shown i) = omega (arith, left_of, same, owed, ap (λ (l : List ℕ). length l) numbers) in
-        subst (λ (v : LogValue). StaysInImage (IsNextTurn v.shape v.head (get_or v.waiting 0 []) v.firsts (turned_of v) turn) v.shape turn)
-        is
-        (subst (λ (l : List ℕ). StaysInImage (IsNextTurn (shape_of i.sizes) i.head l (kept_in i) (turned_of (shown i)) turn)
-        (shape_of i.sizes) turn) numbers
-        (subst (λ (n : ℕ). StaysInImage (IsNextTurn (shape_of i.sizes) i.head first.items (kept_in i) n turn) (shape_of i.sizes) turn)
-        turned next))
+        rw (← is, ← turned, ← numbers) next
 
   -- the next call of the record under way too
   pub call_of : Invariant i → (made stamp : ℕ) → i.made ≡ Some made → stamp ≡ i.head + length i.waiting.items → {entries : List Entry}
@@ -153,9 +148,7 @@ module _ (i : Inside) {log : LogValue} (is : shown i ≡ log) where
       let left = ap (λ (w : Option ℕ). steps_at i.sizes.format (length i.under_way.items) w) at in
       let made_is : made ≡ made_of (shown i) = omega (arith, left, ring.1) in
       let here : stamp ≡ i.head + length (lists_of i.waiting.items) = omega (arith, stamp_is, many_lists i.waiting.items) in
-      subst (λ (v : LogValue). MakesNext v.shape (v.head + length v.waiting) entries (made_of v) result old new) is
-      (subst (λ (k : ℕ). MakesNext (shape_of i.sizes) (i.head + length (lists_of i.waiting.items)) entries k result old new) made_is
-      (subst (λ (n : ℕ). MakesNext (shape_of i.sizes) n entries made result old new) here makes))
+      rw (← is, ← made_is, ← here) makes
 
 -- ---- the oldest record, as others come and go
 

@@ -50,20 +50,19 @@ module _ (e parts : ℕ) (late : e < parts) where
   one_left made all = omega (arith, written_is e made, flush_is e, late, all)
 
   -- the early flush
-  pub early_written : (made : ℕ) → 0 < e → made ≡ e
-      → (written_at e made ≡ e) × (written_at e (made + 1) ≡ e) × (flushed_at e (made + 1) ≡ e)
-  early_written made some is = (
-    omega (arith, written_is e made, is),
-    omega (arith, written_is e (made + 1), flush_is e, some, is),
-    omega (arith, written_is e (made + 1), is),
+  pub early_written : (made next : ℕ) → next ≡ made + 1 → 0 < e → made ≡ e
+      → (written_at e next ≡ written_at e made) × (flushed_at e next ≡ written_at e made)
+  early_written made next one some is = (
+    omega (arith, written_is e made, written_is e next, flush_is e, one, some, is),
+    omega (arith, written_is e made, written_is e next, one, is),
   )
 
   -- a part is written
-  pub part_written : (made : ℕ) → (e ≤ 0) ⊎ (made ≢ e)
-      → (written_at e (made + 1) ≡ written_at e made + 1) × (flushed_at e (made + 1) ≡ flushed_at e made)
-  part_written made not = (
-    omega (arith, written_is e made, written_is e (made + 1), flush_is e, not),
-    omega (arith, written_is e made, written_is e (made + 1), not),
+  pub part_written : (made next : ℕ) → next ≡ made + 1 → (e ≤ 0) ⊎ (made ≢ e)
+      → (written_at e next ≡ written_at e made + 1) × (flushed_at e next ≡ flushed_at e made)
+  part_written made next one not = (
+    omega (arith, written_is e made, written_is e next, flush_is e, one, not),
+    omega (arith, written_is e made, written_is e next, one, not),
   )
 
 -- nothing is written at first

@@ -83,18 +83,14 @@ module _ {log : LogValue} (is : IsLog log) (live : log.dead ≡ false) (some : 0
         → HoldsView more_log new view
     early_flushed more due same_size wrote = ⊎_elim
         (λ early.
-        let after = early_written (L.early n) (L.parts n) late (made_of log) early.0 early.1 in
-        let same : written_of log.shape view (made_of more_log) ≡ k =
-        ap (λ (m : ℕ). written_of log.shape view m) then_made ∙ (omega (arith, after.0, after.1)) in
-        let flushed : flushed_of log.shape view (made_of more_log) ≡ k =
-        ap (λ (m : ℕ). flushed_of log.shape view m) then_made ∙ (omega (arith, after.0, after.2)) in
+        let after = early_written (L.early n) (L.parts n) late (made_of log) (made_of more_log) then_made early.0 early.1 in
         goes_on hv is (log.steps_left - 1) log.retire_steps_left log.ahead new (omega arith) same_size live
         (Stores-stays (hv.stores live) (log.steps_left - 1) (made_of more_log) (turned_of log) new.content wrote.0 (λ _. some)
-        (omega (arith, same)) (λ i low high. low))
+        (omega (arith, after.0)) (λ i low high. low))
         (λ ours.
         let s = hv.guards live ours in record {
           guards = flush_guards stands (head_sound old sound) s.guards (with_head new) (head_only old.content new (wrote.0 1) wrote.1)
-              (hv.stores live) (log.steps_left - 1) (made_of more_log) some (omega (arith, more)) same flushed;
+              (hv.stores live) (log.steps_left - 1) (made_of more_log) some (omega (arith, more)) after.0 after.1;
           heads = heads_flush log.shape log.head view old.content new (needed_of log) (wrote.0 1) wrote.1;
         }))
         (λ (all : L.parts n ≤ k).
@@ -170,9 +166,9 @@ module _ {log : LogValue} (is : IsLog log) (live : log.dead ≡ false) (some : 0
       inside : L.offset n k < L.slot_sectors
       inside = laws.inside n k slots.under_way.fit.few small
 
-      after : (written_of log.shape view (made_of log + 1) ≡ k + 1)
-          × (flushed_of log.shape view (made_of log + 1) ≡ flushed_of log.shape view (made_of log))
-      after = part_written (L.early n) (L.parts n) late (made_of log) (⊎_elim
+      after : (next : ℕ) → next ≡ made_of log + 1 → (written_of log.shape view next ≡ k + 1)
+          × (flushed_of log.shape view next ≡ flushed_of log.shape view (made_of log))
+      after next one = part_written (L.early n) (L.parts n) late (made_of log) next one (⊎_elim
           (λ (some : 0 < L.early n). inr (λ is. not (inl (some, is)))) inl (cases_lt 0 (L.early n)))
 
       part_leaves : MayAdd (Write place bytes) old new → view.ours ≡ true → EachCut (MayLeave old.size log view) new
@@ -180,6 +176,7 @@ module _ {log : LogValue} (is : IsLog log) (live : log.dead ≡ false) (some : 0
           let gained : State = record old { may_leave = gaining place bytes old.may_leave } in
           let gains = head_gains old gained place bytes refl (λ s c left. left) in
           let s = hv.guards live ours in
+          let now = after (made_of log + 1) refl in
           let heads = heads_slot s gained (needed_of log) refl (λ not. not) is.sized sound (L.offset n k) bytes inside (λ s c left. left) in
           shrunk (MayLeave old.size log view) gained new adds (elim (cases_lt (k + 1) (L.parts n)) [
             | inl early ↦
@@ -198,7 +195,7 @@ module _ {log : LogValue} (is : IsLog log) (live : log.dead ≡ false) (some : 0
                 (Safe log.shape log.head view log.steps_left (made_of log + 1))
                 heads
                 (next_each stands (head_sound old sound) s.guards (with_head gained) some small bytes gains (last_same last) log.steps_left
-                (made_of log + 1) after.0 after.1 some)
+                (made_of log + 1) now.0 now.1 some)
                 (logged_of stands_now)
           ])
         where
@@ -214,17 +211,16 @@ module _ {log : LogValue} (is : IsLog log) (live : log.dead ≡ false) (some : 0
           → IsDone (Write place bytes) old new → HoldsView more_log new view
       part_written_now more same_size named adds wrote =
           let mine : bytes ≡ L.part stamp view.under_way k = ap (λ (l : List Entry). L.part stamp l k) (sym named) in
-          let written = ap (λ (m : ℕ). written_of log.shape view m) then_made ∙ after.0 in
-          let flushed = ap (λ (m : ℕ). flushed_of log.shape view m) then_made ∙ after.1 in
+          let now = after (made_of more_log) then_made in
           let same : new.content 1 ≡ old.content 1 = wrote.elsewhere 1 (λ e. omega (arith, e)) in
           goes_on hv is (log.steps_left - 1) log.retire_steps_left log.ahead new (omega arith) same_size live
           (part_stores (hv.stores live) is.sized new.content bytes (log.steps_left - 1) (made_of more_log) some slots
-          small written wrote mine)
+          small now.0 wrote mine)
           (λ ours.
           let s = hv.guards live ours in record {
             guards = part_guards stands (head_sound old sound) s.guards (with_head new) some small bytes
                 (head_gains old new place bytes same adds)
-                mine (log.steps_left - 1) (made_of more_log) written flushed (omega (arith, more));
+                mine (log.steps_left - 1) (made_of more_log) now.0 now.1 (omega (arith, more));
             heads = heads_slot s new (needed_of log) same (λ not. not) is.sized sound (L.offset n k) bytes inside adds;
           })
 
@@ -257,8 +253,8 @@ module _ {log : LogValue} (is : IsLog log) (live : log.dead ≡ false) (some : 0
     pub step_leaves : view.ours ≡ true → EachCut (MayLeave old.size log view) new
     step_leaves ours = elim which [
       | inl due ↦
-          shrunk (MayLeave old.size log view) old new (subst (λ (c : Call). MayAdd c old new) due.0 adds) (hv.leaves ours)
-      | inr part ↦ part_leaves new other other_is other_count part.1 (subst (λ (c : Call). MayAdd c old new) part.0 adds) ours
+          shrunk (MayLeave old.size log view) old new (rw due.0 at adds) (hv.leaves ours)
+      | inr part ↦ part_leaves new other other_is other_count part.1 (rw part.0 at adds) ours
     ]
 
     module _ (same_size : new.size ≡ old.size) (entries : view.under_way ≡ entries_of numbers bytes) (done : IsDone call old new)
@@ -266,16 +262,16 @@ module _ {log : LogValue} (is : IsLog log) (live : log.dead ≡ false) (some : 0
       -- the log that counts it holds what the medium does
       pub counted_held : (progress : Progress) → IsStepped progress log then → HoldsView then new (view_stepped progress view)
       counted_held More stepped = subst (λ (v : LogValue). HoldsView v new view) (sym stepped.1) (elim which [
-        | inl due ↦ early_flushed new stepped.0 due.1 same_size (subst (λ (c : Call). IsDone c old new) due.0 done)
+        | inl due ↦ early_flushed new stepped.0 due.1 same_size (rw due.0 at done)
         | inr part ↦
             part_written_now new other other_is other_count part.1 stepped.0 same_size entries
-            (subst (λ (c : Call). MayAdd c old new) part.0 adds) (subst (λ (c : Call). IsDone c old new) part.0 done)
+            (rw part.0 at adds) (rw part.0 at done)
       ])
       counted_held Durable stepped =
           let all : L.parts n ≤ k = last_call (L.early n) (L.parts n) late (made_of log) (omega (arith, is.most_left, some, all_steps))
           (omega (arith, is.most_left, stepped.0, all_steps)) in
           subst (λ (v : LogValue). HoldsView v new (with_record view)) (sym stepped.1) (elim which [
-            | inl due ↦ all_flushed new stepped.0 all same_size (subst (λ (c : Call). IsDone c old new) due.0 done)
+            | inl due ↦ all_flushed new stepped.0 all same_size (rw due.0 at done)
             | inr part ↦ absurd (part.1 (inr all))
           ])
 

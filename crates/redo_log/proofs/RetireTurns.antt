@@ -198,10 +198,7 @@ module _ {log : LogValue} (is : IsLog log) (live : log.dead ≡ false) (owed : 0
     pub retired_held : (then : LogValue) → IsRetireStepped log then → HoldsView (retired_of log) new (view_retired 1 view)
         → HoldsView then new (view_retired (then.head - log.head) view)
     retired_held then stepped held =
-        let past : 1 ≡ log.head + 1 - log.head = omega arith in
-        subst (λ (v : LogValue). HoldsView v new (view_retired (v.head - log.head) view))
-        (sym (stepped.last (omega (arith, one, stepped.some))))
-        (subst (λ (n : ℕ). HoldsView (retired_of log) new (view_retired n view)) past held)
+        let past : log.head + 1 - log.head ≡ 1 = omega arith in rw (stepped.last (omega (arith, one, stepped.some)), past) held
 
     -- the head is flushed
     head_held : new.size ≡ old.size → IsTurned (Head h) old new → HoldsView (retired_of log) new (view_retired 1 view)
@@ -261,15 +258,15 @@ module _ {log : LogValue} (is : IsLog log) (live : log.dead ≡ false) (owed : 0
     turn_leaves ours = elim (cases_lt 2 (of_oldest log)) [
       | inl below ↦
           let c = copies below in
-          home_leaves below c.1 c.0 new c.2.1 (subst (λ (t : Turn). MayTurn t old new) c.2.0 adds) ours
+          home_leaves below c.1 c.0 new c.2.1 (rw c.2.0 at adds) ours
       | inr few ↦ elim (cases_eq (of_oldest log) 2) [
         | inl two ↦
             quiet_leaves (MayLeave old.size log view) old new sound (hv.leaves ours)
-            (subst (λ (t : Turn). MayTurn t old new) (flushes two) adds)
+            (rw (flushes two) at adds)
         | inr not ↦
             let one : of_oldest log ≡ 1 = omega (arith, not, few, owed) in
             let l = leads one in
-            head_leaves one l.0 l.2 new (subst (λ (t : Turn). MayTurn t old new) l.1 adds) ours
+            head_leaves one l.0 l.2 new (rw l.1 at adds) ours
       ]
     ]
 
@@ -280,8 +277,8 @@ module _ {log : LogValue} (is : IsLog log) (live : log.dead ≡ false) (owed : 0
           → HoldsView (record log { retire_steps_left = log.retire_steps_left - 1; ahead = ahead }) new view
       at_home below ahead not =
           let c = copies below in
-          home_held below c.1 c.0 new c.2.1 ahead not same_size (subst (λ (t : Turn). MayTurn t old new) c.2.0 adds)
-          (subst (λ (t : Turn). IsTurned t old new) c.2.0 done)
+          home_held below c.1 c.0 new c.2.1 ahead not same_size (rw c.2.0 at adds)
+          (rw c.2.0 at done)
 
       -- a record whose blocks go home by retire steps needs its flush
       goes_home : 2 < of_oldest log → HoldsView (record log { retire_steps_left = log.retire_steps_left - 1 }) new view
@@ -294,18 +291,15 @@ module _ {log : LogValue} (is : IsLog log) (live : log.dead ≡ false) (owed : 0
         | inl one ↦
             let l = leads one in
             retired_held one l.0 l.2 new then stepped
-            (head_held one l.0 l.2 new same_size (subst (λ (t : Turn). IsTurned t old new) l.1 done))
+            (head_held one l.0 l.2 new same_size (rw l.1 at done))
         | inr not ↦
-            let here : 0 ≡ log.head - log.head = omega arith in
-            subst (λ (v : LogValue). HoldsView v new (view_retired (v.head - log.head) view))
-            (sym (stepped.more (omega (arith, not, owed, stepped.some))))
-            (subst (λ (n : ℕ). HoldsView (record log { retire_steps_left = log.retire_steps_left - 1 }) new (view_retired n view)) here
-            (elim (cases_lt 2 (of_oldest log)) [
+            let here : log.head - log.head ≡ 0 = omega arith in
+            rw (stepped.more (omega (arith, not, owed, stepped.some)), here) (elim (cases_lt 2 (of_oldest log)) [
               | inl below ↦ goes_home below
               | inr few ↦
                   let two : of_oldest log ≡ 2 = omega (arith, few, not, owed) in
-                  flush_held two new same_size (subst (λ (t : Turn). IsTurned t old new) (flushes two) done)
-            ]))
+                  flush_held two new same_size (rw (flushes two) at done)
+            ])
       ]
 
       -- so it does ahead

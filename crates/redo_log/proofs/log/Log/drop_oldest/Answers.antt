@@ -44,12 +44,10 @@ invariant_of-self c =
         length-drop 1 i.firsts.items,
       );
       index_room = omega (arith, c.self.invariant.index_room, c.drop_slot.ensures.capacity);
-      index_is = subst (λ (l : List (List ℕ)). IsIndex i.sizes.slots (i.head + 1) l c.drop_slot.new.index.items) (sym less)
-          (index_fewer i.sizes.slots i.head waiting i.index.items c.drop_slot.new.index.items c.self.invariant.index_is some
+      index_is = rw less (index_fewer i.sizes.slots i.head waiting i.index.items c.drop_slot.new.index.items c.self.invariant.index_is some
           (omega (arith, c.self.invariant.ring.fits)) c.drop_slot.ensures.sorted
           (λ b. c.drop_slot.ensures.looks b ∙ ap (λ (n : ℕ). outside n (look i.index.items b)) c.slot_of.ensures));
-      ring = subst (λ (l : List (List ℕ)). IsRing (shape_of i.sizes) l 0 i.under_way.items i.made) (sym less)
-          (ring_retired (shape_of i.sizes) waiting i.turned i.under_way.items i.made c.self.invariant.ring);
+      ring = rw less (ring_retired (shape_of i.sizes) waiting i.turned i.under_way.items i.made c.self.invariant.ring);
       ahead_is = ahead_retired (ahead_in i) i.head waiting (lists_of c.pop_front.new.self.items) i.turned 0 c.self.invariant.ahead_is;
     }
 
