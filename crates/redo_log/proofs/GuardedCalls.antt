@@ -64,10 +64,6 @@ module _ {shape : Shape} {head : ℕ} {view : View} {steps made : ℕ} (stands :
   abbrev d : ℕ
   d = flushed_of shape view made
 
-  -- the blocks of a record are at home
-  abbrev AtHome : List Entry → Image → Type 0
-  AtHome r image = (i : ℕ) → i < length r → image (first_home shape + (get_or r i (0, [])).0) ≡ (get_or r i (0, [])).1
-
   -- what a cut may leave has the durable records, and perhaps the one under way
   pub logged_of : (image : Image) → Safe shape head view steps made image → IsLogged shape head view steps image
   logged_of image safe = ⊎_elim
@@ -113,7 +109,7 @@ module _ {shape : Shape} {head : ℕ} {view : View} {steps made : ℕ} (stands :
           part_each (Logged shape head view.records view.array)
           (λ image guarded. rest_early L laws v (stands.slots some) image k d below guarded)
           (λ before image write guarded. other_written L laws v (stands.slots some) before image k d other rec same early
-          (subst (λ (b : List ℕ). Holds (part_at L shape stamp n k) b before image) is write) guarded)
+          (rw is at write) guarded)
 
       module _ (is : bytes ≡ (layout_of shape.format).part (head + length view.records) view.under_way (written_of shape view made))
           (less next : ℕ) (more : written_of shape view next ≡ written_of shape view made + 1)
@@ -121,11 +117,10 @@ module _ {shape : Shape} {head : ℕ} {view : View} {steps made : ℕ} (stands :
         pub next_each : EachCut (Safe shape head view less next) new
         next_each image cut = record {
           rests = λ none. absurd (omega (arith, none, some_left));
-          guarded = λ _. subst (λ (w : ℕ). Guarded L v w (flushed_of shape view next) image) (sym more)
-              (subst (λ (f : ℕ). Guarded L v (k + 1) f image) (sym flushed)
+          guarded = λ _. rw (more, flushed)
               (part_each (Guarded L v (k + 1) d) (λ image guarded. Guarded-lost L laws v (stands.slots some) image k d below guarded)
               (λ before image write guarded. Guarded-write L laws v (stands.slots some) before image k d below
-              (subst (λ (b : List ℕ). Holds (part_at L shape stamp n k) b before image) is write) guarded) image cut));
+              (rw is at write) guarded) image cut);
         }
 
         pub part_guards : Guards shape head view less next retire new
@@ -153,8 +148,7 @@ module _ {shape : Shape} {head : ℕ} {view : View} {steps made : ℕ} (stands :
       flush_guards less next some left same flushed = record {
         each = each_flush (Safe shape head view less next) old.content new only (record {
           rests = λ none. absurd (omega (arith, none, left));
-          guarded = λ _. subst (λ (w : ℕ). Guarded L v w (flushed_of shape view next) old.content) (sym same)
-              (subst (λ (f : ℕ). Guarded L v k f old.content) (sym flushed) (flushed_now some));
+          guarded = λ _. rw (same, flushed) (flushed_now some);
         });
         homed = λ h. each_flush (IsHomed v) old.content new only (content_has (IsHomed v) old sound (g.homed h));
       }
@@ -171,8 +165,7 @@ module _ {shape : Shape} {head : ℕ} {view : View} {steps made : ℕ} (stands :
         });
         homed = λ is.
             let was = more is in
-            subst (λ (r : List Entry). EachCut (AtHome r) new) (sym (oldest-append view.records view.under_way was.0))
-            (each_flush (IsHomed v) old.content new only (⊎_elim
+            rw (oldest-append view.records view.under_way was.0) (each_flush (IsHomed v) old.content new only (⊎_elim
             (λ (one : retire ≡ 1). content_has (IsHomed v) old sound (g.homed one))
             (λ (home : length (get_or view.records 0 []) ≤ turned) i inside.
             stored.copied i (omega (arith, inside, home)) inside) was.1));

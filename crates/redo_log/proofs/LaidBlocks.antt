@@ -97,12 +97,7 @@ module _ (shape : Shape) (sized : IsSized shape) where
         → place ≡ first_home shape + (get_or entries i (0, [])).0 → bytes ≡ (get_or entries i (0, [])).1
         → AreHome shape entries i before → AreHome shape entries (i + 1) image
     AreHome-write entries i rising below at is homed j less inside = elim (cases_eq j i) [
-      | inl same ↦
-          ap (λ (k : ℕ). image (first_home shape + (get_or entries k (0, [])).0)) same
-          ∙ ap image (sym at)
-          ∙ write.here
-          ∙ is
-          ∙ ap (λ (k : ℕ). (get_or entries k (0, [])).1) (sym same)
+      | inl same ↦ rw (same, ← at, write.here) is
       | inr other ↦
           let f : Entry → ℕ = λ e. e.0 in
           let up = rising j i (omega arith) (omega (arith, length-map entries f)) in

@@ -133,8 +133,7 @@ module _ (old : List Copied) (slot : ℕ) (numbers : List ℕ) (sorted : IsSorte
           inside = omega (arith, below, length-set index to c);
           front = λ i inside. get_or-set_other index to i c blank (λ e. omega (arith, e, inside, enough))
               ∙ merged.front i (omega (arith, inside, fewer));
-          tail = subst (IsTail old slot numbers left place)
-              (sym (drop-set index to c below ∙ ap (λ (n : ℕ). c ∷ drop n index) (sym room))) tail;
+          tail = rw (drop-set index to c below, ← room) tail;
         }
 
   -- the last entry that is left, above all numbers that are left
@@ -146,7 +145,7 @@ module _ (old : List Copied) (slot : ℕ) (numbers : List ℕ) (sorted : IsSorte
       goes was left place place till to index c room merged (omega arith) (omega arith) (omega (arith, merged.room, one_less, room))
       (entry_goes left place c (drop till index) (omega (arith, merged.entries, one_less)) (merged.front left (omega (arith, one_less)))
       (all_below place c.block merged.places over)
-      (subst (λ (n : ℕ). IsTail old slot numbers n place (drop till index)) one_less merged.tail))
+      (rw one_less at merged.tail))
 
   -- the last number that is left, above all entries that are left then
   pub number_enters : (was left before place till to : ℕ) (index : List Copied) → before ≡ place + 1 → till ≡ to + 1
@@ -156,7 +155,7 @@ module _ (old : List Copied) (slot : ℕ) (numbers : List ℕ) (sorted : IsSorte
       goes was left before place till to index (entry_of place) room merged stays.fewer (omega (arith, one_less))
       (omega (arith, merged.room, one_less, room, stays.fewer))
       (number_goes was left place (drop till index) (omega (arith, merged.places, one_less)) stays
-      (subst (λ (n : ℕ). IsTail old slot numbers was n (drop till index)) one_less merged.tail))
+      (rw one_less at merged.tail))
 
   module _ (was left : ℕ) (index : List Copied) (block : ℕ) (fits : was ≤ length old)
       (front : (i : ℕ) → i < was → get_or index i blank ≡ get_or old i blank) where
@@ -198,11 +197,10 @@ module _ (old : List Copied) (slot : ℕ) (numbers : List ℕ) (sorted : IsSorte
   rest_goes (suc left) index tail fits inside front merged =
       let one : suc left ≡ left + 1 = omega arith in
       let c = get_or index left blank in
-      subst (IsTail old slot numbers 0 0)
-      (sym (ap (λ (l : List Copied). l ++ tail) (take-suc index left blank (omega arith)) ∙ append_assoc (take left index) (c ∷ []) tail))
+      rw (take-suc index left blank (omega arith), append_assoc (take left index) (c ∷ []) tail)
       (rest_goes left index (c ∷ tail) (omega arith) (omega arith) (λ i less. front i (omega arith))
       (entry_goes left 0 c tail (omega arith) (front left (omega arith)) (λ i less. absurd (omega arith))
-      (subst (λ (n : ℕ). IsTail old slot numbers n 0 tail) one merged)))
+      (rw one at merged)))
 
   -- at the end nothing of the record is left
   pub merging_ends : (left to : ℕ) (index : List Copied) → IsMerging old slot numbers left 0 to index

@@ -63,8 +63,7 @@ unnamed entries numbers b is none i below e =
     let f : Entry → ℕ = λ e. e.0 in
     let inside : i < length (numbers_of entries) = omega (arith, length-map entries f) in
     let named : get_or (numbers_of entries) i 0 ≡ b = get_or-map f entries i (0, []) ∙ e in
-    none (subst (λ (l : List ℕ). Contains l b) (sym is)
-    (subst (Contains (numbers_of entries)) named (Contains-get_or (numbers_of entries) i 0 inside)))
+    none (rw is (rw named at (Contains-get_or (numbers_of entries) i 0 inside)))
 
 module _ (log : LogValue) (m : State) (view : View) (holds : HoldsView log m view) (live : log.dead ≡ false) where
   -- a block without a logged copy is read at home

@@ -105,5 +105,4 @@ block_makes shape stamp numbers bytes i p slot place old new result below is slo
     let f : 2 + L.slot_sectors * slot ≡ 2 + L.slot_sectors * (stamp % shape.slots) = ap (λ (x : ℕ). 2 + L.slot_sectors * x) slot_is in
     let place_is : place ≡ 2 + L.slot_sectors * (stamp % shape.slots) + L.offset (length numbers) p =
     omega (arith, at, f, data_offset numbers bytes i p below shape.format is) in
-    subst (λ (x : ℕ). MakesCall (Write x (L.part stamp (entries_of numbers bytes) p)) result old new) place_is
-    (subst (λ (b : List ℕ). MakesCall (Write place b) result old new) (data_part numbers bytes i p below shape.format stamp is) makes)
+    rw (← place_is, ← data_part numbers bytes i p below shape.format stamp is) makes

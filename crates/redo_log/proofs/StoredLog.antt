@@ -102,8 +102,7 @@ module _ {shape : Shape} {head : ℕ} {view : View} {steps made turned : ℕ} {o
         record {
           laid = Laid-oldest shape sized old new bytes write head view.records view.array waits
               (λ i low high. s.copied i (omega (arith, low, all)) high) s.laid;
-          written = λ left p low small. subst (λ (t : ℕ). new (part_at L shape t n p) ≡ L.part t view.under_way p) same
-              (write.elsewhere _ (λ e. omega (arith, e)) ∙ s.written left p low small);
+          written = λ left p low small. rw (← same) (write.elsewhere _ (λ e. omega (arith, e)) ∙ s.written left p low small);
           copied = λ i low high. absurd (none i low high);
         }
 
@@ -128,7 +127,6 @@ module _ {shape : Shape} {head : ℕ} {view : View} {steps made turned : ℕ} {o
           | inl none ↦ λ i low high. absurd (omega (arith, low, alone none))
           | inr some ↦
               let waits : 0 < length view.records = omega (arith, some) in
-              subst (λ (r : List Entry). AreHome shape r then old) (sym (oldest-append view.records view.under_way waits))
-              (λ i low high. s.copied i (omega (arith, low, more waits)) high)
+              rw (oldest-append view.records view.under_way waits) (λ i low high. s.copied i (omega (arith, low, more waits)) high)
         ];
       }

@@ -26,17 +26,12 @@ invariant_of-self-2 c =
     let waiting = after_is i.waiting.items c.push_back_reserved.new.self.items i.under_way c.take.result c.push_back_reserved.ensures.items
     c.take.ensures.value in
     let numbers : c.args.numbers.now ≡ i.under_way.items = c.requires.1 ∙ ap (λ (v : LogValue). v.under_way) (sym c.self.view_is) in
-    let stamp : i.head + c.len.result ≡ i.head + length (lists_of i.waiting.items) = omega (
-      arith,
-      c.len.ensures,
-      many_lists
-          i.waiting.items,
-    ) in
+    let stamp : i.head + c.len.result ≡ i.head + length (lists_of i.waiting.items) =
+    omega (arith, c.len.ensures, many_lists i.waiting.items) in
     let one : begun_at i.made ≡ 1 = ap (λ (w : Option ℕ). begun_at w) c.in-Some.is in
-    let was : IsRing (shape_of i.sizes) (lists_of i.waiting.items) i.turned i.under_way.items (Some c.in-Some.made) =
-    subst (λ (w : Option ℕ). IsRing (shape_of i.sizes) (lists_of i.waiting.items) i.turned i.under_way.items w) c.in-Some.is
-    c.self.invariant.ring in
-    let ring = ring_durable (shape_of i.sizes) (lists_of i.waiting.items) i.turned i.under_way.items c.in-Some.made was in
+    let ring = ring_durable (shape_of i.sizes) (lists_of i.waiting.items) i.turned i.under_way.items c.in-Some.made
+    (rw c.in-Some.is at c.self.invariant.ring) in
+    let looks = rw (numbers, c.slot_of.ensures, stamp) at c.enter_record.ensures.looks in
     record {
       least = c.self.invariant.least;
       most = omega (
@@ -52,18 +47,11 @@ invariant_of-self-2 c =
       firsts_room = c.self.invariant.firsts_room;
       firsts_few = omega (arith, c.self.invariant.firsts_few, one, c.push_back_reserved.ensures.len);
       index_room = omega (arith, c.self.invariant.index_room, c.enter_record.ensures.capacity);
-      index_is = subst (λ (l : List (List ℕ)). IsIndex i.sizes.slots i.head l c.enter_record.new.index.items) (sym waiting)
-          (index_more i.sizes.slots i.head (lists_of i.waiting.items) i.under_way.items i.index.items c.enter_record.new.index.items
-          c.self.invariant.index_is c.enter_record.ensures.sorted
-          (λ b. c.enter_record.ensures.looks b
-          ∙ (ap (λ (l : List ℕ). with_copies c.slot_of.result 0 l (look i.index.items) b) numbers
-          ∙ ap (λ (n : ℕ). with_copies n 0 i.under_way.items (look i.index.items) b)
-          (c.slot_of.ensures ∙ ap (λ (n : ℕ). n % i.sizes.slots) stamp))));
-      ring = subst (λ (l : List ℕ). IsRing (shape_of i.sizes) (lists_of c.push_back_reserved.new.self.items) i.turned l None)
-          (sym c.take.ensures.after) (subst (λ (l : List (List ℕ)). IsRing (shape_of i.sizes) l i.turned [] None) (sym waiting) ring);
-      ahead_is = subst (λ (l : List (List ℕ)). IsAheadOf (ahead_in i) i.head l i.turned) (sym waiting)
-          (ahead_durable (ahead_in i) i.head (lists_of i.waiting.items) i.turned i.under_way.items
-          c.self.invariant.ahead_is);
+      index_is = rw waiting (index_more i.sizes.slots i.head (lists_of i.waiting.items) i.under_way.items i.index.items
+          c.enter_record.new.index.items c.self.invariant.index_is c.enter_record.ensures.sorted looks);
+      ring = rw (c.take.ensures.after, waiting) ring;
+      ahead_is = rw waiting
+          (ahead_durable (ahead_in i) i.head (lists_of i.waiting.items) i.turned i.under_way.items c.self.invariant.ahead_is);
     }
 
 pub enter_record-requires-clause-numbers : goal.enter_record-requires-clause-numbers
