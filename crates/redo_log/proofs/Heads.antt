@@ -7,7 +7,7 @@ use Rattle.medium.specs.Moments.{EachCut}
 use Rattle.spec.specs.Blocks.{Array}
 use Rattle.medium.proofs.Moments.{each_write, updated, updated_here, updated_elsewhere}
 use Rattle.journal.specs.Places.{Shape, first_home, sectors_of}
-use Rattle.journal.specs.Sectors.{IsSuper, IsHead}
+use Rattle.journal.specs.Sectors.{IsHead}
 use Rattle.journal.specs.Record.{Entry, with_blocks, Hides}
 use Rattle.journal.specs.Layout.{Layout}
 use Rattle.journal.specs.Formats.{layout_of, IsWhole}
@@ -93,7 +93,7 @@ module _ (shape : Shape) (sized : IsSized shape) (head : ℕ) (view : View) wher
         passed = old.passed;
         stamp = old.stamp;
         behind = old.behind;
-        head_is = subst (IsHead old.stamp) (sym (write.elsewhere 1 (λ e. not (sym e)))) old.head_is;
+        head_is = rw (write.elsewhere 1 (λ e. not (sym e))) old.head_is;
         laid = laid;
         room = old.room;
       }
@@ -126,14 +126,14 @@ module _ (shape : Shape) (sized : IsSized shape) (head : ℕ) (view : View) wher
         record {
           whole = λ j below.
               let stamp_is : stamp + suc j ≡ head + j = omega (arith, behind) in
-              subst (λ (s : ℕ). IsWhole shape image s (get_or records j [])) stamp_is (laid.whole (suc j) (omega (arith, below)));
+              rw (← stamp_is) (laid.whole (suc j) (omega (arith, below)));
           ours = record {
             stands = record {
               fits = fits;
               head = stamp;
               records = passed ∷ records;
               keeps = record {
-                super = subst (IsSuper shape) (same 0 (λ e. omega (arith, e))) now.keeps.super;
+                super = rw (← same 0 (λ e. omega (arith, e))) now.keeps.super;
                 head_is = head_is;
                 whole = laid.whole;
                 blocks = laid.blocks;
@@ -142,8 +142,7 @@ module _ (shape : Shape) (sized : IsSized shape) (head : ℕ) (view : View) wher
               ends = λ less has.
                   now.ends (omega (arith, less)) (
                     has.0,
-                    subst (λ (s : ℕ). IsWhole shape newer s has.0) next
-                        (IsWhole-same shape sized image newer behind_same (stamp + length (passed ∷ records)) has.0 has.1),
+                    rw (← next) (IsWhole-same shape sized image newer behind_same (stamp + length (passed ∷ records)) has.0 has.1),
                   );
               next_is = omega (arith, behind);
             };
@@ -163,7 +162,7 @@ module _ (shape : Shape) (sized : IsSized shape) (head : ℕ) (view : View) wher
         → HasRecords size shape head (view.records ++ view.under_way ∷ []) (with_blocks view.under_way view.array) image
     older_two o now =
         let there : IsWhole shape image (o.stamp + length (o.passed ∷ view.records)) view.under_way =
-        subst (λ (s : ℕ). IsWhole shape image s view.under_way) (sym (same_stamp image o))
+        rw (same_stamp image o)
         (IsWhole-same shape sized newer image (λ x low high. sym (behind_same x low high)) (head + length view.records) view.under_way
         (last_whole shape newer head view.records view.under_way now.keeps.whole)) in
         stands_with o.stamp o.passed (view.records ++ view.under_way ∷ []) (with_blocks view.under_way view.array) o.behind o.head_is

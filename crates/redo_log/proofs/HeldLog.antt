@@ -1,5 +1,5 @@
 -- What follows of what a log and its medium hold, and what they hold where only its counts change.
-use Rattle.std.proofs.Common.{◌≡◌, ℕ, ◌+◌, ◌-◌, ◌<◌, ◌≤◌, List, [], length, get_or, refl, sym, ◌∙◌, ap, subst, arith}
+use Rattle.std.proofs.Common.{◌≡◌, ℕ, ◌+◌, ◌-◌, ◌<◌, ◌≤◌, List, [], length, get_or, refl, ◌∙◌, ap, arith}
 use Rattle.std.specs.Prelude.{Bool, true, false, Result, Ok, Err, OnOk, is_err}
 use Rattle.std.proofs.lemmas.List.{length-map}
 use Rattle.std.proofs.Math.ListN.{get_or-map}
@@ -16,7 +16,7 @@ use Rattle.journal.proofs.Engine.{rests_logged}
 use Rattle.journal.proofs.Formats.{laws_of}
 use Rattle.redo_log.specs.Value.{LogValue, Ahead, steps_of, steps_for, died}
 use Rattle.redo_log.specs.Logged.{Logged}
-use Rattle.redo_log.specs.Stages.{IsRecord, IsSized}
+use Rattle.redo_log.specs.Stages.{IsSized}
 use Rattle.redo_log.specs.Held.{View, made_of, turned_of, needed_of, with_head, HasDurable, MayLeave, Stores, Shields, HoldsView}
 use Rattle.redo_log.specs.Steps.{LeavesLog}
 use Rattle.redo_log.proofs.BatchRecord.{count_of, record_entries}
@@ -64,7 +64,7 @@ module _ {log : LogValue} {m : State} {view : View} (hv : HoldsView log m view) 
     few = hv.few;
     sized = hv.sized;
     firsts = hv.firsts;
-    leaves = λ ours. subst (λ (n : ℕ). EachCut (MayLeave n (going log left retire ahead dead) view) new) (sym same) (leaves ours);
+    leaves = λ ours. rw same (leaves ours);
     stores = stores;
     guards = guards;
   }
@@ -104,7 +104,7 @@ module _ {log : LogValue} {m : State} {view : View} (hv : HoldsView log m view) 
             room = omega (arith, many, is.room left_now);
             behind = is.sized.behind;
             under_way = record_entries log.shape (log.head + length view.records) log.under_way view.under_way is.sized
-                (subst (λ (n : ℕ). IsRecord log.shape (log.head + n) log.under_way) many (is.record_is left_now)) hv.under_way hv.sized;
+                (rw many at (is.record_is left_now)) hv.under_way hv.sized;
           };
       few = hv.few;
       short = λ all.

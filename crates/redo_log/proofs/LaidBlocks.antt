@@ -1,5 +1,5 @@
 -- What the writes of a record's life make of the blocks in the slots and at home.
-use Rattle.std.proofs.Common.{◌≡◌, ◌≢◌, inl, inr, ℕ, suc, ◌+◌, ◌*◌, ◌%◌, ◌<◌, ◌≤◌, List, [], ◌∷◌, ◌++◌, length, get_or, drop, sym, ◌∙◌, ap}
+use Rattle.std.proofs.Common.{◌≡◌, ◌≢◌, inl, inr, ℕ, suc, ◌+◌, ◌*◌, ◌%◌, ◌<◌, ◌≤◌, List, [], ◌∷◌, ◌++◌, length, get_or, drop, sym, ◌∙◌}
 use Rattle.std.proofs.Common.{subst, arith, length-append}
 use Rattle.std.proofs.Math.ListN.{get_or-map}
 use Rattle.std.proofs.lemmas.Bool.{cases_eq, cases_lt}
@@ -116,7 +116,7 @@ module _ (shape : Shape) (sized : IsSized shape) where
     whole = λ j below.
         let stamp : head + suc j ≡ head + 1 + j = omega arith in
         IsWhole-same before image (λ x low high. write.elsewhere x (λ e. omega arith)) (head + 1 + j) (get_or records j [])
-        (subst (λ (s : ℕ). IsWhole shape before s (get_or records j [])) stamp (laid.whole (suc j) (omega arith)));
+        (rw stamp at (laid.whole (suc j) (omega arith)));
     blocks = λ b below.
         with_records-same records (home_of shape image) (with_blocks r (home_of shape before)) b
         (write.elsewhere (first_home shape + b) (λ e. omega (arith, e, sized.behind))

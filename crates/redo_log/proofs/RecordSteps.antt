@@ -7,7 +7,7 @@ use Rattle.journal.specs.Places.{limit_of}
 use Rattle.journal.specs.Layout.{Layout}
 use Rattle.journal.specs.Formats.{layout_of}
 use Rattle.journal.proofs.Format1Laws.{below_is, above_is}
-use Rattle.redo_log.specs.Value.{steps_for, most_steps, most_retire_steps}
+use Rattle.redo_log.specs.Value.{steps_for, most_steps}
 use Rattle.redo_log.specs.Stages.{flush_of, written_at, flushed_at}
 use Rattle.redo_log.specs.Calls.{IsFlushDue}
 

@@ -17,7 +17,7 @@ use Rattle.journal.proofs.BatchEntries.{length_of_batch}
 use Rattle.redo_log.specs.declared.progress.Progress.{Progress}
 use Rattle.redo_log.specs.declared.progress.Progress.TheVariants.{More, Durable}
 use Rattle.redo_log.specs.Value.{LogValue, steps_of, steps_for, of_oldest, IsStepped}
-use Rattle.redo_log.specs.Stages.{needed_at, flush_of, IsRecord, IsSized}
+use Rattle.redo_log.specs.Stages.{needed_at, flush_of, IsSized}
 use Rattle.redo_log.specs.Calls.{gaining, Call, Write, Flush, MayAdd, IsDone, IsNextCall, IsFlushDue}
 use Rattle.redo_log.specs.Held.{View, with_record, view_stepped, written_of, flushed_of, made_of, turned_of, needed_of}
 use Rattle.redo_log.specs.Held.{HasDurable, MayLeave}
@@ -237,8 +237,7 @@ module _ {log : LogValue} (is : IsLog log) (live : log.dead ≡ false) (some : 0
 
     other_is : IsRecordOf L log.shape.blocks stamp other
     other_is = record_batch log.shape stamp numbers bytes is.sized
-        (subst (λ (l : List ℕ). IsRecord log.shape stamp l) (sym same)
-        (subst (λ (m : ℕ). IsRecord log.shape (log.head + m) log.under_way) (many hv) (is.record_is some))) size
+        (rw (same, ← many hv) (is.record_is some)) size
 
     which : ((call ≡ Flush) × IsFlushDue L n (made_of log))
         ⊎ ((call ≡ Write (part_at L log.shape stamp n k) (L.part stamp other k)) × (¬ IsFlushDue L n (made_of log)))
@@ -261,7 +260,7 @@ module _ {log : LogValue} (is : IsLog log) (live : log.dead ≡ false) (some : 0
         (then : LogValue) where
       -- the log that counts it holds what the medium does
       pub counted_held : (progress : Progress) → IsStepped progress log then → HoldsView then new (view_stepped progress view)
-      counted_held More stepped = subst (λ (v : LogValue). HoldsView v new view) (sym stepped.1) (elim which [
+      counted_held More stepped = rw stepped.1 (elim which [
         | inl due ↦ early_flushed new stepped.0 due.1 same_size (rw due.0 at done)
         | inr part ↦
             part_written_now new other other_is other_count part.1 stepped.0 same_size entries
@@ -270,7 +269,7 @@ module _ {log : LogValue} (is : IsLog log) (live : log.dead ≡ false) (some : 0
       counted_held Durable stepped =
           let all : L.parts n ≤ k = last_call (L.early n) (L.parts n) late (made_of log) (omega (arith, is.most_left, some, all_steps))
           (omega (arith, is.most_left, stepped.0, all_steps)) in
-          subst (λ (v : LogValue). HoldsView v new (with_record view)) (sym stepped.1) (elim which [
+          rw stepped.1 (elim which [
             | inl due ↦ all_flushed new stepped.0 all same_size (rw due.0 at done)
             | inr part ↦ absurd (part.1 (inr all))
           ])

@@ -1,5 +1,5 @@
 -- Each turn that retires the oldest durable record: what the log and its medium hold after it.
-use Rattle.std.proofs.Common.{◌≡◌, ◌≢◌, inl, inr, ⊎_elim, ℕ, ◌+◌, ◌-◌, ◌<◌, ◌≤◌, List, [], length, get_or, drop, refl, sym, ◌∙◌}
+use Rattle.std.proofs.Common.{◌≡◌, ◌≢◌, inl, inr, ⊎_elim, ℕ, ◌+◌, ◌-◌, ◌<◌, ◌≤◌, List, [], length, get_or, drop, refl, ◌∙◌}
 use Rattle.std.proofs.Common.{ap, subst, arith, length-drop}
 use Rattle.std.specs.Prelude.{true, false, map, Option, slice_index}
 use Rattle.std.proofs.lemmas.Bool.{cases_eq, cases_lt}
@@ -305,10 +305,10 @@ module _ {log : LogValue} (is : IsLog log) (live : log.dead ≡ false) (owed : 0
       -- so it does ahead
       pub sent_held : 2 < of_oldest log → IsSentHome log then → HoldsView then new view
       sent_held away home = elim (cases_lt 3 (of_oldest log)) [
-        | inl more ↦ subst (λ (v : LogValue). HoldsView v new view) (sym (home.more more)) (goes_home away)
+        | inl more ↦ rw (home.more more) (goes_home away)
         | inr few ↦
             let last : of_oldest log ≡ 3 = omega (arith, few, away) in
-            subst (λ (v : LogValue). HoldsView v new view) (sym (home.last last)) (at_home away (ahead_of log)
+            rw (home.last last) (at_home away (ahead_of log)
             (λ one. ⊎_elim (λ e. omega (arith, e, last)) (λ covered. omega (arith, covered.2))
             (needed_one (ahead_of log) log.head (log.head + length log.waiting) _ one)))
       ]

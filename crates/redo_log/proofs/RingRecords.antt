@@ -11,8 +11,8 @@ use Rattle.std.proofs.lemmas.List.Elements.{All-append}
 use Rattle.std.proofs.lemmas.List.Sums.{sum_by-cons}
 use Rattle.arrayvec.specs.ArrayVec.{ArrayVec}
 use Rattle.journal.specs.Places.{Shape, limit_of}
-use Rattle.redo_log.specs.Value.{retire_steps_of, most_retire_steps}
-use Rattle.redo_log.specs.Stages.{oldest_at, AreInside, IsOldest, IsRing}
+use Rattle.redo_log.specs.Value.{retire_steps_of}
+use Rattle.redo_log.specs.Stages.{AreInside, IsOldest, IsRing}
 use Rattle.redo_log.specs.Shown.{lists_of}
 
 -- the oldest of these records, and the others

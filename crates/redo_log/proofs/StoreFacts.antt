@@ -11,16 +11,15 @@ use Rattle.journal.specs.SectorsTwo.{firsts_of}
 use Rattle.journal.specs.Record.{Entry, numbers_of, with_blocks, entries_of}
 use Rattle.journal.specs.Formats.{layout_of}
 use Rattle.journal.specs.Standing.{IsOurs}
-use Rattle.journal.specs.Staged.{Guarded}
 use Rattle.journal.proofs.BatchEntries.{numbers_of_batch, length_of_batch, sized_batch}
 use Rattle.journal.proofs.Engine.{rests_logged, rests_begun}
 use Rattle.journal.proofs.Formats.{laws_of, most_is}
 use Rattle.redo_log.specs.Value.{LogValue, HasRoom, IsCovered, steps_of, retire_steps_of, behind_oldest, of_oldest, idle_from}
 use Rattle.redo_log.specs.Value.{begun, died, settled}
 use Rattle.redo_log.specs.Batch.{IsBatch}
-use Rattle.redo_log.specs.Logged.{HasNoRecord, AreHome}
+use Rattle.redo_log.specs.Logged.{HasNoRecord}
 use Rattle.redo_log.specs.Stages.{needed_at}
-use Rattle.redo_log.specs.Held.{View, resting_view, with_begun, image_view, written_of, flushed_of, made_of, turned_of, oldest_of}
+use Rattle.redo_log.specs.Held.{View, resting_view, with_begun, image_view, written_of, flushed_of, made_of, turned_of}
 use Rattle.redo_log.specs.Held.{needed_of, MayLeave, Safe, Shields, stamps_of, HoldsView}
 use Rattle.redo_log.proofs.RecordSteps.{none_written, steps_some}
 use Rattle.redo_log.proofs.CoveredRecord.{needed_covered}
@@ -109,11 +108,11 @@ may_leave_ours size log view image found =
     (λ both.
     let longer : log.head + length (view.records ++ view.under_way ∷ []) + 1 ≡ log.head + length view.records + 2 =
     omega (arith, length-append view.records (view.under_way ∷ [])) in
-    inr (both.0, subst (IsOurs size log.shape image (with_blocks view.under_way view.array)) longer both.2.ours))
+    inr (both.0, rw longer at both.2.ours))
     (λ less.
     let same : log.head + 1 + length (drop 1 view.records) + 1 ≡ log.head + length view.records + 1 =
     omega (arith, length-drop 1 view.records, less.0) in
-    inl (subst (IsOurs size log.shape image view.array) same less.2.ours)) more) found
+    inl (rw same at less.2.ours)) more) found
 
 -- a record is begun in a log with room
 pub begun_holds : (log : LogValue) (m : State) (view : View) (numbers bytes : List ℕ) → HoldsView log m view → HasRoom log

@@ -1,6 +1,6 @@
 -- What a medium stores of a log, after each call of a record's life.
 use Rattle.std.proofs.Common.{◌≡◌, inl, inr, ℕ, ◌+◌, ◌<◌, ◌≤◌, List, [], ◌∷◌, ◌++◌, length, get_or, drop, refl, sym, ◌∙◌, ap}
-use Rattle.std.proofs.Common.{subst, arith, length-drop}
+use Rattle.std.proofs.Common.{arith, length-drop}
 use Rattle.std.proofs.lemmas.Bool.{cases_eq}
 use Rattle.medium.specs.Medium.{Image, Stays, Holds}
 use Rattle.journal.specs.Places.{Shape, first_home}
@@ -11,7 +11,6 @@ use Rattle.journal.specs.Formats.{layout_of}
 use Rattle.journal.specs.Staged.{HasSlots}
 use Rattle.journal.proofs.Formats.{laws_of}
 use Rattle.journal.proofs.Overlay.{records-hide}
-use Rattle.redo_log.specs.Logged.{AreHome}
 use Rattle.redo_log.specs.Stages.{IsSized}
 use Rattle.redo_log.specs.Held.{View, with_record, view_retired, image_view, written_of, Stores}
 use Rattle.redo_log.proofs.LaidBlocks.{before_home, AreHome-log, Laid-slot, Laid-home, AreHome-write, Laid-oldest, Laid-stays, Laid-more}

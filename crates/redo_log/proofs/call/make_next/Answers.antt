@@ -1,14 +1,14 @@
-use Rattle.std.proofs.Common.{◌≡◌, ◌⊎◌, inl, inr, ⊎_elim, ℕ, ◌<◌, ◌≤◌, length, sym, ◌∙◌, ap, subst, arith}
+use Rattle.std.proofs.Common.{◌≡◌, inr, ⊎_elim, ℕ, ◌<◌, ◌≤◌, length, ◌∙◌, ap, arith}
 use Rattle.std.specs.Prelude.{Bool, false, IsTrue}
 use Rattle.std.proofs.lemmas.Bool.{cases_lt}
 use Rattle.journal.specs.Values.{shape_of}
 use Rattle.journal.specs.Record.{entries_of}
-use Rattle.journal.specs.Layout.{Layout, part_at}
+use Rattle.journal.specs.Layout.{part_at}
 use Rattle.journal.specs.Formats.{layout_of}
 use Rattle.journal.proofs.BatchEntries.{length_of_batch}
 use Rattle.journal.proofs.Formats.{laws_of, most_is}
 use Rattle.redo_log.specs.Stages.{written_at}
-use Rattle.redo_log.specs.Calls.{Write, Flush, IsFlushDue}
+use Rattle.redo_log.specs.Calls.{Write, Flush}
 use Rattle.redo_log.proofs.LaidBlocks.{before_home}
 use Rattle.redo_log.proofs.LogRules.{sizes_sized}
 use Rattle.redo_log.proofs.RecordCalls.{flush_makes}

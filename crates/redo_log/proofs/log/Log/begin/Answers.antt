@@ -1,13 +1,8 @@
-use Rattle.std.proofs.Common.{◌≡◌, ◌≤◌, ◌<◌, ◌+◌, ◌*◌, ℕ, List, length, ◌∙◌, arith, sym, ap, subst, rules}
-use Rattle.std.proofs.Math.Nat.{mul-le-mul_left}
-use Rattle.journal.specs.Places.{Shape, limit_of}
-use Rattle.journal.specs.Values.{shape_of}
-use Rattle.journal.specs.declared.log_format.LogFormat.{LogFormat}
+use Rattle.std.proofs.Common.{◌≡◌, ℕ, List, length, ◌∙◌, arith, ap, rules}
 use Rattle.redo_log.specs.Value.{LogValue, retire_steps_of}
 use Rattle.std.specs.Prelude.{Option, None}
-use Rattle.redo_log.specs.Stages.{begun_at, AreInside}
+use Rattle.redo_log.specs.Stages.{begun_at}
 use Rattle.redo_log.proofs.RecordSteps.{steps_some}
-use Rattle.redo_log.specs.Shown.{lists_of}
 use Rattle.redo_log.proofs.LogRules.{log_is, few_begun}
 use Rattle.std.proofs.lemmas.Grind.{common_steps}
 use Rattle.redo_log.proofs.log.Log.begin.Goals as goal
@@ -56,14 +51,12 @@ invariant_of-self-2 c =
         );
         oldest = c.self.invariant.ring.oldest;
         record_under_way = (
-          subst (λ (l : List ℕ). AreInside (shape_of i.sizes) l) (sym c.numbers_of-self-inside.ensures)
-              (subst (λ (s : Shape). AreInside s c.args.numbers.now) (sym (ap (λ (v : LogValue). v.shape) c.self.view_is))
-              (record {
-                some = c.requires.batch.some;
-                few = c.requires.batch.few;
-                rising = c.requires.batch.rising;
-                inside = c.requires.batch.inside;
-              })),
+          rw (c.numbers_of-self-inside.ensures, ap (λ (v : LogValue). v.shape) c.self.view_is) (record {
+            some = c.requires.batch.some;
+            few = c.requires.batch.few;
+            rising = c.requires.batch.rising;
+            inside = c.requires.batch.inside;
+          }),
           steps_some i.sizes.format (length c.numbers_of-self-inside.result.items),
         );
       };

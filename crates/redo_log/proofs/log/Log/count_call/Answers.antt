@@ -1,12 +1,11 @@
-use Rattle.std.proofs.Common.{◌≡◌, ℕ, ◌+◌, ◌%◌, vec_capacity, List, length, ◌++◌, [], ◌∷◌, subst, sym, ◌∙◌, ap, arith, rules, length-append}
-use Rattle.std.specs.Prelude.{Option, Some, None}
+use Rattle.std.proofs.Common.{◌≡◌, ℕ, ◌+◌, vec_capacity, List, length, ◌++◌, [], ◌∷◌, sym, ◌∙◌, ap, arith, rules, length-append}
+use Rattle.std.specs.Prelude.{Option}
 use Rattle.arrayvec.specs.ArrayVec.{ArrayVec}
-use Rattle.journal.specs.Places.{Shape, limit_of}
+use Rattle.journal.specs.Places.{limit_of}
 use Rattle.journal.specs.Values.{shape_of}
 use Rattle.redo_log.specs.Value.{LogValue}
-use Rattle.redo_log.specs.Stages.{begun_at, AreInside, IsRing, IsUnderWay, IsAheadOf}
+use Rattle.redo_log.specs.Stages.{begun_at, AreInside}
 use Rattle.redo_log.specs.Shown.{lists_of, ahead_in}
-use Rattle.redo_log.specs.Index.{look, with_copies, IsIndex}
 use Rattle.redo_log.proofs.CoveredRecord.{ahead_durable}
 use Rattle.redo_log.proofs.RingRecords.{lists_more, ring_durable}
 use Rattle.redo_log.proofs.IndexRoom.{record_room, index_more}

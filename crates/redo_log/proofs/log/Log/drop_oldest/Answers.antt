@@ -1,12 +1,12 @@
-use Rattle.std.proofs.Common.{◌≡◌, ℕ, ◌+◌, ◌-◌, ◌<◌, List, length, drop, subst, sym, ◌∙◌, ap, arith, length-drop}
+use Rattle.std.proofs.Common.{◌≡◌, ℕ, ◌+◌, ◌-◌, ◌<◌, List, length, drop, sym, ◌∙◌, ap, arith, length-drop}
 use Rattle.std.specs.Prelude.{map}
 use Rattle.std.proofs.lemmas.List.{drop-map}
 use Rattle.arrayvec.specs.ArrayVec.{ArrayVec}
 use Rattle.journal.specs.Values.{shape_of}
 use Rattle.redo_log.specs.Value.{AllFirsts, LogValue}
-use Rattle.redo_log.specs.Stages.{IsRing, value_at}
+use Rattle.redo_log.specs.Stages.{value_at}
 use Rattle.redo_log.specs.Shown.{kept_in, lists_of, firsts_in, ahead_in}
-use Rattle.redo_log.specs.Index.{look, outside, IsIndex}
+use Rattle.redo_log.specs.Index.{look, outside}
 use Rattle.redo_log.proofs.IndexRoom.{index_fewer}
 use Rattle.redo_log.proofs.CoveredRecord.{ahead_retired}
 use Rattle.redo_log.proofs.RingRecords.{ring_retired}
