@@ -69,9 +69,6 @@ copy_sector-requires-clause-from_inside g c =
     let at = read_at g (goal.at.copy_sector-requires-clause-from_inside g c).After-first in
     omega (arith, at.0, at.1, c.requires.fits, c.loop-i.invariant.copies.moments.size_stays)
 
-pub copy_sector-requires-clause-few : goal.copy_sector-requires-clause-few
-copy_sector-requires-clause-few g c = omega (arith, c.first.ensures.few)
-
 pub copy_sector-requires-clause-to_inside : goal.copy_sector-requires-clause-to_inside
 copy_sector-requires-clause-to_inside g c =
     let to = written_at g (goal.at.copy_sector-requires-clause-to_inside g c).After-first in

@@ -24,9 +24,6 @@ blocks g c =
     blocks_read (shape_of c.args.sizes.now) (g.M.Medium.state c.args.m.now).content c.args.stamp whole.0 c.read_record.new.to whole.1
     ((found g c).all whole.0 whole.1)
 
-pub copy_blocks-requires-clause-fits : goal.copy_blocks-requires-clause-fits
-copy_blocks-requires-clause-fits g c = omega (arith, c.requires.fits, c.read_record.ensures.passes.quiet.size_stays)
-
 pub copy_blocks-requires-clause-blocks : goal.copy_blocks-requires-clause-blocks
 copy_blocks-requires-clause-blocks g c = blocks g (goal.at.copy_blocks-requires-clause-blocks g c).Then-branch
 
@@ -81,8 +78,4 @@ pub returns-then-branch-clause-follows : goal.returns-then-branch-clause-follows
 returns-then-branch-clause-follows g c =
     let few = (blocks g (goal.at.returns-then-branch-clause-follows g c).Then-branch).few in
     let none = none_sent (g.M.Medium.state c.args.m.now) (g.M.Medium.state c.read_record.new.m) c.read_record.ensures.passes.reads in
-    record {
-      follows = g.met.M.Medium.follows_through _ _ _ c.read_record.ensures.follows.0 c.copy_blocks.ensures.follows.follows;
-      sent = omega (arith, none, few, c.copy_blocks.ensures.follows.sent);
-      looks = looks_joined _ _ _ _ c.read_record.ensures.follows.1 c.copy_blocks.ensures.follows.looks;
-    }
+    search (rules, g.met.M.Medium.follows_through, looks_joined, few, none)

@@ -38,9 +38,6 @@ copied g c result most fit cause =
     ))
     c.loop-j.invariant.copies c.copy_record.ensures.copies fit cause
 
-pub copy_record-requires-clause-fits : goal.copy_record-requires-clause-fits
-copy_record-requires-clause-fits g c = omega (arith, c.requires.fits, c.loop-j.invariant.copies.moments.size_stays)
-
 pub copy_record-requires-clause-whole : goal.copy_record-requires-clause-whole
 copy_record-requires-clause-whole g c =
     let found = c.args.found.now in

@@ -100,10 +100,7 @@ returns g c =
           ∙ c.clear.ensures.follows.looks.looked_stays);
       calls = search rules;
       cause = search rules;
-      follows =
-          let through = g.met.M.Medium.follows_through in
-          through _ _ _ (through _ _ _ (through _ _ _ c.write_through.ensures.follows.follows c.clear.ensures.follows.follows)
-          c.write_through-2.ensures.follows.follows) c.write_through-3.ensures.follows.follows;
+      follows = search (rules, g.met.M.Medium.follows_through);
     }
 
 pub returns-in_err-write_through : goal.returns-in_err-write_through
@@ -121,30 +118,27 @@ returns-in_err-write_through g c = record {
 }
 
 pub returns-in_err-clear : goal.returns-in_err-clear
-returns-in_err-clear g c =
-    let at = goal.at.returns-in_err-clear g c in
-    let before = cleared g at.After-clear in
-    record {
-      done = search rules;
-      leaves = λ array from. left g at.In_ok-write_through array _
-          (none_leaves _ (shape_of c.args.sizes.now) array _ _ before.0) before.1 c.clear.ensures.follows.looks.looked_stays;
-      calls = search rules;
-      cause = search rules;
-      follows = g.met.M.Medium.follows_through _ _ _ c.write_through.ensures.follows.follows c.clear.ensures.follows.follows;
-    }
+returns-in_err-clear g c = record {
+  done = search rules;
+  leaves = λ array from.
+      let at = goal.at.returns-in_err-clear g c in
+      let before = cleared g at.After-clear in
+      left g at.In_ok-write_through array _ (none_leaves _ (shape_of c.args.sizes.now) array _ _ before.0) before.1
+      c.clear.ensures.follows.looks.looked_stays;
+  calls = search rules;
+  cause = search rules;
+  follows = search (rules, g.met.M.Medium.follows_through);
+}
 
 pub returns-in_err-write_through-2 : goal.returns-in_err-write_through-2
-returns-in_err-write_through-2 g c =
-    let at = goal.at.returns-in_err-write_through-2 g c in
-    let before = headed g at.After-write_through-2 (cleared g at.After-clear) in
-    let through = g.met.M.Medium.follows_through in
-    record {
-      done = search rules;
-      leaves = λ array from. left g at.In_ok-write_through array _
-          (none_leaves _ (shape_of c.args.sizes.now) array _ _ before.0) before.1
-          (c.write_through-2.ensures.follows.looks.looked_stays ∙ c.clear.ensures.follows.looks.looked_stays);
-      calls = search rules;
-      cause = search rules;
-      follows = through _ _ _ (through _ _ _ c.write_through.ensures.follows.follows c.clear.ensures.follows.follows)
-          c.write_through-2.ensures.follows.follows;
-    }
+returns-in_err-write_through-2 g c = record {
+  done = search rules;
+  leaves = λ array from.
+      let at = goal.at.returns-in_err-write_through-2 g c in
+      let before = headed g at.After-write_through-2 (cleared g at.After-clear) in
+      left g at.In_ok-write_through array _ (none_leaves _ (shape_of c.args.sizes.now) array _ _ before.0) before.1
+      (c.write_through-2.ensures.follows.looks.looked_stays ∙ c.clear.ensures.follows.looks.looked_stays);
+  calls = search rules;
+  cause = search rules;
+  follows = search (rules, g.met.M.Medium.follows_through);
+}

@@ -89,49 +89,29 @@ made g c cleared before =
     }
 
 pub returns-in_err-clear : goal.returns-in_err-clear
-returns-in_err-clear g c = record {
-  ok = search rules;
-  leaves = wiped g (goal.at.returns-in_err-clear g c).After-clear;
-  calls = search rules;
-  cause = search rules;
-  follows = search rules;
-}
+returns-in_err-clear g c = search (rules, wiped g (goal.at.returns-in_err-clear g c).After-clear)
 
 pub returns-in_err-move_head : goal.returns-in_err-move_head
 returns-in_err-move_head g c =
     let at = goal.at.returns-in_err-move_head g c in
-    record {
-      ok = search rules;
-      leaves = headed g at.After-move_head (clears g at.After-clear) (wiped g at.After-clear);
-      calls = search rules;
-      cause = search rules;
-      follows = search rules;
-    }
+    search (rules, headed g at.After-move_head (clears g at.After-clear) (wiped g at.After-clear))
 
 pub returns-in_err-write_through : goal.returns-in_err-write_through
 returns-in_err-write_through g c =
     let at = goal.at.returns-in_err-write_through g c in
     let cleared = clears g at.After-clear in
-    let through = g.met.M.Medium.follows_through in
-    record {
-      ok = search rules;
-      leaves = made g at.After-write_through cleared (headed g at.After-move_head cleared (wiped g at.After-clear));
-      calls = search rules;
-      cause = search rules;
-      follows = through _ _ _ (through _ _ _ c.clear.ensures.follows.follows c.move_head.ensures.follows.follows)
-          c.write_through.ensures.follows.follows;
-    }
+    search (
+      rules,
+      made g at.After-write_through cleared (headed g at.After-move_head cleared (wiped g at.After-clear)),
+      g.met.M.Medium.follows_through,
+    )
 
 pub returns : goal.returns
 returns g c =
     let at = goal.at.returns g c in
     let cleared = clears g at.After-clear in
-    let through = g.met.M.Medium.follows_through in
-    record {
-      ok = search rules;
-      leaves = made g at.After-write_through cleared (headed g at.After-move_head cleared (wiped g at.After-clear));
-      calls = search rules;
-      cause = search rules;
-      follows = through _ _ _ (through _ _ _ c.clear.ensures.follows.follows c.move_head.ensures.follows.follows)
-          c.write_through.ensures.follows.follows;
-    }
+    search (
+      rules,
+      made g at.After-write_through cleared (headed g at.After-move_head cleared (wiped g at.After-clear)),
+      g.met.M.Medium.follows_through,
+    )

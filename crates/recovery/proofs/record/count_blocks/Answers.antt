@@ -38,10 +38,7 @@ returns-in_err-are_stamped g c =
       passes = reads_on c.read_record.ensures.passes c.are_stamped.ensures.passes
           (most_tried c.args.sizes.now.format c.len-count.result (omega (arith, few, c.len-count.ensures.value))) (search rules);
       finds = search rules;
-      follows = (
-        g.met.M.Medium.follows_through _ _ _ c.read_record.ensures.follows.0 c.are_stamped.ensures.follows.0,
-        looks_joined _ _ _ _ c.read_record.ensures.follows.1 c.are_stamped.ensures.follows.1,
-      );
+      follows = search (rules, g.met.M.Medium.follows_through, looks_joined);
     }
 
 pub returns : goal.returns
@@ -83,8 +80,5 @@ returns g c =
             ))
             c.counted.ensures;
       };
-      follows = (
-        g.met.M.Medium.follows_through _ _ _ c.read_record.ensures.follows.0 c.are_stamped.ensures.follows.0,
-        looks_joined _ _ _ _ c.read_record.ensures.follows.1 c.are_stamped.ensures.follows.1,
-      );
+      follows = search (rules, g.met.M.Medium.follows_through, looks_joined);
     }

@@ -59,13 +59,6 @@ moving g c = record {
   looks = c.move_head.ensures.follows.looks;
 }
 
-pub copy_records-requires-clause-fits : goal.copy_records-requires-clause-fits
-copy_records-requires-clause-fits g c =
-    omega (arith, c.in_ok-found.ensures.ok.is.shape.fits, c.inspect.ensures.reads.quiet.size_stays)
-
-pub copy_records-requires-clause-stamps : goal.copy_records-requires-clause-stamps
-copy_records-requires-clause-stamps g c = omega (arith, c.in_ok-found.ensures.ok.is.stamp_left)
-
 pub copy_records-requires-clause-whole : goal.copy_records-requires-clause-whole
 copy_records-requires-clause-whole g c j below =
     let found = c.in_ok-found.found in
@@ -84,67 +77,54 @@ move_head-requires-clause-inside g c =
     )
 
 pub returns-in_err-flush : goal.returns-in_err-flush
-returns-in_err-flush g c = record {
-  ok = search rules;
-  fresh = search rules;
-  err = search rules;
-  leaves = flush_leaves c.args.least _ _ (flush g (goal.at.returns-in_err-flush g c).After-flush);
-  follows = search rules;
-}
+returns-in_err-flush g c = search (rules, flush_leaves c.args.least _ _ (flush g (goal.at.returns-in_err-flush g c).After-flush))
 
 pub returns-in_err-found : goal.returns-in_err-found
 returns-in_err-found g c =
     let known = survey g (goal.at.returns-in_err-found g c).After-inspect in
+    let p = err_from_is_err_and c.from_residual-in_err-found.result c.from_residual-in_err-found.ensures.1 in
     record {
       ok = search rules;
       fresh = search rules;
-      err =
-          let p = err_from_is_err_and c.from_residual-in_err-found.result c.from_residual-in_err-found.ensures.1 in
-          rw (p.1, p.2) (refusal_before _ _ _ known.flush.passes (flushed c.args.least _ _ known.flush) known.reads.reads
+      err = rw (p.1, p.2) (refusal_before _ _ _ known.flush.passes (flushed c.args.least _ _ known.flush) known.reads.reads
           c.args.least c.in_err-found.field-0.0 c.in_err-found.ensures.err);
       leaves = survey_leaves c.args.least _ _ _ known;
       follows = search rules;
     }
 
 pub returns-in_err-copy_records : goal.returns-in_err-copy_records
-returns-in_err-copy_records g c =
-    let at = goal.at.returns-in_err-copy_records g c in
-    record {
-      ok = search rules;
-      fresh = search rules;
-      err = search rules;
-      leaves = copies_leave c.args.least _ _ _ (survey g at.After-inspect) _ _ (copying g at.After-copy_records);
-      follows = g.met.M.Medium.follows_through _ _ _
-          (g.met.M.Medium.follows_through _ _ _ c.flush.ensures.follows c.inspect.ensures.follows) c.copy_records.ensures.follows.follows;
-    }
+returns-in_err-copy_records g c = record {
+  ok = search rules;
+  fresh = search rules;
+  err = search rules;
+  leaves =
+      let at = goal.at.returns-in_err-copy_records g c in
+      copies_leave c.args.least _ _ _ (survey g at.After-inspect) _ _ (copying g at.After-copy_records);
+  follows = search (rules, g.met.M.Medium.follows_through);
+}
 
 pub returns-in_err-move_head : goal.returns-in_err-move_head
-returns-in_err-move_head g c =
-    let at = goal.at.returns-in_err-move_head g c in
-    let through = g.met.M.Medium.follows_through in
-    record {
-      ok = search rules;
-      fresh = search rules;
-      err = search rules;
-      leaves = moves_leave c.args.least _ _ _ (survey g at.After-inspect) _ _ (copying g at.After-copy_records) _
-          (moving g at.After-move_head);
-      follows = through _ _ _ (through _ _ _ (through _ _ _ c.flush.ensures.follows c.inspect.ensures.follows)
-          c.copy_records.ensures.follows.follows) c.move_head.ensures.follows.follows;
-    }
+returns-in_err-move_head g c = record {
+  ok = search rules;
+  fresh = search rules;
+  err = search rules;
+  leaves =
+      let at = goal.at.returns-in_err-move_head g c in
+      moves_leave c.args.least _ _ _ (survey g at.After-inspect) _ _ (copying g at.After-copy_records) _ (moving g at.After-move_head);
+  follows = search (rules, g.met.M.Medium.follows_through);
+}
 
 pub returns : goal.returns
 returns g c =
     let at = goal.at.returns g c in
-    let through = g.met.M.Medium.follows_through in
     let known = survey g at.After-inspect in
     let copied = copying g at.After-copy_records in
     let moved = moving g at.After-move_head in
     let head = c.in_ok-move_head.ensures in
-    record {
-      ok = recovery_from c.args.least _ _ _ known _ _ copied _ moved head.done.0 head.done.1 head.moves.exact;
-      fresh = recovery_fresh c.args.least _ _ _ known _ _ copied _ moved head.done.0 head.done.1;
-      err = search rules;
-      leaves = moves_leave c.args.least _ _ _ known _ _ copied _ moved;
-      follows = through _ _ _ (through _ _ _ (through _ _ _ c.flush.ensures.follows c.inspect.ensures.follows)
-          c.copy_records.ensures.follows.follows) c.move_head.ensures.follows.follows;
-    }
+    search (
+      rules,
+      recovery_from c.args.least _ _ _ known _ _ copied _ moved head.done.0 head.done.1 head.moves.exact,
+      recovery_fresh c.args.least _ _ _ known _ _ copied _ moved head.done.0 head.done.1,
+      moves_leave c.args.least _ _ _ known _ _ copied _ moved,
+      g.met.M.Medium.follows_through,
+    )

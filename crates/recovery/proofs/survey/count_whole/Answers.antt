@@ -57,16 +57,12 @@ loop-j-preserved g c =
 
 pub returns-in_err-count_blocks : goal.returns-in_err-count_blocks
 returns-in_err-count_blocks g c =
-    let reads = most_reads_of c.args.sizes.now.format in
     let inv = c.loop-j.invariant in
     record {
       passes = reads_on inv.passes c.count_blocks.ensures.passes
-          (each_once_more reads c.loop-j.j c.args.sizes.now.slots c.loop-j-test.true) (search rules);
+          (each_once_more (most_reads_of c.args.sizes.now.format) c.loop-j.j c.args.sizes.now.slots c.loop-j-test.true) (search rules);
       finds = search rules;
-      follows = (
-        g.met.M.Medium.follows_through _ _ _ inv.follows c.count_blocks.ensures.follows.0,
-        looks_joined _ _ _ _ inv.looks c.count_blocks.ensures.follows.1,
-      );
+      follows = search (rules, g.met.M.Medium.follows_through, looks_joined);
     }
 
 pub returns-in_default : goal.returns-in_default
@@ -82,10 +78,7 @@ returns-in_default g c =
         exact = rw (← many) (one_more g (goal.at.returns-in_default g c).In_ok-count_blocks);
         is = search rules;
       };
-      follows = (
-        g.met.M.Medium.follows_through _ _ _ inv.follows c.count_blocks.ensures.follows.0,
-        looks_joined _ _ _ _ inv.looks c.count_blocks.ensures.follows.1,
-      );
+      follows = search (rules, g.met.M.Medium.follows_through, looks_joined);
     }
 
 pub returns : goal.returns

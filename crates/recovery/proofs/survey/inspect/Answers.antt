@@ -93,8 +93,7 @@ returns-then-head-count g c =
             c.in_ok-count.ensures.finds.exact);
       };
       err = search rules;
-      follows = g.met.M.Medium.follows_through _ _ _ (g.met.M.Medium.follows_through _ _ _ c.read_super.ensures.follows.0
-          c.read.ensures.follows.0) c.count_whole.ensures.follows.0;
+      follows = search (rules, g.met.M.Medium.follows_through);
     }
 
 pub returns-else-head-count : goal.returns-else-head-count
@@ -114,56 +113,29 @@ returns-else-head-count g c =
         (shape, s.array, c.in-Some.head.stamp + c.in_ok-count.count + 1, s.stands, omega (arith, c.if-head-count.false)),
         reads.quiet,
       );
-      follows = g.met.M.Medium.follows_through _ _ _ (g.met.M.Medium.follows_through _ _ _ c.read_super.ensures.follows.0
-          c.read.ensures.follows.0) c.count_whole.ensures.follows.0;
+      follows = search (rules, g.met.M.Medium.follows_through);
     }
 
 pub returns-in_err-count : goal.returns-in_err-count
-returns-in_err-count g c = record {
-  reads = records_read g (goal.at.returns-in_err-count g c).After-count_whole;
-  ok = search rules;
-  err = search rules;
-  follows = g.met.M.Medium.follows_through _ _ _ (g.met.M.Medium.follows_through _ _ _ c.read_super.ensures.follows.0
-      c.read.ensures.follows.0) c.count_whole.ensures.follows.0;
-}
+returns-in_err-count g c =
+    search (rules, records_read g (goal.at.returns-in_err-count g c).After-count_whole, g.met.M.Medium.follows_through)
 
 pub returns-in_err-sizes : goal.returns-in_err-sizes
-returns-in_err-sizes g c = record {
-  reads = record {
-    quiet = c.read_super.ensures.reads.quiet;
-    reads = search rules;
-    calls = search rules;
-    most = search rules;
-    looks = super_looked _ _ c.read_super.ensures.follows.1;
-  };
-  ok = search rules;
-  err =
-      let p = err_from_is_err_and c.from_residual.result c.from_residual.ensures.1 in
-      rw (p.1, p.2) (look_refusal c.args.least (g.M.Medium.state c.args.m.now) (g.M.Medium.state c.read_super.new.m)
-      c.in_err-sizes.field-0.0 c.in_err-sizes.ensures.err c.read_super.ensures.reads.quiet);
-  follows = search rules;
-}
+returns-in_err-sizes g c =
+    let p = err_from_is_err_and c.from_residual.result c.from_residual.ensures.1 in
+    let quiet = c.read_super.ensures.reads.quiet in
+    record {
+      reads = search (rules, quiet, super_looked _ _ c.read_super.ensures.follows.1);
+      ok = search rules;
+      err = rw (p.1, p.2) (look_refusal c.args.least _ _ c.in_err-sizes.field-0.0 c.in_err-sizes.ensures.err quiet);
+      follows = search rules;
+    }
 
 pub returns-in_err-read : goal.returns-in_err-read
-returns-in_err-read g c = record {
-  reads = head_read g (goal.at.returns-in_err-read g c).After-read;
-  ok = search rules;
-  err = search rules;
-  follows = search rules;
-}
+returns-in_err-read g c = search (rules, head_read g (goal.at.returns-in_err-read g c).After-read)
 
 pub returns-in_default : goal.returns-in_default
-returns-in_default g c = record {
-  reads = head_read g (goal.at.returns-in_default g c).After-read;
-  ok = search rules;
-  err = search rules;
-  follows = search rules;
-}
+returns-in_default g c = search (rules, head_read g (goal.at.returns-in_default g c).After-read)
 
 pub returns-then-has_few_slots : goal.returns-then-has_few_slots
-returns-then-has_few_slots g c = record {
-  reads = head_read g (goal.at.returns-then-has_few_slots g c).After-read;
-  ok = search rules;
-  err = search rules;
-  follows = search rules;
-}
+returns-then-has_few_slots g c = search (rules, head_read g (goal.at.returns-then-has_few_slots g c).After-read)
