@@ -5,7 +5,7 @@ use Rattle.std.proofs.lemmas.Nat.{mod_below}
 use Rattle.medium.specs.Medium.{Image}
 use Rattle.journal.specs.Places.{Shape}
 use Rattle.journal.specs.Record.{Entry}
-use Rattle.journal.specs.Layout.{Layout, IsWholeIn, CarriesBelowIn, slot_at}
+use Rattle.journal.specs.Layout.{Layout, IsWholeIn, slot_at}
 use Rattle.journal.specs.LayoutLaws.{Laws}
 use Rattle.journal.specs.Formats.{layout_of, HasWhole, CarriesBelow}
 use Rattle.journal.proofs.Apart.{in_log}
@@ -30,31 +30,26 @@ module _ (L : Layout) (laws : Laws L) (shape : Shape) (image : Image) where
       subst (L.carries (L.offset (length es) (L.parts (length es) - 1)) stamp) (sym there) carried in
       subst (λ (x : ℕ). L.carries x stamp (image (slot_at L shape stamp + x))) o here
 
-  -- so its stamp is below the end of all that are carried
-  carried_in : (stamp end : ℕ) (es : List Entry) → 1 ≤ shape.slots → IsWholeIn L shape image stamp es → CarriesBelowIn L shape image end
-      → stamp < end
-  carried_in stamp end es some w below =
-      let inside = laws.inside 0 0 (omega arith) (laws.some_parts 0) in
-      below (stamp % shape.slots) (L.slot_sectors - 1) stamp (mod_below stamp shape.slots some) (omega (arith, inside))
-      (last_carries stamp es w)
-
-  -- a log of zeros carries nothing from stamp 1 on
-  zeros_below : (end : ℕ) → 1 ≤ end → ((x : ℕ) → 2 ≤ x → x < 2 + L.slot_sectors * shape.slots → image x ≡ replicate 512 0)
-      → CarriesBelowIn L shape image end
-  zeros_below end some zeros slot o stamp low small carries =
-      let inside = in_log L.slot_sectors slot shape.slots o low small in
-      let none = laws.zeros o stamp (subst (L.carries o stamp) (zeros (2 + L.slot_sectors * slot + o) (omega arith) inside) carries) in
-      omega (arith, none, some)
-
+-- so its stamp is below the end of all that are carried
 pub carried_whole : (shape : Shape) (image : Image) (stamp end : ℕ) → 1 ≤ shape.slots → HasWhole shape image stamp
     → CarriesBelow shape image end → stamp < end
 carried_whole shape image stamp end some w below =
-    carried_in (layout_of shape.format) (laws_of shape.format) shape image stamp end w.0 some w.1 below
+    let L = layout_of shape.format in
+    let laws = laws_of shape.format in
+    let inside = laws.inside 0 0 (omega arith) (laws.some_parts 0) in
+    below (stamp % shape.slots) (L.slot_sectors - 1) stamp (mod_below stamp shape.slots some) (omega (arith, inside))
+    (last_carries L laws shape image stamp w.0 w.1)
 
+-- a log of zeros carries nothing from stamp 1 on
 pub zeros_carry : (shape : Shape) (image : Image) (end : ℕ) → 1 ≤ end
     → ((x : ℕ) → 2 ≤ x → x < 2 + (layout_of shape.format).slot_sectors * shape.slots → image x ≡ replicate 512 0)
     → CarriesBelow shape image end
-zeros_carry shape image end some zeros = zeros_below (layout_of shape.format) (laws_of shape.format) shape image end some zeros
+zeros_carry shape image end some zeros slot o stamp low small carries =
+    let L = layout_of shape.format in
+    let inside = in_log L.slot_sectors slot shape.slots o low small in
+    let none = (laws_of shape.format).zeros o stamp
+    (subst (L.carries o stamp) (zeros (2 + L.slot_sectors * slot + o) (omega arith) inside) carries) in
+    omega (arith, none, some)
 
 -- what is below one stamp is below the next
 pub carries_later : (shape : Shape) (image : Image) (end : ℕ) → CarriesBelow shape image end → CarriesBelow shape image (end + 1)

@@ -25,10 +25,9 @@ use Rattle.recovery.specs.Tries.{AreTriesOf}
 use Rattle.recovery.specs.Recovered.{IsRecoveredFrom, IsFresh, StandsForOneOf, LeavesAtLeast}
 use Rattle.recovery.specs.Migrated.{CanMigrate, IsMadeOf, IsMigratedFrom, IsFreshInEither, IsOursInEither, StandsInEither, MigrationLeaves}
 use Rattle.recovery.specs.declared.recovered.Recovered.{Recovered}
-use Rattle.recovery.proofs.CarriedStamps.{zeros_carry}
 use Rattle.recovery.proofs.CopiedRecords.{log_ends}
 use Rattle.recovery.proofs.WholeRecovery.{calls_made}
-use Rattle.recovery.proofs.ReplayedImages.{fresh_ours}
+use Rattle.recovery.proofs.ReplayedImages.{zeros_fresh, fresh_ours}
 use Rattle.recovery.proofs.CallsSent.{start_migrates, made_migrates}
 use Rattle.recovery.proofs.SectorsRead.{looked_before}
 
@@ -52,18 +51,6 @@ module _ (shape : Shape) (array : Array) (next : ℕ) (before image : Image) (fr
     where
       outside : (x : ℕ) → x ≢ 1 → ¬ IsBetween 2 (first_home shape) x → image x ≡ before x
       outside x apart not = ⊎_elim (λ was. was) (λ zeros. absurd (not zeros.0)) (each x apart)
-
--- a log of zeros under the super of format 2
-two_fresh : (shape : Shape) (array : Array) (next : ℕ) (image : Image) → IsSuper (migrated shape) (image 0) → IsHead next (image 1)
-    → ((x : ℕ) → 2 ≤ x → x < first_home shape → image x ≡ replicate 512 0)
-    → ((b : ℕ) → b < shape.blocks → image (first_home shape + b) ≡ array b) → IsFresh (migrated shape) array next image
-two_fresh shape array next image super head zeros home = record {
-  super = super;
-  head = head;
-  home = home;
-  carries = zeros_carry (migrated shape) image next head.least
-      (λ x low high. zeros x low (omega (arith, high, log_ends (migrated shape) super.home_is)));
-}
 
 module _ (shape : Shape) (array : Array) (next : ℕ) (old cleared : State) (least : 1 ≤ next) (flushed : IsFlushed old)
     (fresh : IsFresh shape array next old.content) (sound_cleared : IsSound cleared)
@@ -109,7 +96,7 @@ module _ (shape : Shape) (array : Array) (next : ℕ) (old cleared : State) (lea
             → IsFresh (migrated shape) array next image
         made image before cut holds =
             let f = each before cut in
-            two_fresh shape array next image (subst (IsSuper (migrated shape)) (sym holds.here) super)
+            zeros_fresh (migrated shape) array next image (subst (IsSuper (migrated shape)) (sym holds.here) super)
             (subst (IsHead next) (sym (holds.elsewhere 1 (λ e. omega arith))) f.head)
             (λ x low high. holds.elsewhere x (λ e. omega (arith, low, e)) ∙ done x (before x) (cut x) ∙ zeros x low high)
             (λ b below. holds.elsewhere (first_home shape + b) (λ e. omega (arith, e, log_ends shape f.super.home_is)) ∙ f.home b below)
@@ -245,7 +232,7 @@ module _ (old mid : State) (found : Recovered) (recovered : IsRecoveredFrom old 
       here_fresh : (array : Array) → ((b : ℕ) → b < found.sizes.blocks → recovered.array b ≡ array b)
           → IsFresh (migrated (shape_of found.sizes)) array found.next new.content
       here_fresh array same =
-          two_fresh (shape_of found.sizes) array found.next new.content is.made.super is.made.head is.made.zeros
+          zeros_fresh (migrated (shape_of found.sizes)) array found.next new.content is.made.super is.made.head is.made.zeros
           (λ b below. kept_home b below ∙ same b below)
 
       pub migrated_fresh : (shape : Shape) (array : Array) (next : ℕ) → IsOurs old.size shape old.content array next

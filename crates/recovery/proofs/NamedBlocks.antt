@@ -19,10 +19,6 @@ pub both_ok : {T E P Q R : Type 0} (r : Result T E) → (P → Q → R) → OnOk
 both_ok (Ok x) f p q = f p q
 both_ok (Err e) f p q = tt
 
--- no sector before home is one of home
-pub apart_home : (place home b : ℕ) → place < home → place ≡ home + b → ⊥
-apart_home place home b before is = omega (arith, before, is)
-
 -- the numbers that were read are those of blocks
 pub blocks_read : (shape : Shape) (image : Image) (stamp : ℕ) (entries : List Entry) (read : Record) → IsWhole shape image stamp entries
     → IsRead shape image stamp entries read → AreBlocks shape read.numbers.items

@@ -1,5 +1,6 @@
 -- Images go on standing for what they stood for while their records are copied home.
 use Rattle.std.proofs.Common.{◌≡◌, ◌⊎◌, ⊎_elim, ℕ, ◌+◌, ◌<◌, ◌≤◌, List, [], length, get_or, refl, sym, ◌∙◌, subst, arith}
+use Rattle.std.specs.Prelude.{replicate}
 use Rattle.medium.specs.Medium.{Image}
 use Rattle.spec.specs.Blocks.{Array}
 use Rattle.journal.specs.Places.{Shape, first_home, sectors_of, IsFirstHome}
@@ -12,7 +13,7 @@ use Rattle.journal.proofs.Overlay.{with_records-same, records-hide}
 use Rattle.journal.proofs.Wholeness.{CarriesBelow-agree}
 use Rattle.recovery.specs.Copies.{IsHomeInRecords, HasNewHead}
 use Rattle.recovery.specs.Recovered.{IsFresh}
-use Rattle.recovery.proofs.CarriedStamps.{carried_whole, carries_later}
+use Rattle.recovery.proofs.CarriedStamps.{carried_whole, zeros_carry, carries_later}
 use Rattle.recovery.proofs.CopiedRecords.{log_ends, home_in_whole, long_as, number_of, whole_same, not_in_log}
 
 -- a block that is copied is hidden by the records
@@ -94,7 +95,18 @@ new_head_fresh size shape start array next ours before image log home moved = re
       ours.carries;
 }
 
--- such an image is ours, with the stamp behind
+-- no record waits in a log of zeros
+pub zeros_fresh : (shape : Shape) (array : Array) (next : ℕ) (image : Image) → IsSuper shape (image 0) → IsHead next (image 1)
+    → ((x : ℕ) → 2 ≤ x → x < first_home shape → image x ≡ replicate 512 0)
+    → ((b : ℕ) → b < shape.blocks → image (first_home shape + b) ≡ array b) → IsFresh shape array next image
+zeros_fresh shape array next image super head zeros home = record {
+  super = super;
+  head = head;
+  home = home;
+  carries = zeros_carry shape image next head.least (λ x low high. zeros x low (omega (arith, high, log_ends shape super.home_is)));
+}
+
+-- an image in which no record waits is ours, with the stamp behind
 pub fresh_ours : (size : ℕ) (shape : Shape) (array : Array) (next : ℕ) (image : Image) → sectors_of shape ≤ size
     → IsFresh shape array next image → IsOurs size shape image array (next + 1)
 fresh_ours size shape array next image fits f = record {

@@ -8,10 +8,6 @@ use Rattle.journal.specs.ImageFaults.{HasShape}
 use Rattle.recovery.specs.Looks.{HoldsLog, LooksAtLog}
 use Rattle.recovery.proofs.FoundRecords.{quiet_after}
 
--- no call, or none that reads
-pub none_looked : (old new : State) → new.looked ≡ old.looked → LooksAtLog old new
-none_looked old new same near holds = no_looks (λ s. s < near) old new same
-
 -- calls that read nothing and changed nothing, and then others
 pub looked_later : (old mid new : State) → IsQuiet old mid → mid.looked ≡ old.looked → LooksAtLog mid new → LooksAtLog old new
 looked_later old mid new quiet same later near holds =

@@ -31,7 +31,7 @@ use Rattle.recovery.proofs.CallsSent.{few_sent, found_sent}
 use Rattle.recovery.proofs.CopiedRecords.{log_ends, not_in_log, not_behind}
 use Rattle.recovery.proofs.FoundRecords.{quiet_before, quiet_after, found_stands, found_matches}
 use Rattle.recovery.proofs.ReplayedImages.{copies_ours, new_head_fresh, fresh_ours}
-use Rattle.recovery.proofs.SectorsRead.{none_looked, looked_later, looked_on}
+use Rattle.recovery.proofs.SectorsRead.{looked_later, looked_on}
 use Rattle.recovery.proofs.SparedSectors.{spared_within, quiet_spares, found_spares}
 use Rattle.recovery.proofs.SurveyCalls.{tries_moved, most_start, few_starts}
 
@@ -98,7 +98,7 @@ module _ (least : ℕ) (old mid : State) {result : Result (Unit {0}) MediumFault
       calls = omega (arith, flush.passes.calls_are);
       most = λ shape has. omega (arith, flush.passes.calls_are);
       sends = few_sent old mid (omega (arith, flush_sends old mid flush.passes));
-      looks = none_looked old mid unlooked;
+      looks = λ near holds. no_looks _ old mid unlooked;
     };
     small = λ few. spared_quiet 0 old mid flush.sound flushed;
   }

@@ -16,13 +16,9 @@ use Rattle.recovery.specs.Calls.{CopiesPass, FollowsBy}
 use Rattle.recovery.specs.Copies.{IsHomeOf}
 use Rattle.recovery.proofs.CopiedRecords.{none_copied}
 use Rattle.recovery.proofs.JoinedCalls.{all_pass, pass_all, copies_on, follows_on}
-use Rattle.recovery.proofs.NamedBlocks.{apart_home}
 use Rattle.recovery.proofs.copies.copy_blocks.Given as given
 use Rattle.recovery.proofs.copies.copy_blocks.Goals as goal
 use Rattle.recovery.proofs.copies.copy_blocks.Goals.{After-first, After-copy_sector}
-
-less_most : {i n most : ℕ} → i < n → n ≤ most → i < most
-less_most a b = omega (arith, a, b)
 
 -- the sector that is read has the data of the block, and stands in the log
 read_at : (g : given.Over) (c : After-first g) → (c.copy_place.result ≡ data_at (shape_of c.args.sizes.now) c.args.stamp c.loop-i.i)
@@ -33,7 +29,7 @@ read_at g c =
       c.copy_place.ensures
           ∙ ap (λ (k : ℕ). 2 + (layout_of sizes.format).slot_sectors * k + first_data_of sizes.format + c.loop-i.i) c.slot_of-slot.ensures,
       place_before sizes.format sizes.slots sizes.home (c.args.stamp % sizes.slots) c.loop-i.i sizes.home_is
-          (mod_below c.args.stamp sizes.slots sizes.some_slots) (less_most inside c.requires.blocks.few),
+          (mod_below c.args.stamp sizes.slots sizes.some_slots) (omega (arith, inside, c.requires.blocks.few)),
     )
 
 -- and the one that is written is the home of the block
@@ -62,7 +58,7 @@ followed g c most low fit = follows_on g.met.M.Medium.follows_through
 pub copy_place-requires-clause-inside : goal.copy_place-requires-clause-inside
 copy_place-requires-clause-inside g c =
     let inside : c.loop-i.i < length c.args.read.now.numbers.items = omega (arith, c.loop-i-test.true, c.len-i-end.ensures.value) in
-    less_most inside c.requires.blocks.few
+    omega (arith, inside, c.requires.blocks.few)
 
 pub copy_sector-requires-clause-from_inside : goal.copy_sector-requires-clause-from_inside
 copy_sector-requires-clause-from_inside g c =
@@ -112,7 +108,7 @@ loop-i-preserved g c =
     let new = g.M.Medium.state c.copy_sector.new.m in
     let inv = c.loop-i.invariant in
     let place : mid.content c.copy_place.result ≡ old.content (data_at shape c.args.stamp i) = ap mid.content from.0
-    ∙ inv.copies.elsewhere (data_at shape c.args.stamp i) (λ h. apart_home (data_at shape c.args.stamp i) (first_home shape) _ from.1 h.2) in
+    ∙ inv.copies.elsewhere (data_at shape c.args.stamp i) (λ h. let is = h.2 in omega (arith, from.1, is)) in
     record {
       copied = λ k below. elim (cases_eq k i) [
         | inl same ↦ rw (same, ← to) (c.in_ok-copy_sector.ensures.done

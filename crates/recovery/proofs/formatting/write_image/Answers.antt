@@ -8,7 +8,7 @@ use Rattle.spec.specs.Blocks.{Array}
 use Rattle.journal.specs.Sectors.{IsSuper, IsHead}
 use Rattle.journal.specs.Values.{shape_of}
 use Rattle.recovery.specs.Formatted.{IsNoneOrNew, ImageLeaves}
-use Rattle.recovery.proofs.Zeros.{made_from, home_made}
+use Rattle.recovery.proofs.Zeros.{zeros_ours, home_made}
 use Rattle.recovery.proofs.MadeImage.{HasNone, through_spares, clear_spares, first_leaves, then_leaves, clear_leaves, head_leaves, none_leaves}
 use Rattle.recovery.proofs.MadeImage.{super_leaves}
 use Rattle.recovery.proofs.formatting.write_image.Given as given
@@ -78,11 +78,22 @@ returns g c =
       done = λ array from. on_ok_weaker c.write_through-3.result (λ done.
           let size = c.write_through-3.ensures.writes.moments.size_stays ∙ c.write_through-2.ensures.writes.moments.size_stays
           ∙ c.clear.ensures.clears.moments.size_stays ∙ c.write_through.ensures.writes.moments.size_stays in
-          made_from shape array c.args.end old new from (omega (arith, home)) c.requires.log (omega (arith, c.requires.fits, size))
-          done.1 (subst (IsSuper shape) (sym done.0.here) c.encode-2.ensures)
-          (subst (IsHead 1) (sym (done.0.elsewhere 1 (λ e. omega arith))) has.0)
-          (λ x low high. done.0.elsewhere x (λ e. omega (arith, low, e)) ∙ has.1 x low high)
-          (λ x past. done.0.elsewhere x (λ e. omega (arith, e, past, c.requires.log, home)) ∙ has.2 x past))
+          let super = subst (IsSuper shape) (sym done.0.here) c.encode-2.ensures in
+          let head = subst (IsHead 1) (sym (done.0.elsewhere 1 (λ e. omega arith))) has.0 in
+          let zeros : (x : ℕ) → 2 ≤ x → x < c.args.end → new.content x ≡ replicate 512 0 =
+          λ x low high. done.0.elsewhere x (λ e. omega (arith, low, e)) ∙ has.1 x low high in
+          let behind : (x : ℕ) → c.args.end ≤ x → new.content x ≡ old.content x =
+          λ x past. done.0.elsewhere x (λ e. omega (arith, e, past, c.requires.log, home)) ∙ has.2 x past in
+          record {
+            flushed = done.1;
+            super = super;
+            head = head;
+            zeros = zeros;
+            behind = behind;
+            ours = zeros_ours new.size shape array new.content (omega (arith, c.requires.fits, size)) super head
+                (λ x low high. zeros x low (omega (arith, high, c.requires.log)))
+                (home_made shape c.args.end old.content new.content array from (omega (arith, home)) zeros behind);
+          })
           c.write_through-3.ensures.done;
       leaves = λ array from.
           let before = headed g at.After-write_through-2 (cleared g at.After-clear) in

@@ -20,31 +20,26 @@ use Rattle.recovery.proofs.migration.make_two.Goals.{After-clear, After-move_hea
 home_one : (sizes : Super) → sizes.format ≡ One → sizes.home ≤ 2 + 50 * sizes.slots
 home_one sizes one = let home = subst (λ (f : LogFormat). IsFirstHome f sizes.slots sizes.home) one sizes.home_is in omega (arith, home)
 
--- the log is cleared up to home
-clears : (g : given.Over) (c : After-clear g) → ClearsAllPass (IsBetween 2 c.args.found.now.sizes.home) (c.args.found.now.sizes.home - 2)
-    (g.M.Medium.state c.args.m.now) (g.M.Medium.state c.clear.new.m) c.clear.result
-clears g c = rw (ap (λ (s : Shape). s.home) c.migrated-sizes.ensures) at c.clear.ensures.clears
-
--- while it is wiped
+-- while the log is wiped
 wiped : (g : given.Over) (c : After-clear g)
     → MakingLeaves (shape_of c.args.found.now.sizes) c.args.found.now.next (g.M.Medium.state c.args.m.now) (g.M.Medium.state c.clear.new.m)
 wiped g c =
+    let cleared = rw (ap (λ (s : Shape). s.home) c.migrated-sizes.ensures) at c.clear.ensures.clears in
     let sound = g.met.M.Medium.sound c.clear.new.m in
     let same = ap (λ (s : Shape). s.home) c.migrated-sizes.ensures in
     record {
-      cuts = λ array fresh. wiped_leaves _ array _ _ _ c.requires.least c.requires.flushed fresh sound (clears g c).moments;
-      spares = clear_spares 2 _ _ _ sound (clears g c).elsewhere (clears g c).moments;
+      cuts = λ array fresh. wiped_leaves _ array _ _ _ c.requires.least c.requires.flushed fresh sound cleared.moments;
+      spares = clear_spares 2 _ _ _ sound cleared.elsewhere cleared.moments;
       sends = omega (arith, c.clear.ensures.follows.sent, same, home_one c.args.found.now.sizes c.requires.can.one);
       looked_stays = c.clear.ensures.follows.looks.looked_stays;
     }
 
 -- and the head is written
 headed : (g : given.Over) (c : After-move_head g)
-    → ClearsAllPass (IsBetween 2 c.args.found.now.sizes.home) (c.args.found.now.sizes.home - 2) (g.M.Medium.state c.args.m.now)
-    (g.M.Medium.state c.clear.new.m) c.clear.result
     → MakingLeaves (shape_of c.args.found.now.sizes) c.args.found.now.next (g.M.Medium.state c.args.m.now) (g.M.Medium.state c.clear.new.m)
     → MakingLeaves (shape_of c.args.found.now.sizes) c.args.found.now.next (g.M.Medium.state c.args.m.now) (g.M.Medium.state c.move_head.new.m)
-headed g c cleared before =
+headed g c before =
+    let cleared = rw (ap (λ (s : Shape). s.home) c.migrated-sizes.ensures) at c.clear.ensures.clears in
     let sound = g.met.M.Medium.sound c.clear.new.m in
     let moves = c.move_head.ensures.moves in
     let sizes = c.args.found.now.sizes in
@@ -59,11 +54,10 @@ headed g c cleared before =
 
 -- and the super of format 2
 made : (g : given.Over) (c : After-write_through g)
-    → ClearsAllPass (IsBetween 2 c.args.found.now.sizes.home) (c.args.found.now.sizes.home - 2) (g.M.Medium.state c.args.m.now)
-    (g.M.Medium.state c.clear.new.m) c.clear.result
     → MakingLeaves (shape_of c.args.found.now.sizes) c.args.found.now.next (g.M.Medium.state c.args.m.now) (g.M.Medium.state c.move_head.new.m)
     → MakingLeaves (shape_of c.args.found.now.sizes) c.args.found.now.next (g.M.Medium.state c.args.m.now) (g.M.Medium.state c.write_through.new.m)
-made g c cleared before =
+made g c before =
+    let cleared = rw (ap (λ (s : Shape). s.home) c.migrated-sizes.ensures) at c.clear.ensures.clears in
     let sizes = c.args.found.now.sizes in
     let same = ap (λ (s : Shape). s.home) c.migrated-sizes.ensures in
     let head = c.in_ok-move_head.ensures.done in
@@ -94,24 +88,22 @@ returns-in_err-clear g c = search (rules, wiped g (goal.at.returns-in_err-clear 
 pub returns-in_err-move_head : goal.returns-in_err-move_head
 returns-in_err-move_head g c =
     let at = goal.at.returns-in_err-move_head g c in
-    search (rules, headed g at.After-move_head (clears g at.After-clear) (wiped g at.After-clear))
+    search (rules, headed g at.After-move_head (wiped g at.After-clear))
 
 pub returns-in_err-write_through : goal.returns-in_err-write_through
 returns-in_err-write_through g c =
     let at = goal.at.returns-in_err-write_through g c in
-    let cleared = clears g at.After-clear in
     search (
       rules,
-      made g at.After-write_through cleared (headed g at.After-move_head cleared (wiped g at.After-clear)),
+      made g at.After-write_through (headed g at.After-move_head (wiped g at.After-clear)),
       g.met.M.Medium.follows_through,
     )
 
 pub returns : goal.returns
 returns g c =
     let at = goal.at.returns g c in
-    let cleared = clears g at.After-clear in
     search (
       rules,
-      made g at.After-write_through cleared (headed g at.After-move_head cleared (wiped g at.After-clear)),
+      made g at.After-write_through (headed g at.After-move_head (wiped g at.After-clear)),
       g.met.M.Medium.follows_through,
     )

@@ -23,14 +23,10 @@ flush g c = record {
 
 -- and the survey
 survey : (g : given.Over) (c : After-inspect g)
+    → IsFlush c.flush.result (g.M.Medium.state c.args.m.now) (g.M.Medium.state c.flush.new.self)
     → IsSurveyed c.flush.result (g.M.Medium.state c.args.m.now) (g.M.Medium.state c.flush.new.self) (g.M.Medium.state c.inspect.new.m)
-survey g c = record {
-  flush = record {
-    sound = g.met.M.Medium.sound c.args.m.now;
-    passes = c.flush.ensures.passes;
-    content = c.flush.ensures.content;
-    sets = c.flush.ensures.sets;
-  };
+survey g c first = record {
+  flush = first;
   sound = g.met.M.Medium.sound c.flush.new.self;
   only = c.in_ok-flush.ensures.ok;
   reads = c.inspect.ensures.reads;
@@ -81,7 +77,8 @@ returns-in_err-flush g c = search (rules, flush_leaves c.args.least _ _ (flush g
 
 pub returns-in_err-found : goal.returns-in_err-found
 returns-in_err-found g c =
-    let known = survey g (goal.at.returns-in_err-found g c).After-inspect in
+    let at = goal.at.returns-in_err-found g c in
+    let known = survey g at.After-inspect (flush g at.After-flush) in
     let p = err_from_is_err_and c.from_residual-in_err-found.result c.from_residual-in_err-found.ensures.1 in
     record {
       ok = search rules;
@@ -99,7 +96,7 @@ returns-in_err-copy_records g c = record {
   err = search rules;
   leaves =
       let at = goal.at.returns-in_err-copy_records g c in
-      copies_leave c.args.least _ _ _ (survey g at.After-inspect) _ _ (copying g at.After-copy_records);
+      copies_leave c.args.least _ _ _ (survey g at.After-inspect (flush g at.After-flush)) _ _ (copying g at.After-copy_records);
   follows = search (rules, g.met.M.Medium.follows_through);
 }
 
@@ -110,14 +107,14 @@ returns-in_err-move_head g c = record {
   err = search rules;
   leaves =
       let at = goal.at.returns-in_err-move_head g c in
-      moves_leave c.args.least _ _ _ (survey g at.After-inspect) _ _ (copying g at.After-copy_records) _ (moving g at.After-move_head);
+      moves_leave c.args.least _ _ _ (survey g at.After-inspect (flush g at.After-flush)) _ _ (copying g at.After-copy_records) _ (moving g at.After-move_head);
   follows = search (rules, g.met.M.Medium.follows_through);
 }
 
 pub returns : goal.returns
 returns g c =
     let at = goal.at.returns g c in
-    let known = survey g at.After-inspect in
+    let known = survey g at.After-inspect (flush g at.After-flush) in
     let copied = copying g at.After-copy_records in
     let moved = moving g at.After-move_head in
     let head = c.in_ok-move_head.ensures in
