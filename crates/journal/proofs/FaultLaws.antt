@@ -7,7 +7,7 @@ use Rattle.journal.specs.declared.super_fault.SuperFault.{SuperFault}
 use Rattle.journal.specs.declared.super_fault.SuperFault.TheVariants.{Magic, Version, Rest, Sizes}
 use Rattle.journal.specs.Places.{Shape, sectors_of}
 use Rattle.journal.specs.Spelling.{number_in, super_mark}
-use Rattle.journal.specs.Sectors.{IsSuper, IsHead}
+use Rattle.journal.specs.Sectors.{IsSuper}
 use Rattle.journal.specs.SuperFaults.{HasVersion, IsSuperFault}
 use Rattle.journal.specs.Standing.{Stands}
 use Rattle.journal.specs.ImageFaults.{HasShape, ImageFault, BadSuper, BadVersion, BadSize, BadHead, HasFault}

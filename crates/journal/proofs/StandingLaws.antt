@@ -16,7 +16,7 @@ use Rattle.journal.specs.Standing.{IsCount, StandsFor}
 use Rattle.journal.specs.ImageFaults.{HasShape}
 use Rattle.journal.proofs.SectorNumbers.{IsSuper-one, IsHead-one}
 use Rattle.journal.proofs.Formats.{laws_of}
-use Rattle.journal.proofs.Wholeness.{IsWhole-one, HasWhole-same}
+use Rattle.journal.proofs.Wholeness.{IsWhole-one}
 
 -- with one head there are no fewer records of what an image stands for
 not_fewer : (size other : ℕ) (shape : Shape) (image : Image) (a b : Array) (t u : ℕ) (h : StandsFor size shape image a t)

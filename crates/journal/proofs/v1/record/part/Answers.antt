@@ -1,4 +1,4 @@
-use Rattle.std.proofs.Common.{ℕ, ◌-◌, List, [], length, ap, arith}
+use Rattle.std.proofs.Common.{◌-◌, List, [], length, ap, arith}
 use Rattle.journal.specs.Record.{Entry, entries_of}
 use Rattle.journal.proofs.BatchEntries.{numbers_of_batch, length_of_batch, entry_of_batch}
 use Rattle.journal.proofs.Format1Laws.{offset_early, offset_commit, part_descriptor, part_place, part_commit}

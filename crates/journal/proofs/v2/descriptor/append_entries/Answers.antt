@@ -1,10 +1,10 @@
-use Rattle.std.proofs.Common.{◌∙◌, ◌++◌, ap, ℕ, List, get_or, take, arith, length-append}
+use Rattle.std.proofs.Common.{◌++◌, ℕ, List, get_or, take, arith, length-append}
 use Rattle.std.specs.Prelude.{zip}
 use Rattle.std.specs.List.{flat_map}
 use Rattle.std.proofs.lemmas.List.{take_all}
 use Rattle.byteorder.specs.Endian.{little_bytes}
 use Rattle.journal.specs.Entry.{Entry}
-use Rattle.journal.specs.SectorsTwo.{padded, entry_bytes}
+use Rattle.journal.specs.SectorsTwo.{entry_bytes}
 use Rattle.journal.proofs.EntriesTwo.{length_so_far, length_zipped, entries_more}
 use Rattle.journal.proofs.v2.descriptor.append_entries.Goals as goal
 

@@ -1,4 +1,4 @@
-use Rattle.std.proofs.Common.{◌≡◌, ◌<◌, ◌+◌, ◌*◌, ◌^◌, ℕ, rules, arith, sym, ◌∙◌, subst, IsTrue}
+use Rattle.std.proofs.Common.{◌≡◌, ◌<◌, ◌+◌, ◌*◌, ◌^◌, rules, arith, ◌∙◌}
 use Rattle.std.specs.Prelude.{All}
 use Rattle.journal.specs.Sectors.{IsRising}
 use Rattle.journal.proofs.EntriesTwo.{stamp_is, count_is, index_is, here_is, numbers_are, firsts_are, sized_from}
