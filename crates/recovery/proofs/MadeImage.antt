@@ -105,6 +105,10 @@ module _ (shape : Shape) (array : Array) (end : ℕ) (old first : State) (some :
 abbrev pub HasNone : Image → Type 0
 HasNone image = image 0 ≡ replicate 512 0
 
+-- some calls leave no super, and spare the sectors from here on
+abbrev pub LeavesNone : ℕ → State → State → Type 0
+LeavesNone end old new = LeavesOnly HasNone old new × SparesFrom end old new
+
 -- at each moment of a clearing behind a super that was cleared and flushed
 pub clear_leaves : (end : ℕ) (old new : State) → IsFlushed old → HasNone old.content
     → StaysWithin (cleared_at (IsBetween 1 end) old.may_leave) old new → LeavesOnly HasNone old new
@@ -119,11 +123,6 @@ head_leaves bytes old mid new sound so_far moments = joined_same HasNone old mid
     (λ image either. ⊎_elim (λ cut. at_exit HasNone old mid sound so_far image cut)
     (λ w. w.2.elsewhere 0 (λ e. omega arith) ∙ at_exit HasNone old mid sound so_far w.0 w.1) either) moments)
 
--- without a super there is none
-pub none_leaves : (size : ℕ) (shape : Shape) (array : Array) (old new : State) → LeavesOnly HasNone old new
-    → LeavesOnly (IsNoneOrNew size shape array) old new
-none_leaves size shape array old new so = weaker HasNone (IsNoneOrNew size shape array) old new (λ image none. inl none) so
-
 -- at each moment of the write of the super
 pub super_leaves : (size : ℕ) (shape : Shape) (array : Array) (bytes : List ℕ) (old mid new : State) → IsFlushed mid → HasNone mid.content
     → sectors_of shape ≤ size → IsSuper shape bytes → IsHead 1 (mid.content 1)
@@ -131,7 +130,7 @@ pub super_leaves : (size : ℕ) (shape : Shape) (array : Array) (bytes : List �
     → ((b : ℕ) → b < shape.blocks → home_of shape mid.content b ≡ array b) → LeavesOnly HasNone old mid
     → LeavesOnly (WithOrWithout 0 bytes mid.may_leave) mid new → LeavesOnly (IsNoneOrNew size shape array) old new
 super_leaves size shape array bytes old mid new flushed none fits super head zeros home so_far moments =
-    joined_same (IsNoneOrNew size shape array) old mid new (none_leaves size shape array old mid so_far)
+    joined_same (IsNoneOrNew size shape array) old mid new (weaker HasNone (IsNoneOrNew size shape array) old mid (λ image none. inl none) so_far)
     (weaker (WithOrWithout 0 bytes mid.may_leave) (IsNoneOrNew size shape array) mid new
     (λ image either. ⊎_elim (λ cut. inl (flushed 0 (image 0) (cut 0) ∙ none)) (λ w. inr (made image w.0 w.1 w.2)) either) moments)
   where

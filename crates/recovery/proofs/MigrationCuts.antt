@@ -172,8 +172,8 @@ module _ (old mid : State) (found : Recovered) (recovered : IsRecoveredFrom old 
           ours.stands recovered.stood in
           let here = rw (same.0, same.1) at ours in
           rw (same.0, same.1)
-          (weaker (IsFreshInEither (shape_of found.sizes) array found.next) (IsOursInEither old.size (shape_of found.sizes) array found.next)
-          mid new
+          (weaker (IsFreshInEither (shape_of found.sizes) array found.next)
+          (IsOursInEither old.size (shape_of found.sizes) array found.next) mid new
           (λ image either. ⊎_elim
           (λ was. inl (inr (fresh_ours old.size (shape_of found.sizes) array found.next image recovered.stood.fits was)))
           (λ two. inr (

@@ -1,6 +1,6 @@
 -- A whole recovery: a flush, reads, copies and the new head; and what it leaves up to each of its exits.
-use Rattle.std.proofs.Common.{◌≡◌, ◌⊎◌, inl, inr, ⊎_elim, ℕ, ◌+◌, ◌*◌, ◌<◌, ◌≤◌, List, [], length, get_or, sym, ◌∙◌, ap, subst, arith, Result}
-use Rattle.std.specs.Prelude.{min}
+use Rattle.std.proofs.Common.{◌≡◌, ◌⊎◌, inl, inr, ⊎_elim, ℕ, ◌+◌, ◌*◌, ◌<◌, ◌≤◌, List, [], length, get_or, sym, ◌∙◌, ap, subst, arith}
+use Rattle.std.specs.Prelude.{min, Result}
 use Rattle.medium.specs.Medium.{State, Image, CutLeaves, Stays, Within, Only, Passes, LooksOnly, IsSound}
 use Rattle.medium.specs.Moments.{EachCut, IsFlushed, LeavesOnly, IsQuiet, SparesFrom}
 use Rattle.medium.specs.Sent.{SendsUpTo}
@@ -142,187 +142,187 @@ module _ (least : ℕ) (old mid seen : State) {result : Result (Unit {0}) Medium
     small = λ few. spared_quiet 0 old seen known.flush.sound quiet;
   }
 
-  module _ (copied : State) (found : Found) {X : Type 0} {copies : Result X MediumFault} (copying : IsCopying least mid seen copied found copies)
-    where
-      abbrev shape : Shape
-      shape = shape_of found.sizes
+  module _ (copied : State) (found : Found) {X : Type 0} {copies : Result X MediumFault}
+      (copying : IsCopying least mid seen copied found copies) where
+    abbrev shape : Shape
+    shape = shape_of found.sizes
 
-      at_old : IsFound old.size old.content found
-      at_old = quiet_before (λ n i. IsFound n i found) old mid before copying.survey.is
+    at_old : IsFound old.size old.content found
+    at_old = quiet_before (λ n i. IsFound n i found) old mid before copying.survey.is
 
-      one_shape : (other : Shape) → IsSuper other (old.content 0) → other ≡ shape_of found.sizes
-      one_shape other s = IsSuper-one other shape (old.content 0) s at_old.shape.super
+    one_shape : (other : Shape) → IsSuper other (old.content 0) → other ≡ shape_of found.sizes
+    one_shape other s = IsSuper-one other shape (old.content 0) s at_old.shape.super
 
-      enough : ¬ HasFewSlots least old.size old.content
-      enough few = copying.survey.room (quiet_after (λ n i. HasFewSlots least n i) old mid before few)
+    enough : ¬ HasFewSlots least old.size old.content
+    enough few = copying.survey.room (quiet_after (λ n i. HasFewSlots least n i) old mid before few)
 
-      -- at any moment from the first write on each image is ours for the contents
-      abbrev LeavesOurs : State → Type 0
-      LeavesOurs later = (array : Array) (next : ℕ) → IsOurs old.size (shape_of found.sizes) old.content array next
-          → LeavesOnly (IsOursWithNext old.size (shape_of found.sizes) array next) seen later
+    -- at any moment from the first write on each image is ours for the contents
+    abbrev LeavesOurs : State → Type 0
+    LeavesOurs later = (array : Array) (next : ℕ) → IsOurs old.size (shape_of found.sizes) old.content array next
+        → LeavesOnly (IsOursWithNext old.size (shape_of found.sizes) array next) seen later
 
-      -- what such calls behind the survey leave
-      module _ (later : State) (leaves : LeavesOurs later) (spares : SparesFrom (sectors_of (shape_of found.sizes)) seen later)
-          (calls : later.calls ≤ seen.calls + most_calls_of found.sizes.format * found.count + 3)
-          (sends : SendsUpTo (limit_of found.sizes.format * found.count + 3) seen later)
-          (looks : LooksOnly (λ s. s < first_home (shape_of found.sizes)) seen later) where
-        later_cuts : EachCut (IsOursForSome old.size) old → LeavesOnly (StandsForOneOf old) old later
-        later_cuts each =
-            let sound = known.flush.sound in
-            let e = each old.content sound.holds_content in
-            let ours : IsOurs old.size shape old.content e.1 e.2 =
-            subst (λ (s : Shape). IsOurs old.size s old.content e.1 e.2) (one_shape e.0 e.3.stands.keeps.super) e.3 in
-            joined_same (StandsForOneOf old) old seen later (survey_leaves.all.cuts each)
-            (weaker (IsOursWithNext old.size shape e.1 e.2) (StandsForOneOf old) seen later
-            (λ image is. record {
-              before = old.content;
-              allowed = sound.holds_content;
-              shape = shape;
-              array = e.1;
-              next = e.2;
-              was = ours;
-              is = is;
-            })
-            (leaves e.1 e.2 ours))
+    -- what such calls behind the survey leave
+    module _ (later : State) (leaves : LeavesOurs later) (spares : SparesFrom (sectors_of (shape_of found.sizes)) seen later)
+        (calls : later.calls ≤ seen.calls + most_calls_of found.sizes.format * found.count + 3)
+        (sends : SendsUpTo (limit_of found.sizes.format * found.count + 3) seen later)
+        (looks : LooksOnly (λ s. s < first_home (shape_of found.sizes)) seen later) where
+      later_cuts : EachCut (IsOursForSome old.size) old → LeavesOnly (StandsForOneOf old) old later
+      later_cuts each =
+          let sound = known.flush.sound in
+          let e = each old.content sound.holds_content in
+          let ours : IsOurs old.size shape old.content e.1 e.2 =
+          subst (λ (s : Shape). IsOurs old.size s old.content e.1 e.2) (one_shape e.0 e.3.stands.keeps.super) e.3 in
+          joined_same (StandsForOneOf old) old seen later (survey_leaves.all.cuts each)
+          (weaker (IsOursWithNext old.size shape e.1 e.2) (StandsForOneOf old) seen later
+          (λ image is. record {
+            before = old.content;
+            allowed = sound.holds_content;
+            shape = shape;
+            array = e.1;
+            next = e.2;
+            was = ours;
+            is = is;
+          })
+          (leaves e.1 e.2 ours))
 
-        later_after : (other : Shape) (array : Array) (next : ℕ) → IsOurs old.size other old.content array next → (image : Image)
-            → later.left_since (old.calls + 1) image → IsOursWithNext old.size other array next image
-        later_after other array next ours image since =
+      later_after : (other : Shape) (array : Array) (next : ℕ) → IsOurs old.size other old.content array next → (image : Image)
+          → later.left_since (old.calls + 1) image → IsOursWithNext old.size other array next image
+      later_after other array next ours image since =
+          let is : other ≡ shape = one_shape other ours.stands.keeps.super in
+          let here = subst (λ (s : Shape). IsOurs old.size s old.content array next) is ours in
+          ⊎_elim (λ was. seen_after other array next ours image was)
+          (λ now. subst (λ (s : Shape). IsOursWithNext old.size s array next image) (sym is) now)
+          ((leaves array next here).before (old.calls + 1) image (omega (arith, counted, known.reads.quiet.later)) since)
+
+      few_made : later.calls ≤ old.calls + 6 + most_start_of found.sizes.format * found.sizes.slots
+      few_made = most_start found.sizes.format found.sizes.slots old.calls mid.calls seen.calls later.calls found.count counted
+          (known.reads.most shape copying.survey.is.shape) calls copying.survey.is.count.few
+
+      later_leaves : LeavesAtLeast least old later
+      later_leaves = record {
+        all = record {
+          cuts = later_cuts;
+          after_flush = λ other array next ours more image since. later_after other array next ours image since;
+          spares = found_spares found old seen later known.flush.sound quiet at_old spares;
+          moments = joined_same (λ _. Unit {0}) old seen later survey_leaves.all.moments (calls_made _ seen later spares.moments);
+          calls = few_starts found.sizes.format found.sizes.slots old.calls later.calls found.sizes.most_slots few_made;
+          most = λ other has. subst (λ (s : Shape). later.calls ≤ old.calls + 6 + most_start_of s.format * s.slots)
+              (sym (one_shape other has.super)) few_made;
+          sends = found_sent old later found at_old
+              (omega (arith, flush_sends old mid known.flush.passes, none_sent mid seen known.reads.reads, sends));
+          looks = looked_on shape old seen later at_old.shape survey_leaves.all.looks looks;
+        };
+        small = λ few. absurd (enough few);
+      }
+
+    -- each sector is as it was, or is the home of a block that is copied
+    each_sector : (image : Image) → CutLeaves (freed_at (AreTargets found seen.content) seen.may_leave) image → (x : ℕ)
+        → (image x ≡ old.content x) ⊎ AreTargets found old.content x
+    each_sector image cut x = ⊎_elim
+        (λ left. inl (known.only x (image x) (known.reads.quiet.sets_shrink x (image x) left)))
+        (λ home. inr (subst (λ (i : Image). AreTargets found i x) same home)) (cut x)
+
+    copied_ours : (array : Array) (next : ℕ) → IsOurs old.size (shape_of found.sizes) old.content array next → (image : Image)
+        → CutLeaves (freed_at (AreTargets found seen.content) seen.may_leave) image
+        → IsOurs old.size (shape_of found.sizes) image array next
+    copied_ours array next ours image cut =
+        let f = found_matches old.size old.content found at_old array next ours.stands in
+        copies_ours old.size shape old.content array next ours found.head found.count f.0 f.1 image (each_sector image cut)
+
+    copied_leaves : LeavesOurs copied
+    copied_leaves array next ours =
+        weaker (CutLeaves (freed_at (AreTargets found seen.content) seen.may_leave)) (IsOursWithNext old.size shape array next) _ _
+        (λ image cut. inl (copied_ours array next ours image cut)) copying.copies.moments
+
+    copied_spares : SparesFrom (sectors_of (shape_of found.sizes)) seen copied
+    copied_spares = spared_within (sectors_of shape) (AreTargets found seen.content) seen copied copying.sound
+        (not_behind shape seen.content found.head found.count) copying.copies.elsewhere copying.copies.moments
+
+    -- and the copies
+    pub copies_leave : LeavesAtLeast least old copied
+    copies_leave = later_leaves copied copied_leaves copied_spares (omega (arith, copying.copies.calls)) (omega (arith, copying.sends))
+        copying.looks
+
+    module _ (new : State) {Y : Type 0} {moved : Result Y MediumFault} (moving : IsMoving seen copied new found moved) where
+      copied_log : (x : ℕ) → x < first_home (shape_of found.sizes) → copied.content x ≡ old.content x
+      copied_log x below =
+          copying.copies.elsewhere x (not_in_log shape seen.content found.head found.count x below) ∙ quiet.content_stays x
+
+      -- the records of what the contents stand for are copied
+      all_copied : (array : Array) (next : ℕ) (s : StandsFor old.size (shape_of found.sizes) old.content array next)
+          → AreCopied (shape_of found.sizes) s.records seen copied
+      all_copied array next s =
+          let f = found_matches old.size old.content found at_old array next s in
+          moving.done s.records f.1 (λ k less. subst (λ (i : Image). IsWhole shape i (found.head + k) (get_or s.records k [])) (sym same)
+          (subst (λ (n : ℕ). IsWhole shape old.content (n + k) (get_or s.records k [])) (sym f.0) (s.keeps.whole k less)))
+
+      copied_home : (array : Array) (next : ℕ) → StandsFor old.size (shape_of found.sizes) old.content array next → (b : ℕ)
+          → b < found.sizes.blocks → copied.content (first_home (shape_of found.sizes) + b) ≡ array b
+      copied_home array next s b below = (all_copied array next s).home b
+          ∙ ap (λ (i : Image). with_records s.records (home_of shape i) b) same ∙ s.keeps.blocks b below
+
+      moved_fresh : (array : Array) (next : ℕ) → IsOurs old.size (shape_of found.sizes) old.content array next → (image : Image)
+          → HasNewHead (found.head + found.count + 1) copied.content image → IsFresh (shape_of found.sizes) array next image
+      moved_fresh array next ours image moved =
+          let f = found_matches old.size old.content found at_old array next ours.stands in
+          let is : found.head + found.count + 1 ≡ next = omega (arith, f.0, f.1, ours.stands.next_is) in
+          new_head_fresh old.size shape old.content array next ours copied.content image copied_log
+          (copied_home array next ours.stands) (subst (λ (n : ℕ). HasNewHead n copied.content image) is moved)
+
+      moved_leaves : LeavesOurs new
+      moved_leaves array next ours =
+          joined_same (IsOursWithNext old.size shape array next) seen copied new (copied_leaves array next ours)
+          (weaker (λ image. CutLeaves copied.may_leave image ⊎ HasNewHead (found.head + found.count + 1) copied.content image)
+          (IsOursWithNext old.size shape array next) copied new
+          (λ image either. ⊎_elim
+          (λ cut. at_exit (IsOursWithNext old.size shape array next) seen copied copying.sound (copied_leaves array next ours) image cut)
+          (λ moved. inr (fresh_ours old.size shape array next image at_old.shape.fits (moved_fresh array next ours image moved)))
+          either) moving.moves.moments)
+
+      -- and the new head
+      pub moves_leave : LeavesAtLeast least old new
+      moves_leave = later_leaves new moved_leaves
+          (spared_joined (sectors_of shape) seen copied new copied_spares
+          (spared_behind 2 (sectors_of shape) copied new (omega arith) moving.moves.spares))
+          (omega (arith, copying.copies.calls, moving.moves.calls)) (omega (arith, copying.sends, moving.sends))
+          (looks_joined _ seen copied new copying.looks (no_looks _ copied new moving.looks))
+
+      module _ (head : HasNewHead (found.head + found.count + 1) copied.content new.content) (done : IsFlushed new) where
+        pub recovery_fresh : (other : Shape) (array : Array) (next : ℕ) → IsOurs old.size other old.content array next
+            → EachCut (IsFresh other array next) new
+        recovery_fresh other array next ours image cut =
             let is : other ≡ shape = one_shape other ours.stands.keeps.super in
             let here = subst (λ (s : Shape). IsOurs old.size s old.content array next) is ours in
-            ⊎_elim (λ was. seen_after other array next ours image was)
-            (λ now. subst (λ (s : Shape). IsOursWithNext old.size s array next image) (sym is) now)
-            ((leaves array next here).before (old.calls + 1) image (omega (arith, counted, known.reads.quiet.later)) since)
+            subst (λ (s : Shape). IsFresh s array next image) (sym is)
+            (subst (IsFresh shape array next) (sym (only_image new.content new.may_leave done image cut))
+            (moved_fresh array next here new.content head))
 
-        few_made : later.calls ≤ old.calls + 6 + most_start_of found.sizes.format * found.sizes.slots
-        few_made = most_start found.sizes.format found.sizes.slots old.calls mid.calls seen.calls later.calls found.count counted
-            (known.reads.most shape copying.survey.is.shape) calls copying.survey.is.count.few
-
-        later_leaves : LeavesAtLeast least old later
-        later_leaves = record {
-          all = record {
-            cuts = later_cuts;
-            after_flush = λ other array next ours more image since. later_after other array next ours image since;
-            spares = found_spares found old seen later known.flush.sound quiet at_old spares;
-            moments = joined_same (λ _. Unit {0}) old seen later survey_leaves.all.moments (calls_made _ seen later spares.moments);
-            calls = few_starts found.sizes.format found.sizes.slots old.calls later.calls found.sizes.most_slots few_made;
-            most = λ other has. subst (λ (s : Shape). later.calls ≤ old.calls + 6 + most_start_of s.format * s.slots)
-                (sym (one_shape other has.super)) few_made;
-            sends = found_sent old later found at_old
-                (omega (arith, flush_sends old mid known.flush.passes, none_sent mid seen known.reads.reads, sends));
-            looks = looked_on shape old seen later at_old.shape survey_leaves.all.looks looks;
-          };
-          small = λ few. absurd (enough few);
-        }
-
-      -- each sector is as it was, or is the home of a block that is copied
-      each_sector : (image : Image) → CutLeaves (freed_at (AreTargets found seen.content) seen.may_leave) image → (x : ℕ)
-          → (image x ≡ old.content x) ⊎ AreTargets found old.content x
-      each_sector image cut x = ⊎_elim
-          (λ left. inl (known.only x (image x) (known.reads.quiet.sets_shrink x (image x) left)))
-          (λ home. inr (subst (λ (i : Image). AreTargets found i x) same home)) (cut x)
-
-      copied_ours : (array : Array) (next : ℕ) → IsOurs old.size (shape_of found.sizes) old.content array next → (image : Image)
-          → CutLeaves (freed_at (AreTargets found seen.content) seen.may_leave) image → IsOurs old.size (shape_of found.sizes) image array next
-      copied_ours array next ours image cut =
-          let f = found_matches old.size old.content found at_old array next ours.stands in
-          copies_ours old.size shape old.content array next ours found.head found.count f.0 f.1 image (each_sector image cut)
-
-      copied_leaves : LeavesOurs copied
-      copied_leaves array next ours =
-          weaker (CutLeaves (freed_at (AreTargets found seen.content) seen.may_leave)) (IsOursWithNext old.size shape array next) seen copied
-          (λ image cut. inl (copied_ours array next ours image cut)) copying.copies.moments
-
-      copied_spares : SparesFrom (sectors_of (shape_of found.sizes)) seen copied
-      copied_spares = spared_within (sectors_of shape) (AreTargets found seen.content) seen copied copying.sound
-          (not_behind shape seen.content found.head found.count) copying.copies.elsewhere copying.copies.moments
-
-      -- and the copies
-      pub copies_leave : LeavesAtLeast least old copied
-      copies_leave = later_leaves copied copied_leaves copied_spares (omega (arith, copying.copies.calls)) (omega (arith, copying.sends))
-          copying.looks
-
-      module _ (new : State) {Y : Type 0} {moved : Result Y MediumFault} (moving : IsMoving seen copied new found moved) where
-        copied_log : (x : ℕ) → x < first_home (shape_of found.sizes) → copied.content x ≡ old.content x
-        copied_log x below =
-            copying.copies.elsewhere x (not_in_log shape seen.content found.head found.count x below) ∙ quiet.content_stays x
-
-        -- the records of what the contents stand for are copied
-        all_copied : (array : Array) (next : ℕ) (s : StandsFor old.size (shape_of found.sizes) old.content array next)
-            → AreCopied (shape_of found.sizes) s.records seen copied
-        all_copied array next s =
-            let f = found_matches old.size old.content found at_old array next s in
-            moving.done s.records f.1 (λ k less. subst (λ (i : Image). IsWhole shape i (found.head + k) (get_or s.records k [])) (sym same)
-            (subst (λ (n : ℕ). IsWhole shape old.content (n + k) (get_or s.records k [])) (sym f.0) (s.keeps.whole k less)))
-
-        copied_home : (array : Array) (next : ℕ) → StandsFor old.size (shape_of found.sizes) old.content array next → (b : ℕ)
-            → b < found.sizes.blocks → copied.content (first_home (shape_of found.sizes) + b) ≡ array b
-        copied_home array next s b below = (all_copied array next s).home b
-            ∙ ap (λ (i : Image). with_records s.records (home_of shape i) b) same ∙ s.keeps.blocks b below
-
-        moved_fresh : (array : Array) (next : ℕ) → IsOurs old.size (shape_of found.sizes) old.content array next → (image : Image)
-            → HasNewHead (found.head + found.count + 1) copied.content image → IsFresh (shape_of found.sizes) array next image
-        moved_fresh array next ours image moved =
-            let f = found_matches old.size old.content found at_old array next ours.stands in
-            let is : found.head + found.count + 1 ≡ next = omega (arith, f.0, f.1, ours.stands.next_is) in
-            new_head_fresh old.size shape old.content array next ours copied.content image copied_log
-            (copied_home array next ours.stands) (subst (λ (n : ℕ). HasNewHead n copied.content image) is moved)
-
-        moved_leaves : LeavesOurs new
-        moved_leaves array next ours =
-            joined_same (IsOursWithNext old.size shape array next) seen copied new (copied_leaves array next ours)
-            (weaker (λ image. CutLeaves copied.may_leave image ⊎ HasNewHead (found.head + found.count + 1) copied.content image)
-            (IsOursWithNext old.size shape array next) copied new
-            (λ image either. ⊎_elim
-            (λ cut. at_exit (IsOursWithNext old.size shape array next) seen copied copying.sound (copied_leaves array next ours) image cut)
-            (λ moved. inr (fresh_ours old.size shape array next image at_old.shape.fits (moved_fresh array next ours image moved)))
-            either) moving.moves.moments)
-
-        -- and the new head
-        pub moves_leave : LeavesAtLeast least old new
-        moves_leave = later_leaves new moved_leaves
-            (spared_joined (sectors_of shape) seen copied new copied_spares
-            (spared_behind 2 (sectors_of shape) copied new (omega arith) moving.moves.spares))
-            (omega (arith, copying.copies.calls, moving.moves.calls)) (omega (arith, copying.sends, moving.sends))
-            (looks_joined _ seen copied new copying.looks (no_looks _ copied new moving.looks))
-
-        module _ (head : HasNewHead (found.head + found.count + 1) copied.content new.content) (done : IsFlushed new) where
-          pub recovery_fresh : (other : Shape) (array : Array) (next : ℕ) → IsOurs old.size other old.content array next
-              → EachCut (IsFresh other array next) new
-          recovery_fresh other array next ours image cut =
-              let is : other ≡ shape = one_shape other ours.stands.keeps.super in
-              let here = subst (λ (s : Shape). IsOurs old.size s old.content array next) is ours in
-              subst (λ (s : Shape). IsFresh s array next image) (sym is)
-              (subst (IsFresh shape array next) (sym (only_image new.content new.may_leave done image cut))
-              (moved_fresh array next here new.content head))
-
-          pub recovery_from : new.calls ≡ copied.calls + 3
-              → IsRecoveredAtLeast least old new (record { sizes = found.sizes; next = found.head + found.count + 1 })
-          recovery_from last =
-              let st = found_stands old.size old.content found at_old in
-              let s = st.stands in
-              let tries = quiet_before (λ n i. AreTries shape i found.head (min (found.count + 1) found.sizes.slots) (mid.calls + 2) seen.calls)
-              old mid before copying.survey.exact in
-              let copied_all = all_copied st.array (found.head + found.count + 1) s in
-              record {
-                from = record {
-                  array = st.array;
-                  stood = s;
-                  stamp_left = at_old.stamp_left;
-                  flushed = done;
-                  head = head.head;
-                  home = λ b below. head.elsewhere (first_home shape + b) (λ e. omega (arith, e, log_ends shape at_old.shape.super.home_is))
-                      ∙ copied_home st.array (found.head + found.count + 1) s b below;
-                  elsewhere = λ x not other. head.elsewhere x not
-                      ∙ ⊎_elim (copied_log x)
-                      (λ past. copying.copies.elsewhere x (not_behind shape seen.content found.head found.count x past)
-                      ∙ quiet.content_stays x) other;
-                  calls = tries_moved found.sizes.format shape old.content s.head (min (length s.records + 1) found.sizes.slots)
-                      (mid.calls + 2) seen.calls (old.calls + 6 + copy_calls found.sizes.format s.records) new.calls
-                      (copy_calls found.sizes.format s.records + 3) (omega (arith, counted)) (omega (arith, copied_all.exact, last))
-                      (subst (λ (n : ℕ). AreTries shape old.content n (min (length s.records + 1) found.sizes.slots) (mid.calls + 2) seen.calls)
-                      (sym st.head_is) (subst (λ (n : ℕ). AreTries shape old.content found.head (min (n + 1) found.sizes.slots) (mid.calls + 2)
-                      seen.calls) (sym st.count_is) tries));
-                };
-                room = enough;
-              }
+        pub recovery_from : new.calls ≡ copied.calls + 3
+            → IsRecoveredAtLeast least old new (record { sizes = found.sizes; next = found.head + found.count + 1 })
+        recovery_from last =
+            let st = found_stands old.size old.content found at_old in
+            let s = st.stands in
+            let slots = found.sizes.slots in
+            let tries = quiet_before (λ n i. AreTries shape i found.head (min (found.count + 1) slots) (mid.calls + 2) seen.calls)
+            old mid before copying.survey.exact in
+            let copied_all = all_copied st.array (found.head + found.count + 1) s in
+            record {
+              from = record {
+                array = st.array;
+                stood = s;
+                stamp_left = at_old.stamp_left;
+                flushed = done;
+                head = head.head;
+                home = λ b below. head.elsewhere (first_home shape + b) (λ e. omega (arith, e, log_ends shape at_old.shape.super.home_is))
+                    ∙ copied_home st.array (found.head + found.count + 1) s b below;
+                elsewhere = λ x not other. head.elsewhere x not
+                    ∙ ⊎_elim (copied_log x)
+                    (λ past. copying.copies.elsewhere x (not_behind shape seen.content found.head found.count x past)
+                    ∙ quiet.content_stays x) other;
+                calls = tries_moved found.sizes.format shape old.content s.head (min (length s.records + 1) slots)
+                    (mid.calls + 2) seen.calls (old.calls + 6 + copy_calls found.sizes.format s.records) new.calls
+                    (copy_calls found.sizes.format s.records + 3) (omega (arith, counted)) (omega (arith, copied_all.exact, last))
+                    (rw (st.head_is, st.count_is) tries);
+              };
+              room = enough;
+            }

@@ -49,8 +49,9 @@ copied g c result most to fit cause = copies_on (g.met.M.Medium.sound c.loop-i.m
     (all_pass c.copy_sector.ensures.copies) fit cause
 
 followed : (g : given.Over) (c : After-copy_sector g) (most : ℕ) → c.copy_place.result < first_home (shape_of c.args.sizes.now)
-    → c.loop-i.i + 1 ≤ most → FollowsBy g.M.Medium.state g.M.Medium.follows most (LooksOnly (λ s. s < first_home (shape_of c.args.sizes.now)))
-    c.args.m.now c.copy_sector.new.m
+    → c.loop-i.i + 1 ≤ most
+    → FollowsBy g.M.Medium.state g.M.Medium.follows most (LooksOnly (λ s. s < first_home (shape_of c.args.sizes.now))) c.args.m.now
+    c.copy_sector.new.m
 followed g c most low fit = follows_on g.met.M.Medium.follows_through
     (λ s here. subst (λ (x : ℕ). x < first_home (shape_of c.args.sizes.now)) (sym here) low) c.loop-i.invariant.follows
     c.copy_sector.ensures.follows fit

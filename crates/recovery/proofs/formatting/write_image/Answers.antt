@@ -1,25 +1,26 @@
-use Rattle.std.proofs.Common.{◌≡◌, ◌≤◌, ◌<◌, ◌∙◌, ℕ, refl, sym, subst, rules, arith}
+use Rattle.std.proofs.Common.{◌≡◌, inl, ◌≤◌, ◌<◌, ◌∙◌, ℕ, refl, sym, subst, rules, arith}
 use Rattle.std.specs.Prelude.{replicate}
 use Rattle.std.proofs.lemmas.Result.{on_ok_weaker}
 use Rattle.medium.specs.Medium.{State}
 use Rattle.medium.specs.Moments.{LeavesOnly, SparesFrom}
+use Rattle.medium.proofs.Moments.{weaker}
 use Rattle.medium.proofs.SparedSectors.{spared_joined}
 use Rattle.spec.specs.Blocks.{Array}
 use Rattle.journal.specs.Sectors.{IsSuper, IsHead}
 use Rattle.journal.specs.Values.{shape_of}
 use Rattle.recovery.specs.Formatted.{IsNoneOrNew, ImageLeaves}
 use Rattle.recovery.proofs.Zeros.{zeros_ours, home_made}
-use Rattle.recovery.proofs.MadeImage.{HasNone, through_spares, clear_spares, first_leaves, then_leaves, clear_leaves, head_leaves, none_leaves}
-use Rattle.recovery.proofs.MadeImage.{super_leaves}
+use Rattle.recovery.proofs.MadeImage.{HasNone, LeavesNone, through_spares, clear_spares, first_leaves, then_leaves, clear_leaves}
+use Rattle.recovery.proofs.MadeImage.{head_leaves, super_leaves}
 use Rattle.recovery.proofs.formatting.write_image.Given as given
 use Rattle.recovery.proofs.formatting.write_image.Goals as goal
 use Rattle.recovery.proofs.formatting.write_image.Goals.{In_ok-write_through, After-clear, After-write_through-2, In_ok-write_through-2}
 
 -- what is left while the rest is written behind the first good flush
 left : (g : given.Over) (c : In_ok-write_through g) (array : Array) (new : State)
-    → LeavesOnly (IsNoneOrNew (g.M.Medium.state c.args.m.now).size (shape_of c.args.sizes.now) array) (g.M.Medium.state c.write_through.new.m)
-    new → SparesFrom c.args.end (g.M.Medium.state c.write_through.new.m) new
-    → new.looked ≡ (g.M.Medium.state c.write_through.new.m).looked
+    → LeavesOnly (IsNoneOrNew (g.M.Medium.state c.args.m.now).size (shape_of c.args.sizes.now) array)
+    (g.M.Medium.state c.write_through.new.m) new
+    → SparesFrom c.args.end (g.M.Medium.state c.write_through.new.m) new → new.looked ≡ (g.M.Medium.state c.write_through.new.m).looked
     → ImageLeaves (shape_of c.args.sizes.now) array c.args.end (g.M.Medium.state c.args.m.now) new
 left g c array new later spares looked =
     let wrote = c.write_through.ensures.writes in
@@ -29,8 +30,8 @@ left g c array new later spares looked =
     (looked ∙ c.write_through.ensures.follows.looks.looked_stays)
 
 -- while the log is cleared there is no super, and the sectors behind it are spared
-cleared : (g : given.Over) (c : After-clear g) → LeavesOnly HasNone (g.M.Medium.state c.write_through.new.m) (g.M.Medium.state c.clear.new.m)
-    × SparesFrom c.args.end (g.M.Medium.state c.write_through.new.m) (g.M.Medium.state c.clear.new.m)
+cleared : (g : given.Over) (c : After-clear g)
+    → LeavesNone c.args.end (g.M.Medium.state c.write_through.new.m) (g.M.Medium.state c.clear.new.m)
 cleared g c =
     let done = c.in_ok-write_through.ensures.done in
     let clears = c.clear.ensures.clears in (
@@ -39,10 +40,9 @@ cleared g c =
     )
 
 -- nor while the head is written
-headed : (g : given.Over) (c : After-write_through-2 g) → (LeavesOnly HasNone (g.M.Medium.state c.write_through.new.m) (g.M.Medium.state c.clear.new.m)
-    × SparesFrom c.args.end (g.M.Medium.state c.write_through.new.m) (g.M.Medium.state c.clear.new.m))
-    → LeavesOnly HasNone (g.M.Medium.state c.write_through.new.m) (g.M.Medium.state c.write_through-2.new.m)
-    × SparesFrom c.args.end (g.M.Medium.state c.write_through.new.m) (g.M.Medium.state c.write_through-2.new.m)
+headed : (g : given.Over) (c : After-write_through-2 g)
+    → LeavesNone c.args.end (g.M.Medium.state c.write_through.new.m) (g.M.Medium.state c.clear.new.m)
+    → LeavesNone c.args.end (g.M.Medium.state c.write_through.new.m) (g.M.Medium.state c.write_through-2.new.m)
 headed g c before =
     let heads = c.write_through-2.ensures.writes in
     let home = c.args.sizes.now.home_is.0 in (
@@ -134,7 +134,7 @@ returns-in_err-clear g c = record {
   leaves = λ array from.
       let at = goal.at.returns-in_err-clear g c in
       let before = cleared g at.After-clear in
-      left g at.In_ok-write_through array _ (none_leaves _ (shape_of c.args.sizes.now) array _ _ before.0) before.1
+      left g at.In_ok-write_through array _ (weaker HasNone _ _ _ (λ image none. inl none) before.0) before.1
       c.clear.ensures.follows.looks.looked_stays;
   calls = search rules;
   cause = search rules;
@@ -147,7 +147,7 @@ returns-in_err-write_through-2 g c = record {
   leaves = λ array from.
       let at = goal.at.returns-in_err-write_through-2 g c in
       let before = headed g at.After-write_through-2 (cleared g at.After-clear) in
-      left g at.In_ok-write_through array _ (none_leaves _ (shape_of c.args.sizes.now) array _ _ before.0) before.1
+      left g at.In_ok-write_through array _ (weaker HasNone _ _ _ (λ image none. inl none) before.0) before.1
       (c.write_through-2.ensures.follows.looks.looked_stays ∙ c.clear.ensures.follows.looks.looked_stays);
   calls = search rules;
   cause = search rules;

@@ -37,7 +37,8 @@ wiped g c =
 -- and the head is written
 headed : (g : given.Over) (c : After-move_head g)
     → MakingLeaves (shape_of c.args.found.now.sizes) c.args.found.now.next (g.M.Medium.state c.args.m.now) (g.M.Medium.state c.clear.new.m)
-    → MakingLeaves (shape_of c.args.found.now.sizes) c.args.found.now.next (g.M.Medium.state c.args.m.now) (g.M.Medium.state c.move_head.new.m)
+    → MakingLeaves (shape_of c.args.found.now.sizes) c.args.found.now.next (g.M.Medium.state c.args.m.now)
+    (g.M.Medium.state c.move_head.new.m)
 headed g c before =
     let cleared = rw (ap (λ (s : Shape). s.home) c.migrated-sizes.ensures) at c.clear.ensures.clears in
     let sound = g.met.M.Medium.sound c.clear.new.m in
@@ -54,8 +55,10 @@ headed g c before =
 
 -- and the super of format 2
 made : (g : given.Over) (c : After-write_through g)
-    → MakingLeaves (shape_of c.args.found.now.sizes) c.args.found.now.next (g.M.Medium.state c.args.m.now) (g.M.Medium.state c.move_head.new.m)
-    → MakingLeaves (shape_of c.args.found.now.sizes) c.args.found.now.next (g.M.Medium.state c.args.m.now) (g.M.Medium.state c.write_through.new.m)
+    → MakingLeaves (shape_of c.args.found.now.sizes) c.args.found.now.next (g.M.Medium.state c.args.m.now)
+    (g.M.Medium.state c.move_head.new.m)
+    → MakingLeaves (shape_of c.args.found.now.sizes) c.args.found.now.next (g.M.Medium.state c.args.m.now)
+    (g.M.Medium.state c.write_through.new.m)
 made g c before =
     let cleared = rw (ap (λ (s : Shape). s.home) c.migrated-sizes.ensures) at c.clear.ensures.clears in
     let sizes = c.args.found.now.sizes in

@@ -107,7 +107,8 @@ returns-in_err-move_head g c = record {
   err = search rules;
   leaves =
       let at = goal.at.returns-in_err-move_head g c in
-      moves_leave c.args.least _ _ _ (survey g at.After-inspect (flush g at.After-flush)) _ _ (copying g at.After-copy_records) _ (moving g at.After-move_head);
+      moves_leave c.args.least _ _ _ (survey g at.After-inspect (flush g at.After-flush)) _ _ (copying g at.After-copy_records) _
+      (moving g at.After-move_head);
   follows = search (rules, g.met.M.Medium.follows_through);
 }
 

@@ -9,7 +9,8 @@ use Rattle.recovery.proofs.sectors.clear.Goals as goal
 use Rattle.recovery.proofs.sectors.clear.Goals.{After-write}
 
 -- what is left while one sector more is cleared
-one_more : (g : given.Over) (c : After-write g) → StaysWithin (cleared_at (IsBetween c.args.from c.args.end) (g.M.Medium.state c.args.m.now).may_leave)
+one_more : (g : given.Over) (c : After-write g)
+    → StaysWithin (cleared_at (IsBetween c.args.from c.args.end) (g.M.Medium.state c.args.m.now).may_leave)
     (g.M.Medium.state c.args.m.now) (g.M.Medium.state c.write.new.self)
 one_more g c =
     let past = c.loop-sector.auto.sector in

@@ -37,7 +37,8 @@ head_read g c =
     }
 
 -- and what shows whether records are whole
-records_read : (g : given.Over) (c : After-count_whole g) → SurveysAtMost (g.M.Medium.state c.args.m.now) (g.M.Medium.state c.count_whole.new.m)
+records_read : (g : given.Over) (c : After-count_whole g)
+    → SurveysAtMost (g.M.Medium.state c.args.m.now) (g.M.Medium.state c.count_whole.new.m)
 records_read g c =
     let shape = shape_of c.in_ok-sizes.sizes in
     let has = c.in_ok-sizes.ensures.ok in
@@ -60,7 +61,7 @@ counted : (g : given.Over) (c : In_ok-count g) → IsQuiet (g.M.Medium.state c.a
     × (¬ HasFewSlots c.args.least (g.M.Medium.state c.args.m.now).size (g.M.Medium.state c.args.m.now).content)
 counted g c quiet =
     let old = g.M.Medium.state c.args.m.now in (
-      subst (IsHead c.in-Some.head.stamp) (c.in_ok-read.ensures.ok ∙ c.read_super.ensures.reads.quiet.content_stays 1) c.in-Some.ensures.some,
+      rw (← (c.in_ok-read.ensures.ok ∙ c.read_super.ensures.reads.quiet.content_stays 1)) c.in-Some.ensures.some,
       quiet_before (λ n i. IsCount (shape_of c.in_ok-sizes.sizes) i c.in-Some.head.stamp c.in_ok-count.count) old _ quiet
           c.in_ok-count.ensures.finds.is,
       enough_slots c.args.least old.size (shape_of c.in_ok-sizes.sizes) old.content c.in_ok-sizes.ensures.ok
