@@ -25,20 +25,18 @@ use Rattle.recovery.specs.declared.start_fault.StartFault.TheVariants.{Read, Wri
 use Rattle.recovery.specs.declared.start_fault.StartFault.TheVariants.{StampsUsedUp, LogTooSmall}
 
 -- the counts are those of the records, in order
-counts_same : (shape : Shape) (image : Image) (head at : ℕ) (counts : List ℕ) (records : List (List Entry)) → head ≡ at
-    → length records ≡ length counts → ((j : ℕ) → j < length records → IsWhole shape image (at + j) (get_or records j []))
+counts_same : (shape : Shape) (image : Image) (head : ℕ) (counts : List ℕ) (records : List (List Entry))
+    → length records ≡ length counts → ((j : ℕ) → j < length records → IsWhole shape image (head + j) (get_or records j []))
     → ((j : ℕ) → j < length counts → (entries : List Entry) × IsWhole shape image (head + j) entries
     × (slice_index counts j ≡ length entries))
     → counts ≡ map (λ entries. length entries) records
-counts_same shape image head at counts records same long whole each =
+counts_same shape image head counts records long whole each =
     let f : List Entry → ℕ = λ entries. length entries in
     ext_get_or 0 counts (map f records) (sym long ∙ sym (length-map records f)) (λ j below.
     let e = each j below in
     let inside : j < length records = omega (arith, below, long) in
-    let here : IsWhole shape image (head + j) (get_or records j []) =
-    subst (λ (n : ℕ). IsWhole shape image (n + j) (get_or records j [])) (sym same) (whole j inside) in
-    let one : e.0 ≡ get_or records j [] =
-    IsWhole-one (layout_of shape.format) (laws_of shape.format) shape image (head + j) e.0 (get_or records j []) e.1 here in
+    let one = IsWhole-one (layout_of shape.format) (laws_of shape.format) shape image (head + j) e.0 (get_or records j []) e.1
+    (whole j inside) in
     e.2 ∙ ap f one ∙ sym (get_or-map f records j [] 0 inside))
 
 -- what was read is what the image stands for
@@ -53,8 +51,8 @@ counts_stand old answer has head are =
       next = answer.head + length answer.waiting.items + 1;
       stood = s.stands;
       head_is = sym s.head_is;
-      counts_are = counts_same shape old.content answer.head s.stands.head answer.waiting.items s.stands.records (sym s.head_is)
-          s.count_is s.stands.keeps.whole are.each;
+      counts_are = counts_same shape old.content answer.head answer.waiting.items s.stands.records s.count_is
+          (rw s.head_is at s.stands.keeps.whole) are.each;
     }
 
 -- a refused look is a refused survey

@@ -130,7 +130,8 @@ pub super_leaves : (size : ℕ) (shape : Shape) (array : Array) (bytes : List �
     → ((b : ℕ) → b < shape.blocks → home_of shape mid.content b ≡ array b) → LeavesOnly HasNone old mid
     → LeavesOnly (WithOrWithout 0 bytes mid.may_leave) mid new → LeavesOnly (IsNoneOrNew size shape array) old new
 super_leaves size shape array bytes old mid new flushed none fits super head zeros home so_far moments =
-    joined_same (IsNoneOrNew size shape array) old mid new (weaker HasNone (IsNoneOrNew size shape array) old mid (λ image none. inl none) so_far)
+    joined_same (IsNoneOrNew size shape array) old mid new
+    (weaker HasNone (IsNoneOrNew size shape array) old mid (λ image none. inl none) so_far)
     (weaker (WithOrWithout 0 bytes mid.may_leave) (IsNoneOrNew size shape array) mid new
     (λ image either. ⊎_elim (λ cut. inl (flushed 0 (image 0) (cut 0) ∙ none)) (λ w. inr (made image w.0 w.1 w.2)) either) moments)
   where

@@ -1,13 +1,12 @@
 -- What is read of a whole record names its blocks, and how many calls bring them home.
-use Rattle.std.proofs.Common.{◌≡◌, ℕ, ◌+◌, ◌*◌, ◌<◌, ◌≤◌, List, length, sym, subst, arith, Result, Ok, Err}
-use Rattle.std.specs.Prelude.{All, Some, OnOk}
+use Rattle.std.proofs.Common.{◌≡◌, ℕ, ◌+◌, ◌*◌, ◌≤◌, List, length, refl, arith, Result, Ok, Err}
+use Rattle.std.specs.Prelude.{Some, OnOk}
 use Rattle.medium.specs.Medium.{Image}
 use Rattle.journal.specs.declared.log_format.LogFormat.{LogFormat}
 use Rattle.journal.specs.declared.log_format.LogFormat.TheVariants.{One, Two}
 use Rattle.journal.specs.declared.record.Record.{Record}
 use Rattle.journal.specs.Places.{Shape, limit_of}
-use Rattle.journal.specs.Sectors.{IsRising}
-use Rattle.journal.specs.Record.{Entry}
+use Rattle.journal.specs.Record.{Entry, numbers_of}
 use Rattle.journal.specs.Formats.{IsWhole}
 use Rattle.journal.specs.Reading.{record_reads_of, IsRead, IsReadFor}
 use Rattle.journal.proofs.Formats.{most_is}
@@ -22,13 +21,11 @@ both_ok (Err e) f p q = tt
 -- the numbers that were read are those of blocks
 pub blocks_read : (shape : Shape) (image : Image) (stamp : ℕ) (entries : List Entry) (read : Record) → IsWhole shape image stamp entries
     → IsRead shape image stamp entries read → AreBlocks shape read.numbers.items
-blocks_read shape image stamp entries read whole is = record {
-  few =
-      let few = subst (λ (n : ℕ). length entries ≤ n) (most_is shape.format) whole.fit.few in
-      subst (λ (n : ℕ). n ≤ limit_of shape.format) (sym (long_as entries read.numbers.items is.numbers_are)) few;
-  rising = subst IsRising (sym is.numbers_are) whole.fit.rising;
-  inside = subst (All (λ (b : ℕ). b < shape.blocks)) (sym is.numbers_are) whole.fit.inside;
-}
+blocks_read shape image stamp entries read whole is = rw is.numbers_are (record {
+  few = omega (arith, long_as entries (numbers_of entries) refl, most_is shape.format, whole.fit.few);
+  rising = whole.fit.rising;
+  inside = whole.fit.inside;
+})
 
 -- as many calls as it takes
 pub calls_made : (format : LogFormat) (shape : Shape) (image : Image) (stamp : ℕ) (read : Record) (n reads old mid new : ℕ)

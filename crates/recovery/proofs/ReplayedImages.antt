@@ -67,33 +67,27 @@ copies_ours size shape start array next ours head count head_is count_is image e
     log : (x : ℕ) → x < first_home shape → image x ≡ start x
     log x below = ⊎_elim (λ same. same) (λ home. absurd (not_in_log shape start head count x below home)) (each x)
 
-    moved : (x : ℕ) → IsHomeInRecords shape start head count x → IsHomeInRecords shape start ours.stands.head (length ours.stands.records) x
-    moved x home =
-        subst (λ (n : ℕ). IsHomeInRecords shape start ours.stands.head n x) count_is
-        (subst (λ (h : ℕ). IsHomeInRecords shape start h count x) head_is home)
-
     home : (b : ℕ) → with_records ours.stands.records (home_of shape image) b ≡ with_records ours.stands.records (home_of shape start) b
     home b =
         ⊎_elim (λ same. with_records-same ours.stands.records (home_of shape image) (home_of shape start) b same)
         (λ copied. home_hidden shape start ours.stands.head ours.stands.records ours.stands.keeps.whole b
-        (moved (first_home shape + b) copied) (home_of shape image) (home_of shape start))
+        (rw (head_is, count_is) at copied) (home_of shape image) (home_of shape start))
         (each (first_home shape + b))
 
 -- the new head, once every block is at home
 pub new_head_fresh : (size : ℕ) (shape : Shape) (start : Image) (array : Array) (next : ℕ) → IsOurs size shape start array next
     → (before image : Image) → ((x : ℕ) → x < first_home shape → before x ≡ start x)
     → ((b : ℕ) → b < shape.blocks → before (first_home shape + b) ≡ array b) → HasNewHead next before image → IsFresh shape array next image
-new_head_fresh size shape start array next ours before image log home moved = record {
-  super = subst (IsSuper shape)
-      (sym (moved.elsewhere 0 (λ e. omega arith) ∙ log 0 (omega (arith, log_ends shape ours.stands.keeps.super.home_is))))
-      ours.stands.keeps.super;
-  head = moved.head;
-  home = λ b below.
-      moved.elsewhere (first_home shape + b) (λ e. omega (arith, e, log_ends shape ours.stands.keeps.super.home_is)) ∙ home b below;
-  carries = CarriesBelow-agree (layout_of shape.format) (laws_of shape.format) shape start image next
-      (λ x low high. moved.elsewhere x (λ e. omega (arith, low, e)) ∙ log x (omega (arith, log_ends shape ours.stands.keeps.super.home_is)))
-      ours.carries;
-}
+new_head_fresh size shape start array next ours before image log home moved =
+    let super = ours.stands.keeps.super in
+    let ends = log_ends shape super.home_is in
+    record {
+      super = subst (IsSuper shape) (sym (moved.elsewhere 0 (λ e. omega arith) ∙ log 0 (omega (arith, ends)))) super;
+      head = moved.head;
+      home = λ b below. moved.elsewhere (first_home shape + b) (λ e. omega (arith, e, ends)) ∙ home b below;
+      carries = CarriesBelow-agree (layout_of shape.format) (laws_of shape.format) shape start image next
+          (λ x low high. moved.elsewhere x (λ e. omega (arith, low, e)) ∙ log x (omega (arith, high, ends))) ours.carries;
+    }
 
 -- no record waits in a log of zeros
 pub zeros_fresh : (shape : Shape) (array : Array) (next : ℕ) (image : Image) → IsSuper shape (image 0) → IsHead next (image 1)

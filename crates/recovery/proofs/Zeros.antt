@@ -1,14 +1,12 @@
 -- An image of zeros behind a super and a head.
-use Rattle.std.proofs.Common.{◌≡◌, inl, inr, ℕ, ◌+◌, ◌<◌, ◌≤◌, [], refl, sym, ◌∙◌, arith}
+use Rattle.std.proofs.Common.{◌≡◌, inl, inr, ℕ, ◌+◌, ◌<◌, ◌≤◌, refl, sym, ◌∙◌, arith}
 use Rattle.std.specs.Prelude.{replicate}
 use Rattle.std.proofs.lemmas.Bool.{cases_lt}
 use Rattle.medium.specs.Medium.{State, Image}
-use Rattle.medium.specs.Moments.{IsFlushed}
 use Rattle.spec.specs.Blocks.{Array}
 use Rattle.journal.specs.Places.{Shape, first_home, sectors_of}
 use Rattle.journal.specs.Sectors.{IsSuper, IsHead}
 use Rattle.journal.specs.Record.{home_of}
-use Rattle.journal.specs.Formats.{CarriesBelow}
 use Rattle.journal.specs.Standing.{IsOurs}
 use Rattle.recovery.specs.Formatted.{IsArrayFrom, IsMade, IsFormatted}
 use Rattle.recovery.proofs.ReplayedImages.{zeros_fresh, fresh_ours}

@@ -11,35 +11,26 @@ use Rattle.recovery.proofs.inspection.inspect.Goals as goal
 pub returns-in_err-sizes-clause-err : goal.returns-in_err-sizes-clause-err
 returns-in_err-sizes-clause-err g c =
     let p = err_from_is_err_and c.from_residual.result c.from_residual.ensures.1 in
-    rw (p.1, p.2) (refused_look (g.M.Medium.state c.args.m.now) (g.M.Medium.state c.read_super.new.m) c.in_err-sizes.field-0.0
-    c.in_err-sizes.ensures.err)
+    rw (p.1, p.2) (refused_look _ _ c.in_err-sizes.field-0.0 c.in_err-sizes.ensures.err)
 
 pub returns-clause-ok : goal.returns-clause-ok
 returns-clause-ok g c =
-    let old = g.M.Medium.state c.args.m.now in
-    let first = g.M.Medium.state c.read_super.new.m in
-    let mid = g.M.Medium.state c.read.new.self in
     let quiet = c.read_super.ensures.reads.quiet in
-    let seen = quiet_joined old first mid quiet (quiet_call first mid c.read.ensures.passes c.read.ensures.content c.read.ensures.sets) in
+    let seen = quiet_joined _ _ _ quiet (quiet_call _ _ c.read.ensures.passes c.read.ensures.content c.read.ensures.sets) in
     let stamp = c.in-Some.head.stamp in
     let waiting = c.in_ok-waiting.waiting in
-    counts_stand old (record { sizes = c.in_ok-sizes.sizes; head = stamp; waiting = waiting }) c.in_ok-sizes.ensures.ok
+    counts_stand _ (record { sizes = c.in_ok-sizes.sizes; head = stamp; waiting = waiting }) c.in_ok-sizes.ensures.ok
     (subst (IsHead stamp) (c.in_ok-read.ensures.ok ∙ quiet.content_stays 1) c.in-Some.ensures.some)
-    (quiet_before (λ n i. AreCounts (shape_of c.in_ok-sizes.sizes) i stamp waiting.items) old mid seen c.in_ok-waiting.ensures.finds)
+    (quiet_before (λ n i. AreCounts (shape_of c.in_ok-sizes.sizes) i stamp waiting.items) _ _ seen c.in_ok-waiting.ensures.finds)
 
 pub returns-clause-looks : goal.returns-clause-looks
 returns-clause-looks g c =
-    let old = g.M.Medium.state c.args.m.now in
-    let first = g.M.Medium.state c.read_super.new.m in
-    let mid = g.M.Medium.state c.read.new.self in
-    let new = g.M.Medium.state c.count_waiting.new.m in
     let supers = c.read_super.ensures.reads in
-    let seen = quiet_joined old first mid supers.quiet
-    (quiet_call first mid c.read.ensures.passes c.read.ensures.content c.read.ensures.sets) in
+    let seen = quiet_joined _ _ _ supers.quiet (quiet_call _ _ c.read.ensures.passes c.read.ensures.content c.read.ensures.sets) in
     let rest = c.count_waiting.ensures.passes in
     let few = c.in_ok-sizes.sizes.most_slots in
     record {
-      quiet = quiet_joined old mid new seen rest.quiet;
+      quiet = quiet_joined _ _ _ seen rest.quiet;
       reads = λ kind other. rest.reads kind other ∙ c.read.ensures.passes.others_made kind other ∙ supers.reads kind other;
       calls = omega (arith, rest.calls, c.read.ensures.passes.calls_are, supers.calls, few);
     }

@@ -1,6 +1,5 @@
 use Rattle.std.proofs.Common.{ap}
 use Rattle.journal.specs.Places.{first_home, new_shape}
-use Rattle.journal.specs.Record.{home_of}
 use Rattle.recovery.specs.Formatted.{LayingLeaves}
 use Rattle.recovery.proofs.Zeros.{home_from}
 use Rattle.recovery.proofs.laying.lay_log.Given as given

@@ -1,4 +1,4 @@
-use Rattle.std.proofs.Common.{◌≡◌, ◌+◌, ◌-◌, ◌*◌, ◌≤◌, ap, subst, ◌∙◌, rules, arith}
+use Rattle.std.proofs.Common.{◌≡◌, ◌+◌, ◌*◌, ◌≤◌, ap, subst, ◌∙◌, rules, arith}
 use Rattle.medium.proofs.SparedSectors.{spared_behind, spared_joined}
 use Rattle.journal.specs.declared.log_format.LogFormat.{LogFormat}
 use Rattle.journal.specs.declared.log_format.LogFormat.TheVariants.{One}
@@ -6,8 +6,6 @@ use Rattle.journal.specs.declared.super_sector.Super.{Super}
 use Rattle.journal.specs.Places.{Shape, IsFirstHome}
 use Rattle.journal.specs.Sectors.{IsSuper}
 use Rattle.journal.specs.Values.{shape_of}
-use Rattle.recovery.specs.Calls.{ClearsAllPass}
-use Rattle.recovery.specs.Copies.{IsBetween}
 use Rattle.recovery.specs.Migrated.{MakingLeaves}
 use Rattle.recovery.proofs.CopiedRecords.{log_ends}
 use Rattle.recovery.proofs.MadeImage.{clear_spares, through_spares}

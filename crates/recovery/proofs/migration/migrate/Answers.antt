@@ -4,8 +4,8 @@ use Rattle.medium.specs.Moments.{EachCut}
 use Rattle.journal.specs.Places.{Shape}
 use Rattle.journal.specs.Values.{shape_of}
 use Rattle.journal.proofs.SectorNumbers.{IsSuper-one}
-use Rattle.recovery.specs.Causes.{start_fault_of, WritesNothing}
-use Rattle.recovery.specs.Migrated.{IsMigrationRefusal, MigrationLeaves}
+use Rattle.recovery.specs.Causes.{WritesNothing}
+use Rattle.recovery.specs.Migrated.{MigrationLeaves}
 use Rattle.recovery.specs.Recovered.{IsFresh}
 use Rattle.recovery.proofs.Causes.{served_slots, refused_later, call_refuses}
 use Rattle.recovery.proofs.MigrationCuts.{can_migrate, recovery_leaves, migration_leaves, migrated_fresh, migrated_from}
@@ -32,11 +32,10 @@ returns-in_err-found-clause-err g c =
     let mid = g.M.Medium.state c.recover_at_least.new.m in
     let p = err_from_is_err_and c.from_residual.result c.from_residual.ensures.1 in
     let why = c.in_err-found.ensures.err in
-    let refusal : IsMigrationRefusal old mid c.in_err-found.field-0.0 = record {
+    rw (p.1, p.2) (record {
       cause = why;
       served = λ shape array next s left some. served_slots 5 old mid shape array next s left some c.in_err-found.field-0.0 why;
-    } in
-    rw (p.1, p.2) refusal
+    })
 
 pub returns-in_err-make_two-clause-err : goal.returns-in_err-make_two-clause-err
 returns-in_err-make_two-clause-err g c =
@@ -47,12 +46,11 @@ returns-in_err-make_two-clause-err g c =
     let p = err_from_is_err_and back.result back.ensures.1 in
     let kind = c.in_err-make_two.field-0.0 in
     let before = c.recover_at_least.ensures.leaves.all.moments in
-    let refusal : IsMigrationRefusal old new (start_fault_of kind) = record {
+    rw (p.1, p.2) (record {
       cause = call_refuses 5 WritesNothing old new kind
           (refused_later old mid new before.failures_stay before.refused_stay kind c.in_err-make_two.ensures.cause);
       served = λ shape array next s left some. (kind, refl);
-    } in
-    rw (p.1, p.2) refusal
+    })
 
 pub returns-in_err-found-clause-leaves : goal.returns-in_err-found-clause-leaves
 returns-in_err-found-clause-leaves g c = recovery_leaves _ _ c.recover_at_least.ensures.leaves

@@ -1,7 +1,6 @@
 use Rattle.std.proofs.Common.{◌≡◌, inl, inr, ⊎_elim, ◌∙◌, ap, arith, rules}
 use Rattle.std.proofs.lemmas.Bool.{cases_eq}
 use Rattle.medium.specs.Moments.{StaysWithin}
-use Rattle.medium.specs.declared.fault.MediumFault.TheVariants.{Read}
 use Rattle.recovery.specs.Copies.{cleared_at, IsBetween}
 use Rattle.recovery.proofs.MadeImage.{one_more_cleared}
 use Rattle.recovery.proofs.sectors.clear.Given as given
@@ -46,17 +45,17 @@ loop-sector-preserved g c =
       ];
       elsewhere = λ x not. wrote.elsewhere x (λ e. not (omega (arith, e, past), omega (arith, e, inside))) ∙ inv.elsewhere x not;
       within = one_more g (goal.at.loop-sector-preserved g c).After-write;
-      size = search rules;
       calls = omega (arith, c.write.ensures.passes.calls_are, inv.calls, past);
-      sends = search rules;
-      no_read = search rules;
-      follows = search (rules, g.met.M.Medium.follows_through);
-      looked_stays = c.write.ensures.passes.looked_stays (λ e. cc e) ∙ inv.looked_stays;
+      follows = search (
+        rules,
+        g.met.M.Medium.follows_through,
+        c.write.ensures.passes.looked_stays (λ e. cc e) ∙ inv.follows.looks.looked_stays,
+      );
     }
 
 pub returns-in_err-write-clause-follows : goal.returns-in_err-write-clause-follows
 returns-in_err-write-clause-follows g c = search (
   rules,
   g.met.M.Medium.follows_through,
-  c.write.ensures.passes.looked_stays (λ e. cc e) ∙ c.loop-sector.invariant.looked_stays,
+  c.write.ensures.passes.looked_stays (λ e. cc e) ∙ c.loop-sector.invariant.follows.looks.looked_stays,
 )
