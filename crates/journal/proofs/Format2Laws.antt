@@ -4,11 +4,12 @@ use Rattle.std.specs.Prelude.{if◌then◌else◌, nat_lt, replicate}
 use Rattle.std.proofs.lemmas.Bool.{cases_lt}
 use Rattle.std.proofs.lemmas.Bool.Decides.{nat_tests}
 use Rattle.journal.specs.Spelling.{number_in}
-use Rattle.journal.specs.Record.{Entry, block_of}
+use Rattle.journal.specs.Record.{Entry, block_of, numbers_of}
 use Rattle.journal.specs.LayoutLaws.{IsRecordOf}
-use Rattle.journal.specs.SectorsTwo.{descriptor_bytes, place_bytes, commit_bytes}
+use Rattle.journal.specs.SectorsTwo.{descriptor_bytes, place_bytes, commit_bytes, chunk_of, firsts_of}
 use Rattle.journal.specs.Format2.{format2, offset2, part2, Carries2}
-use Rattle.journal.proofs.EntriesTwo.{descriptor_says, place_says, commit_says}
+use Rattle.journal.proofs.EntriesTwo.{stamp_is, place_says, commit_stamp}
+use Rattle.journal.proofs.RecordTwo.{descriptor_two}
 use Rattle.journal.proofs.Format1Laws.{below_is, above_is}
 
 pub offset_descriptor : (n p : ℕ) → p < (n + 29) / 30 → offset2 n p ≡ p
@@ -66,10 +67,23 @@ carries2 blocks s entries p r =
     record {
       most = omega (arith, r.below);
       descriptor = λ low.
-          let is : p < (length entries + 29) / 30 = grind (arith, b, c) in
-          (entries, part_descriptor s entries p is ∙ ap (λ (j : ℕ). descriptor_bytes s entries j) (sym (d is)));
+          let is : p < (length entries + 29) / 30 = grind (arith, b, c) in (
+            length entries,
+            numbers_of (chunk_of entries p),
+            firsts_of (chunk_of entries p),
+            rw (d is, part_descriptor s entries p is) (descriptor_two p r (omega (arith, is))),
+          );
       place = λ low high. (_, part_place s entries p (grind (arith, d)) (grind (arith, c)));
-      commit = λ high. (length entries, part_commit s entries p (grind (arith, d, b)));
+      commit = λ high. (
+        length entries,
+        record {
+          spelled = part_commit s entries p (grind (arith, d, b));
+          least = r.least;
+          most = r.below;
+          some = r.fit.some;
+          few = r.fit.few;
+        },
+      );
     }
 
 -- which number of the sector at this offset of a slot is the stamp that it carries
@@ -79,12 +93,12 @@ stamp_place o = if nat_lt o 8 then 1 else (if nat_lt o 248 then 0 else 1)
 carried2 : (o s : ℕ) (bytes : List ℕ) → Carries2 o s bytes → number_in bytes (stamp_place o) ≡ s
 unfolding stamp_place
 carried2 o s bytes c = elim (cases_lt o 8) [
-  | inl d ↦ let f = c.descriptor d in rw (below_is o 8 d, f.1) (descriptor_says s f.0 o (omega (arith, c.most)))
+  | inl d ↦ let f = c.descriptor d in rw (below_is o 8 d) (stamp_is f.3)
   | inr b ↦ elim (cases_lt o 248) [
     | inl p ↦
         let f = c.place b p in rw (above_is o 8 b, below_is o 248 p, f.1) (place_says s f.0 (omega (arith, c.most)))
     | inr k ↦
-        let f = c.commit k in rw (above_is o 8 b, above_is o 248 k, f.1) (commit_says s f.0 (omega (arith, c.most)))
+        let f = c.commit k in rw (above_is o 8 b, above_is o 248 k) (commit_stamp s f.0 bytes f.1)
   ]
 ]
 

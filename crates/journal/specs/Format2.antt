@@ -5,15 +5,18 @@ use Rattle.std.specs.List.{range_with_len}
 use Rattle.byteorder.specs.Endian.{little_number}
 use Rattle.medium.specs.Medium.{Image}
 use Rattle.journal.specs.SectorsTwo.{descriptors_of, descriptor_bytes, place_bytes, commit_bytes}
+use Rattle.journal.specs.SectorsTwo.{IsDescriptorTwo, IsCommitTwo}
 use Rattle.journal.specs.Record.{Entry, block_of}
 use Rattle.journal.specs.Layout.{Layout}
 
--- at this offset of a slot these bytes carry this stamp
+-- At this offset of a slot these bytes carry this stamp: they spell a descriptor or a commit, or are
+-- those of a data place, which carries whatever number it begins with.
 pub record Carries2 (o stamp : ℕ) (bytes : List ℕ) : Type 0 where
   pub most : stamp < 2 ^ 64
-  pub descriptor : o < 8 → (entries : List Entry) × (bytes ≡ descriptor_bytes stamp entries o)
+  pub descriptor : o < 8 → (count : ℕ) × (numbers : List ℕ) × (firsts : List (List ℕ))
+      × IsDescriptorTwo stamp count o numbers firsts bytes
   pub place : 8 ≤ o → o < 248 → (block : List ℕ) × (bytes ≡ place_bytes stamp block)
-  pub commit : 248 ≤ o → (count : ℕ) × (bytes ≡ commit_bytes stamp count)
+  pub commit : 248 ≤ o → (count : ℕ) × IsCommitTwo stamp count bytes
 
 -- where the parts stand, in the order in which they are written: descriptors, data places, commit
 unfoldable pub offset2 : ℕ → ℕ → ℕ
