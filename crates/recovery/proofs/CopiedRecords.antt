@@ -54,16 +54,14 @@ sets_within bound old new sound within s c left = subst (bound s) (updated_here 
     (at_exit (CutLeaves bound) old new sound within (updated new.content s c) (one_changed new s c sound left) s)
 
 -- copies, and then others
-pub copies_joined : (some more all : ℕ → Type 0) (old mid new : State) → IsSound mid → ((x : ℕ) → some x → all x)
-    → ((x : ℕ) → more x → all x) → StaysWithin (freed_at some old.may_leave) old mid → StaysWithin (freed_at more mid.may_leave) mid new
+pub copies_joined : (more all : ℕ → Type 0) (old mid new : State) → IsSound mid → ((x : ℕ) → more x → all x)
+    → StaysWithin (freed_at all old.may_leave) old mid → StaysWithin (freed_at more mid.may_leave) mid new
     → StaysWithin (freed_at all old.may_leave) old new
-copies_joined some more all old mid new sound f g first second =
-    let sets = sets_within (freed_at some old.may_leave) old mid sound first in
-    joined_same (CutLeaves (freed_at all old.may_leave)) old mid new
-    (weaker (CutLeaves (freed_at some old.may_leave)) (CutLeaves (freed_at all old.may_leave)) old mid
-    (λ image cut s. ⊎_elim inl (λ p. inr (f s p)) (cut s)) first)
+copies_joined more all old mid new sound f first second =
+    let sets = sets_within (freed_at all old.may_leave) old mid sound first in
+    joined_same (CutLeaves (freed_at all old.may_leave)) old mid new first
     (weaker (CutLeaves (freed_at more mid.may_leave)) (CutLeaves (freed_at all old.may_leave)) mid new
-    (λ image cut s. ⊎_elim (λ was. ⊎_elim inl (λ p. inr (f s p)) (sets s (image s) was)) (λ p. inr (g s p)) (cut s)) second)
+    (λ image cut s. ⊎_elim (sets s (image s)) (λ p. inr (f s p)) (cut s)) second)
 
 -- the i-th number is that of the i-th block
 pub number_of : (entries : List Entry) (numbers : List ℕ) (i : ℕ) → numbers ≡ numbers_of entries

@@ -1,5 +1,5 @@
 -- Calls, and then others: what they are together.
-use Rattle.std.proofs.Common.{◌≡◌, ℕ, ◌+◌, ◌≤◌, ◌∙◌, Result, arith}
+use Rattle.std.proofs.Common.{◌≡◌, ℕ, ◌+◌, ◌≤◌, ◌∙◌, Result, Ok, refl, arith}
 use Rattle.std.specs.Prelude.{OnOk, IfErr}
 use Rattle.medium.specs.Medium.{State, Image, LooksOnly, IsSound}
 use Rattle.medium.specs.declared.fault.MediumFault.{MediumFault}
@@ -7,7 +7,7 @@ use Rattle.medium.proofs.Moments.{quiet_joined}
 use Rattle.medium.proofs.SectorsRead.{looks_joined, looks_wider}
 use Rattle.journal.specs.Reads.{IsRefusedCall, ReadsPass}
 use Rattle.recovery.specs.Calls.{FollowsBy, WritesPass, WritesAllPass, CopiesPass}
-use Rattle.recovery.proofs.CopiedRecords.{quiet_within, copies_joined}
+use Rattle.recovery.proofs.CopiedRecords.{none_copied, quiet_within, copies_joined}
 
 -- reads
 pub reads_on : {X Y Z : Type 0} {few many most : ℕ} {old mid new : State} {one : Result X MediumFault} {two : Result Y MediumFault}
@@ -21,16 +21,21 @@ reads_on first second fit cause = record {
 }
 
 -- copies
-pub copies_on : {X Y Z : Type 0} {some more all : ℕ → Type 0} {few many most : ℕ} {old mid new : State} {one : Result X MediumFault}
-    {two : Result Y MediumFault} {result : Result Z MediumFault} → IsSound mid → ((x : ℕ) → some x → all x) → ((x : ℕ) → more x → all x)
-    → CopiesPass some few old mid one → CopiesPass more many mid new two → few + many ≤ most
-    → IfErr result (IsRefusedCall old new) → CopiesPass all most old new result
-copies_on {some = some} {more = more} {all = all} {old = old} {mid = mid} {new = new} sound f g first second fit cause = record {
-  elsewhere = λ x not. second.elsewhere x (λ h. not (g x h)) ∙ first.elsewhere x (λ h. not (f x h));
-  moments = copies_joined some more all old mid new sound f g first.moments second.moments;
+pub copies_on : {X Y Z : Type 0} {more all : ℕ → Type 0} {few many most : ℕ} {old mid new : State} {one : Result X MediumFault}
+    {two : Result Y MediumFault} {result : Result Z MediumFault} → IsSound mid → ((x : ℕ) → more x → all x)
+    → CopiesPass all few old mid one → CopiesPass more many mid new two → few + many ≤ most → IfErr result (IsRefusedCall old new)
+    → CopiesPass all most old new result
+copies_on {more = more} {all = all} {old = old} {mid = mid} {new = new} sound f first second fit cause = record {
+  elsewhere = λ x not. second.elsewhere x (λ h. not (f x h)) ∙ first.elsewhere x not;
+  moments = copies_joined more all old mid new sound f first.moments second.moments;
   calls = omega (arith, first.calls, second.calls, fit);
   cause = cause;
 }
+
+-- no call copies nothing
+pub none_made : {places : ℕ → Type 0} {most : ℕ} {m : State} → IsSound m → CopiesPass {X = Unit {0}} places most m m (Ok tt)
+none_made {places = places} {m = m} sound =
+    record { elsewhere = λ x not. refl; moments = none_copied places m sound; calls = omega arith; cause = tt }
 
 -- reads copy nothing
 pub none_copies : {X Y : Type 0} {places : ℕ → Type 0} {few most : ℕ} {old new : State} {reads : Result X MediumFault}

@@ -11,10 +11,10 @@ use Rattle.journal.specs.Places.{Shape, first_home, sectors_of}
 use Rattle.journal.specs.Sectors.{IsSuper, IsHead}
 use Rattle.journal.specs.Record.{home_of}
 use Rattle.journal.specs.Standing.{IsOurs}
-use Rattle.recovery.specs.Copies.{freed_at, cleared_at, WithOrWithout, IsBetween}
+use Rattle.recovery.specs.Copies.{cleared_at, WithOrWithout, IsBetween}
 use Rattle.recovery.specs.Formatted.{IsNoneOrNew, IsMidway, ImageLeaves}
 use Rattle.recovery.proofs.CopiedRecords.{sets_within, log_ends}
-use Rattle.recovery.proofs.SparedSectors.{spared_by, spared_within}
+use Rattle.recovery.proofs.SparedSectors.{spared_by}
 use Rattle.recovery.proofs.Zeros.{zeros_ours}
 
 -- one sector more is cleared
@@ -27,13 +27,6 @@ one_more_cleared places place old mid new {fault} {result} sound is so_far wrote
     (gains_within (cleared_at places old.may_leave) mid.may_leave new.may_leave place (replicate 512 0)
     (sets_within (cleared_at places old.may_leave) old mid sound so_far) gains
     (λ s c here. inr (subst places (sym here.0) is, here.1)))
-
--- in sectors that are cleared there may be anything
-pub cleared_freed : (places : ℕ → Type 0) (old new : State) → StaysWithin (cleared_at places old.may_leave) old new
-    → StaysWithin (freed_at places old.may_leave) old new
-cleared_freed places old new within =
-    weaker (CutLeaves (cleared_at places old.may_leave)) (CutLeaves (freed_at places old.may_leave)) old new
-    (λ image cut s. ⊎_elim inl (λ zeros. inr zeros.0) (cut s)) within
 
 -- a write
 module _ (place : ℕ) (bytes : List ℕ) (old mid : State) {one : MediumFault} {first : Result (Unit {0}) MediumFault} (sound : IsSound old)
@@ -68,8 +61,9 @@ through_spares first place bytes old new below sound elsewhere moments = spared_
 pub clear_spares : (first end : ℕ) (old new : State) → IsSound new → ((x : ℕ) → ¬ IsBetween first end x → new.content x ≡ old.content x)
     → StaysWithin (cleared_at (IsBetween first end) old.may_leave) old new → SparesFrom end old new
 clear_spares first end old new sound elsewhere within =
-    spared_within end (IsBetween first end) old new sound (λ s le between. omega (arith, le, between.1)) elsewhere
-    (cleared_freed (IsBetween first end) old new within)
+    spared_by end old new sound (λ s le. elsewhere s (λ between. omega (arith, le, between.1)))
+    (weaker (CutLeaves (cleared_at (IsBetween first end) old.may_leave)) (HasSpared end old) old new
+    (λ image cut s le. ⊎_elim (λ was. was) (λ zeros. absurd (omega (arith, le, zeros.0.1))) (cut s)) within)
 
 module _ (shape : Shape) (array : Array) (end : ℕ) (old first : State) (some : 2 ≤ end) (zeros : List ℕ) (are : zeros ≡ replicate 512 0)
     (sound : IsSound first) (elsewhere : (x : ℕ) → x ≢ 0 → first.content x ≡ old.content x)

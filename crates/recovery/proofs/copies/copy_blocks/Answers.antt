@@ -14,8 +14,7 @@ use Rattle.journal.specs.Reading.{data_at}
 use Rattle.journal.proofs.SectorsRead.{place_before}
 use Rattle.recovery.specs.Calls.{CopiesPass, FollowsBy}
 use Rattle.recovery.specs.Copies.{IsHomeOf}
-use Rattle.recovery.proofs.CopiedRecords.{none_copied}
-use Rattle.recovery.proofs.JoinedCalls.{all_pass, pass_all, copies_on, follows_on}
+use Rattle.recovery.proofs.JoinedCalls.{all_pass, pass_all, copies_on, none_made, follows_on}
 use Rattle.recovery.proofs.copies.copy_blocks.Given as given
 use Rattle.recovery.proofs.copies.copy_blocks.Goals as goal
 use Rattle.recovery.proofs.copies.copy_blocks.Goals.{After-first, After-copy_sector}
@@ -44,7 +43,7 @@ copied : (g : given.Over) (c : After-copy_sector g) {X : Type 0} (result : Resul
     → 2 * c.loop-i.i + 2 ≤ most → IfErr result (IsRefusedCall (g.M.Medium.state c.args.m.now) (g.M.Medium.state c.copy_sector.new.m))
     → CopiesPass (IsHomeOf (shape_of c.args.sizes.now) c.args.read.now.numbers.items) most (g.M.Medium.state c.args.m.now)
     (g.M.Medium.state c.copy_sector.new.m) result
-copied g c result most to fit cause = copies_on (g.met.M.Medium.sound c.loop-i.m) (λ x h. h)
+copied g c result most to fit cause = copies_on (g.met.M.Medium.sound c.loop-i.m)
     (λ x e. (c.loop-i.i, omega (arith, c.loop-i-test.true, c.len-i-end.ensures.value), e ∙ to)) c.loop-i.invariant.copies
     (all_pass c.copy_sector.ensures.copies) fit cause
 
@@ -78,12 +77,7 @@ loop-i-init g c =
     let old = g.M.Medium.state c.args.m.now in
     record {
       copied = λ k below. absurd (omega arith);
-      copies = record {
-        elsewhere = λ x not. refl;
-        moments = none_copied _ old (g.met.M.Medium.sound c.args.m.now);
-        calls = omega arith;
-        cause = tt;
-      };
+      copies = none_made (g.met.M.Medium.sound c.args.m.now);
       calls = omega arith;
       follows = record { follows = g.met.M.Medium.follows_itself c.args.m.now; sent = omega arith; looks = no_looks _ old old refl };
     }

@@ -47,7 +47,7 @@ returns-then-branch-clause-copies g c =
     let whole = c.requires.whole in
     let is = (found g at).all whole.0 whole.1 in
     let sound = g.met.M.Medium.sound c.args.m.now in
-    copies_on (g.met.M.Medium.sound c.read_record.new.m) (λ x h. h)
+    copies_on (g.met.M.Medium.sound c.read_record.new.m)
     (λ x h. (whole.0, whole.1, subst (λ (l : List ℕ). IsHomeOf shape l x) is.numbers_are h))
     (none_copies sound c.read_record.ensures.passes (omega arith) c.read_record.ensures.passes.cause)
     (all_pass c.copy_blocks.ensures.copies) (most_copied c.args.sizes.now.format _ (blocks g at).few) (search rules)

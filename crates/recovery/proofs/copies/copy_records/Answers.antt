@@ -9,8 +9,8 @@ use Rattle.journal.specs.Reads.{IsRefusedCall}
 use Rattle.journal.specs.Values.{shape_of}
 use Rattle.recovery.specs.Calls.{CopiesPass}
 use Rattle.recovery.specs.Copies.{IsHomeInRecords, most_calls_of}
-use Rattle.recovery.proofs.CopiedRecords.{none_copied, one_more_copied, not_in_log, whole_same, home_same}
-use Rattle.recovery.proofs.JoinedCalls.{copies_on, follows_on}
+use Rattle.recovery.proofs.CopiedRecords.{one_more_copied, not_in_log, whole_same, home_same}
+use Rattle.recovery.proofs.JoinedCalls.{copies_on, none_made, follows_on}
 use Rattle.recovery.proofs.SurveyCalls.{each_once_more}
 use Rattle.recovery.proofs.copies.copy_records.Given as given
 use Rattle.recovery.proofs.copies.copy_records.Goals as goal
@@ -29,7 +29,7 @@ copied g c result most fit cause =
     let mid = (g.M.Medium.state c.loop-j.m).content in
     let log : (y : ℕ) → y < first_home shape → old y ≡ mid y =
     λ y below. sym (c.loop-j.invariant.copies.elsewhere y (not_in_log shape old found.head found.count y below)) in
-    copies_on (g.met.M.Medium.sound c.loop-j.m) (λ x h. h)
+    copies_on (g.met.M.Medium.sound c.loop-j.m)
     (λ x h. (
       c.loop-j.j,
       c.loop-j-test.true,
@@ -54,12 +54,7 @@ loop-j-init g c =
     let old = g.M.Medium.state c.args.m.now in
     record {
       done = λ records count whole. record { home = λ b. refl; exact = omega arith };
-      copies = record {
-        elsewhere = λ x not. refl;
-        moments = none_copied _ old (g.met.M.Medium.sound c.args.m.now);
-        calls = omega arith;
-        cause = tt;
-      };
+      copies = none_made (g.met.M.Medium.sound c.args.m.now);
       follows = record { follows = g.met.M.Medium.follows_itself c.args.m.now; sent = omega arith; looks = no_looks _ old old refl };
     }
 

@@ -38,20 +38,19 @@ head_read g c =
 
 -- and what shows whether records are whole
 records_read : (g : given.Over) (c : After-count_whole g)
+    → SurveysAtMost (g.M.Medium.state c.args.m.now) (g.M.Medium.state c.read.new.self)
     → SurveysAtMost (g.M.Medium.state c.args.m.now) (g.M.Medium.state c.count_whole.new.m)
-records_read g c =
+records_read g c before =
     let shape = shape_of c.in_ok-sizes.sizes in
     let has = c.in_ok-sizes.ensures.ok in
     let rest = c.count_whole.ensures in
     record {
-      quiet = quiet_joined _ _ _ c.read_super.ensures.reads.quiet
-          (quiet_joined _ _ _ (quiet_call _ _ c.read.ensures.passes c.read.ensures.content c.read.ensures.sets) rest.passes.quiet);
+      quiet = quiet_joined _ _ _ before.quiet rest.passes.quiet;
       reads = search rules;
       calls = search rules;
       most = λ other is. rw (IsSuper-one other shape _ is.super has.super)
           (omega (arith, c.read_super.ensures.reads.calls, c.read.ensures.passes.calls_are, rest.passes.calls));
-      looks = looked_on shape _ _ _ has (looked_on shape _ _ _ has (super_looked _ _ c.read_super.ensures.follows.1)
-          (look_below (first_home shape) _ _ 1 (omega (arith, c.in_ok-sizes.sizes.home_is.0)) c.read.ensures.follows.1)) rest.follows.1;
+      looks = looked_on shape _ _ _ has before.looks rest.follows.1;
     }
 
 -- the head and the count are those of the image as it was
@@ -75,12 +74,12 @@ returns-then-head-count g c =
     let mid = g.M.Medium.state c.read.new.self in
     let new = g.M.Medium.state c.count_whole.new.m in
     let tries = min (c.in_ok-count.count + 1) c.in_ok-sizes.sizes.slots in
-    let quiet = (head_read g at.After-read).quiet in
-    let known = counted g at.In_ok-count quiet in
+    let read = head_read g at.After-read in
+    let known = counted g at.In_ok-count read.quiet in
     let calls : mid.calls ≡ (g.M.Medium.state c.args.m.now).calls + 2 =
     omega (arith, c.in_ok-sizes.ensures.reads.exact, c.read.ensures.passes.calls_are) in
     record {
-      reads = records_read g at.After-count_whole;
+      reads = records_read g at.After-count_whole read;
       ok = record {
         is = record {
           shape = c.in_ok-sizes.ensures.ok;
@@ -90,7 +89,7 @@ returns-then-head-count g c =
         };
         room = known.2;
         exact = rw (← calls)
-            (quiet_before (λ n i. AreTries shape i c.in-Some.head.stamp tries mid.calls new.calls) _ mid quiet
+            (quiet_before (λ n i. AreTries shape i c.in-Some.head.stamp tries mid.calls new.calls) _ mid read.quiet
             c.in_ok-count.ensures.finds.exact);
       };
       err = search rules;
@@ -103,8 +102,9 @@ returns-else-head-count g c =
     let shape = shape_of c.in_ok-sizes.sizes in
     let old = g.M.Medium.state c.args.m.now in
     let has = c.in_ok-sizes.ensures.ok in
-    let known = counted g at.In_ok-count (head_read g at.After-read).quiet in
-    let reads = records_read g at.After-count_whole in
+    let read = head_read g at.After-read in
+    let known = counted g at.In_ok-count read.quiet in
+    let reads = records_read g at.After-count_whole read in
     let s = count_stands old.size shape old.content c.in-Some.head.stamp c.in_ok-count.count has.fits has.super known.0 known.1 in
     record {
       reads = reads;
@@ -119,7 +119,8 @@ returns-else-head-count g c =
 
 pub returns-in_err-count : goal.returns-in_err-count
 returns-in_err-count g c =
-    search (rules, records_read g (goal.at.returns-in_err-count g c).After-count_whole, g.met.M.Medium.follows_through)
+    let at = goal.at.returns-in_err-count g c in
+    search (rules, records_read g at.After-count_whole (head_read g at.After-read), g.met.M.Medium.follows_through)
 
 pub returns-in_err-sizes : goal.returns-in_err-sizes
 returns-in_err-sizes g c =
