@@ -21,15 +21,14 @@ pub record_entries : (shape : Shape) (stamp : ℕ) (numbers : List ℕ) (entries
     → IsRecordOf (layout_of shape.format) shape.blocks stamp entries
 record_entries shape stamp numbers entries sized rec is full =
     let count : length numbers ≡ length entries = count_of numbers entries is in
-    let inside : All (λ b. b < shape.blocks) (numbers_of entries) =
-    subst (λ (l : List ℕ). All (λ b. b < shape.blocks) l) is rec.numbers_are.inside in
+    let now = rw is at rec.numbers_are in
     record {
       fit = record {
         some = omega (arith, count, rec.numbers_are.some);
         few = omega (arith, count, rec.numbers_are.few, most_is shape.format);
-        rising = subst IsRising is rec.numbers_are.rising;
-        inside = inside;
-        small = λ j d below. omega (arith, inside j d below, sized.small);
+        rising = now.rising;
+        inside = now.inside;
+        small = λ j d below. omega (arith, now.inside j d below, sized.small);
         sized = full;
       };
       least = rec.least;

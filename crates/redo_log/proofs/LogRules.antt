@@ -40,6 +40,7 @@ retired_of log = record log {
   firsts = drop 1 log.firsts;
 }
 
+-- what is true of every log
 pub record IsLog (log : LogValue) : Type 0 where
   pub sized : IsSized log.shape
   -- a record under way has a stamp and a slot of its own
@@ -168,32 +169,28 @@ pub oldest_few : (shape : Shape) (waiting : List (List ℕ)) → All (AreInside 
 oldest_few shape [] each = omega arith
 oldest_few shape (n ∷ newer) each = (each 0 [] (omega arith)).few
 
+-- records of which so many steps are left of the oldest need no more than this
+few_owed : (shape : Shape) (most : ℕ) → limit_of shape.format + 2 ≤ most → (waiting : List (List ℕ)) → All (AreInside shape) waiting
+    → (left : ℕ) → (length waiting ≡ 0 → left ≡ 0) → left ≤ length (get_or waiting 0 []) + 2
+    → left + sum_by retire_steps_of (drop 1 waiting) ≤ most * length waiting
+few_owed shape most few [] each left none within = omega arith
+few_owed shape most few (n ∷ newer) each left none within =
+    let rest = few_steps shape most few newer (λ j d below. each (suc j) d (omega arith)) in
+    let one : most * (length newer + 1) ≡ most * length newer + most = omega arith in
+    omega (arith, rest, one, (each 0 [] (omega arith)).few, few, within)
+
 -- with one more a log with room owes no more than its slots may need
 pub few_begun : {log : LogValue} → IsLog log → HasRoom log → (numbers : List ℕ) → length numbers ≤ limit_of log.shape.format
     → log.retire_steps_left + retire_steps_of numbers ≤ most_retire_steps log.shape.format * log.shape.slots
 few_begun {log} is room numbers few = from (limit_of log.shape.format + 2) (omega arith)
   where
-    none : retire_steps_of log.under_way ≡ 0
-    none = ap (λ (l : List ℕ). retire_steps_of l) room.none_under_way
-
     from : (most : ℕ) → limit_of log.shape.format + 2 ≤ most → log.retire_steps_left + retire_steps_of numbers ≤ most * log.shape.slots
     from most enough =
-        let newer = few_steps log.shape most enough (drop 1 log.waiting) (inside_fewer log.shape log.waiting is.each) in
-        let one : most * (length (drop 1 log.waiting) + 1) ≡ most * length (drop 1 log.waiting) + most = omega arith in
-        let all : most * (length log.waiting + 1) ≤ most * log.shape.slots =
-        mul-le-mul_left most (omega (arith, is.taken, room.free)) in
+        let none = ap (λ (l : List ℕ). retire_steps_of l) room.none_under_way in
+        let all : most * (length log.waiting + 1) ≤ most * log.shape.slots = mul-le-mul_left most (omega (arith, is.taken, room.free)) in
         let more : most * (length log.waiting + 1) ≡ most * length log.waiting + most = omega arith in
-        let oldest = oldest_few log.shape log.waiting is.each in
-        elim (cases_eq (length log.waiting) 0) [
-          | inl nothing ↦
-              let fewer : most * length (drop 1 log.waiting) ≡ most * 0 =
-              ap (λ (n : ℕ). most * n) (omega (arith, length-drop 1 log.waiting, nothing)) in
-              omega (arith, is.alone nothing, none, newer, fewer, steps_of_one numbers, few, enough, all, more)
-          | inr some ↦
-              let fewer : most * length log.waiting ≡ most * (length (drop 1 log.waiting) + 1) =
-              ap (λ (n : ℕ). most * n) (omega (arith, length-drop 1 log.waiting, some)) in
-              omega (arith, none, newer, one, fewer, oldest, is.owed_most, steps_of_one numbers, few, enough, all, more)
-        ]
+        let owed = few_owed log.shape most enough log.waiting is.each (of_oldest log) (λ none. omega (arith, is.alone none)) is.owed_most in
+        omega (arith, owed, none, all, more, steps_of_one numbers, few, enough)
 
 -- one record more
 one_more : (waiting : List (List ℕ)) (numbers : List ℕ)

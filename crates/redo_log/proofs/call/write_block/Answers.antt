@@ -9,9 +9,8 @@ returns-in-Ok g c =
     let old = g.M.Medium.state c.args.m.now in
     let new = g.M.Medium.state c.write.new.self in
     record {
-      makes = subst (λ (f : LogFormat). MakesCall (Write c.args.place (placed f c.args.stamp c.args.block.now)) c.write.result old new)
-          (sym c.in-One.is)
-          (write_makes c.args.place c.args.block.now c.in-Ok.sector.now old new c.write.result (g.met.M.Medium.sound c.args.m.now)
+      makes = rw c.in-One.is (write_makes c.args.place c.args.block.now c.in-Ok.sector.now old new c.write.result
+          (g.met.M.Medium.sound c.args.m.now)
           c.in-Ok.ensures.1.same c.write.ensures.ok c.write.ensures.err c.write.ensures.sets c.write.ensures.passes);
       follows = c.write.ensures.follows;
     }

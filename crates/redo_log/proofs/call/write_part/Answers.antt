@@ -17,26 +17,21 @@ home_small One slots home few is = omega (arith, few, is.1)
 home_small Two slots home few is = omega (arith, few, is.1)
 
 -- a part stands before home
-place_inside : (sizes : Super) (stamp n p o first slot : ℕ) → n ≤ limit_of sizes.format → p < (layout_of sizes.format).parts n
+place_inside : (sizes : Super) (stamp n p : ℕ) {o first slot : ℕ} → n ≤ limit_of sizes.format → p < (layout_of sizes.format).parts n
     → o ≡ (layout_of sizes.format).offset n p → first ≡ 2 + (layout_of sizes.format).slot_sectors * slot → slot ≡ stamp % sizes.slots
     → first + o < sizes.home
-place_inside sizes stamp n p o first slot few below o_is first_is slot_is =
+place_inside sizes stamp n p {o} {first} {slot} few below o_is first_is slot_is =
     let L = layout_of sizes.format in
     let inside : L.offset n p < L.slot_sectors = (laws_of sizes.format).inside n p (omega (arith, few, most_is sizes.format)) below in
     let at : first ≡ 2 + L.slot_sectors * (stamp % sizes.slots) = first_is ∙ ap (λ (x : ℕ). 2 + L.slot_sectors * x) slot_is in
     omega (arith, before_home (shape_of sizes) (sizes_sized sizes) stamp (L.offset n p) inside, at, o_is)
-
--- which block stands in the part
-index_is : (p parts all n : ℕ) → parts ≡ all → n + 1 ≤ all → parts - 1 - n ≤ p → p + 1 + n ≡ all + (p - (parts - 1 - n))
-index_is p parts all n is more first = omega (arith, is, more, first)
 
 pub returns-then-p-first : goal.returns-then-p-first
 returns-then-p-first g c = record {
   makes = block_makes (shape_of c.args.sizes.now) c.args.stamp c.args.numbers.now c.args.bytes.now
       (c.args.p - (c.parts.result - 1 - length c.args.numbers.now)) c.args.p c.slot_of-slot.result c.copy_place-place.result
       (g.M.Medium.state c.args.m.now) (g.M.Medium.state c.write_block.new.m) c.write_block.result c.if-p-first.true
-      (index_is c.args.p c.parts.result ((layout_of c.args.sizes.now.format).parts (length c.args.numbers.now))
-      (length c.args.numbers.now) c.parts.ensures (parts_more c.args.sizes.now.format (length c.args.numbers.now)) c.if-first-p.true)
+      (omega (arith, c.parts.ensures, parts_more c.args.sizes.now.format (length c.args.numbers.now), c.if-first-p.true))
       c.slot_of-slot.ensures c.copy_place-place.ensures c.write_block.ensures.makes;
   follows = c.write_block.ensures.follows;
 }
@@ -44,14 +39,12 @@ returns-then-p-first g c = record {
 pub overflow_add-slot_place : goal.overflow_add-slot_place
 overflow_add-slot_place g c =
     let sizes = c.args.sizes.now in
-    let inside = place_inside c.args.sizes.now c.args.stamp (length c.args.numbers.now) c.args.p c.part-part.result.offset
-    c.slot_place.result c.slot_of-slot.result c.requires.record.numbers_are.few c.requires.inside c.part-part.ensures.offset
-    c.slot_place.ensures c.slot_of-slot.ensures in
+    let inside = place_inside c.args.sizes.now c.args.stamp (length c.args.numbers.now) c.args.p c.requires.record.numbers_are.few
+    c.requires.inside c.part-part.ensures.offset c.slot_place.ensures c.slot_of-slot.ensures in
     omega (arith, inside, home_small sizes.format sizes.slots sizes.home sizes.most_slots sizes.home_is)
 
 pub write-requires : goal.write-requires
 write-requires g c =
-    let inside = place_inside c.args.sizes.now c.args.stamp (length c.args.numbers.now) c.args.p c.part-part.result.offset
-    c.slot_place.result c.slot_of-slot.result c.requires.record.numbers_are.few c.requires.inside c.part-part.ensures.offset
-    c.slot_place.ensures c.slot_of-slot.ensures in
+    let inside = place_inside c.args.sizes.now c.args.stamp (length c.args.numbers.now) c.args.p c.requires.record.numbers_are.few
+    c.requires.inside c.part-part.ensures.offset c.slot_place.ensures c.slot_of-slot.ensures in
     omega (arith, inside, c.requires.fits)

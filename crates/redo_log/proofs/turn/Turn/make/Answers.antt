@@ -6,9 +6,7 @@ use Rattle.redo_log.proofs.turn.Turn.make.Goals as goal
 
 pub returns-in-Copy-clause-makes : goal.returns-in-Copy-clause-makes
 returns-in-Copy-clause-makes g c =
-    let old = g.M.Medium.state c.args.m.now in
-    let new = g.M.Medium.state c.copy_sector.new.m in
-    subst (λ (t : Turn). MakesTurn t c.copy_sector.result old new) (sym c.in-Copy.is) (record {
+    rw c.in-Copy.is (record {
       done = c.copy_sector.ensures.writes.done;
       adds = c.copy_sector.ensures.writes.adds;
       spares = λ first inside. c.copy_sector.ensures.writes.spares first inside.1;
@@ -17,8 +15,8 @@ returns-in-Copy-clause-makes g c =
 pub returns-in-Copy-clause-follows : goal.returns-in-Copy-clause-follows
 returns-in-Copy-clause-follows g c = (
   c.copy_sector.ensures.follows.0,
-  λ end before. look_below end (g.M.Medium.state c.args.m.now) (g.M.Medium.state c.copy_sector.new.m) _
-      (subst (λ (t : Turn). ReadsBefore end t) c.in-Copy.is before) c.copy_sector.ensures.follows.1,
+  λ end before. look_below end (g.M.Medium.state c.args.m.now) (g.M.Medium.state c.copy_sector.new.m) _ (rw c.in-Copy.is at before)
+      c.copy_sector.ensures.follows.1,
 )
 
 pub returns-in-Flush-clause-follows : goal.returns-in-Flush-clause-follows
