@@ -66,8 +66,8 @@ module _ (e parts : ℕ) (late : e < parts) where
   )
 
 -- nothing is written at first
-pub none_written : (e : ℕ) → (written_at e 0 ≡ 0) × (flushed_at e 0 ≡ 0)
-none_written e = (omega (arith, written_is e 0), omega (arith, written_is e 0))
+pub none_written : (e made : ℕ) → made ≡ 0 → (written_at e made ≡ 0) × (flushed_at e made ≡ 0)
+none_written e made none = (omega (arith, written_is e made, none), omega (arith, written_is e made, none))
 
 -- a flush is due, or it is not
 pub due_or_not : (L : Layout) (n made : ℕ) → IsFlushDue L n made ⊎ (¬ IsFlushDue L n made)

@@ -119,22 +119,16 @@ pub begun_holds : (log : LogValue) (m : State) (view : View) (numbers bytes : Li
     → IsBatch log.shape numbers bytes
     → HoldsView (begun numbers (firsts_of (entries_of numbers bytes)) log) m (with_begun (entries_of numbers bytes) view)
 begun_holds log m view numbers bytes holds room batch =
+    let E : List Entry = entries_of numbers bytes in
+    let next : LogValue = begun numbers (firsts_of (entries_of numbers bytes)) log in
     let many : length (entries_of numbers bytes) ≡ length numbers = length_of_batch numbers bytes in
-    let none : retire_steps_of log.under_way ≡ 0 =
-    ap (λ (l : List ℕ). retire_steps_of l) room.none_under_way in
+    let none = ap (λ (l : List ℕ). retire_steps_of l) room.none_under_way in
     let none_yet : view.under_way ≡ [] = no_entries view.under_way (sym holds.under_way ∙ room.none_under_way) in
-    let firsts : List (List ℕ) = firsts_of (entries_of numbers bytes) in
-    let behind : behind_oldest (begun numbers firsts log) ≡ behind_oldest log + retire_steps_of numbers = omega (arith, none) in
-    let same : of_oldest log ≡ of_oldest (begun numbers firsts log) = omega (arith, behind) in
-    let needs : needed_of log ≡ needed_of (begun numbers firsts log) =
-    ap (λ (l : ℕ). needed_at log.ahead log.head (log.head + length log.waiting) l) same in
-    let turned : turned_of log ≡ turned_of (begun numbers firsts log) = omega (arith, same) in
-    let none_made : made_of (begun numbers firsts log) ≡ 0 = omega arith in
-    let early : ℕ = (layout_of log.shape.format).early (length (entries_of numbers bytes)) in
-    let w : written_of log.shape (with_begun (entries_of numbers bytes) view) (made_of (begun numbers firsts log)) ≡ 0 =
-    ap (λ (k : ℕ). written_of log.shape (with_begun (entries_of numbers bytes) view) k) none_made ∙ (none_written early).0 in
-    let f : flushed_of log.shape (with_begun (entries_of numbers bytes) view) (made_of (begun numbers firsts log)) ≡ 0 =
-    ap (λ (k : ℕ). flushed_of log.shape (with_begun (entries_of numbers bytes) view) k) none_made ∙ (none_written early).1 in
+    let behind : behind_oldest next ≡ behind_oldest log + retire_steps_of numbers = omega (arith, none) in
+    let same : of_oldest log ≡ of_oldest next = omega (arith, behind) in
+    let needs : needed_of log ≡ needed_of next = ap (λ (l : ℕ). needed_at log.ahead log.head (log.head + length log.waiting) l) same in
+    let turned : turned_of log ≡ turned_of next = omega (arith, same) in
+    let nothing = none_written ((layout_of log.shape.format).early (length (entries_of numbers bytes))) (made_of next) (omega arith) in
     let few : length (entries_of numbers bytes) ≤ (layout_of log.shape.format).most =
     omega (arith, many, batch.few, most_is log.shape.format) in
     record {
@@ -144,7 +138,7 @@ begun_holds log m view numbers bytes holds room batch =
       next = omega (arith, holds.next, ap (λ (l : List ℕ). stamps_of l) room.none_under_way, one_stamp numbers batch.some);
       few = holds.few;
       sized = sized_batch numbers bytes batch.size;
-      firsts = begun_kept log.shape.format view.records view.under_way (entries_of numbers bytes) log.firsts holds.firsts none_yet
+      firsts = begun_kept log.shape.format view.records view.under_way E log.firsts holds.firsts none_yet
           (omega (arith, many, batch.some));
       leaves = λ ours image cut. ⊎_elim (λ rest. inl rest)
           (λ other. ⊎_elim (λ both. absurd (omega (arith, both.0, room.no_steps)))
@@ -152,7 +146,7 @@ begun_holds log m view numbers bytes holds room batch =
           (holds.leaves ours image cut);
       stores = λ live. record {
         laid = (holds.stores live).laid;
-        written = λ left p low small. absurd (omega (arith, low, w));
+        written = λ left p low small. absurd (omega (arith, low, nothing.0));
         copied = λ i low high. (holds.stores live).copied i (omega (arith, low, turned)) high;
       };
       guards = λ live ours. record {
@@ -161,14 +155,13 @@ begun_holds log m view numbers bytes holds room batch =
               let rests = ((holds.guards live ours).guards.each image cut).rests room.no_steps in
               record {
                 rests = λ none. absurd (some_steps (omega (arith, none)));
-                guarded = λ _. rw (w, f) (rests_begun (layout_of log.shape.format) (laws_of log.shape.format)
-                    (image_view log.shape log.head (with_begun (entries_of numbers bytes) view))
+                guarded = λ _. rw (nothing.0, nothing.1) (rests_begun (layout_of log.shape.format) (laws_of log.shape.format)
+                    (image_view log.shape log.head (with_begun E view))
                     rests.keeps.super.some_slots few image rests);
               };
           homed = λ is. (holds.guards live ours).guards.homed (needs ∙ is);
         };
-        heads = heads_begun (holds.guards live ours) (entries_of numbers bytes) (needed_of (begun numbers firsts log))
-            (λ not is. not (needs ∙ is));
+        heads = heads_begun (holds.guards live ours) E (needed_of next) (λ not is. not (needs ∙ is));
       };
     }
   where
