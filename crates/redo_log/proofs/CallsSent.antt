@@ -18,21 +18,21 @@ use Rattle.redo_log.specs.Held.{turned_of}
 use Rattle.redo_log.specs.Turns.{calls_of, sends_of, flushes_of, IsCopyOf, IsFlushTurn, IsHeadTurn, IsNextTurn}
 use Rattle.redo_log.proofs.LogRules.{IsLog, oldest_few}
 
-pub copy_is : (source target : ℕ) (begins : Option (List ℕ)) (turn : Turn) → IsCopyOf source target begins turn
+pub copy_turn : (source target : ℕ) (begins : Option (List ℕ)) (turn : Turn) → IsCopyOf source target begins turn
     → turn ≡ Copy source target begins
-copy_is source target begins (Copy from to first) is = cc (is.0, is.1, is.2)
-copy_is source target begins Flush is = absurd is
-copy_is source target begins (Head h) is = absurd is
+copy_turn source target begins (Copy from to first) is = cc (is.0, is.1, is.2)
+copy_turn source target begins Flush is = absurd is
+copy_turn source target begins (Head h) is = absurd is
 
-pub flush_is : (turn : Turn) → IsFlushTurn turn → turn ≡ Flush
-flush_is (Copy from to first) is = absurd is
-flush_is Flush is = refl
-flush_is (Head h) is = absurd is
+pub flush_turn : (turn : Turn) → IsFlushTurn turn → turn ≡ Flush
+flush_turn (Copy from to first) is = absurd is
+flush_turn Flush is = refl
+flush_turn (Head h) is = absurd is
 
-pub head_is : (stamp : ℕ) (turn : Turn) → IsHeadTurn stamp turn → (h : HeadOf) × (turn ≡ Head h) × (h.stamp ≡ stamp)
-head_is stamp (Copy from to first) is = absurd is
-head_is stamp Flush is = absurd is
-head_is stamp (Head h) is = (h, refl, is)
+pub head_turn : (stamp : ℕ) (turn : Turn) → IsHeadTurn stamp turn → (h : HeadOf) × (turn ≡ Head h) × (h.stamp ≡ stamp)
+head_turn stamp (Copy from to first) is = absurd is
+head_turn stamp Flush is = absurd is
+head_turn stamp (Head h) is = (h, refl, is)
 
 -- as many as the turn that it is
 same_counts : (turn is : Turn) → turn ≡ is
@@ -45,11 +45,11 @@ turn_counts : (shape : Shape) (stamp : ℕ) (numbers : List ℕ) (kept : AllFirs
     → (calls_of turn ≡ turn_calls left) × (sends_of turn ≡ turn_sends left) × (flushes_of turn ≡ turn_flushes left)
 turn_counts shape stamp numbers kept turned zero turn next sum some = absurd (omega (arith, some))
 turn_counts shape stamp numbers kept turned (suc zero) turn next sum some =
-    let h = head_is (stamp + 1) turn (next.head (omega (arith, sum))) in same_counts turn (Head h.0) h.1
+    let h = head_turn (stamp + 1) turn (next.head (omega (arith, sum))) in same_counts turn (Head h.0) h.1
 turn_counts shape stamp numbers kept turned (suc (suc zero)) turn next sum some =
-    same_counts turn Flush (flush_is turn (next.flush (omega (arith, sum))))
+    same_counts turn Flush (flush_turn turn (next.flush (omega (arith, sum))))
 turn_counts shape stamp numbers kept turned (suc (suc (suc left))) turn next sum some =
-    same_counts turn (Copy _ _ _) (copy_is _ _ _ turn (next.home (omega (arith, sum))))
+    same_counts turn (Copy _ _ _) (copy_turn _ _ _ turn (next.home (omega (arith, sum))))
 
 few_calls : (left : ℕ) → turn_calls left ≤ 2
 few_calls zero = omega arith

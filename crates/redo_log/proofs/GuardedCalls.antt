@@ -2,6 +2,7 @@
 use Rattle.std.proofs.Common.{◌≡◌, ◌≢◌, ◌⊎◌, inl, inr, ⊎_elim, ℕ, ◌+◌, ◌<◌, ◌≤◌, List, [], ◌∷◌, ◌++◌, length, get_or}
 use Rattle.std.proofs.Common.{drop, ◌∙◌, subst, arith, length-append, length-drop}
 use Rattle.std.proofs.lemmas.Bool.{cases_lt}
+use Rattle.std.proofs.lemmas.List.{get_or_append_left}
 use Rattle.medium.specs.Medium.{State, Image, Holds, Gains, Only, IsSound}
 use Rattle.medium.specs.Moments.{EachCut}
 use Rattle.medium.proofs.Moments.{content_has, each_write, each_flush}
@@ -25,14 +26,14 @@ use Rattle.redo_log.specs.Held.{View, with_record, view_retired, image_view, wri
 use Rattle.redo_log.proofs.LoggedImage.{Logged-records}
 use Rattle.redo_log.proofs.RecordSteps.{all_flushed}
 use Rattle.redo_log.proofs.LaidBlocks.{IsWhole-same, before_home, whole_more, last_whole}
-use Rattle.redo_log.proofs.StoredLog.{oldest-append}
 
--- The durable records have slots, and with so many steps left one more is there for the record under way. Once all its parts are
--- written two steps are left at most.
+-- the records of a view stand in slots of their own
 pub record Stands (shape : Shape) (head : ℕ) (view : View) (steps made : ℕ) : Type 0 where
   pub sized : IsSized shape
+  -- where steps are left the record under way has one too
   pub slots : 0 < steps → HasSlots (layout_of shape.format) (image_view shape head view)
   pub few : length view.records ≤ shape.slots
+  -- once all its parts are written two are left at most
   pub short : (layout_of shape.format).parts (length view.under_way) ≤ written_of shape view made → steps ≤ 2
 
 -- the image has the durable records, or with its last sector there the one under way too
@@ -165,7 +166,7 @@ module _ {shape : Shape} {head : ℕ} {view : View} {steps made : ℕ} (stands :
         });
         homed = λ is.
             let was = more is in
-            rw (oldest-append view.records view.under_way was.0) (each_flush (IsHomed v) old.content new only (⊎_elim
+            rw (get_or_append_left view.records (view.under_way ∷ []) [] 0 was.0) (each_flush (IsHomed v) old.content new only (⊎_elim
             (λ (one : retire ≡ 1). content_has (IsHomed v) old sound (g.homed one))
             (λ (home : length (get_or view.records 0 []) ≤ turned) i inside.
             stored.copied i (omega (arith, inside, home)) inside) was.1));

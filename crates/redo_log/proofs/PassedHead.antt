@@ -2,6 +2,7 @@
 use Rattle.std.proofs.Common.{◌≡◌, ◌≢◌, inl, inr, ⊎_elim, ℕ, ◌+◌, ◌<◌, ◌≤◌, List, [], ◌∷◌, length, get_or, drop, refl, sym, ◌∙◌}
 use Rattle.std.proofs.Common.{ap, subst, arith}
 use Rattle.std.proofs.lemmas.Bool.{cases_eq}
+use Rattle.std.proofs.Math.Seq.{drop-cons}
 use Rattle.medium.specs.Medium.{State, Image, CutLeaves, Holds, Gains, IsSound}
 use Rattle.medium.specs.Moments.{EachCut}
 use Rattle.medium.proofs.Moments.{each_write, updated, updated_here, updated_elsewhere}
@@ -11,11 +12,6 @@ use Rattle.journal.specs.Record.{Entry}
 use Rattle.redo_log.specs.Logged.{Laid}
 use Rattle.redo_log.specs.Held.{View, view_retired, HasHead, Safe, Guards, with_head}
 use Rattle.redo_log.proofs.GuardedCalls.{Stands, past, keeps_of}
-
--- the oldest stands in front of the others
-in_front : (records : List (List Entry)) → 0 < length records → records ≡ get_or records 0 [] ∷ drop 1 records
-in_front [] some = absurd (omega arith)
-in_front (r ∷ records) some = refl
 
 module _ {shape : Shape} {head : ℕ} {view : View} {steps made retire : ℕ} (stands : Stands shape head view steps made) {old : State}
     (sound : IsSound old) (g : Guards shape head view steps made retire old) (one : retire ≡ 1) (new : State) (bytes : List ℕ)
@@ -59,7 +55,7 @@ module _ {shape : Shape} {head : ℕ} {view : View} {steps made retire : ℕ} (s
           stamp = head;
           behind = refl;
           head_is = keeps.head_is;
-          laid = subst (λ (l : List (List Entry)). Laid shape head l view.array image) (in_front view.records waits)
+          laid = subst (λ (l : List (List Entry)). Laid shape head l view.array image) (drop-cons view.records 0 [] waits)
               (record { whole = keeps.whole; blocks = keeps.blocks });
           room = room;
         },

@@ -12,9 +12,9 @@ use Rattle.redo_log.specs.Stages.{flush_of, written_at, flushed_at}
 use Rattle.redo_log.specs.Calls.{IsFlushDue}
 
 -- the early parts have a flush, where there are any
-pub flush_is : (e : ℕ) → ((e ≡ 0) × (flush_of e ≡ 0)) ⊎ ((0 < e) × (flush_of e ≡ 1))
+pub flush_of_is : (e : ℕ) → ((e ≡ 0) × (flush_of e ≡ 0)) ⊎ ((0 < e) × (flush_of e ≡ 1))
 unfolding flush_of
-flush_is e = elim (cases_lt 0 e) [
+flush_of_is e = elim (cases_lt 0 e) [
   | inl some ↦ inr (some, rw (below_is 0 e some) refl)
   | inr none ↦ inl (omega (arith, none), rw (above_is 0 e none) refl)
 ]
@@ -30,8 +30,8 @@ written_is e made = elim (cases_lt e made) [
 
 -- the steps are a call for each part, a flush, and one for the early parts where there are any
 pub steps_are : (format : LogFormat) (n : ℕ) → steps_for format n ≡ (layout_of format).parts n + 1 + flush_of ((layout_of format).early n)
-steps_are One n = omega (arith, flush_is (n + 1))
-steps_are Two n = omega (arith, flush_is 0)
+steps_are One n = omega (arith, flush_of_is (n + 1))
+steps_are Two n = omega (arith, flush_of_is 0)
 
 module _ (e parts : ℕ) (late : e < parts) where
   -- once all are written the early ones are flushed
@@ -40,20 +40,20 @@ module _ (e parts : ℕ) (late : e < parts) where
 
   -- the last call is the one after the last part
   pub last_call : (made : ℕ) → made < parts + 1 + flush_of e → parts + 1 + flush_of e ≤ made + 1 → parts ≤ written_at e made
-  last_call made below last = omega (arith, written_is e made, flush_is e, late, below, last)
+  last_call made below last = omega (arith, written_is e made, flush_of_is e, late, below, last)
 
   pub not_last : (made : ℕ) → made + 1 < parts + 1 + flush_of e → written_at e made < parts
-  not_last made below = omega (arith, written_is e made, flush_is e, late, below)
+  not_last made below = omega (arith, written_is e made, flush_of_is e, late, below)
 
   -- once all are written one step is left at most
   pub one_left : (made : ℕ) → parts ≤ written_at e made → parts + 1 + flush_of e - made ≤ 1
-  one_left made all = omega (arith, written_is e made, flush_is e, late, all)
+  one_left made all = omega (arith, written_is e made, flush_of_is e, late, all)
 
   -- the early flush
   pub early_written : (made next : ℕ) → next ≡ made + 1 → 0 < e → made ≡ e
       → (written_at e next ≡ written_at e made) × (flushed_at e next ≡ written_at e made)
   early_written made next one some is = (
-    omega (arith, written_is e made, written_is e next, flush_is e, one, some, is),
+    omega (arith, written_is e made, written_is e next, flush_of_is e, one, some, is),
     omega (arith, written_is e made, written_is e next, one, is),
   )
 
@@ -61,7 +61,7 @@ module _ (e parts : ℕ) (late : e < parts) where
   pub part_written : (made next : ℕ) → next ≡ made + 1 → (e ≤ 0) ⊎ (made ≢ e)
       → (written_at e next ≡ written_at e made + 1) × (flushed_at e next ≡ flushed_at e made)
   part_written made next one not = (
-    omega (arith, written_is e made, written_is e next, flush_is e, one, not),
+    omega (arith, written_is e made, written_is e next, flush_of_is e, one, not),
     omega (arith, written_is e made, written_is e next, one, not),
   )
 

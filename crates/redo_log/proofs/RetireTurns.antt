@@ -35,7 +35,7 @@ use Rattle.redo_log.proofs.StoredLog.{Stores-stays, home_stores, head_stores}
 use Rattle.redo_log.proofs.GuardedCalls.{Stands, stands_less, logged_of, home_each, homed_guards, head_each, head_guards, past_records}
 use Rattle.redo_log.proofs.GuardedCuts.{leave_of, guards_leave, logged_leaves}
 use Rattle.redo_log.proofs.KeptFirsts.{kept_is, retired_kept}
-use Rattle.redo_log.proofs.CallsSent.{copy_is, flush_is, head_is}
+use Rattle.redo_log.proofs.CallsSent.{copy_turn, flush_turn, head_turn}
 use Rattle.redo_log.proofs.LogRules.{IsLog, retired_of, one_waits, nothing_home, not_homed}
 use Rattle.redo_log.proofs.HeldLog.{many, named, count, stands_then, goes_on}
 
@@ -240,7 +240,7 @@ module _ {log : LogValue} (is : IsLog log) (live : log.dead ≡ false) (owed : 0
           begins,
           from,
           (
-            copy_is from _ begins turn (next.home (omega (arith, below, is.owed_most)))
+            copy_turn from _ begins turn (next.home (omega (arith, below, is.owed_most)))
                 ∙ ap (λ (b : ℕ). Copy from (first_home log.shape + b) begins) number,
             begun_is log.shape.format log.shape old.content log.head oldest whole t inside begins
                 (kept_is log.shape.format view.records view.under_way log.firsts hv.firsts 0 t waits inside) (old.content from) refl,
@@ -248,10 +248,10 @@ module _ {log : LogValue} (is : IsLog log) (live : log.dead ≡ false) (owed : 0
         )
 
     flushes : of_oldest log ≡ 2 → turn ≡ Flush
-    flushes two = flush_is turn (next.flush (omega (arith, two)))
+    flushes two = flush_turn turn (next.flush (omega (arith, two)))
 
     leads : of_oldest log ≡ 1 → (h : HeadOf) × (turn ≡ Head h) × (h.stamp ≡ log.head + 1)
-    leads one = head_is (log.head + 1) turn (next.head (omega (arith, one)))
+    leads one = head_turn (log.head + 1) turn (next.head (omega (arith, one)))
 
     -- at each moment a cut leaves what it might leave before
     pub turn_leaves : view.ours ≡ true → LeavesOnly (MayLeave old.size log view) old new

@@ -2,6 +2,7 @@
 use Rattle.std.proofs.Common.{◌≡◌, inl, inr, ℕ, ◌+◌, ◌<◌, ◌≤◌, List, [], ◌∷◌, ◌++◌, length, get_or, drop, refl, sym, ◌∙◌, ap}
 use Rattle.std.proofs.Common.{arith, length-drop}
 use Rattle.std.proofs.lemmas.Bool.{cases_eq}
+use Rattle.std.proofs.lemmas.List.{get_or_append_left}
 use Rattle.medium.specs.Medium.{Image, Stays, Holds}
 use Rattle.journal.specs.Places.{Shape, first_home}
 use Rattle.journal.specs.Sectors.{IsRising}
@@ -14,12 +15,6 @@ use Rattle.journal.proofs.Overlay.{records-hide}
 use Rattle.redo_log.specs.Stages.{IsSized}
 use Rattle.redo_log.specs.Held.{View, with_record, view_retired, image_view, written_of, Stores}
 use Rattle.redo_log.proofs.LaidBlocks.{before_home, AreHome-log, Laid-slot, Laid-home, AreHome-write, Laid-oldest, Laid-stays, Laid-more}
-
--- the oldest record stays the oldest where there is one
-pub oldest-append : (records : List (List Entry)) (entries : List Entry) → 0 < length records
-    → get_or (records ++ entries ∷ []) 0 [] ≡ get_or records 0 []
-oldest-append [] entries some = absurd (omega arith)
-oldest-append (r ∷ records) entries some = refl
 
 module _ {shape : Shape} {head : ℕ} {view : View} {steps made turned : ℕ} {old : Image}
     (s : Stores shape head view steps made turned old) where
@@ -126,6 +121,7 @@ module _ {shape : Shape} {head : ℕ} {view : View} {steps made turned : ℕ} {o
           | inl none ↦ λ i low high. absurd (omega (arith, low, alone none))
           | inr some ↦
               let waits : 0 < length view.records = omega (arith, some) in
-              rw (oldest-append view.records view.under_way waits) (λ i low high. s.copied i (omega (arith, low, more waits)) high)
+              rw (get_or_append_left view.records (view.under_way ∷ []) [] 0 waits)
+              (λ i low high. s.copied i (omega (arith, low, more waits)) high)
         ];
       }
