@@ -146,7 +146,8 @@ module _ (image : Image) (at s : ℕ) (numbers : List ℕ) (commit : IsCommitTwo
 
   small_read : All (λ b. b < 2 ^ 31) numbers
   small_read = All-from_get_or (λ (b : ℕ). b < 2147483648) numbers 0 (λ i below.
-      omega (arith, small_there (i / 30) (i % 30) (omega arith) (omega arith) (omega arith), ap (λ (k : ℕ). get_or numbers k 0) (split i below)))
+      let there = small_there (i / 30) (i % 30) (omega arith) (omega arith) (omega arith) in
+      omega (arith, there, ap (λ (k : ℕ). get_or numbers k 0) (split i below)))
 
   -- with the data places
   module _ (placed : HasPlaces image at s (length numbers)) where

@@ -59,7 +59,8 @@ returns-clause-reads g c = record {
       let a = c.read.ensures.follows in
       let b = c.read-2.ensures.follows in (
         g.met.M.Medium.follows_through _ _ _ a.0 b.0,
-        two_looks c.args.sizes.now.home _ _ _ (omega (arith, ends, c.place_of.ensures)) (omega (arith, ends, c.commit_place.ensures)) a.1 b.1,
+        two_looks c.args.sizes.now.home _ _ _ (omega (arith, ends, c.place_of.ensures))
+            (omega (arith, ends, c.commit_place.ensures)) a.1 b.1,
       );
 }
 
@@ -86,6 +87,6 @@ returns-in_err-read-2-clause-reads g c =
     let a = c.read.ensures.follows in
     let b = c.read-2.ensures.follows in
     let through = g.met.M.Medium.follows_through _ _ _ a.0 b.0 in
-    let looks = two_looks c.args.sizes.now.home _ _ _ (omega (arith, ends, c.place_of.ensures)) (omega (arith, ends, c.commit_place.ensures))
-    a.1 b.1 in
+    let looks = two_looks c.args.sizes.now.home _ _ _ (omega (arith, ends, c.place_of.ensures))
+    (omega (arith, ends, c.commit_place.ensures)) a.1 b.1 in
     search rules

@@ -50,12 +50,13 @@ pub returns-in_default : goal.returns-in_default
 returns-in_default g c = record {
   passes = search rules;
   finds =
+      let shape = shape_of c.args.sizes.now in
       let old = g.M.Medium.state c.args.m.now in
       let is = c.slot_of-slot.ensures in
       record {
         some = tt;
         all = λ entries whole.
-            let says = two_says (shape_of c.args.sizes.now) old.content c.args.stamp c.slot_of-slot.result c.requires.format is entries whole in
+            let says = two_says shape old.content c.args.stamp c.slot_of-slot.result c.requires.format is entries whole in
             absurd (rw c.in_default.is at (c.in_ok-count.ensures.all (length (numbers_of entries)) says.committed));
         exact = (
           1,
@@ -70,6 +71,7 @@ returns-in_default g c = record {
 
 pub returns-then-not-branch : goal.returns-then-not-branch
 returns-then-not-branch g c =
+    let shape = shape_of c.args.sizes.now in
     let old = g.M.Medium.state c.args.m.now in
     let counted = g.M.Medium.state c.read_count.new.m in
     let is = c.slot_of-slot.ensures in
@@ -81,7 +83,7 @@ returns-then-not-branch g c =
     c.read_count.ensures.reads c.read_descriptors.ensures.reads (record {
       some = tt;
       all = λ entries whole.
-          let says = two_says (shape_of c.args.sizes.now) old.content c.args.stamp c.slot_of-slot.result c.requires.format is entries whole in
+          let says = two_says shape old.content c.args.stamp c.slot_of-slot.result c.requires.format is entries whole in
           let count = rw c.in-Some.is at (c.in_ok-count.ensures.all (length (numbers_of entries)) says.committed) in
           absurd (rw c.if-not-branch.true at
           (c.in_ok-read_descriptors.ensures.all (numbers_of entries) (sym count) (rw same says.described)));
@@ -135,6 +137,7 @@ returns-then-are_blocks g c =
 
 pub returns-else-are_blocks : goal.returns-else-are_blocks
 returns-else-are_blocks g c =
+    let shape = shape_of c.args.sizes.now in
     let old = g.M.Medium.state c.args.m.now in
     let counted = g.M.Medium.state c.read_count.new.m in
     let is = c.slot_of-slot.ensures in
@@ -151,7 +154,7 @@ returns-else-are_blocks g c =
     c.read_count.ensures.reads c.read_descriptors.ensures.reads (record {
       some = tt;
       all = λ entries whole.
-          let says = two_says (shape_of c.args.sizes.now) old.content c.args.stamp c.slot_of-slot.result c.requires.format is entries whole in
+          let says = two_says shape old.content c.args.stamp c.slot_of-slot.result c.requires.format is entries whole in
           let count = rw c.in-Some.is at (c.in_ok-count.ensures.all (length (numbers_of entries)) says.committed) in
           absurd (bad (numbers_of entries) (rw c.if-not-branch.false at
           (c.in_ok-read_descriptors.ensures.all (numbers_of entries) (sym count) (rw same says.described)))
