@@ -16,7 +16,7 @@ use Rattle.recovery.proofs.SurveyCalls.{each_of_more}
 
 -- a flush, and perhaps reads
 pub few_sent : (old new : State) → SendsUpTo 1 old new → RecoverySends old new
-few_sent old new one = record { most = λ shape has. omega (arith, one); any = omega (arith, one) }
+few_sent old new one = record { most = λ shape has. omega (arith, one); none = λ no. one; any = omega (arith, one) }
 
 all_slots : (format : LogFormat) (slots old new : ℕ) → slots ≤ 64 → new ≤ old + most_start_sends format slots
     → new ≤ old + most_start_sends Two 64
@@ -35,6 +35,7 @@ found_sent old new found is sends =
     ) in
     record {
       most = λ shape has. rw (IsSuper-one shape (shape_of found.sizes) (old.content 0) has.super is.shape.super) all;
+      none = λ no. absurd (no (shape_of found.sizes) is.shape);
       any = all_slots found.sizes.format found.sizes.slots (sent old) (sent new) found.sizes.most_slots all;
     }
 

@@ -120,6 +120,7 @@ recovery_leaves old new leaves = record {
   moments = leaves.all.moments;
   calls = leaves.all.calls;
   sends = λ shape has. start_migrates shape.format shape.slots (sent old) (sent new) (leaves.all.sends.most shape has);
+  sends_one = leaves.all.sends.none;
   looks = leaves.all.looks;
 }
 
@@ -219,6 +220,7 @@ module _ (old mid : State) (found : Recovered) (recovered : IsRecoveredFrom old 
         sends = λ shape has. rw (one_shape shape has)
             (made_migrates found.sizes.format found.sizes.slots (sent old) (sent mid) (sent new) one
             (start.all.sends.most (shape_of found.sizes) has_shape) making);
+        sends_one = λ no. absurd (no (shape_of found.sizes) has_shape);
         looks = looked_before old mid new start.all.looks same;
       }
         where

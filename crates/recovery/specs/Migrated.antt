@@ -132,4 +132,6 @@ pub record MigrationLeaves (old new : State) : Type 0 where
   pub calls : new.calls ≤ old.calls + 6 + 738 * 64
   pub sends : (shape : Shape) → HasShape old.size shape old.content
       → SendsUpTo (most_migration_sends shape.format shape.slots) old new
+  -- where the image has no super, a flush
+  pub sends_one : ((shape : Shape) → ¬ HasShape old.size shape old.content) → SendsUpTo 1 old new
   pub looks : LooksAtLog old new

@@ -75,10 +75,11 @@ pub record SparesTheRest (old new : State) : Type 0 where
       → StandsFor old.size shape old.content array next → 2 ^ 63 ≤ next) → SparesFrom 0 old new
 
 -- How many writes and flushes a recovery makes at most, good or refused: where the image has a
--- super, by its format and its slots, and whatever the image.
+-- super, by its format and its slots; where it has none, a flush; and whatever the image.
 pub record RecoverySends (old new : State) : Type 0 where
   pub most : (shape : Shape) → HasShape old.size shape old.content
       → SendsUpTo (most_start_sends shape.format shape.slots) old new
+  pub none : ((shape : Shape) → ¬ HasShape old.size shape old.content) → SendsUpTo 1 old new
   pub any : SendsUpTo (most_start_sends Two 64) old new
 
 -- What a recovery leaves at each moment of it, good or refused, and how many calls it makes.
