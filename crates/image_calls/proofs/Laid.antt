@@ -1,5 +1,5 @@
 -- What was made of an image on a device.
-use Rattle.std.proofs.Common.{◌≡◌, inl, inr, ◌+◌, ◌*◌, ◌<◌, Some, ◌≤◌, length, ap, sym, subst, arith}
+use Rattle.std.proofs.Common.{◌≡◌, ◌⊎◌, inl, inr, ◌+◌, ◌*◌, ◌<◌, Some, ◌≤◌, length, ap, sym, subst, arith}
 use Rattle.std.proofs.lemmas.Bool.{cases_lt}
 use Rattle.medium.specs.Sent.{sent}
 use Rattle.std.specs.Prelude.{Bool}
@@ -8,7 +8,11 @@ use Rattle.window.specs.Looks.{near_in_sight, none_missed}
 use Rattle.journal.specs.Places.{Shape, first_home, slot_sectors_of}
 use Rattle.recovery.specs.Unread.{MakesNoRead}
 use Rattle.recovery.specs.Formatted.{IsLaid, LayingLeaves}
-use Rattle.recovery.specs.Migrated.{IsMigrationBy, IsMigrationRefusal, MigrationLeaves}
+use Rattle.recovery.specs.Causes.{start_fault_of}
+use Rattle.recovery.specs.Migrated.{IsMigrationBy, IsMigrationRefusal, IsMigrationCause, MigrationLeaves}
+use Rattle.recovery.specs.declared.start_fault.StartFault.TheVariants as start
+use Rattle.medium.specs.declared.fault.MediumFault.{MediumFault}
+use Rattle.medium.specs.declared.fault.MediumFault.TheVariants as kind
 use Rattle.recovery.specs.declared.recovered.Recovered.{Recovered}
 use Rattle.recovery.specs.declared.start_fault.StartFault.{StartFault}
 use Rattle.journal.specs.Values.{shape_of}
@@ -62,12 +66,40 @@ migrated_on first m new held answer was_one on same migrated leaves follows cove
       seen = misses_none m new follows leaves;
     }))
 
+-- the call that the fault names was refused for want of room
+grew : (m after : Window) (why : MediumFault) → IsMigrationCause (state_of m) (state_of after) (start_fault_of why)
+    → (state_of m).refused why < (state_of after).refused why
+grew m after kind.Read cause = cause.kind_grew
+grew m after kind.Write cause = cause.kind_grew
+grew m after kind.Flush cause = cause.kind_grew
+
+no_room : (m after : Window) → length m.outbox ≡ 0 → ComesAfter m after → kept_out m.seen.told.refused < kept_out after.seen.told.refused
+    → sent (state_of m) + m.room < sent (state_of after)
+no_room m after empty follows more = omega (arith, empty, follows.refuses more, follows.room_stays)
+
+full : (m after : Window) (why : StartFault) → length m.outbox ≡ 0 → IsMigrationRefusal (state_of m) (state_of after) why
+    → MigrationLeaves (state_of m) (state_of after) → ComesAfter m after → (why ≡ start.Write) ⊎ (why ≡ start.Flush)
+    → sent (state_of m) + m.room < sent (state_of after)
+full m after why empty refusal leaves follows (inl is) = no_room m after empty follows (omega (
+  arith,
+  grew m after kind.Write (subst (IsMigrationCause (state_of m) (state_of after)) is refusal.cause),
+  leaves.moments.refused_stay kind.Flush,
+))
+full m after why empty refusal leaves follows (inr is) = no_room m after empty follows (omega (
+  arith,
+  grew m after kind.Flush (subst (IsMigrationCause (state_of m) (state_of after)) is refusal.cause),
+  leaves.moments.refused_stay kind.Write,
+))
+
 pub migrated_not : (first m after : Window) (why : StartFault) → m ≡ first → length m.outbox ≡ 0
     → IsMigrationRefusal (state_of m) (state_of after) why → MigrationLeaves (state_of m) (state_of after) → ComesAfter m after
     → IsMigratedNot first after why
 migrated_not first m after why on empty refusal leaves follows =
     subst (λ (w : Window). IsMigratedNot w after why) on (record {
       refusal = refusal;
+      follows = follows;
+      leaves = leaves;
+      full = full m after why empty refusal leaves follows;
       kept = λ shape has room. let most = leaves.sends shape has in kept_same m after follows (omega (arith, empty, room, most));
       seen = misses_none m after follows leaves;
     })

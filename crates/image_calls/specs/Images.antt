@@ -13,6 +13,8 @@ use Rattle.recovery.specs.Migrated.{most_migration_sends}
 use Rattle.recovery.specs.declared.recovered.Recovered.{Recovered}
 use Rattle.recovery.specs.declared.start_fault.StartFault.{StartFault}
 use Rattle.recovery.specs.declared.start_fault.StartFault.TheVariants.{NoMemory}
+use Rattle.recovery.specs.declared.start_fault.StartFault.TheVariants as fault_of_start
+use Rattle.medium.specs.Sent.{sent}
 use Rattle.image_calls.specs.Works.{Work}
 use Rattle.image_calls.specs.declared.image_fault.ImageFault.{ImageFault}
 use Rattle.image_calls.specs.declared.image_fault.ImageFault.TheVariants as fault
@@ -57,10 +59,15 @@ pub record IsMigratedOn (first new : Window) : Type 0 where
   pub waits : WaitFor first new
   pub seen : MissesNone first new
 
--- Why none was. No write and no flush was refused where there was the room that a migration needs
--- of an image of this format with so many slots.
+-- Why none was, by calls of the medium alone. No write and no flush was refused where there was the
+-- room that a migration needs of an image of this format with so many slots. Where one was, those
+-- of this very migration had no room together.
 pub record IsMigratedNot (first after : Window) (why : StartFault) : Type 0 where
   pub refusal : IsMigrationRefusal (state_of first) (state_of after) why
+  pub follows : ComesAfter first after
+  pub leaves : MigrationLeaves (state_of first) (state_of after)
+  pub full : (why ≡ fault_of_start.Write) ⊎ (why ≡ fault_of_start.Flush)
+      → sent (state_of first) + first.room < sent (state_of after)
   pub kept : (shape : Shape) → HasShape (state_of first).size shape (state_of first).content
       → most_migration_sends shape.format shape.slots ≤ first.room
       → kept_out after.seen.told.refused ≡ kept_out first.seen.told.refused
