@@ -246,12 +246,11 @@ pub past_records : (size : ℕ) (shape : Shape) (head : ℕ) (view : View) (imag
 past_records size shape head view image fits waits all both =
     let u = view.under_way in
     let fewer = length-drop 1 view.records in
+    let stamp : head + 1 + length (drop 1 view.records) ≡ head + length view.records = omega (arith, fewer, waits) in
     let same : head + 1 + length (drop 1 view.records ++ u ∷ []) + 1 ≡ head + length (view.records ++ u ∷ []) + 1 =
     omega (arith, length-append view.records (u ∷ []), length-append (drop 1 view.records) (u ∷ []), fewer, waits) in
     record {
       whole = whole_more shape image head view.records u
-          (subst (λ (s : ℕ). IsWhole shape image s u) (omega (arith, fewer, waits))
-          (last_whole shape image (head + 1) (drop 1 view.records) u both.keeps.whole)) all;
-      ours = subst (IsOurs size shape image (with_blocks u view.array)) same
-          (Logged-records size shape (head + 1) _ _ image fits both).ours;
+          (rw stamp at (last_whole shape image (head + 1) (drop 1 view.records) u both.keeps.whole)) all;
+      ours = rw same at (Logged-records size shape (head + 1) _ _ image fits both).ours;
     }

@@ -43,7 +43,7 @@ returns-clause-ok g c view block holds copy =
     ∙ ap (λ (s : Shape). first_of s.format (get_or view.records copy.age []) c.args.place) shape_is in
     on_ok_weaker c.read_copy.result (λ read. read ∙ there.2)
     (c.read_copy.ensures.ok (log.head + copy.age) (get_or view.records copy.age []) slot there.0 first
-    (subst (λ (s : Shape). IsWhole s old.content (log.head + copy.age) (get_or view.records copy.age [])) shape_is there.1))
+    (rw shape_is at there.1))
 
 pub returns-clause-keeps : goal.returns-clause-keeps
 returns-clause-keeps g c = record {

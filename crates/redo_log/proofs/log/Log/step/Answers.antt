@@ -17,6 +17,6 @@ returns g c = record {
       let last : c.count_call.result ≡ Durable = cc told in
       on_ok_here c.make_call.result c.is_err.ensures.value c.if-is_err.false
       (c.make_call.ensures.durable view holds entries ours c.count_call.new.self
-      (subst (λ (p : Progress). IsStepped p c.args.self.now c.count_call.new.self) last c.count_call.ensures));
+      (rw last at c.count_call.ensures));
   leaves = c.make_call.ensures.leaves;
 }

@@ -30,8 +30,7 @@ returns g c =
     let h = c.new.result in
     let stamp : h.stamp ≡ log.head + 1 = c.new.ensures ∙ ap (λ (v : LogValue). v.head + 1) c.self.view_is in
     let passes = c.write.ensures.passes in
-    let adds = subst (λ (b : List ℕ). WritesOnly 1 b old new) c.encode.ensures.spelled
-    (one_write 1 c.encode.result old sound new passes c.write.ensures.sets) in
+    let adds = rw c.encode.ensures.spelled at (one_write 1 c.encode.result old sound new passes c.write.ensures.sets) in
     let cuts = λ (view : View) (holds : HoldsView log old view). head_leaves is live owed sound holds one h stamp new adds in
     record {
       passes = grind (arith, common_steps);
@@ -47,6 +46,6 @@ returns g c =
           on_ok_weaker c.write.result
           (λ wrote. retired_held is live owed sound holds one h stamp new then stepped
           (ahead_held is live owed sound holds one h stamp new c.requires.can.besides passes.size_stays adds.sets
-          (subst (λ (b : List ℕ). Holds 1 b old.content new.content) c.encode.ensures.spelled wrote)))
+          (rw c.encode.ensures.spelled at wrote)))
           c.write.ensures.ok;
     }
