@@ -1,6 +1,6 @@
 -- What guards a log against a cut, after each call of a record's life.
 use Rattle.std.proofs.Common.{◌≡◌, ◌≢◌, ◌⊎◌, inl, inr, ⊎_elim, ℕ, ◌+◌, ◌<◌, ◌≤◌, List, [], ◌∷◌, ◌++◌, length, get_or}
-use Rattle.std.proofs.Common.{drop, ◌∙◌, subst, arith, length-append, length-drop}
+use Rattle.std.proofs.Common.{drop, ◌∙◌, arith, length-append, length-drop}
 use Rattle.std.proofs.lemmas.Bool.{cases_lt}
 use Rattle.std.proofs.lemmas.List.{get_or_append_left}
 use Rattle.medium.specs.Medium.{State, Image, Holds, Gains, Only, IsSound}
@@ -12,7 +12,6 @@ use Rattle.journal.specs.Record.{Entry, with_blocks}
 use Rattle.journal.specs.Layout.{Layout, part_at}
 use Rattle.journal.specs.LayoutLaws.{Laws, IsRecordOf}
 use Rattle.journal.specs.Formats.{layout_of, IsWhole}
-use Rattle.journal.specs.Standing.{IsOurs}
 use Rattle.journal.specs.Staged as staged
 use Rattle.journal.specs.Staged.{HasSlots, Guarded, Resting, KeepsView, IsHomed}
 use Rattle.journal.proofs.Overlay.{records-hide}

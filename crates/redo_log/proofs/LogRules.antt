@@ -1,10 +1,10 @@
 -- What is true of every log, as a caller sees it, whatever its fields are.
-use Rattle.std.proofs.Common.{◌≡◌, ◌≢◌, inl, inr, ⊎_elim, ℕ, suc, ◌+◌, ◌-◌, ◌*◌, ◌^◌, ◌<◌, ◌≤◌, List, [], ◌∷◌, ◌++◌, length, get_or}
+use Rattle.std.proofs.Common.{◌≡◌, ◌≢◌, ⊎_elim, ℕ, suc, ◌+◌, ◌-◌, ◌*◌, ◌^◌, ◌<◌, ◌≤◌, List, [], ◌∷◌, ◌++◌, length, get_or}
 use Rattle.std.proofs.Common.{drop, refl, sym, ◌∙◌}
-use Rattle.std.proofs.Common.{ap, subst, arith, length-drop}
+use Rattle.std.proofs.Common.{ap, subst, arith}
 use Rattle.std.specs.Prelude.{All, Bool, Option, Some, None, Result, sum_by, slice_index_or}
 use Rattle.std.proofs.Math.Nat.{mul-le-mul_left}
-use Rattle.std.proofs.lemmas.Bool.{cases_eq, cases_lt}
+use Rattle.std.proofs.lemmas.Bool.{cases_lt}
 use Rattle.std.proofs.lemmas.List.{length-map}
 use Rattle.std.proofs.lemmas.List.Sums.{sum_by-cons, sum_by-append}
 use Rattle.arrayvec.specs.ArrayVec.{ArrayVec}
@@ -25,7 +25,7 @@ use Rattle.redo_log.specs.Shown.{lists_of, ahead_in, kept_in, shown, Invariant}
 use Rattle.redo_log.specs.Calls.{MakesNext}
 use Rattle.redo_log.specs.Turns.{IsNextTurn, StaysInImage}
 use Rattle.redo_log.specs.Held.{made_of, turned_of, stamps_of}
-use Rattle.redo_log.proofs.RingRecords.{front_is, steps_of_one, few_steps, inside_fewer}
+use Rattle.redo_log.proofs.RingRecords.{front_is, steps_of_one, few_steps}
 
 -- the record under way is durable
 abbrev pub durable_of : LogValue → LogValue

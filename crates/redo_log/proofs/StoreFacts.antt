@@ -19,7 +19,7 @@ use Rattle.redo_log.specs.Value.{begun, died, settled}
 use Rattle.redo_log.specs.Batch.{IsBatch}
 use Rattle.redo_log.specs.Logged.{HasNoRecord}
 use Rattle.redo_log.specs.Stages.{needed_at}
-use Rattle.redo_log.specs.Held.{View, resting_view, with_begun, image_view, written_of, flushed_of, made_of, turned_of}
+use Rattle.redo_log.specs.Held.{View, resting_view, with_begun, image_view, made_of, turned_of}
 use Rattle.redo_log.specs.Held.{needed_of, MayLeave, Safe, Shields, stamps_of, HoldsView}
 use Rattle.redo_log.proofs.RecordSteps.{none_written, steps_some}
 use Rattle.redo_log.proofs.CoveredRecord.{needed_covered}

@@ -1,12 +1,12 @@
 -- What a medium stores of a log, after each call of a record's life.
-use Rattle.std.proofs.Common.{◌≡◌, inl, inr, ℕ, ◌+◌, ◌<◌, ◌≤◌, List, [], ◌∷◌, ◌++◌, length, get_or, drop, refl, sym, ◌∙◌, ap}
+use Rattle.std.proofs.Common.{◌≡◌, inl, inr, ℕ, ◌+◌, ◌<◌, ◌≤◌, List, [], ◌∷◌, length, get_or, drop, refl, sym, ◌∙◌, ap}
 use Rattle.std.proofs.Common.{arith, length-drop}
 use Rattle.std.proofs.lemmas.Bool.{cases_eq}
 use Rattle.std.proofs.lemmas.List.{get_or_append_left}
 use Rattle.medium.specs.Medium.{Image, Stays, Holds}
 use Rattle.journal.specs.Places.{Shape, first_home}
 use Rattle.journal.specs.Sectors.{IsRising}
-use Rattle.journal.specs.Record.{Entry, numbers_of}
+use Rattle.journal.specs.Record.{numbers_of}
 use Rattle.journal.specs.Layout.{Layout, part_at}
 use Rattle.journal.specs.Formats.{layout_of}
 use Rattle.journal.specs.Staged.{HasSlots}

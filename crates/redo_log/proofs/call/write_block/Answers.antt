@@ -1,6 +1,3 @@
-use Rattle.std.proofs.Common.{sym, subst}
-use Rattle.journal.specs.declared.log_format.LogFormat.{LogFormat}
-use Rattle.redo_log.specs.Calls.{Write, placed, MakesCall}
 use Rattle.redo_log.proofs.RecordCalls.{write_makes}
 use Rattle.redo_log.proofs.call.write_block.Goals as goal
 

@@ -4,7 +4,6 @@ use Rattle.medium.proofs.Moments.{quiet_leaves}
 use Rattle.medium.specs.Medium.{LooksOnly}
 use Rattle.journal.specs.Places.{Shape, first_home}
 use Rattle.journal.specs.Values.{shape_of}
-use Rattle.journal.specs.Formats.{IsWhole}
 use Rattle.journal.specs.Copies.{first_of}
 use Rattle.redo_log.specs.Value.{LogValue}
 use Rattle.redo_log.specs.Firsts.{first_kept}

@@ -1,7 +1,5 @@
-use Rattle.std.proofs.Common.{◌≡◌, subst, arith}
-use Rattle.redo_log.specs.declared.progress.Progress.{Progress}
+use Rattle.std.proofs.Common.{◌≡◌, arith}
 use Rattle.redo_log.specs.declared.progress.Progress.TheVariants.{Durable}
-use Rattle.redo_log.specs.Value.{IsStepped}
 use Rattle.redo_log.proofs.HeldLog.{on_ok_here}
 use Rattle.std.proofs.lemmas.Grind.{common_steps}
 use Rattle.redo_log.proofs.log.Log.step.Goals as goal

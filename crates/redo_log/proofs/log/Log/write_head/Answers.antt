@@ -1,12 +1,10 @@
-use Rattle.std.proofs.Common.{◌≡◌, ℕ, ◌+◌, ◌<◌, ◌∙◌, List, ap, subst, arith}
+use Rattle.std.proofs.Common.{◌≡◌, ◌+◌, ◌<◌, ◌∙◌, ap, arith}
 use Rattle.std.proofs.lemmas.Result.{on_ok_weaker}
-use Rattle.medium.specs.Medium.{Holds}
 use Rattle.medium.proofs.Moments.{one_call}
 use Rattle.medium.proofs.SectorsRead.{no_looks}
 use Rattle.medium.proofs.SparedSectors.{spared_write}
 use Rattle.journal.specs.Places.{first_home, sectors_of}
 use Rattle.redo_log.specs.Value.{LogValue, of_oldest}
-use Rattle.redo_log.specs.Calls.{WritesOnly}
 use Rattle.redo_log.specs.Held.{View, HoldsView}
 use Rattle.redo_log.proofs.OneSector.{one_write}
 use Rattle.redo_log.proofs.RecordCalls.{either_way}

@@ -1,7 +1,5 @@
-use Rattle.std.proofs.Common.{◌<◌, sym, subst}
+use Rattle.std.proofs.Common.{◌<◌}
 use Rattle.medium.proofs.SectorsRead.{no_looks, flush_looks, look_below}
-use Rattle.redo_log.specs.declared.turn.Turn.{Turn}
-use Rattle.redo_log.specs.Turns.{MakesTurn, ReadsBefore}
 use Rattle.redo_log.proofs.turn.Turn.make.Goals as goal
 
 pub returns-in-Copy-clause-makes : goal.returns-in-Copy-clause-makes
