@@ -98,7 +98,3 @@ pub enough_slots : (least size : ℕ) (shape : Shape) (content : Image) → imag
 enough_slots least size shape content has not few =
     let same : few.shape ≡ shape = IsSuper-one few.shape shape (content 0) few.has.super has.super in
     not (subst (λ (s : Shape). (s.format ≡ One) × (s.slots < least)) same (few.one, few.few))
-
--- no log has fewer slots than none
-pub no_few : (old : State) → ¬ HasFewSlots 0 old.size old.content
-no_few old few = let below = few.few in omega (arith, below)

@@ -1,13 +1,12 @@
 -- The sectors behind the image are spared.
-use Rattle.std.proofs.Common.{◌≡◌, ⊎_elim, ℕ, ◌+◌, ◌≤◌, refl, subst, arith}
-use Rattle.medium.specs.Medium.{State, CutLeaves, IsSound}
-use Rattle.medium.specs.Moments.{LeavesOnly, StaysWithin, IsQuiet, SparesFrom}
-use Rattle.medium.proofs.Moments.{weaker, at_exit, updated, updated_here}
+use Rattle.std.proofs.Common.{◌≡◌, ℕ, ◌+◌, ◌≤◌, refl, subst, arith}
+use Rattle.medium.specs.Medium.{State, IsSound}
+use Rattle.medium.specs.Moments.{LeavesOnly, IsQuiet, SparesFrom}
+use Rattle.medium.proofs.Moments.{at_exit, updated, updated_here}
 use Rattle.medium.proofs.SparedSectors.{HasSpared, spared_quiet, spared_joined}
 use Rattle.journal.specs.Places.{sectors_of}
 use Rattle.journal.specs.Values.{shape_of}
 use Rattle.journal.proofs.SectorNumbers.{IsSuper-one}
-use Rattle.recovery.specs.Copies.{freed_at}
 use Rattle.recovery.specs.Found.{IsFound}
 use Rattle.recovery.specs.Recovered.{SparesTheRest}
 use Rattle.recovery.specs.declared.found.Found.{Found}
@@ -23,15 +22,6 @@ spared_by first old new sound content moments = record {
       (at_exit (HasSpared first old) old new sound moments (updated new.content s c) (one_changed new s c sound left) s le);
   moments = moments;
 }
-
--- calls that write in places before these sectors alone
-pub spared_within : (first : ℕ) (places : ℕ → Type 0) (old new : State) → IsSound new → ((s : ℕ) → first ≤ s → ¬ places s)
-    → ((x : ℕ) → ¬ places x → new.content x ≡ old.content x) → StaysWithin (freed_at places old.may_leave) old new
-    → SparesFrom first old new
-spared_within first places old new sound apart elsewhere within = spared_by first old new sound
-    (λ s le. elsewhere s (apart s le))
-    (weaker (CutLeaves (freed_at places old.may_leave)) (HasSpared first old) old new
-    (λ image cut s le. ⊎_elim (λ was. was) (λ place. absurd (apart s le place)) (cut s)) within)
 
 -- calls that wrote nothing
 pub quiet_spares : (old new : State) → IsSound old → IsQuiet old new → SparesTheRest old new

@@ -10,7 +10,7 @@ use Rattle.spec.specs.Blocks.{Array}
 use Rattle.medium.proofs.CallsSent.{none_sent, flush_sends}
 use Rattle.medium.proofs.Moments.{joined_same, weaker, at_exit, only_image, quiet_call, quiet_joined, quiet_leaves}
 use Rattle.medium.proofs.SectorsRead.{no_looks, looks_joined}
-use Rattle.medium.proofs.SparedSectors.{spared_quiet, spared_joined, spared_behind}
+use Rattle.medium.proofs.SparedSectors.{HasSpared, spared_quiet, spared_joined, spared_behind}
 use Rattle.journal.specs.Places.{Shape, first_home, sectors_of, limit_of}
 use Rattle.journal.specs.Sectors.{IsSuper}
 use Rattle.journal.specs.Values.{shape_of}
@@ -32,7 +32,7 @@ use Rattle.recovery.proofs.CopiedRecords.{log_ends, not_in_log, not_behind}
 use Rattle.recovery.proofs.FoundRecords.{quiet_before, quiet_after, found_stands, found_matches}
 use Rattle.recovery.proofs.ReplayedImages.{copies_ours, new_head_fresh, fresh_ours}
 use Rattle.recovery.proofs.SectorsRead.{looked_later, looked_on}
-use Rattle.recovery.proofs.SparedSectors.{spared_within, quiet_spares, found_spares}
+use Rattle.recovery.proofs.SparedSectors.{spared_by, quiet_spares, found_spares}
 use Rattle.recovery.proofs.SurveyCalls.{tries_moved, most_start, few_starts}
 
 -- before the first call an image that is allowed stands for itself
@@ -235,8 +235,11 @@ module _ (least : ℕ) (old mid seen : State) {result : Result (Unit {0}) Medium
         (λ image cut. inl (copied_ours array next ours image cut)) copying.copies.moments
 
     copied_spares : SparesFrom (sectors_of (shape_of found.sizes)) seen copied
-    copied_spares = spared_within (sectors_of shape) (AreTargets found seen.content) seen copied copying.sound
-        (not_behind shape seen.content found.head found.count) copying.copies.elsewhere copying.copies.moments
+    copied_spares =
+        let apart = not_behind shape seen.content found.head found.count in
+        spared_by (sectors_of shape) seen copied copying.sound (λ s le. copying.copies.elsewhere s (apart s le))
+        (weaker (CutLeaves (freed_at (AreTargets found seen.content) seen.may_leave)) (HasSpared (sectors_of shape) seen) seen copied
+        (λ image cut s le. ⊎_elim (λ was. was) (λ place. absurd (apart s le place)) (cut s)) copying.copies.moments)
 
     -- and the copies
     pub copies_leave : LeavesAtLeast least old copied
