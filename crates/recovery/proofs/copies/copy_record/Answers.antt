@@ -46,10 +46,9 @@ returns-then-branch-clause-copies g c =
     let shape = shape_of c.args.sizes.now in
     let whole = c.requires.whole in
     let is = (found g at).all whole.0 whole.1 in
-    let sound = g.met.M.Medium.sound c.args.m.now in
     copies_on (g.met.M.Medium.sound c.read_record.new.m)
     (λ x h. (whole.0, whole.1, subst (λ (l : List ℕ). IsHomeOf shape l x) is.numbers_are h))
-    (none_copies sound c.read_record.ensures.passes (omega arith) c.read_record.ensures.passes.cause)
+    (none_copies (g.met.M.Medium.sound c.args.m.now) c.read_record.ensures.passes (omega arith) c.read_record.ensures.passes.cause)
     (all_pass c.copy_blocks.ensures.copies) (most_copied c.args.sizes.now.format _ (blocks g at).few) (search rules)
 
 pub returns-then-branch-clause-done : goal.returns-then-branch-clause-done
