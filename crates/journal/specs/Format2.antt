@@ -9,8 +9,8 @@ use Rattle.journal.specs.SectorsTwo.{IsDescriptorTwo, IsCommitTwo}
 use Rattle.journal.specs.Record.{Entry, block_of}
 use Rattle.journal.specs.Layout.{Layout}
 
--- At this offset of a slot these bytes carry this stamp: they spell a descriptor or a commit, or are
--- those of a data place, which carries whatever number it begins with.
+-- At this offset of a slot these bytes carry this stamp: they spell a descriptor or a commit, or
+-- are those of a data place, which carries whatever number it begins with.
 pub record Carries2 (o stamp : ℕ) (bytes : List ℕ) : Type 0 where
   pub most : stamp < 2 ^ 64
   pub descriptor : o < 8 → (count : ℕ) × (numbers : List ℕ) × (firsts : List (List ℕ))
