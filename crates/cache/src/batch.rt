@@ -170,7 +170,7 @@ impl Batch {
         ensures thawed { self.new ≡ frozen.old }
     {
         self.parts.arrange();
-        frozen.trade(&mut self.parts);
+        frozen.swap(&mut self.parts);
     }
 
     // The same where the place of the address is known, block by block.

@@ -110,7 +110,7 @@ impl Frozen {
     }
 
     /// Takes parts whose blocks are in order, and leaves its own in their stead.
-    pub(crate) fn trade(&mut self, parts: &mut Parts)
+    pub(crate) fn swap(&mut self, parts: &mut Parts)
         requires { IsArranged parts.old }
         ensures took { self.new ≡ view_of parts.old }
         ensures gave { view_of parts.new ≡ self.old }
