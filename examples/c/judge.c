@@ -3,7 +3,9 @@
  * after the first so many of the accepted writes, in order, none in part: all that were promised, and
  * past the accepted ones at most the one in progress, whole.
  *
- * judge [LIVES [FIRST SEED]] */
+ * judge [LIVES [FIRST SEED]]
+ *
+ * JUDGED is the name of the device's file. It is built for one device: make judge DEVICE=yours.c. */
 #include "device.h"
 #include "gadget.h"
 #include "image.h"
@@ -14,6 +16,10 @@
 #include <string.h>
 
 enum { BLOCKS = 40, SLOTS = 3, MOST = 4, WRITES = 400, SECTORS = 2 + 249 * SLOTS + BLOCKS + 3 };
+#ifndef JUDGED
+#define JUDGED "a device"
+#endif
+
 enum { SPAN = 8, RUN = 16, BEHIND = 0xC7 };
 
 static const struct usbdisk_identity who = { "EXAMPLE ", "JUDGE           ", "0001",
@@ -312,6 +318,7 @@ int main(int count, char **words)
     seed = (count > 2 ? strtoull(words[2], NULL, 0) : 1) * 0x9E3779B97F4A7C15u;
     if (!seed)
         seed = 1; /* at 0 the generator stands still */
+    printf("%s: %ld lives in each format\n", JUDGED, lives);
     for (uint32_t format = 1; format <= 2; format++) {
         bool good = make_image(format);
         for (long life = 0; good && life < lives; life++) {
