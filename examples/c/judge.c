@@ -10,6 +10,7 @@
 #include "gadget.h"
 #include "image.h"
 #include "usbdisk.h"
+#include <errno.h>
 #include <limits.h>
 #include <stdio.h>
 #include <stdlib.h>
@@ -312,10 +313,27 @@ static bool make_image(uint32_t format)
     return device_flush();
 }
 
+/* A number in digits, from `least` to `most`, and nothing else; else false. */
+static bool read_number(const char *text, uint64_t least, uint64_t most, uint64_t *number)
+{
+    char *end;
+    errno = 0;
+    if (*text < '0' || *text > '9')
+        return false;
+    *number = strtoull(text, &end, 10);
+    return !errno && !*end && *number >= least && *number <= most;
+}
+
 int main(int count, char **words)
 {
-    long lives = count > 1 ? atol(words[1]) : 1000;
-    seed = (count > 2 ? strtoull(words[2], NULL, 0) : 1) * 0x9E3779B97F4A7C15u;
+    uint64_t most = 1000, first = 1;
+    if (count > 3 || (count > 1 && !read_number(words[1], 1, LONG_MAX, &most)) ||
+        (count > 2 && !read_number(words[2], 0, UINT64_MAX, &first))) {
+        fprintf(stderr, "judge [LIVES [FIRST SEED]]: numbers in digits, of lives at least 1\n");
+        return 2;
+    }
+    long lives = (long)most;
+    seed = first * 0x9E3779B97F4A7C15u;
     if (!seed)
         seed = 1; /* at 0 the generator stands still */
     printf("%s: %ld lives in each format\n", JUDGED, lives);
