@@ -1,7 +1,8 @@
 /* Judges a device (device.h): lives of a disk over it, each with random WRITEs, READs and SYNCHRONIZE
- * CACHEs until the power is cut at a random call of the device. The next start must find the blocks
- * after the first so many of the accepted writes, in order, none in part: all that were promised, and
- * past the accepted ones at most the one in progress, whole.
+ * CACHEs until the power is cut at a random call of the device, in every other life at the next flush
+ * behind it, when all that it is to keep is written. The next start must find the blocks after the
+ * first so many of the accepted writes, in order, none in part: all that were promised, and past the
+ * accepted ones at most the one in progress, whole.
  *
  * judge [LIVES [FIRST SEED]]
  *
@@ -44,7 +45,8 @@ static struct {
 static const struct usbdisk_device name;
 static uint8_t image[SECTORS * 512];
 static uint64_t seed;
-static long left;
+static long left;      /* calls of the device until the power goes */
+static bool goes_late; /* it goes at the next flush behind these */
 static const char *wrong;
 
 static unsigned random_below(unsigned most)
@@ -69,7 +71,7 @@ static bool write_run(uint64_t sector, const uint8_t *bytes, size_t count)
     backwards = !backwards;
     for (size_t i = 0; i < count; i++) {
         size_t at = backwards ? count - 1 - i : i;
-        if (left-- == 0)
+        if (left-- <= 0 && !goes_late)
             return false;
         if (!device_write(sector + at, bytes + at * 512))
             return fails("the device refuses a call");
@@ -92,7 +94,7 @@ static bool persist(struct usbdisk *disk)
                 return false;
             continue;
         }
-        if (left-- == 0)
+        if (left-- <= 0)
             return false;
         if (!device_flush())
             return fails("the device refuses a call");
@@ -313,6 +315,20 @@ static bool make_image(uint32_t format)
     return device_flush();
 }
 
+/* A life, and what a start finds behind its cut. */
+static bool play_life(uint32_t format, bool is_late)
+{
+    struct usbdisk disk = USBDISK_NONE;
+    bool good = start(&disk, format);
+    left = random_below(300);
+    goes_late = is_late;
+    if (good)
+        live(&disk);
+    usbdisk_stop(&disk);
+    left = LONG_MAX;
+    return !wrong && device_cut() && finds_what_it_may(format);
+}
+
 /* A number in digits, from `least` to `most`, and nothing else; else false. */
 static bool read_number(const char *text, uint64_t least, uint64_t most, uint64_t *number)
 {
@@ -340,15 +356,7 @@ int main(int count, char **words)
     for (uint32_t format = 1; format <= 2; format++) {
         bool good = make_image(format);
         for (long life = 0; good && life < lives; life++) {
-            struct usbdisk disk = USBDISK_NONE;
-            left = LONG_MAX;
-            good = start(&disk, format);
-            left = random_below(300);
-            if (good)
-                live(&disk);
-            usbdisk_stop(&disk);
-            left = -1;
-            good = !wrong && device_cut() && finds_what_it_may(format);
+            good = play_life(format, life % 2);
             if (!good)
                 printf("format %u, life %ld: %s\n", format, life, wrong ? wrong : "no cut");
         }
