@@ -1,5 +1,9 @@
 /* The store behind a stack that has SCSI in it: the callbacks, and what they need. Then a host in their
- * place, which cuts the power: what was synchronised is there after. Last a device that refuses a call. */
+ * place, which cuts the power: what was promised is there after. Last a device that refuses a call.
+ *
+ * TinyUSB shows its host no write cache, so that no host sends SYNCHRONIZE CACHE: each write is made
+ * durable before it is answered. Where your stack shows a cache (MODE SENSE, page 08h, WCE), and hands
+ * SYNCHRONIZE CACHE and FUA on, build with -DSHOWS_CACHE=1. */
 #include "device.h"
 #include "gadget.h"
 #include "image.h"
@@ -8,6 +12,10 @@
 #include <stdio.h>
 #include <stdlib.h>
 #include <string.h>
+
+#ifndef SHOWS_CACHE
+#define SHOWS_CACHE 0
+#endif
 
 enum { BLOCKS = 200, SLOTS = 4, SECTORS = 2 + 249 * SLOTS + BLOCKS, SPAN = 8, RUN = 16 };
 
@@ -78,22 +86,33 @@ int32_t tud_msc_read10_cb(uint8_t lun, uint32_t lba, uint32_t offset, void *buff
     return code ? -1 : (int32_t)bufsize;
 }
 
+/* All that was written is durable. */
+static bool synchronise(void)
+{
+    uint32_t code = usbdisk_store_sync(&store);
+    return carry_out() && !code;
+}
+
 int32_t tud_msc_write10_cb(uint8_t lun, uint32_t lba, uint32_t offset, uint8_t *buffer, uint32_t bufsize)
 {
     (void)lun;
     if (offset)
         return -1;
     uint32_t code = usbdisk_store_write(&store, lba, buffer, bufsize);
-    return carry_out() && !code ? (int32_t)bufsize : -1;
+    return carry_out() && !code && (SHOWS_CACHE || synchronise()) ? (int32_t)bufsize : -1;
 }
 
 int32_t tud_msc_scsi_cb(uint8_t lun, const uint8_t command[16], void *buffer, uint16_t bufsize)
 {
     (void)lun, (void)buffer, (void)bufsize;
-    if (command[0] != 0x35)
+    switch (command[0]) {
+    case 0x1B: /* START STOP UNIT. (TinyUSB asks by tud_msc_start_stop_cb: do the same there.) */
+    case 0x35: /* SYNCHRONIZE CACHE(10) */
+    case 0x91: /* SYNCHRONIZE CACHE(16) */
+        return synchronise() ? 0 : -1;
+    default:
         return -1;
-    uint32_t code = usbdisk_store_sync(&store);
-    return carry_out() && !code ? 0 : -1;
+    }
 }
 
 /* While the bus is idle. False at the end of the work, and on a store that is dead: there is none left. */
@@ -105,7 +124,7 @@ static bool step(void)
 
 /* ---- a start, and a host */
 
-static const uint8_t synchronize[16] = { 0x35 };
+static const uint8_t synchronize[3][16] = { { 0x35 }, { 0x91 }, { 0x1B } };
 
 static void must(bool good, const char *what)
 {
@@ -151,11 +170,13 @@ static bool has_blocks(uint32_t lba, unsigned char fill)
     return tud_msc_read10_cb(0, lba, 0, bytes, sizeof bytes) == sizeof bytes && !memcmp(bytes, wanted, sizeof bytes);
 }
 
+/* A host that is shown no cache sends no sync: then what was written is there. */
 static void live(unsigned round)
 {
     for (uint32_t lba = 0; lba < BLOCKS; lba += SPAN)
         must(write_blocks(lba, (unsigned char)(round + lba)), "a write");
-    must(!tud_msc_scsi_cb(0, synchronize, NULL, 0), "a sync");
+    if (SHOWS_CACHE || round % 2)
+        must(!tud_msc_scsi_cb(0, synchronize[round / 2 % 3], NULL, 0), "a sync");
     while (round % 3 == 0 && step())
         ;
     restart();
@@ -180,12 +201,14 @@ static void is_dead(void)
 }
 
 /* Writes, synchronises and makes all steps, on a device that refuses its call of this number. Answers
- * whether it was reached. What was synchronised is there behind a cut, and a write is there whole or not. */
+ * whether it was reached. What was promised is there behind a cut, and a write is there whole or not. */
 static bool refuse_one(uint32_t call, unsigned char was, unsigned char fill)
 {
     refuses = call;
-    bool is_written = write_blocks(0, fill) && write_blocks(SPAN, fill);
-    bool is_synchronised = is_written && !tud_msc_scsi_cb(0, synchronize, NULL, 0);
+    bool is_begun = write_blocks(0, fill), is_written = is_begun && write_blocks(SPAN, fill);
+    bool is_synchronised = is_written && !tud_msc_scsi_cb(0, synchronize[0], NULL, 0);
+    bool first = is_synchronised || (!SHOWS_CACHE && is_begun);
+    bool second = is_synchronised || (!SHOWS_CACHE && is_written);
     while (is_synchronised && step())
         ;
     bool is_reached = refuses == 0;
@@ -194,10 +217,10 @@ static bool refuse_one(uint32_t call, unsigned char was, unsigned char fill)
         is_dead();
     must(is_reached || is_synchronised, "a call fails, and the device refused none");
     restart();
-    must(has_blocks(0, fill) || (!is_synchronised && has_blocks(0, was)), "a write is in part, or lost");
-    must(has_blocks(SPAN, fill) || (!is_synchronised && has_blocks(SPAN, was)), "a write is in part, or lost");
+    must(has_blocks(0, fill) || (!first && has_blocks(0, was)), "a write is in part, or lost");
+    must(has_blocks(SPAN, fill) || (!second && has_blocks(SPAN, was)), "a write is in part, or lost");
     must(has_blocks(0, fill) || has_blocks(SPAN, was), "the second write is there without the first");
-    must(write_blocks(0, was) && write_blocks(SPAN, was) && !tud_msc_scsi_cb(0, synchronize, NULL, 0), "the next writes");
+    must(write_blocks(0, was) && write_blocks(SPAN, was) && !tud_msc_scsi_cb(0, synchronize[0], NULL, 0), "the next writes");
     return is_reached;
 }
 
@@ -207,6 +230,7 @@ static void misuse(void)
     uint8_t bytes[512] = { 0 };
     uint64_t sector;
     size_t count;
+    must(tud_msc_scsi_cb(0, bytes, NULL, 0) < 0, "a command that is none of the three");
     must(usbdisk_store_write(&store, BLOCKS, bytes, 512) == USBDISK_BAD_RANGE, "a block behind the last one");
     must(usbdisk_store_take_run(&store, &sector, bytes, 0, &count) == USBDISK_BAD_LENGTH, "room for no sector");
     must(usbdisk_store_take_run(&store, &sector, bytes, 511, &count) == USBDISK_BAD_LENGTH, "room for a part of a sector");
@@ -230,11 +254,12 @@ int main(void)
     must(blocks == BLOCKS && size == 512, "the capacity");
     for (unsigned round = 1; round <= 20; round++)
         live(round);
-    must(write_blocks(0, 1) && write_blocks(SPAN, 1) && !tud_msc_scsi_cb(0, synchronize, NULL, 0), "the first writes");
+    must(write_blocks(0, 1) && write_blocks(SPAN, 1) && !tud_msc_scsi_cb(0, synchronize[0], NULL, 0), "the first writes");
     uint32_t calls = 1;
     while (refuse_one(calls, 1, 2))
         calls++;
     misuse();
-    printf("a stack with SCSI in it: 20 cuts and %u refused calls, all that was synchronised is there\n", calls - 1);
+    printf("a stack with SCSI in it, %s: 20 cuts and %u refused calls, all that was promised is there\n",
+           SHOWS_CACHE ? "a write cache shown" : "no write cache shown", calls - 1);
     return 0;
 }
