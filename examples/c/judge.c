@@ -352,6 +352,7 @@ int main(int count, char **words)
     seed = first * 0x9E3779B97F4A7C15u;
     if (!seed)
         seed = 1; /* at 0 the generator stands still */
+    setvbuf(stdout, NULL, _IOLBF, 0);
     printf("%s: %ld lives in each format\n", JUDGED, lives);
     for (uint32_t format = 1; format <= 2; format++) {
         bool good = make_image(format);
