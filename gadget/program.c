@@ -10,8 +10,6 @@
 #include <string.h>
 #include <time.h>
 
-const char version[] = VERSION;
-
 /* A signal's handler and the library's memory know of no struct. */
 static volatile sig_atomic_t asked_to_end;
 static const char *name = "";

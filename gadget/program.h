@@ -6,9 +6,6 @@
 #include <stdbool.h>
 #include <stdint.h>
 
-/* The version of `--version`. */
-extern const char version[];
-
 /* Opens the null device in place of standard streams that are closed, so that no image takes their number, ignores SIGPIPE,
  * and lets SIGTERM and SIGINT come in wait_for alone. `name` is put before each message. False: a call of the system failed. */
 bool program_begin(const char *name);

@@ -324,7 +324,7 @@ int main(int count, char **words)
     if (!program_begin("usbdisk-usbip"))
         return STATUS_FILE;
     if (count == 2 && (!strcmp(words[1], "--help") || !strcmp(words[1], "--version"))) {
-        puts(words[1][2] == 'h' ? usage : version);
+        puts(words[1][2] == 'h' ? usage : "usbdisk-usbip " VERSION);
         return fflush(stdout) ? STATUS_FILE : 0;
     }
     if (read_options(&options, words + 1))
