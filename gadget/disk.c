@@ -182,7 +182,7 @@ static bool refuse_start(struct disk *disk, uint32_t fault)
         [USBDISK_NO_MEMORY] = "no memory",
         [USBDISK_WRITE_REFUSED] = "refused: no room in the outbox",
         [USBDISK_FLUSH_REFUSED] = "refused: no room in the outbox",
-        [USBDISK_BAD_SUPER] = "no image: sector 0 is not ours (make one with `usbdisk format`)",
+        [USBDISK_BAD_SUPER] = "no image: sector 0 is not ours (docs/GADGET.md tells how to make one)",
         [USBDISK_BAD_VERSION] = "refused: an image of a later version",
         [USBDISK_BAD_SIZE] = "refused: the sizes in sector 0 do not fit; it was cut off, or changed",
         [USBDISK_BAD_HEAD] = "refused: sector 1 is no head; the device breaks its promise",

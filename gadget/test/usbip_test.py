@@ -330,7 +330,7 @@ def it_refuses_by_name():
     for words in ([], ["a", "b"], ["--port"], ["a", "--port", "x"], ["a", "--port", "65536"], ["a", "--packet", "63"], ["a", "--no", "1"]):
         run = subprocess.run([PROGRAM, *words], stderr=subprocess.PIPE, timeout=120, check=False)
         assert run.returncode == 2 and run.stderr.startswith(b"usbdisk-usbip IMAGE"), words
-    for word, begin in (("--help", b"usbdisk-usbip IMAGE"), ("--version", b"usbdisk-usbip 0.")):
+    for word, begin in (("--help", b"usbdisk-usbip IMAGE"), ("--version", b"usbdisk-usbip ")):
         assert subprocess.run([PROGRAM, word], stdout=subprocess.PIPE, check=True).stdout.startswith(begin), word
 
 
