@@ -19,6 +19,6 @@ pub use fault::{FileCall, FileFault};
 pub use file::DeviceFile;
 pub use meter::Meter;
 pub use moving::carry_moved;
-pub use opening::{FirstSectors, OpenFault, show_from};
+pub use opening::{FirstSectors, OpenFault};
 pub use run::Run;
 pub use system::SystemFile;

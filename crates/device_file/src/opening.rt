@@ -1,16 +1,14 @@
 //! From a file that is open to a window over it.
 ghost use Rattle.std.specs.Prelude.{◌≡◌, ◌*◌, ◌/◌, ◌<◌, ◌≤◌, ◌++◌};
 ghost use Rattle.std.specs.Prelude.{IfOk, IfErr, OnOk, length, drop, min};
-ghost use Rattle.medium.specs.Moments.{IsFlushed, IsUnchanged};
+ghost use Rattle.medium.specs.Moments.{IsFlushed};
 ghost use Rattle.medium.specs.Writes.{sector_of};
-ghost use Rattle.inlet.specs.Inlet.{AreHeld};
 ghost use Rattle.window.specs.Window.{fresh, state_of};
 ghost use Rattle.device_file.specs.Reads.{AreRead};
 ghost use Rattle.device_file.specs.First.{IsUnopened, SpellsSuper, near_of};
 
 use crate::fault::{FileCall, FileFault};
 use crate::file::DeviceFile;
-use inlet::Inlet;
 use journal::Super;
 use std::alloc::Global;
 use std::io::ErrorKind;
@@ -153,24 +151,4 @@ fn put_first(to: &mut [u8], from: &[u8])
     ensures { to.new ≡ from.now ++ drop (length from.now) to.old }
 {
     to[..from.len()].copy_from_slice(from);
-}
-
-/// Reads sectors of a file, and shows them to a medium. It answers whether the medium took them.
-///
-/// # Errors
-/// The read that was refused. The medium is then as it was.
-pub fn show_from<D: DeviceFile, M: Inlet>(
-    file: &D,
-    medium: &mut M,
-    first: u64,
-    to: &mut [u8],
-) -> Result<bool, FileFault>
-    ensures shown { IfOk result (λ taken. M.shown first to.new taken medium.old medium.new) }
-    ensures size { (M.state medium.new).size ≡ (M.state medium.old).size }
-    ensures unchanged { AreHeld (M.state medium.old).content first (length to.new / 512) to.new
-        → IsUnchanged (M.state medium.old) (M.state medium.new) }
-    ensures err { IfErr result (λ fault. (fault.call ≡ FileCall.Read) × (medium.new ≡ medium.old)) }
-{
-    file.read(first, to)?;
-    Ok(medium.show(first, to))
 }
