@@ -97,10 +97,23 @@ pub record IsCopying (holds : ℕ → List ℕ → Type 0) (first count at : ℕ
   pub were_read : AreReadFrom holds first blocks
   pub puts : Puts (some_writes at blocks) old new waited waits
 
+-- where it was the file that is read, behind so many of so many sectors it refused a read of more
+abbrev pub MissesNext : (ℕ → ℕ → Type 0) → ℕ → ℕ → ℕ → CopyFault → Type 0
+MissesNext refuses first count read (fault.From why) =
+    (more : ℕ) × (1 ≤ more) × (read + more ≤ count) × refuses (first + read) more
+MissesNext refuses first count read (fault.To why) = Unit {0}
+
+-- the one file is read, and the other written
+abbrev pub NamesCall : CopyFault → Type 0
+NamesCall (fault.From why) = why.call ≡ call.Read
+NamesCall (fault.To why) = why.call ≡ call.Write
+
 -- So many were read at most, and the other was asked for a first part of what waited and of their
--- writes; where it refused a call, that is the last of these.
-pub record IsCopiedFrom (holds : ℕ → List ℕ → Type 0) (first count at : ℕ) (old new : Told)
-    (waited : List DeviceCall) (why : CopyFault) : Type 0 where
+-- writes; where it refused a call, that is the last of these. Else the read that comes next was
+-- refused.
+pub record IsCopiedFrom (holds : ℕ → List ℕ → Type 0) (refuses : ℕ → ℕ → Type 0)
+    (first count at : ℕ) (old new : Told) (waited : List DeviceCall) (why : CopyFault)
+    : Type 0 where
   pub blocks : List (List ℕ)
   pub count_is : length blocks ≤ count
   pub were_read : AreReadFrom holds first blocks
@@ -108,20 +121,23 @@ pub record IsCopiedFrom (holds : ℕ → List ℕ → Type 0) (first count at : 
   pub rest : List DeviceCall
   pub parts : waited ++ some_writes at blocks ≡ part ++ rest
   pub told_is : new ≡ asked_until why part old
+  pub misses : MissesNext refuses first count (length blocks) why
+  pub named : NamesCall why
 
 -- So many sectors were to be copied to a file of which writes waited: they were read, and it took
 -- their writes; or a file refused a call. The file written is as large as before.
 pub record TakesCopies {D : Type 0} (told : D → Told) (sectors : D → ℕ)
-    (holds : ℕ → List ℕ → Type 0) (first count at : ℕ) (old new : D)
+    (holds : ℕ → List ℕ → Type 0) (refuses : ℕ → ℕ → Type 0) (first count at : ℕ) (old new : D)
     (waited waits : List DeviceCall) (result : Result (Unit {0}) CopyFault) : Type 0 where
   pub ok : OnOk result (IsCopying holds first count at (told old) (told new) waited waits)
-  pub err : IfErr result (IsCopiedFrom holds first count at (told old) (told new) waited)
+  pub err : IfErr result (IsCopiedFrom holds refuses first count at (told old) (told new) waited)
   pub size : sectors new ≡ sectors old
 
 -- A refusal of the file that was written, the last call of a first part of what waited.
 abbrev pub StopsWriting : Told → Told → List DeviceCall → CopyFault → Type 0
 StopsWriting old new waited (fault.From why) = ⊥
-StopsWriting old new waited (fault.To why) = PutsSome [] old new waited
+StopsWriting old new waited (fault.To why) =
+    PutsSome [] old new waited × (why.call ≡ call.Write)
 
 -- What waited of a copy was to be written. The file written is as large as before.
 pub record EndsCopy {D : Type 0} (told : D → Told) (sectors : D → ℕ) (old new : D)
@@ -138,5 +154,7 @@ pub record CanCopy (first count at bytes : ℕ) : Type 0 where
   pub room : 512 ≤ bytes
 
 -- nothing waited
-abbrev pub IsCopiedInPart : (ℕ → List ℕ → Type 0) → ℕ → ℕ → ℕ → Told → Told → CopyFault → Type 0
-IsCopiedInPart holds first count at old new why = IsCopiedFrom holds first count at old new [] why
+abbrev pub IsCopiedInPart : (ℕ → List ℕ → Type 0) → (ℕ → ℕ → Type 0) → ℕ → ℕ → ℕ → Told → Told
+    → CopyFault → Type 0
+IsCopiedInPart holds refuses first count at old new why =
+    IsCopiedFrom holds refuses first count at old new [] why

@@ -1,5 +1,5 @@
 -- The first sectors of a file.
-use Rattle.std.specs.Prelude.{◌≡◌, ◌⊎◌, ◌<◌, ℕ, List, Option, Some, None}
+use Rattle.std.specs.Prelude.{◌≡◌, ◌⊎◌, ◌<◌, ◌≤◌, ℕ, List, Option, Some, None}
 use Rattle.journal.specs.Places.{Shape}
 use Rattle.journal.specs.Sectors.{IsSuper}
 use Rattle.journal.specs.Values.{shape_of}
@@ -19,8 +19,9 @@ abbrev pub SpellsSuper : Option Super → List ℕ → Type 0
 SpellsSuper (Some sizes) sector = IsSuper (shape_of sizes) sector
 SpellsSuper None sector = (shape : Shape) → ¬ IsSuper shape sector
 
--- why they were not had: there is no sector, a read was refused, or there was no memory
-abbrev pub IsUnopened : ℕ → OpenFault → Type 0
-IsUnopened size (fault.File why) =
-    ((why.call ≡ call.Length) × (size ≡ 0)) ⊎ (why.call ≡ call.Read)
-IsUnopened size fault.NoMemory = 0 < size
+-- why they were not had: there is no sector, a read of some of them was refused, or there was no
+-- memory
+abbrev pub IsUnopened : (ℕ → ℕ → Type 0) → ℕ → OpenFault → Type 0
+IsUnopened refuses size (fault.File why) = ((why.call ≡ call.Length) × (size ≡ 0))
+    ⊎ ((why.call ≡ call.Read) × ((count : ℕ) × (1 ≤ count) × (count ≤ size) × refuses 0 count))
+IsUnopened refuses size fault.NoMemory = 0 < size

@@ -1,5 +1,5 @@
 //! Sectors of one file that are copied to another.
-ghost use Rattle.std.specs.Prelude.{◌≡◌, ◌+◌, ◌/◌, ◌<◌, ◌^◌, [], length, OnOk, IfErr};
+ghost use Rattle.std.specs.Prelude.{◌≡◌, ◌+◌, ◌/◌, ◌<◌, ◌≤◌, ◌^◌, [], length, OnOk, IfErr};
 ghost use Rattle.device_file.specs.Copied.{CanCopy, IsCopied, IsCopiedInPart, TakesCopies};
 ghost use Rattle.device_file.specs.Copied.{EndsCopy, waiting_in};
 
@@ -27,7 +27,8 @@ pub enum CopyFault {
 ///
 /// # Errors
 ///
-/// The first call that a file refused. Nothing was asked of either after that.
+/// The first call that a file refused: a read of the sectors that come next, or a write. Nothing
+/// was asked of either after that.
 pub fn copy_sectors<S: DeviceFile, D: DeviceFile, M: Meter>(
     from: &S,
     first: u64,
@@ -41,8 +42,8 @@ pub fn copy_sectors<S: DeviceFile, D: DeviceFile, M: Meter>(
     requires { CanCopy first count at (length bytes.old) }
     ensures ok { OnOk result (IsCopied (S.holds from.now) first count at (D.told to.old)
         (D.told to.new)) }
-    ensures err { IfErr result (IsCopiedInPart (S.holds from.now) first count at (D.told to.old)
-        (D.told to.new)) }
+    ensures err { IfErr result (IsCopiedInPart (S.holds from.now) (S.refuses from.now) first count
+        at (D.told to.old) (D.told to.new)) }
     ensures size { D.size to.new ≡ D.size to.old }
 {
     match copy_runs(from, first, count, to, at, run, bytes, meter) {
@@ -73,8 +74,8 @@ fn copy_runs<S: DeviceFile, D: DeviceFile, M: Meter>(
     meter: &mut M,
 ) -> Result<(), CopyFault>
     requires { CanCopy first count at (length bytes.old) }
-    ensures { TakesCopies D.told D.size (S.holds from.now) first count at to.old to.new []
-        (waiting_in run.new) result }
+    ensures { TakesCopies D.told D.size (S.holds from.now) (S.refuses from.now) first count at
+        to.old to.new [] (waiting_in run.new) result }
 {
     run.clear();
     let most = (bytes.len() / SECTOR) as u64;
@@ -100,9 +101,9 @@ fn copy_run<S: DeviceFile, D: DeviceFile>(
     run: &mut Run,
     bytes: &mut [u8],
 ) -> Result<(), CopyFault>
-    requires { at + length bytes.old / 512 < 2 ^ 64 }
-    ensures { TakesCopies D.told D.size (S.holds from.now) first (length bytes.old / 512) at
-        to.old to.new (waiting_in run.old) (waiting_in run.new) result }
+    requires { (at + length bytes.old / 512 < 2 ^ 64) × (512 ≤ length bytes.old) }
+    ensures { TakesCopies D.told D.size (S.holds from.now) (S.refuses from.now) first
+        (length bytes.old / 512) at to.old to.new (waiting_in run.old) (waiting_in run.new) result }
 {
     match from.read(first, bytes) {
         Err(fault) => Err(CopyFault::From(fault)),

@@ -1,6 +1,6 @@
 //! From a file that is open to a window over it.
 ghost use Rattle.std.specs.Prelude.{◌≡◌, ◌*◌, ◌/◌, ◌<◌, ◌≤◌, ◌++◌};
-ghost use Rattle.std.specs.Prelude.{IfOk, IfErr, OnOk, length, drop, min};
+ghost use Rattle.std.specs.Prelude.{IfOk, IfErr, OnOk, OnErr, length, drop, min};
 ghost use Rattle.medium.specs.Moments.{IsFlushed};
 ghost use Rattle.medium.specs.Writes.{sector_of};
 ghost use Rattle.window.specs.Window.{fresh, state_of};
@@ -56,10 +56,9 @@ impl FirstSectors {
         ensures ok { IfOk result (λ first. (first.sectors ≡ D.size file.now)
             × SpellsSuper first.sizes (sector_of first.bytes.items 0)) }
         ensures read { IfOk result (λ first. AreRead (D.holds file.now) 0 first.bytes.items) }
-        ensures err { IfErr result (IsUnopened (D.size file.now)) }
+        ensures err { IfErr result (IsUnopened (D.refuses file.now) (D.size file.now)) }
     {
-        let sectors = file.sectors();
-        refuse_empty(sectors)?;
+        let sectors = count_some(file)?;
         let mut sector = [0; SECTOR];
         file.read(0, &mut sector)?;
         let sizes = super_in(&sector);
@@ -100,16 +99,16 @@ impl FirstSectors {
     }
 }
 
-// Refuses a file of no sectors.
-fn refuse_empty(sectors: u64) -> Result<(), OpenFault>
-    ensures ok { IfOk result (λ _. 0 < sectors) }
-    ensures err { IfErr result (IsUnopened sectors) }
+// How many sectors a file has, which are some.
+fn count_some<D: DeviceFile>(file: &D) -> Result<u64, FileFault>
+    ensures ok { IfOk result (λ sectors. (sectors ≡ D.size file.now) × (0 < sectors)) }
+    ensures err { IfErr result (λ fault. (fault.call ≡ FileCall.Length) × (D.size file.now ≡ 0)) }
 {
+    let sectors = file.sectors();
     if sectors == 0 {
-        let fault = FileCall::Length.refused_for(ErrorKind::InvalidData);
-        return Err(OpenFault::File(fault));
+        return Err(FileCall::Length.refused_for(ErrorKind::InvalidData));
     }
-    Ok(())
+    Ok(sectors)
 }
 
 // The super that a sector spells.
@@ -138,6 +137,7 @@ fn fill<D: DeviceFile>(file: &D, sector: &[u8; SECTOR], bytes: &mut [u8]) -> Res
     ensures front { OnOk result (sector_of bytes.new 0 ≡ sector.now) }
     ensures read { D.holds file.now 0 sector.now
         → OnOk result (AreRead (D.holds file.now) 0 bytes.new) }
+    ensures unread { OnErr result (D.refuses file.now 0 (length bytes.old / 512)) }
     ensures err { IfErr result (λ fault. fault.call ≡ FileCall.Read) }
 {
     file.read(0, bytes)?;

@@ -1,7 +1,17 @@
-use Rattle.std.proofs.Common.{◌/◌, length, arith}
+use Rattle.std.proofs.Common.{◌/◌, ℕ, length, refl, subst, arith}
 use Rattle.device_file.specs.Copied.{waiting_in}
-use Rattle.device_file.proofs.Copies.{copying_run, copied_run}
+use Rattle.device_file.proofs.Copies.{copying_run, copied_run, copied_none}
 use Rattle.device_file.proofs.copying.copy_run.Goals as goal
+
+pub returns-in-Err : goal.returns-in-Err
+returns-in-Err g c = record {
+  ok = tt;
+  err = copied_none (g.S.DeviceFile.holds c.args.from.now) (g.S.DeviceFile.refuses c.args.from.now) c.args.first c.args.at
+      (length c.args.bytes.now / 512) (g.D.DeviceFile.told c.args.to.now) (waiting_in c.args.run.now) c.in-Err.fault (omega arith)
+      (subst (λ (n : ℕ). g.S.DeviceFile.refuses c.args.from.now c.args.first n) (omega arith) c.in-Err.ensures.unread)
+      c.in-Err.ensures.named;
+  size = refl;
+}
 
 pub returns-in-Ok-put_sectors : goal.returns-in-Ok-put_sectors
 returns-in-Ok-put_sectors g c = record {
@@ -15,8 +25,10 @@ returns-in-Ok-put_sectors g c = record {
 pub returns-in-Err-put_sectors : goal.returns-in-Err-put_sectors
 returns-in-Err-put_sectors g c = record {
   ok = tt;
-  err = copied_run (g.S.DeviceFile.holds c.args.from.now) c.args.first c.args.at (length c.args.bytes.now / 512) c.read.new.to
+  err = copied_run (g.S.DeviceFile.holds c.args.from.now) (g.S.DeviceFile.refuses c.args.from.now) c.args.first c.args.at
+      (length c.args.bytes.now / 512) c.read.new.to
       (g.D.DeviceFile.told c.args.to.now) (g.D.DeviceFile.told c.put_sectors.new.file) (waiting_in c.args.run.now)
-      c.in-Err-put_sectors.fault (omega arith) c.in-Ok.ensures.read c.in-Err-put_sectors.ensures.err;
+      c.in-Err-put_sectors.fault (omega arith) c.in-Ok.ensures.read c.in-Err-put_sectors.ensures.err
+      c.in-Err-put_sectors.ensures.named;
   size = c.in-Err-put_sectors.ensures.size;
 }

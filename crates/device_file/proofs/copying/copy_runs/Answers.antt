@@ -8,9 +8,10 @@ use Rattle.device_file.proofs.copying.copy_runs.Goals as goal
 pub returns-in-Err : goal.returns-in-Err
 returns-in-Err g c = record {
   ok = tt;
-  err = copied_through (g.S.DeviceFile.holds c.args.from.now) c.args.first c.runs.done _ c.args.count c.args.at
-      (g.D.DeviceFile.told c.args.to.now) (g.D.DeviceFile.told c.runs.to) (g.D.DeviceFile.told c.copy_run.new.to) []
-      (waiting_in c.runs.run) c.in-Err.fault (omega (arith, length-take {A = ℕ})) c.runs.invariant.copying c.in-Err.ensures.err;
+  err = copied_through (g.S.DeviceFile.holds c.args.from.now) (g.S.DeviceFile.refuses c.args.from.now) c.args.first c.runs.done _
+      c.args.count c.args.at (g.D.DeviceFile.told c.args.to.now) (g.D.DeviceFile.told c.runs.to)
+      (g.D.DeviceFile.told c.copy_run.new.to) [] (waiting_in c.runs.run) c.in-Err.fault (omega (arith, length-take {A = ℕ}))
+      c.runs.invariant.copying c.in-Err.ensures.err;
   size = c.in-Err.ensures.size ∙ c.runs.invariant.size;
 }
 

@@ -10,6 +10,6 @@ returns-in-Ok-clause-ok g c =
 
 pub returns-in-Ok-clause-err : goal.returns-in-Ok-clause-err
 returns-in-Ok-clause-err g c =
-    ends_part (g.S.DeviceFile.holds c.args.from.now) c.args.first c.args.count c.args.at (g.D.DeviceFile.told c.args.to.now)
-    (g.D.DeviceFile.told c.copy_runs.new.to) (g.D.DeviceFile.told c.end_copy.new.to) (waiting_in c.copy_runs.new.run)
-    c.end_copy.result c.in-Ok.ensures.ok c.end_copy.ensures.err
+    ends_part (g.S.DeviceFile.holds c.args.from.now) (g.S.DeviceFile.refuses c.args.from.now) c.args.first c.args.count c.args.at
+    (g.D.DeviceFile.told c.args.to.now) (g.D.DeviceFile.told c.copy_runs.new.to) (g.D.DeviceFile.told c.end_copy.new.to)
+    (waiting_in c.copy_runs.new.run) c.end_copy.result c.in-Ok.ensures.ok c.end_copy.ensures.err
