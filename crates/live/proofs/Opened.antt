@@ -79,7 +79,7 @@ module _ (sectors : ℕ) (bytes device : List ℕ) (some : 0 < sectors) where
         span = omega arith;
       }
 
-pub opened_ready : {D : Type 0} (holds : D → ℕ → List ℕ → Type 0) (size : D → ℕ) (file : D) (w : Window) → IsWindowOf holds size file w
-    → IsReadyToStart w
-opened_ready holds size file w of = subst IsReadyToStart (sym of.is)
-    (ready of.first.sectors of.first.bytes.items of.device of.first.some of.first.sizes of.spells of.first.count)
+pub opened_ready : {D : Type 0} (holds : D → ℕ → List ℕ → Type 0) (size : D → ℕ) (device : List ℕ) (file : D) (w : Window)
+    → IsWindowOf holds size device file w → IsReadyToStart w
+opened_ready holds size device file w of = subst IsReadyToStart (sym of.is)
+    (ready of.first.sectors of.first.bytes.items device of.first.some of.first.sizes of.spells of.first.count)

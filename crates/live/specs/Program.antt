@@ -39,7 +39,9 @@ module _ (was now left after : Option (List ℕ)) (back : Option FileValue) wher
     pub unasked : opened ≡ fresh opened.size
     pub last : FileValue
     pub given : back ≡ Some last
-    pub served : IsServedOn told_of holds_of refuses_of size_of most opened was now left after last
+    pub device : List ℕ
+    pub served : IsServedOn told_of holds_of refuses_of size_of device most opened was now left
+        after last
 
   -- why it was not
   pub record IsLiveStopped (most : ℕ) (refusal : Refusal) : Type 0 where
@@ -47,8 +49,9 @@ module _ (was now left after : Option (List ℕ)) (back : Option FileValue) wher
     pub unasked : opened ≡ fresh opened.size
     pub last : FileValue
     pub given : back ≡ Some last
-    pub refused : IsNotServedOn told_of holds_of refuses_of size_of most opened was now left after
-        last refusal
+    pub device : List ℕ
+    pub refused : IsNotServedOn told_of holds_of refuses_of size_of device most opened was now left
+        after last refusal
 
   -- no file comes back, and nothing was read or written
   pub record IsUntouched : Type 0 where

@@ -10,17 +10,17 @@ use Rattle.live.specs.Starting.{IsStartedOn, IsNotStartedOn}
 use Rattle.live.specs.Status.{refusal_of_serving}
 use Rattle.live.specs.declared.refusal.Refusal.{Refusal}
 
--- What a file was asked, what its reads gave, which of them it refused, and how many sectors it
--- has. Packets have at most so many bytes. What was written, and what the input had left, then and
--- now.
+-- What a file was asked, what its reads gave, which of them it refused, how many sectors it has,
+-- and which bytes are thought to stand behind the first ones: whatever they are. Packets have at
+-- most so many bytes. What was written, and what the input had left, then and now.
 module _ {D : Type 0} (told : D → Told) (holds : D → ℕ → List ℕ → Type 0)
-    (refuses : D → ℕ → ℕ → Type 0) (size : D → ℕ) (most : ℕ) (file : D)
+    (refuses : D → ℕ → ℕ → Type 0) (size : D → ℕ) (device : List ℕ) (most : ℕ) (file : D)
     (was now left after : Option (List ℕ)) where
   -- A disk started on the file, and the input was served to its end. The file comes back as the
   -- last answer left it: it was asked for nothing afterwards.
   pub record IsServedOn (back : D) : Type 0 where
     pub first : DiskOn D
-    pub started : IsStartedOn told holds size most file first
+    pub started : IsStartedOn told holds size device most file first
     pub last : DiskOn D
     pub served : IsServedBy (AnswersThrough told holds refuses) (IsUnanswered told holds refuses)
         most was now first last left after
@@ -30,7 +30,7 @@ module _ {D : Type 0} (told : D → Told) (holds : D → ℕ → List ℕ → Ty
   -- event left it.
   pub record IsStoppedOn (back : D) (refusal : Refusal) : Type 0 where
     pub first : DiskOn D
-    pub started : IsStartedOn told holds size most file first
+    pub started : IsStartedOn told holds size device most file first
     pub last : DiskOn D
     pub fault : ServeFault
     pub stopped : IsStoppedBy (AnswersThrough told holds refuses)
@@ -41,5 +41,6 @@ module _ {D : Type 0} (told : D → Told) (holds : D → ℕ → List ℕ → Ty
   -- No disk started, and nothing was read or written; or the input was served in part.
   abbrev pub IsNotServedOn : D → Refusal → Type 0
   IsNotServedOn back refusal =
-      (IsNotStartedOn told holds size most file back refusal × (after ≡ left) × Keeps was now)
+      (IsNotStartedOn told holds size device most file back refusal × (after ≡ left)
+      × Keeps was now)
       ⊎ IsStoppedOn back refusal

@@ -35,8 +35,9 @@ room_for size None = most_room
 abbrev pub ahead_device : ℕ → Device
 ahead_device most = record (device most) { retiring = Ahead }
 
--- What reads of a file gave, and how many sectors it has.
-module _ {D : Type 0} (holds : D → ℕ → List ℕ → Type 0) (size : D → ℕ) where
+-- What reads of a file gave, how many sectors it has, and which bytes are thought to stand behind
+-- the first ones.
+module _ {D : Type 0} (holds : D → ℕ → List ℕ → Type 0) (size : D → ℕ) (device : List ℕ) where
   -- a window over the first sectors of a file, as they were read of it, with the room that a disk
   -- wants and a span of the longest transfer
   pub record IsWindowOf (file : D) (w : Window) : Type 0 where
@@ -44,7 +45,6 @@ module _ {D : Type 0} (holds : D → ℕ → List ℕ → Type 0) (size : D → 
     pub size_is : first.sectors ≡ size file
     pub spells : SpellsSuper first.sizes (sector_of first.bytes.items 0)
     pub read : AreRead (holds file) 0 first.bytes.items
-    pub device : List ℕ
     pub is : w ≡ fresh first.sectors first.bytes.items device 240
         (room_for first.sectors first.sizes)
 
@@ -127,19 +127,20 @@ module _ {D : Type 0} (told : D → Told) (most : ℕ) (medium : FileWindow D) w
     pub well : (medium_of new).fault ≡ None
     pub ready : IsReady new
 
--- What reads of a file gave, how many sectors it has, and what it was asked.
+-- What reads of a file gave, how many sectors it has, which bytes are thought to stand behind the
+-- first ones, and what it was asked.
 module _ {D : Type 0} (told : D → Told) (holds : D → ℕ → List ℕ → Type 0) (size : D → ℕ)
-    (most : ℕ) (file : D) where
+    (device : List ℕ) (most : ℕ) (file : D) where
   -- a disk started on the file
   pub record IsStartedOn (new : DiskOn D) : Type 0 where
     pub medium : FileWindow D
-    pub on : IsMediumOn holds size file medium
+    pub on : IsMediumOn holds size device file medium
     pub started : IsStarted told most medium new
 
   -- none did, since it was refused
   pub record IsRefusedOn (back : D) (refusal : Refusal) : Type 0 where
     pub medium : FileWindow D
-    pub on : IsMediumOn holds size file medium
+    pub on : IsMediumOn holds size device file medium
     pub refused : IsRefusedStart told most medium back refusal
 
   -- or since no medium was had; the file was asked for nothing

@@ -19,6 +19,7 @@ use std::alloc::Global;
 use std::env::Env;
 use std::fs::{File, Files};
 use std::io::{Read, Write};
+use window::DeviceHolds;
 
 /// The file of an image, where one was opened.
 type LeftFile = Option<SystemFile<File>>;
@@ -127,7 +128,8 @@ fn serve_opened<I: Read, O: Write>(
         (O.contents out.new) (I.remaining input.old) (I.remaining input.new) stopped.file
         (bytes_of size) stopped.refusal) }
 {
-    match serve_file(alloc, file, size, input, out) {
+    let device = DeviceHolds::any();
+    match serve_file(alloc, file, &device, size, input, out) {
         Ok(file) => Ok(Some(file)),
         Err(stopped) => Err(Stopped {
             refusal: stopped.refusal,

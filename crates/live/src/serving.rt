@@ -12,10 +12,12 @@ use device_file::{DeviceFile, FileFault};
 use runner::{ServeFault, serve_player};
 use std::alloc::Global;
 use std::io::{Read, Write};
+use window::DeviceHolds;
 
 /// Starts a disk on an open file and serves the lines of an input, each before more is read. Behind
 /// the start, and behind each event before it is answered, the file carries out what was sent. The
-/// file comes back with exactly what it was asked.
+/// file comes back with exactly what it was asked. What stands behind its first sectors is whatever
+/// the caller says: nothing is read of that here.
 ///
 /// # Errors
 ///
@@ -24,17 +26,19 @@ use std::io::{Read, Write};
 pub fn serve_file<D: DeviceFile, I: Read, O: Write>(
     alloc: Global,
     file: D,
+    device: &DeviceHolds,
     size: PacketSize,
     input: &mut I,
     out: &mut O,
 ) -> Result<D, Stopped<D>>
-    ensures served { IfOk result (IsServedOn D.told D.holds D.refuses D.size (bytes_of size) file
-        (O.contents out.old) (O.contents out.new) (I.remaining input.old) (I.remaining input.new)) }
-    ensures refused { IfErr result (λ stopped. IsNotServedOn D.told D.holds D.refuses D.size
+    ensures served { IfOk result (IsServedOn D.told D.holds D.refuses D.size device.now.bytes
         (bytes_of size) file (O.contents out.old) (O.contents out.new) (I.remaining input.old)
-        (I.remaining input.new) stopped.file stopped.refusal) }
+        (I.remaining input.new)) }
+    ensures refused { IfErr result (λ stopped. IsNotServedOn D.told D.holds D.refuses D.size
+        device.now.bytes (bytes_of size) file (O.contents out.old) (O.contents out.new)
+        (I.remaining input.old) (I.remaining input.new) stopped.file stopped.refusal) }
 {
-    let mut disk = match start_on(alloc, file, size) {
+    let mut disk = match start_on(alloc, file, device, size) {
         Ok(disk) => disk,
         Err(stopped) => return Err(stopped),
     };

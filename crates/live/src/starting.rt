@@ -30,13 +30,15 @@ const MOST_ROOM: usize = 15_364;
 pub(crate) fn start_on<D: DeviceFile>(
     alloc: Global,
     file: D,
+    device: &DeviceHolds,
     size: PacketSize,
 ) -> Result<FileDisk<D>, Stopped<D>>
-    ensures started { IfOk result (IsStartedOn D.told D.holds D.size (bytes_of size) file) }
-    ensures refused { IfErr result (λ stopped. IsNotStartedOn D.told D.holds D.size (bytes_of size)
-        file stopped.file stopped.refusal) }
+    ensures started { IfOk result (IsStartedOn D.told D.holds D.size device.now.bytes
+        (bytes_of size) file) }
+    ensures refused { IfErr result (λ stopped. IsNotStartedOn D.told D.holds D.size
+        device.now.bytes (bytes_of size) file stopped.file stopped.refusal) }
 {
-    let window = match window_over(alloc, &file) {
+    let window = match window_over(alloc, &file, device) {
         Ok(window) => window,
         Err(refusal) => return Err(Stopped { refusal, file }),
     };
@@ -56,8 +58,12 @@ pub(crate) fn start_on<D: DeviceFile>(
 }
 
 // A window over a file, of which the first sectors are read.
-fn window_over<D: DeviceFile>(alloc: Global, file: &D) -> Result<WindowMedium, Refusal>
-    ensures ok { IfOk result (IsWindowOf D.holds D.size file.now) }
+fn window_over<D: DeviceFile>(
+    alloc: Global,
+    file: &D,
+    device: &DeviceHolds,
+) -> Result<WindowMedium, Refusal>
+    ensures ok { IfOk result (IsWindowOf D.holds D.size device.now.bytes file.now) }
     ensures err { IfErr result (HasNoWindow (D.size file.now)) }
 {
     let first = match FirstSectors::read(alloc, file) {
@@ -65,8 +71,7 @@ fn window_over<D: DeviceFile>(alloc: Global, file: &D) -> Result<WindowMedium, R
         Err(fault) => return Err(refusal_of(fault)),
     };
     let room = room_to_serve(&first.sizes, first.sectors);
-    let device = DeviceHolds::any();
-    match first.into_window(alloc, &device, SPAN, room) {
+    match first.into_window(alloc, device, SPAN, room) {
         Ok(window) => Ok(window),
         Err(_) => Err(Refusal::NoMemory),
     }

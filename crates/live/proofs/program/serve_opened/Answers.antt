@@ -7,5 +7,6 @@ returns-in-Ok-clause-done g c = record {
   unasked = c.requires;
   last = c.in-Ok.file;
   given = refl;
+  device = c.any-device.result.bytes;
   served = c.in-Ok.ensures.served;
 }

@@ -11,9 +11,9 @@ use Rattle.live.specs.Status.{refusal_of_serving}
 use Rattle.live.proofs.serving.serve_file.Goals as goal
 
 -- packets have as many bytes as the start was given
-packets : {D : Type 0} (told : D → Told) (holds : D → ℕ → List ℕ → Type 0) (size : D → ℕ) (most : ℕ) (file : D) (new : DiskOn D)
-    → IsStartedOn told holds size most file new → packets_of new ≡ most
-packets {D} told holds size most file new on =
+packets : {D : Type 0} (told : D → Told) (holds : D → ℕ → List ℕ → Type 0) (size : D → ℕ) (device : List ℕ) (most : ℕ) (file : D)
+    (new : DiskOn D) → IsStartedOn told holds size device most file new → packets_of new ≡ most
+packets {D} told holds size device most file new on =
     ap (λ (d : DiskOn D). d.line.packet_size) on.started.starts.others
     ∙ ap (λ (l : Line). l.packet_size) on.started.starts.opens.line
 
@@ -37,7 +37,8 @@ returns-in-Ok-serve_player-clause-served g c =
       served = subst (λ (most : ℕ). IsServedBy (AnswersThrough told holds refuses) (IsUnanswered told holds refuses) most
           (contents c.args.out.now) (contents c.serve_player.new.out) first last (remaining c.args.input.now)
           (remaining c.serve_player.new.source))
-          (packets told holds g.D.DeviceFile.size _ c.args.file first c.in-Ok.ensures.started) c.in-Ok-serve_player.ensures.served;
+          (packets told holds g.D.DeviceFile.size c.args.device.now.bytes _ c.args.file first c.in-Ok.ensures.started)
+          c.in-Ok-serve_player.ensures.served;
       given = c.into_file.ensures;
     }
 
@@ -58,7 +59,8 @@ returns-in-Err-serve_player-clause-refused g c =
       stopped = subst (λ (most : ℕ). IsStoppedBy (AnswersThrough told holds refuses) (IsUnanswered told holds refuses) most
           (contents c.args.out.now) (contents c.serve_player.new.out) first last (remaining c.args.input.now)
           (remaining c.serve_player.new.source) c.in-Err-serve_player.fault)
-          (packets told holds g.D.DeviceFile.size _ c.args.file first c.in-Ok.ensures.started) c.in-Err-serve_player.ensures.stopped;
+          (packets told holds g.D.DeviceFile.size c.args.device.now.bytes _ c.args.file first c.in-Ok.ensures.started)
+          c.in-Err-serve_player.ensures.stopped;
       refused_is = c.refusal_of.ensures ∙ ap (λ why. refusal_of_serving c.in-Err-serve_player.fault why) c.fault.ensures;
       given = c.into_file-in-Err-serve_player.ensures;
     })

@@ -8,7 +8,7 @@ use Rattle.live.proofs.starting.start_on.Goals as goal
 
 pub start_disk-requires : goal.start_disk-requires
 start_disk-requires g c = subst IsReadyToStart (sym c.new.ensures.window_is)
-    (opened_ready g.D.DeviceFile.holds g.D.DeviceFile.size c.args.file c.in-Ok.window c.in-Ok.ensures.ok)
+    (opened_ready g.D.DeviceFile.holds g.D.DeviceFile.size c.args.device.now.bytes c.args.file c.in-Ok.window c.in-Ok.ensures.ok)
 
 pub returns-in-Ok-start_disk-clause-started : goal.returns-in-Ok-start_disk-clause-started
 returns-in-Ok-start_disk-clause-started g c = record {

@@ -8,9 +8,8 @@ returns-in-Ok-into_window-clause-ok g c = record {
   size_is = c.in-Ok.ensures.ok.0;
   spells = c.in-Ok.ensures.ok.1;
   read = c.in-Ok.ensures.read;
-  device = c.any-device.result.bytes;
   is = c.in-Ok-into_window.ensures.ok
-      ∙ ap (λ (room : ℕ). fresh c.in-Ok.first.sectors c.in-Ok.first.bytes.items c.any-device.result.bytes 240 room)
+      ∙ ap (λ (room : ℕ). fresh c.in-Ok.first.sectors c.in-Ok.first.bytes.items c.args.device.now.bytes 240 room)
       c.room_to_serve-room.ensures;
 }
 
