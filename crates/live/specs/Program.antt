@@ -1,5 +1,5 @@
 -- What the program that serves an image file line by line does.
-use Rattle.std.specs.Prelude.{◌≡◌, ◌⊎◌, ℕ, List, Option, Some, None}
+use Rattle.std.specs.Prelude.{◌≡◌, ◌⊎◌, ℕ, List, Option, Some, None, drop}
 use Rattle.std.specs.Io.KnownBytes.{Keeps}
 use Rattle.spec.specs.Packets.{bytes_of}
 use Rattle.spec.specs.declared.packet_size.PacketSize.{PacketSize}
@@ -72,3 +72,10 @@ module _ (was now left after : Option (List ℕ)) (back : Option FileValue) wher
       ((refusal ≡ refused.Words) × (¬ IsLiveLine words) × IsUntouched)
       ⊎ ((image : List ℕ) × (size : PacketSize) × AreLiveWords words image size
       × ((IsUnopened refusal × IsUntouched) ⊎ IsLiveStopped (bytes_of size) refusal))
+
+  -- Why the program did not do what its arguments ask for: it did not have them all, since one is
+  -- no text or there was no memory; or the words behind its name were refused.
+  abbrev pub IsProgramRefused : Refusal → Type 0
+  IsProgramRefused refusal =
+      (((refusal ≡ refused.Words) ⊎ (refusal ≡ refused.NoMemory)) × IsUntouched)
+      ⊎ ((args : List (List ℕ)) × IsLiveRefusedFor (drop 1 args) refusal)

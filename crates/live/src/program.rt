@@ -1,10 +1,10 @@
 //! The work of the program that serves an image file line by line.
-ghost use Rattle.std.specs.Prelude.{◌≡◌, ◌≢◌, ◌⊎◌, ◌≤◌, List, ℕ, None, IfOk, IfErr, map, drop};
-ghost use Rattle.std.specs.Io.KnownBytes.{Keeps};
+ghost use Rattle.std.specs.Prelude.{◌≡◌, ◌≢◌, ◌≤◌, List, ℕ, None, IfOk, IfErr, map, drop};
 ghost use Rattle.spec.specs.Packets.{bytes_of};
 ghost use Rattle.device_file.specs.FileValue.{fresh};
 ghost use Rattle.live.specs.declared.refusal.Refusal.{Refusal};
 ghost use Rattle.live.specs.Program.{HasDoneLive, IsLive, IsLiveRefusedFor, IsLiveStopped};
+ghost use Rattle.live.specs.Program.{IsProgramRefused};
 ghost use Rattle.live.specs.Status.{status_of};
 ghost use Rattle.runner.specs.Live.{IsLiveLine};
 
@@ -71,11 +71,10 @@ pub fn run_live<R: Env + Files<File = File> + AllocGlobal, I: Read, O: Write, E:
     ensures done { result.status ≡ 0 → ((args : List (List ℕ))
         × HasDoneLive (O.contents out.old) (O.contents out.new) (I.remaining input.old)
         (I.remaining input.new) result.file (drop 1 args)) × (err.new ≡ err.old) }
-    ensures refused { result.status ≢ 0 → ((result.file ≡ None) × Keeps (O.contents out.old)
-        (O.contents out.new)) ⊎ ((args : List (List ℕ)) × (refusal : Refusal)
-        × (result.status ≡ status_of refusal)
-        × IsLiveRefusedFor (O.contents out.old) (O.contents out.new) (I.remaining input.old)
-        (I.remaining input.new) result.file (drop 1 args) refusal) }
+    ensures refused { result.status ≢ 0
+        → (refusal : Refusal) × (result.status ≡ status_of refusal)
+        × IsProgramRefused (O.contents out.old) (O.contents out.new) (I.remaining input.old)
+        (I.remaining input.new) result.file refusal }
 {
     let args = match arguments(rt) {
         Ok(args) => args,

@@ -1,7 +1,18 @@
-use Rattle.std.proofs.Common.{◌∙◌, ℕ, List, ap, subst, inr, map}
+use Rattle.std.proofs.Common.{◌∙◌, ℕ, List, ap, subst, inl, inr, refl, map}
+use Rattle.std.proofs.KnownBytes.{Keeps-refl}
 use Rattle.std.specs.Prelude.{string_bytes}
 use Rattle.live.specs.Program.{HasDoneLive, IsLiveRefusedFor}
+use Rattle.live.specs.declared.ended.Ended.{Ended}
+use Rattle.live.specs.declared.refusal.Refusal.TheVariants as refused
 use Rattle.live.proofs.program.run_live.Goals as goal
+
+pub returns-clause-refused : goal.returns-clause-refused
+returns-clause-refused g c not =
+    let kept = Keeps-refl (g.O.Write.contents c.args.out.now) in (
+      refused.NoMemory,
+      ap (λ (ended : Ended). ended.status) c.refuse-in-Err-words_of.ensures,
+      inl (inr refl, record { none = ap (λ (ended : Ended). ended.file) c.refuse-in-Err-words_of.ensures; unread = refl; kept = kept }),
+    )
 
 pub returns-in-Ok-words_of-clause-done : goal.returns-in-Ok-words_of-clause-done
 returns-in-Ok-words_of-clause-done g c zero =
@@ -22,11 +33,12 @@ returns-in-Ok-words_of-clause-refused g c not =
     let contents = g.O.Write.contents in
     let remaining = g.I.Read.remaining in
     let so = c.live_command.ensures.refused not in
-    let same = ap (map (λ word. word.now)) c.as_slice-in-Ok-words_of.ensures.value ∙ c.in-Ok-words_of.ensures in
-    inr (
-      map string_bytes c.as_slice.result.now,
+    let same = ap (map (λ word. word.now)) c.as_slice-in-Ok-words_of.ensures.value ∙ c.in-Ok-words_of.ensures in (
       so.0,
       so.1,
-      subst (λ (words : List (List ℕ)). IsLiveRefusedFor (contents c.args.out.now) (contents c.live_command.new.out)
-          (remaining c.args.input.now) (remaining c.live_command.new.input) c.live_command.result.file words so.0) same so.2,
+      inr (
+        map string_bytes c.as_slice.result.now,
+        subst (λ (words : List (List ℕ)). IsLiveRefusedFor (contents c.args.out.now) (contents c.live_command.new.out)
+            (remaining c.args.input.now) (remaining c.live_command.new.input) c.live_command.result.file words so.0) same so.2,
+      ),
     )
