@@ -1,18 +1,23 @@
 -- Which refusals the serving of an image file may have.
 use Rattle.std.proofs.Common.{◌≡◌, ◌≤◌, ℕ, List, refl, sym, ◌∙◌, ap, inl, inr, arith}
-use Rattle.std.specs.Prelude.{Option, Some, None}
+use Rattle.std.proofs.Common.{subst}
+use Rattle.std.specs.Prelude.{◌⊎◌, Option, Some, None, IfSome}
 use Rattle.bot_machine.specs.StartFaults.{StartFault}
 use Rattle.bot_machine.specs.StartFaults as start
-use Rattle.device_file.specs.FileValue.{FileValue}
+use Rattle.device_file.specs.Asked.{Told}
+use Rattle.device_file.specs.FileValue.{FileValue, fresh}
 use Rattle.device_file.specs.declared.fault.FileCall.{FileCall}
 use Rattle.device_file.specs.declared.fault.FileCall.TheVariants as call
 use Rattle.device_file.specs.declared.fault.FileFault.{FileFault}
 use Rattle.device_file.specs.declared.opening.OpenFault.{OpenFault}
 use Rattle.device_file.specs.declared.opening.OpenFault.TheVariants as opening
 use Rattle.runner.specs.Live.{IsLiveLine}
+use Rattle.runner.specs.Served.{IsStoppedBy}
 use Rattle.runner.specs.declared.player.ServeFault.{ServeFault}
 use Rattle.runner.specs.declared.player.ServeFault.TheVariants as serve
-use Rattle.live.specs.Program.{IsUnopened, IsLiveRefusedFor}
+use Rattle.live.specs.Missing.{DiskOn, medium_of}
+use Rattle.live.specs.Playing.{AnswersThrough, IsUnanswered}
+use Rattle.live.specs.Program.{IsUnopened, IsLiveRefusedFor, IsLiveStopped}
 use Rattle.live.specs.Status.{status_of, status_of_start, status_of_call, refusal_of_open, refusal_of_serving}
 use Rattle.live.specs.declared.refusal.Refusal.{Refusal}
 use Rattle.live.specs.declared.refusal.Refusal.TheVariants as refused
@@ -111,3 +116,57 @@ module _ (was now left after : Option (List ℕ)) (back : Option FileValue) (wor
   pub two_without_line : IsLiveRefusedFor was now left after back words refusal → (IsLiveLine words → ⊥) → status_of refusal ≡ 2
   two_without_line (inl (is, none, untouched)) never = ap status_of is
   two_without_line (inr (image, size, are, why)) never = absurd (never (image, size, are))
+
+-- ---- status 3
+
+-- the file refused a call that waited
+abbrev IsWaiting : FileFault → Type 0
+IsWaiting fault = (fault.call ≡ call.Write) ⊎ (fault.call ≡ call.Sync)
+
+waiting_not_three : (fault : FileFault) → IsWaiting fault → status_of_call fault.call ≡ 3 → ⊥
+waiting_not_three fault (inl write) is = omega (arith, sym (ap status_of_call write) ∙ is)
+waiting_not_three fault (inr sync) is = omega (arith, sym (ap status_of_call sync) ∙ is)
+
+part_not_three : (why : Option FileFault) (fault : FileFault) → why ≡ Some fault → IfSome why IsWaiting → status_of_call fault.call ≡ 3 → ⊥
+part_not_three why fault same named is = waiting_not_three fault (subst (λ (o : Option FileFault). IfSome o IsWaiting) same named) is
+
+player_not_three : (why : Option FileFault) → IfSome why IsWaiting → status_of (refusal_of_serving serve.Player why) ≡ 3 → ⊥
+player_not_three None named is = omega (arith, is)
+player_not_three (Some fault) named is = waiting_not_three fault named is
+
+serving_not_three : {D : Type 0} (told : D → Told) (holds : D → ℕ → List ℕ → Type 0) (refuses : D → ℕ → ℕ → Type 0) (most : ℕ)
+    (was now left after : Option (List ℕ)) (first last : DiskOn D) (fault : ServeFault)
+    → IsStoppedBy (AnswersThrough told holds refuses) (IsUnanswered told holds refuses) most was now first last left after fault
+    → status_of (refusal_of_serving fault (medium_of last).fault) ≡ 3 → ⊥
+serving_not_three told holds refuses most was now left after first last (serve.Line number) stops is = omega (arith, is)
+serving_not_three told holds refuses most was now left after first last serve.Reader stops is = omega (arith, is)
+serving_not_three told holds refuses most was now left after first last serve.Writer stops is = omega (arith, is)
+serving_not_three told holds refuses most was now left after first last serve.Player (script, all, stops) is =
+    player_not_three (medium_of last).fault stops.gives_up.stops.1.plays.carried.named is
+
+abbrev Unasked : Option FileValue → Type 0
+Unasked back = IfSome back (λ file. file ≡ fresh file.size)
+
+module _ (was now left after : Option (List ℕ)) (back : Option FileValue) where
+  stopped_unasked : (most : ℕ) (refusal : Refusal) → IsLiveStopped was now left after back most refusal → status_of refusal ≡ 3
+      → Unasked back
+  stopped_unasked most refusal stopped three =
+      let same : stopped.last ≡ stopped.opened → Unasked back
+      = λ same. subst Unasked (sym stopped.given) (subst (λ (f : FileValue). f ≡ fresh f.size) (sym same) stopped.unasked) in
+      elim stopped.refused [
+        | inl (inl (none, given), unread, kept) ↦ same given
+        | inl (inr on, unread, kept) ↦ elim on.refused [
+          | inl start ↦ same (start.unasked ∙ on.on.over.file_is)
+          | inr part ↦ absurd (part_not_three (medium_of part.disk).fault part.fault part.fault_is part.starts.carried.named
+              (sym (ap status_of part.refused_is) ∙ three))
+        ]
+        | inr serving ↦ absurd (serving_not_three _ _ _ most was now left after serving.first serving.last serving.fault serving.stopped
+            (sym (ap status_of serving.refused_is) ∙ three))
+      ]
+
+  -- at status 3 the file was asked for nothing, where one was opened
+  pub three_unasked : (words : List (List ℕ)) (refusal : Refusal) → IsLiveRefusedFor was now left after back words refusal
+      → status_of refusal ≡ 3 → Unasked back
+  three_unasked words refusal (inl (is, none, untouched)) three = subst Unasked (sym untouched.none) tt
+  three_unasked words refusal (inr (image, size, are, inl (unopened, untouched))) three = subst Unasked (sym untouched.none) tt
+  three_unasked words refusal (inr (image, size, are, inr stopped)) three = stopped_unasked _ refusal stopped three

@@ -1,5 +1,5 @@
 -- What the program that serves an image file line by line does.
-use Rattle.std.specs.Prelude.{◌≡◌, ◌⊎◌, ℕ, List, Option, Some, None, drop}
+use Rattle.std.specs.Prelude.{◌≡◌, ◌⊎◌, ◌≤◌, ℕ, List, Option, Some, None, IfSome, drop}
 use Rattle.std.specs.Io.KnownBytes.{Keeps}
 use Rattle.spec.specs.Packets.{bytes_of}
 use Rattle.spec.specs.declared.packet_size.PacketSize.{PacketSize}
@@ -24,6 +24,12 @@ holds_of file sector block = Unit {0}
 
 abbrev pub refuses_of : FileValue → ℕ → ℕ → Type 0
 refuses_of file first count = Unit {0}
+
+-- At most 5. At 3 the image has a fault: the file, where one was opened, was asked for nothing, so
+-- it refused no write.
+pub record IsLiveStatus (status : ℕ) (back : Option FileValue) : Type 0 where
+  pub most : status ≤ 5
+  pub unasked : status ≡ 3 → IfSome back (λ file. file ≡ fresh file.size)
 
 -- no file was opened: the null device was not, or the file refused
 abbrev pub IsUnopened : Refusal → Type 0

@@ -1,10 +1,10 @@
 //! The work of the program that serves an image file line by line.
-ghost use Rattle.std.specs.Prelude.{◌≡◌, ◌≢◌, ◌≤◌, List, ℕ, None, IfOk, IfErr, map, drop};
+ghost use Rattle.std.specs.Prelude.{◌≡◌, ◌≢◌, List, ℕ, None, IfOk, IfErr, map, drop};
 ghost use Rattle.spec.specs.Packets.{bytes_of};
 ghost use Rattle.device_file.specs.FileValue.{fresh};
 ghost use Rattle.live.specs.declared.refusal.Refusal.{Refusal};
 ghost use Rattle.live.specs.Program.{HasDoneLive, IsLive, IsLiveRefusedFor, IsLiveStopped};
-ghost use Rattle.live.specs.Program.{IsProgramRefused};
+ghost use Rattle.live.specs.Program.{IsLiveStatus, IsProgramRefused};
 ghost use Rattle.live.specs.Status.{status_of};
 ghost use Rattle.runner.specs.Live.{IsLiveLine};
 
@@ -28,7 +28,8 @@ type LeftFile = Option<SystemFile<File>>;
 ///
 /// The words are the image's, behind which `--packet 64` or `--packet 512` may stand: packets have
 /// at most so many bytes, 512 where nothing is told. A refusal names the image and the cause on
-/// `err`, and a line that is none of a script its number.
+/// `err`, and a line that is none of a script its number. At status 3, for a fault of the image,
+/// the file was asked for nothing.
 pub fn live_command<R: Files<File = File> + AllocGlobal, I: Read, O: Write, E: Write>(
     rt: &R,
     words: &[&str],
@@ -36,7 +37,7 @@ pub fn live_command<R: Files<File = File> + AllocGlobal, I: Read, O: Write, E: W
     out: &mut O,
     err: &mut E,
 ) -> Ended
-    ensures statuses { result.status ≤ 5 }
+    ensures statuses { IsLiveStatus result.status result.file }
     ensures done { result.status ≡ 0 → HasDoneLive (O.contents out.old) (O.contents out.new)
         (I.remaining input.old) (I.remaining input.new) result.file
         (map (λ word. word.now) words.now) × (err.new ≡ err.old) }
@@ -67,7 +68,7 @@ pub fn run_live<R: Env + Files<File = File> + AllocGlobal, I: Read, O: Write, E:
     out: &mut O,
     err: &mut E,
 ) -> Ended
-    ensures statuses { result.status ≤ 5 }
+    ensures statuses { IsLiveStatus result.status result.file }
     ensures done { result.status ≡ 0 → ((args : List (List ℕ))
         × HasDoneLive (O.contents out.old) (O.contents out.new) (I.remaining input.old)
         (I.remaining input.new) result.file (drop 1 args)) × (err.new ≡ err.old) }
