@@ -41,6 +41,6 @@ module _ {D : Type 0} (told : D → Told) (holds : D → ℕ → List ℕ → Ty
   -- No disk started, and nothing was read or written; or the input was served in part.
   abbrev pub IsNotServedOn : D → Refusal → Type 0
   IsNotServedOn back refusal =
-      (IsNotStartedOn told holds size device most file back refusal × (after ≡ left)
+      (IsNotStartedOn told holds size device most file refuses back refusal × (after ≡ left)
       × Keeps was now)
       ⊎ IsStoppedOn back refusal

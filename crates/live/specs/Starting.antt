@@ -54,11 +54,11 @@ module _ {D : Type 0} (holds : D → ℕ → List ℕ → Type 0) (size : D → 
     pub of : IsWindowOf file window
     pub over : IsOver window file m
 
--- no window was had over a file of so many sectors: it has none, it refused a read, or there was no
--- memory
-abbrev pub HasNoWindow : ℕ → Refusal → Type 0
-HasNoWindow size refusal =
-    ((why : OpenFault) × IsUnopened size why × (refusal ≡ refusal_of_open why))
+-- no window was had over a file that refuses these reads and has so many sectors: it has none, it
+-- refused a read of first ones, or there was no memory
+abbrev pub HasNoWindow : (ℕ → ℕ → Type 0) → ℕ → Refusal → Type 0
+HasNoWindow refuses size refusal =
+    ((why : OpenFault) × IsUnopened refuses size why × (refusal ≡ refusal_of_open why))
     ⊎ (refusal ≡ refused.NoMemory)
 
 -- Of a disk that started: what waits was asked of the file, and nothing else changed.
@@ -143,7 +143,7 @@ module _ {D : Type 0} (told : D → Told) (holds : D → ℕ → List ℕ → Ty
     pub on : IsMediumOn holds size device file medium
     pub refused : IsRefusedStart told most medium back refusal
 
-  -- or since no medium was had; the file was asked for nothing
-  abbrev pub IsNotStartedOn : D → Refusal → Type 0
-  IsNotStartedOn back refusal = (HasNoWindow (size file) refusal × (back ≡ file))
-      ⊎ IsRefusedOn back refusal
+  -- or since no medium was had of a file that refuses these reads; it was asked for nothing
+  abbrev pub IsNotStartedOn : (D → ℕ → ℕ → Type 0) → D → Refusal → Type 0
+  IsNotStartedOn refuses back refusal =
+      (HasNoWindow (refuses file) (size file) refusal × (back ≡ file)) ⊎ IsRefusedOn back refusal

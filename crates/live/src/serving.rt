@@ -22,7 +22,7 @@ use window::DeviceHolds;
 /// # Errors
 ///
 /// Why no disk started, and then nothing was read or written; or why the input was not served to
-/// its end.
+/// its end. A refused read of the first sectors is one that the file refused.
 pub fn serve_file<D: DeviceFile, I: Read, O: Write>(
     alloc: Global,
     file: D,

@@ -36,7 +36,7 @@ pub(crate) fn start_on<D: DeviceFile>(
     ensures started { IfOk result (IsStartedOn D.told D.holds D.size device.now.bytes
         (bytes_of size) file) }
     ensures refused { IfErr result (λ stopped. IsNotStartedOn D.told D.holds D.size
-        device.now.bytes (bytes_of size) file stopped.file stopped.refusal) }
+        device.now.bytes (bytes_of size) file D.refuses stopped.file stopped.refusal) }
 {
     let window = match window_over(alloc, &file, device) {
         Ok(window) => window,
@@ -64,7 +64,7 @@ fn window_over<D: DeviceFile>(
     device: &DeviceHolds,
 ) -> Result<WindowMedium, Refusal>
     ensures ok { IfOk result (IsWindowOf D.holds D.size device.now.bytes file.now) }
-    ensures err { IfErr result (HasNoWindow (D.size file.now)) }
+    ensures err { IfErr result (HasNoWindow (D.refuses file.now) (D.size file.now)) }
 {
     let first = match FirstSectors::read(alloc, file) {
         Ok(first) => first,
