@@ -6,3 +6,4 @@ pub mod Lines
 pub mod Options
 pub mod Exports
 pub mod Imports
+pub mod Misses

@@ -5,6 +5,7 @@ use Rattle.mirror.specs.declared.call.DeviceCall.{DeviceCall}
 use Rattle.mirror.specs.declared.call.DeviceCall.TheVariants.{Flush}
 use Rattle.journal.specs.declared.super_sector.Super.{Super}
 use Rattle.window.specs.Window.{Window, state_of, ComesAfter}
+use Rattle.recovery.specs.Causes.{IsDeviceFault}
 use Rattle.recovery.specs.Copies.{most_start_sends}
 use Rattle.recovery.specs.Recovered.{IsRecoveredFrom, IsRecoveryRefusal}
 use Rattle.recovery.specs.declared.recovered.Recovered.{Recovered}
@@ -15,7 +16,7 @@ use Rattle.device_file.specs.Copied.{some_writes, moved_calls, asked_until, IsAs
 use Rattle.device_file.specs.declared.copying.CopyFault.{CopyFault}
 use Rattle.device_file.specs.declared.fault.FileFault.{FileFault}
 use Rattle.device_file.specs.declared.opening.FirstSectors.{FirstSectors}
-use Rattle.images.specs.Opened.{IsWindowOver}
+use Rattle.images.specs.Opened.{IsWindowOver, HaveImage}
 use Rattle.images.specs.declared.refusal.Refusal.{Refusal}
 use Rattle.images.specs.declared.refusal.Refusal.TheVariants as refused
 
@@ -33,13 +34,16 @@ pub record IsRecoveredIn (first : FirstSectors) (sizes : Super) (after : Window)
   pub recovered : IsRecoveredFrom (state_of window) (state_of after) answer
   pub follows : ComesAfter window after
 
--- the image has a fault
+-- The image has a fault. Where it has a super, and the file all of its sectors, the fault is that of
+-- no call.
 pub record HasFaultIn (first : FirstSectors) (refusal : Refusal) : Type 0 where
   pub window : Window
   pub over : IsWindowOver first (recovery_room first.sizes) window
   pub after : Window
   pub fault : StartFault
   pub cause : IsRecoveryRefusal (state_of window) (state_of after) fault
+  pub follows : ComesAfter window after
+  pub by_image : (sizes : Super) → HaveImage first sizes → ¬ IsDeviceFault fault
   pub refused_is : refusal ≡ refused.Image fault
 
 -- it was not recovered in a window

@@ -4,6 +4,7 @@ use Rattle.std.specs.Prelude.{None}
 use Rattle.journal.specs.declared.super_sector.Super.{Super}
 use Rattle.window.specs.Window.{Window, state_of, ComesAfter, CoversDevice}
 use Rattle.recovery.specs.Migrated.{IsMigrationBy, IsMigrationRefusal, MigrationLeaves}
+use Rattle.recovery.specs.Causes.{IsDeviceFault}
 use Rattle.recovery.specs.Migrated.{most_migration_sends}
 use Rattle.recovery.specs.declared.recovered.Recovered.{Recovered}
 use Rattle.recovery.specs.declared.start_fault.StartFault.{StartFault}
@@ -11,7 +12,7 @@ use Rattle.device_file.specs.Asked.{Told}
 use Rattle.device_file.specs.Outbox.{IsCarriedOut}
 use Rattle.device_file.specs.declared.fault.FileFault.{FileFault}
 use Rattle.device_file.specs.declared.opening.FirstSectors.{FirstSectors}
-use Rattle.images.specs.Opened.{IsWindowOver}
+use Rattle.images.specs.Opened.{IsWindowOver, HaveImage}
 use Rattle.images.specs.Texts.{ended}
 use Rattle.images.specs.declared.refusal.Refusal.{Refusal}
 use Rattle.images.specs.declared.refusal.Refusal.TheVariants as refused
@@ -57,14 +58,16 @@ pub record IsMigratedInPart (first : FirstSectors) (old new : Told) (refusal : R
   pub fault : FileFault
   pub refused_is : refusal ≡ refused.File fault
 
--- The image has a fault: the file is asked for nothing. No write and no flush was refused for want
--- of room where it has a super.
+-- The image has a fault: the file is asked for nothing. Where it has a super, and the file all of
+-- its sectors, the fault is that of no call.
 pub record HasFault (first : FirstSectors) (old new : Told) (refusal : Refusal) : Type 0 where
   pub window : Window
   pub over : IsWindowOver first (migration_room first.sizes) window
   pub after : Window
   pub fault : StartFault
   pub cause : IsMigrationRefusal (state_of window) (state_of after) fault
+  pub follows : ComesAfter window after
+  pub by_image : (sizes : Super) → HaveImage first sizes → ¬ IsDeviceFault fault
   pub refused_is : refusal ≡ refused.Image fault
   pub unasked : new ≡ old
 

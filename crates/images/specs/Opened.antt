@@ -1,6 +1,9 @@
 -- Files that were opened or made, and a window over that of an image.
-use Rattle.std.specs.Prelude.{◌≡◌, ◌⊎◌, ◌*◌, ℕ, List, length, min, Option, Some}
+use Rattle.std.specs.Prelude.{◌≡◌, ◌⊎◌, ◌*◌, ◌+◌, ◌≤◌, ℕ, List, length, min, Option, Some}
 use Rattle.medium.specs.Writes.{sector_of}
+use Rattle.journal.specs.Sectors.{IsSuper}
+use Rattle.journal.specs.Values.{shape_of}
+use Rattle.journal.specs.declared.super_sector.Super.{Super}
 use Rattle.window.specs.Window.{Window}
 use Rattle.window.specs.Window as window
 use Rattle.device_file.specs.FileValue.{FileValue, fresh}
@@ -17,6 +20,12 @@ pub record HasFirst (size : ℕ) (first : FirstSectors) : Type 0 where
   pub size_is : first.sectors ≡ size
   pub spells : SpellsSuper first.sizes (sector_of first.bytes.items 0)
   pub count : length first.bytes.items ≡ 512 * min (near_of first.sizes) size
+
+-- Their first sector spells this super, and the file has all sectors of the image.
+pub record HaveImage (first : FirstSectors) (sizes : Super) : Type 0 where
+  pub sizes_are : first.sizes ≡ Some sizes
+  pub spells : IsSuper (shape_of sizes) (sector_of first.bytes.items 0)
+  pub fits : sizes.home + sizes.blocks ≤ first.sectors
 
 -- a window over a device that holds these first sectors, with room for so many calls
 abbrev pub IsWindowOver : FirstSectors → ℕ → Window → Type 0

@@ -173,6 +173,8 @@ pub fn recover_in_window(
 {
     let room = room_to_recover(&first.sizes);
     let mut window = window_over(alloc, first, room)?;
+    // The law of the outbox, from the first call on.
+    let _waiting = window.waiting();
     match recover(&mut window) {
         Ok(recovered) => Ok((window, recovered.sizes)),
         Err(fault) => Err(Refusal::Image(fault)),

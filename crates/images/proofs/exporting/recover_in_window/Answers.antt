@@ -1,6 +1,19 @@
-use Rattle.std.proofs.Common.{ℕ, inr, refl, subst}
+use Rattle.std.proofs.Common.{◌≡◌, ◌≤◌, ◌+◌, ℕ, inr, refl, sym, subst}
+use Rattle.std.specs.Prelude.{Option, Some, None}
+use Rattle.journal.specs.Places.{Shape}
+use Rattle.journal.specs.Values.{shape_of}
+use Rattle.journal.specs.declared.super_sector.Super.{Super}
+use Rattle.recovery.specs.Copies.{most_start_sends}
+use Rattle.window.specs.Window.{state_of}
+use Rattle.images.specs.Exporting.{recovery_room}
+use Rattle.images.proofs.Misses.{misses, by_image}
 use Rattle.images.specs.Opened.{IsWindowOver}
 use Rattle.images.proofs.exporting.recover_in_window.Goals as goal
+
+few : (x y : ℕ) (told : Option Super) (sizes : Super) (shape : Shape) → told ≡ Some sizes → shape ≡ shape_of sizes
+    → x ≤ y + most_start_sends shape.format shape.slots → x ≤ y + recovery_room told
+few x y told sizes shape is same most = subst (λ (z : Option Super). x ≤ y + recovery_room z) (sym is)
+    (subst (λ (s : Shape). x ≤ y + most_start_sends s.format s.slots) same most)
 
 pub returns-in-Ok-clause-ok : goal.returns-in-Ok-clause-ok
 returns-in-Ok-clause-ok c = record {
@@ -21,5 +34,12 @@ returns-in-Err-clause-err c = inr (record {
   after = c.recover.new.m;
   fault = c.in-Err.fault;
   cause = c.in-Err.ensures.err;
+  follows = c.recover.ensures.follows;
+  by_image = λ sizes have. by_image (state_of c.in_ok-window.window) (state_of c.recover.new.m) c.in-Err.fault
+      (misses c.args.first sizes (recovery_room c.args.first.sizes) c.in_ok-window.window c.recover.new.m
+      (subst (λ (room : ℕ). IsWindowOver c.args.first room c.in_ok-window.window) c.room_to_recover-room.ensures
+      c.in_ok-window.ensures.ok) have (c.waiting-waiting.ensures.served c.recover.new.m c.recover.ensures.follows)
+      c.recover.ensures.leaves.looks (λ shape same has. few _ _ c.args.first.sizes sizes shape have.sizes_are same
+      (c.recover.ensures.leaves.sends.most shape has))) c.in-Err.ensures.err.cause;
   refused_is = refl;
 })

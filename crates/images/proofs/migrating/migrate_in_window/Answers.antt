@@ -1,6 +1,19 @@
-use Rattle.std.proofs.Common.{ℕ, inl, inr, refl, subst}
+use Rattle.std.proofs.Common.{◌≡◌, ◌≤◌, ◌+◌, ℕ, inl, inr, refl, sym, subst}
+use Rattle.std.specs.Prelude.{Option, Some, None}
+use Rattle.journal.specs.Places.{Shape}
+use Rattle.journal.specs.Values.{shape_of}
+use Rattle.journal.specs.declared.super_sector.Super.{Super}
+use Rattle.recovery.specs.Migrated.{most_migration_sends}
+use Rattle.window.specs.Window.{state_of}
+use Rattle.images.specs.Migrating.{migration_room}
+use Rattle.images.proofs.Misses.{misses, migration_by_image}
 use Rattle.images.specs.Opened.{IsWindowOver}
 use Rattle.images.proofs.migrating.migrate_in_window.Goals as goal
+
+few : (x y : ℕ) (told : Option Super) (sizes : Super) (shape : Shape) → told ≡ Some sizes → shape ≡ shape_of sizes
+    → x ≤ y + most_migration_sends shape.format shape.slots → x ≤ y + migration_room told
+few x y told sizes shape is same most = subst (λ (z : Option Super). x ≤ y + migration_room z) (sym is)
+    (subst (λ (s : Shape). x ≤ y + most_migration_sends s.format s.slots) same most)
 
 pub returns-in-Err-clause-err : goal.returns-in-Err-clause-err
 returns-in-Err-clause-err c = λ told. inr (inl (record {
@@ -10,6 +23,13 @@ returns-in-Err-clause-err c = λ told. inr (inl (record {
   after = c.migrate.new.m;
   fault = c.in-Err.fault;
   cause = c.in-Err.ensures.err;
+  follows = c.migrate.ensures.follows;
+  by_image = λ sizes have. migration_by_image (state_of c.in_ok-window.window) (state_of c.migrate.new.m) c.in-Err.fault
+      (misses c.args.first sizes (migration_room c.args.first.sizes) c.in_ok-window.window c.migrate.new.m
+      (subst (λ (room : ℕ). IsWindowOver c.args.first room c.in_ok-window.window) c.room_to_migrate-room.ensures
+      c.in_ok-window.ensures.ok) have (c.waiting-waiting.ensures.served c.migrate.new.m c.migrate.ensures.follows)
+      c.migrate.ensures.leaves.looks (λ shape same has. few _ _ c.args.first.sizes sizes shape have.sizes_are same
+      (c.migrate.ensures.leaves.sends shape has))) c.in-Err.ensures.err.cause;
   refused_is = refl;
   unasked = refl;
 }))
