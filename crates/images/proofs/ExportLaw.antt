@@ -36,15 +36,16 @@ read_at content first (x ∷ xs) read (suc n) below =
 whole_sector : (bytes : List ℕ) (s : ℕ) → s < length bytes / 512 → length (sector_of bytes s) ≡ 512
 whole_sector bytes s below = length-take-le 512 (drop (512 * s) bytes) (omega (arith, length-drop (512 * s) bytes, below))
 
-module _ (first : FirstSectors) (sizes : Super) (w : Window) (image : IsRecoveredIn first sizes w) where
+module _ (first : FirstSectors) (device : List ℕ) (sizes : Super) (w : Window)
+    (image : IsRecoveredIn first device sizes w) where
   abbrev whole : Device
   whole = durable image.window.seen.told.opening
 
   not_asked : image.window.seen.told.asked ≡ []
-  not_asked = ap (λ (v : Window). v.seen.told.asked) image.over.1
+  not_asked = ap (λ (v : Window). v.seen.told.asked) image.over
 
   none_out : image.window.outbox ≡ []
-  none_out = ap (λ (v : Window). v.outbox) image.over.1
+  none_out = ap (λ (v : Window). v.outbox) image.over
 
   content_was : (s : ℕ) → (state_of image.window).content s ≡ whole.content s
   content_was s = ap (λ (calls : List (Option DeviceCall)). (after whole (given calls)).content s) not_asked

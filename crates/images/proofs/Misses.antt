@@ -51,18 +51,17 @@ module _ (sectors : ℕ) (bytes holds : List ℕ) (room : ℕ) (sizes : Super) (
       (looks over.near held) (omega (arith, sends))
 
 -- So over the first sectors of an image, where there is the room.
-pub misses : (first : FirstSectors) (sizes : Super) (room : ℕ) (w after : Window) → IsWindowOver first room w
-    → HaveImage first sizes → IsServed w after → LooksAtLog (state_of w) (state_of after)
+pub misses : (first : FirstSectors) (device : List ℕ) (sizes : Super) (room : ℕ) (w after : Window)
+    → IsWindowOver first device room w → HaveImage first sizes → IsServed w after → LooksAtLog (state_of w) (state_of after)
     → ((shape : Shape) → shape ≡ shape_of sizes → HasShape (state_of w).size shape (state_of w).content
     → SendsUpTo room (state_of w) (state_of after))
     → (state_of after).failures ≡ (state_of w).failures
-misses first sizes room w after over have served looks sends =
+misses first device sizes room w after is have served looks sends =
     let counted = subst (λ (z : Option Super). length first.bytes.items ≡ 512 * min (near_of z) first.sectors) have.sizes_are
         first.count in
-    let is = over.1 in
-    let whole = shaped first.sectors first.bytes.items over.0 room sizes first.some counted have.spells have.fits in
+    let whole = shaped first.sectors first.bytes.items device room sizes first.some counted have.spells have.fits in
     let here = subst (λ (v : Window). HasShape (state_of v).size (shape_of sizes) (state_of v).content) (sym is) whole in
-    let same = none first.sectors first.bytes.items over.0 room sizes first.some counted have.spells have.fits after
+    let same = none first.sectors first.bytes.items device room sizes first.some counted have.spells have.fits after
         (subst (λ (v : Window). IsServed v after) is served)
         (subst (λ (v : Window). LooksAtLog (state_of v) (state_of after)) is looks)
         (subst (λ (v : Window). SendsUpTo room (state_of v) (state_of after)) is (sends (shape_of sizes) refl here)) in

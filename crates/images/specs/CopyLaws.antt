@@ -25,8 +25,9 @@ pub record HoldsBlocks (blocks : ℕ) (array : Array) (device : Device) : Type 0
 -- before. A plain file that carries out what an export asks of it holds the array that the recovery
 -- answers: the one for which the image stood.
 abbrev pub ExportingExports : Type 0
-ExportingExports = (first : FirstSectors) (sizes : Super) (w : Window)
-    (image : IsRecoveredIn first sizes w) (blocks : List (List ℕ)) → length blocks ≡ sizes.blocks
+ExportingExports = (first : FirstSectors) (device : List ℕ) (sizes : Super) (w : Window)
+    (image : IsRecoveredIn first device sizes w) (blocks : List (List ℕ))
+    → length blocks ≡ sizes.blocks
     → AreReadFrom (λ s block. block ≡ (state_of image.window).content s) sizes.home blocks
     → HoldsBlocks sizes.blocks image.recovered.array
     (after emptied (exporting sizes blocks w.outbox))

@@ -66,27 +66,27 @@ module _ (holds : ℕ → List ℕ → Type 0) (sizes : Super) (waiting : List D
   IsNoPlainCopy refusal =
       IsCopyUnmade refusal ⊎ (IsCopyStopped refusal ⊎ IsCopyUntold refusal)
 
--- of an image with these first sectors
-module _ (holds : ℕ → List ℕ → Type 0) (first : FirstSectors) (was now : Option (List ℕ))
-    (raw : Option FileValue) where
+-- of an image with these first sectors, on a device that holds these bytes behind them
+module _ (holds : ℕ → List ℕ → Type 0) (first : FirstSectors) (device : List ℕ)
+    (was now : Option (List ℕ)) (raw : Option FileValue) where
   -- it was recovered in a window, and copied
   pub record IsExported : Type 0 where
     pub sizes : Super
     pub after : Window
-    pub recovered : IsRecoveredIn first sizes after
+    pub recovered : IsRecoveredIn first device sizes after
     pub copied : IsPlainCopy holds sizes after.outbox was now raw
 
   -- it was recovered, and not copied
   pub record IsExportStopped (refusal : Refusal) : Type 0 where
     pub sizes : Super
     pub after : Window
-    pub recovered : IsRecoveredIn first sizes after
+    pub recovered : IsRecoveredIn first device sizes after
     pub stopped : IsNoPlainCopy holds sizes after.outbox was now raw refusal
 
   -- it was not recovered, and no plain file was made
   pub record IsExportUnbegun (refusal : Refusal) : Type 0 where
     pub none : raw ≡ None
-    pub cause : IsNotRecoveredIn first refusal
+    pub cause : IsNotRecoveredIn first device refusal
     pub kept : Keeps was now
 
   abbrev pub IsNotExported : Refusal → Type 0

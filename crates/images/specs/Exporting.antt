@@ -25,20 +25,23 @@ abbrev pub recovery_room : Option Super → ℕ
 recovery_room (Some sizes) = most_start_sends sizes.format sizes.slots
 recovery_room None = 1
 
--- the image over these first sectors was recovered in a window over its file
-pub record IsRecoveredIn (first : FirstSectors) (sizes : Super) (after : Window) : Type 0 where
+-- the image over these first sectors, with these bytes behind them, was recovered in a window over
+-- its file
+pub record IsRecoveredIn (first : FirstSectors) (device : List ℕ) (sizes : Super)
+    (after : Window) : Type 0 where
   pub window : Window
-  pub over : IsWindowOver first (recovery_room first.sizes) window
+  pub over : IsWindowOver first device (recovery_room first.sizes) window
   pub answer : Recovered
   pub sizes_are : sizes ≡ answer.sizes
   pub recovered : IsRecoveredFrom (state_of window) (state_of after) answer
   pub follows : ComesAfter window after
 
--- The image has a fault. Where it has a super, and the file all of its sectors, the fault is that of
--- no call.
-pub record HasFaultIn (first : FirstSectors) (refusal : Refusal) : Type 0 where
+-- The image has a fault. Where it has a super, and the file all of its sectors, the fault is that
+-- of no call.
+pub record HasFaultIn (first : FirstSectors) (device : List ℕ) (refusal : Refusal)
+    : Type 0 where
   pub window : Window
-  pub over : IsWindowOver first (recovery_room first.sizes) window
+  pub over : IsWindowOver first device (recovery_room first.sizes) window
   pub after : Window
   pub fault : StartFault
   pub cause : IsRecoveryRefusal (state_of window) (state_of after) fault
@@ -47,8 +50,9 @@ pub record HasFaultIn (first : FirstSectors) (refusal : Refusal) : Type 0 where
   pub refused_is : refusal ≡ refused.Image fault
 
 -- it was not recovered in a window
-abbrev pub IsNotRecoveredIn : FirstSectors → Refusal → Type 0
-IsNotRecoveredIn first refusal = (refusal ≡ refused.NoMemory) ⊎ HasFaultIn first refusal
+abbrev pub IsNotRecoveredIn : FirstSectors → List ℕ → Refusal → Type 0
+IsNotRecoveredIn first device refusal =
+    (refusal ≡ refused.NoMemory) ⊎ HasFaultIn first device refusal
 
 -- What a plain file is asked for: the blocks as they lie at home, but those of zeros; then, of what
 -- waits in the window, the writes that go home, in order; and a flush.

@@ -27,12 +27,14 @@ abbrev pub migration_text : Bool → List ℕ
 migration_text true = ended (codes "migrated")
 migration_text false = ended (codes "already format 2")
 
--- The image over these first sectors was migrated in a window over its file. What waits there then
+-- The image over these first sectors, with these bytes behind them, was migrated in a window over
+-- its file. What waits there then
 -- is all that was given to the device: wherever among these calls it is, a cut of it leaves what a
 -- cut at some moment of the migration could.
-pub record IsMigratedIn (first : FirstSectors) (was_one : Bool) (after : Window) : Type 0 where
+pub record IsMigratedIn (first : FirstSectors) (device : List ℕ) (was_one : Bool) (after : Window)
+    : Type 0 where
   pub window : Window
-  pub over : IsWindowOver first (migration_room first.sizes) window
+  pub over : IsWindowOver first device (migration_room first.sizes) window
   pub answer : Recovered
   pub migrated : IsMigrationBy was_one (state_of window) (state_of after) answer
   pub leaves : MigrationLeaves (state_of window) (state_of after)
@@ -40,19 +42,20 @@ pub record IsMigratedIn (first : FirstSectors) (was_one : Bool) (after : Window)
   pub covers : CoversDevice window after
 
 -- and all that waited there was asked of the file, in order, and carried out
-pub record IsMigratedOn (first : FirstSectors) (old new : Told) (was_one : Bool) : Type 0 where
+pub record IsMigratedOn (first : FirstSectors) (device : List ℕ) (old new : Told) (was_one : Bool)
+    : Type 0 where
   pub after : Window
-  pub migrated : IsMigratedIn first was_one after
+  pub migrated : IsMigratedIn first device was_one after
   pub left : Window
   pub carried : IsCarriedOut true old new after left
   pub none_left : left.outbox ≡ []
 
 -- or the file refused a call on the way there
-pub record IsMigratedInPart (first : FirstSectors) (old new : Told) (refusal : Refusal)
-    : Type 0 where
+pub record IsMigratedInPart (first : FirstSectors) (device : List ℕ) (old new : Told)
+    (refusal : Refusal) : Type 0 where
   pub was_one : Bool
   pub after : Window
-  pub migrated : IsMigratedIn first was_one after
+  pub migrated : IsMigratedIn first device was_one after
   pub left : Window
   pub carried : IsCarriedOut false old new after left
   pub fault : FileFault
@@ -60,9 +63,10 @@ pub record IsMigratedInPart (first : FirstSectors) (old new : Told) (refusal : R
 
 -- The image has a fault: the file is asked for nothing. Where it has a super, and the file all of
 -- its sectors, the fault is that of no call.
-pub record HasFault (first : FirstSectors) (old new : Told) (refusal : Refusal) : Type 0 where
+pub record HasFault (first : FirstSectors) (device : List ℕ) (old new : Told) (refusal : Refusal)
+    : Type 0 where
   pub window : Window
-  pub over : IsWindowOver first (migration_room first.sizes) window
+  pub over : IsWindowOver first device (migration_room first.sizes) window
   pub after : Window
   pub fault : StartFault
   pub cause : IsMigrationRefusal (state_of window) (state_of after) fault
@@ -72,6 +76,6 @@ pub record HasFault (first : FirstSectors) (old new : Told) (refusal : Refusal) 
   pub unasked : new ≡ old
 
 -- why an image in a file was not migrated
-abbrev pub IsNotMigratedOn : FirstSectors → Told → Told → Refusal → Type 0
-IsNotMigratedOn first old new refusal = ((refusal ≡ refused.NoMemory) × (new ≡ old))
-    ⊎ (HasFault first old new refusal ⊎ IsMigratedInPart first old new refusal)
+abbrev pub IsNotMigratedOn : FirstSectors → List ℕ → Told → Told → Refusal → Type 0
+IsNotMigratedOn first device old new refusal = ((refusal ≡ refused.NoMemory) × (new ≡ old))
+    ⊎ (HasFault first device old new refusal ⊎ IsMigratedInPart first device old new refusal)

@@ -27,10 +27,11 @@ pub record HaveImage (first : FirstSectors) (sizes : Super) : Type 0 where
   pub spells : IsSuper (shape_of sizes) (sector_of first.bytes.items 0)
   pub fits : sizes.home + sizes.blocks ≤ first.sectors
 
--- a window over a device that holds these first sectors, with room for so many calls
-abbrev pub IsWindowOver : FirstSectors → ℕ → Window → Type 0
-IsWindowOver first room w = (holds : List ℕ)
-    × (w ≡ window.fresh first.sectors first.bytes.items holds 0 room)
+-- a window over a device that holds these first sectors and behind them these bytes, with room for
+-- so many calls
+abbrev pub IsWindowOver : FirstSectors → List ℕ → ℕ → Window → Type 0
+IsWindowOver first device room w =
+    w ≡ window.fresh first.sectors first.bytes.items device 0 room
 
 -- a file was opened, and asked for nothing
 pub record IsOpened (back : Option FileValue) (first : FirstSectors) : Type 0 where

@@ -109,13 +109,15 @@ module _ (was now : Option (List ℕ)) (back : Option FileValue) where
   pub record IsShow : Type 0 where
     pub first : FirstSectors
     pub opened : IsOpened back first
-    pub shown : IsShown first was now
+    pub device : List ℕ
+    pub shown : IsShown first device was now
 
   -- it was not, or not all of it
   pub record IsOpenedNotShown (refusal : Refusal) : Type 0 where
     pub first : FirstSectors
     pub opened : IsOpened back first
-    pub not_shown : IsNotShown first was now refusal
+    pub device : List ℕ
+    pub not_shown : IsNotShown first device was now refusal
 
   abbrev pub IsShowRefused : Refusal → Type 0
   IsShowRefused refusal = HasNoImage refusal ⊎ IsOpenedNotShown refusal
@@ -127,7 +129,8 @@ module _ (was now : Option (List ℕ)) (back : Option FileValue) where
     pub first : FirstSectors
     pub has : HasFirst file.size first
     pub was_one : Bool
-    pub migrated : IsMigratedOn first begun file.told was_one
+    pub device : List ℕ
+    pub migrated : IsMigratedOn first device begun file.told was_one
     pub written : Appends was now (migration_text was_one)
 
   -- it was, but not all of that was written
@@ -137,7 +140,8 @@ module _ (was now : Option (List ℕ)) (back : Option FileValue) where
     pub first : FirstSectors
     pub has : HasFirst file.size first
     pub was_one : Bool
-    pub migrated : IsMigratedOn first begun file.told was_one
+    pub device : List ℕ
+    pub migrated : IsMigratedOn first device begun file.told was_one
     pub failed : refusal ≡ refused.Streams
     pub written : AppendsSome was now (migration_text was_one)
 
@@ -147,7 +151,8 @@ module _ (was now : Option (List ℕ)) (back : Option FileValue) where
     pub given : back ≡ Some file
     pub first : FirstSectors
     pub has : HasFirst file.size first
-    pub not_migrated : IsNotMigratedOn first begun file.told refusal
+    pub device : List ℕ
+    pub not_migrated : IsNotMigratedOn first device begun file.told refusal
     pub kept : Keeps was now
 
   abbrev pub IsMigrationRefused : Refusal → Type 0
@@ -165,13 +170,15 @@ module _ (was now : Option (List ℕ)) (back raw : Option FileValue) where
   pub record IsExport : Type 0 where
     pub first : FirstSectors
     pub opened : IsOpened back first
-    pub exported : IsExported unnamed first was now raw
+    pub device : List ℕ
+    pub exported : IsExported unnamed first device was now raw
 
   -- they were not, or not all of that was told
   pub record IsOpenedNotExported (refusal : Refusal) : Type 0 where
     pub first : FirstSectors
     pub opened : IsOpened back first
-    pub not_exported : IsNotExported unnamed first was now raw refusal
+    pub device : List ℕ
+    pub not_exported : IsNotExported unnamed first device was now raw refusal
 
   abbrev pub IsExportRefused : Refusal → Type 0
   IsExportRefused refusal =

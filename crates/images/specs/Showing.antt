@@ -34,12 +34,13 @@ sizes_text found = number_line (codes "format ") (version_of found.sizes.format)
 abbrev pub image_text : Inspection → List ℕ
 image_text found = sizes_text found ++ record_lines found.head found.waiting.items
 
--- Over these first sectors of a file. What was written then, and now.
-module _ (first : FirstSectors) (was now : Option (List ℕ)) where
+-- Over these first sectors of a file, on a device that holds these bytes behind them. What was
+-- written then, and now.
+module _ (first : FirstSectors) (device : List ℕ) (was now : Option (List ℕ)) where
   -- exactly what they stand for was told
   pub record IsShown : Type 0 where
     pub window : Window
-    pub over : IsWindowOver first 0 window
+    pub over : IsWindowOver first device 0 window
     pub answer : Inspection
     pub inspected : IsInspected (state_of window) answer
     pub written : Appends was now (image_text answer)
@@ -47,7 +48,7 @@ module _ (first : FirstSectors) (was now : Option (List ℕ)) where
   -- they have a fault, and nothing was told
   pub record IsFaulty (refusal : Refusal) : Type 0 where
     pub window : Window
-    pub over : IsWindowOver first 0 window
+    pub over : IsWindowOver first device 0 window
     pub after : Window
     pub fault : StartFault
     pub cause : IsLookRefusal (state_of window) (state_of after) fault
@@ -57,7 +58,7 @@ module _ (first : FirstSectors) (was now : Option (List ℕ)) where
   -- not all was told
   pub record IsShownInPart (refusal : Refusal) : Type 0 where
     pub window : Window
-    pub over : IsWindowOver first 0 window
+    pub over : IsWindowOver first device 0 window
     pub answer : Inspection
     pub inspected : IsInspected (state_of window) answer
     pub failed : refusal ≡ refused.Streams

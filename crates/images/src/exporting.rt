@@ -35,7 +35,7 @@ use recovery::recover;
 use std::alloc::Global;
 use std::fs::{File, Files};
 use std::io::{IsTerminal, Write};
-use window::WindowMedium;
+use window::{DeviceHolds, WindowMedium};
 
 /// Copies the blocks of an image file to a new plain file, and says how many there are.
 #[inline(never)]
@@ -53,7 +53,8 @@ pub(crate) fn export<R: Files<File = File> + AllocGlobal, O: Write, E: Write + I
         (O.contents out.new) refused.files.file refused.files.raw refused.refusal) }
 {
     let (file, first) = open_image(rt, image, Access::Look)?;
-    match export_from(rt, &file, first, raw, replace, out, err) {
+    let device = DeviceHolds::any();
+    match export_from(rt, &file, first, &device, raw, replace, out, err) {
         Ok(plain) => Ok(both(file, plain)),
         Err(stopped) => Err(Refused {
             refusal: stopped.refusal,
@@ -81,17 +82,18 @@ fn export_from<R: Files<File = File> + AllocGlobal, S: DeviceFile, O: Write, E: 
     rt: &R,
     image: &S,
     first: FirstSectors,
+    device: &DeviceHolds,
     raw: &str,
     replace: bool,
     out: &mut O,
     err: &mut E,
 ) -> Result<SystemFile<File>, Stopped>
-    ensures ok { IfOk result (λ plain. IsExported (S.holds image.now) first (O.contents out.old)
-        (O.contents out.new) (Some plain)) }
-    ensures err { IfErr result (λ stopped. IsNotExported (S.holds image.now) first
+    ensures ok { IfOk result (λ plain. IsExported (S.holds image.now) first device.now.bytes
+        (O.contents out.old) (O.contents out.new) (Some plain)) }
+    ensures err { IfErr result (λ stopped. IsNotExported (S.holds image.now) first device.now.bytes
         (O.contents out.old) (O.contents out.new) stopped.file stopped.refusal) }
 {
-    match recover_in_window(rt.alloc(), first) {
+    match recover_in_window(rt.alloc(), first, device) {
         Ok((mut window, sizes)) => {
             copy_out(rt, image, &sizes, &mut window, raw, replace, out, err)
         }
@@ -159,20 +161,23 @@ fn refusal_of(fault: CopyFault) -> Refusal
 }
 
 /// Recovers an image with these first sectors in a window over its file, which is asked for
-/// nothing. What the recovery would write waits in the window then.
+/// nothing. What the recovery would write waits in the window then. Behind the first sectors the
+/// device holds what the caller says, whatever that is.
 ///
 /// # Errors
 ///
-/// The fault of the image, and `NoMemory`.
+/// The fault of the image, and `NoMemory`. Where the first sectors begin with a super, and the file
+/// has all sectors of its image, the fault is never that a call was refused.
 pub fn recover_in_window(
     alloc: Global,
     first: FirstSectors,
+    device: &DeviceHolds,
 ) -> Result<(WindowMedium, Super), Refusal>
-    ensures ok { IfOk result (λ image. IsRecoveredIn first image.1 image.0) }
-    ensures err { IfErr result (IsNotRecoveredIn first) }
+    ensures ok { IfOk result (λ image. IsRecoveredIn first device.now.bytes image.1 image.0) }
+    ensures err { IfErr result (IsNotRecoveredIn first device.now.bytes) }
 {
     let room = room_to_recover(&first.sizes);
-    let mut window = window_over(alloc, first, room)?;
+    let mut window = window_over(alloc, first, device, room)?;
     // The law of the outbox, from the first call on.
     let _waiting = window.waiting();
     match recover(&mut window) {

@@ -16,7 +16,7 @@ use journal::{LogFormat, Super};
 use std::alloc::Global;
 use std::fs::{File, Files};
 use std::io::Write;
-use window::WindowMedium;
+use window::{DeviceHolds, WindowMedium};
 
 /// Brings an image file to format 2, and says whether it was of format 1.
 #[inline(never)]
@@ -33,7 +33,8 @@ pub(crate) fn migrate<R: Files<File = File> + AllocGlobal, O: Write>(
         return Err(Stopped::from(Refusal::NoMemory));
     };
     let (mut file, first) = open_image(rt, image, Access::Change)?;
-    let was_one = match migrate_file(rt.alloc(), &mut file, first, &mut run) {
+    let device = DeviceHolds::any();
+    let was_one = match migrate_file(rt.alloc(), &mut file, first, &device, &mut run) {
         Ok(was_one) => was_one,
         Err(refusal) => {
             return Err(Stopped {
@@ -53,18 +54,21 @@ pub(crate) fn migrate<R: Files<File = File> + AllocGlobal, O: Write>(
 
 /// Has a file with these first sectors carry out what a migration of its image sends, in order. It
 /// answers whether the image was of format 1. Where the image has a fault, the file is asked for
-/// nothing.
+/// nothing. Behind the first sectors the device holds what the caller says.
 pub(crate) fn migrate_file<D: DeviceFile>(
     alloc: Global,
     file: &mut D,
     first: FirstSectors,
+    device: &DeviceHolds,
     run: &mut Run,
 ) -> Result<bool, Refusal>
-    ensures ok { IfOk result (IsMigratedOn first (D.told file.old) (D.told file.new)) }
-    ensures err { IfErr result (IsNotMigratedOn first (D.told file.old) (D.told file.new)) }
+    ensures ok { IfOk result (IsMigratedOn first device.now.bytes (D.told file.old)
+        (D.told file.new)) }
+    ensures err { IfErr result (IsNotMigratedOn first device.now.bytes (D.told file.old)
+        (D.told file.new)) }
     ensures size { D.size file.new ≡ D.size file.old }
 {
-    let (mut window, was_one) = migrate_in_window(alloc, first)?;
+    let (mut window, was_one) = migrate_in_window(alloc, first, device)?;
     match carry_all(&mut window, file, run) {
         Ok(()) => Ok(was_one),
         Err(fault) => Err(Refusal::File(fault)),
@@ -73,13 +77,17 @@ pub(crate) fn migrate_file<D: DeviceFile>(
 
 // Migrates an image with these first sectors in a window over its file, which is asked for nothing.
 // It answers whether the image was of format 1.
-fn migrate_in_window(alloc: Global, first: FirstSectors) -> Result<(WindowMedium, bool), Refusal>
-    ensures ok { IfOk result (λ image. IsMigratedIn first image.1 image.0) }
+fn migrate_in_window(
+    alloc: Global,
+    first: FirstSectors,
+    device: &DeviceHolds,
+) -> Result<(WindowMedium, bool), Refusal>
+    ensures ok { IfOk result (λ image. IsMigratedIn first device.now.bytes image.1 image.0) }
     ensures err { IfErr result (λ refusal. (told : Told)
-        → IsNotMigratedOn first told told refusal) }
+        → IsNotMigratedOn first device.now.bytes told told refusal) }
 {
     let room = room_to_migrate(&first.sizes);
-    let mut window = window_over(alloc, first, room)?;
+    let mut window = window_over(alloc, first, device, room)?;
     // The law of the outbox, from the first call on.
     let _waiting = window.waiting();
     match recovery::migrate(&mut window) {

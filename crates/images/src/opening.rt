@@ -124,18 +124,18 @@ fn refusal_of(fault: OpenFault) -> Refusal
     }
 }
 
-/// A window over a file with these first sectors, with room for so many calls. None of the others
-/// is ever shown.
+/// A window over a file with these first sectors, with room for so many calls. Of the others, which
+/// the device is thought to hold, none is ever shown.
 pub(crate) fn window_over(
     alloc: Global,
     first: FirstSectors,
+    device: &DeviceHolds,
     room: usize,
 ) -> Result<WindowMedium, Refusal>
-    ensures ok { IfOk result (IsWindowOver first room) }
+    ensures ok { IfOk result (IsWindowOver first device.now.bytes room) }
     ensures err { IfErr result (λ refusal. refusal ≡ Refusal.NoMemory) }
 {
-    let device = DeviceHolds::any();
-    match first.into_window(alloc, &device, 0, room) {
+    match first.into_window(alloc, device, 0, room) {
         Ok(window) => Ok(window),
         Err(_) => Err(Refusal::NoMemory),
     }

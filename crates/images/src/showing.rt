@@ -13,6 +13,7 @@ use recovery::inspect;
 use std::alloc::Global;
 use std::fs::{File, Files};
 use std::io::Write;
+use window::DeviceHolds;
 
 /// Tells what is in an image file, which is asked for nothing.
 #[inline(never)]
@@ -26,7 +27,8 @@ pub(crate) fn show<R: Files<File = File> + AllocGlobal, O: Write>(
         (O.contents out.new) stopped.file stopped.refusal) }
 {
     let (file, first) = open_image(rt, image, Access::Look)?;
-    match show_first(rt.alloc(), first, out) {
+    let device = DeviceHolds::any();
+    match show_first(rt.alloc(), first, &device, out) {
         Ok(()) => Ok(Some(file)),
         Err(refusal) => Err(Stopped {
             refusal,
@@ -36,11 +38,18 @@ pub(crate) fn show<R: Files<File = File> + AllocGlobal, O: Write>(
 }
 
 // Tells what the first sectors of an image say.
-fn show_first<O: Write>(alloc: Global, first: FirstSectors, out: &mut O) -> Result<(), Refusal>
-    ensures ok { OnOk result (IsShown first (O.contents out.old) (O.contents out.new)) }
-    ensures err { IfErr result (IsNotShown first (O.contents out.old) (O.contents out.new)) }
+fn show_first<O: Write>(
+    alloc: Global,
+    first: FirstSectors,
+    device: &DeviceHolds,
+    out: &mut O,
+) -> Result<(), Refusal>
+    ensures ok { OnOk result (IsShown first device.now.bytes (O.contents out.old)
+        (O.contents out.new)) }
+    ensures err { IfErr result (IsNotShown first device.now.bytes (O.contents out.old)
+        (O.contents out.new)) }
 {
-    let mut window = window_over(alloc, first, 0)?;
+    let mut window = window_over(alloc, first, device, 0)?;
     let found = match inspect(&mut window) {
         Ok(found) => found,
         Err(fault) => return Err(Refusal::Image(fault)),

@@ -10,6 +10,7 @@ returns-in-Err-clause-refused g c = inr (record {
     untouched = c.in_ok-file.ensures.ok.0;
     has = c.in_ok-file.ensures.ok.1;
   };
+  device = c.any-device.result.bytes;
   not_exported = c.in-Err.ensures.err;
 })
 
@@ -22,5 +23,6 @@ returns-in-Ok-clause-done g c = rw c.both.ensures (record {
     untouched = c.in_ok-file.ensures.ok.0;
     has = c.in_ok-file.ensures.ok.1;
   };
+  device = c.any-device.result.bytes;
   exported = c.in-Ok.ensures.ok;
 })

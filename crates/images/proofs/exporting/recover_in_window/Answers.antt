@@ -1,5 +1,5 @@
 use Rattle.std.proofs.Common.{◌≡◌, ◌≤◌, ◌+◌, ℕ, inr, refl, sym, subst}
-use Rattle.std.specs.Prelude.{Option, Some, None}
+use Rattle.std.specs.Prelude.{Option, Some}
 use Rattle.journal.specs.Places.{Shape}
 use Rattle.journal.specs.Values.{shape_of}
 use Rattle.journal.specs.declared.super_sector.Super.{Super}
@@ -18,8 +18,8 @@ few x y told sizes shape is same most = subst (λ (z : Option Super). x ≤ y + 
 pub returns-in-Ok-clause-ok : goal.returns-in-Ok-clause-ok
 returns-in-Ok-clause-ok c = record {
   window = c.in_ok-window.window;
-  over = subst (λ (room : ℕ). IsWindowOver c.args.first room c.in_ok-window.window) c.room_to_recover-room.ensures
-      c.in_ok-window.ensures.ok;
+  over = subst (λ (room : ℕ). IsWindowOver c.args.first c.args.device.now.bytes room c.in_ok-window.window)
+      c.room_to_recover-room.ensures c.in_ok-window.ensures.ok;
   answer = c.in-Ok.recovered;
   sizes_are = refl;
   recovered = c.in-Ok.ensures.ok;
@@ -27,19 +27,20 @@ returns-in-Ok-clause-ok c = record {
 }
 
 pub returns-in-Err-clause-err : goal.returns-in-Err-clause-err
-returns-in-Err-clause-err c = inr (record {
-  window = c.in_ok-window.window;
-  over = subst (λ (room : ℕ). IsWindowOver c.args.first room c.in_ok-window.window) c.room_to_recover-room.ensures
-      c.in_ok-window.ensures.ok;
-  after = c.recover.new.m;
-  fault = c.in-Err.fault;
-  cause = c.in-Err.ensures.err;
-  follows = c.recover.ensures.follows;
-  by_image = λ sizes have. by_image (state_of c.in_ok-window.window) (state_of c.recover.new.m) c.in-Err.fault
-      (misses c.args.first sizes (recovery_room c.args.first.sizes) c.in_ok-window.window c.recover.new.m
-      (subst (λ (room : ℕ). IsWindowOver c.args.first room c.in_ok-window.window) c.room_to_recover-room.ensures
-      c.in_ok-window.ensures.ok) have (c.waiting-waiting.ensures.served c.recover.new.m c.recover.ensures.follows)
-      c.recover.ensures.leaves.looks (λ shape same has. few _ _ c.args.first.sizes sizes shape have.sizes_are same
-      (c.recover.ensures.leaves.sends.most shape has))) c.in-Err.ensures.err.cause;
-  refused_is = refl;
-})
+returns-in-Err-clause-err c =
+    let over = subst (λ (room : ℕ). IsWindowOver c.args.first c.args.device.now.bytes room c.in_ok-window.window)
+    c.room_to_recover-room.ensures c.in_ok-window.ensures.ok in
+    inr (record {
+      window = c.in_ok-window.window;
+      over = over;
+      after = c.recover.new.m;
+      fault = c.in-Err.fault;
+      cause = c.in-Err.ensures.err;
+      follows = c.recover.ensures.follows;
+      by_image = λ sizes have. by_image (state_of c.in_ok-window.window) (state_of c.recover.new.m) c.in-Err.fault
+          (misses c.args.first c.args.device.now.bytes sizes (recovery_room c.args.first.sizes) c.in_ok-window.window
+          c.recover.new.m over have (c.waiting-waiting.ensures.served c.recover.new.m c.recover.ensures.follows)
+          c.recover.ensures.leaves.looks (λ shape same has. few _ _ c.args.first.sizes sizes shape have.sizes_are same
+          (c.recover.ensures.leaves.sends.most shape has))) c.in-Err.ensures.err.cause;
+      refused_is = refl;
+    })

@@ -22,8 +22,9 @@ returns-in-Err-clause-refused g c = inr (inl (record {
   given = refl;
   first = c.in_ok-file.first;
   has = sized c.in_ok-file.file c.migrate_file.new.file c.in_ok-file.first c.in-Err.ensures.size c.in_ok-file.ensures.ok.1;
+  device = c.any-device.result.bytes;
   not_migrated = subst
-      (λ (told : Told). IsNotMigratedOn c.in_ok-file.first told c.migrate_file.new.file.told c.in-Err.refusal)
+      (λ (told : Told). IsNotMigratedOn c.in_ok-file.first c.any-device.result.bytes told c.migrate_file.new.file.told c.in-Err.refusal)
       (unasked c.in_ok-file.file c.in_ok-file.ensures.ok.0) c.in-Err.ensures.err;
   kept = Keeps-refl (g.O.Write.contents c.args.out.now);
 }))
@@ -36,8 +37,10 @@ returns-in-Ok-write_out-clause-done g c = record {
   has = sized c.in_ok-file.file c.migrate_file.new.file c.in_ok-file.first c.in-Ok-migrate_file.ensures.size
       c.in_ok-file.ensures.ok.1;
   was_one = c.in-Ok-migrate_file.was_one;
+  device = c.any-device.result.bytes;
   migrated = subst
-      (λ (told : Told). IsMigratedOn c.in_ok-file.first told c.migrate_file.new.file.told c.in-Ok-migrate_file.was_one)
+      (λ (told : Told). IsMigratedOn c.in_ok-file.first c.any-device.result.bytes told c.migrate_file.new.file.told
+      c.in-Ok-migrate_file.was_one)
       (unasked c.in_ok-file.file c.in_ok-file.ensures.ok.0) c.in-Ok-migrate_file.ensures.ok;
   written = subst
       (λ (text : List ℕ). Appends (g.O.Write.contents c.args.out.now) (g.O.Write.contents c.write_out.new.out) text)
@@ -52,8 +55,10 @@ returns-clause-refused g c = inr (inr (record {
   has = sized c.in_ok-file.file c.migrate_file.new.file c.in_ok-file.first c.in-Ok-migrate_file.ensures.size
       c.in_ok-file.ensures.ok.1;
   was_one = c.in-Ok-migrate_file.was_one;
+  device = c.any-device.result.bytes;
   migrated = subst
-      (λ (told : Told). IsMigratedOn c.in_ok-file.first told c.migrate_file.new.file.told c.in-Ok-migrate_file.was_one)
+      (λ (told : Told). IsMigratedOn c.in_ok-file.first c.any-device.result.bytes told c.migrate_file.new.file.told
+      c.in-Ok-migrate_file.was_one)
       (unasked c.in_ok-file.file c.in_ok-file.ensures.ok.0) c.in-Ok-migrate_file.ensures.ok;
   failed = refl;
   written = subst

@@ -1,5 +1,5 @@
 use Rattle.std.proofs.Common.{◌≡◌, ◌≤◌, ◌+◌, ℕ, inl, inr, refl, sym, subst}
-use Rattle.std.specs.Prelude.{Option, Some, None}
+use Rattle.std.specs.Prelude.{Option, Some}
 use Rattle.journal.specs.Places.{Shape}
 use Rattle.journal.specs.Values.{shape_of}
 use Rattle.journal.specs.declared.super_sector.Super.{Super}
@@ -16,29 +16,31 @@ few x y told sizes shape is same most = subst (λ (z : Option Super). x ≤ y + 
     (subst (λ (s : Shape). x ≤ y + most_migration_sends s.format s.slots) same most)
 
 pub returns-in-Err-clause-err : goal.returns-in-Err-clause-err
-returns-in-Err-clause-err c = λ told. inr (inl (record {
-  window = c.in_ok-window.window;
-  over = subst (λ (room : ℕ). IsWindowOver c.args.first room c.in_ok-window.window) c.room_to_migrate-room.ensures
-      c.in_ok-window.ensures.ok;
-  after = c.migrate.new.m;
-  fault = c.in-Err.fault;
-  cause = c.in-Err.ensures.err;
-  follows = c.migrate.ensures.follows;
-  by_image = λ sizes have. migration_by_image (state_of c.in_ok-window.window) (state_of c.migrate.new.m) c.in-Err.fault
-      (misses c.args.first sizes (migration_room c.args.first.sizes) c.in_ok-window.window c.migrate.new.m
-      (subst (λ (room : ℕ). IsWindowOver c.args.first room c.in_ok-window.window) c.room_to_migrate-room.ensures
-      c.in_ok-window.ensures.ok) have (c.waiting-waiting.ensures.served c.migrate.new.m c.migrate.ensures.follows)
-      c.migrate.ensures.leaves.looks (λ shape same has. few _ _ c.args.first.sizes sizes shape have.sizes_are same
-      (c.migrate.ensures.leaves.sends shape has))) c.in-Err.ensures.err.cause;
-  refused_is = refl;
-  unasked = refl;
-}))
+returns-in-Err-clause-err c = λ told.
+    let over = subst (λ (room : ℕ). IsWindowOver c.args.first c.args.device.now.bytes room c.in_ok-window.window)
+    c.room_to_migrate-room.ensures c.in_ok-window.ensures.ok in
+    inr (inl (record {
+      window = c.in_ok-window.window;
+      over = over;
+      after = c.migrate.new.m;
+      fault = c.in-Err.fault;
+      cause = c.in-Err.ensures.err;
+      follows = c.migrate.ensures.follows;
+      by_image = λ sizes have. migration_by_image (state_of c.in_ok-window.window) (state_of c.migrate.new.m)
+          c.in-Err.fault (misses c.args.first c.args.device.now.bytes sizes (migration_room c.args.first.sizes)
+          c.in_ok-window.window c.migrate.new.m over have
+          (c.waiting-waiting.ensures.served c.migrate.new.m c.migrate.ensures.follows)
+          c.migrate.ensures.leaves.looks (λ shape same has. few _ _ c.args.first.sizes sizes shape have.sizes_are same
+          (c.migrate.ensures.leaves.sends shape has))) c.in-Err.ensures.err.cause;
+      refused_is = refl;
+      unasked = refl;
+    }))
 
 pub returns-in-Ok-clause-ok : goal.returns-in-Ok-clause-ok
 returns-in-Ok-clause-ok c = record {
   window = c.in_ok-window.window;
-  over = subst (λ (room : ℕ). IsWindowOver c.args.first room c.in_ok-window.window) c.room_to_migrate-room.ensures
-      c.in_ok-window.ensures.ok;
+  over = subst (λ (room : ℕ). IsWindowOver c.args.first c.args.device.now.bytes room c.in_ok-window.window)
+      c.room_to_migrate-room.ensures c.in_ok-window.ensures.ok;
   answer = c.in-Ok.field-0-0;
   migrated = c.in-Ok.ensures.ok;
   leaves = c.migrate.ensures.leaves;

@@ -10,5 +10,6 @@ returns-in-Err-clause-refused g c = inr (record {
     untouched = c.in_ok-file.ensures.ok.0;
     has = c.in_ok-file.ensures.ok.1;
   };
+  device = c.any-device.result.bytes;
   not_shown = c.in-Err.ensures.err;
 })
