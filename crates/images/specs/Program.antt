@@ -9,12 +9,14 @@ use Rattle.device_file.specs.FileValue.{FileValue, fresh}
 use Rattle.device_file.specs.declared.fault.FileFault.{FileFault}
 use Rattle.device_file.specs.declared.opening.FirstSectors.{FirstSectors}
 use Rattle.console.specs.Streams.{AppendsSome}
+use Rattle.console.specs.declared.words.ArgumentFault.{ArgumentFault}
 use Rattle.images.specs.NewImage.{IsAskedToBe}
 use Rattle.images.specs.Texts.{ended}
 use Rattle.images.specs.Limits.{AreLimits}
 use Rattle.images.specs.Opened.{IsOpened, IsOpenedAlone, IsPlainUnopened, IsUnmade, HasFirst}
 use Rattle.images.specs.Showing.{IsShown, IsNotShown}
 use Rattle.images.specs.Migrating.{IsMigratedOn, IsNotMigratedOn, migration_text}
+use Rattle.images.specs.Status.{refusal_of_argument}
 use Rattle.images.specs.Exported.{IsExported, IsNotExported}
 use Rattle.images.specs.Imported.{IsImage, IsNoImage}
 use Rattle.images.specs.Task.{Wanted, Asks}
@@ -239,6 +241,13 @@ module _ (was now : Option (List ℕ)) (back raw : Option FileValue) where
     pub no_plain : raw ≡ None
     pub nothing : (wanted : Wanted) → ¬ Asks words wanted
     pub refused_is : refusal ≡ refused.Words
+    pub kept : Keeps was now
+
+  -- no words were had: an argument is no text, or memory ran out
+  pub record HasNoWords (refusal : Refusal) : Type 0 where
+    pub none : back ≡ None
+    pub no_plain : raw ≡ None
+    pub cause : (fault : ArgumentFault) × (refusal ≡ refusal_of_argument fault)
     pub kept : Keeps was now
 
   -- what the words ask for was done

@@ -1,10 +1,10 @@
 //! From the words of a command to its exit status.
 ghost use Rattle.std.specs.Prelude.{◌≡◌, ◌≢◌, ◌⊎◌, ◌≤◌, List, ℕ, None, IfOk, IfErr, drop, map};
-ghost use Rattle.std.specs.Io.KnownBytes.{Keeps};
 ghost use Rattle.images.specs.declared.refusal.Refusal.{Refusal};
 ghost use Rattle.images.specs.Status.{status_of};
 ghost use Rattle.images.specs.Program.{
   HasDone,
+  HasNoWords,
   HasNotDone,
   IsMake,
   IsMakeRefused,
@@ -230,7 +230,8 @@ fn report<E: Write>(refusal: Refusal, words: &[&str], err: &mut E) -> u8
     refusal.status()
 }
 
-/// Does what the program's arguments ask for, and gives the exit status.
+/// Does what the program's arguments ask for, and gives the exit status. Where they are not had, it
+/// tells that, and no file is touched.
 pub fn run_program<R: Env + Files<File = File> + AllocGlobal, O: Write, E: Write + IsTerminal>(
     rt: &R,
     out: &mut O,
@@ -240,11 +241,10 @@ pub fn run_program<R: Env + Files<File = File> + AllocGlobal, O: Write, E: Write
     ensures done { result.status ≡ 0 → (args : List (List ℕ))
         × IsObeyed (O.contents out.old) (O.contents out.new) result.file result.raw (drop 1 args) }
     ensures refused { result.status ≢ 0
-        → ((result.file ≡ None) × (result.raw ≡ None)
-        × Keeps (O.contents out.old) (O.contents out.new))
-        ⊎ ((args : List (List ℕ)) × (refusal : Refusal) × (result.status ≡ status_of refusal)
-        × IsRefusedFor (O.contents out.old) (O.contents out.new) result.file result.raw
-        (drop 1 args) refusal) }
+        → (refusal : Refusal) × (result.status ≡ status_of refusal)
+        × (HasNoWords (O.contents out.old) (O.contents out.new) result.file result.raw refusal
+        ⊎ ((args : List (List ℕ)) × IsRefusedFor (O.contents out.old) (O.contents out.new)
+        result.file result.raw (drop 1 args) refusal)) }
 {
     let args = match arguments(rt) {
         Ok(args) => args,
