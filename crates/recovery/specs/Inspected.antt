@@ -15,6 +15,7 @@ use Rattle.journal.specs.Formats.{IsWhole}
 use Rattle.journal.specs.Standing.{IsCount, StandsFor, Stands}
 use Rattle.journal.specs.ImageFaults as image
 use Rattle.recovery.specs.Causes.{IsRefusedCall, MakesReadsAlone, IsDeviceFault}
+use Rattle.recovery.specs.Looks.{LooksAtLog}
 use Rattle.recovery.specs.declared.inspection.Inspection.{Inspection}
 use Rattle.recovery.specs.declared.start_fault.StartFault.{StartFault}
 use Rattle.recovery.specs.declared.start_fault.StartFault.TheVariants.{NoMemory, Read, Write, Flush}
@@ -39,11 +40,12 @@ pub record IsInspected (old : State) (answer : Inspection) : Type 0 where
   pub counts_are : answer.waiting.items ≡ map (λ entries. length entries) stood.records
 
 -- A look only reads: the super, the head and, for each of 64 slots at most, all of its sectors and
--- one of them again.
+-- one of them again. Whatever the image, each read names a sector of its log.
 pub record OnlyLooks (old new : State) : Type 0 where
   pub quiet : IsQuiet old new
   pub reads : MakesReadsAlone old new
   pub calls : new.calls ≤ old.calls + 2 + (slot_sectors_of Two + 1) * 64
+  pub looks : LooksAtLog old new
 
 -- Why a look is refused: the medium refused a call, or the image has this fault. A stamp for the
 -- next record is not asked for.

@@ -6,7 +6,6 @@ use Rattle.medium.specs.declared.fault.MediumFault.{MediumFault}
 use Rattle.spec.specs.Blocks.{Array}
 use Rattle.journal.specs.declared.log_format.LogFormat.TheVariants.{One}
 use Rattle.journal.specs.Places.{Shape, slot_sectors_of}
-use Rattle.journal.specs.Reads.{ReadsPass}
 use Rattle.journal.specs.Standing.{IsOurs}
 use Rattle.journal.specs.Values.{shape_of}
 use Rattle.recovery.specs.Calls.{CallsUpTo, FollowsBy, MovesHead}
@@ -23,13 +22,6 @@ use Rattle.recovery.specs.declared.start_fault.StartFault.{StartFault}
 
 -- of a step that takes a medium to what it is then
 module _ {M : Type 0} (state : M → State) (Follows : M → M → Type 0) where
-  -- By reads alone, at most this many, this is found of what the medium was.
-  pub record ReadsFor {X : Type 0} (most : ℕ) (Finds : State → X → Type 0) (old new : M)
-      (result : Result X MediumFault) : Type 0 where
-    pub passes : ReadsPass most (state old) (state new) result
-    pub finds : IfOk result (Finds (state old))
-    pub follows : Follows old new
-
   -- A survey wants at least this many slots in a log of format 1: how it reads, what it finds, and
   -- why it is refused.
   pub record Surveys (least : ℕ) (old new : M) (result : Result Found StartFault) : Type 0 where

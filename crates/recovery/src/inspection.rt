@@ -2,10 +2,10 @@
 ghost use Rattle.std.specs.Prelude.{◌≡◌, ◌≤◌, ◌<◌, ◌+◌, ◌*◌, ◌^◌};
 ghost use Rattle.std.specs.Prelude.{IfOk, IfErr};
 ghost use Rattle.journal.specs.declared.log_format.LogFormat.TheVariants.{Two};
-ghost use Rattle.journal.specs.Places.{sectors_of, slot_sectors_of};
+ghost use Rattle.journal.specs.Places.{first_home, sectors_of, slot_sectors_of};
+ghost use Rattle.journal.specs.Reads.{LooksUp};
 ghost use Rattle.journal.specs.Values.{shape_of};
 ghost use Rattle.recovery.specs.Inspected.{AreCounts, IsInspected, OnlyLooks, IsLookRefusal};
-ghost use Rattle.recovery.specs.Steps.{ReadsFor};
 
 use crate::StartFault;
 use crate::record::count_blocks;
@@ -33,8 +33,9 @@ fn count_waiting<M: Medium>(
 ) -> Result<ArrayVec<u64, 64>, MediumFault>
     requires fits { sectors_of (shape_of sizes.now) ≤ (M.state m.old).size }
     requires head { head < 2 ^ 63 }
-    ensures { ReadsFor M.state M.follows ((slot_sectors_of Two + 1) * sizes.now.slots)
-        (λ old waiting. AreCounts (shape_of sizes.now) old.content head waiting.items)
+    ensures { LooksUp M.state M.follows ((slot_sectors_of Two + 1) * sizes.now.slots)
+        (λ s. s < first_home (shape_of sizes.now))
+        (λ old _ waiting. AreCounts (shape_of sizes.now) old.content head waiting.items)
         m.old m.new result }
 {
     let mut waiting = ArrayVec::new();
@@ -49,6 +50,7 @@ fn count_waiting<M: Medium>(
 
 /// Reads what an image holds beside its blocks at home: its sizes, its head, and how many blocks
 /// each record has that waits. It makes reads alone, so nothing is changed, and takes no memory.
+/// Each read names sector 0, or one before the first block at home.
 ///
 /// # Errors
 /// The faults of the image that `recover` names, in the same order. That no stamp is left is none

@@ -1,12 +1,26 @@
-use Rattle.std.proofs.Common.{rules, ◌+◌, ◌∷◌, ◌∙◌, [], length, ap, arith}
+use Rattle.std.proofs.Common.{rules, ◌+◌, ◌<◌, ◌∷◌, ◌∙◌, [], length, refl, ap, arith}
 use Rattle.std.proofs.lemmas.List.{length-append}
+use Rattle.medium.specs.Medium.{LooksOnly}
+use Rattle.medium.proofs.Moments.{quiet_start}
+use Rattle.medium.proofs.SectorsRead.{no_looks, looks_joined}
 use Rattle.journal.specs.Formats.{HasWhole}
+use Rattle.journal.specs.Places.{first_home}
 use Rattle.journal.specs.Values.{shape_of}
 use Rattle.recovery.proofs.OneTry.{few_tried}
 use Rattle.recovery.proofs.FoundRecords.{quiet_before, quiet_after}
 use Rattle.recovery.proofs.InspectedImage.{HasCount, counts_made, one_counted}
 use Rattle.recovery.proofs.JoinedCalls.{reads_on}
+use Rattle.recovery.proofs.inspection.count_waiting.Given as given
 use Rattle.recovery.proofs.inspection.count_waiting.Goals as goal
+use Rattle.recovery.proofs.inspection.count_waiting.Goals.{After-count_blocks}
+
+-- the looks so far, and those at one record more
+followed : (g : given.Over) (c : After-count_blocks g) → g.M.Medium.follows c.args.m.now c.count_blocks.new.m
+    × LooksOnly (λ s. s < first_home (shape_of c.args.sizes.now)) (g.M.Medium.state c.args.m.now) (g.M.Medium.state c.count_blocks.new.m)
+followed g c = (
+  g.met.M.Medium.follows_through _ _ _ c.loop-j.invariant.follows c.count_blocks.ensures.follows.0,
+  looks_joined _ _ _ _ c.loop-j.invariant.looks c.count_blocks.ensures.follows.1,
+)
 
 pub returns-in-None : goal.returns-in-None
 returns-in-None g c =
@@ -19,7 +33,7 @@ returns-in-None g c =
           (omega (arith, few_tried shape.format, c.loop-j-test.true)) tt;
       finds = counts_made shape old.content c.args.head c.loop-j.j c.loop-j.waiting.items inv.long (omega (arith, c.loop-j-test.true))
           inv.each (λ less w. none (quiet_after (λ n i. HasWhole shape i (c.args.head + c.loop-j.j)) old _ inv.passes.quiet w));
-      follows = g.met.M.Medium.follows_through _ _ _ inv.follows c.count_blocks.ensures.follows.0;
+      follows = followed g (goal.at.returns-in-None g c).After-count_blocks;
     }
 
 pub returns : goal.returns
@@ -29,7 +43,16 @@ returns g c = record {
       let inv = c.loop-j.invariant in
       counts_made (shape_of c.args.sizes.now) (g.M.Medium.state c.args.m.now).content c.args.head c.loop-j.j c.loop-j.waiting.items inv.long
       c.loop-j.auto.j-end inv.each (λ less. absurd (omega (arith, less, c.loop-j-test.false)));
-  follows = search rules;
+  follows = (c.loop-j.invariant.follows, c.loop-j.invariant.looks);
+}
+
+pub loop-j-init : goal.loop-j-init
+loop-j-init g c = record {
+  passes = record { quiet = quiet_start (g.M.Medium.state c.args.m.now); reads = λ kind other. refl; calls = omega arith; cause = tt };
+  long = search rules;
+  each = λ k below. absurd (omega arith);
+  looks = no_looks _ _ _ refl;
+  follows = g.met.M.Medium.follows_itself c.args.m.now;
 }
 
 pub loop-j-preserved : goal.loop-j-preserved
@@ -48,7 +71,8 @@ loop-j-preserved g c =
       long = omega (arith, long, inv.long);
       each = one_counted shape old.content c.args.head j n c.loop-j.waiting.items c.push.new.self.items inv.long c.push.ensures.items
           inv.each here;
-      follows = g.met.M.Medium.follows_through _ _ _ inv.follows c.count_blocks.ensures.follows.0;
+      looks = (followed g (goal.at.loop-j-preserved g c).After-count_blocks).1;
+      follows = (followed g (goal.at.loop-j-preserved g c).After-count_blocks).0;
     }
 
 pub returns-in_err-count : goal.returns-in_err-count
@@ -56,5 +80,5 @@ returns-in_err-count g c = record {
   passes = reads_on c.loop-j.invariant.passes c.count_blocks.ensures.passes
       (omega (arith, few_tried c.args.sizes.now.format, c.loop-j-test.true)) (search rules);
   finds = search rules;
-  follows = g.met.M.Medium.follows_through _ _ _ c.loop-j.invariant.follows c.count_blocks.ensures.follows.0;
+  follows = followed g (goal.at.returns-in_err-count g c).After-count_blocks;
 }
