@@ -1,8 +1,8 @@
 -- No recovery and no migration in a window over the first sectors of an image misses.
 use Rattle.std.proofs.Common.{◌≡◌, ◌<◌, ◌≤◌, ◌+◌, ◌*◌, ℕ, List, length, min, arith, refl, sym, ap, subst}
-use Rattle.std.specs.Prelude.{Option, Some, None}
-use Rattle.medium.specs.Medium.{State, LooksOnly}
-use Rattle.medium.specs.Sent.{sent, SendsUpTo}
+use Rattle.std.specs.Prelude.{Option}
+use Rattle.medium.specs.Medium.{State}
+use Rattle.medium.specs.Sent.{SendsUpTo}
 use Rattle.medium.specs.Writes.{sector_of}
 use Rattle.medium.specs.declared.fault.MediumFault.{MediumFault}
 use Rattle.medium.specs.declared.fault.MediumFault.TheVariants as kind
@@ -12,7 +12,8 @@ use Rattle.journal.specs.Sectors.{IsSuper}
 use Rattle.journal.specs.Values.{shape_of}
 use Rattle.journal.specs.declared.super_sector.Super.{Super}
 use Rattle.journal.proofs.SectorNumbers.{IsSuper-one}
-use Rattle.recovery.specs.Causes.{IsDeviceFault, IsCause, IsRefusalBy, WritesNothing, start_fault_of}
+use Rattle.recovery.specs.Causes.{IsDeviceFault, IsCause, IsRefusalBy, MakesReadsAlone, WritesNothing, start_fault_of}
+use Rattle.recovery.specs.Inspected.{IsLookCause}
 use Rattle.recovery.specs.Looks.{HoldsLog, LooksAtLog}
 use Rattle.recovery.specs.declared.start_fault.StartFault.{StartFault}
 use Rattle.window.specs.Window.{Window, state_of, fresh, IsServed}
@@ -58,13 +59,13 @@ pub misses : (first : FirstSectors) (device : List ℕ) (sizes : Super) (room : 
     → (state_of after).failures ≡ (state_of w).failures
 misses first device sizes room w after is have served looks sends =
     let counted = subst (λ (z : Option Super). length first.bytes.items ≡ 512 * min (near_of z) first.sectors) have.sizes_are
-        first.count in
+    first.count in
     let whole = shaped first.sectors first.bytes.items device room sizes first.some counted have.spells have.fits in
     let here = subst (λ (v : Window). HasShape (state_of v).size (shape_of sizes) (state_of v).content) (sym is) whole in
     let same = none first.sectors first.bytes.items device room sizes first.some counted have.spells have.fits after
-        (subst (λ (v : Window). IsServed v after) is served)
-        (subst (λ (v : Window). LooksAtLog (state_of v) (state_of after)) is looks)
-        (subst (λ (v : Window). SendsUpTo room (state_of v) (state_of after)) is (sends (shape_of sizes) refl here)) in
+    (subst (λ (v : Window). IsServed v after) is served)
+    (subst (λ (v : Window). LooksAtLog (state_of v) (state_of after)) is looks)
+    (subst (λ (v : Window). SendsUpTo room (state_of v) (state_of after)) is (sends (shape_of sizes) refl here)) in
     subst (λ (v : Window). (state_of after).failures ≡ (state_of v).failures) (sym is) same
 
 -- the fault is none of a call then
@@ -88,3 +89,17 @@ pub migration_by_image : (before after : State) (fault : StartFault) → after.f
     → IsRefusalBy 5 WritesNothing before after fault → ¬ IsDeviceFault fault
 migration_by_image before after fault same cause (why, is) =
     absurd (omega (arith, same, grew_there before after why (subst (IsRefusalBy 5 WritesNothing before after) is cause)))
+
+grew_looking : (before after : State) (why : MediumFault) → IsLookCause before after (start_fault_of why) → before.failures < after.failures
+grew_looking before after kind.Read cause = cause.grew
+grew_looking before after kind.Write cause = cause.grew
+grew_looking before after kind.Flush cause = cause.grew
+
+pub look_by_image : (before after : State) (fault : StartFault) → after.failures ≡ before.failures → IsLookCause before after fault
+    → ¬ IsDeviceFault fault
+look_by_image before after fault same cause (why, is) =
+    absurd (omega (arith, same, grew_looking before after why (subst (IsLookCause before after) is cause)))
+
+-- reads alone send nothing
+pub none_sent : (before after : State) → MakesReadsAlone before after → SendsUpTo 0 before after
+none_sent before after reads = omega (arith, reads kind.Write (λ e. cc e), reads kind.Flush (λ e. cc e))

@@ -2,13 +2,15 @@
 use Rattle.std.specs.Prelude.{◌≡◌, ◌⊎◌, ℕ, ◌+◌, List, [], ◌∷◌, ◌++◌, codes, decimal, Option}
 use Rattle.std.specs.Io.KnownBytes.{Appends, Keeps}
 use Rattle.journal.specs.Sectors.{version_of}
-use Rattle.window.specs.Window.{Window, state_of}
+use Rattle.journal.specs.declared.super_sector.Super.{Super}
+use Rattle.window.specs.Window.{Window, state_of, ComesAfter}
+use Rattle.recovery.specs.Causes.{IsDeviceFault}
 use Rattle.recovery.specs.Inspected.{IsInspected, IsLookRefusal}
 use Rattle.recovery.specs.declared.inspection.Inspection.{Inspection}
 use Rattle.recovery.specs.declared.start_fault.StartFault.{StartFault}
 use Rattle.device_file.specs.declared.opening.FirstSectors.{FirstSectors}
 use Rattle.console.specs.Streams.{AppendsSome}
-use Rattle.images.specs.Opened.{IsWindowOver}
+use Rattle.images.specs.Opened.{IsWindowOver, HaveImage}
 use Rattle.images.specs.declared.refusal.Refusal.{Refusal}
 use Rattle.images.specs.declared.refusal.Refusal.TheVariants as refused
 
@@ -45,13 +47,16 @@ module _ (first : FirstSectors) (device : List ℕ) (was now : Option (List ℕ)
     pub inspected : IsInspected (state_of window) answer
     pub written : Appends was now (image_text answer)
 
-  -- they have a fault, and nothing was told
+  -- They have a fault, and nothing was told. Where they have a super, and the file all sectors of
+  -- its image, the fault is that of no call.
   pub record IsFaulty (refusal : Refusal) : Type 0 where
     pub window : Window
     pub over : IsWindowOver first device 0 window
     pub after : Window
     pub fault : StartFault
     pub cause : IsLookRefusal (state_of window) (state_of after) fault
+    pub follows : ComesAfter window after
+    pub by_image : (sizes : Super) → HaveImage first sizes → ¬ IsDeviceFault fault
     pub refused_is : refusal ≡ refused.Image fault
     pub kept : Keeps was now
 

@@ -2,6 +2,8 @@ use Rattle.std.proofs.Common.{◌∙◌, ℕ, List, inl, inr, refl, subst}
 use Rattle.std.specs.Io.KnownBytes.{Appends}
 use Rattle.std.proofs.KnownBytes.{Keeps-refl}
 use Rattle.console.specs.Streams.{AppendsSome}
+use Rattle.window.specs.Window.{state_of}
+use Rattle.images.proofs.Misses.{misses, none_sent, look_by_image}
 use Rattle.images.proofs.showing.show_first.Goals as goal
 
 pub returns-in-Err-clause-err : goal.returns-in-Err-clause-err
@@ -11,6 +13,15 @@ returns-in-Err-clause-err g c = inr (inl (record {
   after = c.inspect.new.m;
   fault = c.in-Err.fault;
   cause = c.in-Err.ensures.err;
+  follows = c.inspect.ensures.follows;
+  by_image = λ sizes have.
+      let old = state_of c.in_ok-window.window in
+      let new = state_of c.inspect.new.m in
+      let looks = c.inspect.ensures.looks in
+      look_by_image old new c.in-Err.fault
+      (misses c.args.first c.args.device.now.bytes sizes 0 c.in_ok-window.window c.inspect.new.m c.in_ok-window.ensures.ok have
+      (c.waiting-waiting.ensures.served c.inspect.new.m c.inspect.ensures.follows) looks.looks
+      (λ shape same has. none_sent old new looks.reads)) c.in-Err.ensures.err.cause;
   refused_is = refl;
   kept = Keeps-refl (g.O.Write.contents c.args.out.now);
 }))
