@@ -1,11 +1,10 @@
 -- A window and the file behind it.
-use Rattle.std.specs.Prelude.{◌≡◌, ◌⊎◌, ℕ, Bool, true, false, List, [], Option, Some, None, IfSome}
+use Rattle.std.specs.Prelude.{◌≡◌, ℕ, Bool, true, false, List, [], Option, Some, None, IfSome}
 use Rattle.medium.specs.Medium.{State}
 use Rattle.window.specs.Window as window
 use Rattle.window.specs.Window.{Window, ComesAfter, IsShown}
 use Rattle.device_file.specs.Asked.{Told}
-use Rattle.device_file.specs.Outbox.{IsCarriedOut}
-use Rattle.device_file.specs.declared.fault.FileCall.TheVariants as call
+use Rattle.device_file.specs.Outbox.{IsCarriedOut, EndIn}
 use Rattle.device_file.specs.declared.fault.FileFault.{FileFault}
 use Rattle.file_window.specs.declared.file.FileWindow.{FileWindow}
 
@@ -44,5 +43,5 @@ module _ {D : Type 0} where
     pub carried : IsCarriedOut (is_well new.fault) (told old.file) (told new.file)
         old.window new.window
     pub all : new.fault ≡ None → new.window.outbox ≡ []
-    -- a fault names a write or a synchronising, as the call that was refused was one
-    pub named : IfSome new.fault (λ fault. (fault.call ≡ call.Write) ⊎ (fault.call ≡ call.Sync))
+    -- a fault is of that call: it names a write or a synchronising, as that was one
+    pub named : IfSome new.fault (λ fault. EndIn carried.part fault.call)

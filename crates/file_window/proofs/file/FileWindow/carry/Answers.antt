@@ -1,0 +1,23 @@
+use Rattle.std.proofs.Common.{Some, None}
+use Rattle.file_window.specs.FileWindows.{Carries}
+use Rattle.file_window.proofs.file.FileWindow.carry.Goals as goal
+use Rattle.file_window.proofs.file.FileWindow.carry.Goals.{in-Ok, in-Err}
+
+pub returns : goal.returns
+returns g c =
+    let told = g.D.DeviceFile.told in
+    let new = c.carry_out.new in
+    elim c.match-carry_out.branch [
+      | in-Ok w ↦ (let all : Carries told c.args.self.now (record { window = new.window; file = new.file; run = new.run; fault = None })
+          = record {
+            carried = w.in-Ok.ensures.carried;
+            all = λ is. w.in-Ok.ensures.all;
+            named = tt;
+          } in rw (w.self-is) all)
+      | in-Err w ↦ (let part : Carries told c.args.self.now
+          (record { window = new.window; file = new.file; run = new.run; fault = Some w.in-Err.fault }) = record {
+            carried = w.in-Err.ensures.carried;
+            all = λ is. absurd (cc);
+            named = w.in-Err.ensures.named;
+          } in rw (w.self-is) part)
+    ]
