@@ -11,7 +11,7 @@ use Rattle.journal.specs.Layout.{slot_at, IsWholeIn}
 use Rattle.journal.specs.Formats.{layout_of}
 use Rattle.journal.specs.Copies.{begun_with, first_of}
 use Rattle.journal.proofs.EntriesTwo.{place_rest}
-use Rattle.journal.proofs.ReadingOne.{place_there as place_there_one}
+use Rattle.journal.proofs.WholeOne.{place_there as place_there_one}
 use Rattle.journal.proofs.WholeTwo.{place_there}
 
 -- its first bytes, where its data place does not have them, and the rest of that make the block

@@ -21,7 +21,7 @@ use Rattle.journal.proofs.Format1Laws.{inside1, apart1, carries1, one_stamp1, ze
 use Rattle.journal.proofs.Format1Laws.{part_commit as part_commit1, offset_commit as offset_commit1}
 use Rattle.journal.proofs.Format2Laws.{inside2, apart2, carries2, one_stamp2, zeros2}
 use Rattle.journal.proofs.Format2Laws.{part_commit as part_commit2, offset_commit as offset_commit2}
-use Rattle.journal.proofs.ReadingOne.{record_read as read1}
+use Rattle.journal.proofs.WholeOne.{record_read as read1}
 use Rattle.journal.proofs.WholeTwo.{record_read as read2}
 
 -- the parts of a record give its blocks, where a whole record is the one that its slot spells

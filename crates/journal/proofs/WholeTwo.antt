@@ -21,7 +21,7 @@ use Rattle.journal.proofs.EntriesTwo.{number_is, first_is, commit_count, place_r
 use Rattle.journal.proofs.RecordTwo.{numbers_of_chunk, descriptor_two, descriptor_spelled, place_own}
 use Rattle.journal.proofs.Format1Laws.{Kind, Described, Placed, Committed, kind_of}
 use Rattle.journal.proofs.Format2Laws.{offset_descriptor, offset_place, offset_commit, part_descriptor, part_place, part_commit}
-use Rattle.journal.proofs.ReadingOne.{entries_same}
+use Rattle.journal.proofs.WholeOne.{entries_same}
 use Rattle.journal.proofs.Wholeness.{record_of}
 
 -- the first bytes of the i-th block of a slot, and those in its data place

@@ -9,7 +9,7 @@ use Rattle.journal.specs.declared.record.Record.{Record}
 use Rattle.journal.specs.Places.{Shape}
 use Rattle.journal.specs.SectorsTwo.{descriptors_of}
 use Rattle.journal.proofs.EntriesTwo.{commit_count}
-use Rattle.journal.proofs.Naming.{each_there}
+use Rattle.journal.proofs.DescribedNumbers.{each_there}
 use Rattle.journal.specs.Layout.{slot_at}
 use Rattle.journal.specs.Format2.{format2}
 use Rattle.journal.specs.Reading.{record_reads_of, stamp_reads_of, IsReadFor, IsReadForStamps}

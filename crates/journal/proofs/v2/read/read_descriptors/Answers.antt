@@ -4,7 +4,7 @@ use Rattle.std.proofs.lemmas.List.{length-append}
 use Rattle.medium.proofs.Moments.{quiet_joined}
 use Rattle.journal.specs.Entry.{Entry, numbers_of}
 use Rattle.journal.specs.SectorsTwo.{chunk_of, firsts_of}
-use Rattle.journal.proofs.Naming.{described_more}
+use Rattle.journal.proofs.DescribedNumbers.{described_more}
 use Rattle.journal.proofs.RecordTwo.{firsts_of_chunk}
 use Rattle.medium.proofs.SectorsRead.{looks_joined}
 use Rattle.journal.proofs.v2.read.read_descriptors.Goals as goal

@@ -11,8 +11,8 @@ use Rattle.journal.specs.SectorsTwo.{descriptors_of}
 use Rattle.journal.specs.Values.{shape_of}
 use Rattle.journal.specs.Reads.{LooksUp, LooksUpAll}
 use Rattle.journal.specs.Record.{numbers_of}
-use Rattle.journal.proofs.Finding.{two_read}
-use Rattle.journal.proofs.Naming.{each_there}
+use Rattle.journal.proofs.BlocksRead.{two_read}
+use Rattle.journal.proofs.DescribedNumbers.{each_there}
 use Rattle.journal.proofs.SlotTwo.{untrue, two_whole, two_says}
 use Rattle.journal.proofs.WholeTwo.{descriptor_whole}
 use Rattle.journal.proofs.Wholeness.{as_format}

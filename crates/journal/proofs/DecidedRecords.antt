@@ -9,8 +9,8 @@ use Rattle.journal.specs.LayoutLaws.{Laws}
 use Rattle.journal.specs.Formats.{layout_of, HasWhole}
 use Rattle.journal.specs.Standing.{IsCount}
 use Rattle.journal.proofs.AllOrFirst.{all_or_first}
-use Rattle.journal.proofs.DecidingSectors.{Decided, both, along, each_or_not, all_or_not, below_or_not, at_most_or_not, same_or_not}
-use Rattle.journal.proofs.DecidingSectors.{rising_or_not}
+use Rattle.journal.proofs.DecidedSectors.{Decided, both, along, each_or_not, all_or_not, below_or_not, at_most_or_not, same_or_not}
+use Rattle.journal.proofs.DecidedSectors.{rising_or_not}
 use Rattle.journal.proofs.Formats.{laws_of}
 
 -- blocks make a record or not
