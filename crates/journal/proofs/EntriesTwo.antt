@@ -14,15 +14,10 @@ use Rattle.journal.specs.Entry.{Entry}
 use Rattle.journal.proofs.Pieces.{length_pieces, piece_at}
 use Rattle.journal.specs.Spelling.{number_in}
 use Rattle.journal.specs.Sectors.{IsRising}
-use Rattle.journal.specs.SectorsTwo.{padded, entry_bytes, descriptor_bytes, place_bytes, commit_bytes, entries_here, AreEntriesTwo}
+use Rattle.journal.specs.SectorsTwo.{padded, entry_bytes, place_bytes, commit_bytes, entries_here, AreEntriesTwo}
 use Rattle.journal.specs.SectorsTwo.{IsDescriptorTwo, IsCommitTwo}
 
--- the stamp in a descriptor
-pub descriptor_says : (s : ℕ) (entries : List Entry) (j : ℕ) → s < 2 ^ 64 → number_in (descriptor_bytes s entries j) 1 ≡ s
-unfolding number_in descriptor_bytes padded
-descriptor_says s entries j small = little_number-reads_back 8 s [] small
-
--- in a data place, which begins with it
+-- the stamp in a data place, which begins with it
 pub place_says : (s : ℕ) (block : List ℕ) → s < 2 ^ 64 → number_in (place_bytes s block) 0 ≡ s
 unfolding number_in place_bytes
 place_says s block small = little_number-reads_back 8 s [] small

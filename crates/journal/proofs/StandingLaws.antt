@@ -111,9 +111,3 @@ count_stands size shape image head count fits s h c =
 pub StandsFor-shape : (size : ℕ) (shape : Shape) (image : Image) (array : Array) (next : ℕ) → StandsFor size shape image array next
     → HasShape size shape image
 StandsFor-shape size shape image array next s = record { super = s.keeps.super; fits = s.fits }
-
--- a count holds in each image with the same sectors
-pub IsCount-same : (shape : Shape) (before image : Image) (head count : ℕ) → ((x : ℕ)
-    → image x ≡ before x) → IsCount shape before head count → IsCount shape image head count
-IsCount-same shape before image head count same c =
-    subst (λ (m : Image). IsCount shape m head count) (λ i x. sym (same x) i) c

@@ -7,7 +7,7 @@ use Rattle.journal.specs.declared.log_format.LogFormat.{LogFormat}
 use Rattle.journal.specs.Places.{Shape}
 use Rattle.journal.specs.Sectors.{IsSuper, IsHead}
 use Rattle.journal.specs.Record.{Entry, home_of, Agree}
-use Rattle.journal.specs.Layout.{Layout, IsWholeIn, HasWholeIn, CarriesBelowIn, KeepsIn, slot_at}
+use Rattle.journal.specs.Layout.{Layout, IsWholeIn, CarriesBelowIn, KeepsIn, slot_at}
 use Rattle.journal.specs.LayoutLaws.{Laws, IsRecordOf}
 use Rattle.journal.specs.Formats.{layout_of, IsWhole}
 use Rattle.journal.proofs.Apart.{in_log}
@@ -46,12 +46,6 @@ module _ (L : Layout) (laws : Laws L) (shape : Shape) where
           (omega (arith, laws.inside (length entries) p w.fit.few below))
           ∙ w.there p below;
     }
-
-    -- the same of some whole record
-    pub HasWhole-same : (stamp : ℕ)
-        → Agree (slot_at L shape stamp) (slot_at L shape stamp + L.slot_sectors) image before
-        → HasWholeIn L shape before stamp → HasWholeIn L shape image stamp
-    HasWhole-same stamp agree w = (w.0, IsWhole-same stamp w.0 agree w.1)
 
     -- the log carries what it carried in an image that agrees on it
     pub CarriesBelow-agree : (end : ℕ) → Agree 2 (2 + L.slot_sectors * shape.slots) image before

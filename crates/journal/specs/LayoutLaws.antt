@@ -37,10 +37,6 @@ pub record Laws (L : Layout) : Type 0 where
       → IsRecordOf L blocks stamp b
       → L.part stamp a (L.parts (length a) - 1) ≡ L.part stamp b (L.parts (length b) - 1)
       → length a ≡ length b
-  -- all parts together give the blocks
-  pub exact : (blocks stamp : ℕ) (a b : List Entry) → IsRecordOf L blocks stamp a
-      → IsRecordOf L blocks stamp b → length a ≡ length b
-      → ((p : ℕ) → p < L.parts (length a) → L.part stamp a p ≡ L.part stamp b p) → a ≡ b
   -- a whole record is the one that its slot spells
   pub read : (shape : Shape) (image : Image) (stamp : ℕ) (entries : List Entry)
       → IsWholeIn L shape image stamp entries → entries ≡ L.read image (slot_at L shape stamp)
