@@ -103,13 +103,9 @@ module _ (size : ℕ) (image : Image) where
 
   -- two faults are never both there
   clash : (a b : ImageFault) → rank a < rank b → HasFault size image a → HasFault size image b → ⊥
-  clash BadSuper BadVersion before h k = ⊎_elim (λ m. m k.1.0) (λ r. k.1.1 r.1) h.1
-  clash BadSuper BadSize before h k =
-      ⊎_elim (λ e. omega (arith, e, h.0)) (λ q. ⊎_elim (λ z. ⊎_elim (λ m. m z.0) (λ r. r.2 z.2) h.1)
-      (λ short. no_super BadSuper (omega arith) h short.0 short.1) q) k
-  clash BadVersion BadSize before h k =
-      ⊎_elim (λ e. omega (arith, e, h.0)) (λ q. ⊎_elim (λ z. h.1.1 z.1)
-      (λ short. no_super BadVersion (omega arith) h short.0 short.1) q) k
+  clash BadSuper BadVersion before h k = grind (arith, h, k)
+  clash BadSuper BadSize before h k = grind (arith, h, k, no_super BadSuper (omega arith) h)
+  clash BadVersion BadSize before h k = grind (arith, h, k, no_super BadVersion (omega arith) h)
   clash BadSuper BadHead before h k = no_super BadSuper (omega arith) h k.0 k.1.super
   clash BadVersion BadHead before h k = no_super BadVersion (omega arith) h k.0 k.1.super
   clash BadSize BadHead before h k = size_shape h k.0 k.1

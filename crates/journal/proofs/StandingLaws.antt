@@ -32,13 +32,10 @@ module _ (size other : ℕ) (shape : Shape) (image : Image) (a b : Array) (t u :
 
   -- there are as many records
   pub counts : length h.records ≡ length k.records
-  counts = elim (cases_lt (length h.records) (length k.records)) [
-    | inl less ↦ absurd (not_fewer size other shape image a b t u h k heads less)
-    | inr ge ↦ elim (cases_lt (length k.records) (length h.records)) [
-      | inl less ↦ absurd (not_fewer other size shape image b a u t k h (sym heads) less)
-      | inr le ↦ omega arith
-    ]
-  ]
+  counts =
+      let no_less = not_fewer size other shape image a b t u h k heads in
+      let no_more = not_fewer other size shape image b a u t k h (sym heads) in
+      grind (arith, no_less, no_more)
 
   -- they are the same records
   pub records_same : h.records ≡ k.records

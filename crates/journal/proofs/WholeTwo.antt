@@ -1,5 +1,5 @@
 -- A whole record of format 2, by what its sectors are decoded to.
-use Rattle.std.proofs.Common.{◌≡◌, ℕ, ◌+◌, ◌*◌, ◌-◌, ◌/◌, ◌%◌, ◌^◌, ◌<◌, List, [], ◌++◌, length, get_or, take, drop, sym, ◌∙◌, ap}
+use Rattle.std.proofs.Common.{◌≡◌, ℕ, ◌+◌, ◌*◌, ◌-◌, ◌/◌, ◌%◌, ◌^◌, ◌<◌, List, [], ◌++◌, length, get_or, take, drop, refl, sym, ◌∙◌, ap}
 use Rattle.std.proofs.Common.{subst, arith, length-append}
 use Rattle.std.specs.Prelude.{slice_range, All}
 use Rattle.std.proofs.lemmas.List.{take_at, drop_at, get_or-take, get_or-drop, length-take, length-drop, length-map, ext_get_or}
@@ -12,12 +12,12 @@ use Rattle.medium.specs.Medium.{Image}
 use Rattle.journal.specs.Places.{Shape}
 use Rattle.journal.specs.Spelling.{number_in}
 use Rattle.journal.specs.Sectors.{IsRising}
-use Rattle.journal.specs.SectorsTwo.{descriptor_bytes, place_bytes, firsts_of, chunk_of, IsDescriptorTwo, IsCommitTwo}
+use Rattle.journal.specs.SectorsTwo.{descriptor_bytes, place_bytes, firsts_of, chunk_of, entries_here, IsDescriptorTwo, IsCommitTwo}
 use Rattle.journal.specs.Record.{Entry, numbers_of, block_of}
 use Rattle.journal.specs.Layout.{IsWholeIn}
 use Rattle.journal.specs.Format2.{format2, entry_in, record_in, part2, offset2}
 use Rattle.journal.specs.SlotTwo.{HasDescriptors, HasPlaces}
-use Rattle.journal.proofs.EntriesTwo.{number_is, first_is, commit_count, place_rest}
+use Rattle.journal.proofs.EntriesTwo.{number_is, first_is, firsts_are, commit_count, place_rest}
 use Rattle.journal.proofs.RecordTwo.{numbers_of_chunk, descriptor_two, descriptor_spelled, place_own}
 use Rattle.journal.proofs.Format1Laws.{Kind, Described, Placed, Committed, kind_of}
 use Rattle.journal.proofs.Format2Laws.{offset_descriptor, offset_place, offset_commit, part_descriptor, part_place, part_commit}
@@ -103,26 +103,15 @@ module _ (image : Image) (at s : ℕ) (numbers : List ℕ) (commit : IsCommitTwo
   firsts_read j in_record =
       let es : List Entry = record_in image at in
       let first : Entry → List ℕ = λ e. take 8 e.1 in
-      let many = (described j in_record).1.entries.each in
-      let long = length-take 30 (drop (30 * j) numbers) in
-      let left = length-drop (30 * j) numbers in
-      ext_get_or [] (described j in_record).0 (firsts_of (chunk_of es j)) (omega (
-        arith,
-        many,
-        long,
-        left,
-        read_long,
-        length-map (chunk_of es j) first,
-        length-take 30 (drop (30 * j) es),
-        length-drop (30 * j) es,
-      ))
-      (λ e below.
-      let small : e < 30 = omega (arith, below, many, long) in
-      let within : 30 * j + e < length numbers = omega (arith, below, many, long, left) in
+      let chunk = length-take 30 (drop (30 * j) es) in
+      let long : length (firsts_of (chunk_of es j)) ≡ entries_here (length numbers) j =
+      omega (arith, read_long, length-map (chunk_of es j) first, chunk, length-drop (30 * j) es) in
+      sym (firsts_are (described j in_record).1 _ (firsts_of (chunk_of es j)) refl long (λ e below.
+      let small : e < 30 = omega (arith, below) in
+      let within : 30 * j + e < length numbers = omega (arith, below) in
       let quotient : (30 * j + e) / 30 ≡ j = omega arith in
       let remainder : (30 * j + e) % 30 ≡ e = omega arith in
       cc (
-        first_there j e in_record small within,
         read_begins (30 * j + e) within,
         quotient,
         remainder,
@@ -130,7 +119,7 @@ module _ (image : Image) (at s : ℕ) (numbers : List ℕ) (commit : IsCommitTwo
         get_or-map first (chunk_of es j) e (0, []),
         get_or-take 30 (drop (30 * j) es) e (0, []) small,
         get_or-drop (30 * j) es e (0, []),
-      ))
+      )))
 
   descriptor_read : (j : ℕ) → j < (length numbers + 29) / 30 → image (at + j) ≡ descriptor_bytes s (record_in image at) j
   descriptor_read j in_record =
@@ -260,13 +249,14 @@ module _ (shape : Shape) (image : Image) (s : ℕ) (es : List Entry) (w : IsWhol
       let inside : i < length (numbers_of es) = omega (arith, below, length-map es f) in
       let chunk : List Entry = chunk_of es (i / 30) in
       let split : 30 * (i / 30) + i % 30 ≡ i = omega arith in
-      let begins =
-      first_there image at s (numbers_of es) c d (i / 30) (i % 30) (omega arith) (omega arith) (omega arith)
-      ∙ get_or-map first chunk (i % 30) (0, [])
-      ∙ ap first (get_or-take 30 (drop (30 * (i / 30)) es) (i % 30) (0, []) (omega arith)
-      ∙ get_or-drop (30 * (i / 30)) es (i % 30) (0, []) ∙ ap (λ (k : ℕ). get_or es k (0, [])) split) in
-      let rest = ap (λ (l : List ℕ). drop 8 l) (place_there i below) ∙ place_rest s (block_of es i) in
-      sym (ap (λ (e : Entry). e.1) (read_entry image at s (numbers_of es) c d i inside)
-      ∙ ap (λ (l : List ℕ). l ++ rest_in image at i) begins
-      ∙ ap (λ (l : List ℕ). take 8 (block_of es i) ++ l) rest
-      ∙ take-append-drop 8 (block_of es i)))
+      cc (
+        first_there image at s (numbers_of es) c d (i / 30) (i % 30) (omega arith) (omega arith) (omega arith),
+        get_or-map first chunk (i % 30) (0, []),
+        get_or-take 30 (drop (30 * (i / 30)) es) (i % 30) (0, []) (omega arith),
+        get_or-drop (30 * (i / 30)) es (i % 30) (0, []),
+        split,
+        place_there i below,
+        place_rest s (block_of es i),
+        read_entry image at s (numbers_of es) c d i inside,
+        take-append-drop 8 (block_of es i),
+      ))
