@@ -12,8 +12,7 @@ use Rattle.journal.specs.SuperFaults.{HasVersion, IsSuperFault}
 use Rattle.journal.specs.Standing.{Stands}
 use Rattle.journal.specs.ImageFaults.{HasShape, ImageFault, BadSuper, BadVersion, BadSize, BadHead, HasFault}
 use Rattle.journal.proofs.SectorNumbers.{super_begins, IsSuper-one}
-use Rattle.journal.proofs.DecidedSectors.{same_or_not, head_or_not, super_or_not}
-use Rattle.journal.proofs.DecidedRecords.{count_of}
+use Rattle.journal.proofs.Decided.{same_or_not, head_or_not, super_or_not, count_of}
 use Rattle.journal.proofs.StandingLaws.{count_stands}
 
 -- a super has no fault

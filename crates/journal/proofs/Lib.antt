@@ -2,13 +2,12 @@ pub mod Pieces
 pub mod OneSpelling
 pub mod SectorNumbers
 pub mod AllOrFirst
-pub mod DecidedSectors
+pub mod Decided
 pub mod EntriesTwo
 pub mod RecordTwo
 pub mod Apart
 pub mod BatchEntries
 pub mod CopiedBlock
-pub mod DecidedRecords
 pub mod WrittenRecord
 pub mod Engine
 pub mod FaultLaws
