@@ -14,10 +14,6 @@ numbers_from : (k : ℕ) (numbers bytes : List ℕ) → numbers_of (entries_from
 numbers_from k [] bytes = refl
 numbers_from k (b ∷ numbers) bytes = ap (λ (l : List ℕ). b ∷ l) (numbers_from (k + 1) numbers bytes)
 
-length_from : (k : ℕ) (numbers bytes : List ℕ) → length (entries_from k numbers bytes) ≡ length numbers
-length_from k [] bytes = refl
-length_from k (b ∷ numbers) bytes = let more = length_from (k + 1) numbers bytes in omega arith
-
 entry_from : (k i : ℕ) (numbers bytes : List ℕ) (d : Entry) → i < length numbers
     → get_or (entries_from k numbers bytes) i d ≡ (get_or numbers i 0, slice_range bytes (512 * (k + i)) (512 * (k + i) + 512))
 entry_from k i [] bytes d below = absurd (omega arith)
@@ -29,7 +25,8 @@ pub numbers_of_batch : (numbers bytes : List ℕ) → numbers_of (entries_of num
 numbers_of_batch numbers bytes = numbers_from 0 numbers bytes
 
 pub length_of_batch : (numbers bytes : List ℕ) → length (entries_of numbers bytes) ≡ length numbers
-length_of_batch numbers bytes = length_from 0 numbers bytes
+length_of_batch numbers bytes =
+    sym (length-map (entries_of numbers bytes) (λ (e : Entry). e.0)) ∙ ap (λ (l : List ℕ). length l) (numbers_of_batch numbers bytes)
 
 pub entry_of_batch : (i : ℕ) (numbers bytes : List ℕ) (d : Entry) → i < length numbers
     → get_or (entries_of numbers bytes) i d ≡ (get_or numbers i 0, slice_range bytes (512 * i) (512 * i + 512))

@@ -1,5 +1,5 @@
 -- The crash argument, for every layout: what the writing of a record leaves.
-use Rattle.std.proofs.Common.{◌≡◌, ◌≢◌, inl, inr, ℕ, ◌+◌, ◌*◌, ◌-◌, ◌%◌, ◌<◌, ◌≤◌, List, length, sym, ◌∙◌, ap, subst, arith}
+use Rattle.std.proofs.Common.{◌≡◌, ◌≢◌, inl, inr, ℕ, ◌+◌, ◌*◌, ◌-◌, ◌%◌, ◌<◌, ◌≤◌, List, length, sym, ◌∙◌, ap, subst, arith, rules}
 use Rattle.std.proofs.lemmas.Bool.{cases_eq, cases_lt}
 use Rattle.std.proofs.lemmas.Nat.{mod_below}
 use Rattle.medium.specs.Medium.{Image, Holds}
@@ -119,9 +119,9 @@ module _ (L : Layout) (laws : Laws L) (v : View) (slots : HasSlots L v) where
       ]
 
   -- a part that was not written now
-  part_stays : (before image : Image) (k p : ℕ) (bytes : List ℕ) → k < L.parts (length v.under_way) → p < L.parts (length v.under_way)
-      → p ≢ k → Holds (at L v k) bytes before image → image (at L v p) ≡ before (at L v p)
-  part_stays before image k p bytes below small not write = write.elsewhere (at L v p)
+  part_stays : {before image : Image} {k p : ℕ} {bytes : List ℕ} → Holds (at L v k) bytes before image
+      → k < L.parts (length v.under_way) → p < L.parts (length v.under_way) → p ≢ k → image (at L v p) ≡ before (at L v p)
+  part_stays {k = k} {p = p} write below small not = write.elsewhere (at L v p)
       (λ e. not (laws.apart (length v.under_way) p k slots.under_way.fit.few small below (omega (arith, e))))
 
   -- part k reached the medium
@@ -133,14 +133,13 @@ module _ (L : Layout) (laws : Laws L) (v : View) (slots : HasSlots L v) where
       carries = carries_stays v.under_way slots.under_way before image k below write g.parts.carries;
       flushed = λ p less small. elim (cases_eq p k) [
         | inl is ↦ rw is write.here
-        | inr not ↦ part_stays before image k p (bytes_of L v k) below small not write ∙ g.parts.flushed p less small
+        | inr not ↦ part_stays write below small not ∙ g.parts.flushed p less small
       ];
       either = λ p less small. elim (cases_eq p k) [
         | inl is ↦ inl (rw is write.here)
-        | inr not ↦ rw (part_stays before image k p (bytes_of L v k) below small not write) (g.parts.either p (omega arith) small)
+        | inr not ↦ rw (part_stays write below small not) (g.parts.either p (omega arith) small)
       ];
-      free = λ p more small. rw (part_stays before image k p (bytes_of L v k) below small (λ e. omega arith) write)
-          (g.parts.free p (omega arith) small);
+      free = λ p more small. rw (part_stays write below small (λ e. omega arith)) (g.parts.free p (omega arith) small);
     };
   }
 
@@ -164,10 +163,7 @@ module _ (L : Layout) (laws : Laws L) (v : View) (slots : HasSlots L v) where
   pub Guarded-flush : (image : Image) (k durable : ℕ)
       → ((p : ℕ) → p < k → p < L.parts (length v.under_way) → image (at L v p) ≡ bytes_of L v p)
       → Guarded L v k durable image → Guarded L v k k image
-  Guarded-flush image k durable there g = record {
-    keeps = g.keeps;
-    parts = record { carries = g.parts.carries; flushed = there; either = g.parts.either; free = g.parts.free };
-  }
+  Guarded-flush image k durable there g = search rules
 
   -- Where a part but the last one was written with other blocks in it, the record under way is not whole.
   pub other_written : (before image : Image) (k durable : ℕ) (other : List Entry)
@@ -175,7 +171,7 @@ module _ (L : Layout) (laws : Laws L) (v : View) (slots : HasSlots L v) where
       → Holds (at L v k) (L.part (stamp_of v) other k) before image → Guarded L v k durable before → Found L v image
   other_written before image k durable other is same early write g =
       let below : k < L.parts (length v.under_way) = omega arith in
-      let stays = part_stays before image k (last L v) (L.part (stamp_of v) other k) below (omega arith) (λ e. omega arith) write in
+      let stays = part_stays {p = last L v} write below (omega arith) (λ e. omega arith) in
       record {
         keeps = keeps_stays before image (L.offset (length v.under_way) k) (L.part (stamp_of v) other k) (inside k below) write g.keeps;
         few = omega (arith, slots.room);

@@ -1,5 +1,5 @@
 -- An image stands for something or has one fault.
-use Rattle.std.proofs.Common.{◌≡◌, ◌⊎◌, inl, inr, ⊎_elim, ℕ, ◌+◌, ◌<◌, ◌≤◌, List, refl, subst, arith}
+use Rattle.std.proofs.Common.{◌≡◌, ◌⊎◌, inl, inr, ⊎_elim, ℕ, ◌+◌, ◌<◌, ◌≤◌, List, refl, subst, arith, rules}
 use Rattle.std.specs.Prelude.{drop, replicate}
 use Rattle.std.proofs.lemmas.Bool.{cases_eq, cases_lt}
 use Rattle.medium.specs.Medium.{Image}
@@ -113,13 +113,10 @@ module _ (size : ℕ) (image : Image) where
 
   -- an image has at most one fault
   pub HasFault-one : (a b : ImageFault) → HasFault size image a → HasFault size image b → a ≡ b
-  HasFault-one a b h k = elim (cases_lt (rank a) (rank b)) [
-    | inl before ↦ absurd (clash a b before h k)
-    | inr not ↦ elim (cases_lt (rank b) (rank a)) [
-      | inl behind ↦ absurd (clash b a behind k h)
-      | inr same ↦ rank_one a b (omega arith)
-    ]
-  ]
+  HasFault-one a b h k =
+      let not_before : ¬ (rank a < rank b) = λ before. clash a b before h k in
+      let not_behind : ¬ (rank b < rank a) = λ behind. clash b a behind k h in
+      rank_one a b (grind (arith, not_before, not_behind))
 
   -- an image that stands for something has none
   pub HasFault-stands : (fault : ImageFault) → HasFault size image fault → ¬ Stands size image

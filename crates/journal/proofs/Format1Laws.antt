@@ -1,5 +1,5 @@
 -- Format 1 keeps the laws of a layout too.
-use Rattle.std.proofs.Common.{◌≡◌, ◌⊎◌, inl, inr, ℕ, ◌+◌, ◌-◌, ◌<◌, ◌≤◌, List, length, refl, sym, ◌∙◌, arith}
+use Rattle.std.proofs.Common.{◌≡◌, ◌⊎◌, inl, inr, ℕ, ◌+◌, ◌-◌, ◌<◌, ◌≤◌, List, length, refl, sym, ◌∙◌, arith, rules}
 use Rattle.std.specs.Prelude.{true, false, nat_lt, replicate}
 use Rattle.std.proofs.lemmas.Bool.{cases_lt}
 use Rattle.std.proofs.lemmas.Bool.Decides.{nat_tests}
@@ -58,21 +58,13 @@ apart1 n p q few hp hq e = grind (arith, offset_early n p, offset_commit n p, of
 module _ {blocks s : ℕ} {entries : List Entry} (r : IsRecordOf format1 blocks s entries) where
   pub descriptor_of : IsDescriptor s (numbers_of entries) (descriptor1 s (numbers_of entries))
   descriptor_of =
-      let f : Entry → ℕ = λ e. e.0 in
-      record {
-        spelled = refl;
-        least = r.least;
-        most = r.below;
-        block_numbers = record {
-          some = omega (arith, length-map entries f, r.fit.some);
-          few = omega (arith, length-map entries f, r.fit.few);
-          rising = r.fit.rising;
-          fit = r.fit.small;
-        };
-      }
+      let long = length-map entries (λ (e : Entry). e.0) in
+      let some : 1 ≤ length (numbers_of entries) = omega (arith, long, r.fit.some) in
+      let few : length (numbers_of entries) ≤ 48 = omega (arith, long, r.fit.few) in
+      search rules
 
   pub commit_of : IsCommit s (length entries) (commit1 s (length entries))
-  commit_of = record { spelled = refl; least = r.least; most = r.below; some = r.fit.some; few = r.fit.few }
+  commit_of = search rules
 
   -- the descriptor and the commit carry the record's stamp
   ends_carry : (p : ℕ) → (1 ≤ p → length entries + 1 ≤ p) → Carries1 (offset1 (length entries) p) s (part1 s entries p)

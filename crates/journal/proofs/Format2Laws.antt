@@ -1,5 +1,5 @@
 -- Format 2 keeps the laws of a layout.
-use Rattle.std.proofs.Common.{◌≡◌, inl, inr, ℕ, zero, suc, ◌+◌, ◌-◌, ◌/◌, ◌<◌, ◌≤◌, List, length, refl, sym, ◌∙◌, arith}
+use Rattle.std.proofs.Common.{◌≡◌, inl, inr, ℕ, zero, suc, ◌+◌, ◌-◌, ◌/◌, ◌<◌, ◌≤◌, List, length, refl, sym, ◌∙◌, arith, rules}
 use Rattle.std.specs.Prelude.{if◌then◌else◌, nat_lt, replicate}
 use Rattle.std.proofs.lemmas.Bool.{cases_lt}
 use Rattle.std.proofs.lemmas.Bool.Decides.{nat_tests}
@@ -74,16 +74,7 @@ carries2 blocks s entries p r =
             rw (d is, part_descriptor s entries p is) (descriptor_two p r (omega (arith, is))),
           );
       place = λ low high. (_, part_place s entries p (grind (arith, d)) (grind (arith, c)));
-      commit = λ high. (
-        length entries,
-        record {
-          spelled = part_commit s entries p (grind (arith, d, b));
-          least = r.least;
-          most = r.below;
-          some = r.fit.some;
-          few = r.fit.few;
-        },
-      );
+      commit = λ high. let spelled = part_commit s entries p (grind (arith, d, b)) in (length entries, search rules);
     }
 
 -- which number of the sector at this offset of a slot is the stamp that it carries

@@ -31,10 +31,7 @@ with_records-append (x ∷ records) entries a b = with_records-append records en
 pub with_blocks-hides : (entries : List Entry) (i : ℕ) (a c : Array) → i < length entries
     → with_blocks entries a (get_or entries i (0, [])).0 ≡ with_blocks entries c (get_or entries i (0, [])).0
 with_blocks-hides [] i a c below = absurd (omega arith)
-with_blocks-hides (e ∷ entries) zero a c below = rw yes
-  where
-    yes : (e.0 == e.0) ≡ true
-    yes = grind (arith, nat_tests)
+with_blocks-hides (e ∷ entries) zero a c below = let yes : (e.0 == e.0) ≡ true = grind (arith, nat_tests) in rw yes
 with_blocks-hides (e ∷ entries) (suc i) a c below =
     let b = (get_or entries i (0, [])).0 in
     ap (λ (v : List ℕ). if e.0 == b then e.1 else v) (with_blocks-hides entries i a c (omega arith))
@@ -52,15 +49,12 @@ pub with_blocks-home : (entries : List Entry) (a : Array) (b : ℕ) → ((i : �
     → a (get_or entries i (0, [])).0 ≡ (get_or entries i (0, [])).1) → with_blocks entries a b ≡ a b
 with_blocks-home [] a b home = refl
 with_blocks-home (e ∷ entries) a b home = elim (cases_eq e.0 b) [
-  | inl is ↦ rw (yes is) (sym (home 0 (omega arith)) ∙ ap a is)
-  | inr not ↦ rw (no not) (with_blocks-home entries a b (λ i below. home (suc i) (omega arith)))
+  | inl is ↦
+      let yes : (e.0 == b) ≡ true = grind (arith, nat_tests) in rw yes (sym (home 0 (omega arith)) ∙ ap a is)
+  | inr not ↦
+      let no : (e.0 == b) ≡ false = grind (arith, nat_tests, not) in
+      rw no (with_blocks-home entries a b (λ i below. home (suc i) (omega arith)))
 ]
-  where
-    yes : e.0 ≡ b → (e.0 == b) ≡ true
-    yes is = grind (arith, nat_tests)
-
-    no : e.0 ≢ b → (e.0 == b) ≡ false
-    no not = grind (arith, nat_tests)
 
 -- once the blocks of a record are copied, and no others changed, home is as if they were laid over it
 pub with_blocks-copied : (entries : List Entry) (old new : Array) → ((i : ℕ) → i < length entries

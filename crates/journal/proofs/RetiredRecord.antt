@@ -42,14 +42,10 @@ module _ (L : Layout) (laws : Laws L) (shape : Shape) (some : 1 ≤ shape.slots)
 
 module _ (L : Layout) (laws : Laws L) (v : View) (some : 1 ≤ v.shape.slots)
     (behind : 2 + L.slot_sectors * v.shape.slots ≤ v.shape.home) (before image : Image) where
-  -- a write behind the log leaves the log
-  home_same : (b : ℕ) (bytes : List ℕ) → Holds (v.shape.home + b) bytes before image
+  -- a write before or behind the log leaves the log
+  log_same : {s : ℕ} {bytes : List ℕ} → Holds s bytes before image → (2 ≤ s → v.shape.home ≤ s)
       → Agree 2 (2 + L.slot_sectors * v.shape.slots) image before
-  home_same b bytes write x low high = write.elsewhere x (λ e. omega (arith, behind))
-
-  -- and so does a write of the head
-  head_same : (bytes : List ℕ) → Holds 1 bytes before image → Agree 2 (2 + L.slot_sectors * v.shape.slots) image before
-  head_same bytes write x low high = write.elsewhere x (λ e. omega arith)
+  log_same write apart x low high = write.elsewhere x (λ e. grind (arith, behind, apart))
 
   -- a block that the records hide is written home
   KeepsView-home : (b : ℕ) (bytes : List ℕ) → Hides v.records b → Holds (v.shape.home + b) bytes before image
@@ -57,7 +53,7 @@ module _ (L : Layout) (laws : Laws L) (v : View) (some : 1 ≤ v.shape.slots)
   KeepsView-home b bytes hides write g = record {
     super = subst (IsSuper v.shape) (sym (write.elsewhere 0 (λ e. omega (arith, behind)))) g.super;
     head_is = subst (IsHead v.head) (sym (write.elsewhere 1 (λ e. omega (arith, behind)))) g.head_is;
-    whole = λ j below. IsWholeIn-same L laws v.shape some before image (home_same b bytes write) (v.head + j)
+    whole = λ j below. IsWholeIn-same L laws v.shape some before image (log_same write (λ low. omega arith)) (v.head + j)
         (get_or v.records j []) (g.whole j below);
     blocks = λ c below. elim (cases_eq c b) [
       | inl is ↦ cc (hides (home_of v.shape image) (home_of v.shape before), g.blocks c below)
@@ -76,7 +72,7 @@ module _ (L : Layout) (laws : Laws L) (v : View) (some : 1 ≤ v.shape.slots)
     head_is = subst (IsHead (v.head + 1)) (sym write.here) h;
     whole = λ j below.
         let next : v.head + 1 + j ≡ v.head + (1 + j) = omega arith in
-        IsWholeIn-same L laws v.shape some before image (head_same bytes write) (v.head + 1 + j) (get_or (drop 1 v.records) j [])
+        IsWholeIn-same L laws v.shape some before image (log_same write (λ low. omega arith)) (v.head + 1 + j) (get_or (drop 1 v.records) j [])
         (rw (next, get_or-drop 1 v.records j []) (g.whole (1 + j) (omega (arith, length-drop 1 v.records))));
     blocks = λ b below. with_records-same (drop 1 v.records) (home_of v.shape image) (home_of v.shape before) b
         (write.elsewhere (v.shape.home + b) (λ e. omega (arith, behind)))
@@ -102,7 +98,7 @@ module _ (L : Layout) (laws : Laws L) (v : View) (some : 1 ≤ v.shape.slots)
       → Resting L v before → Resting L v image
   Resting-home before image b bytes hides write r = record {
     keeps = KeepsView-home L laws v some behind before image b bytes hides write r.keeps;
-    carries = CarriesBelow-same L laws v.shape some before image (home_same L laws v some behind before image b bytes write) (stamp_of v)
+    carries = CarriesBelow-same L laws v.shape some before image (log_same L laws v some behind before image write (λ low. omega arith)) (stamp_of v)
         r.carries;
   }
 
@@ -110,7 +106,7 @@ module _ (L : Layout) (laws : Laws L) (v : View) (some : 1 ≤ v.shape.slots)
       → Holds 1 bytes before image → Resting L v before → Resting L (with_less v) image
   Resting-head before image bytes waits h homed write r = record {
     keeps = KeepsView-head L laws v some behind before image bytes waits h homed write r.keeps;
-    carries = CarriesBelow-same L laws v.shape some before image (head_same L laws v some behind before image bytes write)
+    carries = CarriesBelow-same L laws v.shape some before image (log_same L laws v some behind before image write (λ low. omega arith))
         (stamp_of (with_less v)) (rw (stamp_stays v waits) r.carries);
   }
 
@@ -120,7 +116,7 @@ module _ (L : Layout) (laws : Laws L) (v : View) (slots : HasSlots L v) where
       → Holds (v.shape.home + b) bytes before image → Guarded L v k durable before → Guarded L v k durable image
   Guarded-home before image b bytes k durable hides write g = record {
     keeps = KeepsView-home L laws v slots.some slots.behind before image b bytes hides write g.keeps;
-    parts = WrittenSoFar-same L laws v.shape slots.some before image (home_same L laws v slots.some slots.behind before image b bytes write)
+    parts = WrittenSoFar-same L laws v.shape slots.some before image (log_same L laws v slots.some slots.behind before image write (λ low. omega arith))
         (stamp_of v) v.under_way k durable slots.under_way.fit.few g.parts;
   }
 
@@ -129,7 +125,7 @@ module _ (L : Layout) (laws : Laws L) (v : View) (slots : HasSlots L v) where
       → IsHomed v before → Holds 1 bytes before image → Guarded L v k durable before → Guarded L (with_less v) k durable image
   Guarded-head before image bytes k durable waits h homed write g = record {
     keeps = KeepsView-head L laws v slots.some slots.behind before image bytes waits h homed write g.keeps;
-    parts = WrittenSoFar-same L laws v.shape slots.some before image (head_same L laws v slots.some slots.behind before image bytes write)
+    parts = WrittenSoFar-same L laws v.shape slots.some before image (log_same L laws v slots.some slots.behind before image write (λ low. omega arith))
         (stamp_of (with_less v)) v.under_way k durable slots.under_way.fit.few (rw (stamp_stays v waits) g.parts);
   }
 

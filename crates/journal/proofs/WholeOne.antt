@@ -38,8 +38,8 @@ numbers_of-entries_in image place (b ∷ numbers) = ap (λ (l : List ℕ). b ∷
 -- how many they are
 pub length-entries_in : (image : Image) (place : ℕ) (numbers : List ℕ)
     → length (entries_in image place numbers) ≡ length numbers
-length-entries_in image place [] = refl
-length-entries_in image place (b ∷ numbers) = let more = length-entries_in image (place + 1) numbers in omega arith
+length-entries_in image place numbers = sym (length-map (entries_in image place numbers) (λ (e : Entry). e.0))
+    ∙ ap (λ (l : List ℕ). length l) (numbers_of-entries_in image place numbers)
 
 -- their bytes
 pub bytes_of-entries_in : (image : Image) (place i : ℕ) (numbers : List ℕ) → i < length numbers

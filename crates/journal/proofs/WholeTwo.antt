@@ -1,6 +1,6 @@
 -- A whole record of format 2, by what its sectors are decoded to.
 use Rattle.std.proofs.Common.{◌≡◌, ℕ, ◌+◌, ◌*◌, ◌-◌, ◌/◌, ◌%◌, ◌^◌, ◌<◌, List, [], ◌++◌, length, get_or, take, drop, refl, sym, ◌∙◌, ap}
-use Rattle.std.proofs.Common.{subst, arith, length-append}
+use Rattle.std.proofs.Common.{subst, arith, rules, length-append}
 use Rattle.std.specs.Prelude.{slice_range, All}
 use Rattle.std.proofs.lemmas.List.{take_at, drop_at, get_or-take, get_or-drop, length-take, length-drop, length-map, ext_get_or}
 use Rattle.std.proofs.lemmas.List.{take-append-drop}
@@ -12,7 +12,7 @@ use Rattle.medium.specs.Medium.{Image}
 use Rattle.journal.specs.Places.{Shape}
 use Rattle.journal.specs.Spelling.{number_in}
 use Rattle.journal.specs.Sectors.{IsRising}
-use Rattle.journal.specs.SectorsTwo.{descriptor_bytes, place_bytes, firsts_of, chunk_of, entries_here, IsDescriptorTwo, IsCommitTwo}
+use Rattle.journal.specs.SectorsTwo.{descriptor_bytes, place_bytes, commit_bytes, firsts_of, chunk_of, entries_here, IsDescriptorTwo, IsCommitTwo}
 use Rattle.journal.specs.Record.{Entry, numbers_of, block_of}
 use Rattle.journal.specs.Layout.{IsWholeIn}
 use Rattle.journal.specs.Format2.{format2, entry_in, record_in, part2, offset2}
@@ -196,13 +196,9 @@ module _ (shape : Shape) (image : Image) (s : ℕ) (es : List Entry) (w : IsWhol
   commit_whole : IsCommitTwo s (length es) (image (2 + 249 * (s % shape.slots) + 248))
   commit_whole =
       let p : ℕ = (length es + 29) / 30 + length es in
-      record {
-        spelled = cc (w.there p (omega arith), offset_commit (length es) p (omega arith), part_commit s es p (omega arith));
-        least = w.least;
-        most = w.below;
-        some = w.fit.some;
-        few = w.fit.few;
-      }
+      let spelled : image (2 + 249 * (s % shape.slots) + 248) ≡ commit_bytes s (length es) =
+      cc (w.there p (omega arith), offset_commit (length es) p (omega arith), part_commit s es p (omega arith)) in
+      search rules
 
   pub descriptor_whole : (j : ℕ) → j < (length es + 29) / 30
       → IsDescriptorTwo s (length es) j (numbers_of (chunk_of es j)) (firsts_of (chunk_of es j)) (image (2 + 249 * (s % shape.slots) + j))

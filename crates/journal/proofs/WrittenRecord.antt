@@ -1,6 +1,6 @@
 -- The crash argument, for every layout: what a cut leaves while a record is written, and when all
 -- of it is flushed.
-use Rattle.std.proofs.Common.{◌≡◌, ◌⊎◌, inl, inr, ⊎_elim, ℕ, ◌+◌, ◌-◌, ◌<◌, ◌≤◌, List, [], ◌∷◌, ◌++◌, length, ◌∙◌, arith}
+use Rattle.std.proofs.Common.{◌≡◌, ◌⊎◌, inl, inr, ⊎_elim, ℕ, ◌+◌, ◌-◌, ◌<◌, ◌≤◌, List, [], ◌∷◌, ◌++◌, length, ◌∙◌, arith, rules}
 use Rattle.std.proofs.Common.{length-append}
 use Rattle.std.proofs.lemmas.Bool.{cases_lt}
 use Rattle.std.proofs.lemmas.List.{get_or_append_left}
@@ -19,12 +19,7 @@ module _ (L : Layout) (laws : Laws L) (v : View) (slots : HasSlots L v) where
   -- with all its parts in its slot the record is whole
   whole_now : (image : Image) → ((p : ℕ) → p < L.parts (length v.under_way) → image (at L v p) ≡ bytes_of L v p)
       → IsWholeIn L v.shape image (stamp_of v) v.under_way
-  whole_now image there = record {
-    fit = slots.under_way.fit;
-    least = slots.under_way.least;
-    below = slots.under_way.below;
-    there = there;
-  }
+  whole_now image there = let record_is = slots.under_way in search rules
 
   -- with its last part there, each whole record of its stamp has as many blocks
   same_count : (image : Image) (es : List Entry) → image (at L v (last L v)) ≡ bytes_of L v (last L v)
@@ -49,10 +44,7 @@ module _ (L : Layout) (laws : Laws L) (v : View) (slots : HasSlots L v) where
               (λ p. image (at L v p) ≡ bytes_of L v p)
               (λ p. (durable ≤ p) × IsFree L (stamp_of v) (L.offset (length v.under_way) p) (image (at L v p)))
               (L.parts (length v.under_way))
-              (λ p small. elim (cases_lt p durable) [
-                | inl sure ↦ inl (g.parts.flushed p sure small)
-                | inr unsure ↦ ⊎_elim (λ there. inl there) (λ free. inr (unsure, free)) (g.parts.either p (omega arith) small)
-              ])) [
+              (λ p small. search (rules, arith, cases_lt p durable, g.parts.flushed p, g.parts.either p (omega arith) small))) [
                 | inl all ↦ inr (whole_now image all)
                 | inr one ↦
                     inl (λ whole.

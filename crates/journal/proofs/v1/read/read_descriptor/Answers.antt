@@ -7,7 +7,9 @@ use Rattle.journal.proofs.Wholeness.{as_format, of_format}
 use Rattle.medium.specs.Medium.{State, LooksOnly}
 use Rattle.medium.proofs.SectorsRead.{looks_joined, look_below}
 use Rattle.journal.proofs.Within.{within_one}
+use Rattle.journal.proofs.v1.read.read_descriptor.Given as given
 use Rattle.journal.proofs.v1.read.read_descriptor.Goals as goal
+use Rattle.journal.proofs.v1.read.read_descriptor.Goals.{After-read-2}
 
 -- what follows from three facts of the value in a `Some`
 IfSome_from : {X : Type 0} (found : Option X) {P Q R S : X → Type 0} → IfSome found P → IfSome found Q → IfSome found R
@@ -15,16 +17,22 @@ IfSome_from : {X : Type 0} (found : Option X) {P Q R S : X → Type 0} → IfSom
 IfSome_from None p q r f = tt
 IfSome_from (Some x) p q r f = f x p q r
 
--- two reads before home
-two_looks : (end : ℕ) (old mid new : State) {a b : ℕ} → a < end → b < end → LooksOnly (λ s. s ≡ a) old mid → LooksOnly (λ s. s ≡ b) mid new
-    → LooksOnly (λ s. s < end) old new
-two_looks end old mid new {a} {b} la lb first second =
-    looks_joined (λ s. s < end) old mid new (look_below end old mid a la first) (look_below end mid new b lb second)
+-- the descriptor and then the commit are read, before home
+followed : (g : given.Over) (c : After-read-2 g) → g.M.Medium.follows c.args.m.now c.read-2.new.self
+    × LooksOnly (λ s. s < c.args.sizes.now.home) (g.M.Medium.state c.args.m.now) (g.M.Medium.state c.read-2.new.self)
+followed g c =
+    let ends = within_one c.args.sizes.now c.args.stamp c.slot_of-slot.result c.slot_of-slot.ensures c.requires.format in
+    let a = c.read.ensures.follows in
+    let b = c.read-2.ensures.follows in (
+      g.met.M.Medium.follows_through _ _ _ a.0 b.0,
+      looks_joined _ _ _ _ (look_below _ _ _ _ (omega (arith, ends, c.place_of.ensures)) a.1)
+          (look_below _ _ _ _ (omega (arith, ends, c.commit_place.ensures)) b.1),
+    )
 
 pub read-requires : goal.read-requires
 read-requires g c =
-    let ends = within_one c.args.sizes.now c.args.stamp c.slot_of-slot.result c.slot_of-slot.ensures c.requires.format in
-    omega (arith, ends, c.requires.fits, c.place_of.ensures)
+    let ends = within_one c.args.sizes.now c.args.stamp _ c.slot_of-slot.ensures c.requires.format in
+    search (rules, arith)
 
 pub read-requires-2 : goal.read-requires-2
 read-requires-2 g c =
@@ -54,14 +62,7 @@ returns-clause-reads g c = record {
             (sound.holds_content (at + 1 + i)))),
         sym (numbers_of-entries_in old.content (at + 1) d.numbers.items),
       ));
-  follows =
-      let ends = within_one c.args.sizes.now c.args.stamp c.slot_of-slot.result c.slot_of-slot.ensures c.requires.format in
-      let a = c.read.ensures.follows in
-      let b = c.read-2.ensures.follows in (
-        g.met.M.Medium.follows_through _ _ _ a.0 b.0,
-        two_looks c.args.sizes.now.home _ _ _ (omega (arith, ends, c.place_of.ensures))
-            (omega (arith, ends, c.commit_place.ensures)) a.1 b.1,
-      );
+  follows = followed g (goal.at.returns-clause-reads g c).After-read-2;
 }
 
 pub returns-clause-all : goal.returns-clause-all
@@ -78,15 +79,7 @@ returns-clause-all g c entries whole =
 
 pub returns-in_err-read-clause-reads : goal.returns-in_err-read-clause-reads
 returns-in_err-read-clause-reads g c =
-    let ends = within_one c.args.sizes.now c.args.stamp c.slot_of-slot.result c.slot_of-slot.ensures c.requires.format in
-    search (rules, look_below, arith)
+    search (rules, look_below, arith, within_one c.args.sizes.now c.args.stamp _ c.slot_of-slot.ensures c.requires.format)
 
 pub returns-in_err-read-2-clause-reads : goal.returns-in_err-read-2-clause-reads
-returns-in_err-read-2-clause-reads g c =
-    let ends = within_one c.args.sizes.now c.args.stamp c.slot_of-slot.result c.slot_of-slot.ensures c.requires.format in
-    let a = c.read.ensures.follows in
-    let b = c.read-2.ensures.follows in
-    let through = g.met.M.Medium.follows_through _ _ _ a.0 b.0 in
-    let looks = two_looks c.args.sizes.now.home _ _ _ (omega (arith, ends, c.place_of.ensures))
-    (omega (arith, ends, c.commit_place.ensures)) a.1 b.1 in
-    search rules
+returns-in_err-read-2-clause-reads g c = search (rules, followed g (goal.at.returns-in_err-read-2-clause-reads g c).After-read-2)

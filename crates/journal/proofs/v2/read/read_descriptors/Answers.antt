@@ -42,7 +42,7 @@ loop-j-preserved g c =
       quiet = quiet_joined old mid new inv.quiet c.read_descriptor.ensures.reads.passes.quiet;
       reads = λ kind other. c.read_descriptor.ensures.reads.passes.reads kind other ∙ inv.reads kind other;
       calls = omega (arith, inv.calls, c.in_ok-found.ensures.reads.passes.exact);
-      long = ap (λ (l : List ℕ). length l) more ∙ omega (arith, length-append ns d.numbers.items, is.entries.many, full);
+      long = rw more (omega (arith, length-append ns d.numbers.items, is.entries.many, full));
       described = rw more (described_more j ns d.numbers.items full old.content at s n d.firsts.items is inv.described);
       all = λ numbers long has.
           let here = has j (omega (arith, c.descriptors-j-end.ensures, below, long)) in
@@ -61,18 +61,13 @@ loop-j-preserved g c =
             take-add (30 * j) 30 (firsts_of entries),
             next,
           );
-      each =
-          let long = ap (λ (l : List ℕ). length l) more in
-          let long_firsts = ap (λ (l : List (List ℕ)). length l) more_firsts in
-          omega (
-            arith,
-            inv.each,
-            long,
-            long_firsts,
-            is.entries.each,
-            length-append ns d.numbers.items,
-            length-append fs d.firsts.items,
-          );
+      each = rw (more, more_firsts) (omega (
+        arith,
+        inv.each,
+        is.entries.each,
+        length-append ns d.numbers.items,
+        length-append fs d.firsts.items,
+      ));
       follows =
           g.met.M.Medium.follows_through c.args.m.now c.loop-j.m c.read_descriptor.new.m inv.follows
           c.read_descriptor.ensures.reads.follows.0;

@@ -1,8 +1,26 @@
-use Rattle.std.proofs.Common.{◌≡◌, ◌<◌, ◌+◌, ◌*◌, ◌^◌, rules, arith, ◌∙◌}
+use Rattle.std.proofs.Common.{◌≡◌, ℕ, List, ◌<◌, ◌+◌, ◌*◌, ◌^◌, rules, arith, ◌∙◌}
 use Rattle.std.specs.Prelude.{All}
 use Rattle.journal.specs.Sectors.{IsRising}
+use Rattle.journal.specs.SectorsTwo.{IsDescriptorTwo}
 use Rattle.journal.proofs.EntriesTwo.{stamp_is, count_is, index_is, here_is, numbers_are, firsts_are, sized_from}
 use Rattle.journal.proofs.v2.descriptor.Descriptor.decode.Goals as goal
+use Rattle.journal.proofs.v2.descriptor.Descriptor.decode.Goals.{After-firsts_at-firsts}
+
+-- what was read of a descriptor is what it says
+said : (c : After-firsts_at-firsts) {stamp count j : ℕ} {numbers : List ℕ} {firsts : List (List ℕ)}
+    → IsDescriptorTwo stamp count j numbers firsts c.args.sector.now
+    → (c.number_at-stamp.result ≡ stamp) × (c.number_at-count.result ≡ count) × (c.number_at-index.result ≡ j)
+    × (c.numbers_at-numbers.result.items ≡ numbers) × (c.firsts_at-firsts.result.items ≡ firsts)
+said c d =
+    let here = here_is d c.count_here-here.ensures c.number_at-count.ensures.is c.number_at-index.ensures.is in
+    let a = c.numbers_at-numbers in
+    let b = c.firsts_at-firsts in (
+      c.number_at-stamp.ensures.is ∙ stamp_is d,
+      c.number_at-count.ensures.is ∙ count_is d,
+      c.number_at-index.ensures.is ∙ index_is d,
+      numbers_are d c.count_here-here.result a.result.items here a.ensures.count a.ensures.each,
+      firsts_are d c.count_here-here.result b.result.items here b.ensures.count b.ensures.each,
+    )
 
 pub returns-then-stamp-lt1-clause-all : goal.returns-then-stamp-lt1-clause-all
 returns-then-stamp-lt1-clause-all c stamp count j numbers firsts d =
@@ -30,29 +48,10 @@ invariant_of-descriptor c =
     search rules
 
 pub returns-then-eq-clause-all : goal.returns-then-eq-clause-all
-returns-then-eq-clause-all c stamp count j numbers firsts d =
-    let here = here_is d c.count_here-here.ensures c.number_at-count.ensures.is c.number_at-index.ensures.is in
-    let a = c.numbers_at-numbers in
-    let b = c.firsts_at-firsts in (
-      c.number_at-stamp.ensures.is ∙ stamp_is d,
-      c.number_at-count.ensures.is ∙ count_is d,
-      c.number_at-index.ensures.is ∙ index_is d,
-      numbers_are d c.count_here-here.result a.result.items here a.ensures.count a.ensures.each,
-      firsts_are d c.count_here-here.result b.result.items here b.ensures.count b.ensures.each,
-    )
+returns-then-eq-clause-all c stamp count j numbers firsts d = said (goal.at.returns-then-eq-clause-all c).After-firsts_at-firsts d
 
 pub returns-else-eq-clause-all : goal.returns-else-eq-clause-all
 returns-else-eq-clause-all c stamp count j numbers firsts d =
-    let here = here_is d c.count_here-here.ensures c.number_at-count.ensures.is c.number_at-index.ensures.is in
-    let a = c.numbers_at-numbers in
-    let b = c.firsts_at-firsts in
-    let e : c.encode.result ≡ c.args.sector.now = cc (
-      c.encode.ensures.spelled,
-      c.number_at-stamp.ensures.is ∙ stamp_is d,
-      c.number_at-count.ensures.is ∙ count_is d,
-      c.number_at-index.ensures.is ∙ index_is d,
-      numbers_are d c.count_here-here.result a.result.items here a.ensures.count a.ensures.each,
-      firsts_are d c.count_here-here.result b.result.items here b.ensures.count b.ensures.each,
-      d.spelled,
-    ) in
+    let s = said (goal.at.returns-else-eq-clause-all c).After-firsts_at-firsts d in
+    let e : c.encode.result ≡ c.args.sector.now = cc (c.encode.ensures.spelled, s.0, s.1, s.2, s.3, s.4, d.spelled) in
     search rules
