@@ -1,18 +1,21 @@
--- A block of a whole record, read back from its two sectors.
-use Rattle.std.proofs.Common.{◌≡◌, ℕ, ◌+◌, ◌*◌, ◌%◌, ◌<◌, List, length, arith}
+-- A block of a whole record, read back from its two sectors, and from what was read of it.
+use Rattle.std.proofs.Common.{◌≡◌, ℕ, ◌+◌, ◌*◌, ◌%◌, ◌<◌, List, [], ◌++◌, length, take, drop, get_or, refl, sym, ◌∙◌, ap, arith}
 use Rattle.std.specs.Prelude.{Option}
-use Rattle.std.proofs.lemmas.List.{take-append-drop}
+use Rattle.std.proofs.lemmas.List.{take-append-drop, length-take-le, length-map}
+use Rattle.std.proofs.Math.ListN.{get_or-map}
 use Rattle.medium.specs.Medium.{Image}
 use Rattle.journal.specs.declared.log_format.LogFormat.{LogFormat}
 use Rattle.journal.specs.declared.log_format.LogFormat.TheVariants.{One, Two}
 use Rattle.journal.specs.Places.{Shape, first_data_of}
 use Rattle.journal.specs.Record.{Entry, block_of}
 use Rattle.journal.specs.Layout.{slot_at, IsWholeIn}
-use Rattle.journal.specs.Formats.{layout_of}
+use Rattle.journal.specs.Formats.{layout_of, IsWhole}
+use Rattle.journal.specs.Reading.{AreStamped, data_at}
+use Rattle.journal.specs.SectorsTwo.{firsts_of}
 use Rattle.journal.specs.Copies.{begun_with, first_of}
 use Rattle.journal.proofs.EntriesTwo.{place_rest}
 use Rattle.journal.proofs.WholeOne.{place_there as place_there_one}
-use Rattle.journal.proofs.WholeTwo.{place_there}
+use Rattle.journal.proofs.WholeTwo.{place_there, says_whole}
 
 -- its first bytes, where its data place does not have them, and the rest of that make the block
 pub begun_is : (format : LogFormat) (shape : Shape) (image : Image) (stamp : ℕ) (entries : List Entry)
@@ -25,3 +28,37 @@ begun_is Two shape image stamp entries w i below first is sector there =
     let b : List ℕ = block_of entries i in
     let at : 2 + 249 * (stamp % shape.slots) + 8 + i ≡ 2 + 249 * (stamp % shape.slots) + (8 + i) = omega arith in
     rw (is, there, at, place_there shape image stamp entries w i below, place_rest stamp b) (take-append-drop 8 b)
+
+-- what is read of a record, and what its data places have, make its blocks
+module _ (shape : Shape) (image : Image) (stamp : ℕ) (entries : List Entry) (whole : IsWhole shape image stamp entries)
+    (firsts : List (List ℕ)) (i : ℕ) (below : i < length entries) where
+  begun : begun_with (first_of shape.format entries i) (image (data_at shape stamp i)) ≡ block_of entries i
+  begun = begun_is shape.format shape image stamp entries whole i below _ refl _ refl
+
+  -- in format 1 a data place has the whole block
+  pub one_read : shape.format ≡ One → firsts ≡ []
+      → get_or firsts i [] ++ drop (length (get_or firsts i [])) (image (data_at shape stamp i)) ≡ block_of entries i
+  one_read one none =
+      rw none (ap (λ (f : LogFormat). begun_with (first_of f entries i) (image (data_at shape stamp i))) (sym one) ∙ begun)
+
+  -- in format 2 all of it but the first 8 bytes
+  pub two_read : shape.format ≡ Two → firsts ≡ firsts_of entries
+      → get_or firsts i [] ++ drop (length (get_or firsts i [])) (image (data_at shape stamp i)) ≡ block_of entries i
+  two_read two same =
+      let f : Entry → List ℕ = λ e. take 8 e.1 in
+      let first : get_or firsts i [] ≡ take 8 (block_of entries i) =
+      ap (λ (l : List (List ℕ)). get_or l i []) same ∙ get_or-map f entries i (0, []) in
+      let eight : length (take 8 (block_of entries i)) ≡ 8 =
+      length-take-le 8 (block_of entries i) (omega (arith, whole.fit.sized i (0, []) below)) in
+      rw (first, eight)
+      (ap (λ (f : LogFormat). begun_with (first_of f entries i) (image (data_at shape stamp i))) (sym two) ∙ begun)
+
+-- the data places of a whole record carry its stamp, in each format
+pub stamped_whole : (shape : Shape) (image : Image) (stamp : ℕ) (entries : List Entry) → IsWhole shape image stamp entries
+    → AreStamped shape.format shape image stamp (length entries)
+stamped_whole shape image stamp entries whole = stamped_in shape.format whole
+  where
+    stamped_in : (format : LogFormat) → IsWholeIn (layout_of format) shape image stamp entries
+        → AreStamped format shape image stamp (length entries)
+    stamped_in One whole = tt
+    stamped_in Two whole = rw (← (length-map entries (λ (e : Entry). e.0))) (says_whole shape image stamp entries whole).placed

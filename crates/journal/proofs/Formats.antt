@@ -18,10 +18,6 @@ use Rattle.journal.proofs.Format2Laws.{part_commit as part_commit2, offset_commi
 use Rattle.journal.proofs.WholeOne.{record_read as read1}
 use Rattle.journal.proofs.WholeTwo.{record_read as read2}
 
--- the third number of two parts that are the same
-third : {a b : List ℕ} → a ≡ b → number_in a 2 ≡ number_in b 2
-third e = ap (λ (l : List ℕ). number_in l 2) e
-
 pub format1_laws : Laws format1
 format1_laws = record {
   some_parts = λ n. omega arith;
@@ -32,10 +28,14 @@ format1_laws = record {
   last_is_late = λ n. omega arith;
   one_stamp = λ blocks s t entries p r below c. one_stamp1 blocks s t entries p r c;
   last_part = λ s a b same.
-      part_commit1 s a (length a + 2 - 1) (omega arith) ∙ (ap (commit1 s) same ∙ sym (part_commit1 s b (length b + 2 - 1) (omega arith)));
-  count = λ blocks s a b ra rb e. sym (commit_count (commit_of ra))
-      ∙ third (sym (part_commit1 s a (length a + 2 - 1) (omega arith)) ∙ e ∙ part_commit1 s b (length b + 2 - 1) (omega arith))
-      ∙ commit_count (commit_of rb);
+      cc (part_commit1 s a (length a + 2 - 1) (omega arith), part_commit1 s b (length b + 2 - 1) (omega arith), same);
+  count = λ blocks s a b ra rb e. cc (
+    commit_count (commit_of ra),
+    commit_count (commit_of rb),
+    part_commit1 s a (length a + 2 - 1) (omega arith),
+    part_commit1 s b (length b + 2 - 1) (omega arith),
+    e,
+  );
   read = read1;
   zeros = zeros1;
 }
@@ -49,12 +49,18 @@ format2_laws = record {
   carries = λ blocks s entries p r below. inr (carries2 blocks s entries p r);
   last_is_late = λ n. omega arith;
   one_stamp = λ blocks s t entries p r below c. one_stamp2 blocks s t entries p r c;
-  last_part = λ s a b same. part_commit2 s a ((length a + 29) / 30 + length a + 1 - 1) (omega arith)
-      ∙ (ap (commit_bytes s) same ∙ sym (part_commit2 s b ((length b + 29) / 30 + length b + 1 - 1) (omega arith)));
-  count = λ blocks s a b ra rb e. sym (commit_counts s (length a) (omega (arith, ra.fit.few)))
-      ∙ third (sym (part_commit2 s a ((length a + 29) / 30 + length a + 1 - 1) (omega arith))
-      ∙ e ∙ part_commit2 s b ((length b + 29) / 30 + length b + 1 - 1) (omega arith))
-      ∙ commit_counts s (length b) (omega (arith, rb.fit.few));
+  last_part = λ s a b same. cc (
+    part_commit2 s a ((length a + 29) / 30 + length a + 1 - 1) (omega arith),
+    part_commit2 s b ((length b + 29) / 30 + length b + 1 - 1) (omega arith),
+    same,
+  );
+  count = λ blocks s a b ra rb e. cc (
+    commit_counts s (length a) (omega (arith, ra.fit.few)),
+    commit_counts s (length b) (omega (arith, rb.fit.few)),
+    part_commit2 s a ((length a + 29) / 30 + length a + 1 - 1) (omega arith),
+    part_commit2 s b ((length b + 29) / 30 + length b + 1 - 1) (omega arith),
+    e,
+  );
   read = read2;
   zeros = zeros2;
 }

@@ -11,7 +11,6 @@ pub mod CopiedBlock
 pub mod WrittenRecord
 pub mod Engine
 pub mod FaultLaws
-pub mod BlocksRead
 pub mod Format1Laws
 pub mod Format2Laws
 pub mod Formats

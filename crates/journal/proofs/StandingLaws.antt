@@ -19,9 +19,9 @@ use Rattle.journal.proofs.Formats.{laws_of}
 use Rattle.journal.proofs.Wholeness.{IsWhole-one}
 
 -- with one head there are no fewer records of what an image stands for
-not_fewer : (size other : ℕ) (shape : Shape) (image : Image) (a b : Array) (t u : ℕ) (h : StandsFor size shape image a t)
+not_fewer : {size other : ℕ} {shape : Shape} {image : Image} {a b : Array} {t u : ℕ} (h : StandsFor size shape image a t)
     (k : StandsFor other shape image b u) → h.head ≡ k.head → ¬ (length h.records < length k.records)
-not_fewer size other shape image a b t u h k heads less =
+not_fewer h k heads less =
     h.ends (omega (arith, k.few)) (get_or k.records (length h.records) [], rw heads (k.keeps.whole (length h.records) less))
 
 module _ (size other : ℕ) (shape : Shape) (image : Image) (a b : Array) (t u : ℕ) (h : StandsFor size shape image a t)
@@ -32,26 +32,14 @@ module _ (size other : ℕ) (shape : Shape) (image : Image) (a b : Array) (t u :
 
   -- there are as many records
   pub counts : length h.records ≡ length k.records
-  counts =
-      let no_less = not_fewer size other shape image a b t u h k heads in
-      let no_more = not_fewer other size shape image b a u t k h (sym heads) in
-      grind (arith, no_less, no_more)
+  counts = grind (arith, not_fewer h k heads, not_fewer k h (sym heads))
 
   -- they are the same records
-  pub records_same : h.records ≡ k.records
+  records_same : h.records ≡ k.records
   records_same =
       ext_get_or [] h.records k.records counts
       (λ j below. IsWhole-one (layout_of shape.format) (laws_of shape.format) shape image (h.head + j) (get_or h.records j [])
       (get_or k.records j []) (h.keeps.whole j below) (rw heads (k.keeps.whole j (omega (arith, counts)))))
-
-  -- so are the next stamp and the blocks of the array
-  pub same_stamp_and_blocks : (t ≡ u) × ((x : ℕ) → x < shape.blocks → a x ≡ b x)
-  same_stamp_and_blocks = (
-    omega (arith, h.next_is, k.next_is, heads, counts),
-    λ x below. sym (h.keeps.blocks x below)
-        ∙ ap (λ (rs : List (List Entry)). with_records rs (home_of shape image) x) records_same
-        ∙ k.keeps.blocks x below,
-  )
 
 -- an image stands for at most one array and next stamp, of one shape
 pub StandsFor-one : (size other : ℕ) (s r : Shape) (image : Image) (a b : Array) (t u : ℕ)
@@ -60,8 +48,12 @@ pub StandsFor-one : (size other : ℕ) (s r : Shape) (image : Image) (a b : Arra
 StandsFor-one size other s r image a b t u h k =
     let one : s ≡ r = IsSuper-one s r (image 0) h.keeps.super k.keeps.super in
     let there : StandsFor other s image b u = subst (λ (x : Shape). StandsFor other x image b u) (sym one) k in
-    let same = same_stamp_and_blocks size other s image a b t u h there in
-    (one, same.0, same.1)
+    let same = records_same size other s image a b t u h there in
+    let many = heads size other s image a b t u h there in (
+      one,
+      omega (arith, h.next_is, there.next_is, many, ap (λ (rs : List (List Entry)). length rs) same),
+      λ x below. sym (h.keeps.blocks x below) ∙ rw same (there.keeps.blocks x below),
+    )
 
 -- an image with a super, a head and so many whole records stands for an array
 pub record Stood (size : ℕ) (shape : Shape) (image : Image) (head count : ℕ) : Type 0 where

@@ -45,17 +45,13 @@ module _ (L : Layout) (shape : Shape) where
   abbrev pub part_at : ℕ → ℕ → ℕ → ℕ
   part_at stamp n p = slot_at stamp + L.offset n p
 
-  -- each part of the record of this stamp stands at its place
-  abbrev pub HasParts : Image → ℕ → List Entry → Type 0
-  HasParts image stamp entries = (p : ℕ) → p < L.parts (length entries)
-      → image (part_at stamp (length entries) p) ≡ L.part stamp entries p
-
-  -- the record of this stamp is whole in this image, with these blocks
+  -- the record of this stamp is whole in this image, with these blocks: each part stands at its place
   pub record IsWholeIn (image : Image) (stamp : ℕ) (entries : List Entry) : Type 0 where
     pub fit : AreEntries L.most shape.blocks entries
     pub least : 1 ≤ stamp
     pub below : stamp < 2 ^ 63 - 1
-    pub there : HasParts image stamp entries
+    pub there : (p : ℕ) → p < L.parts (length entries)
+        → image (part_at stamp (length entries) p) ≡ L.part stamp entries p
 
   -- the record of this stamp is whole in this image
   abbrev pub HasWholeIn : Image → ℕ → Type 0

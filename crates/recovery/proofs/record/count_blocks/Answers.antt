@@ -5,7 +5,7 @@ use Rattle.medium.proofs.SectorsRead.{looks_joined}
 use Rattle.journal.specs.Values.{shape_of}
 use Rattle.journal.specs.Entry.{Entry}
 use Rattle.journal.specs.Reading.{AreStamped, IsReadForStamps}
-use Rattle.journal.proofs.BlocksRead.{stamped_whole}
+use Rattle.journal.proofs.CopiedBlock.{stamped_whole}
 use Rattle.journal.proofs.SlotTwo.{untrue}
 use Rattle.recovery.proofs.FoundRecords.{quiet_before, quiet_after}
 use Rattle.recovery.proofs.JoinedCalls.{reads_on}

@@ -1,6 +1,6 @@
 use Rattle.std.proofs.Common.{◌≡◌, ◌∙◌, ◌++◌, ℕ, List, [], refl, ap, rules}
 use Rattle.journal.specs.Values.{shape_of}
-use Rattle.journal.proofs.BlocksRead.{one_read}
+use Rattle.journal.proofs.CopiedBlock.{one_read}
 use Rattle.journal.proofs.v1.read.read_record.Goals as goal
 
 pub returns : goal.returns

@@ -13,7 +13,7 @@ use Rattle.journal.specs.Reads.{LooksUp}
 use Rattle.journal.specs.SlotTwo.{HasDescriptors}
 use Rattle.journal.specs.Formats.{IsWhole}
 use Rattle.journal.specs.Record.{numbers_of}
-use Rattle.journal.proofs.BlocksRead.{two_read}
+use Rattle.journal.proofs.CopiedBlock.{two_read}
 use Rattle.journal.proofs.DescribedNumbers.{each_there}
 use Rattle.journal.proofs.SlotTwo.{untrue, two_whole, two_says}
 use Rattle.journal.proofs.WholeTwo.{descriptor_whole}
@@ -67,21 +67,18 @@ joined g c z finds =
 pub returns-in_default : goal.returns-in_default
 returns-in_default g c = record {
   passes = search rules;
-  finds =
-      let shape = shape_of c.args.sizes.now in
-      let old = g.M.Medium.state c.args.m.now in
-      let is = c.slot_of-slot.ensures in
-      record {
-        some = tt;
-        all = λ entries whole.
-            let says = two_says shape old.content c.args.stamp c.slot_of-slot.result c.requires.format is entries whole in
-            absurd (rw c.in_default.is at (c.in_ok-count.ensures.all (length (numbers_of entries)) says.committed));
-        exact = (
-          1,
-          rw (c.requires.format, ← is) (inl (λ n committed. absurd (rw c.in_default.is at (c.in_ok-count.ensures.all n committed)), refl)),
-          c.in_ok-count.ensures.reads.passes.exact,
-        );
-      };
+  finds = record {
+    some = tt;
+    all = λ entries whole.
+        let says = two_says _ _ _ _ c.requires.format c.slot_of-slot.ensures entries whole in
+        absurd (rw c.in_default.is at (c.in_ok-count.ensures.all _ says.committed));
+    exact = (
+      1,
+      rw (c.requires.format, ← c.slot_of-slot.ensures)
+          (inl (λ n committed. absurd (rw c.in_default.is at (c.in_ok-count.ensures.all n committed)), refl)),
+      c.in_ok-count.ensures.reads.passes.exact,
+    );
+  };
   follows =
       let ends = within_two c.args.sizes.now c.args.stamp c.slot_of-slot.result c.slot_of-slot.ensures c.requires.format in
       search (rules, looks_below);
