@@ -245,14 +245,12 @@ module _ (shape : Shape) (image : Image) (s : ℕ) (es : List Entry) (w : IsWhol
       let inside : i < length (numbers_of es) = omega (arith, below, length-map es f) in
       let chunk : List Entry = chunk_of es (i / 30) in
       let split : 30 * (i / 30) + i % 30 ≡ i = omega arith in
-      cc (
+      let begins : begins_in image at i ≡ take 8 (block_of es i) = cc (
         first_there image at s (numbers_of es) c d (i / 30) (i % 30) (omega arith) (omega arith) (omega arith),
         get_or-map first chunk (i % 30) (0, []),
         get_or-take 30 (drop (30 * (i / 30)) es) (i % 30) (0, []) (omega arith),
         get_or-drop (30 * (i / 30)) es (i % 30) (0, []),
         split,
-        place_there i below,
-        place_rest s (block_of es i),
-        read_entry image at s (numbers_of es) c d i inside,
-        take-append-drop 8 (block_of es i),
-      ))
+      ) in
+      rw (read_entry image at s (numbers_of es) c d i inside, begins, place_there i below, place_rest s (block_of es i))
+      (sym (take-append-drop 8 (block_of es i))))
