@@ -1,12 +1,10 @@
 -- Both formats keep the laws of a layout.
-use Rattle.std.proofs.Common.{◌≡◌, inr, ℕ, ◌+◌, ◌-◌, ◌/◌, List, length, refl, sym, ◌∙◌, ap, arith}
+use Rattle.std.proofs.Common.{◌≡◌, inr, ◌+◌, ◌-◌, ◌/◌, length, refl, arith}
 use Rattle.journal.specs.declared.log_format.LogFormat.{LogFormat}
 use Rattle.journal.specs.declared.log_format.LogFormat.TheVariants.{One, Two}
 use Rattle.journal.specs.Places.{limit_of, slot_sectors_of}
-use Rattle.journal.specs.Spelling.{number_in}
-use Rattle.journal.specs.SectorsTwo.{commit_bytes}
 use Rattle.journal.specs.LayoutLaws.{Laws}
-use Rattle.journal.specs.Format1.{format1, commit1}
+use Rattle.journal.specs.Format1.{format1}
 use Rattle.journal.specs.Format2.{format2}
 use Rattle.journal.specs.Formats.{layout_of}
 use Rattle.journal.proofs.SectorNumbers.{commit_count}
