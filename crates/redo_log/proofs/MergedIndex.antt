@@ -1,6 +1,6 @@
 -- How an index and a record's rising block numbers merge, the greatest block first.
 use Rattle.std.proofs.Common.{◌≡◌, ◌≢◌, inl, inr, ℕ, zero, suc, ◌+◌, ◌-◌, ◌<◌, ◌≤◌, List, [], ◌∷◌, ◌++◌, length, get_or, take, drop, set}
-use Rattle.std.proofs.Common.{Some, sym, ◌∙◌, ap, subst, append_assoc, Option, arith}
+use Rattle.std.proofs.Common.{Some, refl, sym, ◌∙◌, ap, append_assoc, Option, arith}
 use Rattle.std.specs.Prelude.{slice_index}
 use Rattle.std.specs.List.{remove_range}
 use Rattle.std.proofs.lemmas.Bool.{cases_eq}
@@ -41,6 +41,14 @@ pub record IsMerging (old : List Copied) (slot : ℕ) (numbers : List ℕ) (left
   pub front : (i : ℕ) → i < left → get_or index i blank ≡ get_or old i blank
   pub tail : IsTail old slot numbers left place (drop to index)
 
+-- what is above the last of some that rise is above all
+below_last : (f : ℕ → ℕ) (n block : ℕ) → ((i j : ℕ) → i < j → j < n → f i < f j) → (0 < n → f (n - 1) < block) → (i : ℕ) → i < n
+    → f i < block
+below_last f n block rises last i less = elim (cases_eq i (n - 1)) [
+  | inl same ↦ rw same (last (omega arith))
+  | inr not ↦ omega (arith, rises i (n - 1) (omega (arith, not)) (omega arith), last (omega arith))
+]
+
 module _ (old : List Copied) (slot : ℕ) (numbers : List ℕ) (sorted : IsSorted old) (rising : IsRising numbers) where
   -- a block below the tail is not named by the numbers in it
   passes : (left place : ℕ) (tail : List Copied) (b : ℕ) (copies : ℕ → Option (ℕ × ℕ)) → IsTail old slot numbers left place tail
@@ -57,24 +65,26 @@ module _ (old : List Copied) (slot : ℕ) (numbers : List ℕ) (sorted : IsSorte
     over_entries = λ i less.
         above_cons (block_at old i + 1) c tail (omega (arith, block, sorted i left less inside)) (merged.over_entries i (omega arith));
     over_numbers = λ i less. above_cons (slice_index numbers i + 1) c tail (omega (arith, over i less)) (merged.over_numbers i less);
-    looks = λ b. elim (cases_eq c.block b) [
-      | inl same ↦ here c tail b same
-          ∙ (sym (here c (drop (left + 1) old) b same) ∙ ap (λ (l : List Copied). look l b) (sym split)
-          ∙ sym (passes (left + 1) place tail b (look (drop left old)) merged (subst (λ (n : ℕ). IsAbove (n + 1) tail) same above)))
-      | inr not ↦ behind c tail b not ∙ (merged.looks b
-          ∙ with_copies-same slot place (drop place numbers) (look (drop (left + 1) old)) (look (drop left old)) b
-          (sym (behind c (drop (left + 1) old) b not) ∙ ap (λ (l : List Copied). look l b) (sym split)))
-    ];
+    looks = λ b. rw split (elim (cases_eq c.block b) [
+      | inl same ↦
+          here c tail b same
+          ∙ sym (here c (drop (left + 1) old) b same)
+          ∙ sym (passes (left + 1) place tail b (look (c ∷ drop (left + 1) old)) merged (rw same at above))
+      | inr not ↦
+          behind c tail b not
+          ∙ merged.looks b
+          ∙ with_copies-same slot place (drop place numbers) _ (look (c ∷ drop (left + 1) old)) b (sym (behind c _ b not))
+    ]);
   }
     where
       block : c.block ≡ block_at old left
       block = ap (λ (x : Copied). x.block) is
 
       above : IsAbove (c.block + 1) tail
-      above = subst (λ (n : ℕ). IsAbove (n + 1) tail) (sym block) (merged.over_entries left (omega arith))
+      above = rw block (merged.over_entries left (omega arith))
 
       split : drop left old ≡ c ∷ drop (left + 1) old
-      split = drop_more old left blank inside ∙ ap (λ (x : Copied). x ∷ drop (left + 1) old) (sym is)
+      split = rw is (drop_more old left blank inside)
 
   -- the entry of a number of the record
   abbrev pub entry_of : ℕ → Copied
@@ -87,37 +97,24 @@ module _ (old : List Copied) (slot : ℕ) (numbers : List ℕ) (sorted : IsSorte
       let n = slice_index numbers place in
       let above = merged.over_numbers place (omega arith) in
       let with_it = with_copy n (slot, place) (look (drop left old)) in
-      let first = λ (b : ℕ). ap (λ (l : List ℕ). with_copies slot place l (look (drop left old)) b) (drop_more numbers place 0 inside) in
       record {
         sorted = sorted_cons (entry_of place) tail above merged.sorted;
         over_entries = λ i less. above_cons (block_at old i + 1) (entry_of place) tail (omega (arith, stays.below i less))
             (merged.over_entries i (omega (arith, less, stays.fewer)));
         over_numbers = λ i less. above_cons (slice_index numbers i + 1) (entry_of place) tail (omega (arith, rising i place less inside))
             (merged.over_numbers i (omega arith));
-        looks = λ b. elim (cases_eq n b) [
+        looks = λ b. rw (drop_more numbers place 0 inside) (elim (cases_eq n b) [
           | inl same ↦
               here (entry_of place) tail b same
               ∙ sym (with_here n (slot, place) (look (drop left old)) b same)
-              ∙ sym (passes was (place + 1) tail b with_it merged (subst (λ (m : ℕ). IsAbove (m + 1) tail) same above))
-              ∙ sym (first b)
+              ∙ sym (passes was (place + 1) tail b with_it merged (rw same at above))
           | inr not ↦
               behind (entry_of place) tail b not
               ∙ merged.looks b
               ∙ with_copies-same slot (place + 1) (drop (place + 1) numbers) (look (drop was old)) with_it b
               (sym (stays.gone b not) ∙ sym (with_other n (slot, place) (look (drop left old)) b not))
-              ∙ sym (first b)
-        ];
+        ]);
       }
-
-  -- a block above the last number that is left is above all
-  all_below : (place block : ℕ) → place ≤ length numbers → (0 < place → slice_index numbers (place - 1) < block) → (i : ℕ) → i < place
-      → slice_index numbers i < block
-  all_below place block fits last i less = elim (cases_eq i (place - 1)) [
-    | inl same ↦ subst (λ (k : ℕ). slice_index numbers k < block) (sym same) (last (omega arith))
-    | inr not ↦
-        let below : i < place - 1 = omega (arith, not, less) in
-        omega (arith, rising i (place - 1) below (omega (arith, less, fits)), last (omega arith))
-  ]
 
   -- an entry goes to the end of the room
   module _ (was left before place till to : ℕ) (index : List Copied) (c : Copied) (room : till ≡ to + 1)
@@ -144,7 +141,7 @@ module _ (old : List Copied) (slot : ℕ) (numbers : List ℕ) (sorted : IsSorte
       let c = get_or index left blank in
       goes was left place place till to index c room merged (omega arith) (omega arith) (omega (arith, merged.room, one_less, room))
       (entry_goes left place c (drop till index) (omega (arith, merged.entries, one_less)) (merged.front left (omega (arith, one_less)))
-      (all_below place c.block merged.places over)
+      (below_last (slice_index numbers) place c.block (λ i j less below. rising i j less (omega (arith, below, merged.places))) over)
       (rw one_less at merged.tail))
 
   -- the last number that is left, above all entries that are left then
@@ -166,15 +163,9 @@ module _ (old : List Copied) (slot : ℕ) (numbers : List ℕ) (sorted : IsSorte
     pub left_all : left ≡ was → (0 < was → block_at index (was - 1) < block) → IsLeft old block was left
     left_all same last = record {
       fewer = omega arith;
-      below = λ i less.
-          let greatest = block_is (was - 1) (omega (arith, less)) in
-          elim (cases_eq i (was - 1)) [
-            | inl is ↦ omega (arith, ap (block_at old) is, greatest, last (omega (arith, less)))
-            | inr not ↦
-                let lower : i < was - 1 = omega (arith, not, less) in
-                omega (arith, sorted i (was - 1) lower (omega (arith, less, fits)), greatest, last (omega (arith, less)))
-          ];
-      gone = λ b not. ap (λ (n : ℕ). look (drop n old) b) same;
+      below = λ i less. below_last (block_at old) was block (λ i j less below. sorted i j less (omega (arith, below, fits)))
+          (λ some. rw (block_is (was - 1) (omega (arith, some))) at (last some)) i (omega (arith, less, same));
+      gone = λ b not. rw same refl;
     }
 
     -- the last entry has this block
@@ -184,9 +175,8 @@ module _ (old : List Copied) (slot : ℕ) (numbers : List ℕ) (sorted : IsSorte
         record {
           fewer = omega arith;
           below = λ i less. omega (arith, sorted i left less (omega arith), block_now);
-          gone = λ b not. ap (λ (l : List Copied). look l b) (drop_more old left blank (omega arith))
-              ∙ (behind (get_or old left blank) (drop (left + 1) old) b (λ same. not (sym block_now ∙ same))
-              ∙ ap (λ (n : ℕ). look (drop n old) b) (sym one_more));
+          gone = λ b not. rw (drop_more old left blank (omega arith), one_more)
+              (behind (get_or old left blank) (drop (left + 1) old) b (λ same. not (sym block_now ∙ same)));
         }
 
   -- all that is left goes before the tail as it is

@@ -1,5 +1,5 @@
 -- What a search finds among entries that are sorted by block, and what is left of them without a slot.
-use Rattle.std.proofs.Common.{◌≡◌, ◌≢◌, ◌⊎◌, inl, inr, ℕ, zero, suc, ◌+◌, ◌<◌, ◌≤◌, List, [], ◌∷◌, length, get_or, if◌then◌else◌, Some}
+use Rattle.std.proofs.Common.{◌≡◌, ◌≢◌, inl, inr, ℕ, zero, suc, ◌+◌, ◌<◌, ◌≤◌, List, [], ◌∷◌, length, get_or, if◌then◌else◌, Some}
 use Rattle.std.proofs.Common.{None, Result, Ok, Err, IfOk, IfErr, refl, sym, ◌∙◌, ap, subst, arith}
 use Rattle.std.specs.Prelude.{◌==◌, Bool, true, false}
 use Rattle.std.specs.List.{filter}
@@ -79,9 +79,8 @@ above_cons least c index first above zero below = first
 above_cons least c index first above (suc i) below = above i (omega arith)
 
 pub sorted_cons : (c : Copied) (index : List Copied) → IsAbove (c.block + 1) index → IsSorted index → IsSorted (c ∷ index)
-sorted_cons c index above sorted zero zero less below = absurd (omega arith)
 sorted_cons c index above sorted zero (suc j) less below = omega (arith, above j (omega arith))
-sorted_cons c index above sorted (suc i) zero less below = absurd (omega arith)
+sorted_cons c index above sorted i zero less below = absurd (omega arith)
 sorted_cons c index above sorted (suc i) (suc j) less below = sorted i j (omega arith) (omega arith)
 
 -- a block below all entries is not found
@@ -124,17 +123,13 @@ module _ (slot : ℕ) where
   look_filter (c ∷ index) sorted b =
       let rest = look_filter index (sorted_tail c index sorted) b in
       filtered (λ l. look l b ≡ outside slot (look (c ∷ index) b)) c index
-      (λ there. kept there rest (cases_eq c.block b)) (λ here. dropped here rest (cases_eq c.block b))
-    where
-      dropped : c.slot ≡ slot → look (filter is_outside index) b ≡ outside slot (look index b) → (c.block ≡ b) ⊎ (c.block ≢ b)
-          → look (filter is_outside index) b ≡ outside slot (look (c ∷ index) b)
-      dropped here rest (inl same) =
-          look_above (filter is_outside index) b
-          (above_filter (b + 1) index (subst (λ (n : ℕ). IsAbove (n + 1) index) same (above_tail c index sorted)))
-          ∙ grind (arith, nat_tests, same, here)
-      dropped here rest (inr not) = rest ∙ grind (arith, nat_tests, not)
-
-      kept : c.slot ≢ slot → look (filter is_outside index) b ≡ outside slot (look index b) → (c.block ≡ b) ⊎ (c.block ≢ b)
-          → look (c ∷ filter is_outside index) b ≡ outside slot (look (c ∷ index) b)
-      kept there rest (inl same) = grind (arith, nat_tests, same, there)
-      kept there rest (inr not) = grind (arith, nat_tests, not, rest)
+      (λ there. elim (cases_eq c.block b) [
+        | inl same ↦ grind (arith, nat_tests, same, there)
+        | inr not ↦ grind (arith, nat_tests, not, rest)
+      ])
+      (λ here. elim (cases_eq c.block b) [
+        | inl same ↦
+            look_above (filter is_outside index) b (above_filter (b + 1) index (rw same at (above_tail c index sorted)))
+            ∙ grind (arith, nat_tests, same, here)
+        | inr not ↦ rest ∙ grind (arith, nat_tests, not)
+      ])
