@@ -41,27 +41,27 @@ IsLogged shape head view steps image = Logged shape head view.records view.array
     ⊎ ((0 < steps) × (steps ≤ 2) × Logged shape head (view.records ++ view.under_way ∷ []) (with_blocks view.under_way view.array) image)
 
 module _ {shape : Shape} {head : ℕ} {view : View} {steps made : ℕ} (stands : Stands shape head view steps made) where
-  abbrev L : Layout
+  abbrev pub L : Layout
   L = layout_of shape.format
 
-  abbrev laws : Laws (layout_of shape.format)
+  abbrev pub laws : Laws L
   laws = laws_of shape.format
 
-  abbrev v : staged.View
+  abbrev pub v : staged.View
   v = image_view shape head view
 
   -- the stamp of the record behind the durable ones
-  abbrev stamp : ℕ
+  abbrev pub stamp : ℕ
   stamp = head + length view.records
 
-  abbrev n : ℕ
+  abbrev pub n : ℕ
   n = length view.under_way
 
   -- how many of its parts are written, and how many are flushed
-  abbrev k : ℕ
+  abbrev pub k : ℕ
   k = written_of shape view made
 
-  abbrev d : ℕ
+  abbrev pub d : ℕ
   d = flushed_of shape view made
 
   -- what a cut may leave has the durable records, and perhaps the one under way
@@ -79,7 +79,7 @@ module _ {shape : Shape} {head : ℕ} {view : View} {steps made : ℕ} (stands :
 
   -- the durable records and the blocks at home make the array
   pub keeps_of : (image : Image) → Safe shape head view steps made image
-      → KeepsView (layout_of shape.format) (image_view shape head view) image
+      → KeepsView L v image
   keeps_of image safe = ⊎_elim
       (λ (some : 0 < steps). (safe.guarded some).keeps)
       (λ (none : steps ≤ 0). (safe.rests (omega (arith, none))).keeps)
@@ -87,11 +87,8 @@ module _ {shape : Shape} {head : ℕ} {view : View} {steps made : ℕ} (stands :
 
   module _ {old : State} (sound : IsSound old) {retire : ℕ} (g : Guards shape head view steps made retire old) (new : State) where
     -- the next part is written
-    module _ (some : 0 < steps) (below : written_of shape view made < (layout_of shape.format).parts (length view.under_way))
-        (bytes : List ℕ)
-        (gains : Gains (part_at (layout_of shape.format) shape (head + length view.records) (length view.under_way)
-        (written_of shape view made))
-        bytes old.may_leave new.may_leave) where
+    module _ (some : 0 < steps) (below : k < L.parts n) (bytes : List ℕ)
+        (gains : Gains (part_at L shape stamp n k) bytes old.may_leave new.may_leave) where
       part_each : (Q : Image → Type 0) → ((image : Image) → Guarded L v k d image → Q image)
           → ((before image : Image) → Holds (part_at L shape stamp n k) bytes before image → Guarded L v k d before
           → Q image) → EachCut Q new
@@ -100,20 +97,16 @@ module _ {shape : Shape} {head : ℕ} {view : View} {steps made : ℕ} (stands :
           (λ image safe. stays image (safe.guarded some)) (λ before image write safe. changes before image write (safe.guarded some))
 
       -- with these or other blocks in it, unless it is the last one
-      pub other_each : (other : List Entry) → IsRecordOf (layout_of shape.format) shape.blocks (head + length view.records) other
-          → length other ≡ length view.under_way
-          → bytes ≡ (layout_of shape.format).part (head + length view.records) other (written_of shape view made)
-          → written_of shape view made + 1 < (layout_of shape.format).parts (length view.under_way)
-          → EachCut (Logged shape head view.records view.array) new
+      pub other_each : (other : List Entry) → IsRecordOf L shape.blocks stamp other → length other ≡ n → bytes ≡ L.part stamp other k
+          → k + 1 < L.parts n → EachCut (Logged shape head view.records view.array) new
       other_each other rec same is early =
           part_each (Logged shape head view.records view.array)
           (λ image guarded. rest_early L laws v (stands.slots some) image k d below guarded)
           (λ before image write guarded. other_written L laws v (stands.slots some) before image k d other rec same early
           (rw is at write) guarded)
 
-      module _ (is : bytes ≡ (layout_of shape.format).part (head + length view.records) view.under_way (written_of shape view made))
-          (less next : ℕ) (more : written_of shape view next ≡ written_of shape view made + 1)
-          (flushed : flushed_of shape view next ≡ flushed_of shape view made) (some_left : 0 < less) where
+      module _ (is : bytes ≡ L.part stamp view.under_way k) (less next : ℕ) (more : written_of shape view next ≡ k + 1)
+          (flushed : flushed_of shape view next ≡ d) (some_left : 0 < less) where
         pub next_each : EachCut (Safe shape head view less next) new
         next_each image cut = record {
           rests = λ none. absurd (omega (arith, none, some_left));
@@ -143,8 +136,8 @@ module _ {shape : Shape} {head : ℕ} {view : View} {steps made : ℕ} (stands :
       flushed_now some = Guarded-flush L laws v (stands.slots some) old.content k d (λ p low small. stored.written some p low small)
           ((content_has (Safe shape head view steps made) old sound g.each).guarded some)
 
-      pub flush_guards : (less next : ℕ) → 0 < steps → 0 < less → written_of shape view next ≡ written_of shape view made
-          → flushed_of shape view next ≡ written_of shape view made → Guards shape head view less next retire new
+      pub flush_guards : (less next : ℕ) → 0 < steps → 0 < less → written_of shape view next ≡ k → flushed_of shape view next ≡ k
+          → Guards shape head view less next retire new
       flush_guards less next some left same flushed = record {
         each = each_flush (Safe shape head view less next) old.content new only (record {
           rests = λ none. absurd (omega (arith, none, left));
@@ -154,8 +147,7 @@ module _ {shape : Shape} {head : ℕ} {view : View} {steps made : ℕ} (stands :
       }
 
       -- all is flushed: the record is durable
-      pub durable_guards : (next left : ℕ) → 0 < steps
-          → (layout_of shape.format).parts (length view.under_way) ≤ written_of shape view made
+      pub durable_guards : (next left : ℕ) → 0 < steps → L.parts n ≤ k
           → (left ≡ 1 → (0 < length view.records) × ((retire ≡ 1) ⊎ (length (get_or view.records 0 []) ≤ turned)))
           → Guards shape head (with_record view) 0 next left new
       durable_guards next left some all more = record {
@@ -197,7 +189,7 @@ module _ {shape : Shape} {head : ℕ} {view : View} {steps made : ℕ} (stands :
     -- the head is written past the oldest record
     module _ (bytes : List ℕ) (waits : 0 < length view.records) (h : IsHead (head + 1) bytes) where
       pub past : (before image : Image) → Holds 1 bytes before image → Safe shape head view steps made before
-          → IsHomed (image_view shape head view) before → Safe shape (head + 1) (view_retired 1 view) steps made image
+          → IsHomed v before → Safe shape (head + 1) (view_retired 1 view) steps made image
       past before image write safe homed = record {
         rests = λ none. Resting-head L laws v stands.sized.some stands.sized.behind before image bytes waits h homed
             write (safe.rests none);

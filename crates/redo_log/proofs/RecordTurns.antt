@@ -1,6 +1,6 @@
 -- Each step of the record under way: what the log and its medium hold after it.
 use Rattle.std.proofs.Common.{◌≡◌, ◌⊎◌, inl, inr, ⊎_elim, ℕ, ◌+◌, ◌*◌, ◌-◌, ◌<◌, ◌≤◌, List, [], ◌∷◌, ◌++◌, length, get_or, refl, sym}
-use Rattle.std.proofs.Common.{◌∙◌, ap, subst, arith, length-append}
+use Rattle.std.proofs.Common.{◌∙◌, ap, arith, length-append}
 use Rattle.std.specs.Prelude.{true, false}
 use Rattle.std.proofs.lemmas.Bool.{cases_eq, cases_lt}
 use Rattle.medium.specs.Medium.{State, IsSound}
@@ -17,7 +17,7 @@ use Rattle.journal.proofs.BatchEntries.{length_of_batch}
 use Rattle.redo_log.specs.declared.progress.Progress.{Progress}
 use Rattle.redo_log.specs.declared.progress.Progress.TheVariants.{More, Durable}
 use Rattle.redo_log.specs.Value.{LogValue, steps_of, steps_for, of_oldest, IsStepped}
-use Rattle.redo_log.specs.Stages.{needed_at, flush_of, IsSized}
+use Rattle.redo_log.specs.Stages.{needed_at, flush_of}
 use Rattle.redo_log.specs.Calls.{gaining, Call, Write, Flush, MayAdd, IsDone, IsNextCall, IsFlushDue}
 use Rattle.redo_log.specs.Held.{View, with_record, view_stepped, written_of, flushed_of, made_of, turned_of, needed_of}
 use Rattle.redo_log.specs.Held.{HasDurable, MayLeave}
@@ -201,11 +201,8 @@ module _ {log : LogValue} (is : IsLog log) (live : log.dead ≡ false) (some : 0
         where
           last_same : L.parts n ≤ k + 1 → L.part stamp other k ≡ L.part stamp view.under_way k
           last_same last =
-              let k_is : k ≡ L.parts n - 1 = omega (arith, small, last) in
-              let P : List Entry → ℕ → List ℕ = λ l p. L.part stamp l p in
-              ap (P other) (k_is ∙ ap (λ (m : ℕ). L.parts m - 1) (sym other_count))
-              ∙ laws.last_part stamp other view.under_way other_count
-              ∙ ap (P view.under_way) (sym k_is)
+              let k_is : L.parts n - 1 ≡ k = omega (arith, small, last) in
+              rw (other_count, k_is) at (laws.last_part stamp other view.under_way other_count)
 
       part_written_now : 1 < log.steps_left → new.size ≡ old.size → view.under_way ≡ other → MayAdd (Write place bytes) old new
           → IsDone (Write place bytes) old new → HoldsView more_log new view
@@ -277,5 +274,4 @@ module _ {log : LogValue} (is : IsLog log) (live : log.dead ≡ false) (some : 0
       -- with the last one the record is whole in each image
       pub counted_whole : view.ours ≡ true → IsStepped Durable log then → EachCut (HasDurable new.size then (with_record view)) new
       counted_whole ours stepped =
-          durable_whole (counted_held Durable stepped) (subst (λ (v : LogValue). IsSized v.shape) (sym stepped.1) is.sized)
-          (ap (λ (v : LogValue). v.dead) stepped.1 ∙ live) ours (ap (λ (v : LogValue). v.steps_left) stepped.1)
+          durable_whole (counted_held Durable stepped) (rw stepped.1 is.sized) (rw stepped.1 live) ours (rw stepped.1 refl)

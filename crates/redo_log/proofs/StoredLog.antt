@@ -18,23 +18,23 @@ use Rattle.redo_log.proofs.LaidBlocks.{before_home, AreHome-log, Laid-slot, Laid
 
 module _ {shape : Shape} {head : ℕ} {view : View} {steps made turned : ℕ} {old : Image}
     (s : Stores shape head view steps made turned old) where
-  abbrev L : Layout
+  abbrev pub L : Layout
   L = layout_of shape.format
 
   -- the stamp of the record behind the durable ones
-  abbrev stamp : ℕ
+  abbrev pub stamp : ℕ
   stamp = head + length view.records
 
-  abbrev n : ℕ
+  abbrev pub n : ℕ
   n = length view.under_way
 
   -- how many of its parts are written
-  abbrev k : ℕ
+  abbrev pub k : ℕ
   k = written_of shape view made
 
   -- the same content, where no more of the record under way is written, and of the oldest record at home
   pub Stores-stays : (less next then : ℕ) (new : Image) → Stays old new → (0 < less → 0 < steps)
-      → written_of shape view next ≤ written_of shape view made
+      → written_of shape view next ≤ k
       → ((i : ℕ) → i < then → i < length (get_or view.records 0 []) → i < turned) → Stores shape head view less next then new
   Stores-stays less next then new stays some no_more no_home = record {
     laid = Laid-stays shape old new stays head view.records view.array s.laid;
@@ -44,12 +44,8 @@ module _ {shape : Shape} {head : ℕ} {view : View} {steps made turned : ℕ} {o
 
   module _ (sized : IsSized shape) (new : Image) (bytes : List ℕ) where
     -- the next part is written
-    pub part_stores : (less next : ℕ) → 0 < steps → HasSlots (layout_of shape.format) (image_view shape head view)
-        → written_of shape view made < (layout_of shape.format).parts (length view.under_way)
-        → written_of shape view next ≡ written_of shape view made + 1
-        → Holds (part_at (layout_of shape.format) shape (head + length view.records) (length view.under_way) (written_of shape view made))
-        bytes old new
-        → bytes ≡ (layout_of shape.format).part (head + length view.records) view.under_way (written_of shape view made)
+    pub part_stores : (less next : ℕ) → 0 < steps → HasSlots L (image_view shape head view) → k < L.parts n
+        → written_of shape view next ≡ k + 1 → Holds (part_at L shape stamp n k) bytes old new → bytes ≡ L.part stamp view.under_way k
         → Stores shape head view less next turned new
     part_stores less next some slots below more write is =
         let few = slots.under_way.fit.few in
@@ -101,8 +97,8 @@ module _ {shape : Shape} {head : ℕ} {view : View} {steps made turned : ℕ} {o
         }
 
   -- the record under way is durable, and where it is the only one nothing of it is home
-  pub durable_stores : (next then : ℕ) → 0 < steps → HasSlots (layout_of shape.format) (image_view shape head view)
-      → (layout_of shape.format).parts (length view.under_way) ≤ written_of shape view made → (length view.records ≡ 0 → then ≡ 0)
+  pub durable_stores : (next then : ℕ) → 0 < steps → HasSlots L (image_view shape head view) → L.parts n ≤ k
+      → (length view.records ≡ 0 → then ≡ 0)
       → (0 < length view.records → then ≡ turned) → Stores shape head (with_record view) 0 next then old
   durable_stores next then some slots all alone more =
       let is = slots.under_way in
