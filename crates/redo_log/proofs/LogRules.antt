@@ -1,5 +1,5 @@
 -- What is true of every log, as a caller sees it, whatever its fields are.
-use Rattle.std.proofs.Common.{◌≡◌, ◌≢◌, ⊎_elim, ℕ, suc, ◌+◌, ◌-◌, ◌*◌, ◌^◌, ◌<◌, ◌≤◌, List, [], ◌∷◌, ◌++◌, length, get_or}
+use Rattle.std.proofs.Common.{◌≡◌, ◌≢◌, ⊎_elim, ℕ, suc, ◌+◌, ◌-◌, ◌*◌, ◌<◌, ◌≤◌, List, [], ◌∷◌, ◌++◌, length, get_or}
 use Rattle.std.proofs.Common.{drop, refl, sym, ◌∙◌}
 use Rattle.std.proofs.Common.{ap, subst, arith}
 use Rattle.std.specs.Prelude.{All, Bool, Option, Some, None, Result, sum_by, slice_index_or}
@@ -19,9 +19,9 @@ use Rattle.redo_log.specs.declared.turn.Turn.{Turn}
 use Rattle.redo_log.specs.declared.log.Log.TheInside.{Inside}
 use Rattle.redo_log.specs.Value.{AllFirsts, LogValue, Ahead, HasRoom, most_retire_steps, steps_of, retire_steps_of}
 use Rattle.redo_log.specs.Value.{behind_oldest, of_oldest}
-use Rattle.redo_log.specs.Stages.{value_at, steps_at, oldest_at, begun_at, AreInside, IsRecord, IsOldest, IsUnderWay, IsRing, IsAheadOf}
+use Rattle.redo_log.specs.Stages.{value_at, steps_at, oldest_at, begun_at, AreInside, IsRecord, IsOldest, IsUnderWay}
 use Rattle.redo_log.specs.Stages.{IsSized}
-use Rattle.redo_log.specs.Shown.{lists_of, ahead_in, kept_in, shown, Invariant}
+use Rattle.redo_log.specs.Shown.{lists_of, kept_in, shown, Invariant}
 use Rattle.redo_log.specs.Calls.{MakesNext}
 use Rattle.redo_log.specs.Turns.{IsNextTurn, StaysInImage}
 use Rattle.redo_log.specs.Held.{made_of, turned_of, stamps_of}
@@ -89,36 +89,28 @@ oldest : (waiting : List (List ℕ)) (turned : ℕ) → IsOldest waiting turned 
 oldest [] turned is = (λ none. refl, λ some. absurd (omega arith), omega arith)
 oldest (n ∷ newer) turned is = (λ none. absurd (omega arith), λ some. omega (arith, is), omega arith)
 
-value_is : (ahead : Ahead) (shape : Shape) (head : ℕ) (waiting : List (List ℕ)) (turned : ℕ) (kept : AllFirsts) (items : List ℕ)
-    (writing : Option ℕ) (dead : Bool) → IsSized shape → 1 ≤ head → head + length waiting + begun_at writing < 2 ^ 63
-    → IsRing shape waiting turned items writing → IsAheadOf ahead head waiting turned
-    → IsLog (value_at ahead shape head waiting turned kept items writing dead)
-value_is ahead shape head waiting turned kept items writing dead sized least most ring sent =
-    let under_way = under shape items writing ring.record_under_way in
-    let at = oldest waiting turned ring.oldest in
-    record {
-      sized = sized;
-      record_is = λ some. record {
-        least = omega (arith, least);
-        most = omega (arith, most, (under_way.1 some).1);
-        numbers_are = (under_way.1 some).0;
-      };
-      room = λ some. omega (arith, ring.fits, (under_way.1 some).1);
-      most_left = under_way.0;
-      each = ring.each;
-      taken = omega arith;
-      alone = λ none. omega (arith, at.0 none);
-      owed = λ some. omega (arith, at.1 some);
-      owed_most = omega (arith, at.2);
-      past = ⊎_elim (λ (less : ahead.home < head). omega (arith, less)) (λ same. omega (arith, same.0)) sent;
-      away = λ more same. ⊎_elim (λ (less : ahead.home < head). omega (arith, less, same)) (λ home. omega (arith, more, home.2, at.2)) sent;
-    }
-
 module _ (i : Inside) {log : LogValue} (is : shown i ≡ log) where
   pub log_is : Invariant i → IsLog log
-  log_is inv = subst IsLog is (value_is (ahead_in i) (shape_of i.sizes) i.head (lists_of i.waiting.items) i.turned (kept_in i)
-      i.under_way.items i.made i.dead (sizes_sized i.sizes) inv.least (omega (arith, inv.most, many_lists i.waiting.items)) inv.ring
-      inv.ahead_is)
+  log_is inv =
+      let under_way = under (shape_of i.sizes) i.under_way.items i.made inv.ring.record_under_way in
+      let at = oldest (lists_of i.waiting.items) i.turned inv.ring.oldest in
+      rw (← is) (record {
+        sized = sizes_sized i.sizes;
+        record_is = λ some. record {
+          least = omega (arith, inv.least);
+          most = omega (arith, inv.most, many_lists i.waiting.items, (under_way.1 some).1);
+          numbers_are = (under_way.1 some).0;
+        };
+        room = λ some. omega (arith, inv.ring.fits, (under_way.1 some).1);
+        most_left = under_way.0;
+        each = inv.ring.each;
+        taken = omega arith;
+        alone = λ none. omega (arith, at.0 none);
+        owed = λ some. omega (arith, at.1 some);
+        owed_most = omega (arith, at.2);
+        past = omega (arith, inv.ahead_is);
+        away = λ more same. omega (arith, more, same, inv.ahead_is, at.2);
+      })
 
   -- a record stands in front
   module _ (first : ArrayVec ℕ) (some : 0 < length i.waiting.items) (there : first ≡ slice_index_or i.waiting.items 0 first) where

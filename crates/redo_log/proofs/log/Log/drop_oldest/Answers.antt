@@ -3,9 +3,8 @@ use Rattle.std.specs.Prelude.{map}
 use Rattle.std.proofs.lemmas.List.{drop-map}
 use Rattle.arrayvec.specs.ArrayVec.{ArrayVec}
 use Rattle.journal.specs.Values.{shape_of}
-use Rattle.redo_log.specs.Value.{AllFirsts, LogValue}
-use Rattle.redo_log.specs.Stages.{value_at}
-use Rattle.redo_log.specs.Shown.{kept_in, lists_of, firsts_in, ahead_in}
+use Rattle.redo_log.specs.Value.{LogValue}
+use Rattle.redo_log.specs.Shown.{kept_in, lists_of, ahead_in}
 use Rattle.redo_log.specs.Index.{look, outside}
 use Rattle.redo_log.proofs.IndexRoom.{index_fewer}
 use Rattle.redo_log.proofs.CoveredRecord.{ahead_retired}
@@ -57,15 +56,16 @@ returns c =
     let log = c.args.self.now in
     let waiting = lists_of i.waiting.items in
     let some = one_waits (log_is i c.self.view_is c.self.invariant) (omega (arith, c.requires)) in
-    let now = λ (waiting : List (List ℕ)) (kept : AllFirsts).
-    value_at (ahead_in i) (shape_of i.sizes) (i.head + 1) waiting 0 kept i.under_way.items i.made i.dead in
-    let is : now (lists_of c.pop_front.new.self.items) (firsts_in c.pop_front-2.new.self.items) ≡ retired_of log =
-    ap (λ (l : List (List ℕ)). now l (firsts_in c.pop_front-2.new.self.items))
-    (lists_less i.waiting.items c.pop_front.new.self.items c.pop_front.ensures.rest)
-    ∙ ap (now (drop 1 waiting)) (lists_less i.firsts.items c.pop_front-2.new.self.items c.pop_front-2.ensures.rest)
-    ∙ retired_value (ahead_in i) (shape_of i.sizes) i.head waiting i.turned (kept_in i) i.under_way.items i.made i.dead
+    let is = retired_value (ahead_in i) (shape_of i.sizes) i.head waiting i.turned (kept_in i) i.under_way.items i.made i.dead
     c.self.invariant.ring.each (omega (arith, some, ap (λ (v : LogValue). length v.waiting) c.self.view_is))
     ∙ ap (λ (v : LogValue). retired_of v) c.self.view_is in (
       ap (λ (v : LogValue). v.head + 1) c.self.view_is,
-      record { some = omega (arith, c.requires); more = λ more. absurd (omega (arith, c.requires, more)); last = λ _. is },
+      record {
+        some = omega (arith, c.requires);
+        more = λ more. absurd (omega (arith, c.requires, more));
+        last = λ _. rw (
+          lists_less i.waiting.items c.pop_front.new.self.items c.pop_front.ensures.rest,
+          lists_less i.firsts.items c.pop_front-2.new.self.items c.pop_front-2.ensures.rest,
+        ) is;
+      },
     )
