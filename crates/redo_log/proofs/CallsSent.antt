@@ -1,5 +1,5 @@
 -- Which turn is the next one, and how many calls, writes and flushes it makes.
-use Rattle.std.proofs.Common.{◌≡◌, ℕ, zero, suc, ◌+◌, ◌<◌, ◌≤◌, List, [], length, get_or, refl, ap, arith}
+use Rattle.std.proofs.Common.{◌≡◌, ℕ, zero, suc, ◌+◌, ◌<◌, ◌≤◌, List, [], length, get_or, refl, arith}
 use Rattle.std.specs.Prelude.{Option, Result}
 use Rattle.medium.specs.Medium.{State}
 use Rattle.medium.specs.declared.fault.MediumFault.{MediumFault}
@@ -37,7 +37,7 @@ head_turn stamp (Head h) is = (h, refl, is)
 -- as many as the turn that it is
 same_counts : (turn is : Turn) → turn ≡ is
     → (calls_of turn ≡ calls_of is) × (sends_of turn ≡ sends_of is) × (flushes_of turn ≡ flushes_of is)
-same_counts turn is same = (ap (λ (t : Turn). calls_of t) same, ap (λ (t : Turn). sends_of t) same, ap (λ (t : Turn). flushes_of t) same)
+same_counts turn is same = rw same (refl, refl, refl)
 
 -- as many as the next retire step, of which so many are left
 turn_counts : (shape : Shape) (stamp : ℕ) (numbers : List ℕ) (kept : AllFirsts) (turned left : ℕ) (turn : Turn)
@@ -51,21 +51,15 @@ turn_counts shape stamp numbers kept turned (suc (suc zero)) turn next sum some 
 turn_counts shape stamp numbers kept turned (suc (suc (suc left))) turn next sum some =
     same_counts turn (Copy _ _ _) (copy_turn _ _ _ turn (next.home (omega (arith, sum))))
 
-few_calls : (left : ℕ) → turn_calls left ≤ 2
-few_calls zero = omega arith
-few_calls (suc zero) = omega arith
-few_calls (suc (suc zero)) = omega arith
-few_calls (suc (suc (suc left))) = omega arith
-
--- no step makes more than two writes and flushes
-few_sends : (left : ℕ) → turn_sends left ≤ 2
-few_sends zero = omega arith
-few_sends (suc zero) = omega arith
-few_sends (suc (suc zero)) = omega arith
-few_sends (suc (suc (suc left))) = omega arith
+-- no step makes more than two calls, or writes and flushes
+two_at_most : (left : ℕ) → (turn_calls left ≤ 2) × (turn_sends left ≤ 2)
+two_at_most zero = (omega arith, omega arith)
+two_at_most (suc zero) = (omega arith, omega arith)
+two_at_most (suc (suc zero)) = (omega arith, omega arith)
+two_at_most (suc (suc (suc left))) = (omega arith, omega arith)
 
 pub few_next : (log : LogValue) → next_sends log ≤ 2
-few_next log = few_sends (of_oldest log)
+few_next log = (two_at_most (of_oldest log)).1
 
 pub counts_of : {log : LogValue} → IsLog log → 0 < of_oldest log → (turn : Turn)
     → IsNextTurn log.shape log.head (get_or log.waiting 0 []) log.firsts (turned_of log) turn → {result : Result (Unit {0}) MediumFault}
@@ -76,7 +70,7 @@ counts_of {log} is owed turn next {result} {old} {new} up =
     (omega (arith, is.owed_most)) owed in
     let now = rw (same.0, same.1, same.2) at up in
     record {
-      two = omega (arith, now.calls, few_calls (of_oldest log));
+      two = omega (arith, now.calls, two_at_most (of_oldest log));
       most = now.calls;
       exact = now.exact;
       sent = now.sent;
