@@ -1,31 +1,22 @@
 -- What the flush of a record that became durable covers.
 use Rattle.std.proofs.Common.{◌≡◌, ◌⊎◌, inl, inr, ⊎_elim, ℕ, zero, suc, ◌+◌, ◌<◌, List, [], ◌∷◌, ◌++◌, refl, arith}
-use Rattle.std.specs.Prelude.{Bool, true, false, if◌then◌else◌, ◌==◌, nat_lt}
 use Rattle.std.proofs.lemmas.Bool.{cases_eq, cases_lt, eq-eqb, ne_eqb}
 use Rattle.journal.proofs.Format1Laws.{below_is, above_is}
 use Rattle.redo_log.specs.Value.{Ahead}
 use Rattle.redo_log.specs.Stages.{needed_at, IsAheadOf}
-
-both : (b c : Bool) → ◌≡◌ {A = ℕ} (if b then (if c then 1 else 2) else 2) 1 → (b ≡ true) × (c ≡ true)
-both true true e = (refl, refl)
-both true false e = absurd (omega (arith, e))
-both false true e = absurd (omega (arith, e))
-both false false e = absurd (omega (arith, e))
 
 -- where one is needed, one is left, or two whose flush was made
 pub needed_one : (ahead : Ahead) (head behind left : ℕ) → needed_at ahead head behind left ≡ 1
     → (left ≡ 1) ⊎ ((left ≡ 2) × (ahead.home ≡ head) × (ahead.before < behind))
 needed_one ahead head behind zero e = absurd (omega (arith, e))
 needed_one ahead head behind (suc zero) e = inl refl
-needed_one ahead head behind (suc (suc zero)) e =
-    let tests = both (ahead.home == head) (nat_lt ahead.before behind) e in
-    elim (cases_eq ahead.home head) [
-      | inl same ↦ elim (cases_lt ahead.before behind) [
-        | inl since ↦ inr (refl, same, since)
-        | inr not ↦ let no = above_is ahead.before behind not in absurd (cc (no, tests.1))
-      ]
-      | inr not ↦ let no = ne_eqb ahead.home head not in absurd (cc (no, tests.0))
-    ]
+needed_one ahead head behind (suc (suc zero)) e = elim (cases_eq ahead.home head) [
+  | inl same ↦ elim (cases_lt ahead.before behind) [
+    | inl since ↦ inr (refl, same, since)
+    | inr not ↦ absurd (omega (arith, rw (eq-eqb ahead.home head same, above_is ahead.before behind not) at e))
+  ]
+  | inr not ↦ absurd (omega (arith, rw (ne_eqb ahead.home head not) at e))
+]
 needed_one ahead head behind (suc (suc (suc left))) e = absurd (omega (arith, e))
 
 -- two are left, and the flush was made
