@@ -1,5 +1,5 @@
 -- The entries of a batch, as a record.
-use Rattle.std.proofs.Common.{◌≡◌, ℕ, ◌*◌, List, length, sym, ap, arith}
+use Rattle.std.proofs.Common.{◌≡◌, ℕ, ◌*◌, List, length, sym, arith}
 use Rattle.std.specs.Prelude.{All}
 use Rattle.std.proofs.lemmas.List.{length-map}
 use Rattle.journal.specs.Places.{Shape}
@@ -12,7 +12,7 @@ use Rattle.redo_log.specs.Stages.{IsRecord, IsSized}
 
 -- as many entries as block numbers
 pub count_of : (numbers : List ℕ) (entries : List Entry) → numbers ≡ numbers_of entries → length numbers ≡ length entries
-count_of numbers entries is = let f : Entry → ℕ = λ e. e.0 in omega (arith, ap (λ (l : List ℕ). length l) is, length-map entries f)
+count_of numbers entries is = rw is (length-map entries (λ e. e.0))
 
 -- blocks of 512 bytes under these numbers are a record
 pub record_entries : (shape : Shape) (stamp : ℕ) (numbers : List ℕ) (entries : List Entry) → IsSized shape → IsRecord shape stamp numbers

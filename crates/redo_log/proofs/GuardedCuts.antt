@@ -1,11 +1,8 @@
 -- What guards a log says what a cut may leave of it, whichever head that leaves.
-use Rattle.std.proofs.Common.{◌≡◌, inl, inr, ⊎_elim, ℕ, List, [], ◌∷◌, ◌++◌, ◌≤◌, sym}
-use Rattle.std.specs.Prelude.{map}
-use Rattle.std.proofs.lemmas.List.{map-append}
+use Rattle.std.proofs.Common.{inl, inr, ⊎_elim, ℕ, ◌≤◌}
 use Rattle.medium.specs.Medium.{State, Image}
 use Rattle.medium.specs.Moments.{EachCut}
 use Rattle.journal.specs.Places.{sectors_of}
-use Rattle.journal.specs.Record.{Entry, numbers_of}
 use Rattle.redo_log.specs.Value.{LogValue}
 use Rattle.redo_log.specs.Stages.{IsSized}
 use Rattle.redo_log.specs.Held.{View, MayLeave, Safe, HasHead, Shields, with_head}
@@ -40,10 +37,3 @@ pub guards_leave : (size : ℕ) (log : LogValue) (view : View) (m : State) {made
 guards_leave size log view m {made} {retire} stands fits g =
     leave_of size log view m retire fits stands.sized (Safe log.shape log.head view log.steps_left made) g.heads g.guards.each
     (λ image safe. logged_of stands image safe)
-
--- the durable records have these block numbers, and the one that was under way too
-pub durable_numbers : (records : List (List Entry)) (entries : List Entry) (waiting : List (List ℕ)) (numbers : List ℕ)
-    → waiting ≡ map (λ r. numbers_of r) records → numbers ≡ numbers_of entries
-    → waiting ++ numbers ∷ [] ≡ map (λ r. numbers_of r) (records ++ entries ∷ [])
-durable_numbers records entries waiting numbers is one =
-    let f : List Entry → List ℕ = λ r. numbers_of r in rw (is, one) (sym (map-append f records (entries ∷ [])))

@@ -1,5 +1,5 @@
 -- What follows of what a log and its medium hold, and what they hold where only its counts change.
-use Rattle.std.proofs.Common.{◌≡◌, ℕ, ◌+◌, ◌-◌, ◌<◌, ◌≤◌, List, [], length, get_or, refl, ◌∙◌, ap, arith}
+use Rattle.std.proofs.Common.{◌≡◌, ℕ, ◌+◌, ◌-◌, ◌<◌, ◌≤◌, [], length, get_or, refl, ◌∙◌, ap, arith}
 use Rattle.std.specs.Prelude.{Bool, true, false, Result, Ok, Err, OnOk, is_err}
 use Rattle.std.proofs.lemmas.List.{length-map}
 use Rattle.std.proofs.Math.ListN.{get_or-map}
@@ -10,7 +10,7 @@ use Rattle.medium.proofs.Moments.{at_exit, shrunk, started}
 use Rattle.medium.proofs.SectorsRead.{no_looks}
 use Rattle.medium.proofs.SparedSectors.{spared_start}
 use Rattle.journal.specs.Places.{first_home, sectors_of}
-use Rattle.journal.specs.Record.{Entry, numbers_of}
+use Rattle.journal.specs.Record.{numbers_of}
 use Rattle.journal.specs.Formats.{layout_of}
 use Rattle.journal.proofs.Engine.{rests_logged}
 use Rattle.journal.proofs.Formats.{laws_of}
@@ -35,14 +35,10 @@ going log left retire ahead dead = record log { steps_left = left; retire_steps_
 module _ {log : LogValue} {m : State} {view : View} (hv : HoldsView log m view) where
   -- as many records, with these block numbers
   pub many : length log.waiting ≡ length view.records
-  many =
-      let f : List Entry → List ℕ = λ r. numbers_of r in
-      ap (λ (l : List (List ℕ)). length l) hv.durable ∙ length-map view.records f
+  many = rw hv.durable (length-map view.records (λ r. numbers_of r))
 
   pub named : (j : ℕ) → get_or log.waiting j [] ≡ numbers_of (get_or view.records j [])
-  named j =
-      let f : List Entry → List ℕ = λ r. numbers_of r in
-      ap (λ (l : List (List ℕ)). get_or l j []) hv.durable ∙ get_or-map f view.records j []
+  named j = rw hv.durable (get_or-map (λ r. numbers_of r) view.records j [])
 
   pub count : (j : ℕ) → length (get_or log.waiting j []) ≡ length (get_or view.records j [])
   count j = count_of (get_or log.waiting j []) (get_or view.records j []) (named j)

@@ -1,7 +1,7 @@
 -- That an index has room for a record more, and what it is then.
 use Rattle.std.proofs.Common.{◌≡◌, ◌≢◌, inl, inr, ℕ, suc, ◌+◌, ◌-◌, ◌*◌, ◌/◌, ◌%◌, ◌<◌, ◌≤◌, List, [], ◌∷◌, ◌++◌, length, get_or, drop}
 use Rattle.std.proofs.Common.{eqb, Some, None, Option, refl, sym, ◌∙◌, ap, arith}
-use Rattle.std.specs.Prelude.{All, true, slice_index, map, MatchOption}
+use Rattle.std.specs.Prelude.{All, true, map, MatchOption}
 use Rattle.std.specs.List.{list_any}
 use Rattle.std.proofs.lemmas.Bool.{cases_eq, ne_eqb}
 use Rattle.std.proofs.lemmas.Bool.Decides.{nat_tests}
@@ -54,9 +54,10 @@ module _ (slots stamp most : ℕ) (records : List (List ℕ)) (index : List Copi
       let below : i < length index = omega (arith, inside, length-map index code) in
       let n = newest_at i below in (
         below,
-        get_or-map code index i blank d below
-            ∙ ap (λ (a : ℕ). a * most + (get_or index i blank).place)
-            (age_is slots stamp n.age (get_or index i blank).slot (omega (arith, n.waits, free)) n.slot_is),
+        rw (
+          get_or-map code index i blank d below,
+          age_is slots stamp n.age (get_or index i blank).slot (omega (arith, n.waits, free)) n.slot_is,
+        ) refl,
       )
 
   codes_apart : (i j d : ℕ) → i < j → j < length (map code index) → get_or (map code index) i d ≢ get_or (map code index) j d
@@ -67,11 +68,7 @@ module _ (slots stamp most : ℕ) (records : List (List ℕ)) (index : List Copi
       let b = newest_at j at.0 in
       let both = one_sum most a.age b.age (get_or index i blank).place (get_or index j blank).place (near i first.0) (near j at.0)
       (sym first.1 ∙ same ∙ at.1) in
-      let block : block_at index i ≡ block_at index j = sym a.named
-      ∙ ap (λ (n : ℕ). slice_index (get_or records n []) (get_or index i blank).place) both.0
-      ∙ ap (λ (p : ℕ). slice_index (get_or records b.age []) p) both.1
-      ∙ b.named in
-      omega (arith, is.sorted i j less at.0, block)
+      omega (arith, is.sorted i j less at.0, rw (both.0, both.1) at a.named, b.named)
 
   -- so there are no more entries than blocks in the records
   index_few : length index ≤ most * length records

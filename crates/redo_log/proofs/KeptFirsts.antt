@@ -1,7 +1,7 @@
 -- The first bytes that a log keeps, as its records come and go.
 use Rattle.std.proofs.Common.{◌≡◌, ℕ, ◌<◌, List, [], ◌∷◌, ◌++◌, length, get_or, drop, refl, sym, ◌∙◌, ap, arith}
 use Rattle.std.proofs.Common.{append-nil}
-use Rattle.std.specs.Prelude.{map, take, slice_get, Option, option_map}
+use Rattle.std.specs.Prelude.{map, take}
 use Rattle.std.proofs.lemmas.List.{map-append, length-map, get_or_append_left}
 use Rattle.std.proofs.lemmas.Option.{slice_get-map, slice_get-get_or}
 use Rattle.std.proofs.Math.ListN.{get_or-map}
@@ -57,7 +57,4 @@ kept_is Two records under_way kept is age i waits below =
     let there : get_or (map f records ++ begun_firsts under_way) age [] ≡ firsts_of entries =
     get_or_append_left (map f records) (begun_firsts under_way) [] age (omega (arith, length-map records f, waits))
     ∙ get_or-map f records age [] in
-    ap (λ (k : AllFirsts). first_kept k age i) is
-    ∙ ap (λ (r : List (List ℕ)). slice_get r i) there
-    ∙ slice_get-map begin entries i
-    ∙ ap (λ (e : Option Entry). option_map begin e) (slice_get-get_or entries i (0, []) below)
+    rw (is, there, slice_get-map begin entries i, slice_get-get_or entries i (0, []) below) refl

@@ -1,6 +1,6 @@
 -- What the writes of a record's life make of the blocks in the slots and at home.
 use Rattle.std.proofs.Common.{◌≡◌, ◌≢◌, inl, inr, ℕ, suc, ◌+◌, ◌*◌, ◌%◌, ◌<◌, ◌≤◌, List, [], ◌∷◌, ◌++◌, length, get_or, drop, sym, ◌∙◌}
-use Rattle.std.proofs.Common.{subst, arith, length-append}
+use Rattle.std.proofs.Common.{arith, length-append}
 use Rattle.std.proofs.Math.ListN.{get_or-map}
 use Rattle.std.proofs.lemmas.Bool.{cases_eq, cases_lt}
 use Rattle.std.proofs.lemmas.Nat.{mod_below}
@@ -81,10 +81,7 @@ module _ (shape : Shape) (sized : IsSized shape) where
       whole = λ j below. IsWhole-same before image (λ x low high. write.elsewhere x (λ e. omega (arith, high, e, is, sized.behind)))
           (head + j) (get_or records j []) (laid.whole j below);
       blocks = λ d below. elim (cases_eq d b) [
-        | inl same ↦
-            subst (λ x. with_records records (home_of shape image) x ≡ with_records records (home_of shape before) x) (sym same)
-            (hidden (home_of shape image) (home_of shape before))
-            ∙ laid.blocks d below
+        | inl same ↦ (rw (← same) at (hidden (home_of shape image) (home_of shape before))) ∙ laid.blocks d below
         | inr not ↦
             with_records-same records (home_of shape image) (home_of shape before) d
             (write.elsewhere (first_home shape + d) (λ e. not (omega arith)))

@@ -1,5 +1,5 @@
 -- The calls that write a record, one by one.
-use Rattle.std.proofs.Common.{◌≡◌, ◌⊎◌, inr, ℕ, ◌+◌, ◌*◌, ◌-◌, ◌/◌, ◌%◌, ◌<◌, ◌≤◌, List, [], length, refl, sym, ◌∙◌, ap, subst, arith}
+use Rattle.std.proofs.Common.{◌≡◌, ◌⊎◌, inr, ℕ, ◌+◌, ◌*◌, ◌-◌, ◌/◌, ◌%◌, ◌<◌, ◌≤◌, List, [], length, refl, sym, ap, subst, arith}
 use Rattle.std.specs.Prelude.{slice_range, Result, Ok, Err, OnOk, OnErr}
 use Rattle.std.proofs.lemmas.Result.{on_ok_weaker}
 use Rattle.medium.specs.Medium.{State, Stays, Holds, Within, Gains, Only, Passes, IsSound}
@@ -9,7 +9,6 @@ use Rattle.medium.proofs.SparedSectors.{spared_write, spared_silent}
 use Rattle.journal.specs.declared.log_format.LogFormat.{LogFormat}
 use Rattle.journal.specs.declared.log_format.LogFormat.TheVariants.{One, Two}
 use Rattle.journal.specs.Places.{Shape, first_data_of}
-use Rattle.journal.specs.SectorsTwo.{place_bytes}
 use Rattle.journal.specs.Record.{Entry, block_of, entries_of}
 use Rattle.journal.specs.Layout.{Layout, part_at}
 use Rattle.journal.specs.Formats.{layout_of}
@@ -79,16 +78,14 @@ module _ (numbers bytes : List ℕ) (i p : ℕ) (below : i < length numbers) whe
       → placed format stamp (slice_range bytes (512 * i) (512 * i + 512)) ≡ (layout_of format).part stamp (entries_of numbers bytes) p
   data_part One stamp is =
       let i_is : p - 1 ≡ i = omega (arith, is) in
-      sym
-      (one.part_place stamp (entries_of numbers bytes) p (omega (arith, is)) (omega (arith, is, below, many))
-      ∙ ap (λ (k : ℕ). block_of (entries_of numbers bytes) k) i_is
-      ∙ block_is)
+      rw (one.part_place stamp (entries_of numbers bytes) p (omega (arith, is)) (omega (arith, is, below, many)), i_is) (sym block_is)
   data_part Two stamp is =
       let i_is : p - (length (entries_of numbers bytes) + 29) / 30 ≡ i = omega (arith, is, many) in
-      sym
-      (two.part_place stamp (entries_of numbers bytes) p (omega (arith, is, many)) (omega (arith, is, below, many))
-      ∙ ap (λ (k : ℕ). place_bytes stamp (block_of (entries_of numbers bytes) k)) i_is
-      ∙ ap (λ (b : List ℕ). place_bytes stamp b) block_is)
+      rw (
+        two.part_place stamp (entries_of numbers bytes) p (omega (arith, is, many)) (omega (arith, is, below, many)),
+        i_is,
+        block_is,
+      ) refl
 
 -- so the write of a block to its data place is that of the part
 pub block_makes : (shape : Shape) (stamp : ℕ) (numbers bytes : List ℕ) (i p slot place : ℕ) (old new : State)

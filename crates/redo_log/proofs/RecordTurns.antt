@@ -3,11 +3,12 @@ use Rattle.std.proofs.Common.{◌≡◌, ◌⊎◌, inl, inr, ⊎_elim, ℕ, ◌
 use Rattle.std.proofs.Common.{◌∙◌, ap, arith, length-append}
 use Rattle.std.specs.Prelude.{true, false}
 use Rattle.std.proofs.lemmas.Bool.{cases_eq, cases_lt}
+use Rattle.std.proofs.lemmas.List.{map-append}
 use Rattle.medium.specs.Medium.{State, IsSound}
 use Rattle.medium.specs.Moments.{EachCut}
 use Rattle.medium.proofs.Moments.{shrunk}
 use Rattle.journal.specs.Places.{sectors_of}
-use Rattle.journal.specs.Record.{Entry, entries_of}
+use Rattle.journal.specs.Record.{Entry, numbers_of, entries_of}
 use Rattle.journal.specs.Layout.{Layout, part_at}
 use Rattle.journal.specs.LayoutLaws.{Laws, IsRecordOf}
 use Rattle.journal.specs.Formats.{layout_of}
@@ -27,7 +28,7 @@ use Rattle.redo_log.proofs.RecordSteps.{steps_are, due_or_not, last_call, not_la
 use Rattle.redo_log.proofs.CoveredRecord.{needed_one}
 use Rattle.redo_log.proofs.Heads.{head_sound, head_only, head_gains, heads_slot, heads_flush}
 use Rattle.redo_log.proofs.GuardedCalls.{Stands, logged_of, other_each, next_each, part_guards, flush_guards, durable_guards}
-use Rattle.redo_log.proofs.GuardedCuts.{durable_numbers, leave_of, guards_leave}
+use Rattle.redo_log.proofs.GuardedCuts.{leave_of, guards_leave}
 use Rattle.redo_log.proofs.RecordCalls.{flush_is, write_is}
 use Rattle.redo_log.proofs.BatchRecord.{record_batch}
 use Rattle.redo_log.proofs.StoredLog.{Stores-stays, part_stores, durable_stores}
@@ -130,7 +131,7 @@ module _ {log : LogValue} (is : IsLog log) (live : log.dead ≡ false) (some : 0
         } in
         record {
           fits = fits;
-          durable = durable_numbers view.records view.under_way log.waiting log.under_way hv.durable hv.under_way;
+          durable = rw (hv.durable, hv.under_way) (sym (map-append (λ r. numbers_of r) view.records (view.under_way ∷ [])));
           under_way = refl;
           next = omega (arith, hv.next, longer, one_stamp log.under_way (is.record_is some).numbers_are.some);
           few = omega (arith, slots.room, longer);

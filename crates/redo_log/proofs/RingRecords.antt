@@ -6,8 +6,7 @@ use Rattle.std.proofs.Math.Nat.{mod-add-mod, add-mod_left, mod-eq_of_lt}
 use Rattle.std.proofs.lemmas.Bool.{cases_lt}
 use Rattle.std.proofs.lemmas.Nat.{mod_below}
 use Rattle.std.specs.Prelude.{All, Option, Some, None, sum_by, slice_index_or}
-use Rattle.std.proofs.lemmas.List.{map-append}
-use Rattle.std.proofs.lemmas.List.Elements.{All-append}
+use Rattle.std.proofs.lemmas.List.Elements.{All-append, All-drop}
 use Rattle.std.proofs.lemmas.List.Sums.{sum_by-cons}
 use Rattle.arrayvec.specs.ArrayVec.{ArrayVec}
 use Rattle.journal.specs.Places.{Shape, limit_of}
@@ -20,10 +19,6 @@ pub front_is : (records : List (ArrayVec ℕ)) (first : ArrayVec ℕ) → 0 < le
     → lists_of records ≡ first.items ∷ lists_of (drop 1 records)
 front_is [] first some is = absurd (omega arith)
 front_is (r ∷ records) first some is = ap (λ (x : ArrayVec ℕ). x.items ∷ lists_of records) (sym is)
-
--- a record behind the others
-pub lists_more : (records : List (ArrayVec ℕ)) (last : ArrayVec ℕ) → lists_of (records ++ last ∷ []) ≡ lists_of records ++ last.items ∷ []
-lists_more records last = let f : ArrayVec ℕ → List ℕ = λ r. r.items in map-append f records (last ∷ [])
 
 oldest_more : (waiting : List (List ℕ)) (turned : ℕ) (numbers : List ℕ) → IsOldest waiting turned
     → IsOldest (waiting ++ numbers ∷ []) turned
@@ -44,15 +39,11 @@ ring_durable shape waiting turned numbers made ring = record {
     one is zero d below = is
     one is (suc k) d below = absurd (omega arith)
 
-pub inside_fewer : (shape : Shape) (records : List (List ℕ)) → All (AreInside shape) records → All (AreInside shape) (drop 1 records)
-inside_fewer shape [] each = each
-inside_fewer shape (n ∷ newer) each = λ j d below. each (suc j) d (omega arith)
-
 -- the oldest record is retired
 pub ring_retired : (shape : Shape) (waiting : List (List ℕ)) (turned : ℕ) (under_way : List ℕ) (made : Option ℕ)
     → IsRing shape waiting turned under_way made → IsRing shape (drop 1 waiting) 0 under_way made
 ring_retired shape waiting turned under_way made ring = record {
-  each = inside_fewer shape waiting ring.each;
+  each = All-drop (AreInside shape) 1 waiting ring.each;
   fits = omega (arith, ring.fits, length-drop 1 waiting);
   oldest = next (drop 1 waiting);
   record_under_way = ring.record_under_way;

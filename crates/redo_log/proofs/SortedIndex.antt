@@ -1,12 +1,12 @@
 -- What a search finds among entries that are sorted by block, and what is left of them without a slot.
 use Rattle.std.proofs.Common.{◌≡◌, ◌≢◌, inl, inr, ℕ, zero, suc, ◌+◌, ◌<◌, ◌≤◌, List, [], ◌∷◌, length, get_or, if◌then◌else◌, Some}
-use Rattle.std.proofs.Common.{None, Result, Ok, Err, IfOk, IfErr, refl, sym, ◌∙◌, ap, subst, arith}
+use Rattle.std.proofs.Common.{None, Result, Ok, Err, IfOk, IfErr, refl, sym, ◌∙◌, ap, arith}
 use Rattle.std.specs.Prelude.{◌==◌, Bool, true, false}
 use Rattle.std.specs.List.{filter}
 use Rattle.std.specs.List.Sorted.{IsSearchInRange, IsBinarySearchResult, IsNonDecreasingBy}
 use Rattle.std.specs.Ordering.{nat_cmp, ordering_index}
 use Rattle.std.proofs.lemmas.Cmp.{ranked}
-use Rattle.std.proofs.lemmas.Bool.{cases_eq}
+use Rattle.std.proofs.lemmas.Bool.{cases_eq, eq-eqb, ne_eqb}
 use Rattle.std.proofs.lemmas.Bool.Decides.{nat_tests}
 use Rattle.std.proofs.lemmas.List.Sorted.{IsNonDecreasingBy-from_default}
 use Rattle.redo_log.specs.declared.index.Copied.{Copied}
@@ -96,10 +96,9 @@ module _ (slot : ℕ) where
   filtered : (P : List Copied → Type 0) (c : Copied) (index : List Copied) → (c.slot ≢ slot → P (c ∷ filter is_outside index))
       → (c.slot ≡ slot → P (filter is_outside index)) → P (filter is_outside (c ∷ index))
   filtered P c index stays goes =
-      let Q : Bool → Type 0 = λ t. P (if t then c ∷ filter is_outside index else filter is_outside index) in
       elim (cases_eq c.slot slot) [
-        | inl here ↦ let no : false ≡ is_outside c = grind (arith, nat_tests, here) in subst Q no (goes here)
-        | inr there ↦ let yes : true ≡ is_outside c = grind (arith, nat_tests, there) in subst Q yes (stays there)
+        | inl here ↦ rw (eq-eqb c.slot slot here) (goes here)
+        | inr there ↦ rw (ne_eqb c.slot slot there) (stays there)
       ]
 
   above_filter : (least : ℕ) (index : List Copied) → IsAbove least index → IsAbove least (filter is_outside index)

@@ -78,11 +78,7 @@ step_flushed {log} is some {numbers} bytes same size call next {result} {old} {n
     let sum : made_of log + log.steps_left ≡ steps_for log.shape.format n =
     omega (arith, is.most_left, ap (λ (k : ℕ). steps_for log.shape.format k) many) in
     let flushes : flushes_in call ≡ next_step_flushes log = elim (due_or_not (layout_of log.shape.format) n (made_of log)) [
-      | inl due ↦
-          ap (λ (c : Call). flushes_in c) (flush_is call (next.0 due))
-          ∙ sym (due_is log.shape.format n (made_of log) log.steps_left sum some due)
-      | inr not ↦
-          ap (λ (c : Call). flushes_in c) (write_is _ _ call (next.1 not))
-          ∙ sym (not_due log.shape.format n (made_of log) log.steps_left sum some not)
+      | inl due ↦ rw (flush_is call (next.0 due)) (sym (due_is log.shape.format n (made_of log) log.steps_left sum some due))
+      | inr not ↦ rw (write_is _ _ call (next.1 not)) (sym (not_due log.shape.format n (made_of log) log.steps_left sum some not))
     ] in
     omega (arith, call_flushes call old new passes, flushes)

@@ -74,12 +74,9 @@ died_holds log m view holds = died_held holds m refl holds.leaves
 -- a flush that was made stands for the one that the oldest record needs
 pub settled_holds : (log : LogValue) (m : State) (view : View) → HoldsView log m view → IsCovered log → HoldsView (settled log) m view
 settled_holds log m view holds covered =
-    let needed = λ (left : ℕ). needed_at log.ahead log.head (log.head + length log.waiting) left in
     let one : of_oldest (settled log) ≡ 1 = omega (arith, covered.flushes) in
     let needs : needed_of log ≡ needed_of (settled log) =
-    ap needed covered.flushes
-    ∙ needed_covered log.ahead log.head (log.head + length log.waiting) covered.oldest covered.since
-    ∙ sym (ap needed one) in
+    rw (covered.flushes, one) (needed_covered log.ahead log.head (log.head + length log.waiting) covered.oldest covered.since) in
     going_held holds log.steps_left (log.retire_steps_left - 1) log.ahead log.dead m refl
     (λ ours image cut. ⊎_elim (λ rest. inl rest)
     (λ other. ⊎_elim (λ both. inr (inl both)) (λ less. absurd (omega (arith, less.1, covered.flushes))) other)

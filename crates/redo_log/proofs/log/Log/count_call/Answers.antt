@@ -7,7 +7,8 @@ use Rattle.redo_log.specs.Value.{LogValue}
 use Rattle.redo_log.specs.Stages.{begun_at, AreInside}
 use Rattle.redo_log.specs.Shown.{lists_of, ahead_in}
 use Rattle.redo_log.proofs.CoveredRecord.{ahead_durable}
-use Rattle.redo_log.proofs.RingRecords.{lists_more, ring_durable}
+use Rattle.std.proofs.lemmas.List.{map-append}
+use Rattle.redo_log.proofs.RingRecords.{ring_durable}
 use Rattle.redo_log.proofs.IndexRoom.{record_room, index_more}
 use Rattle.redo_log.proofs.LogRules.{many_lists, log_is}
 use Rattle.redo_log.proofs.log.Log.count_call.Goals as goal
@@ -16,8 +17,7 @@ use Rattle.redo_log.proofs.log.Log.count_call.Goals as goal
 after_is : (records after : List (ArrayVec ℕ)) (old taken : ArrayVec ℕ) → after ≡ records ++ taken ∷ [] → taken ≡ old
     → lists_of after ≡ lists_of records ++ old.items ∷ []
 after_is records after old taken is same =
-    ap (λ (l : List (ArrayVec ℕ)). lists_of l) is
-    ∙ (lists_more records taken ∙ ap (λ (x : ArrayVec ℕ). lists_of records ++ x.items ∷ []) same)
+    let f : ArrayVec ℕ → List ℕ = λ r. r.items in rw (is, same) (map-append f records (old ∷ []))
 
 pub invariant_of-self-2 : goal.invariant_of-self-2
 invariant_of-self-2 c =

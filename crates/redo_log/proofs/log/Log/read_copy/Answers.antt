@@ -6,9 +6,7 @@ use Rattle.journal.specs.Places.{Shape, first_home}
 use Rattle.journal.specs.Values.{shape_of}
 use Rattle.journal.specs.Copies.{first_of}
 use Rattle.redo_log.specs.Value.{LogValue}
-use Rattle.redo_log.specs.Firsts.{first_kept}
 use Rattle.redo_log.specs.Held.{MayLeave}
-use Rattle.redo_log.specs.Shown.{kept_in}
 use Rattle.redo_log.proofs.LogRules.{log_is}
 use Rattle.redo_log.proofs.HeldLog.{quiet_held}
 use Rattle.redo_log.proofs.NewestCopy.{copy_is}
@@ -35,11 +33,8 @@ returns-clause-ok g c view block holds copy =
     ))
     (slot ∙ ap (λ (n : ℕ). n % i.sizes.slots) head) in
     let first : c.first_kept-first.result ≡ first_of i.sizes.format (get_or view.records copy.age []) c.args.place =
-    c.first_kept-first.ensures
-    ∙ ap (λ (n : ℕ). first_kept (kept_in i) n c.args.place) age
-    ∙ ap (λ (v : LogValue). first_kept v.firsts copy.age c.args.place) c.self.view_is
-    ∙ there.3
-    ∙ ap (λ (s : Shape). first_of s.format (get_or view.records copy.age []) c.args.place) shape_is in
+    let firsts = ap (λ (v : LogValue). v.firsts) c.self.view_is in
+    rw (c.first_kept-first.ensures, age, firsts) (rw shape_is at there.3) in
     on_ok_weaker c.read_copy.result (λ read. read ∙ there.2)
     (c.read_copy.ensures.ok (log.head + copy.age) (get_or view.records copy.age []) slot there.0 first
     (rw shape_is at there.1))
