@@ -16,7 +16,7 @@ use Rattle.journal.proofs.Overlay.{records-hide}
 use Rattle.journal.proofs.RetiredRecord.{CarriesBelow-same}
 use Rattle.redo_log.specs.Logged.{HasRecords, Logged, Laid}
 use Rattle.redo_log.specs.Stages.{IsSized}
-use Rattle.redo_log.specs.Held.{View, with_begun, IsOlder, HasHead, Guards, Shields, with_head}
+use Rattle.redo_log.specs.Held.{View, IsOlder, HasHead, Guards, Shields, with_head}
 use Rattle.redo_log.proofs.LaidBlocks.{IsWhole-same, last_whole, Laid-slot, Laid-home, Laid-more}
 
 -- ---- a medium, where a cut leaves the head that a read gives
@@ -81,14 +81,14 @@ module _ (shape : Shape) (sized : IsSized shape) (head : ℕ) (view : View) wher
   L = layout_of shape.format
 
   -- with the record that was passed the next stamp is the same
-  same_stamp : (image : Image) (o : IsOlder shape head view image) → o.stamp + length (o.passed ∷ view.records) ≡ head + length view.records
+  same_stamp : (image : Image) (o : IsOlder shape head view.records view.array image) → o.stamp + length (o.passed ∷ view.records) ≡ head + length view.records
   same_stamp image o = omega (arith, o.behind)
 
   module _ (before image : Image) (place : ℕ) (bytes : List ℕ) (write : Holds place bytes before image)
-      (old : IsOlder shape head view before)
+      (old : IsOlder shape head view.records view.array before)
     where
       -- a sector is written behind the head, and the records stay laid
-      older_with : place ≢ 1 → Laid shape old.stamp (old.passed ∷ view.records) view.array image → IsOlder shape head view image
+      older_with : place ≢ 1 → Laid shape old.stamp (old.passed ∷ view.records) view.array image → IsOlder shape head view.records view.array image
       older_with not laid = record {
         passed = old.passed;
         stamp = old.stamp;
@@ -100,14 +100,14 @@ module _ (shape : Shape) (sized : IsSized shape) (head : ℕ) (view : View) wher
 
       -- a sector of the slot of the next record
       older_slot : (o : ℕ) → o < L.slot_sectors → place ≡ 2 + L.slot_sectors * ((head + length view.records) % shape.slots) + o
-          → IsOlder shape head view image
+          → IsOlder shape head view.records view.array image
       older_slot o small at = older_with (λ e. omega (arith, e, at))
           (Laid-slot shape sized before image place bytes write old.stamp (old.passed ∷ view.records) view.array o
           (omega (arith, old.room)) small
           (at ∙ ap (λ (s : ℕ). 2 + L.slot_sectors * (s % shape.slots) + o) (sym (same_stamp before old))) old.laid)
 
       -- a block at home that the records hide
-      older_home : (b : ℕ) → place ≡ first_home shape + b → Hides view.records b → IsOlder shape head view image
+      older_home : (b : ℕ) → place ≡ first_home shape + b → Hides view.records b → IsOlder shape head view.records view.array image
       older_home b at hides = older_with (λ e. omega (arith, e, at, sized.behind))
           (Laid-home shape sized before image place bytes write old.stamp (old.passed ∷ view.records) view.array b at
           (λ a c. hides (with_blocks old.passed a) (with_blocks old.passed c)) old.laid)
@@ -151,13 +151,13 @@ module _ (shape : Shape) (sized : IsSized shape) (head : ℕ) (view : View) wher
           };
         }
 
-    pub older_one : IsOlder shape head view image → Logged shape head view.records view.array newer
+    pub older_one : IsOlder shape head view.records view.array image → Logged shape head view.records view.array newer
         → HasRecords size shape head view.records view.array image
     older_one o now =
         stands_with o.stamp o.passed view.records view.array o.behind o.head_is o.laid (omega (arith, o.room)) now
 
     -- with the record that was under way too
-    pub older_two : IsOlder shape head view image
+    pub older_two : IsOlder shape head view.records view.array image
         → Logged shape head (view.records ++ view.under_way ∷ []) (with_blocks view.under_way view.array) newer
         → HasRecords size shape head (view.records ++ view.under_way ∷ []) (with_blocks view.under_way view.array) image
     older_two o now =
@@ -180,7 +180,7 @@ module _ (shape : Shape) (head : ℕ) (view : View) where
   -- an image has what follows from the one with the newest head
   pub each_head : (m : State) (P Q : Image → Type 0) (retire : ℕ) → EachCut (HasHead shape head view retire m) m → EachCut P (with_head m)
       → ((image : Image) → P image → Q image)
-      → ((image newer : Image) → ((x : ℕ) → x ≢ 1 → newer x ≡ image x) → IsOlder shape head view image → P newer → Q image) → EachCut Q m
+      → ((image newer : Image) → ((x : ℕ) → x ≢ 1 → newer x ≡ image x) → IsOlder shape head view.records view.array image → P newer → Q image) → EachCut Q m
   each_head m P Q retire heads each plain older image cut =
       ⊎_elim (λ same. plain image (each image (same_cut m image same cut)))
       (λ o. older image (put_head m image) (λ x not. updated_elsewhere image 1 (m.content 1) x not) o.1
@@ -198,22 +198,6 @@ module _ {shape : Shape} {head : ℕ} {view : View} {steps made retire : ℕ} {o
         now : (image : Image) → CutLeaves old.may_leave image → CutLeaves (with_head old).may_leave image
         now image cut = ⊎_elim (λ same. same_cut old image same cut) (λ o. absurd (o.0 one)) (s.heads image cut)
 
-    -- a record is begun
-    pub heads_begun : (entries : List Entry) (left : ℕ) → (retire ≢ 1 → left ≢ 1)
-        → EachCut (HasHead shape head (with_begun entries view) left old) old
-    heads_begun entries left more image cut = ⊎_elim inl
-        (λ o. inr (
-          more o.0,
-          record {
-            passed = o.1.passed;
-            stamp = o.1.stamp;
-            behind = o.1.behind;
-            head_is = o.1.head_is;
-            laid = o.1.laid;
-            room = o.1.room;
-          },
-        )) (s.heads image cut)
-
     module _ (new : State) (left : ℕ) (same : new.content 1 ≡ old.content 1) (more : retire ≢ 1 → left ≢ 1) where
       -- nothing is written
       pub heads_quiet : Within new.may_leave old.may_leave → EachCut (HasHead shape head view left new) new
@@ -222,7 +206,7 @@ module _ {shape : Shape} {head : ℕ} {view : View} {steps made retire : ℕ} {o
 
       -- a sector is written that has no head
       heads_write : (place : ℕ) (bytes : List ℕ) → IsSound old → Gains place bytes old.may_leave new.may_leave → place ≢ 1
-          → ((before image : Image) → Holds place bytes before image → IsOlder shape head view before → IsOlder shape head view image)
+          → ((before image : Image) → Holds place bytes before image → IsOlder shape head view.records view.array before → IsOlder shape head view.records view.array image)
           → EachCut (HasHead shape head view left new) new
       heads_write place bytes sound gains not older =
           each_write (HasHead shape head view retire old) (HasHead shape head view left new) old new place bytes sound gains s.heads

@@ -23,7 +23,7 @@ use Rattle.redo_log.specs.Held.{View, resting_view, with_begun, image_view, made
 use Rattle.redo_log.specs.Held.{needed_of, MayLeave, Safe, Shields, stamps_of, HoldsView}
 use Rattle.redo_log.proofs.RecordSteps.{none_written, steps_some}
 use Rattle.redo_log.proofs.CoveredRecord.{needed_covered}
-use Rattle.redo_log.proofs.Heads.{head_cut, heads_begun, put_head, put_cut}
+use Rattle.redo_log.proofs.Heads.{head_cut, heads_quiet, put_head, put_cut}
 use Rattle.redo_log.proofs.LoggedImage.{Logged-records}
 use Rattle.redo_log.proofs.KeptFirsts.{none_kept, begun_kept}
 use Rattle.redo_log.proofs.StoredLog.{Stores-stays}
@@ -158,7 +158,7 @@ begun_holds log m view numbers bytes holds room batch =
               };
           homed = λ is. (holds.guards live ours).guards.homed (needs ∙ is);
         };
-        heads = heads_begun (holds.guards live ours) E (needed_of next) (λ not is. not (needs ∙ is));
+        heads = heads_quiet (holds.guards live ours) m (needed_of next) refl (λ not is. not (needs ∙ is)) (λ s c left. left);
       };
     }
   where

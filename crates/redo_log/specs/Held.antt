@@ -151,19 +151,20 @@ with_head m = record m {
 -- The head that was written ahead of its flush is not there, but the one before it: the record that
 -- it passed is whole in front of the others, and with it they make the same array. The record that
 -- is written next takes another slot.
-pub record IsOlder (shape : Shape) (head : ℕ) (view : View) (image : Image) : Type 0 where
+pub record IsOlder (shape : Shape) (head : ℕ) (records : List (List Entry)) (array : Array)
+    (image : Image) : Type 0 where
   pub passed : List Entry
   pub stamp : ℕ
   pub behind : head ≡ stamp + 1
   pub head_is : IsHead stamp (image 1)
-  pub laid : Laid shape stamp (passed ∷ view.records) view.array image
-  pub room : length view.records + 2 ≤ shape.slots
+  pub laid : Laid shape stamp (passed ∷ records) array image
+  pub room : length records + 2 ≤ shape.slots
 
 -- The image has the head that a read gives, or the one before it. That one is gone once the oldest
 -- record's blocks are flushed at home, and one retire step is left of it: that flush came later.
 abbrev pub HasHead : Shape → ℕ → View → ℕ → State → Image → Type 0
 HasHead shape head view retire m image =
-    (image 1 ≡ m.content 1) ⊎ ((retire ≢ 1) × IsOlder shape head view image)
+    (image 1 ≡ m.content 1) ⊎ ((retire ≢ 1) × IsOlder shape head view.records view.array image)
 
 -- what guards a log against a cut, whichever of its heads that leaves
 pub record Shields (shape : Shape) (head : ℕ) (view : View) (steps made retire : ℕ) (m : State)
