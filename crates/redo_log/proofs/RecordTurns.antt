@@ -115,7 +115,7 @@ module _ {log : LogValue} (is : IsLog log) (live : log.dead ≡ false) (some : 0
         let few_left = needed_one log.ahead log.head (log.head + length (log.waiting ++ log.under_way ∷ []))
         (of_oldest (durable_of log)) one in
         elim (cases_eq (length view.records) 0) [
-          | inl none ↦ absurd (⊎_elim (λ e. omega (arith, e, (alone none).0)) (λ e. omega (arith, e.0, (alone none).0)) few_left)
+          | inl none ↦ absurd (omega (arith, few_left, (alone none).0))
           | inr more ↦
               let w : 0 < length view.records = omega (arith, more) in (
                 w,

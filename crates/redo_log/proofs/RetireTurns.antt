@@ -171,10 +171,9 @@ module _ {log : LogValue} (is : IsLog log) (live : log.dead ≡ false) (owed : 0
         let fits : sectors_of log.shape ≤ new.size = omega (arith, same_size, hv.fits) in
         let fewer = length-drop 1 view.records in
         let f : List Entry → List ℕ = λ r. numbers_of r in
-        let durable : drop 1 log.waiting ≡ map f (drop 1 view.records) = ap (λ (l : List (List ℕ)). drop 1 l)
-        hv.durable ∙ drop-map f 1 view.records in
+        let durable : drop 1 log.waiting ≡ map f (drop 1 view.records) = rw hv.durable (drop-map f 1 view.records) in
         let second : length (get_or (drop 1 log.waiting) 0 []) ≡ length (get_or (drop 1 view.records) 0 []) =
-        count_of _ _ (ap (λ (l : List (List ℕ)). get_or l 0 []) durable ∙ get_or-map f (drop 1 view.records) 0 []) in
+        count_of _ _ (rw durable (get_or-map f (drop 1 view.records) 0 [])) in
         record {
           fits = fits;
           durable = durable;
@@ -191,8 +190,12 @@ module _ {log : LogValue} (is : IsLog log) (live : log.dead ≡ false) (owed : 0
 
     -- nothing of the next one is flushed at home yet
     needs_more : needed_of (retired_of log) ≢ 1
-    needs_more e = ⊎_elim (λ l. not_homed log l) (λ covered. omega (arith, covered.1, is.past))
-        (needed_one log.ahead (log.head + 1) (log.head + 1 + length (drop 1 log.waiting)) (of_oldest (retired_of log)) e)
+    needs_more e = omega (
+      arith,
+      needed_one log.ahead (log.head + 1) (log.head + 1 + length (drop 1 log.waiting)) (of_oldest (retired_of log)) e,
+      not_homed log,
+      is.past,
+    )
 
     -- so a log that counts it holds what the medium does
     pub retired_held : (then : LogValue) → IsRetireStepped log then → HoldsView (retired_of log) new (view_retired 1 view)
@@ -240,8 +243,7 @@ module _ {log : LogValue} (is : IsLog log) (live : log.dead ≡ false) (owed : 0
           begins,
           from,
           (
-            copy_turn from _ begins turn (next.home (omega (arith, below, is.owed_most)))
-                ∙ ap (λ (b : ℕ). Copy from (first_home log.shape + b) begins) number,
+            rw number at (copy_turn from _ begins turn (next.home (omega (arith, below, is.owed_most)))),
             begun_is log.shape.format log.shape old.content log.head oldest whole t inside begins
                 (kept_is log.shape.format view.records view.under_way log.firsts hv.firsts 0 t waits inside) (old.content from) refl,
           ),
@@ -283,8 +285,7 @@ module _ {log : LogValue} (is : IsLog log) (live : log.dead ≡ false) (owed : 0
       -- a record whose blocks go home by retire steps needs its flush
       goes_home : 2 < of_oldest log → HoldsView (record log { retire_steps_left = log.retire_steps_left - 1 }) new view
       goes_home below = at_home below log.ahead
-          (λ one. ⊎_elim (λ e. omega (arith, e, below)) (λ covered. is.away below covered.1)
-          (needed_one log.ahead log.head (log.head + length log.waiting) _ one))
+          (λ one. omega (arith, needed_one log.ahead log.head (log.head + length log.waiting) _ one, below, is.away below))
 
       pub stepped_held : IsRetireStepped log then → HoldsView then new (view_retired (then.head - log.head) view)
       stepped_held stepped = elim (cases_eq (of_oldest log) 1) [
@@ -309,6 +310,5 @@ module _ {log : LogValue} (is : IsLog log) (live : log.dead ≡ false) (owed : 0
         | inr few ↦
             let last : of_oldest log ≡ 3 = omega (arith, few, away) in
             rw (home.last last) (at_home away (ahead_of log)
-            (λ one. ⊎_elim (λ e. omega (arith, e, last)) (λ covered. omega (arith, covered.2))
-            (needed_one (ahead_of log) log.head (log.head + length log.waiting) _ one)))
+            (λ one. omega (arith, needed_one (ahead_of log) log.head (log.head + length log.waiting) _ one, last)))
       ]
