@@ -1,4 +1,4 @@
-use Rattle.std.proofs.Common.{◌≡◌, inr, ⊎_elim, ℕ, ◌<◌, ◌≤◌, length, ◌∙◌, ap, arith}
+use Rattle.std.proofs.Common.{◌≡◌, inr, ⊎_elim, ℕ, ◌<◌, ◌≤◌, length, refl, ◌∙◌, ap, arith}
 use Rattle.std.specs.Prelude.{Bool, false, IsTrue}
 use Rattle.std.proofs.lemmas.Bool.{cases_lt}
 use Rattle.journal.specs.Values.{shape_of}
@@ -60,10 +60,7 @@ returns g c =
         call = Write (part_at L shape c.args.stamp n w) (L.part c.args.stamp E w);
         next = rw (length_of_batch c.args.numbers.now c.args.bytes.now) (
           λ now. cc (c.if-is_flush_due.false, due.1 now),
-          λ not. (
-            ap (λ (x : ℕ). part_at L shape c.args.stamp (length c.args.numbers.now) x) w_is,
-            ap (λ (x : ℕ). L.part c.args.stamp E x) w_is,
-          ),
+          λ not. rw w_is (refl, refl),
         );
         inside = before_home shape (sizes_sized c.args.sizes.now) c.args.stamp (L.offset n w)
             ((laws_of format).inside n w (omega (arith, c.requires.record.numbers_are.few, most_is format)) small);

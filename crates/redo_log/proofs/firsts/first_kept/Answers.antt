@@ -1,5 +1,5 @@
 use Rattle.std.proofs.Common.{◌≡◌, ◌<◌, ℕ, List, [], length, get_or, sym, ◌∙◌, ap, arith, rules}
-use Rattle.std.specs.Prelude.{slice_get, slice_index_or, Some}
+use Rattle.std.specs.Prelude.{slice_index_or}
 use Rattle.std.proofs.lemmas.List.{get_or-map}
 use Rattle.std.proofs.lemmas.Option.{slice_get-get_or, slice_get_past}
 use Rattle.arrayvec.specs.ArrayVec.{ArrayVec}
@@ -16,15 +16,12 @@ pub returns-then-place-len : goal.returns-then-place-len
 returns-then-place-len c =
     let firsts = c.in-Some.firsts.now in
     let waits : c.args.age < length c.args.kept.now.items = search rules in
-    ap (λ (l : List (List ℕ)). Some (slice_index_or l c.args.place [])) c.deref.ensures.0
-    ∙ sym (slice_get-get_or firsts.items c.args.place [] (omega (arith, c.if-place-len.true, c.len.ensures.value)))
-    ∙ ap (λ (l : List (List ℕ)). slice_get l c.args.place)
-    (firsts_are c.args.kept.now.items c.args.age firsts waits c.in-Some.ensures.lookup)
+    rw (← firsts_are c.args.kept.now.items c.args.age firsts waits c.in-Some.ensures.lookup, c.deref.ensures.0)
+    (sym (slice_get-get_or firsts.items c.args.place [] (omega (arith, c.if-place-len.true, c.len.ensures.value))))
 
 pub returns-else-place-len : goal.returns-else-place-len
 returns-else-place-len c =
     let firsts = c.in-Some.firsts.now in
     let waits : c.args.age < length c.args.kept.now.items = search rules in
-    sym (slice_get_past firsts.items c.args.place (omega (arith, c.if-place-len.false, c.len.ensures.value)))
-    ∙ ap (λ (l : List (List ℕ)). slice_get l c.args.place)
-    (firsts_are c.args.kept.now.items c.args.age firsts waits c.in-Some.ensures.lookup)
+    rw (← firsts_are c.args.kept.now.items c.args.age firsts waits c.in-Some.ensures.lookup)
+    (sym (slice_get_past firsts.items c.args.place (omega (arith, c.if-place-len.false, c.len.ensures.value))))

@@ -1,8 +1,6 @@
-use Rattle.std.proofs.Common.{List, subst, sym, ◌∙◌, ap, arith, rules}
+use Rattle.std.proofs.Common.{arith, rules}
 use Rattle.std.proofs.lemmas.Bool.Decides.{nat_tests}
 use Rattle.std.proofs.lemmas.Fn.{filter_same}
-use Rattle.redo_log.specs.declared.index.Copied.{Copied}
-use Rattle.redo_log.specs.Index.{look, IsSorted}
 use Rattle.redo_log.proofs.SortedIndex.{is_outside, sorted_filter, look_filter}
 use Rattle.redo_log.proofs.index.drop_slot.Goals as goal
 
@@ -11,8 +9,7 @@ returns c =
     let kept = filter_same _ (is_outside c.args.slot) _ (λ x b g called. (grind (arith, nat_tests, called), search rules)) _ _
     c.retain.ensures.filtered in
     record {
-      sorted = subst IsSorted (sym kept) (sorted_filter c.args.slot c.args.index.now.items c.requires);
-      looks = λ b.
-          ap (λ (l : List Copied). look l b) kept ∙ look_filter c.args.slot c.args.index.now.items c.requires b;
+      sorted = rw kept (sorted_filter c.args.slot c.args.index.now.items c.requires);
+      looks = λ b. rw kept (look_filter c.args.slot c.args.index.now.items c.requires b);
       capacity = search rules;
     }

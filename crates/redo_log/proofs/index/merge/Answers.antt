@@ -1,6 +1,6 @@
-use Rattle.std.proofs.Common.{◌≡◌, ◌<◌, ◌≤◌, ◌-◌, ℕ, get_or, take, ◌∙◌, ap, subst, arith, rules}
+use Rattle.std.proofs.Common.{◌≡◌, ◌<◌, ◌≤◌, ◌-◌, get_or, take, ◌∙◌, ap, arith, rules}
 use Rattle.redo_log.specs.Index.{block_at}
-use Rattle.redo_log.proofs.MergedIndex.{IsLeft, IsMerging, entry_moves, number_enters, left_all, left_less, merging_ends}
+use Rattle.redo_log.proofs.MergedIndex.{IsLeft, entry_moves, number_enters, left_all, left_less, merging_ends}
 use Rattle.redo_log.proofs.index.merge.Goals.{else-left-gt0-via-then-left-gt0+else-index-left, else-left-gt0-via-else-left-gt0}
 use Rattle.redo_log.proofs.index.merge.Goals.{then-left-gt0-2+then-index-left-2, else-left-gt0-2}
 use Rattle.redo_log.proofs.index.merge.Goals.{else-left-gt0-2-via-then-left-gt0-2+else-index-left-2, else-left-gt0-2-via-else-left-gt0-2}
@@ -45,13 +45,5 @@ returns c =
     let l = c.loop-place in
     let none : l.place ≡ 0 = omega (arith, c.loop-place-test.false) in
     let ends = merging_ends (take c.args.kept c.args.index.now) c.args.slot c.args.numbers.now c.requires.sorted c.requires.numbers.rising
-    l.left l.to l.index
-    (subst (λ (n : ℕ). IsMerging (take c.args.kept c.args.index.now) c.args.slot c.args.numbers.now l.left n l.to l.index) none
-    l.invariant) in
-    record {
-      same_length = search rules;
-      start_le_end = search rules;
-      in_bounds = search rules;
-      sorted = ends.sorted;
-      looks = ends.looks;
-    }
+    l.left l.to l.index (rw none at l.invariant) in
+    search rules

@@ -1,4 +1,4 @@
-use Rattle.std.proofs.Common.{◌≡◌, ℕ, List, ◌∙◌, ap, rules}
+use Rattle.std.proofs.Common.{◌≡◌, rules}
 use Rattle.medium.proofs.SectorsRead.{write_looks, looks_joined}
 use Rattle.redo_log.specs.Turns.{begun_with}
 use Rattle.redo_log.proofs.OneSector.{quiet_write}
@@ -13,8 +13,7 @@ returns-clause-writes g c =
       done = search rules;
       adds = quiet_write c.args.to (begun_with c.args.first.now (old.content c.args.from)) old (g.met.M.Medium.sound c.args.m.now) mid new
           c.read.ensures.passes c.write.ensures.passes c.put_first.new.sector
-          (c.put_first.ensures ∙ ap (λ (l : List ℕ). begun_with c.args.first.now l) c.in_ok-read.ensures.ok)
-          c.read.ensures.sets c.write.ensures.sets;
+          (rw c.in_ok-read.ensures.ok at c.put_first.ensures) c.read.ensures.sets c.write.ensures.sets;
       spares = search rules;
     }
 

@@ -1,6 +1,3 @@
-use Rattle.std.proofs.Common.{List, ◌∙◌, ap}
-use Rattle.redo_log.specs.declared.index.Copied.{Copied}
-use Rattle.redo_log.specs.Index.{look}
 use Rattle.redo_log.specs.Shown.{shown}
 use Rattle.redo_log.proofs.IndexRoom.{find_is}
 use Rattle.redo_log.proofs.log.Log.find.Goals as goal
@@ -9,6 +6,4 @@ pub returns : goal.returns
 returns c =
     let i = c.self.inside in
     rw (← c.self.view_is) (find_is (shown i) c.args.block c.newest.result
-    (c.newest.ensures
-    ∙ ap (λ (l : List Copied). look l c.args.block) c.deref.ensures.value
-    ∙ c.self.invariant.index_is.looks c.args.block))
+    (rw (c.newest.ensures, c.deref.ensures.value) (c.self.invariant.index_is.looks c.args.block)))

@@ -4,13 +4,8 @@ use Rattle.std.proofs.lemmas.Grind.{common_steps}
 use Rattle.redo_log.proofs.log.Log.head_ahead.Goals as goal
 
 pub returns-then-not-can_pass : goal.returns-then-not-can_pass
-returns-then-not-can_pass g c = record {
-  none = search rules;
-  answers = search rules;
-  passes = search rules;
-  holds = search rules;
-  leaves = leaves_none c.args.self.now (g.M.Medium.state c.args.m.now) (g.met.M.Medium.sound c.args.m.now);
-}
+returns-then-not-can_pass g c =
+    let leaves = leaves_none c.args.self.now (g.M.Medium.state c.args.m.now) (g.met.M.Medium.sound c.args.m.now) in search rules
 
 pub returns : goal.returns
 returns g c = record {

@@ -5,13 +5,8 @@ use Rattle.std.proofs.lemmas.Grind.{common_steps}
 use Rattle.redo_log.proofs.log.Log.home_ahead.Goals as goal
 
 pub returns-then-not-is_away : goal.returns-then-not-is_away
-returns-then-not-is_away g c = record {
-  none = search rules;
-  answers = grind (arith, common_steps);
-  passes = grind (arith, common_steps);
-  holds = search rules;
-  leaves = leaves_none c.args.self.now (g.M.Medium.state c.args.m.now) (g.met.M.Medium.sound c.args.m.now);
-}
+returns-then-not-is_away g c =
+    let leaves = leaves_none c.args.self.now (g.M.Medium.state c.args.m.now) (g.met.M.Medium.sound c.args.m.now) in search (rules, arith)
 
 pub returns : goal.returns
 returns g c =

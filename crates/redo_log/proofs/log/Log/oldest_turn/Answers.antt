@@ -1,7 +1,4 @@
-use Rattle.std.proofs.Common.{◌<◌, List, ℕ, [], length, subst, sym, arith, rules}
-use Rattle.std.specs.Prelude.{All}
-use Rattle.journal.specs.Values.{shape_of}
-use Rattle.redo_log.specs.Stages.{AreInside}
+use Rattle.std.proofs.Common.{◌<◌, [], length, arith, rules}
 use Rattle.redo_log.proofs.LogRules.{front, next_of}
 use Rattle.redo_log.proofs.log.Log.oldest_turn.Goals as goal
 
@@ -9,12 +6,11 @@ pub next_turn-requires-clause-record : goal.next_turn-requires-clause-record
 next_turn-requires-clause-record c =
     let i = c.self.inside in
     let some : 0 < length i.waiting.items = search rules in
-    let each = subst (λ (l : List (List ℕ)). All (AreInside (shape_of i.sizes)) l)
-    (front i c.self.view_is c.in-Some.oldest.now some c.in-Some.ensures.lookup) c.self.invariant.ring.each in
+    let each = rw (front i c.self.view_is c.in-Some.oldest.now some c.in-Some.ensures.lookup) at c.self.invariant.ring.each in
     record {
       least = c.self.invariant.least;
       most = omega (arith, some, c.self.invariant.most);
-      numbers_are = subst (AreInside (shape_of i.sizes)) (sym c.as_slice-numbers.ensures.value) (each 0 [] (omega arith));
+      numbers_are = rw c.as_slice-numbers.ensures.value (each 0 [] (omega arith));
     }
 
 pub returns-clause-next : goal.returns-clause-next

@@ -1,8 +1,6 @@
-use Rattle.std.proofs.Common.{◌≡◌, ◌%◌, ◌+◌, ◌<◌, ℕ, [], length, get_or, sym, ◌∙◌, ap, subst, arith}
+use Rattle.std.proofs.Common.{◌≡◌, ◌%◌, ◌+◌, ℕ, [], length, get_or, sym, ◌∙◌, ap, arith}
 use Rattle.std.proofs.lemmas.Result.{on_ok_weaker}
 use Rattle.medium.proofs.Moments.{quiet_leaves}
-use Rattle.medium.specs.Medium.{LooksOnly}
-use Rattle.journal.specs.Places.{Shape, first_home}
 use Rattle.journal.specs.Values.{shape_of}
 use Rattle.journal.specs.Copies.{first_of}
 use Rattle.redo_log.specs.Value.{LogValue}
@@ -20,8 +18,7 @@ returns-clause-ok g c view block holds copy =
     let shape_is : log.shape ≡ shape_of i.sizes = ap (λ (v : LogValue). v.shape) (sym c.self.view_is) in
     let there = copy_is log old view holds c.requires.on.live (log_is i c.self.view_is c.self.invariant) block
     c.args.slot c.args.place copy in
-    let slot : c.args.slot ≡ (log.head + copy.age) % i.sizes.slots =
-    copy.slot_is ∙ ap (λ (s : Shape). (log.head + copy.age) % s.slots) shape_is in
+    let slot : c.args.slot ≡ (log.head + copy.age) % i.sizes.slots = rw shape_is at copy.slot_is in
     let head : log.head + copy.age ≡ i.head + copy.age = omega (arith, ap (λ (v : LogValue). v.head) c.self.view_is) in
     let age : c.age_of-age.result ≡ copy.age =
     c.age_of-age.ensures copy.age
@@ -49,8 +46,6 @@ returns-clause-keeps g c = record {
       let old = g.M.Medium.state c.args.m.now in
       quiet_leaves (MayLeave old.size c.args.self.now view) old (g.M.Medium.state c.read_copy.new.m) (g.met.M.Medium.sound c.args.m.now)
       (holds.leaves ours) c.read_copy.ensures.reads.quiet;
-  looks = subst (λ (v : LogValue).
-      LooksOnly (λ s. s < first_home v.shape) (g.M.Medium.state c.args.m.now) (g.M.Medium.state c.read_copy.new.m)) c.self.view_is
-      c.read_copy.ensures.reads.looks;
+  looks = rw (← c.self.view_is) c.read_copy.ensures.reads.looks;
   follows = c.read_copy.ensures.reads.follows;
 }

@@ -1,14 +1,10 @@
-use Rattle.std.proofs.Common.{◌<◌}
+use Rattle.std.proofs.Common.{◌<◌, rules}
 use Rattle.medium.proofs.SectorsRead.{no_looks, flush_looks, look_below}
 use Rattle.redo_log.proofs.turn.Turn.make.Goals as goal
 
 pub returns-in-Copy-clause-makes : goal.returns-in-Copy-clause-makes
 returns-in-Copy-clause-makes g c =
-    rw c.in-Copy.is (record {
-      done = c.copy_sector.ensures.writes.done;
-      adds = c.copy_sector.ensures.writes.adds;
-      spares = λ first inside. c.copy_sector.ensures.writes.spares first inside.1;
-    })
+    rw c.in-Copy.is (search rules)
 
 pub returns-in-Copy-clause-follows : goal.returns-in-Copy-clause-follows
 returns-in-Copy-clause-follows g c = (
