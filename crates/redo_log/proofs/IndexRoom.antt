@@ -1,9 +1,9 @@
 -- That an index has room for a record more, and what it is then.
-use Rattle.std.proofs.Common.{◌≡◌, ◌≢◌, inl, inr, ℕ, suc, ◌+◌, ◌-◌, ◌*◌, ◌/◌, ◌%◌, ◌<◌, ◌≤◌, List, [], ◌∷◌, ◌++◌, length, get_or, drop}
+use Rattle.std.proofs.Common.{◌≡◌, ◌≢◌, ℕ, suc, ◌+◌, ◌-◌, ◌*◌, ◌/◌, ◌%◌, ◌<◌, ◌≤◌, List, [], ◌∷◌, ◌++◌, length, get_or, drop}
 use Rattle.std.proofs.Common.{eqb, Some, None, Option, refl, sym, ◌∙◌, ap, arith}
 use Rattle.std.specs.Prelude.{All, true, map, MatchOption}
 use Rattle.std.specs.List.{list_any}
-use Rattle.std.proofs.lemmas.Bool.{cases_eq, ne_eqb}
+use Rattle.std.proofs.lemmas.Bool.{ne_eqb}
 use Rattle.std.proofs.lemmas.Bool.Decides.{nat_tests}
 use Rattle.std.proofs.lemmas.Nat.{mul-add-lt, div-mul-add, mod-mul-add}
 use Rattle.std.proofs.lemmas.List.{length-map, get_or-map}
@@ -19,13 +19,8 @@ use Rattle.redo_log.proofs.Newest.{IsNewest, with_copies-same, copies_of-more, c
 
 below_all : (xs : List ℕ) (n : ℕ) → All (λ x. x < n) xs → (q : ℕ) → list_any (eqb q) xs ≡ true → q < n
 below_all [] n each q some = cc some
-below_all (x ∷ xs) n each q some = elim (cases_eq q x) [
-  | inl same ↦ omega (arith, same, each 0 0 (omega arith))
-  | inr not ↦ below_all xs n (λ i d below. each (suc i) d (omega arith)) q (rest not)
-]
-  where
-    rest : q ≢ x → list_any (eqb q) xs ≡ true
-    rest not = grind (arith, nat_tests, some, not)
+below_all (x ∷ xs) n each q some =
+    grind (arith, nat_tests, some, each 0 0 (omega arith), below_all xs n (λ i d below. each (suc i) d (omega arith)) q)
 
 -- a number below `most` and one times `most` are those of their sum
 one_sum : (most a b i j : ℕ) → i < most → j < most → a * most + i ≡ b * most + j → (a ≡ b) × (i ≡ j)

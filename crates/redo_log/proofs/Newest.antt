@@ -1,7 +1,7 @@
 -- The newest copies of the blocks of some records.
 use Rattle.std.proofs.Common.{◌≡◌, ◌≢◌, ◌⊎◌, inl, inr, ℕ, zero, suc, ◌+◌, ◌%◌, ◌<◌, ◌≤◌, List, [], ◌∷◌, ◌++◌, length, get_or}
-use Rattle.std.proofs.Common.{if◌then◌else◌, Some, None, Option, refl, sym, ◌∙◌, ap, subst, arith}
-use Rattle.std.specs.Prelude.{◌==◌, slice_index, Contains}
+use Rattle.std.proofs.Common.{Some, None, refl, sym, ◌∙◌, ap, subst, arith}
+use Rattle.std.specs.Prelude.{slice_index, Contains}
 use Rattle.std.proofs.lemmas.Bool.{cases_eq}
 use Rattle.std.proofs.lemmas.Bool.Decides.{nat_tests}
 use Rattle.std.proofs.lemmas.List.{get_or_default}
@@ -15,18 +15,12 @@ with_here block copy old b same = grind (arith, nat_tests, same)
 pub with_other : (block : ℕ) (copy : ℕ × ℕ) (old : Copies) (b : ℕ) → block ≢ b → with_copy block copy old b ≡ old b
 with_other block copy old b not = grind (arith, nat_tests, not)
 
--- the same copies under a copy
-pub with_copy-same : (block : ℕ) (copy : ℕ × ℕ) (old new : Copies) (b : ℕ) → old b ≡ new b
-    → with_copy block copy old b ≡ with_copy block copy new b
-with_copy-same block copy old new b same = ap (λ (o : Option (ℕ × ℕ)). if block == b then Some copy else o) same
-
 -- the same copies under those of a record
 pub with_copies-same : (slot place : ℕ) (numbers : List ℕ) (old new : Copies) (b : ℕ) → old b ≡ new b
     → with_copies slot place numbers old b ≡ with_copies slot place numbers new b
 with_copies-same slot place [] old new b same = same
 with_copies-same slot place (n ∷ numbers) old new b same =
-    with_copies-same slot (place + 1) numbers (with_copy n (slot, place) old) (with_copy n (slot, place) new) b
-    (with_copy-same n (slot, place) old new b same)
+    with_copies-same slot (place + 1) numbers (with_copy n (slot, place) old) (with_copy n (slot, place) new) b (rw same refl)
 
 -- one record more
 pub copies_of-more : (slots stamp : ℕ) (records : List (List ℕ)) (numbers : List ℕ) (old : Copies) (b : ℕ)
@@ -46,20 +40,14 @@ outside-copies : (slot gone place : ℕ) (numbers : List ℕ) (old left : Copies
 outside-copies slot gone place [] old left b other same = same
 outside-copies slot gone place (n ∷ numbers) old left b other same =
     outside-copies slot gone (place + 1) numbers (with_copy n (slot, place) old) (with_copy n (slot, place) left) b other
-    (elim (cases_eq n b) [
-      | inl is ↦ grind (arith, nat_tests, is, other)
-      | inr not ↦ grind (arith, nat_tests, not, same)
-    ])
+    (grind (arith, nat_tests, other, same))
 
 -- those of the record in the slot go
 outside-gone : (slot place : ℕ) (numbers : List ℕ) (old : Copies) (b : ℕ) → outside slot (old b) ≡ None
     → outside slot (with_copies slot place numbers old b) ≡ None
 outside-gone slot place [] old b none = none
 outside-gone slot place (n ∷ numbers) old b none =
-    outside-gone slot (place + 1) numbers (with_copy n (slot, place) old) b (elim (cases_eq n b) [
-      | inl is ↦ grind (arith, nat_tests, is)
-      | inr not ↦ grind (arith, nat_tests, not, none)
-    ])
+    outside-gone slot (place + 1) numbers (with_copy n (slot, place) old) b (grind (arith, nat_tests, none))
 
 outside-records : (slots stamp gone : ℕ) (records : List (List ℕ)) (old left : Copies) (b : ℕ)
     → ((j : ℕ) → j < length records → (stamp + j) % slots ≢ gone) → outside gone (old b) ≡ left b

@@ -1,5 +1,5 @@
 -- Where the newest bytes of a block stand.
-use Rattle.std.proofs.Common.{◌≡◌, ◌≢◌, ℕ, zero, suc, ◌+◌, ◌<◌, List, [], ◌∷◌, length, get_or, refl, sym, ◌∙◌, ap, arith}
+use Rattle.std.proofs.Common.{◌≡◌, ◌≢◌, ℕ, zero, suc, ◌+◌, ◌<◌, List, [], ◌∷◌, length, get_or, refl, sym, ◌∙◌, arith}
 use Rattle.std.specs.Prelude.{false, Contains}
 use Rattle.std.proofs.lemmas.Bool.Decides.{nat_tests}
 use Rattle.std.proofs.lemmas.List.{length-map}
@@ -85,8 +85,8 @@ module _ (log : LogValue) (m : State) (view : View) (holds : HoldsView log m vie
       let waits : copy.age < length view.records = omega (arith, copy.waits, many holds) in
       let inside : place < length entries = omega (arith, copy.inside, count holds copy.age) in
       let below : b < log.shape.blocks = omega (arith, each.inside place 0 copy.inside, copy.named) in
-      let number : (i : ℕ) → get_or (get_or log.waiting copy.age []) i 0 ≡ (get_or entries i (0, [])).0 = λ i.
-      ap (λ (l : List ℕ). get_or l i 0) (named holds copy.age) ∙ get_or-map f entries i (0, []) in
+      let number : (i : ℕ) → get_or (get_or log.waiting copy.age []) i 0 ≡ (get_or entries i (0, [])).0 =
+      λ i. rw (named holds copy.age) (get_or-map f entries i (0, [])) in
       let first : (j : ℕ) → j < place → (get_or entries j (0, [])).0 ≢ b = λ j less e.
       omega (arith, each.rising j place less copy.inside, number j, e, copy.named) in (
         inside,

@@ -122,10 +122,7 @@ module _ (slot : ℕ) where
   look_filter (c ∷ index) sorted b =
       let rest = look_filter index (sorted_tail c index sorted) b in
       filtered (λ l. look l b ≡ outside slot (look (c ∷ index) b)) c index
-      (λ there. elim (cases_eq c.block b) [
-        | inl same ↦ grind (arith, nat_tests, same, there)
-        | inr not ↦ grind (arith, nat_tests, not, rest)
-      ])
+      (λ there. grind (arith, nat_tests, there, rest))
       (λ here. elim (cases_eq c.block b) [
         | inl same ↦
             look_above (filter is_outside index) b (above_filter (b + 1) index (rw same at (above_tail c index sorted)))
