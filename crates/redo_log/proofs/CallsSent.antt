@@ -34,22 +34,17 @@ head_turn stamp (Copy from to first) is = absurd is
 head_turn stamp Flush is = absurd is
 head_turn stamp (Head h) is = (h, refl, is)
 
--- as many as the turn that it is
-same_counts : (turn is : Turn) → turn ≡ is
-    → (calls_of turn ≡ calls_of is) × (sends_of turn ≡ sends_of is) × (flushes_of turn ≡ flushes_of is)
-same_counts turn is same = rw same (refl, refl, refl)
-
 -- as many as the next retire step, of which so many are left
 turn_counts : (shape : Shape) (stamp : ℕ) (numbers : List ℕ) (kept : AllFirsts) (turned left : ℕ) (turn : Turn)
     → IsNextTurn shape stamp numbers kept turned turn → turned + left ≡ length numbers + 2 → 0 < left
     → (calls_of turn ≡ turn_calls left) × (sends_of turn ≡ turn_sends left) × (flushes_of turn ≡ turn_flushes left)
 turn_counts shape stamp numbers kept turned zero turn next sum some = absurd (omega (arith, some))
 turn_counts shape stamp numbers kept turned (suc zero) turn next sum some =
-    let h = head_turn (stamp + 1) turn (next.head (omega (arith, sum))) in same_counts turn (Head h.0) h.1
+    rw ((head_turn (stamp + 1) turn (next.head (omega (arith, sum)))).1) (refl, refl, refl)
 turn_counts shape stamp numbers kept turned (suc (suc zero)) turn next sum some =
-    same_counts turn Flush (flush_turn turn (next.flush (omega (arith, sum))))
+    rw (flush_turn turn (next.flush (omega (arith, sum)))) (refl, refl, refl)
 turn_counts shape stamp numbers kept turned (suc (suc (suc left))) turn next sum some =
-    same_counts turn (Copy _ _ _) (copy_turn _ _ _ turn (next.home (omega (arith, sum))))
+    rw (copy_turn _ _ _ turn (next.home (omega (arith, sum)))) (refl, refl, refl)
 
 -- no step makes more than two calls, or writes and flushes
 two_at_most : (left : ℕ) → (turn_calls left ≤ 2) × (turn_sends left ≤ 2)

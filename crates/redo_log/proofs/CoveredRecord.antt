@@ -33,5 +33,4 @@ ahead_durable ahead head (n ∷ waiting) turned numbers is = ⊎_elim inl (λ ho
 -- the oldest record is retired
 pub ahead_retired : (ahead : Ahead) (head : ℕ) (waiting newer : List (List ℕ)) (turned left : ℕ)
     → IsAheadOf ahead head waiting turned → IsAheadOf ahead (head + 1) newer left
-ahead_retired ahead head waiting newer turned left is =
-    ⊎_elim (λ (less : ahead.home < head). inl (omega (arith, less))) (λ home. inl (omega (arith, home.0))) is
+ahead_retired ahead head waiting newer turned left is = inl (omega (arith, is))

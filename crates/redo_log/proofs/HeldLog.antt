@@ -1,5 +1,5 @@
 -- What follows of what a log and its medium hold, and what they hold where only its counts change.
-use Rattle.std.proofs.Common.{◌≡◌, ℕ, ◌+◌, ◌-◌, ◌<◌, ◌≤◌, [], length, get_or, refl, ◌∙◌, ap, arith}
+use Rattle.std.proofs.Common.{◌≡◌, ℕ, ◌+◌, ◌-◌, ◌<◌, ◌≤◌, [], length, get_or, refl, ◌∙◌, ap, arith, rules}
 use Rattle.std.specs.Prelude.{Bool, true, false, Result, Ok, Err, OnOk, is_err}
 use Rattle.std.proofs.lemmas.List.{length-map}
 use Rattle.std.proofs.Math.ListN.{get_or-map}
@@ -52,18 +52,9 @@ module _ {log : LogValue} {m : State} {view : View} (hv : HoldsView log m view) 
       (turned_of (going log left retire ahead dead)) new.content)
       → (dead ≡ false → view.ours ≡ true → Shields log.shape log.head view left (made_of (going log left retire ahead dead))
       (needed_of (going log left retire ahead dead)) new) → HoldsView (going log left retire ahead dead) new view
-  going_held left retire ahead dead new same leaves stores guards = record {
-    fits = omega (arith, same, hv.fits);
-    durable = hv.durable;
-    under_way = hv.under_way;
-    next = hv.next;
-    few = hv.few;
-    sized = hv.sized;
-    firsts = hv.firsts;
-    leaves = λ ours. rw same (leaves ours);
-    stores = stores;
-    guards = guards;
-  }
+  going_held left retire ahead dead new same leaves stores guards =
+      let fits : sectors_of log.shape ≤ new.size = omega (arith, same, hv.fits) in
+      let leaves_now = λ (ours : view.ours ≡ true). rw (← same) at (leaves ours) in search rules
 
   -- a dead log and its medium hold what a cut may leave
   pub died_held : (new : State) → new.size ≡ m.size → (view.ours ≡ true → EachCut (MayLeave m.size log view) new)

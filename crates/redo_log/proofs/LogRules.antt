@@ -1,10 +1,9 @@
 -- What is true of every log, as a caller sees it, whatever its fields are.
-use Rattle.std.proofs.Common.{◌≡◌, ◌≢◌, ⊎_elim, ℕ, suc, ◌+◌, ◌-◌, ◌*◌, ◌<◌, ◌≤◌, List, [], ◌∷◌, ◌++◌, length, get_or}
+use Rattle.std.proofs.Common.{◌≡◌, ◌≢◌, ℕ, suc, ◌+◌, ◌-◌, ◌*◌, ◌<◌, ◌≤◌, List, [], ◌∷◌, ◌++◌, length, get_or}
 use Rattle.std.proofs.Common.{drop, refl, sym, ◌∙◌}
 use Rattle.std.proofs.Common.{ap, subst, arith}
 use Rattle.std.specs.Prelude.{All, Bool, Option, Some, None, Result, sum_by, slice_index_or}
 use Rattle.std.proofs.Math.Nat.{mul-le-mul_left}
-use Rattle.std.proofs.lemmas.Bool.{cases_lt}
 use Rattle.std.proofs.lemmas.List.{length-map}
 use Rattle.std.proofs.lemmas.List.Sums.{sum_by-cons, sum_by-append}
 use Rattle.arrayvec.specs.ArrayVec.{ArrayVec}
@@ -59,10 +58,7 @@ pub record IsLog (log : LogValue) : Type 0 where
 
 -- where retire steps are owed to the oldest record, one waits
 pub one_waits : {log : LogValue} → IsLog log → 0 < of_oldest log → 0 < length log.waiting
-one_waits {log} is owed = ⊎_elim
-    (λ (some : 0 < length log.waiting). some)
-    (λ (none : length log.waiting ≤ 0). absurd (omega (arith, owed, is.alone (omega (arith, none)))))
-    (cases_lt 0 (length log.waiting))
+one_waits {log} is owed = grind (arith, owed, is.alone)
 
 -- ---- what the fields make of it
 

@@ -2,19 +2,20 @@
 use Rattle.std.proofs.Common.{◌≡◌, ◌≢◌, ◌⊎◌, inl, inr, ⊎_elim, ℕ, ◌+◌, ◌-◌, ◌<◌, ◌≤◌, List, [], ◌∷◌, ◌++◌, length, drop, refl, sym, ◌∙◌}
 use Rattle.std.proofs.Common.{ap, subst, arith, length-append, length-drop}
 use Rattle.std.specs.Prelude.{Bool, true, false}
+use Rattle.std.proofs.lemmas.List.{nil_from_length}
 use Rattle.medium.specs.Medium.{State, Image, CutLeaves, IsSound}
 use Rattle.medium.specs.Moments.{EachCut}
 use Rattle.spec.specs.Blocks.{Array}
 use Rattle.medium.proofs.Moments.{updated_elsewhere}
 use Rattle.journal.specs.Places.{Shape, first_home, sectors_of}
 use Rattle.journal.specs.SectorsTwo.{firsts_of}
-use Rattle.journal.specs.Record.{Entry, numbers_of, with_blocks, entries_of}
+use Rattle.journal.specs.Record.{Entry, with_blocks, entries_of}
 use Rattle.journal.specs.Formats.{layout_of}
 use Rattle.journal.specs.Standing.{IsOurs}
 use Rattle.journal.proofs.BatchEntries.{numbers_of_batch, length_of_batch, sized_batch}
 use Rattle.journal.proofs.Engine.{rests_logged, rests_begun}
 use Rattle.journal.proofs.Formats.{laws_of, most_is}
-use Rattle.redo_log.specs.Value.{LogValue, HasRoom, IsCovered, steps_of, retire_steps_of, behind_oldest, of_oldest, idle_from}
+use Rattle.redo_log.specs.Value.{LogValue, HasRoom, IsCovered, retire_steps_of, behind_oldest, of_oldest, idle_from}
 use Rattle.redo_log.specs.Value.{begun, died, settled}
 use Rattle.redo_log.specs.Batch.{IsBatch}
 use Rattle.redo_log.specs.Logged.{HasNoRecord}
@@ -28,7 +29,7 @@ use Rattle.redo_log.proofs.LoggedImage.{Logged-records}
 use Rattle.redo_log.proofs.KeptFirsts.{none_kept, begun_kept}
 use Rattle.redo_log.proofs.StoredLog.{Stores-stays}
 use Rattle.redo_log.proofs.LogRules.{one_stamp}
-use Rattle.redo_log.proofs.HeldLog.{count, going_held, died_held}
+use Rattle.redo_log.proofs.HeldLog.{count, under_count, going_held, died_held}
 pub use Rattle.redo_log.proofs.HeldLog.{quiet_held}
 pub use Rattle.redo_log.proofs.NewestCopy.{home_is}
 
@@ -120,7 +121,8 @@ begun_holds log m view numbers bytes holds room batch =
     let next : LogValue = begun numbers (firsts_of (entries_of numbers bytes)) log in
     let many : length (entries_of numbers bytes) ≡ length numbers = length_of_batch numbers bytes in
     let none = ap (λ (l : List ℕ). retire_steps_of l) room.none_under_way in
-    let none_yet : view.under_way ≡ [] = no_entries view.under_way (sym holds.under_way ∙ room.none_under_way) in
+    let none_yet : view.under_way ≡ [] =
+    nil_from_length view.under_way (omega (arith, under_count holds, ap (λ (l : List ℕ). length l) room.none_under_way)) in
     let behind : behind_oldest next ≡ behind_oldest log + retire_steps_of numbers = omega (arith, none) in
     let same : of_oldest log ≡ of_oldest next = omega (arith, behind) in
     let needs : needed_of log ≡ needed_of next = ap (λ (l : ℕ). needed_at log.ahead log.head (log.head + length log.waiting) l) same in
@@ -151,7 +153,7 @@ begun_holds log m view numbers bytes holds room batch =
           each = λ image cut.
               let rests = ((holds.guards live ours).guards.each image cut).rests room.no_steps in
               record {
-                rests = λ none. absurd (some_steps (omega (arith, none)));
+                rests = λ none. absurd (omega (arith, none, steps_some log.shape.format (length numbers)));
                 guarded = λ _. rw (nothing.0, nothing.1) (rests_begun (layout_of log.shape.format) (laws_of log.shape.format)
                     (image_view log.shape log.head (with_begun E view))
                     rests.keeps.super.some_slots few image rests);
@@ -161,10 +163,3 @@ begun_holds log m view numbers bytes holds room batch =
         heads = heads_quiet (holds.guards live ours) m (needed_of next) refl (λ not is. not (needs ∙ is)) (λ s c left. left);
       };
     }
-  where
-    no_entries : (entries : List Entry) → numbers_of entries ≡ [] → entries ≡ []
-    no_entries [] none = refl
-    no_entries (e ∷ entries) none = absurd (cc none)
-
-    some_steps : steps_of log.shape.format numbers ≡ 0 → ⊥
-    some_steps none = absurd (omega (arith, none, steps_some log.shape.format (length numbers)))
