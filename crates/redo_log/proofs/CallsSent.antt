@@ -1,5 +1,5 @@
 -- Which turn is the next one, and how many calls, writes and flushes it makes.
-use Rattle.std.proofs.Common.{◌≡◌, ℕ, zero, suc, ◌+◌, ◌<◌, ◌≤◌, List, [], length, get_or, refl, arith}
+use Rattle.std.proofs.Common.{◌≡◌, ℕ, zero, suc, ◌+◌, ◌<◌, ◌≤◌, List, [], length, get_or, refl, arith, rules}
 use Rattle.std.specs.Prelude.{Option, Result}
 use Rattle.medium.specs.Medium.{State}
 use Rattle.medium.specs.declared.fault.MediumFault.{MediumFault}
@@ -64,13 +64,7 @@ counts_of {log} is owed turn next {result} {old} {new} up =
     let same = turn_counts log.shape log.head (get_or log.waiting 0 []) log.firsts (turned_of log) (of_oldest log) turn next
     (omega (arith, is.owed_most)) owed in
     let now = rw (same.0, same.1, same.2) at up in
-    record {
-      two = omega (arith, now.calls, two_at_most (of_oldest log));
-      most = now.calls;
-      exact = now.exact;
-      sent = now.sent;
-      flushed = now.flushed;
-    }
+    let two : new.calls ≤ old.calls + 2 = omega (arith, now.calls, two_at_most (of_oldest log)) in search rules
 
 -- ---- how many writes and flushes they are at most
 

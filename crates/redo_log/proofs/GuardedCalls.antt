@@ -243,5 +243,5 @@ past_records size shape head view image fits waits all both =
     record {
       whole = whole_more shape image head view.records u
           (rw stamp at (last_whole shape image (head + 1) (drop 1 view.records) u both.keeps.whole)) all;
-      ours = rw same at (Logged-records size shape (head + 1) _ _ image fits both).ours;
+      ours = rw same at (Logged-records fits both).ours;
     }

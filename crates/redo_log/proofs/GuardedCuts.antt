@@ -14,8 +14,8 @@ use Rattle.redo_log.proofs.LoggedImage.{Logged-records}
 pub logged_leaves : (size : ℕ) (log : LogValue) (view : View) (image : Image) → sectors_of log.shape ≤ size
     → IsLogged log.shape log.head view log.steps_left image → MayLeave size log view image
 logged_leaves size log view image fits logged = ⊎_elim
-    (λ rest. inl (Logged-records size log.shape log.head view.records view.array image fits rest))
-    (λ both. inr (inl (both.0, both.1, Logged-records size log.shape log.head _ _ image fits both.2)))
+    (λ rest. inl (Logged-records fits rest))
+    (λ both. inr (inl (both.0, both.1, Logged-records fits both.2)))
     logged
 
 -- where that follows of each image with the newest head, a cut may leave no other

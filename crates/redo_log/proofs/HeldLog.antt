@@ -75,7 +75,7 @@ module _ {log : LogValue} {m : State} {view : View} (hv : HoldsView log m view) 
       rests_logged (layout_of log.shape.format) (laws_of log.shape.format) log.shape sized.some image log.head
       view.records view.array hv.few
       (((hv.guards live ours).guards.each image cut).rests no_steps))
-      (λ image rest. Logged-records m.size log.shape log.head view.records view.array image hv.fits rest)
+      (λ image rest. Logged-records hv.fits rest)
       (λ image newer same older rest. older_one log.shape sized log.head view m.size hv.fits image newer same older rest)
 
   module _ (is : IsLog log) where

@@ -7,9 +7,9 @@ use Rattle.journal.specs.Record.{Entry}
 use Rattle.redo_log.specs.Logged.{HasRecords, Logged}
 
 -- such an image is ours and stands for its array
-pub Logged-records : (size : ℕ) (shape : Shape) (head : ℕ) (records : List (List Entry)) (array : Array) (image : Image)
+pub Logged-records : {size : ℕ} {shape : Shape} {head : ℕ} {records : List (List Entry)} {array : Array} {image : Image}
     → sectors_of shape ≤ size → Logged shape head records array image → HasRecords size shape head records array image
-Logged-records size shape head records array image fits l = record {
+Logged-records {size} {shape} {head} {records} {array} {image} fits l = record {
   whole = l.keeps.whole;
   ours = record {
     stands = record {

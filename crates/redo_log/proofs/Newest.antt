@@ -140,7 +140,6 @@ from_records slots stamp (r ∷ records) old b =
     elim (from_records slots (stamp + 1) records (with_copies (stamp % slots) 0 r old) b) [
       | inl found ↦
           let same : stamp + 1 + found.1.age ≡ stamp + suc found.1.age = omega arith in
-          let later = behind (suc found.1.age) r records b (λ age least. found.1.newest age (omega (arith, least))) in
           inl (
             found.0,
             record {
@@ -149,7 +148,7 @@ from_records slots stamp (r ∷ records) old b =
               slot_is = found.1.slot_is ∙ ap (λ (s : ℕ). s % slots) same;
               inside = found.1.inside;
               named = found.1.named;
-              newest = λ newer less. later newer (omega (arith, less));
+              newest = behind (suc found.1.age) r records b found.1.newest;
             },
             found.2,
           )
@@ -157,7 +156,6 @@ from_records slots stamp (r ∷ records) old b =
         | inl here ↦
             let same : stamp ≡ stamp + 0 = omega arith in
             let at : 0 + here.0 ≡ here.0 = omega arith in
-            let later = behind 0 r records b older.0 in
             inl (
               (stamp % slots, 0 + here.0),
               record {
@@ -166,7 +164,7 @@ from_records slots stamp (r ∷ records) old b =
                 slot_is = ap (λ (s : ℕ). s % slots) same;
                 inside = omega (arith, here.1);
                 named = ap (λ (k : ℕ). slice_index r k) at ∙ here.2;
-                newest = λ newer less. later newer (omega (arith, less));
+                newest = behind 0 r records b older.0;
               },
               older.1 ∙ here.3,
             )

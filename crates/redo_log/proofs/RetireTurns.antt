@@ -153,11 +153,7 @@ module _ {log : LogValue} (is : IsLog log) (live : log.dead ≡ false) (owed : 0
         moments_have (MayLeave old.size log view) 1 (head_bytes h.stamp) old new adds
         (λ image cut. ⊎_elim (λ safe. logged_leaves old.size log view image hv.fits (logged_of stands image safe))
         (λ past. ⊎_elim
-        (λ rest. inr (inr (
-          waits,
-          omega (arith, one),
-          Logged-records old.size log.shape (log.head + 1) (drop 1 view.records) view.array image hv.fits rest,
-        )))
+        (λ rest. inr (inr (waits, omega (arith, one), Logged-records hv.fits rest)))
         (λ both. inr (inl (both.0, both.1, past_records old.size log.shape log.head view image hv.fits waits past.1 both.2)))
         (logged_of stands_past image past.0))
         (head_each stands sound (one_now ours) gained (head_bytes h.stamp) waits head_now (needs_one one) (λ s c left. left) image cut))

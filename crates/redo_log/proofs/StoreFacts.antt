@@ -47,7 +47,7 @@ idle_holds shape next array ours m sound fits home fresh = record {
   firsts = none_kept shape.format;
   leaves = λ is image cut.
       let rests = fresh is image cut in
-      inl (Logged-records m.size shape next [] array image fits
+      inl (Logged-records fits
       (rests_logged (layout_of shape.format) (laws_of shape.format) shape rests.keeps.super.some_slots image next [] array (omega arith)
       rests));
   stores = λ live. record {

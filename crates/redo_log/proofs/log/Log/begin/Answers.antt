@@ -51,12 +51,7 @@ invariant_of-self-2 c =
         );
         oldest = c.self.invariant.ring.oldest;
         record_under_way = (
-          rw (c.numbers_of-self-inside.ensures, ap (λ (v : LogValue). v.shape) c.self.view_is) (record {
-            some = c.requires.batch.some;
-            few = c.requires.batch.few;
-            rising = c.requires.batch.rising;
-            inside = c.requires.batch.inside;
-          }),
+          rw (c.numbers_of-self-inside.ensures, ap (λ (v : LogValue). v.shape) c.self.view_is) (search rules),
           steps_some i.sizes.format (length c.numbers_of-self-inside.result.items),
         );
       };

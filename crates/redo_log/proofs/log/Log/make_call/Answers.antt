@@ -34,16 +34,9 @@ returns g c =
     one_call (MayLeave old.size log view) old new sound made.passes (holds.leaves ours)
     (step_leaves is live some sound holds c.args.bytes.now c.requires.numbers c.requires.bytes here.call here.next new made.adds ours) in
     record {
-      passes = record {
-        calls = record {
-          one = search rules;
-          sent = search rules;
-          flushed = step_flushed is some c.args.bytes.now c.requires.numbers c.requires.bytes here.call here.next made.passes;
-        };
-        failures = search rules;
-        size = search rules;
-        follows = c.make_next.ensures.follows;
-      };
+      passes =
+          let flushed = step_flushed is some c.args.bytes.now c.requires.numbers c.requires.bytes here.call here.next made.passes in
+          search rules;
       leaves = record {
         cuts = cuts;
         moments = one_call (λ _. Unit {0}) old new sound made.passes (λ image cut. tt) (λ image cut. tt);

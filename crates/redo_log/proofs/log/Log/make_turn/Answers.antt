@@ -1,3 +1,4 @@
+use Rattle.std.proofs.Common.{rules}
 use Rattle.std.proofs.lemmas.Result.{on_ok_weaker}
 use Rattle.journal.specs.Places.{first_home, sectors_of}
 use Rattle.redo_log.specs.Held.{View, HoldsView}
@@ -23,12 +24,7 @@ returns-clause-brings g c =
     next.next new made.adds in
     let size = c.make.ensures.counts.size in
     record {
-      passes = record {
-        calls = counts_of is c.requires.owed turn next.next c.make.ensures.counts;
-        failures = c.make.ensures.counts.failures;
-        size = size;
-        follows = c.make.ensures.follows.0;
-      };
+      passes = let calls = counts_of is c.requires.owed turn next.next c.make.ensures.counts in search rules;
       leaves = record {
         cuts = cuts;
         moments = turn_moments turn old new sound made.adds;
