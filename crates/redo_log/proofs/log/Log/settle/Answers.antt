@@ -14,18 +14,9 @@ returns-then-self-clause-covered c = (
       let turns : c.len-all.result ≡ length c.in-Some.first.now.items = c.len-all.ensures.value in
       let left = left_of i c.self.view_is c.in-Some.first.now some c.in-Some.ensures.lookup in
       let head = ap (λ (v : LogValue). v.head) c.self.view_is in
-      elim c.then-self.branch [
-        | then-self-via-then-self w ↦ absurd (omega (arith, covered.oldest, head, ap (λ (v : LogValue). v.ahead.home) c.self.view_is))
-        | then-self-via-else-self+then-self-all w ↦ absurd (omega (arith, left, covered.flushes, turns))
-        | then-self-via-else-self+else-self-all+then-next-self w ↦
-            absurd (omega (
-              arith,
-              covered.since,
-              c.len.ensures,
-              many_lists i.waiting.items,
-              head,
-              ap (λ (v : LogValue). v.ahead.before) c.self.view_is,
-              ap (λ (v : LogValue). length v.waiting) c.self.view_is,
-            ))
-      ],
+      let home = ap (λ (v : LogValue). v.ahead.home) c.self.view_is in
+      let before = ap (λ (v : LogValue). v.ahead.before) c.self.view_is in
+      let waiting = ap (λ (v : LogValue). length v.waiting) c.self.view_is in
+      let many = many_lists i.waiting.items in
+      search (rules, arith),
 )
