@@ -192,18 +192,15 @@ module _ {log : LogValue} (is : IsLog log) (live : log.dead ≡ false) (some : 0
                   few = stands.few;
                   short = λ all. omega (arith, one_left (L.early n) (L.parts n) late (made_of log + 1) all, all_steps);
                 } in
+                let k_is : L.parts n - 1 ≡ k = omega (arith, small, last) in
+                let last_same = rw (other_count, k_is) at (laws.last_part stamp other view.under_way other_count) in
                 leave_of old.size log view gained (needed_of log) hv.fits is.sized
                 (Safe log.shape log.head view log.steps_left (made_of log + 1))
                 heads
-                (next_each stands (head_sound old sound) s.guards (with_head gained) some small bytes gains (last_same last) log.steps_left
+                (next_each stands (head_sound old sound) s.guards (with_head gained) some small bytes gains last_same log.steps_left
                 (made_of log + 1) now.0 now.1 some)
                 (logged_of stands_now)
           ])
-        where
-          last_same : L.parts n ≤ k + 1 → L.part stamp other k ≡ L.part stamp view.under_way k
-          last_same last =
-              let k_is : L.parts n - 1 ≡ k = omega (arith, small, last) in
-              rw (other_count, k_is) at (laws.last_part stamp other view.under_way other_count)
 
       part_written_now : 1 < log.steps_left → new.size ≡ old.size → view.under_way ≡ other → MayAdd (Write place bytes) old new
           → IsDone (Write place bytes) old new → HoldsView more_log new view

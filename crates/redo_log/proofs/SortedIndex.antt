@@ -20,20 +20,18 @@ blank = record { block = 0; slot = 0; place = 0 }
 abbrev NoneBefore : List Copied → ℕ → ℕ → Type 0
 NoneBefore index block i = (j : ℕ) → j < i → block_at index j ≢ block
 
-none_in_tail : (c : Copied) (index : List Copied) (block i : ℕ) → NoneBefore (c ∷ index) block (suc i) → NoneBefore index block i
-none_in_tail c index block i none j less = none (suc j) (omega arith)
-
 pub look-absent : (index : List Copied) (block : ℕ) → NoneBefore index block (length index) → look index block ≡ None
 look-absent [] block none = refl
 look-absent (c ∷ index) block none =
-    grind (arith, nat_tests, none 0 (omega arith), look-absent index block (none_in_tail c index block _ none))
+    grind (arith, nat_tests, none 0 (omega arith), look-absent index block (λ j less. none (suc j) (omega arith)))
 
 pub look-present : (index : List Copied) (block i : ℕ) → i < length index → block_at index i ≡ block → NoneBefore index block i
     → look index block ≡ Some ((get_or index i blank).slot, (get_or index i blank).place)
 look-present [] block i below is none = absurd (omega (arith, below))
 look-present (c ∷ index) block zero below is none = grind (arith, nat_tests, is)
 look-present (c ∷ index) block (suc i) below is none =
-    grind (arith, nat_tests, none 0 (omega arith), look-present index block i (omega arith) is (none_in_tail c index block i none))
+    let rest = look-present index block i (omega arith) is (λ j less. none (suc j) (omega arith)) in
+    grind (arith, nat_tests, none 0 (omega arith), rest)
 
 module _ (index : List Copied) (sorted : IsSorted index) (block : ℕ) where
   -- the comparisons with the block rise along the list, as a binary search asks

@@ -9,13 +9,10 @@ returns-clause-writes g c =
     let old = g.M.Medium.state c.args.m.now in
     let mid = g.M.Medium.state c.read.new.self in
     let new = g.M.Medium.state c.write.new.self in
-    record {
-      done = search rules;
-      adds = quiet_write c.args.to (begun_with c.args.first.now (old.content c.args.from)) old (g.met.M.Medium.sound c.args.m.now) mid new
-          c.read.ensures.passes c.write.ensures.passes c.put_first.new.sector
-          (rw c.in_ok-read.ensures.ok at c.put_first.ensures) c.read.ensures.sets c.write.ensures.sets;
-      spares = search rules;
-    }
+    let adds = quiet_write c.args.to (begun_with c.args.first.now (old.content c.args.from)) old (g.met.M.Medium.sound c.args.m.now) mid new
+    c.read.ensures.passes c.write.ensures.passes c.put_first.new.sector
+    (rw c.in_ok-read.ensures.ok at c.put_first.ensures) c.read.ensures.sets c.write.ensures.sets in
+    search rules
 
 pub returns-clause-follows : goal.returns-clause-follows
 returns-clause-follows g c =

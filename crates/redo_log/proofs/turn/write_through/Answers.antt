@@ -7,12 +7,9 @@ returns-clause-writes g c =
     let old = g.M.Medium.state c.args.m.now in
     let mid = g.M.Medium.state c.write.new.self in
     let new = g.M.Medium.state c.flush.new.self in
-    record {
-      done = search rules;
-      adds = write_quiet c.args.place c.args.sector.now old (g.met.M.Medium.sound c.args.m.now) mid new c.write.ensures.passes
-          c.flush.ensures.passes c.write.ensures.sets c.flush.ensures.sets;
-      spares = search rules;
-    }
+    let adds = write_quiet c.args.place c.args.sector.now old (g.met.M.Medium.sound c.args.m.now) mid new c.write.ensures.passes
+    c.flush.ensures.passes c.write.ensures.sets c.flush.ensures.sets in
+    search rules
 
 pub returns-in_err-write-clause-follows : goal.returns-in_err-write-clause-follows
 returns-in_err-write-clause-follows g c = (c.write.ensures.follows, c.write.ensures.passes.looked_stays (λ e. cc e))

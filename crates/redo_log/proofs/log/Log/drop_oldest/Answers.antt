@@ -15,8 +15,7 @@ use Rattle.redo_log.proofs.log.Log.drop_oldest.Goals as goal
 -- the others wait behind the oldest
 lists_less : {X : Type 0} (records left : List (ArrayVec X)) → left ≡ drop 1 records
     → map (λ r. r.items) left ≡ drop 1 (map (λ r. r.items) records)
-lists_less {X} records left is = let f : ArrayVec X → List X = λ r. r.items in ap
-    (λ (l : List (ArrayVec X)). map f l) is ∙ sym (drop-map f 1 records)
+lists_less {X} records left is = let f : ArrayVec X → List X = λ r. r.items in rw is (sym (drop-map f 1 records))
 
 pub invariant_of-self : goal.invariant_of-self
 invariant_of-self c =
