@@ -81,14 +81,16 @@ module _ (shape : Shape) (sized : IsSized shape) (head : ℕ) (view : View) wher
   L = layout_of shape.format
 
   -- with the record that was passed the next stamp is the same
-  same_stamp : (image : Image) (o : IsOlder shape head view.records view.array image) → o.stamp + length (o.passed ∷ view.records) ≡ head + length view.records
+  same_stamp : (image : Image) (o : IsOlder shape head view.records view.array image)
+      → o.stamp + length (o.passed ∷ view.records) ≡ head + length view.records
   same_stamp image o = omega (arith, o.behind)
 
   module _ (before image : Image) (place : ℕ) (bytes : List ℕ) (write : Holds place bytes before image)
       (old : IsOlder shape head view.records view.array before)
     where
       -- a sector is written behind the head, and the records stay laid
-      older_with : place ≢ 1 → Laid shape old.stamp (old.passed ∷ view.records) view.array image → IsOlder shape head view.records view.array image
+      older_with : place ≢ 1 → Laid shape old.stamp (old.passed ∷ view.records) view.array image
+          → IsOlder shape head view.records view.array image
       older_with not laid = record {
         passed = old.passed;
         stamp = old.stamp;
@@ -180,7 +182,8 @@ module _ (shape : Shape) (head : ℕ) (view : View) where
   -- an image has what follows from the one with the newest head
   pub each_head : (m : State) (P Q : Image → Type 0) (retire : ℕ) → EachCut (HasHead shape head view retire m) m → EachCut P (with_head m)
       → ((image : Image) → P image → Q image)
-      → ((image newer : Image) → ((x : ℕ) → x ≢ 1 → newer x ≡ image x) → IsOlder shape head view.records view.array image → P newer → Q image) → EachCut Q m
+      → ((image newer : Image) → ((x : ℕ) → x ≢ 1 → newer x ≡ image x) → IsOlder shape head view.records view.array image → P newer
+      → Q image) → EachCut Q m
   each_head m P Q retire heads each plain older image cut =
       ⊎_elim (λ same. plain image (each image (same_cut m image same cut)))
       (λ o. older image (put_head m image) (λ x not. updated_elsewhere image 1 (m.content 1) x not) o.1
@@ -206,7 +209,8 @@ module _ {shape : Shape} {head : ℕ} {view : View} {steps made retire : ℕ} {o
 
       -- a sector is written that has no head
       heads_write : (place : ℕ) (bytes : List ℕ) → IsSound old → Gains place bytes old.may_leave new.may_leave → place ≢ 1
-          → ((before image : Image) → Holds place bytes before image → IsOlder shape head view.records view.array before → IsOlder shape head view.records view.array image)
+          → ((before image : Image) → Holds place bytes before image → IsOlder shape head view.records view.array before
+          → IsOlder shape head view.records view.array image)
           → EachCut (HasHead shape head view left new) new
       heads_write place bytes sound gains not older =
           each_write (HasHead shape head view retire old) (HasHead shape head view left new) old new place bytes sound gains s.heads
