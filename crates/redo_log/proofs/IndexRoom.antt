@@ -96,9 +96,8 @@ pub index_more : (slots stamp : ℕ) (records : List (List ℕ)) (numbers : List
     → IsIndex slots stamp (records ++ numbers ∷ []) new
 index_more slots stamp records numbers old new is sorted looks = record {
   sorted = sorted;
-  looks = λ b. looks b
-      ∙ with_copies-same ((stamp + length records) % slots) 0 numbers (look old) (copies_of slots stamp records no_copies) b (is.looks b)
-      ∙ sym (copies_of-more slots stamp records numbers no_copies b);
+  looks = λ b. rw (looks b, copies_of-more slots stamp records numbers no_copies b)
+      (with_copies-same ((stamp + length records) % slots) 0 numbers (look old) (copies_of slots stamp records no_copies) b (is.looks b));
 }
 
 -- the index without the copies of the oldest record
@@ -108,5 +107,5 @@ pub index_fewer : (slots stamp : ℕ) (waiting : List (List ℕ)) (old new : Lis
 index_fewer slots stamp [] old new is some few sorted looks = absurd (omega arith)
 index_fewer slots stamp (numbers ∷ newer) old new is some few sorted looks = record {
   sorted = sorted;
-  looks = λ b. looks b ∙ ap (outside (stamp % slots)) (is.looks b) ∙ copies_of-fewer slots stamp numbers newer b few;
+  looks = λ b. rw (looks b, is.looks b) (copies_of-fewer slots stamp numbers newer b few);
 }

@@ -56,8 +56,7 @@ invariant_of-self-2 c =
 pub enter_record-requires-clause-numbers : goal.enter_record-requires-clause-numbers
 enter_record-requires-clause-numbers c =
     let numbers = ((log_is c.self.inside c.self.view_is c.self.invariant).record_is c.requires.0).numbers_are in
-    let inside : AreInside c.args.self.now.shape c.args.numbers.now = rw c.requires.1 numbers in
-    record { few = search rules; rising = inside.rising; below = search rules }
+    let inside : AreInside c.args.self.now.shape c.args.numbers.now = rw c.requires.1 numbers in search rules
 
 pub enter_record-requires-clause-fits : goal.enter_record-requires-clause-fits
 enter_record-requires-clause-fits c =
