@@ -20,8 +20,7 @@ few_sent old new one = record { most = λ shape has. omega (arith, one); none = 
 
 all_slots : (format : LogFormat) (slots old new : ℕ) → slots ≤ 64 → new ≤ old + most_start_sends format slots
     → new ≤ old + most_start_sends Two 64
-all_slots One slots old new few most = omega (arith, few, most)
-all_slots Two slots old new few most = omega (arith, few, most)
+all_slots format slots old new few most = grind arith
 
 -- a flush, the copies of what was found, and perhaps the new head
 pub found_sent : (old new : State) (found : Found) → IsFound old.size old.content found
@@ -42,11 +41,9 @@ found_sent old new found is sends =
 -- a recovery is a part of a migration
 pub start_migrates : (format : LogFormat) (slots old new : ℕ) → new ≤ old + most_start_sends format slots
     → new ≤ old + most_migration_sends format slots
-start_migrates One slots old new most = omega (arith, most)
-start_migrates Two slots old new most = omega (arith, most)
+start_migrates format slots old new most = grind arith
 
 -- and the making of format 2 its other part
 pub made_migrates : (format : LogFormat) (slots old mid new : ℕ) → format ≡ One → mid ≤ old + most_start_sends format slots
     → new ≤ mid + (50 * slots + 5) → new ≤ old + most_migration_sends format slots
-made_migrates One slots old mid new one first last = omega (arith, first, last)
-made_migrates Two slots old mid new one first last = absurd (cc one)
+made_migrates format slots old mid new one first last = grind arith

@@ -1,5 +1,5 @@
 -- Why a recovery is refused, and what that rules out.
-use Rattle.std.proofs.Common.{◌≡◌, ◌∙◌, ◌<◌, ◌≤◌, ◌^◌, ℕ, Result, refl, subst, arith}
+use Rattle.std.proofs.Common.{◌≡◌, ◌∙◌, ◌<◌, ◌≤◌, ◌^◌, ℕ, Result, refl, subst, arith, rules}
 use Rattle.medium.specs.Medium.{State, Image, Passes}
 use Rattle.medium.specs.Moments.{IsQuiet}
 use Rattle.spec.specs.Blocks.{Array}
@@ -16,7 +16,7 @@ use Rattle.journal.proofs.FaultLaws.{HasFault-stands}
 use Rattle.recovery.specs.Causes.{start_fault_of, IsRefusedCall, MakesReadsAlone, WritesNothing, IsCause, HasFewSlots, IsRefusalBy}
 use Rattle.recovery.specs.Causes.{IsDeviceFault}
 use Rattle.recovery.specs.declared.start_fault.StartFault.{StartFault}
-use Rattle.recovery.specs.declared.start_fault.StartFault.TheVariants.{NoMemory, Read, Write, Flush, BadSuper, BadVersion, BadSize, BadHead}
+use Rattle.recovery.specs.declared.start_fault.StartFault.TheVariants.{NoMemory, Read, Write, Flush}
 use Rattle.recovery.specs.declared.start_fault.StartFault.TheVariants.{StampsUsedUp, LogTooSmall}
 use Rattle.recovery.proofs.FoundRecords.{quiet_before}
 
@@ -53,16 +53,12 @@ module _ (old mid new : State) {result : Result (Unit {0}) MediumFault} (flush :
   pub refusal_before : (least : ℕ) (fault : StartFault) → IsRefusalBy least IsQuiet mid new fault
       → IsRefusalBy least WritesNothing old new fault
   refusal_before least NoMemory h = h
-  refusal_before least Read h = refused_before medium.Read h
-  refusal_before least Write h = refused_before medium.Write h
-  refusal_before least Flush h = refused_before medium.Flush h
-  refusal_before least BadSuper h = (back (λ n i. image.HasFault n i image.BadSuper) h.0, wrote_nothing h.1)
-  refusal_before least BadVersion h = (back (λ n i. image.HasFault n i image.BadVersion) h.0, wrote_nothing h.1)
-  refusal_before least BadSize h = (back (λ n i. image.HasFault n i image.BadSize) h.0, wrote_nothing h.1)
-  refusal_before least BadHead h = (back (λ n i. image.HasFault n i image.BadHead) h.0, wrote_nothing h.1)
   refusal_before least StampsUsedUp h =
       (back (λ n i. ¬ HasFewSlots least n i) h.0, back (λ n i. image.HasNoStampLeft n i) h.1, wrote_nothing h.2)
   refusal_before least LogTooSmall h = (back (λ n i. HasFewSlots least n i) h.0, wrote_nothing h.1)
+  refusal_before least fault h =
+      let same = λ (f : image.ImageFault). back (λ n i. image.HasFault n i f) in
+      search (rules, refused_before, same, wrote_nothing)
 
 -- a start that asks for no slots is refused as a recovery is
 pub refusal_cause : (old new : State) (fault : StartFault) → IsRefusalBy 0 WritesNothing old new fault → IsCause old new fault
@@ -81,16 +77,12 @@ module _ (least : ℕ) (old new : State) (shape : Shape) (array : Array) (next :
   served_slots Read h = (medium.Read, refl)
   served_slots Write h = (medium.Write, refl)
   served_slots Flush h = (medium.Flush, refl)
-  served_slots BadSuper h = absurd (faultless image.BadSuper h.0)
-  served_slots BadVersion h = absurd (faultless image.BadVersion h.0)
-  served_slots BadSize h = absurd (faultless image.BadSize h.0)
-  served_slots BadHead h = absurd (faultless image.BadHead h.0)
   served_slots StampsUsedUp h =
       let w = h.1 in
       let same = (StandsFor-one old.size old.size w.0 shape old.content w.1 array w.2 next w.3 s).1 in
       let past = w.4 in
       absurd (omega (arith, same, past, left))
-  served_slots LogTooSmall h = absurd (some h.0)
+  served_slots fault h = absurd (search (rules, some, faultless))
 
 -- an image with this super has few slots only where the super has
 pub enough_slots : (least size : ℕ) (shape : Shape) (content : Image) → image.HasShape size shape content

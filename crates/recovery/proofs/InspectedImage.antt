@@ -1,5 +1,5 @@
 -- What a look finds is what the image stands for, and why it is refused.
-use Rattle.std.proofs.Common.{◌≡◌, ◌∙◌, inl, inr, ℕ, ◌+◌, ◌<◌, ◌≤◌, List, [], ◌∷◌, ◌++◌, length, get_or, refl, sym, ap, subst, arith}
+use Rattle.std.proofs.Common.{◌≡◌, ◌∙◌, inl, inr, ℕ, ◌+◌, ◌<◌, ◌≤◌, List, [], ◌∷◌, ◌++◌, length, get_or, refl, sym, ap, subst, arith, rules}
 use Rattle.std.specs.Prelude.{slice_index, map}
 use Rattle.std.proofs.lemmas.Bool.{cases_lt}
 use Rattle.std.proofs.lemmas.List.{ext_get_or, get_or-map, length-map, get_or_append_left, get_or_push}
@@ -21,8 +21,7 @@ use Rattle.recovery.specs.Causes.{IsRefusalBy, IsDeviceFault}
 use Rattle.recovery.specs.Inspected.{AreCounts, IsInspected, IsLookCause, IsLookRefusal}
 use Rattle.recovery.specs.declared.inspection.Inspection.{Inspection}
 use Rattle.recovery.specs.declared.start_fault.StartFault.{StartFault}
-use Rattle.recovery.specs.declared.start_fault.StartFault.TheVariants.{Read, Write, Flush, BadSuper, BadVersion, BadSize, BadHead}
-use Rattle.recovery.specs.declared.start_fault.StartFault.TheVariants.{StampsUsedUp, LogTooSmall}
+use Rattle.recovery.specs.declared.start_fault.StartFault.TheVariants.{Read, Write, Flush, NoMemory}
 
 -- the counts are those of the records, in order
 counts_same : (shape : Shape) (image : Image) (head : ℕ) (counts : List ℕ) (records : List (List Entry))
@@ -58,13 +57,8 @@ counts_stand old answer has head are =
 -- a refused look is a refused survey
 pub look_refusal : (least : ℕ) (old new : State) (fault : StartFault) → IsLookCause old new fault → IsQuiet old new
     → IsRefusalBy least IsQuiet old new fault
-look_refusal least old new BadSuper h quiet = (h, quiet)
-look_refusal least old new BadVersion h quiet = (h, quiet)
-look_refusal least old new BadSize h quiet = (h, quiet)
-look_refusal least old new BadHead h quiet = (h, quiet)
-look_refusal least old new StampsUsedUp h quiet = absurd h
-look_refusal least old new LogTooSmall h quiet = absurd h
-look_refusal least old new fault h quiet = h
+look_refusal least old new NoMemory h quiet = absurd h
+look_refusal least old new fault h quiet = search rules
 
 -- contents that stand for something have none of the faults
 pub refused_look : (old new : State) (fault : StartFault) → IsLookCause old new fault → IsLookRefusal old new fault
@@ -74,11 +68,10 @@ refused_look old new fault h = record { cause = h; served = served fault h }
     served Read h s = (medium.Read, refl)
     served Write h s = (medium.Write, refl)
     served Flush h s = (medium.Flush, refl)
-    served BadSuper h s = absurd (HasFault-stands old.size old.content image.BadSuper h s)
-    served BadVersion h s = absurd (HasFault-stands old.size old.content image.BadVersion h s)
-    served BadSize h s = absurd (HasFault-stands old.size old.content image.BadSize h s)
-    served BadHead h s = absurd (HasFault-stands old.size old.content image.BadHead h s)
-    served fault h s = absurd h
+    served NoMemory h s = absurd h
+    served fault h s =
+        let faultless = λ (f : image.ImageFault) (h : image.HasFault old.size old.content f). HasFault-stands old.size old.content f h s in
+        absurd (search (rules, faultless))
 
 -- the record of a stamp has so many blocks
 abbrev pub HasCount : Shape → Image → ℕ → ℕ → Type 0

@@ -3,7 +3,6 @@ use Rattle.std.proofs.Common.{◌≡◌, ℕ, ◌+◌, ◌*◌, ◌≤◌, List,
 use Rattle.std.specs.Prelude.{Some, OnOk}
 use Rattle.medium.specs.Medium.{Image}
 use Rattle.journal.specs.declared.log_format.LogFormat.{LogFormat}
-use Rattle.journal.specs.declared.log_format.LogFormat.TheVariants.{One, Two}
 use Rattle.journal.specs.declared.record.Record.{Record}
 use Rattle.journal.specs.Places.{Shape, limit_of}
 use Rattle.journal.specs.Record.{Entry, numbers_of}
@@ -31,16 +30,8 @@ blocks_read shape image stamp entries read whole is = rw is.numbers_are (record 
 pub calls_made : (format : LogFormat) (shape : Shape) (image : Image) (stamp : ℕ) (read : Record) (n reads old mid new : ℕ)
     → IsReadFor format shape image stamp (Some read) reads → length read.numbers.items ≡ n → mid ≡ old + reads
     → new ≡ mid + 2 * length read.numbers.items → new ≡ old + calls_of format n
-calls_made One shape image stamp read n reads old mid new is long first last = omega (arith, is, long, first, last)
-calls_made Two shape image stamp read n reads old mid new is long first last =
-    let made = is.2 in omega (arith, made, long, first, last)
+calls_made format shape image stamp read n reads old mid new is long first last = grind arith
 
 -- and at most so many
 pub most_copied : (format : LogFormat) (n : ℕ) → n ≤ limit_of format → record_reads_of format + 2 * n ≤ most_calls_of format
-most_copied One n few = omega (arith, few)
-most_copied Two n few = omega (arith, few)
-
--- those of the reads alone are fewer
-pub most_missed : (format : LogFormat) → record_reads_of format ≤ most_calls_of format
-most_missed One = omega arith
-most_missed Two = omega arith
+most_copied format n few = grind arith

@@ -101,10 +101,8 @@ try_read Two shape image stamp read reads places before mid after is made asked 
 -- the reads of a record and those of its data places
 pub most_tried : (format : LogFormat) (count : ℕ) → count ≤ 240
     → record_reads_of format + stamp_reads_of format count ≤ most_reads_of format
-most_tried One count few = omega arith
-most_tried Two count few = omega (arith, few)
+most_tried format count few = grind arith
 
 -- fewer than a slot has sectors
 pub few_tried : (format : LogFormat) → most_reads_of format ≤ 250
-few_tried One = omega arith
-few_tried Two = omega arith
+few_tried format = grind arith

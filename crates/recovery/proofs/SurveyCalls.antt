@@ -56,11 +56,9 @@ each_once_more each few many less = omega (arith, mul-le-mul_left {m = few + 1} 
 -- a whole recovery
 pub most_start : (format : LogFormat) (slots old mid seen new count : ℕ) → mid ≡ old + 1 → seen ≤ mid + 2 + most_reads_of format * slots
     → new ≤ seen + most_calls_of format * count + 3 → count ≤ slots → new ≤ old + 6 + most_start_of format * slots
-most_start One slots old mid seen new count a b c few = omega (arith, a, b, c, few)
-most_start Two slots old mid seen new count a b c few = omega (arith, a, b, c, few)
+most_start format slots old mid seen new count a b c few = grind arith
 
 -- whatever the format and the slots
 pub few_starts : (format : LogFormat) (slots old new : ℕ) → slots ≤ 64 → new ≤ old + 6 + most_start_of format * slots
     → new ≤ old + 6 + 738 * 64
-few_starts One slots old new few most = omega (arith, few, most)
-few_starts Two slots old new few most = omega (arith, few, most)
+few_starts format slots old new few most = grind arith

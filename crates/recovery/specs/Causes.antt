@@ -10,7 +10,7 @@ use Rattle.journal.specs.Sectors.{IsHead}
 pub use Rattle.journal.specs.Reads.{IsRefusedCall, MakesReadsAlone}
 use Rattle.journal.specs.ImageFaults as image
 use Rattle.recovery.specs.declared.start_fault.StartFault.{StartFault}
-use Rattle.recovery.specs.declared.start_fault.StartFault.TheVariants.{NoMemory, Read, Write, Flush}
+use Rattle.recovery.specs.declared.start_fault.StartFault.TheVariants.{Read, Write, Flush}
 use Rattle.recovery.specs.declared.start_fault.StartFault.TheVariants.{BadSuper, BadVersion}
 use Rattle.recovery.specs.declared.start_fault.StartFault.TheVariants.{BadSize, BadHead}
 use Rattle.recovery.specs.declared.start_fault.StartFault.TheVariants.{StampsUsedUp, LogTooSmall}
@@ -30,7 +30,6 @@ pub record WritesNothing (old new : State) : Type 0 where
 -- Why a start by calls such as these is refused: the medium refused a call of the kind that the
 -- fault names, or the image has this fault, and the calls were such.
 abbrev pub IsCauseBy : (State → State → Type 0) → State → State → StartFault → Type 0
-IsCauseBy Calls old new NoMemory = ⊥
 IsCauseBy Calls old new Read = IsRefusedCall old new medium.Read
 IsCauseBy Calls old new Write = IsRefusedCall old new medium.Write
 IsCauseBy Calls old new Flush = IsRefusedCall old new medium.Flush
@@ -41,7 +40,7 @@ IsCauseBy Calls old new BadVersion = image.HasFault old.size old.content image.B
 IsCauseBy Calls old new BadSize = image.HasFault old.size old.content image.BadSize × Calls old new
 IsCauseBy Calls old new BadHead = image.HasFault old.size old.content image.BadHead × Calls old new
 IsCauseBy Calls old new StampsUsedUp = image.HasNoStampLeft old.size old.content × Calls old new
-IsCauseBy Calls old new LogTooSmall = ⊥
+IsCauseBy Calls old new fault = ⊥
 
 -- why a recovery is refused: by the medium, or by the image, and then nothing was written
 abbrev pub IsCause : State → State → StartFault → Type 0
@@ -59,22 +58,11 @@ pub record HasFewSlots (least size : ℕ) (content : Image) : Type 0 where
 -- Why a start is refused that asks for so many slots of a log of format 1. They are counted before
 -- it is found that no stamp is left.
 abbrev pub IsRefusalBy : ℕ → (State → State → Type 0) → State → State → StartFault → Type 0
-IsRefusalBy least Calls old new NoMemory = ⊥
-IsRefusalBy least Calls old new Read = IsRefusedCall old new medium.Read
-IsRefusalBy least Calls old new Write = IsRefusedCall old new medium.Write
-IsRefusalBy least Calls old new Flush = IsRefusedCall old new medium.Flush
-IsRefusalBy least Calls old new BadSuper = image.HasFault old.size old.content image.BadSuper
-    × Calls old new
-IsRefusalBy least Calls old new BadVersion = image.HasFault old.size old.content image.BadVersion
-    × Calls old new
-IsRefusalBy least Calls old new BadSize = image.HasFault old.size old.content image.BadSize
-    × Calls old new
-IsRefusalBy least Calls old new BadHead = image.HasFault old.size old.content image.BadHead
-    × Calls old new
 IsRefusalBy least Calls old new StampsUsedUp = (¬ HasFewSlots least old.size old.content)
     × image.HasNoStampLeft old.size old.content × Calls old new
 IsRefusalBy least Calls old new LogTooSmall = HasFewSlots least old.size old.content
     × Calls old new
+IsRefusalBy least Calls old new fault = IsCauseBy Calls old new fault
 
 -- the medium refused a call
 abbrev pub IsDeviceFault : StartFault → Type 0

@@ -18,10 +18,9 @@ use Rattle.recovery.specs.Causes.{IsRefusedCall, MakesReadsAlone, IsDeviceFault}
 use Rattle.recovery.specs.Looks.{LooksAtLog}
 use Rattle.recovery.specs.declared.inspection.Inspection.{Inspection}
 use Rattle.recovery.specs.declared.start_fault.StartFault.{StartFault}
-use Rattle.recovery.specs.declared.start_fault.StartFault.TheVariants.{NoMemory, Read, Write, Flush}
+use Rattle.recovery.specs.declared.start_fault.StartFault.TheVariants.{Read, Write, Flush}
 use Rattle.recovery.specs.declared.start_fault.StartFault.TheVariants.{BadSuper, BadVersion}
 use Rattle.recovery.specs.declared.start_fault.StartFault.TheVariants.{BadSize, BadHead}
-use Rattle.recovery.specs.declared.start_fault.StartFault.TheVariants.{StampsUsedUp, LogTooSmall}
 
 -- As many records as there are counts are whole from the head on, without a gap, and at most as
 -- many as there are slots; and each has so many blocks.
@@ -50,7 +49,6 @@ pub record OnlyLooks (old new : State) : Type 0 where
 -- Why a look is refused: the medium refused a call, or the image has this fault. A stamp for the
 -- next record is not asked for.
 abbrev pub IsLookCause : State → State → StartFault → Type 0
-IsLookCause old new NoMemory = ⊥
 IsLookCause old new Read = IsRefusedCall old new medium.Read
 IsLookCause old new Write = IsRefusedCall old new medium.Write
 IsLookCause old new Flush = IsRefusedCall old new medium.Flush
@@ -58,22 +56,15 @@ IsLookCause old new BadSuper = image.HasFault old.size old.content image.BadSupe
 IsLookCause old new BadVersion = image.HasFault old.size old.content image.BadVersion
 IsLookCause old new BadSize = image.HasFault old.size old.content image.BadSize
 IsLookCause old new BadHead = image.HasFault old.size old.content image.BadHead
-IsLookCause old new StampsUsedUp = ⊥
-IsLookCause old new LogTooSmall = ⊥
+IsLookCause old new fault = ⊥
 
 -- what is wrong with a super on a medium of so many sectors
 abbrev pub IsSuperCause : ℕ → List ℕ → StartFault → Type 0
-IsSuperCause size sector NoMemory = ⊥
-IsSuperCause size sector Read = ⊥
-IsSuperCause size sector Write = ⊥
-IsSuperCause size sector Flush = ⊥
 IsSuperCause size sector BadSuper = IsSuperFault Magic sector ⊎ IsSuperFault Rest sector
 IsSuperCause size sector BadVersion = IsSuperFault Version sector
 IsSuperCause size sector BadSize = IsSuperFault Sizes sector
     ⊎ ((shape : Shape) × IsSuper shape sector × (size < sectors_of shape))
-IsSuperCause size sector BadHead = ⊥
-IsSuperCause size sector StampsUsedUp = ⊥
-IsSuperCause size sector LogTooSmall = ⊥
+IsSuperCause size sector fault = ⊥
 
 -- Contents that stand for something are refused by the device alone.
 pub record IsLookRefusal (old new : State) (fault : StartFault) : Type 0 where

@@ -8,7 +8,7 @@ use Rattle.journal.specs.Reading.{data_at, FindsRecord}
 use Rattle.recovery.specs.Copies.{AreBlocks, IsHomeOf}
 use Rattle.recovery.proofs.CopiedRecords.{number_of, long_as}
 use Rattle.recovery.proofs.JoinedCalls.{none_copies, all_pass, copies_on}
-use Rattle.recovery.proofs.NamedBlocks.{both_ok, blocks_read, calls_made, most_copied, most_missed}
+use Rattle.recovery.proofs.NamedBlocks.{both_ok, blocks_read, calls_made, most_copied}
 use Rattle.recovery.proofs.copies.copy_record.Given as given
 use Rattle.recovery.proofs.copies.copy_record.Goals as goal
 use Rattle.recovery.proofs.copies.copy_record.Goals.{Then-branch}
@@ -29,11 +29,11 @@ copy_blocks-requires-clause-blocks g c = blocks g (goal.at.copy_blocks-requires-
 
 pub returns-in_err-read_record-clause-copies : goal.returns-in_err-read_record-clause-copies
 returns-in_err-read_record-clause-copies g c =
-    none_copies (g.met.M.Medium.sound c.args.m.now) c.read_record.ensures.passes (most_missed c.args.sizes.now.format) (search rules)
+    none_copies (g.met.M.Medium.sound c.args.m.now) c.read_record.ensures.passes (omega (arith, most_copied c.args.sizes.now.format 0)) (search rules)
 
 pub returns-else-branch-clause-copies : goal.returns-else-branch-clause-copies
 returns-else-branch-clause-copies g c =
-    none_copies (g.met.M.Medium.sound c.args.m.now) c.read_record.ensures.passes (most_missed c.args.sizes.now.format) tt
+    none_copies (g.met.M.Medium.sound c.args.m.now) c.read_record.ensures.passes (omega (arith, most_copied c.args.sizes.now.format 0)) tt
 
 -- there is a record
 pub returns-else-branch-clause-done : goal.returns-else-branch-clause-done
