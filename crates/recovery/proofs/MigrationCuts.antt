@@ -1,5 +1,5 @@
 -- What a cut leaves while an image of format 1 becomes one of format 2.
-use Rattle.std.proofs.Common.{◌≡◌, ◌≢◌, ◌⊎◌, inl, inr, ⊎_elim, ℕ, ◌+◌, ◌*◌, ◌<◌, ◌≤◌, List, length, refl, sym, ◌∙◌, subst, arith}
+use Rattle.std.proofs.Common.{◌≡◌, ◌≢◌, ◌⊎◌, inl, inr, ⊎_elim, ℕ, ◌+◌, ◌*◌, ◌<◌, ◌≤◌, List, length, refl, sym, ◌∙◌, subst, arith, rules}
 use Rattle.std.specs.Prelude.{replicate, min}
 use Rattle.std.proofs.lemmas.Bool.{cases_lt}
 use Rattle.medium.specs.Medium.{State, Image, CutLeaves, Holds, IsSound}
@@ -55,38 +55,32 @@ module _ (shape : Shape) (array : Array) (next : ℕ) (before image : Image) (fr
 module _ (shape : Shape) (array : Array) (next : ℕ) (old cleared : State) (least : 1 ≤ next) (flushed : IsFlushed old)
     (fresh : IsFresh shape array next old.content) (sound_cleared : IsSound cleared)
     (within : StaysWithin (cleared_at (IsBetween 2 (first_home shape)) old.may_leave) old cleared) where
-  wiped : LeavesOnly (IsFresh shape array next) old cleared
-  wiped = weaker (CutLeaves (cleared_at (IsBetween 2 (first_home shape)) old.may_leave)) (IsFresh shape array next) old cleared
+  -- while the log is wiped
+  pub wiped : LeavesOnly (IsFresh shape array next) old cleared
+  wiped = weaker _ _ _ _
       (λ image cut. still_fresh shape array next old.content image fresh least
       (⊎_elim (λ was. subst (IsHead next) (sym (flushed 1 (image 1) was)) fresh.head) (λ zeros. absurd (omega (arith, zeros.0.0))) (cut 1))
       (λ x apart. ⊎_elim (λ was. inl (flushed x (image x) was)) (λ zeros. inr zeros) (cut x))) within
 
-  -- while the log is wiped
-  pub wiped_leaves : LeavesOnly (IsFreshInEither shape array next) old cleared
-  wiped_leaves = weaker (IsFresh shape array next) (IsFreshInEither shape array next) old cleared (λ image f. inl f) wiped
-
   module _ (headed : State)
       (moments : LeavesOnly (λ image. CutLeaves cleared.may_leave image ⊎ HasNewHead next cleared.content image) cleared headed) where
-    rehead : LeavesOnly (IsFresh shape array next) old headed
+    -- and the head is written
+    pub rehead : LeavesOnly (IsFresh shape array next) old headed
     rehead =
         let each = at_exit (IsFresh shape array next) old cleared sound_cleared wiped in
         joined_same (IsFresh shape array next) old cleared headed wiped
-        (weaker (λ image. CutLeaves cleared.may_leave image ⊎ HasNewHead next cleared.content image) (IsFresh shape array next) cleared
-        headed
+        (weaker _ _ _ _
         (λ image either. ⊎_elim (each image)
         (λ moved. still_fresh shape array next cleared.content image (each cleared.content sound_cleared.holds_content) least moved.head
         (λ x apart. inl (moved.elsewhere x apart))) either) moments)
-
-    -- and the head is written
-    pub headed_leaves : LeavesOnly (IsFreshInEither shape array next) old headed
-    headed_leaves = weaker (IsFresh shape array next) (IsFreshInEither shape array next) old headed (λ image f. inl f) rehead
 
     -- and the super of format 2
     pub made_leaves : (new : State) (bytes : List ℕ) → IsSound headed → IsFlushed headed
         → ((x : ℕ) → 2 ≤ x → x < first_home shape → headed.content x ≡ replicate 512 0) → IsSuper (migrated shape) bytes
         → LeavesOnly (WithOrWithout 0 bytes headed.may_leave) headed new → LeavesOnly (IsFreshInEither shape array next) old new
-    made_leaves new bytes sound done zeros super last = joined_same (IsFreshInEither shape array next) old headed new headed_leaves
-        (weaker (WithOrWithout 0 bytes headed.may_leave) (IsFreshInEither shape array next) headed new
+    made_leaves new bytes sound done zeros super last = joined_same (IsFreshInEither shape array next) old headed new
+        (weaker _ _ _ _ (λ image f. inl f) rehead)
+        (weaker _ _ _ _
         (λ image either. ⊎_elim (λ cut. inl (each image cut)) (λ w. inr (made image w.0 w.1 w.2)) either) last)
       where
         each : EachCut (IsFresh shape array next) headed
@@ -104,16 +98,7 @@ module _ (shape : Shape) (array : Array) (next : ℕ) (old cleared : State) (lea
 -- what a recovery leaves
 pub recovery_leaves : (old new : State) → LeavesAtLeast 5 old new → MigrationLeaves old new
 recovery_leaves old new leaves = record {
-  cuts = λ each. weaker (StandsForOneOf old) (StandsInEither old) old new
-      (λ image o. record {
-        before = o.before;
-        allowed = o.allowed;
-        shape = o.shape;
-        array = o.array;
-        next = o.next;
-        was = o.was;
-        is = inl o.is;
-      }) (leaves.all.cuts each);
+  cuts = λ each. weaker (StandsForOneOf old) (StandsInEither old) _ _ (λ image o. search (rules, o)) (leaves.all.cuts each);
   after_flush = λ shape array next ours more image since. inl (leaves.all.after_flush shape array next ours more image since);
   spares = leaves.all.spares;
   small = leaves.small;
@@ -133,26 +118,13 @@ module _ (old mid : State) (found : Recovered) (recovered : IsRecoveredFrom old 
   pub can_migrate : CanMigrate (shape_of found.sizes)
   can_migrate = record {
     one = one;
-    room = ⊎_elim
-        (λ few. absurd (enough (record {
-          shape = shape_of found.sizes;
-          has = has_shape;
-          head = recovered.stood.head;
-          head_is = recovered.stood.keeps.head_is;
-          one = one;
-          few = few;
-        })))
-        (λ room. room) (cases_lt found.sizes.slots 5);
+    room = ⊎_elim (λ few. absurd (search (rules, enough, has_shape, few))) (λ room. room) (cases_lt found.sizes.slots 5);
   }
 
   -- the calls of a recovery of format 1
   tried : mid.calls ≡ old.calls + 6 + copy_calls One recovered.stood.records
       + 2 * min (length recovered.stood.records + 1) found.sizes.slots
-  tried =
-      subst
-      (λ (f : LogFormat). AreTriesOf f (shape_of found.sizes) old.content recovered.stood.head
-      (min (length recovered.stood.records + 1) found.sizes.slots) (old.calls + 6 + copy_calls f recovered.stood.records) mid.calls)
-      one recovered.calls
+  tried = let calls = rw one at recovered.calls in omega (arith, calls)
 
   module _ (new : State) (spares : SparesFrom (first_home (shape_of found.sizes)) mid new) where
     -- the home sectors hold what recovery left there
@@ -173,8 +145,7 @@ module _ (old mid : State) (found : Recovered) (recovered : IsRecoveredFrom old 
           ours.stands recovered.stood in
           let here = rw (same.0, same.1) at ours in
           rw (same.0, same.1)
-          (weaker (IsFreshInEither (shape_of found.sizes) array found.next)
-          (IsOursInEither old.size (shape_of found.sizes) array found.next) mid new
+          (weaker _ _ _ _
           (λ image either. ⊎_elim
           (λ was. inl (inr (fresh_ours old.size (shape_of found.sizes) array found.next image recovered.stood.fits was)))
           (λ two. inr (
@@ -189,16 +160,7 @@ module _ (old mid : State) (found : Recovered) (recovered : IsRecoveredFrom old 
         cuts = λ each.
             let e = each old.content sound_old.holds_content in
             joined_same (StandsInEither old) old mid new (first.cuts each)
-            (weaker (IsOursInEither old.size e.0 e.1 e.2) (StandsInEither old) mid new
-            (λ image is. record {
-              before = old.content;
-              allowed = sound_old.holds_content;
-              shape = e.0;
-              array = e.1;
-              next = e.2;
-              was = e.3;
-              is = is;
-            })
+            (weaker (IsOursInEither old.size e.0 e.1 e.2) (StandsInEither old) _ _ (λ image is. search (rules, e.3, is, sound_old.holds_content))
             (leaves_ours e.0 e.1 e.2 e.3));
         after_flush = λ shape array next ours more image since. ⊎_elim
             (λ was. first.after_flush shape array next ours (omega (arith, tried)) image was) (λ now. now)

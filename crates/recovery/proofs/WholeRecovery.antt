@@ -1,5 +1,5 @@
 -- A whole recovery: a flush, reads, copies and the new head; and what it leaves up to each of its exits.
-use Rattle.std.proofs.Common.{◌≡◌, ◌⊎◌, inl, inr, ⊎_elim, ℕ, ◌+◌, ◌*◌, ◌<◌, ◌≤◌, List, [], length, get_or, sym, ◌∙◌, ap, subst, arith}
+use Rattle.std.proofs.Common.{◌≡◌, ◌⊎◌, inl, inr, ⊎_elim, ℕ, ◌+◌, ◌*◌, ◌<◌, ◌≤◌, List, [], length, get_or, sym, ◌∙◌, ap, subst, arith, rules}
 use Rattle.std.specs.Prelude.{min, Result}
 use Rattle.medium.specs.Medium.{State, Image, CutLeaves, Stays, Within, Only, Passes, LooksOnly, IsSound}
 use Rattle.medium.specs.Moments.{EachCut, IsFlushed, LeavesOnly, IsQuiet, SparesFrom}
@@ -120,10 +120,10 @@ module _ (least : ℕ) (old mid seen : State) {result : Result (Unit {0}) Medium
   seen_after : (shape : Shape) (array : Array) (next : ℕ) → IsOurs old.size shape old.content array next → (image : Image)
       → seen.left_since (old.calls + 1) image → IsOursWithNext old.size shape array next image
   seen_after shape array next ours image since =
-      let here : seen.left_since mid.calls image = subst (λ (t : ℕ). seen.left_since t image) (sym counted) since in
+      let here = rw (← counted) at since in
       let is = only_image old.content mid.may_leave known.only image
       (⊎_elim (λ was. known.sound.only_now image was) (λ now. now) (known.reads.quiet.nothing_else mid.calls image (omega arith) here)) in
-      inl (subst (λ (i : Image). IsOurs old.size shape i array next) (sym is) ours)
+      inl (rw is ours)
 
   -- and the survey
   pub survey_leaves : LeavesAtLeast least old seen
@@ -166,33 +166,25 @@ module _ (least : ℕ) (old mid seen : State) {result : Result (Unit {0}) Medium
         (calls : later.calls ≤ seen.calls + most_calls_of found.sizes.format * found.count + 3)
         (sends : SendsUpTo (limit_of found.sizes.format * found.count + 3) seen later)
         (looks : LooksOnly (λ s. s < first_home (shape_of found.sizes)) seen later) where
+      -- so for each shape that the super names
+      leaves_any : (other : Shape) (array : Array) (next : ℕ) → IsOurs old.size other old.content array next
+          → LeavesOnly (IsOursWithNext old.size other array next) seen later
+      leaves_any other array next ours =
+          let is = one_shape other ours.stands.keeps.super in rw is (leaves array next (rw is at ours))
+
       later_cuts : EachCut (IsOursForSome old.size) old → LeavesOnly (StandsForOneOf old) old later
       later_cuts each =
           let sound = known.flush.sound in
           let e = each old.content sound.holds_content in
-          let ours : IsOurs old.size shape old.content e.1 e.2 =
-          subst (λ (s : Shape). IsOurs old.size s old.content e.1 e.2) (one_shape e.0 e.3.stands.keeps.super) e.3 in
-          joined_same (StandsForOneOf old) old seen later (survey_leaves.all.cuts each)
-          (weaker (IsOursWithNext old.size shape e.1 e.2) (StandsForOneOf old) seen later
-          (λ image is. record {
-            before = old.content;
-            allowed = sound.holds_content;
-            shape = shape;
-            array = e.1;
-            next = e.2;
-            was = ours;
-            is = is;
-          })
-          (leaves e.1 e.2 ours))
+          joined_same _ old seen later (survey_leaves.all.cuts each)
+          (weaker (IsOursWithNext old.size e.0 e.1 e.2) (StandsForOneOf old) _ _ (λ image is. search (rules, e.3, is, sound.holds_content))
+          (leaves_any e.0 e.1 e.2 e.3))
 
       later_after : (other : Shape) (array : Array) (next : ℕ) → IsOurs old.size other old.content array next → (image : Image)
           → later.left_since (old.calls + 1) image → IsOursWithNext old.size other array next image
       later_after other array next ours image since =
-          let is : other ≡ shape = one_shape other ours.stands.keeps.super in
-          let here = subst (λ (s : Shape). IsOurs old.size s old.content array next) is ours in
-          ⊎_elim (λ was. seen_after other array next ours image was)
-          (λ now. subst (λ (s : Shape). IsOursWithNext old.size s array next image) (sym is) now)
-          ((leaves array next here).before (old.calls + 1) image (omega (arith, counted, known.reads.quiet.later)) since)
+          ⊎_elim (λ was. seen_after other array next ours image was) (λ now. now)
+          ((leaves_any other array next ours).before (old.calls + 1) image (omega (arith, counted, known.reads.quiet.later)) since)
 
       few_made : later.calls ≤ old.calls + 6 + most_start_of found.sizes.format * found.sizes.slots
       few_made = most_start found.sizes.format found.sizes.slots old.calls mid.calls seen.calls later.calls found.count counted
@@ -206,8 +198,7 @@ module _ (least : ℕ) (old mid seen : State) {result : Result (Unit {0}) Medium
           spares = found_spares found old seen later known.flush.sound quiet at_old spares;
           moments = joined_same (λ _. Unit {0}) old seen later survey_leaves.all.moments (calls_made _ seen later spares.moments);
           calls = few_starts found.sizes.format found.sizes.slots old.calls later.calls found.sizes.most_slots few_made;
-          most = λ other has. subst (λ (s : Shape). later.calls ≤ old.calls + 6 + most_start_of s.format * s.slots)
-              (sym (one_shape other has.super)) few_made;
+          most = λ other has. rw (one_shape other has.super) few_made;
           sends = found_sent old later found at_old
               (omega (arith, flush_sends old mid known.flush.passes, none_sent mid seen known.reads.reads, sends));
           looks = looked_on shape old seen later at_old.shape survey_leaves.all.looks looks;
@@ -220,7 +211,7 @@ module _ (least : ℕ) (old mid seen : State) {result : Result (Unit {0}) Medium
         → (image x ≡ old.content x) ⊎ AreTargets found old.content x
     each_sector image cut x = ⊎_elim
         (λ left. inl (known.only x (image x) (known.reads.quiet.sets_shrink x (image x) left)))
-        (λ home. inr (subst (λ (i : Image). AreTargets found i x) same home)) (cut x)
+        (λ home. inr (rw same at home)) (cut x)
 
     copied_ours : (array : Array) (next : ℕ) → IsOurs old.size (shape_of found.sizes) old.content array next → (image : Image)
         → CutLeaves (freed_at (AreTargets found seen.content) seen.may_leave) image
@@ -231,14 +222,13 @@ module _ (least : ℕ) (old mid seen : State) {result : Result (Unit {0}) Medium
 
     copied_leaves : LeavesOurs copied
     copied_leaves array next ours =
-        weaker (CutLeaves (freed_at (AreTargets found seen.content) seen.may_leave)) (IsOursWithNext old.size shape array next) _ _
-        (λ image cut. inl (copied_ours array next ours image cut)) copying.copies.moments
+        weaker _ _ _ _ (λ image cut. inl (copied_ours array next ours image cut)) copying.copies.moments
 
     copied_spares : SparesFrom (sectors_of (shape_of found.sizes)) seen copied
     copied_spares =
         let apart = not_behind shape seen.content found.head found.count in
         spared_by (sectors_of shape) seen copied copying.sound (λ s le. copying.copies.elsewhere s (apart s le))
-        (weaker (CutLeaves (freed_at (AreTargets found seen.content) seen.may_leave)) (HasSpared (sectors_of shape) seen) seen copied
+        (weaker _ _ _ _
         (λ image cut s le. ⊎_elim (λ was. was) (λ place. absurd (apart s le place)) (cut s)) copying.copies.moments)
 
     -- and the copies
@@ -256,8 +246,7 @@ module _ (least : ℕ) (old mid seen : State) {result : Result (Unit {0}) Medium
           → AreCopied (shape_of found.sizes) s.records seen copied
       all_copied array next s =
           let f = found_matches old.size old.content found at_old array next s in
-          moving.done s.records f.1 (λ k less. subst (λ (i : Image). IsWhole shape i (found.head + k) (get_or s.records k [])) (sym same)
-          (subst (λ (n : ℕ). IsWhole shape old.content (n + k) (get_or s.records k [])) (sym f.0) (s.keeps.whole k less)))
+          moving.done s.records f.1 (λ k less. rw (same, f.0) (s.keeps.whole k less))
 
       copied_home : (array : Array) (next : ℕ) → StandsFor old.size (shape_of found.sizes) old.content array next → (b : ℕ)
           → b < found.sizes.blocks → copied.content (first_home (shape_of found.sizes) + b) ≡ array b
@@ -270,13 +259,12 @@ module _ (least : ℕ) (old mid seen : State) {result : Result (Unit {0}) Medium
           let f = found_matches old.size old.content found at_old array next ours.stands in
           let is : found.head + found.count + 1 ≡ next = omega (arith, f.0, f.1, ours.stands.next_is) in
           new_head_fresh old.size shape old.content array next ours copied.content image copied_log
-          (copied_home array next ours.stands) (subst (λ (n : ℕ). HasNewHead n copied.content image) is moved)
+          (copied_home array next ours.stands) (rw is at moved)
 
       moved_leaves : LeavesOurs new
       moved_leaves array next ours =
-          joined_same (IsOursWithNext old.size shape array next) seen copied new (copied_leaves array next ours)
-          (weaker (λ image. CutLeaves copied.may_leave image ⊎ HasNewHead (found.head + found.count + 1) copied.content image)
-          (IsOursWithNext old.size shape array next) copied new
+          joined_same _ seen copied new (copied_leaves array next ours)
+          (weaker _ _ _ _
           (λ image either. ⊎_elim
           (λ cut. at_exit (IsOursWithNext old.size shape array next) seen copied copying.sound (copied_leaves array next ours) image cut)
           (λ moved. inr (fresh_ours old.size shape array next image at_old.shape.fits (moved_fresh array next ours image moved)))
@@ -295,10 +283,7 @@ module _ (least : ℕ) (old mid seen : State) {result : Result (Unit {0}) Medium
             → EachCut (IsFresh other array next) new
         recovery_fresh other array next ours image cut =
             let is : other ≡ shape = one_shape other ours.stands.keeps.super in
-            let here = subst (λ (s : Shape). IsOurs old.size s old.content array next) is ours in
-            subst (λ (s : Shape). IsFresh s array next image) (sym is)
-            (subst (IsFresh shape array next) (sym (only_image new.content new.may_leave done image cut))
-            (moved_fresh array next here new.content head))
+            rw (is, only_image new.content new.may_leave done image cut) (moved_fresh array next (rw is at ours) new.content head)
 
         pub recovery_from : new.calls ≡ copied.calls + 3
             → IsRecoveredAtLeast least old new (record { sizes = found.sizes; next = found.head + found.count + 1 })

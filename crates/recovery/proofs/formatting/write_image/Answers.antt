@@ -84,16 +84,12 @@ returns g c =
           λ x low high. done.0.elsewhere x (λ e. omega (arith, low, e)) ∙ has.1 x low high in
           let behind : (x : ℕ) → c.args.end ≤ x → new.content x ≡ old.content x =
           λ x past. done.0.elsewhere x (λ e. omega (arith, e, past, c.requires.log, home)) ∙ has.2 x past in
-          record {
-            flushed = done.1;
-            super = super;
-            head = head;
-            zeros = zeros;
-            behind = behind;
-            ours = zeros_ours new.size shape array new.content (omega (arith, c.requires.fits, size)) super head
+          search (
+            rules,
+            zeros_ours new.size shape array new.content (omega (arith, c.requires.fits, size)) super head
                 (λ x low high. zeros x low (omega (arith, high, c.requires.log)))
-                (home_made shape c.args.end old.content new.content array from (omega (arith, home)) zeros behind);
-          })
+                (home_made shape c.args.end old.content new.content array from (omega (arith, home)) zeros behind),
+          ))
           c.write_through-3.ensures.done;
       leaves = λ array from.
           let before = headed g at.After-write_through-2 (cleared g at.After-clear) in

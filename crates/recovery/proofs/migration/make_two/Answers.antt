@@ -1,4 +1,5 @@
-use Rattle.std.proofs.Common.{◌≡◌, ◌+◌, ◌*◌, ◌≤◌, ap, subst, ◌∙◌, rules, arith}
+use Rattle.std.proofs.Common.{◌≡◌, inl, ◌+◌, ◌*◌, ◌≤◌, ap, subst, ◌∙◌, rules, arith}
+use Rattle.medium.proofs.Moments.{weaker}
 use Rattle.medium.proofs.SparedSectors.{spared_behind, spared_joined}
 use Rattle.journal.specs.declared.log_format.LogFormat.{LogFormat}
 use Rattle.journal.specs.declared.log_format.LogFormat.TheVariants.{One}
@@ -9,7 +10,7 @@ use Rattle.journal.specs.Values.{shape_of}
 use Rattle.recovery.specs.Migrated.{MakingLeaves}
 use Rattle.recovery.proofs.CopiedRecords.{log_ends}
 use Rattle.recovery.proofs.MadeImage.{clear_spares, through_spares}
-use Rattle.recovery.proofs.MigrationCuts.{wiped_leaves, headed_leaves, made_leaves}
+use Rattle.recovery.proofs.MigrationCuts.{wiped, rehead, made_leaves}
 use Rattle.recovery.proofs.migration.make_two.Given as given
 use Rattle.recovery.proofs.migration.make_two.Goals as goal
 use Rattle.recovery.proofs.migration.make_two.Goals.{After-clear, After-move_head, After-write_through}
@@ -19,14 +20,14 @@ home_one : (sizes : Super) → sizes.format ≡ One → sizes.home ≤ 2 + 50 * 
 home_one sizes one = let home = subst (λ (f : LogFormat). IsFirstHome f sizes.slots sizes.home) one sizes.home_is in omega (arith, home)
 
 -- while the log is wiped
-wiped : (g : given.Over) (c : After-clear g)
+wiping : (g : given.Over) (c : After-clear g)
     → MakingLeaves (shape_of c.args.found.now.sizes) c.args.found.now.next (g.M.Medium.state c.args.m.now) (g.M.Medium.state c.clear.new.m)
-wiped g c =
+wiping g c =
     let cleared = rw (ap (λ (s : Shape). s.home) c.migrated-sizes.ensures) at c.clear.ensures.clears in
     let sound = g.met.M.Medium.sound c.clear.new.m in
     let same = ap (λ (s : Shape). s.home) c.migrated-sizes.ensures in
     record {
-      cuts = λ array fresh. wiped_leaves _ array _ _ _ c.requires.least c.requires.flushed fresh sound cleared.moments;
+      cuts = λ array fresh. weaker _ _ _ _ (λ image f. inl f) (wiped _ array _ _ _ c.requires.least c.requires.flushed fresh sound cleared.moments);
       spares = clear_spares 2 _ _ _ sound cleared.elsewhere cleared.moments;
       sends = omega (arith, c.clear.ensures.follows.sent, same, home_one c.args.found.now.sizes c.requires.can.one);
       looked_stays = c.clear.ensures.follows.looks.looked_stays;
@@ -44,7 +45,8 @@ headed g c before =
     let sizes = c.args.found.now.sizes in
     let same = ap (λ (s : Shape). s.home) c.migrated-sizes.ensures in
     record {
-      cuts = λ array fresh. headed_leaves _ array _ _ _ c.requires.least c.requires.flushed fresh sound cleared.moments _ moves.moments;
+      cuts = λ array fresh. weaker _ _ _ _ (λ image f. inl f)
+          (rehead _ array _ _ _ c.requires.least c.requires.flushed fresh sound cleared.moments _ moves.moments);
       spares = spared_joined _ _ _ _ before.spares
           (spared_behind 2 sizes.home _ _ (omega (arith, log_ends (shape_of sizes) sizes.home_is)) moves.spares);
       sends = omega (arith, c.clear.ensures.follows.sent, same, c.move_head.ensures.follows.sent, home_one sizes c.requires.can.one);
@@ -84,19 +86,19 @@ made g c before =
     }
 
 pub returns-in_err-clear : goal.returns-in_err-clear
-returns-in_err-clear g c = search (rules, wiped g (goal.at.returns-in_err-clear g c).After-clear)
+returns-in_err-clear g c = search (rules, wiping g (goal.at.returns-in_err-clear g c).After-clear)
 
 pub returns-in_err-move_head : goal.returns-in_err-move_head
 returns-in_err-move_head g c =
     let at = goal.at.returns-in_err-move_head g c in
-    search (rules, headed g at.After-move_head (wiped g at.After-clear))
+    search (rules, headed g at.After-move_head (wiping g at.After-clear))
 
 pub returns-in_err-write_through : goal.returns-in_err-write_through
 returns-in_err-write_through g c =
     let at = goal.at.returns-in_err-write_through g c in
     search (
       rules,
-      made g at.After-write_through (headed g at.After-move_head (wiped g at.After-clear)),
+      made g at.After-write_through (headed g at.After-move_head (wiping g at.After-clear)),
       g.met.M.Medium.follows_through,
     )
 
@@ -105,6 +107,6 @@ returns g c =
     let at = goal.at.returns g c in
     search (
       rules,
-      made g at.After-write_through (headed g at.After-move_head (wiped g at.After-clear)),
+      made g at.After-write_through (headed g at.After-move_head (wiping g at.After-clear)),
       g.met.M.Medium.follows_through,
     )

@@ -14,46 +14,25 @@ use Rattle.recovery.proofs.recovery.recover_at_least.Goals.{After-flush, After-i
 -- the flush
 flush : (g : given.Over) (c : After-flush g)
     → IsFlush c.flush.result (g.M.Medium.state c.args.m.now) (g.M.Medium.state c.flush.new.self)
-flush g c = record {
-  sound = g.met.M.Medium.sound c.args.m.now;
-  passes = c.flush.ensures.passes;
-  content = c.flush.ensures.content;
-  sets = c.flush.ensures.sets;
-}
+flush g c = search (rules, g.met.M.Medium.sound)
 
 -- and the survey
 survey : (g : given.Over) (c : After-inspect g)
     → IsFlush c.flush.result (g.M.Medium.state c.args.m.now) (g.M.Medium.state c.flush.new.self)
     → IsSurveyed c.flush.result (g.M.Medium.state c.args.m.now) (g.M.Medium.state c.flush.new.self) (g.M.Medium.state c.inspect.new.m)
-survey g c first = record {
-  flush = first;
-  sound = g.met.M.Medium.sound c.flush.new.self;
-  only = c.in_ok-flush.ensures.ok;
-  reads = c.inspect.ensures.reads;
-}
+survey g c first = search (rules, g.met.M.Medium.sound)
 
 -- the copies of what it found
 copying : (g : given.Over) (c : After-copy_records g)
     → IsCopying c.args.least (g.M.Medium.state c.flush.new.self) (g.M.Medium.state c.inspect.new.m) (g.M.Medium.state c.copy_records.new.m)
     c.in_ok-found.found c.copy_records.result
-copying g c = record {
-  survey = c.in_ok-found.ensures.ok;
-  sound = g.met.M.Medium.sound c.copy_records.new.m;
-  copies = c.copy_records.ensures.copies;
-  sends = c.copy_records.ensures.follows.sent;
-  looks = c.copy_records.ensures.follows.looks;
-}
+copying g c = search (rules, c.in_ok-found.ensures.ok, g.met.M.Medium.sound)
 
 -- and the move of the head
 moving : (g : given.Over) (c : After-move_head g)
     → IsMoving (g.M.Medium.state c.inspect.new.m) (g.M.Medium.state c.copy_records.new.m) (g.M.Medium.state c.move_head.new.m)
     c.in_ok-found.found c.move_head.result
-moving g c = record {
-  done = c.in_ok-copy_records.ensures.done;
-  moves = c.move_head.ensures.moves;
-  sends = c.move_head.ensures.follows.sent;
-  looks = c.move_head.ensures.follows.looks;
-}
+moving g c = search (rules, c.in_ok-copy_records.ensures.done)
 
 pub copy_records-requires-clause-whole : goal.copy_records-requires-clause-whole
 copy_records-requires-clause-whole g c j below =
@@ -80,14 +59,9 @@ returns-in_err-found g c =
     let at = goal.at.returns-in_err-found g c in
     let known = survey g at.After-inspect (flush g at.After-flush) in
     let p = err_from_is_err_and c.from_residual-in_err-found.result c.from_residual-in_err-found.ensures.1 in
-    record {
-      ok = search rules;
-      fresh = search rules;
-      err = rw (p.1, p.2) (refusal_before _ _ _ known.flush.passes (flushed c.args.least _ _ known.flush) known.reads.reads
-          c.args.least c.in_err-found.field-0.0 c.in_err-found.ensures.err);
-      leaves = survey_leaves c.args.least _ _ _ known;
-      follows = search rules;
-    }
+    let err = refusal_before _ _ _ known.flush.passes (flushed c.args.least _ _ known.flush) known.reads.reads c.args.least
+    c.in_err-found.field-0.0 c.in_err-found.ensures.err in
+    rw (p.1, p.2) (search (rules, err, survey_leaves c.args.least _ _ _ known, g.met.M.Medium.follows_through))
 
 pub returns-in_err-copy_records : goal.returns-in_err-copy_records
 returns-in_err-copy_records g c = record {

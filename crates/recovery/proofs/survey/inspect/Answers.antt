@@ -78,23 +78,10 @@ returns-then-head-count g c =
     let known = counted g at.In_ok-count read.quiet in
     let calls : mid.calls ≡ (g.M.Medium.state c.args.m.now).calls + 2 =
     omega (arith, c.in_ok-sizes.ensures.reads.exact, c.read.ensures.passes.calls_are) in
-    record {
-      reads = records_read g at.After-count_whole read;
-      ok = record {
-        is = record {
-          shape = c.in_ok-sizes.ensures.ok;
-          head = known.0;
-          count = known.1;
-          stamp_left = omega (arith, c.if-head-count.true);
-        };
-        room = known.2;
-        exact = rw (← calls)
-            (quiet_before (λ n i. AreTries shape i c.in-Some.head.stamp tries mid.calls new.calls) _ mid read.quiet
-            c.in_ok-count.ensures.finds.exact);
-      };
-      err = search rules;
-      follows = search (rules, g.met.M.Medium.follows_through);
-    }
+    let exact = rw calls at
+    (quiet_before (λ n i. AreTries shape i c.in-Some.head.stamp tries mid.calls new.calls) _ mid read.quiet
+    c.in_ok-count.ensures.finds.exact) in
+    search (rules, records_read g at.After-count_whole read, known, exact, g.met.M.Medium.follows_through)
 
 pub returns-else-head-count : goal.returns-else-head-count
 returns-else-head-count g c =
@@ -106,16 +93,7 @@ returns-else-head-count g c =
     let known = counted g at.In_ok-count read.quiet in
     let reads = records_read g at.After-count_whole read in
     let s = count_stands old.size shape old.content c.in-Some.head.stamp c.in_ok-count.count has.fits has.super known.0 known.1 in
-    record {
-      reads = reads;
-      ok = search rules;
-      err = (
-        known.2,
-        (shape, s.array, c.in-Some.head.stamp + c.in_ok-count.count + 1, s.stands, omega (arith, c.if-head-count.false)),
-        reads.quiet,
-      );
-      follows = search (rules, g.met.M.Medium.follows_through);
-    }
+    search (rules, reads, known, s, g.met.M.Medium.follows_through)
 
 pub returns-in_err-count : goal.returns-in_err-count
 returns-in_err-count g c =
@@ -126,12 +104,8 @@ pub returns-in_err-sizes : goal.returns-in_err-sizes
 returns-in_err-sizes g c =
     let p = err_from_is_err_and c.from_residual.result c.from_residual.ensures.1 in
     let quiet = c.read_super.ensures.reads.quiet in
-    record {
-      reads = search (rules, quiet, super_looked _ _ c.read_super.ensures.follows.1);
-      ok = search rules;
-      err = rw (p.1, p.2) (look_refusal c.args.least _ _ c.in_err-sizes.field-0.0 c.in_err-sizes.ensures.err quiet);
-      follows = search rules;
-    }
+    let looked = super_looked _ _ c.read_super.ensures.follows.1 in
+    rw (p.1, p.2) (search (rules, quiet, looked, look_refusal c.args.least _ _ c.in_err-sizes.field-0.0 c.in_err-sizes.ensures.err quiet))
 
 pub returns-in_err-read : goal.returns-in_err-read
 returns-in_err-read g c = search (rules, head_read g (goal.at.returns-in_err-read g c).After-read)
