@@ -1,5 +1,5 @@
 -- How many writes and flushes a recovery makes.
-use Rattle.std.proofs.Common.{◌≡◌, ℕ, ◌+◌, ◌*◌, ◌≤◌, arith}
+use Rattle.std.proofs.Common.{◌≡◌, ℕ, ◌+◌, ◌*◌, ◌≤◌, arith, mul-le-mul_left}
 use Rattle.medium.specs.Medium.{State}
 use Rattle.medium.specs.Sent.{sent, SendsUpTo}
 use Rattle.journal.specs.declared.log_format.LogFormat.{LogFormat}
@@ -12,7 +12,6 @@ use Rattle.recovery.specs.Found.{IsFound}
 use Rattle.recovery.specs.Migrated.{most_migration_sends}
 use Rattle.recovery.specs.Recovered.{RecoverySends}
 use Rattle.recovery.specs.declared.found.Found.{Found}
-use Rattle.recovery.proofs.SurveyCalls.{each_of_more}
 
 -- a flush, and perhaps reads
 pub few_sent : (old new : State) → SendsUpTo 1 old new → RecoverySends old new
@@ -27,11 +26,7 @@ pub found_sent : (old new : State) (found : Found) → IsFound old.size old.cont
     → SendsUpTo (limit_of found.sizes.format * found.count + 4) old new → RecoverySends old new
 found_sent old new found is sends =
     let all : SendsUpTo (most_start_sends found.sizes.format found.sizes.slots) old new =
-    omega (
-      arith,
-      each_of_more (limit_of found.sizes.format) found.count found.sizes.slots (sent old + 4) (sent new) is.count.few
-          (omega (arith, sends)),
-    ) in
+    omega (arith, mul-le-mul_left (limit_of found.sizes.format) is.count.few, sends) in
     record {
       most = λ shape has. rw (IsSuper-one shape (shape_of found.sizes) (old.content 0) has.super is.shape.super) all;
       none = λ no. absurd (no (shape_of found.sizes) is.shape);

@@ -16,19 +16,12 @@ module _ (L : Layout) (laws : Laws L) (shape : Shape) (image : Image) where
   last_carries : (stamp : ℕ) (es : List Entry) → IsWholeIn L shape image stamp es
       → L.carries (L.slot_sectors - 1) stamp (image (slot_at L shape stamp + (L.slot_sectors - 1)))
   last_carries stamp es w =
-      let some = laws.some_parts (length es) in
-      let inside : L.parts (length es) - 1 < L.parts (length es) = omega (arith, some) in
+      let last = L.parts (length es) - 1 in
+      let inside : last < L.parts (length es) = omega (arith, laws.some_parts (length es)) in
       let late = laws.last_is_late (length es) in
-      let there = w.there (L.parts (length es) - 1) inside in
-      let o : L.offset (length es) (L.parts (length es) - 1) ≡ L.slot_sectors - 1 = laws.last (length es) in
-      let carried : L.carries (L.offset (length es) (L.parts (length es) - 1)) stamp (L.part stamp es (L.parts (length es) - 1)) =
-      ⊎_elim (λ early. absurd (omega (arith, early, late))) (λ c. c)
-      (laws.carries shape.blocks stamp es (L.parts (length es) - 1) (record { fit = w.fit; least = w.least; below = w.below })
-      inside) in
-      let here : L.carries (L.offset (length es) (L.parts (length es) - 1)) stamp
-      (image (slot_at L shape stamp + L.offset (length es) (L.parts (length es) - 1))) =
-      subst (L.carries (L.offset (length es) (L.parts (length es) - 1)) stamp) (sym there) carried in
-      subst (λ (x : ℕ). L.carries x stamp (image (slot_at L shape stamp + x))) o here
+      rw (← laws.last (length es), w.there last inside)
+      (⊎_elim (λ early. absurd (omega (arith, early, late))) (λ carried. carried)
+      (laws.carries shape.blocks stamp es last (record { fit = w.fit; least = w.least; below = w.below }) inside))
 
 -- so its stamp is below the end of all that are carried
 pub carried_whole : (shape : Shape) (image : Image) (stamp end : ℕ) → 1 ≤ shape.slots → HasWhole shape image stamp

@@ -60,8 +60,7 @@ pub copies_joined : (more all : ℕ → Type 0) (old mid new : State) → IsSoun
 copies_joined more all old mid new sound f first second =
     let sets = sets_within (freed_at all old.may_leave) old mid sound first in
     joined_same (CutLeaves (freed_at all old.may_leave)) old mid new first
-    (weaker (CutLeaves (freed_at more mid.may_leave)) (CutLeaves (freed_at all old.may_leave)) mid new
-    (λ image cut s. ⊎_elim (sets s (image s)) (λ p. inr (f s p)) (cut s)) second)
+    (weaker _ _ _ _ (λ image cut s. ⊎_elim (sets s (image s)) (λ p. inr (f s p)) (cut s)) second)
 
 -- the i-th number is that of the i-th block
 pub number_of : (entries : List Entry) (numbers : List ℕ) (i : ℕ) → numbers ≡ numbers_of entries

@@ -1,5 +1,5 @@
 -- Calls, and then others: what they are together.
-use Rattle.std.proofs.Common.{◌≡◌, ℕ, ◌+◌, ◌≤◌, ◌∙◌, Result, Ok, refl, arith}
+use Rattle.std.proofs.Common.{◌≡◌, ℕ, ◌+◌, ◌≤◌, ◌∙◌, Result, Ok, refl, arith, rules}
 use Rattle.std.specs.Prelude.{OnOk, IfErr}
 use Rattle.medium.specs.Medium.{State, Image, LooksOnly, IsSound}
 use Rattle.medium.specs.declared.fault.MediumFault.{MediumFault}
@@ -51,13 +51,12 @@ none_copies {places = places} {old = old} {new = new} sound passes fit cause = r
 -- what an exact count says beside the copies
 pub all_pass : {X : Type 0} {places : ℕ → Type 0} {P : Image → Type 0} {count : ℕ} {old new : State} {result : Result X MediumFault}
     → WritesAllPass places P count old new result → WritesPass places P count old new result
-all_pass all = record { elsewhere = all.elsewhere; moments = all.moments; calls = all.calls; cause = all.cause }
+all_pass all = search (rules, all.elsewhere)
 
 pub pass_all : {X : Type 0} {places : ℕ → Type 0} {P : Image → Type 0} {count : ℕ} {old new : State} {result : Result X MediumFault}
     → WritesPass places P count old new result → OnOk result (new.calls ≡ old.calls + count)
     → WritesAllPass places P count old new result
-pass_all pass exact =
-    record { elsewhere = pass.elsewhere; moments = pass.moments; calls = pass.calls; exact = exact; cause = pass.cause }
+pass_all pass exact = search (rules, pass.elsewhere)
 
 -- calls that read sectors with P
 pub follows_on : {M : Type 0} {state : M → State} {Follows : M → M → Type 0} {P Q : ℕ → Type 0} {few many most : ℕ} {old mid new : M}

@@ -51,7 +51,7 @@ pub through_spares : (first place : ℕ) (bytes : List ℕ) (old new : State) �
     → ((x : ℕ) → x ≢ place → new.content x ≡ old.content x) → LeavesOnly (WithOrWithout place bytes old.may_leave) old new
     → SparesFrom first old new
 through_spares first place bytes old new below sound elsewhere moments = spared_by first old new sound (λ s le. elsewhere s (apart s le))
-    (weaker (WithOrWithout place bytes old.may_leave) (HasSpared first old) old new
+    (weaker _ _ _ _
     (λ image either s le. ⊎_elim (λ cut. cut s) (λ w. subst (old.may_leave s) (sym (w.2.elsewhere s (apart s le))) (w.1 s)) either) moments)
   where
     apart : (s : ℕ) → first ≤ s → s ≢ place
@@ -62,7 +62,7 @@ pub clear_spares : (first end : ℕ) (old new : State) → IsSound new → ((x :
     → StaysWithin (cleared_at (IsBetween first end) old.may_leave) old new → SparesFrom end old new
 clear_spares first end old new sound elsewhere within =
     spared_by end old new sound (λ s le. elsewhere s (λ between. omega (arith, le, between.1)))
-    (weaker (CutLeaves (cleared_at (IsBetween first end) old.may_leave)) (HasSpared end old) old new
+    (weaker _ _ _ _
     (λ image cut s le. ⊎_elim (λ was. was) (λ zeros. absurd (omega (arith, le, zeros.0.1))) (cut s)) within)
 
 module _ (shape : Shape) (array : Array) (end : ℕ) (old first : State) (some : 2 ≤ end) (zeros : List ℕ) (are : zeros ≡ replicate 512 0)
@@ -70,8 +70,7 @@ module _ (shape : Shape) (array : Array) (end : ℕ) (old first : State) (some :
     (moments : LeavesOnly (WithOrWithout 0 zeros old.may_leave) old first) where
   -- the super is being cleared
   first_cuts : LeavesOnly (IsMidway shape array old) old first
-  first_cuts = weaker (WithOrWithout 0 zeros old.may_leave) (IsMidway shape array old) old first
-      (λ image either. ⊎_elim inl (λ w. inr (inl (w.2.here ∙ are))) either) moments
+  first_cuts = weaker _ _ _ _ (λ image either. ⊎_elim inl (λ w. inr (inl (w.2.here ∙ are))) either) moments
 
   first_spares : SparesFrom end old first
   first_spares = through_spares end 0 zeros old first (omega (arith, some)) sound elsewhere moments
@@ -89,7 +88,7 @@ module _ (shape : Shape) (array : Array) (end : ℕ) (old first : State) (some :
       → SparesFrom end first new → new.looked ≡ old.looked → ImageLeaves shape array end old new
   then_leaves new counted later spares looked = record {
     cuts = joined_same (IsMidway shape array old) old first new first_cuts
-        (weaker (IsNoneOrNew old.size shape array) (IsMidway shape array old) first new (λ image is. inr is) later);
+        (weaker _ _ _ _ (λ image is. inr is) later);
     after_flush = λ many image since. later.each image (subst (λ (t : ℕ). new.left_since t image) (sym counted) since);
     spares = spared_joined end old first new first_spares spares;
     looked_stays = looked;
@@ -106,14 +105,14 @@ LeavesNone end old new = LeavesOnly HasNone old new × SparesFrom end old new
 -- at each moment of a clearing behind a super that was cleared and flushed
 pub clear_leaves : (end : ℕ) (old new : State) → IsFlushed old → HasNone old.content
     → StaysWithin (cleared_at (IsBetween 1 end) old.may_leave) old new → LeavesOnly HasNone old new
-clear_leaves end old new flushed none within = weaker (CutLeaves (cleared_at (IsBetween 1 end) old.may_leave)) HasNone old new
+clear_leaves end old new flushed none within = weaker _ _ _ _
     (λ image cut. ⊎_elim (λ was. flushed 0 (image 0) was ∙ none) (λ zeros. absurd (omega (arith, zeros.0.0))) (cut 0)) within
 
 -- at each moment of the write of the head
 pub head_leaves : (bytes : List ℕ) (old mid new : State) → IsSound mid → LeavesOnly HasNone old mid
     → LeavesOnly (WithOrWithout 1 bytes mid.may_leave) mid new → LeavesOnly HasNone old new
 head_leaves bytes old mid new sound so_far moments = joined_same HasNone old mid new so_far
-    (weaker (WithOrWithout 1 bytes mid.may_leave) HasNone mid new
+    (weaker _ _ _ _
     (λ image either. ⊎_elim (λ cut. at_exit HasNone old mid sound so_far image cut)
     (λ w. w.2.elsewhere 0 (λ e. omega arith) ∙ at_exit HasNone old mid sound so_far w.0 w.1) either) moments)
 
@@ -125,8 +124,8 @@ pub super_leaves : (size : ℕ) (shape : Shape) (array : Array) (bytes : List �
     → LeavesOnly (WithOrWithout 0 bytes mid.may_leave) mid new → LeavesOnly (IsNoneOrNew size shape array) old new
 super_leaves size shape array bytes old mid new flushed none fits super head zeros home so_far moments =
     joined_same (IsNoneOrNew size shape array) old mid new
-    (weaker HasNone (IsNoneOrNew size shape array) old mid (λ image none. inl none) so_far)
-    (weaker (WithOrWithout 0 bytes mid.may_leave) (IsNoneOrNew size shape array) mid new
+    (weaker _ _ _ _ (λ image none. inl none) so_far)
+    (weaker _ _ _ _
     (λ image either. ⊎_elim (λ cut. inl (flushed 0 (image 0) (cut 0) ∙ none)) (λ w. inr (made image w.0 w.1 w.2)) either) moments)
   where
     made : (image before : Image) → CutLeaves mid.may_leave before → Holds 0 bytes before image

@@ -22,7 +22,7 @@ use Rattle.journal.proofs.StandingLaws.{StandsFor-one, StandsFor-shape}
 use Rattle.recovery.specs.Causes.{HasFewSlots}
 use Rattle.recovery.specs.Copies.{cleared_at, WithOrWithout, IsBetween, HasNewHead, copy_calls, most_start_of}
 use Rattle.recovery.specs.Tries.{AreTriesOf}
-use Rattle.recovery.specs.Recovered.{IsRecoveredFrom, IsFresh, StandsForOneOf, LeavesAtLeast}
+use Rattle.recovery.specs.Recovered.{IsRecoveredFrom, IsFresh, StandsForOneOf, IsOursForSome, LeavesAtLeast}
 use Rattle.recovery.specs.Migrated.{CanMigrate, IsMadeOf, IsMigratedFrom, IsFreshInEither, IsOursInEither, StandsInEither, MigrationLeaves}
 use Rattle.recovery.specs.declared.recovered.Recovered.{Recovered}
 use Rattle.recovery.proofs.CopiedRecords.{log_ends}
@@ -97,17 +97,11 @@ module _ (shape : Shape) (array : Array) (next : ℕ) (old cleared : State) (lea
 
 -- what a recovery leaves
 pub recovery_leaves : (old new : State) → LeavesAtLeast 5 old new → MigrationLeaves old new
-recovery_leaves old new leaves = record {
-  cuts = λ each. weaker (StandsForOneOf old) (StandsInEither old) _ _ (λ image o. search (rules, o)) (leaves.all.cuts each);
-  after_flush = λ shape array next ours more image since. inl (leaves.all.after_flush shape array next ours more image since);
-  spares = leaves.all.spares;
-  small = leaves.small;
-  moments = leaves.all.moments;
-  calls = leaves.all.calls;
-  sends = λ shape has. start_migrates shape.format shape.slots (sent old) (sent new) (leaves.all.sends.most shape has);
-  sends_one = leaves.all.sends.none;
-  looks = leaves.all.looks;
-}
+recovery_leaves old new leaves =
+    let all = leaves.all in
+    let cuts = λ (each : EachCut (IsOursForSome old.size) old).
+    weaker (StandsForOneOf old) (StandsInEither old) old new (λ image o. search (rules, o)) (all.cuts each) in
+    search (rules, cuts, all.after_flush, start_migrates, all.sends.most, all.sends.none, all.looks, leaves.small)
 
 module _ (old mid : State) (found : Recovered) (recovered : IsRecoveredFrom old mid found) (enough : ¬ HasFewSlots 5 old.size old.content)
     (one : found.sizes.format ≡ One) where

@@ -19,13 +19,8 @@ use Rattle.recovery.specs.Tries.{IsTryTwo, IsTryOf}
 
 -- there is one first bad one
 stops_once : (good : ℕ → Type 0) (many a b : ℕ) → StopsAtBad good many a → StopsAtBad good many b → a ≡ b
-stops_once good many a b x y = elim (cases_lt x.first y.first) [
-  | inl less ↦ absurd (x.bad (y.before x.first less))
-  | inr not_less ↦ elim (cases_lt y.first x.first) [
-    | inl more ↦ absurd (y.bad (x.before y.first more))
-    | inr not_more ↦ omega (arith, not_less, not_more, x.reads_are, y.reads_are)
-  ]
-]
+stops_once good many a b x y =
+    grind (arith, x.before y.first, y.before x.first, x.bad, y.bad, x.reads_are, y.reads_are)
 
 up_to_once : (good : ℕ → Type 0) (many a b : ℕ) → ReadsUpToBad good many a → ReadsUpToBad good many b → a ≡ b
 up_to_once good many a b (inl x) (inl y) = x.1 ∙ sym y.1

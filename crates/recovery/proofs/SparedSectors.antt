@@ -1,5 +1,5 @@
 -- The sectors behind the image are spared.
-use Rattle.std.proofs.Common.{◌≡◌, ℕ, ◌+◌, ◌≤◌, refl, subst, arith}
+use Rattle.std.proofs.Common.{◌≡◌, ℕ, ◌+◌, ◌≤◌, refl, subst, arith, rules}
 use Rattle.medium.specs.Medium.{State, IsSound}
 use Rattle.medium.specs.Moments.{LeavesOnly, IsQuiet, SparesFrom}
 use Rattle.medium.proofs.Moments.{at_exit, updated, updated_here}
@@ -25,10 +25,7 @@ spared_by first old new sound content moments = record {
 
 -- calls that wrote nothing
 pub quiet_spares : (old new : State) → IsSound old → IsQuiet old new → SparesTheRest old new
-quiet_spares old new sound quiet = record {
-  behind = λ shape has. spared_quiet (sectors_of shape) old new sound quiet;
-  unserved = λ none. spared_quiet 0 old new sound quiet;
-}
+quiet_spares old new sound quiet = search (rules, spared_quiet)
 
 -- a recovery of what was found
 pub found_spares : (found : Found) (old seen new : State) → IsSound old → IsQuiet old seen → IsFound old.size old.content found

@@ -45,10 +45,6 @@ tries_moved One shape image first tries old new before after more e f t = omega 
 tries_moved Two shape image first tries old new before after more e f t =
     record { reads = t.reads; many = t.many; each = t.each; after_is = omega (arith, e, f, t.after_is) }
 
--- so many calls for each of a few are no more than so many for each of many
-pub each_of_more : (each few many old new : ℕ) → few ≤ many → new ≤ old + each * few → new ≤ old + each * many
-each_of_more each few many old new less most = omega (arith, mul-le-mul_left each less, most)
-
 -- those for a few and for one more
 pub each_once_more : (each few many : ℕ) → few < many → each * few + each ≤ each * many
 each_once_more each few many less = omega (arith, mul-le-mul_left {m = few + 1} {n = many} each (omega arith))

@@ -1,5 +1,5 @@
 -- An image of zeros behind a super and a head.
-use Rattle.std.proofs.Common.{◌≡◌, inl, inr, ℕ, ◌+◌, ◌<◌, ◌≤◌, refl, sym, ◌∙◌, arith}
+use Rattle.std.proofs.Common.{◌≡◌, inl, inr, ℕ, ◌+◌, ◌<◌, ◌≤◌, refl, sym, ◌∙◌, arith, rules}
 use Rattle.std.specs.Prelude.{replicate}
 use Rattle.std.proofs.lemmas.Bool.{cases_lt}
 use Rattle.medium.specs.Medium.{State, Image}
@@ -37,5 +37,4 @@ home_from shape before = record { zeros = λ b below inside. absurd (omega (arit
 
 -- an image with zeros up to its end is a formatted one
 pub formatted : (shape : Shape) (old new : State) → IsMade shape (λ b. replicate 512 0) (sectors_of shape) old new → IsFormatted shape new
-formatted shape old new made =
-    record { flushed = made.flushed; super = made.super; head = made.head; zeros = made.zeros; ours = made.ours }
+formatted shape old new made = search (rules, made.zeros)

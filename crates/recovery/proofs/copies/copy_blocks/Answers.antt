@@ -73,14 +73,7 @@ copy_sector-requires-clause-to_inside g c =
     omega (arith, to, below, c.requires.fits, c.loop-i.invariant.copies.moments.size_stays)
 
 pub loop-i-init : goal.loop-i-init
-loop-i-init g c =
-    let old = g.M.Medium.state c.args.m.now in
-    record {
-      copied = λ k below. absurd (omega arith);
-      copies = none_made (g.met.M.Medium.sound c.args.m.now);
-      calls = omega arith;
-      follows = record { follows = g.met.M.Medium.follows_itself c.args.m.now; sent = omega arith; looks = no_looks _ old old refl };
-    }
+loop-i-init g c = search (rules, none_made, g.met.M.Medium.sound, g.met.M.Medium.follows_itself, no_looks)
 
 pub returns-in_err-copy_sector-clause-copies : goal.returns-in_err-copy_sector-clause-copies
 returns-in_err-copy_sector-clause-copies g c =

@@ -51,12 +51,7 @@ copy_record-requires-clause-whole g c =
 
 pub loop-j-init : goal.loop-j-init
 loop-j-init g c =
-    let old = g.M.Medium.state c.args.m.now in
-    record {
-      done = λ records count whole. record { home = λ b. refl; exact = omega arith };
-      copies = none_made (g.met.M.Medium.sound c.args.m.now);
-      follows = record { follows = g.met.M.Medium.follows_itself c.args.m.now; sent = omega arith; looks = no_looks _ old old refl };
-    }
+    search (rules, none_made, g.met.M.Medium.sound, g.met.M.Medium.follows_itself, no_looks)
 
 pub loop-j-preserved : goal.loop-j-preserved
 loop-j-preserved g c =

@@ -1,4 +1,4 @@
-use Rattle.std.proofs.Common.{rules, ◌∙◌, subst, arith}
+use Rattle.std.proofs.Common.{◌∙◌, subst, rules}
 use Rattle.std.proofs.lemmas.Result.{err_from_is_err_and}
 use Rattle.medium.proofs.Moments.{quiet_call, quiet_joined}
 use Rattle.journal.specs.Sectors.{IsHead}
@@ -30,14 +30,11 @@ returns-clause-looks g c =
     let seen = quiet_joined _ _ _ supers.quiet (quiet_call _ _ c.read.ensures.passes c.read.ensures.content c.read.ensures.sets) in
     let rest = c.count_waiting.ensures.passes in
     let few = c.in_ok-sizes.sizes.most_slots in
-    record {
-      quiet = quiet_joined _ _ _ seen rest.quiet;
-      reads = λ kind other. rest.reads kind other ∙ c.read.ensures.passes.others_made kind other ∙ supers.reads kind other;
-      calls = omega (arith, rest.calls, c.read.ensures.passes.calls_are, supers.calls, few);
-      looks = looked_on (shape_of c.in_ok-sizes.sizes) _ _ _ c.in_ok-sizes.ensures.ok
-          (head_looked c.in_ok-sizes.sizes _ _ _ c.in_ok-sizes.ensures.ok c.read_super.ensures.follows.1 c.read.ensures.follows.1)
-          c.count_waiting.ensures.follows.1;
-    }
+    let has = c.in_ok-sizes.ensures.ok in
+    let looks = looked_on (shape_of c.in_ok-sizes.sizes) _ _ _ has
+    (head_looked c.in_ok-sizes.sizes _ _ _ has c.read_super.ensures.follows.1 c.read.ensures.follows.1)
+    c.count_waiting.ensures.follows.1 in
+    search (rules, quiet_joined _ _ _ seen rest.quiet, rest.reads, c.read.ensures.passes.others_made, supers.reads, few, looks)
 
 pub returns-in_err-waiting-clause-looks : goal.returns-in_err-waiting-clause-looks
 returns-in_err-waiting-clause-looks g c =
@@ -45,14 +42,11 @@ returns-in_err-waiting-clause-looks g c =
     let seen = quiet_joined _ _ _ supers.quiet (quiet_call _ _ c.read.ensures.passes c.read.ensures.content c.read.ensures.sets) in
     let rest = c.count_waiting.ensures.passes in
     let few = c.in_ok-sizes.sizes.most_slots in
-    record {
-      quiet = quiet_joined _ _ _ seen rest.quiet;
-      reads = λ kind other. rest.reads kind other ∙ c.read.ensures.passes.others_made kind other ∙ supers.reads kind other;
-      calls = omega (arith, rest.calls, c.read.ensures.passes.calls_are, supers.calls, few);
-      looks = looked_on (shape_of c.in_ok-sizes.sizes) _ _ _ c.in_ok-sizes.ensures.ok
-          (head_looked c.in_ok-sizes.sizes _ _ _ c.in_ok-sizes.ensures.ok c.read_super.ensures.follows.1 c.read.ensures.follows.1)
-          c.count_waiting.ensures.follows.1;
-    }
+    let has = c.in_ok-sizes.ensures.ok in
+    let looks = looked_on (shape_of c.in_ok-sizes.sizes) _ _ _ has
+    (head_looked c.in_ok-sizes.sizes _ _ _ has c.read_super.ensures.follows.1 c.read.ensures.follows.1)
+    c.count_waiting.ensures.follows.1 in
+    search (rules, quiet_joined _ _ _ seen rest.quiet, rest.reads, c.read.ensures.passes.others_made, supers.reads, few, looks)
 
 pub returns-in_err-sizes-clause-looks : goal.returns-in_err-sizes-clause-looks
 returns-in_err-sizes-clause-looks g c = search (rules, super_looked _ _ c.read_super.ensures.follows.1)

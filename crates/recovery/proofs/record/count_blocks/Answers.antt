@@ -18,18 +18,10 @@ option_weaker None none some is = none is
 option_weaker (Some n) none some is = some n is
 
 pub returns-then-not-branch : goal.returns-then-not-branch
-returns-then-not-branch g c = record {
-  passes = search rules;
-  finds =
-      let shape = shape_of c.args.sizes.now in
-      let finds = rw c.if-not-branch.true at c.in_ok-read_record.ensures.finds in
-      record {
-        exact = try_missed shape.format shape _ c.args.stamp finds.exact.0 (g.M.Medium.state c.args.m.now).calls
-            (g.M.Medium.state c.read_record.new.m).calls finds.exact.1 finds.exact.2;
-        counted = λ whole. finds.all whole.0 whole.1;
-      };
-  follows = search rules;
-}
+returns-then-not-branch g c =
+    let shape = shape_of c.args.sizes.now in
+    let finds = rw c.if-not-branch.true at c.in_ok-read_record.ensures.finds in
+    search (rules, try_missed shape.format shape _ c.args.stamp finds.exact.0 _ _ finds.exact.1 finds.exact.2, finds.all)
 
 pub returns-in_err-are_stamped : goal.returns-in_err-are_stamped
 returns-in_err-are_stamped g c =

@@ -28,13 +28,8 @@ one_more g c =
 pub loop-j-init : goal.loop-j-init
 loop-j-init g c =
     let old = g.M.Medium.state c.args.m.now in
-    record {
-      passes = record { quiet = quiet_start old; reads = λ kind other. refl; calls = omega arith; cause = tt };
-      tries = no_tries c.args.sizes.now.format (shape_of c.args.sizes.now) old.content c.args.head old.calls;
-      whole = λ k below. absurd (omega arith);
-      follows = g.met.M.Medium.follows_itself c.args.m.now;
-      looks = no_looks _ old old refl;
-    }
+    let tries = no_tries c.args.sizes.now.format (shape_of c.args.sizes.now) old.content c.args.head old.calls in
+    search (rules, quiet_start old, tries, g.met.M.Medium.follows_itself, no_looks)
 
 pub loop-j-preserved : goal.loop-j-preserved
 loop-j-preserved g c =
