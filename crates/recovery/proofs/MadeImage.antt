@@ -1,5 +1,5 @@
 -- What a format leaves at each moment of it.
-use Rattle.std.proofs.Common.{◌≡◌, ◌≢◌, inl, inr, ⊎_elim, ℕ, ◌+◌, ◌<◌, ◌≤◌, List, sym, ◌∙◌, subst, arith, Result}
+use Rattle.std.proofs.Common.{◌≡◌, ◌≢◌, inl, inr, ⊎_elim, ℕ, ◌+◌, ◌<◌, ◌≤◌, List, sym, ◌∙◌, subst, arith, rules, Result}
 use Rattle.std.specs.Prelude.{replicate}
 use Rattle.medium.specs.Medium.{State, Image, CutLeaves, Holds, Within, Gains, Passes, IsSound}
 use Rattle.medium.specs.Moments.{EachCut, IsFlushed, LeavesOnly, StaysWithin, SparesFrom}
@@ -76,23 +76,15 @@ module _ (shape : Shape) (array : Array) (end : ℕ) (old first : State) (some :
   first_spares = through_spares end 0 zeros old first (omega (arith, some)) sound elsewhere moments
 
   pub first_leaves : first.calls ≤ old.calls + 2 → first.looked ≡ old.looked → ImageLeaves shape array end old first
-  first_leaves few looked = record {
-    cuts = first_cuts;
-    after_flush = λ many. absurd (omega (arith, few, many));
-    spares = first_spares;
-    looked_stays = looked;
-  }
+  first_leaves few looked = search (rules, first_cuts, first_spares)
 
   -- what follows
   pub then_leaves : (new : State) → first.calls ≡ old.calls + 2 → LeavesOnly (IsNoneOrNew old.size shape array) first new
       → SparesFrom end first new → new.looked ≡ old.looked → ImageLeaves shape array end old new
-  then_leaves new counted later spares looked = record {
-    cuts = joined_same (IsMidway shape array old) old first new first_cuts
-        (weaker _ _ _ _ (λ image is. inr is) later);
-    after_flush = λ many image since. later.each image (subst (λ (t : ℕ). new.left_since t image) (sym counted) since);
-    spares = spared_joined end old first new first_spares spares;
-    looked_stays = looked;
-  }
+  then_leaves new counted later spares looked =
+      let wider : LeavesOnly (IsMidway shape array old) first new = weaker _ _ _ _ (λ image is. inr is) later in
+      let each = rw counted at later.each in
+      search (rules, joined_same _ old first new first_cuts wider, each, spared_joined end old first new first_spares spares)
 
 -- sector 0 has zeros
 abbrev pub HasNone : Image → Type 0

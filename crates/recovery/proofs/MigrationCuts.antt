@@ -42,10 +42,8 @@ module _ (shape : Shape) (array : Array) (next : ℕ) (before image : Image) (fr
     home = λ b below. outside (first_home shape + b) (λ e. omega (arith, e, log_ends shape fresh.super.home_is))
         (λ between. omega (arith, between.1)) ∙ fresh.home b below;
     carries = λ slot o stamp low small carries. ⊎_elim
-        (λ was. fresh.carries slot o stamp low small (subst ((layout_of shape.format).carries o stamp) was carries))
-        (λ zeros.
-        let none = (laws_of shape.format).zeros o stamp (subst ((layout_of shape.format).carries o stamp) zeros.1 carries) in
-        omega (arith, none, least))
+        (λ was. fresh.carries slot o stamp low small (rw was at carries))
+        (λ zeros. omega (arith, (laws_of shape.format).zeros o stamp (rw zeros.1 at carries), least))
         (each (2 + (layout_of shape.format).slot_sectors * slot + o) (λ e. omega (arith, e)));
   }
     where

@@ -89,19 +89,12 @@ module _ (least : ℕ) (old mid : State) {result : Result (Unit {0}) MediumFault
 
   -- a flush
   pub flush_leaves : LeavesAtLeast least old mid
-  flush_leaves = record {
-    all = record {
-      cuts = λ each. quiet_leaves (StandsForOneOf old) old mid flush.sound (itself old each) flushed;
-      after_flush = λ shape array next ours more. absurd (omega (arith, flush.passes.calls_are, more));
-      spares = quiet_spares old mid flush.sound flushed;
-      moments = quiet_leaves (λ _. Unit {0}) old mid flush.sound (λ image cut. tt) flushed;
-      calls = omega (arith, flush.passes.calls_are);
-      most = λ shape has. omega (arith, flush.passes.calls_are);
-      sends = few_sent old mid (omega (arith, flush_sends old mid flush.passes));
-      looks = λ near holds. no_looks _ old mid unlooked;
-    };
-    small = λ few. spared_quiet 0 old mid flush.sound flushed;
-  }
+  flush_leaves =
+      let cuts = λ (each : EachCut (IsOursForSome old.size) old).
+      quiet_leaves (StandsForOneOf old) old mid flush.sound (itself old each) flushed in
+      let moments = quiet_leaves (λ _. Unit {0}) old mid flush.sound (λ image cut. tt) flushed in
+      let sends = few_sent old mid (omega (arith, flush_sends old mid flush.passes)) in
+      search (rules, cuts, moments, sends, quiet_spares old mid flush.sound flushed, no_looks, unlooked, spared_quiet, flushed)
 
 module _ (least : ℕ) (old mid seen : State) {result : Result (Unit {0}) MediumFault} (known : IsSurveyed result old mid seen) where
   before : IsQuiet old mid
@@ -127,20 +120,15 @@ module _ (least : ℕ) (old mid seen : State) {result : Result (Unit {0}) Medium
 
   -- and the survey
   pub survey_leaves : LeavesAtLeast least old seen
-  survey_leaves = record {
-    all = record {
-      cuts = λ each. quiet_leaves (StandsForOneOf old) old seen known.flush.sound (itself old each) quiet;
-      after_flush = λ shape array next ours more image since. seen_after shape array next ours image since;
-      spares = quiet_spares old seen known.flush.sound quiet;
-      moments = quiet_leaves (λ _. Unit {0}) old seen known.flush.sound (λ image cut. tt) quiet;
-      calls = let most = known.reads.calls in omega (arith, counted, most);
-      most = λ shape has. most_start shape.format shape.slots old.calls mid.calls seen.calls seen.calls 0 counted
-          (known.reads.most shape (quiet_after (λ n i. HasShape n shape i) old mid before has)) (omega arith) (omega arith);
-      sends = few_sent old seen (omega (arith, flush_sends old mid known.flush.passes, none_sent mid seen known.reads.reads));
-      looks = looked_later old mid seen before (unlooked least old mid known.flush) known.reads.looks;
-    };
-    small = λ few. spared_quiet 0 old seen known.flush.sound quiet;
-  }
+  survey_leaves =
+      let cuts = λ (each : EachCut (IsOursForSome old.size) old).
+      quiet_leaves (StandsForOneOf old) old seen known.flush.sound (itself old each) quiet in
+      let moments = quiet_leaves (λ _. Unit {0}) old seen known.flush.sound (λ image cut. tt) quiet in
+      let most = λ (shape : Shape) (has : HasShape old.size shape old.content). most_start shape.format shape.slots old.calls mid.calls seen.calls seen.calls 0 counted
+      (known.reads.most shape (quiet_after (λ n i. HasShape n shape i) old mid before has)) (omega arith) (omega arith) in
+      let sends = few_sent old seen (omega (arith, flush_sends old mid known.flush.passes, none_sent mid seen known.reads.reads)) in
+      let looks = looked_later old mid seen before (unlooked least old mid known.flush) known.reads.looks in
+      search (rules, cuts, seen_after, moments, counted, most, sends, looks, quiet_spares, spared_quiet, quiet, known.flush.sound)
 
   module _ (copied : State) (found : Found) {X : Type 0} {copies : Result X MediumFault}
       (copying : IsCopying least mid seen copied found copies) where

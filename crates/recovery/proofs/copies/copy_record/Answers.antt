@@ -64,11 +64,10 @@ returns-then-branch-clause-done g c entries all =
     let fs = c.read_record.new.to.firsts.items in
     both_ok c.copy_blocks.result (λ done made. record {
       home = λ i below.
-          ap (λ (k : ℕ). new.content (first_home shape + k)) (sym (number_of entries ns i its.numbers_are))
-          ∙ done i (omega (arith, many, below))
+          rw (← number_of entries ns i its.numbers_are) (done i (omega (arith, many, below))
           ∙ ap (λ (bytes : List ℕ). get_or fs i [] ++ drop (length (get_or fs i [])) bytes)
           (c.read_record.ensures.passes.quiet.content_stays (data_at shape c.args.stamp i))
-          ∙ its.blocks_are i below;
+          ∙ its.blocks_are i below);
       exact = calls_made shape.format shape old.content c.args.stamp c.read_record.new.to (length entries) finds.exact.0 old.calls
           mid.calls new.calls finds.exact.1 many finds.exact.2 made;
     }) c.copy_blocks.ensures.done c.copy_blocks.ensures.copies.exact

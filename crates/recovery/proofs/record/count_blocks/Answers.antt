@@ -52,20 +52,19 @@ returns g c =
       finds = record {
         exact = try_read shape.format shape old.content stamp read finds.exact.0 asked.exact.0 old.calls mid.calls
             (g.M.Medium.state c.are_stamped.new.m).calls finds.exact.1 finds.exact.2
-            (subst (λ (n : ℕ). IsReadForStamps shape.format shape old.content stamp n asked.exact.0) count
+            (rw count at
             (quiet_before (λ n i. IsReadForStamps shape.format shape i stamp c.len-count.result asked.exact.0) old mid quiet asked.exact.1))
             asked.exact.2;
         counted = option_weaker c.counted.result
             (λ not whole.
             let many : length whole.0 ≡ c.len-count.result =
             sym (count ∙ ap (λ l. length l) (finds.all whole.0 whole.1).numbers_are ∙ length-map whole.0 f) in
-            let there = subst (λ (n : ℕ). AreStamped shape.format shape old.content stamp n) many
-            (stamped_whole shape old.content stamp whole.0 whole.1) in
+            let there = rw many at (stamped_whole shape old.content stamp whole.0 whole.1) in
             untrue (sym not ∙ asked.is.1
             (quiet_after (λ n i. AreStamped shape.format shape i stamp c.len-count.result) old mid quiet there)))
             (λ blocks is.
             let good = quiet_before (λ n i. AreStamped shape.format shape i stamp c.len-count.result) old mid quiet (asked.is.0 is.0) in
-            let whole = finds.some (subst (λ (n : ℕ). AreStamped shape.format shape old.content stamp n) count good) in (
+            let whole = finds.some (rw count at good) in (
               whole.0,
               whole.1,
               is.1 ∙ count ∙ ap (λ l. length l) (finds.all whole.0 whole.1).numbers_are ∙ length-map whole.0 f,

@@ -1,4 +1,4 @@
-use Rattle.std.proofs.Common.{◌≡◌, inl, inr, ⊎_elim, ◌∙◌, ap, arith, rules}
+use Rattle.std.proofs.Common.{◌≡◌, ℕ, inl, inr, ⊎_elim, ◌∙◌, ap, arith, rules}
 use Rattle.std.proofs.lemmas.Bool.{cases_eq}
 use Rattle.medium.specs.Moments.{StaysWithin}
 use Rattle.recovery.specs.Copies.{cleared_at, IsBetween}
@@ -22,15 +22,10 @@ returns-in_err-write-clause-clears g c =
     let inv = c.loop-sector.invariant in
     let past = c.loop-sector.auto.sector in
     let inside = c.loop-sector-test.true in
-    record {
-      elsewhere = λ x not.
-          let apart = λ (e : x ≡ c.loop-sector.sector). not (omega (arith, e, past), omega (arith, e, inside)) in
-          ⊎_elim (λ stays. stays x) (λ holds. holds.elsewhere x apart) c.in_err-write.ensures.err ∙ inv.elsewhere x not;
-      moments = one_more g (goal.at.returns-in_err-write-clause-clears g c).After-write;
-      calls = omega (arith, c.write.ensures.passes.calls_are, inv.calls, past, inside);
-      exact = search rules;
-      cause = search rules;
-    }
+    let elsewhere = λ (x : ℕ) (not : ¬ IsBetween c.args.from c.args.end x).
+    let apart = λ (e : x ≡ c.loop-sector.sector). not (omega (arith, e, past), omega (arith, e, inside)) in
+    ⊎_elim (λ stays. stays x) (λ holds. holds.elsewhere x apart) c.in_err-write.ensures.err ∙ inv.elsewhere x not in
+    search (rules, elsewhere, one_more g (goal.at.returns-in_err-write-clause-clears g c).After-write)
 
 pub loop-sector-preserved : goal.loop-sector-preserved
 loop-sector-preserved g c =
