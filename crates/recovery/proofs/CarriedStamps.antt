@@ -43,7 +43,3 @@ zeros_carry shape image end some zeros slot o stamp low small carries =
     let none = (laws_of shape.format).zeros o stamp
     (subst (L.carries o stamp) (zeros (2 + L.slot_sectors * slot + o) (omega arith) inside) carries) in
     omega (arith, none, some)
-
--- what is below one stamp is below the next
-pub carries_later : (shape : Shape) (image : Image) (end : ℕ) → CarriesBelow shape image end → CarriesBelow shape image (end + 1)
-carries_later shape image end below slot o stamp low small carries = omega (arith, below slot o stamp low small carries)

@@ -18,16 +18,6 @@ use Rattle.journal.proofs.Overlay.{with_blocks-copied, with_blocks-same, with_re
 use Rattle.journal.proofs.Wholeness.{IsWhole-one, IsWhole-same, slot_inside}
 use Rattle.recovery.specs.Copies.{freed_at, calls_of, copy_calls, IsHomeOf, IsHomeInRecord, IsHomeInRecords, IsCopied, AreCopied}
 
--- before the first call
-pub none_copied : (places : ℕ → Type 0) (m : State) → IsSound m → StaysWithin (freed_at places m.may_leave) m m
-none_copied places m sound = started_within (freed_at places m.may_leave) m sound (λ s c left. inl left)
-
--- calls that wrote nothing
-pub quiet_within : (places : ℕ → Type 0) (old new : State) → IsSound old → IsQuiet old new
-    → StaysWithin (freed_at places old.may_leave) old new
-quiet_within places old new sound quiet =
-    quiet_leaves (CutLeaves (freed_at places old.may_leave)) old new sound (λ image cut s. inl (cut s)) quiet
-
 -- a read and a write
 pub sector_copied : (place : ℕ) (bytes : List ℕ) (old mid new : State) {first second : MediumFault}
     {one two : Result (Unit {0}) MediumFault} → IsSound old → Passes first one old mid → Within mid.may_leave old.may_leave
@@ -52,15 +42,6 @@ one_changed m s c sound left t = elim (cases_eq t s) [
 pub sets_within : (bound : Sets) (old new : State) → IsSound new → StaysWithin bound old new → Within new.may_leave bound
 sets_within bound old new sound within s c left = subst (bound s) (updated_here new.content s c s refl)
     (at_exit (CutLeaves bound) old new sound within (updated new.content s c) (one_changed new s c sound left) s)
-
--- copies, and then others
-pub copies_joined : (more all : ℕ → Type 0) (old mid new : State) → IsSound mid → ((x : ℕ) → more x → all x)
-    → StaysWithin (freed_at all old.may_leave) old mid → StaysWithin (freed_at more mid.may_leave) mid new
-    → StaysWithin (freed_at all old.may_leave) old new
-copies_joined more all old mid new sound f first second =
-    let sets = sets_within (freed_at all old.may_leave) old mid sound first in
-    joined_same (CutLeaves (freed_at all old.may_leave)) old mid new first
-    (weaker _ _ _ _ (λ image cut s. ⊎_elim (sets s (image s)) (λ p. inr (f s p)) (cut s)) second)
 
 -- the i-th number is that of the i-th block
 pub number_of : (entries : List Entry) (numbers : List ℕ) (i : ℕ) → numbers ≡ numbers_of entries
@@ -120,12 +101,6 @@ not_behind shape image head count x past home =
     let below = whole.fit.inside home.2.2.0 0 home.2.2.1 in
     let is = home.2.2.2 in
     omega (arith, below, is, past)
-
--- the same record is in each image with the same log
-pub home_same : (shape : Shape) (before image : Image) (stamp x : ℕ) → 1 ≤ shape.slots → IsFirstHome shape.format shape.slots shape.home
-    → ((y : ℕ) → y < first_home shape → image y ≡ before y) → IsHomeInRecord shape before stamp x → IsHomeInRecord shape image stamp x
-home_same shape before image stamp x some first log home =
-    (home.0, whole_same shape before image stamp home.0 some first log home.1, home.2)
 
 copy_calls-append : (format : LogFormat) (records : List (List Entry)) (entries : List Entry)
     → copy_calls format (records ++ entries ∷ []) ≡ copy_calls format records + calls_of format (length entries)

@@ -1,13 +1,14 @@
 -- Calls, and then others: what they are together.
-use Rattle.std.proofs.Common.{◌≡◌, ℕ, ◌+◌, ◌≤◌, ◌∙◌, Result, Ok, refl, arith, rules}
+use Rattle.std.proofs.Common.{◌≡◌, inl, inr, ⊎_elim, ℕ, ◌+◌, ◌≤◌, ◌∙◌, Result, Ok, refl, arith, rules}
 use Rattle.std.specs.Prelude.{OnOk, IfErr}
-use Rattle.medium.specs.Medium.{State, Image, LooksOnly, IsSound}
+use Rattle.medium.specs.Medium.{State, Image, CutLeaves, LooksOnly, IsSound}
 use Rattle.medium.specs.declared.fault.MediumFault.{MediumFault}
-use Rattle.medium.proofs.Moments.{quiet_joined}
+use Rattle.medium.proofs.Moments.{quiet_joined, quiet_leaves, started_within, joined_same, weaker}
 use Rattle.medium.proofs.SectorsRead.{looks_joined, looks_wider}
 use Rattle.journal.specs.Reads.{IsRefusedCall, ReadsPass}
 use Rattle.recovery.specs.Calls.{FollowsBy, WritesPass, WritesAllPass, CopiesPass}
-use Rattle.recovery.proofs.CopiedRecords.{none_copied, quiet_within, copies_joined}
+use Rattle.recovery.specs.Copies.{freed_at}
+use Rattle.recovery.proofs.CopiedRecords.{sets_within}
 
 -- reads
 pub reads_on : {X Y Z : Type 0} {few many most : ℕ} {old mid new : State} {one : Result X MediumFault} {two : Result Y MediumFault}
@@ -25,9 +26,12 @@ pub copies_on : {X Y Z : Type 0} {more all : ℕ → Type 0} {few many most : �
     {two : Result Y MediumFault} {result : Result Z MediumFault} → IsSound mid → ((x : ℕ) → more x → all x)
     → CopiesPass all few old mid one → CopiesPass more many mid new two → few + many ≤ most → IfErr result (IsRefusedCall old new)
     → CopiesPass all most old new result
-copies_on {more = more} {all = all} {old = old} {mid = mid} {new = new} sound f first second fit cause = record {
+copies_on {all = all} {old = old} {mid = mid} {new = new} sound f first second fit cause = record {
   elsewhere = λ x not. second.elsewhere x (λ h. not (f x h)) ∙ first.elsewhere x not;
-  moments = copies_joined more all old mid new sound f first.moments second.moments;
+  moments =
+      let sets = sets_within (freed_at all old.may_leave) old mid sound first.moments in
+      joined_same _ old mid new first.moments
+      (weaker _ _ _ _ (λ image cut s. ⊎_elim (sets s (image s)) (λ p. inr (f s p)) (cut s)) second.moments);
   calls = omega (arith, first.calls, second.calls, fit);
   cause = cause;
 }
@@ -35,7 +39,7 @@ copies_on {more = more} {all = all} {old = old} {mid = mid} {new = new} sound f 
 -- no call copies nothing
 pub none_made : {places : ℕ → Type 0} {most : ℕ} {m : State} → IsSound m → CopiesPass {X = Unit {0}} places most m m (Ok tt)
 none_made {places = places} {m = m} sound =
-    record { elsewhere = λ x not. refl; moments = none_copied places m sound; calls = omega arith; cause = tt }
+    record { elsewhere = λ x not. refl; moments = started_within (freed_at places m.may_leave) m sound (λ s c left. inl left); calls = omega arith; cause = tt }
 
 -- reads copy nothing
 pub none_copies : {X Y : Type 0} {places : ℕ → Type 0} {few most : ℕ} {old new : State} {reads : Result X MediumFault}
@@ -43,7 +47,7 @@ pub none_copies : {X Y : Type 0} {places : ℕ → Type 0} {few most : ℕ} {old
     → CopiesPass places most old new result
 none_copies {places = places} {old = old} {new = new} sound passes fit cause = record {
   elsewhere = λ x not. passes.quiet.content_stays x;
-  moments = quiet_within places old new sound passes.quiet;
+  moments = quiet_leaves (CutLeaves (freed_at places old.may_leave)) old new sound (λ image cut s. inl (cut s)) passes.quiet;
   calls = omega (arith, passes.calls, fit);
   cause = cause;
 }

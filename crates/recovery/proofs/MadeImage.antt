@@ -17,17 +17,6 @@ use Rattle.recovery.proofs.CopiedRecords.{sets_within, log_ends}
 use Rattle.recovery.proofs.SparedSectors.{spared_by}
 use Rattle.recovery.proofs.Zeros.{zeros_ours}
 
--- one sector more is cleared
-pub one_more_cleared : (places : ℕ → Type 0) (place : ℕ) (old mid new : State) {fault : MediumFault}
-    {result : Result (Unit {0}) MediumFault} → IsSound mid → places place → StaysWithin (cleared_at places old.may_leave) old mid
-    → Passes fault result mid new → Gains place (replicate 512 0) mid.may_leave new.may_leave
-    → StaysWithin (cleared_at places old.may_leave) old new
-one_more_cleared places place old mid new {fault} {result} sound is so_far wrote gains =
-    goes_on_within (cleared_at places old.may_leave) old mid new so_far wrote
-    (gains_within (cleared_at places old.may_leave) mid.may_leave new.may_leave place (replicate 512 0)
-    (sets_within (cleared_at places old.may_leave) old mid sound so_far) gains
-    (λ s c here. inr (subst places (sym here.0) is, here.1)))
-
 -- a write
 module _ (place : ℕ) (bytes : List ℕ) (old mid : State) {one : MediumFault} {first : Result (Unit {0}) MediumFault} (sound : IsSound old)
     (wrote : Passes one first old mid) (gains : Gains place bytes old.may_leave mid.may_leave) where

@@ -26,7 +26,6 @@ use Rattle.recovery.specs.Recovered.{IsRecoveredFrom, IsFresh, StandsForOneOf, I
 use Rattle.recovery.specs.Migrated.{CanMigrate, IsMadeOf, IsMigratedFrom, IsFreshInEither, IsOursInEither, StandsInEither, MigrationLeaves}
 use Rattle.recovery.specs.declared.recovered.Recovered.{Recovered}
 use Rattle.recovery.proofs.CopiedRecords.{log_ends}
-use Rattle.recovery.proofs.WholeRecovery.{calls_made}
 use Rattle.recovery.proofs.ReplayedImages.{zeros_fresh, fresh_ours}
 use Rattle.recovery.proofs.CallsSent.{start_migrates, made_migrates}
 use Rattle.recovery.proofs.SectorsRead.{looked_before}
@@ -166,10 +165,9 @@ module _ (old mid : State) (found : Recovered) (recovered : IsRecoveredFrom old 
               absurd (omega (arith, past, recovered.stamp_left));
         };
         small = λ few. absurd (enough few);
-        moments = joined_same (λ _. Unit {0}) old mid new start.all.moments (calls_made _ mid new spares.moments);
+        moments = joined_same (λ _. Unit {0}) old mid new start.all.moments (weaker _ _ _ _ (λ image p. tt) spares.moments);
         calls =
-            let most = subst (λ (f : LogFormat). mid.calls ≤ old.calls + 6 + most_start_of f * found.sizes.slots) one
-            (start.all.most (shape_of found.sizes) has_shape) in
+            let most = rw one at (start.all.most (shape_of found.sizes) has_shape) in
             omega (arith, most, last, found.sizes.most_slots);
         sends = λ shape has. rw (one_shape shape has)
             (made_migrates found.sizes.format found.sizes.slots (sent old) (sent mid) (sent new) one

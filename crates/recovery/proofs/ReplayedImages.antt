@@ -13,7 +13,7 @@ use Rattle.journal.proofs.Overlay.{with_records-same, records-hide}
 use Rattle.journal.proofs.Wholeness.{CarriesBelow-agree}
 use Rattle.recovery.specs.Copies.{IsHomeInRecords, HasNewHead}
 use Rattle.recovery.specs.Recovered.{IsFresh}
-use Rattle.recovery.proofs.CarriedStamps.{carried_whole, zeros_carry, carries_later}
+use Rattle.recovery.proofs.CarriedStamps.{carried_whole, zeros_carry}
 use Rattle.recovery.proofs.CopiedRecords.{log_ends, home_in_whole, long_as, number_of, whole_same, not_in_log}
 
 -- a block that is copied is hidden by the records
@@ -113,5 +113,5 @@ fresh_ours size shape array next image fits f = record {
     ends = λ less w. omega (arith, carried_whole shape image (next + 0) next f.super.some_slots w f.carries);
     next_is = omega arith;
   };
-  carries = carries_later shape image next f.carries;
+  carries = λ slot o stamp low small carries. omega (arith, f.carries slot o stamp low small carries);
 }

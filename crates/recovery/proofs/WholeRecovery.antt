@@ -40,10 +40,6 @@ itself : (old : State) → EachCut (IsOursForSome old.size) old → EachCut (Sta
 itself old each image cut =
     let e = each image cut in record { before = image; allowed = cut; shape = e.0; array = e.1; next = e.2; was = e.3; is = inl e.3 }
 
--- whatever has been left, calls were made
-pub calls_made : (P : Image → Type 0) (old new : State) → LeavesOnly P old new → LeavesOnly (λ _. Unit {0}) old new
-calls_made P old new left = weaker P (λ _. Unit {0}) old new (λ image p. tt) left
-
 -- a flush was made
 pub record IsFlush (result : Result (Unit {0}) MediumFault) (old mid : State) : Type 0 where
   pub sound : IsSound old
@@ -184,7 +180,7 @@ module _ (least : ℕ) (old mid seen : State) {result : Result (Unit {0}) Medium
           cuts = later_cuts;
           after_flush = λ other array next ours more image since. later_after other array next ours image since;
           spares = found_spares found old seen later known.flush.sound quiet at_old spares;
-          moments = joined_same (λ _. Unit {0}) old seen later survey_leaves.all.moments (calls_made _ seen later spares.moments);
+          moments = joined_same (λ _. Unit {0}) old seen later survey_leaves.all.moments (weaker _ _ _ _ (λ image p. tt) spares.moments);
           calls = few_starts found.sizes.format found.sizes.slots old.calls later.calls found.sizes.most_slots few_made;
           most = λ other has. rw (one_shape other has.super) few_made;
           sends = found_sent old later found at_old
@@ -195,22 +191,12 @@ module _ (least : ℕ) (old mid seen : State) {result : Result (Unit {0}) Medium
       }
 
     -- each sector is as it was, or is the home of a block that is copied
-    each_sector : (image : Image) → CutLeaves (freed_at (AreTargets found seen.content) seen.may_leave) image → (x : ℕ)
-        → (image x ≡ old.content x) ⊎ AreTargets found old.content x
-    each_sector image cut x = ⊎_elim
-        (λ left. inl (known.only x (image x) (known.reads.quiet.sets_shrink x (image x) left)))
-        (λ home. inr (rw same at home)) (cut x)
-
-    copied_ours : (array : Array) (next : ℕ) → IsOurs old.size (shape_of found.sizes) old.content array next → (image : Image)
-        → CutLeaves (freed_at (AreTargets found seen.content) seen.may_leave) image
-        → IsOurs old.size (shape_of found.sizes) image array next
-    copied_ours array next ours image cut =
-        let f = found_matches old.size old.content found at_old array next ours.stands in
-        copies_ours old.size shape old.content array next ours found.head found.count f.0 f.1 image (each_sector image cut)
-
     copied_leaves : LeavesOurs copied
     copied_leaves array next ours =
-        weaker _ _ _ _ (λ image cut. inl (copied_ours array next ours image cut)) copying.copies.moments
+        let f = found_matches old.size old.content found at_old array next ours.stands in
+        weaker _ _ _ _ (λ image cut. inl (copies_ours old.size shape old.content array next ours found.head found.count f.0 f.1 image
+        (λ x. ⊎_elim (λ left. inl (known.only x (image x) (known.reads.quiet.sets_shrink x (image x) left)))
+        (λ home. inr (rw same at home)) (cut x)))) copying.copies.moments
 
     copied_spares : SparesFrom (sectors_of (shape_of found.sizes)) seen copied
     copied_spares =

@@ -9,7 +9,7 @@ use Rattle.journal.specs.Reads.{IsRefusedCall}
 use Rattle.journal.specs.Values.{shape_of}
 use Rattle.recovery.specs.Calls.{CopiesPass}
 use Rattle.recovery.specs.Copies.{IsHomeInRecords, most_calls_of}
-use Rattle.recovery.proofs.CopiedRecords.{one_more_copied, not_in_log, whole_same, home_same}
+use Rattle.recovery.proofs.CopiedRecords.{one_more_copied, not_in_log, whole_same}
 use Rattle.recovery.proofs.JoinedCalls.{copies_on, none_made, follows_on}
 use Rattle.recovery.proofs.SurveyCalls.{each_once_more}
 use Rattle.recovery.proofs.copies.copy_records.Given as given
@@ -33,8 +33,7 @@ copied g c result most fit cause =
     (λ x h. (
       c.loop-j.j,
       c.loop-j-test.true,
-      home_same shape mid old (found.head + c.loop-j.j) x found.sizes.some_slots found.sizes.home_is
-          log h,
+      (h.0, whole_same shape mid old (found.head + c.loop-j.j) h.0 found.sizes.some_slots found.sizes.home_is log h.1, h.2),
     ))
     c.loop-j.invariant.copies c.copy_record.ensures.copies fit cause
 

@@ -74,14 +74,7 @@ made g c before =
       spares = spared_joined _ _ _ _ before.spares
           (through_spares sizes.home 0 c.encode.result _ _ (omega (arith, log_ends (shape_of sizes) sizes.home_is))
           (g.met.M.Medium.sound c.write_through.new.m) last.elsewhere last.moments);
-      sends = omega (
-        arith,
-        c.clear.ensures.follows.sent,
-        same,
-        c.move_head.ensures.follows.sent,
-        c.write_through.ensures.follows.sent,
-        home_one sizes c.requires.can.one,
-      );
+      sends = omega (arith, same, home_one sizes c.requires.can.one);
       looked_stays = c.write_through.ensures.follows.looks.looked_stays ∙ before.looked_stays;
     }
 

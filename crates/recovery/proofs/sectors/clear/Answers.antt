@@ -1,8 +1,10 @@
 use Rattle.std.proofs.Common.{◌≡◌, ℕ, inl, inr, ⊎_elim, ◌∙◌, ap, arith, rules}
 use Rattle.std.proofs.lemmas.Bool.{cases_eq}
+use Rattle.std.specs.Prelude.{replicate}
 use Rattle.medium.specs.Moments.{StaysWithin}
+use Rattle.medium.proofs.Moments.{gains_within, goes_on_within}
 use Rattle.recovery.specs.Copies.{cleared_at, IsBetween}
-use Rattle.recovery.proofs.MadeImage.{one_more_cleared}
+use Rattle.recovery.proofs.CopiedRecords.{sets_within}
 use Rattle.recovery.proofs.sectors.clear.Given as given
 use Rattle.recovery.proofs.sectors.clear.Goals as goal
 use Rattle.recovery.proofs.sectors.clear.Goals.{After-write}
@@ -14,8 +16,11 @@ one_more : (g : given.Over) (c : After-write g)
 one_more g c =
     let past = c.loop-sector.auto.sector in
     let inside = c.loop-sector-test.true in
-    one_more_cleared (IsBetween c.args.from c.args.end) c.loop-sector.sector _ _ _ (g.met.M.Medium.sound c.loop-sector.m)
-    (omega (arith, past), omega (arith, inside)) c.loop-sector.invariant.within c.write.ensures.passes c.write.ensures.sets
+    let within = c.loop-sector.invariant.within in
+    let bound = cleared_at (IsBetween c.args.from c.args.end) (g.M.Medium.state c.args.m.now).may_leave in
+    goes_on_within bound _ _ _ within c.write.ensures.passes
+    (gains_within bound _ _ c.loop-sector.sector (replicate 512 0) (sets_within bound _ _ (g.met.M.Medium.sound c.loop-sector.m) within)
+    c.write.ensures.sets (λ s bytes here. inr ((omega (arith, past, here.0), omega (arith, inside, here.0)), here.1)))
 
 pub returns-in_err-write-clause-clears : goal.returns-in_err-write-clause-clears
 returns-in_err-write-clause-clears g c =

@@ -69,10 +69,7 @@ returns-in_default g c =
     record {
       passes = reads_on inv.passes c.count_blocks.ensures.passes
           (each_once_more reads c.loop-j.j c.args.sizes.now.slots below) tt;
-      finds = record {
-        exact = rw (← many) (one_more g (goal.at.returns-in_default g c).In_ok-count_blocks);
-        is = search rules;
-      };
+      finds = search (rules, rw many at (one_more g (goal.at.returns-in_default g c).In_ok-count_blocks));
       follows = search (rules, g.met.M.Medium.follows_through, looks_joined);
     }
 
@@ -82,11 +79,4 @@ returns g c =
     let slots = c.args.sizes.now.slots in
     let all : c.loop-j.j ≡ slots = omega (arith, c.loop-j.auto.j-end, c.loop-j-test.false) in
     let many : c.loop-j.j ≡ min (slots + 1) slots = omega (arith, all) in
-    record {
-      passes = record { quiet = inv.passes.quiet; reads = inv.passes.reads; calls = rw (← all) inv.passes.calls; cause = tt };
-      finds = record {
-        exact = rw (← many) inv.tries;
-        is = search rules;
-      };
-      follows = search rules;
-    }
+    search (rules, inv.passes.reads, rw all at inv.passes.calls, rw many at inv.tries)

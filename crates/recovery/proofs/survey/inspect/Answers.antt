@@ -26,15 +26,13 @@ head_read : (g : given.Over) (c : After-read g) → SurveysAtMost (g.M.Medium.st
 head_read g c =
     let shape = shape_of c.in_ok-sizes.sizes in
     let has = c.in_ok-sizes.ensures.ok in
-    record {
-      quiet = quiet_joined _ _ _ c.read_super.ensures.reads.quiet
-          (quiet_call _ _ c.read.ensures.passes c.read.ensures.content c.read.ensures.sets);
-      reads = search rules;
-      calls = search rules;
-      most = search rules;
-      looks = looked_on shape _ _ _ has (super_looked _ _ c.read_super.ensures.follows.1)
-          (look_below (first_home shape) _ _ 1 (omega (arith, c.in_ok-sizes.sizes.home_is.0)) c.read.ensures.follows.1);
-    }
+    search (
+      rules,
+      quiet_joined _ _ _ c.read_super.ensures.reads.quiet
+          (quiet_call _ _ c.read.ensures.passes c.read.ensures.content c.read.ensures.sets),
+      looked_on shape _ _ _ has (super_looked _ _ c.read_super.ensures.follows.1)
+          (look_below (first_home shape) _ _ 1 (omega (arith, c.in_ok-sizes.sizes.home_is.0)) c.read.ensures.follows.1),
+    )
 
 -- and what shows whether records are whole
 records_read : (g : given.Over) (c : After-count_whole g)
