@@ -23,10 +23,7 @@ use Rattle.recovery.proofs.FoundRecords.{quiet_before}
 -- a call that the medium refused after others was refused after what was before them
 pub refused_later : (old mid new : State) → old.failures ≤ mid.failures → ((kind : MediumFault) → old.refused kind ≤ mid.refused kind)
     → (kind : MediumFault) → IsRefusedCall mid new kind → IsRefusedCall old new kind
-refused_later old mid new failures refused kind h = let stays = refused kind in record {
-  grew = omega (arith, failures, h.grew);
-  kind_grew = omega (arith, stays, h.kind_grew);
-}
+refused_later old mid new failures refused kind h = let stays = refused kind in search rules
 
 -- such a call refuses a start
 pub call_refuses : (least : ℕ) (Calls : State → State → Type 0) (old new : State) (kind : MediumFault) → IsRefusedCall old new kind
@@ -43,11 +40,7 @@ module _ (old mid new : State) {result : Result (Unit {0}) MediumFault} (flush :
   refused_before kind h = refused_later old mid new quiet.failures_stay quiet.refused_stay kind h
 
   wrote_nothing : IsQuiet mid new → WritesNothing old new
-  wrote_nothing later = record {
-    quiet = quiet_joined old mid new quiet later;
-    no_write = reads medium.Write (λ e. absurd (cc e)) ∙ flush.others_made medium.Write (λ e. absurd (cc e));
-    one_flush = reads medium.Flush (λ e. absurd (cc e)) ∙ flush.made_is;
-  }
+  wrote_nothing later = search (rules, quiet_joined old mid new quiet later, reads, flush.others_made, flush.made_is)
 
   -- a refusal by reads after a flush is one by both
   pub refusal_before : (least : ℕ) (fault : StartFault) → IsRefusalBy least IsQuiet mid new fault

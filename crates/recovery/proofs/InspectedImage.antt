@@ -85,7 +85,7 @@ counts_made shape image head j counts long few each ends = record {
   is = record {
     few = omega (arith, long, few);
     whole = λ k below. let e = each k (omega (arith, below, long)) in (e.0, e.1);
-    ends = λ less w. ends (omega (arith, less, long)) (subst (λ (n : ℕ). HasWhole shape image (head + n)) long w);
+    ends = λ less w. ends (omega (arith, less, long)) (rw long at w);
   };
   each = λ k below. each k (omega (arith, below, long));
 }

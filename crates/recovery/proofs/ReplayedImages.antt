@@ -1,5 +1,5 @@
 -- Images go on standing for what they stood for while their records are copied home.
-use Rattle.std.proofs.Common.{◌≡◌, ◌⊎◌, ⊎_elim, ℕ, ◌+◌, ◌<◌, ◌≤◌, List, [], length, get_or, refl, sym, ◌∙◌, subst, arith}
+use Rattle.std.proofs.Common.{◌≡◌, ◌⊎◌, ⊎_elim, ℕ, ◌+◌, ◌<◌, ◌≤◌, List, [], length, get_or, refl, sym, ◌∙◌, subst, arith, rules}
 use Rattle.std.specs.Prelude.{replicate}
 use Rattle.medium.specs.Medium.{Image}
 use Rattle.spec.specs.Blocks.{Array}
@@ -82,7 +82,7 @@ new_head_fresh size shape start array next ours before image log home moved =
     let super = ours.stands.keeps.super in
     let ends = log_ends shape super.home_is in
     record {
-      super = subst (IsSuper shape) (sym (moved.elsewhere 0 (λ e. omega arith) ∙ log 0 (omega (arith, ends)))) super;
+      super = rw (moved.elsewhere 0 (λ e. omega arith), log 0 (omega (arith, ends))) super;
       head = moved.head;
       home = λ b below. moved.elsewhere (first_home shape + b) (λ e. omega (arith, e, ends)) ∙ home b below;
       carries = CarriesBelow-agree (layout_of shape.format) (laws_of shape.format) shape start image next
@@ -93,12 +93,9 @@ new_head_fresh size shape start array next ours before image log home moved =
 pub zeros_fresh : (shape : Shape) (array : Array) (next : ℕ) (image : Image) → IsSuper shape (image 0) → IsHead next (image 1)
     → ((x : ℕ) → 2 ≤ x → x < first_home shape → image x ≡ replicate 512 0)
     → ((b : ℕ) → b < shape.blocks → image (first_home shape + b) ≡ array b) → IsFresh shape array next image
-zeros_fresh shape array next image super head zeros home = record {
-  super = super;
-  head = head;
-  home = home;
-  carries = zeros_carry shape image next head.least (λ x low high. zeros x low (omega (arith, high, log_ends shape super.home_is)));
-}
+zeros_fresh shape array next image super head zeros home =
+    let ends = log_ends shape super.home_is in
+    search (rules, home, zeros_carry shape image next head.least (λ x low high. zeros x low (omega (arith, high, ends))))
 
 -- an image in which no record waits is ours, with the stamp behind
 pub fresh_ours : (size : ℕ) (shape : Shape) (array : Array) (next : ℕ) (image : Image) → sectors_of shape ≤ size

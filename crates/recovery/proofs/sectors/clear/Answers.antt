@@ -38,6 +38,7 @@ loop-sector-preserved g c =
     let inside = c.loop-sector-test.true in
     let past = c.loop-sector.auto.sector in
     let wrote = c.in_ok-write.ensures.ok in
+    let looked = c.write.ensures.passes.looked_stays (λ e. cc e) ∙ inv.follows.looks.looked_stays in
     record {
       zeros = λ x low high. elim (cases_eq x c.loop-sector.sector) [
         | inl is ↦ ap (g.M.Medium.state c.write.new.self).content is ∙ wrote.here
@@ -46,11 +47,7 @@ loop-sector-preserved g c =
       elsewhere = λ x not. wrote.elsewhere x (λ e. not (omega (arith, e, past), omega (arith, e, inside))) ∙ inv.elsewhere x not;
       within = one_more g (goal.at.loop-sector-preserved g c).After-write;
       calls = omega (arith, c.write.ensures.passes.calls_are, inv.calls, past);
-      follows = search (
-        rules,
-        g.met.M.Medium.follows_through,
-        c.write.ensures.passes.looked_stays (λ e. cc e) ∙ inv.follows.looks.looked_stays,
-      );
+      follows = search (rules, g.met.M.Medium.follows_through, looked);
     }
 
 pub returns-in_err-write-clause-follows : goal.returns-in_err-write-clause-follows

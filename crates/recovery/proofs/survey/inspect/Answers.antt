@@ -4,7 +4,8 @@ use Rattle.std.proofs.lemmas.Result.{err_from_is_err_and}
 use Rattle.medium.proofs.Moments.{quiet_call, quiet_joined}
 use Rattle.medium.specs.Moments.{IsQuiet}
 use Rattle.medium.proofs.SectorsRead.{look_below}
-use Rattle.journal.specs.Places.{first_home}
+use Rattle.journal.specs.Places.{Shape, first_home}
+use Rattle.journal.specs.ImageFaults.{HasShape}
 use Rattle.journal.specs.Values.{shape_of}
 use Rattle.journal.specs.Sectors.{IsHead}
 use Rattle.journal.specs.Standing.{IsCount}
@@ -42,14 +43,9 @@ records_read g c before =
     let shape = shape_of c.in_ok-sizes.sizes in
     let has = c.in_ok-sizes.ensures.ok in
     let rest = c.count_whole.ensures in
-    record {
-      quiet = quiet_joined _ _ _ before.quiet rest.passes.quiet;
-      reads = search rules;
-      calls = search rules;
-      most = λ other is. rw (IsSuper-one other shape _ is.super has.super)
-          (omega (arith, c.read_super.ensures.reads.calls, c.read.ensures.passes.calls_are, rest.passes.calls));
-      looks = looked_on shape _ _ _ has before.looks rest.follows.1;
-    }
+    let one = λ (other : Shape) (is : HasShape (g.M.Medium.state c.args.m.now).size other (g.M.Medium.state c.args.m.now).content).
+    IsSuper-one other shape _ is.super has.super in
+    search (rules, quiet_joined _ _ _ before.quiet rest.passes.quiet, one, looked_on shape _ _ _ has before.looks rest.follows.1)
 
 -- the head and the count are those of the image as it was
 counted : (g : given.Over) (c : In_ok-count g) → IsQuiet (g.M.Medium.state c.args.m.now) (g.M.Medium.state c.read.new.self)
