@@ -6,19 +6,23 @@ use Rattle.mirror.specs.declared.call.DeviceCall.TheVariants.{Flush}
 use Rattle.journal.specs.declared.super_sector.Super.{Super}
 use Rattle.std.specs.Prelude.{OnErr, is_ok}
 use Rattle.device_file.specs.Asked.{Told, asked_for, answered, refused}
-use Rattle.device_file.specs.Copied.{some_writes, moved_calls, IsCopied, IsCopiedInPart, IsAskedInPart}
+use Rattle.device_file.specs.Copied.{some_writes, moved_calls, IsCopied, IsCopiedInPart, IsAskedInPart, NamesCall}
 use Rattle.device_file.specs.declared.copying.CopyFault.{CopyFault}
 use Rattle.device_file.specs.declared.copying.CopyFault.TheVariants as fault
 use Rattle.device_file.specs.declared.fault.FileFault.{FileFault}
-use Rattle.images.specs.Exporting.{going_home, HasBlocks, HasSomeBlocks}
+use Rattle.images.specs.Exporting.{going_home, HasBlocks, HasSomeBlocks, NamesRead}
 
 asked_twice : (p q : List DeviceCall) (t : Told) → asked_for q (asked_for p t) ≡ asked_for (p ++ q) t
 asked_twice p q t = ap (λ (l : List DeviceCall). record t { asked = l }) (append_assoc t.asked p q)
 
-module _ (holds : ℕ → List ℕ → Type 0) (sizes : Super) (waiting : List DeviceCall) (a : Told) where
+named_read : (why : CopyFault) → NamesCall why → NamesRead why
+named_read (fault.From why) named = named
+named_read (fault.To why) named = tt
+
+module _ (holds : ℕ → List ℕ → Type 0) (refuses : ℕ → ℕ → Type 0) (sizes : Super) (waiting : List DeviceCall) (a : Told) where
   -- the copy ended early
-  pub copy_stopped : (b : Told) (why : CopyFault) → IsCopiedInPart holds sizes.home sizes.blocks 0 a b why
-      → HasSomeBlocks holds sizes waiting a b why
+  pub copy_stopped : (b : Told) (why : CopyFault) → IsCopiedInPart holds refuses sizes.home sizes.blocks 0 a b why
+      → HasSomeBlocks holds refuses sizes waiting a b why
   copy_stopped b why f = record {
     blocks = f.blocks;
     count_is = f.count_is;
@@ -29,11 +33,13 @@ module _ (holds : ℕ → List ℕ → Type 0) (sizes : Super) (waiting : List D
         ∙ ap (λ (l : List DeviceCall). l ++ (moved_calls sizes.home sizes.blocks waiting ++ Flush ∷ [])) f.parts
         ∙ append_assoc f.part f.rest (moved_calls sizes.home sizes.blocks waiting ++ Flush ∷ []);
     told_is = f.told_is;
+    misses = f.misses;
+    named = named_read why f.named;
   }
 
   -- what goes home was asked for in part
   pub home_stopped : (b e : Told) (why : FileFault) → IsCopied holds sizes.home sizes.blocks 0 a b
-      → IsAskedInPart (going_home sizes waiting) b e → HasSomeBlocks holds sizes waiting a e (fault.To why)
+      → IsAskedInPart (going_home sizes waiting) b e → HasSomeBlocks holds refuses sizes waiting a e (fault.To why)
   home_stopped b e why f g = record {
     blocks = f.blocks;
     count_is = omega (arith, f.count_is);
@@ -45,6 +51,8 @@ module _ (holds : ℕ → List ℕ → Type 0) (sizes : Super) (waiting : List D
         ∙ sym (append_assoc (some_writes 0 f.blocks) g.part g.rest);
     told_is = g.told_is ∙ ap (λ (t : Told). refused (asked_for g.part t)) f.told_is
         ∙ ap refused (asked_twice (some_writes 0 f.blocks) g.part a);
+    misses = tt;
+    named = tt;
   }
 
   -- all of it was

@@ -10,7 +10,7 @@ use Rattle.device_file.specs.declared.fault.FileFault.{FileFault}
 use Rattle.images.specs.Importing.{IsImported, IsNotImported}
 use Rattle.images.specs.NewImage.{IsAskedToBe}
 
-module _ (holds : ℕ → List ℕ → Type 0) (shape : Shape) (old between new : Told) where
+module _ (holds : ℕ → List ℕ → Type 0) (refuses : ℕ → ℕ → Type 0) (shape : Shape) (old between new : Told) where
   -- all blocks were copied, and then an image was made of the file
   pub imported_all : (result : Result (Unit {0}) CopyFault) → IsCopied holds 0 shape.blocks (first_home shape) old between
       → IsAskedToBe shape (is_ok result) between new → OnOk result (IsImported holds shape old new)
@@ -20,7 +20,7 @@ module _ (holds : ℕ → List ℕ → Type 0) (shape : Shape) (old between new 
   -- or it refused a call of that
   pub imported_unmade : (result : Result (Unit {0}) CopyFault) → IsCopied holds 0 shape.blocks (first_home shape) old between
       → IsAskedToBe shape (is_ok result) between new
-      → IfErr result (λ why. (refused : FileFault) × (why ≡ fault.To refused)) → IfErr result (IsNotImported holds shape old new)
+      → IfErr result (λ why. (refused : FileFault) × (why ≡ fault.To refused)) → IfErr result (IsNotImported holds refuses shape old new)
   imported_unmade (Ok done) copied asked named = tt
   imported_unmade (Err why) copied asked named = inr (record {
     between = between;

@@ -6,7 +6,8 @@ use Rattle.device_file.specs.declared.copying.CopyFault.{CopyFault}
 
 -- So many sectors were copied, or a file refused a call. The file written is as large as before.
 pub record Copies {D : Type 0} (told : D → Told) (sectors : D → ℕ) (holds : ℕ → List ℕ → Type 0)
-    (first count at : ℕ) (old new : D) (result : Result (Unit {0}) CopyFault) : Type 0 where
+    (refuses : ℕ → ℕ → Type 0) (first count at : ℕ) (old new : D)
+    (result : Result (Unit {0}) CopyFault) : Type 0 where
   pub ok : OnOk result (IsCopied holds first count at (told old) (told new))
-  pub err : IfErr result (IsCopiedInPart holds first count at (told old) (told new))
+  pub err : IfErr result (IsCopiedInPart holds refuses first count at (told old) (told new))
   pub size : sectors new ≡ sectors old

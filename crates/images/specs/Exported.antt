@@ -26,9 +26,9 @@ export_refusal (fault.From why) = refused.File why
 export_refusal (fault.To why) = refused.Target why
 
 -- Of a recovered image with these sizes, whose writes that go home wait: what a read of it gave,
--- what was written then and now, and the plain file, where one was made.
-module _ (holds : ℕ → List ℕ → Type 0) (sizes : Super) (waiting : List DeviceCall)
-    (was now : Option (List ℕ)) (raw : Option FileValue) where
+-- which of them it refused, what was written then and now, and the plain file, where one was made.
+module _ (holds : ℕ → List ℕ → Type 0) (refuses : ℕ → ℕ → Type 0) (sizes : Super)
+    (waiting : List DeviceCall) (was now : Option (List ℕ)) (raw : Option FileValue) where
   -- A plain file of exactly its blocks was made, or emptied, and asked for them, and that was told.
   pub record IsPlainCopy : Type 0 where
     pub plain : FileValue
@@ -52,7 +52,7 @@ module _ (holds : ℕ → List ℕ → Type 0) (sizes : Super) (waiting : List D
     pub given : raw ≡ Some plain
     pub size : plain.size ≡ sizes.blocks
     pub why : CopyFault
-    pub asked : HasSomeBlocks holds sizes waiting begun plain.told why
+    pub asked : HasSomeBlocks holds refuses sizes waiting begun plain.told why
     pub refused_is : refusal ≡ export_refusal why
     pub kept : Keeps was now
 
@@ -67,21 +67,21 @@ module _ (holds : ℕ → List ℕ → Type 0) (sizes : Super) (waiting : List D
       IsCopyUnmade refusal ⊎ (IsCopyStopped refusal ⊎ IsCopyUntold refusal)
 
 -- of an image with these first sectors, on a device that holds these bytes behind them
-module _ (holds : ℕ → List ℕ → Type 0) (first : FirstSectors) (device : List ℕ)
-    (was now : Option (List ℕ)) (raw : Option FileValue) where
+module _ (holds : ℕ → List ℕ → Type 0) (refuses : ℕ → ℕ → Type 0) (first : FirstSectors)
+    (device : List ℕ) (was now : Option (List ℕ)) (raw : Option FileValue) where
   -- it was recovered in a window, and copied
   pub record IsExported : Type 0 where
     pub sizes : Super
     pub after : Window
     pub recovered : IsRecoveredIn first device sizes after
-    pub copied : IsPlainCopy holds sizes after.outbox was now raw
+    pub copied : IsPlainCopy holds refuses sizes after.outbox was now raw
 
   -- it was recovered, and not copied
   pub record IsExportStopped (refusal : Refusal) : Type 0 where
     pub sizes : Super
     pub after : Window
     pub recovered : IsRecoveredIn first device sizes after
-    pub stopped : IsNoPlainCopy holds sizes after.outbox was now raw refusal
+    pub stopped : IsNoPlainCopy holds refuses sizes after.outbox was now raw refusal
 
   -- it was not recovered, and no plain file was made
   pub record IsExportUnbegun (refusal : Refusal) : Type 0 where

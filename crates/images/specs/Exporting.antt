@@ -13,7 +13,10 @@ use Rattle.recovery.specs.declared.start_fault.StartFault.{StartFault}
 use Rattle.device_file.specs.Asked.{Told, asked_for}
 use Rattle.device_file.specs.Reads.{AreReadFrom}
 use Rattle.device_file.specs.Copied.{some_writes, moved_calls, asked_until, IsAskedInPart}
+use Rattle.device_file.specs.Copied.{MissesNext}
 use Rattle.device_file.specs.declared.copying.CopyFault.{CopyFault}
+use Rattle.device_file.specs.declared.copying.CopyFault.TheVariants as stopped
+use Rattle.device_file.specs.declared.fault.FileCall.TheVariants as call
 use Rattle.device_file.specs.declared.fault.FileFault.{FileFault}
 use Rattle.device_file.specs.declared.opening.FirstSectors.{FirstSectors}
 use Rattle.images.specs.Opened.{IsWindowOver, HaveImage}
@@ -68,8 +71,14 @@ pub record HasBlocks (holds : ℕ → List ℕ → Type 0) (sizes : Super) (wait
   pub were_read : AreReadFrom holds sizes.home blocks
   pub told_is : new ≡ asked_for (exporting sizes blocks waiting) old
 
--- a first part of it, with as many blocks as were read; where a call was refused, it is the last
-pub record HasSomeBlocks (holds : ℕ → List ℕ → Type 0) (sizes : Super)
+-- where it was the file that is read, a read is named
+abbrev pub NamesRead : CopyFault → Type 0
+NamesRead (stopped.From why) = why.call ≡ call.Read
+NamesRead (stopped.To why) = Unit {0}
+
+-- A first part of it, with as many blocks as were read; where a call was refused, it is the last.
+-- Else the image refused a read of the blocks that come next.
+pub record HasSomeBlocks (holds : ℕ → List ℕ → Type 0) (refuses : ℕ → ℕ → Type 0) (sizes : Super)
     (waiting : List DeviceCall) (old new : Told) (why : CopyFault) : Type 0 where
   pub blocks : List (List ℕ)
   pub count_is : length blocks ≤ sizes.blocks
@@ -78,6 +87,8 @@ pub record HasSomeBlocks (holds : ℕ → List ℕ → Type 0) (sizes : Super)
   pub rest : List DeviceCall
   pub parts : exporting sizes blocks waiting ≡ part ++ rest
   pub told_is : new ≡ asked_until why part old
+  pub misses : MissesNext refuses sizes.home sizes.blocks (length blocks) why
+  pub named : NamesRead why
 
 -- what is asked behind the blocks
 abbrev pub going_home : Super → List DeviceCall → List DeviceCall

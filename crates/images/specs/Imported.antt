@@ -24,10 +24,10 @@ abbrev pub import_refusal : CopyFault → Refusal
 import_refusal (fault.From why) = refused.Plain why
 import_refusal (fault.To why) = refused.Target why
 
--- Of a plain file of so many sectors. What a read of it gave, what was written then and now, and
--- the file of the image, where one was made.
-module _ (holds : ℕ → List ℕ → Type 0) (format : LogFormat) (blocks slots : ℕ)
-    (was now : Option (List ℕ)) (back : Option FileValue) where
+-- Of a plain file of so many sectors. What a read of it gave, which of them it refused, what was
+-- written then and now, and the file of the image, where one was made.
+module _ (holds : ℕ → List ℕ → Type 0) (refuses : ℕ → ℕ → Type 0) (format : LogFormat)
+    (blocks slots : ℕ) (was now : Option (List ℕ)) (back : Option FileValue) where
   -- A file of exactly the sectors of an image for these blocks was made, or emptied, and asked to
   -- become it, and that was told.
   pub record IsImage : Type 0 where
@@ -55,7 +55,7 @@ module _ (holds : ℕ → List ℕ → Type 0) (format : LogFormat) (blocks slot
     pub given : back ≡ Some file
     pub size : file.size ≡ sectors_of (new_shape format blocks slots)
     pub why : CopyFault
-    pub asked : IsNotImported holds (new_shape format blocks slots) begun file.told why
+    pub asked : IsNotImported holds refuses (new_shape format blocks slots) begun file.told why
     pub refused_is : refusal ≡ import_refusal why
     pub kept : Keeps was now
 

@@ -26,9 +26,10 @@ pub record IsImportedUnmade (holds : ℕ → List ℕ → Type 0) (shape : Shape
   pub why_is : why ≡ fault.To refused
 
 -- not all blocks were copied, or it did not become a new image
-abbrev pub IsNotImported : (ℕ → List ℕ → Type 0) → Shape → Told → Told → CopyFault → Type 0
-IsNotImported holds shape old new why =
-    IsCopiedInPart holds 0 shape.blocks (first_home shape) old new why
+abbrev pub IsNotImported : (ℕ → List ℕ → Type 0) → (ℕ → ℕ → Type 0) → Shape → Told → Told
+    → CopyFault → Type 0
+IsNotImported holds refuses shape old new why =
+    IsCopiedInPart holds refuses 0 shape.blocks (first_home shape) old new why
     ⊎ IsImportedUnmade holds shape old new why
 
 -- A file was asked to become an image, where nothing else could refuse. It is as large as before.

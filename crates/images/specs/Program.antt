@@ -161,9 +161,13 @@ module _ (was now : Option (List ℕ)) (back : Option FileValue) where
   IsMigrationRefused refusal = HasNoImage refusal
       ⊎ (IsOpenedNotMigrated refusal ⊎ IsMigrationUntold refusal)
 
--- of a file of the system no bytes are named, so nothing is known of what a read of it gave
+-- of a file of the system no bytes are named, so nothing is known of what a read of it gave, or
+-- refused
 abbrev pub unnamed : ℕ → List ℕ → Type 0
 unnamed sector block = Unit {0}
+
+abbrev pub untold : ℕ → ℕ → Type 0
+untold first count = Unit {0}
 
 -- What was written then, and now, and the files that come back, where they were made or opened:
 -- that of the image, and the plain one.
@@ -173,14 +177,14 @@ module _ (was now : Option (List ℕ)) (back raw : Option FileValue) where
     pub first : FirstSectors
     pub opened : IsOpened back first
     pub device : List ℕ
-    pub exported : IsExported unnamed first device was now raw
+    pub exported : IsExported unnamed untold first device was now raw
 
   -- they were not, or not all of that was told
   pub record IsOpenedNotExported (refusal : Refusal) : Type 0 where
     pub first : FirstSectors
     pub opened : IsOpened back first
     pub device : List ℕ
-    pub not_exported : IsNotExported unnamed first device was now raw refusal
+    pub not_exported : IsNotExported unnamed untold first device was now raw refusal
 
   abbrev pub IsExportRefused : Refusal → Type 0
   IsExportRefused refusal =
@@ -191,7 +195,7 @@ module _ (was now : Option (List ℕ)) (back raw : Option FileValue) where
     pub plain : FileValue
     pub given : raw ≡ Some plain
     pub untouched : plain ≡ fresh plain.size
-    pub imported : IsImage unnamed format plain.size slots was now back
+    pub imported : IsImage unnamed untold format plain.size slots was now back
 
   -- they did not, or not all of that was told
   pub record IsOpenedNotImported (format : LogFormat) (slots : ℕ) (refusal : Refusal)
@@ -199,7 +203,7 @@ module _ (was now : Option (List ℕ)) (back raw : Option FileValue) where
     pub plain : FileValue
     pub given : raw ≡ Some plain
     pub untouched : plain ≡ fresh plain.size
-    pub not_imported : IsNoImage unnamed format plain.size slots was now back refusal
+    pub not_imported : IsNoImage unnamed untold format plain.size slots was now back refusal
 
   -- no plain file was opened
   pub record HasNoPlain (refusal : Refusal) : Type 0 where

@@ -88,10 +88,11 @@ fn export_from<R: Files<File = File> + AllocGlobal, S: DeviceFile, O: Write, E: 
     out: &mut O,
     err: &mut E,
 ) -> Result<SystemFile<File>, Stopped>
-    ensures ok { IfOk result (λ plain. IsExported (S.holds image.now) first device.now.bytes
-        (O.contents out.old) (O.contents out.new) (Some plain)) }
-    ensures err { IfErr result (λ stopped. IsNotExported (S.holds image.now) first device.now.bytes
-        (O.contents out.old) (O.contents out.new) stopped.file stopped.refusal) }
+    ensures ok { IfOk result (λ plain. IsExported (S.holds image.now) (S.refuses image.now) first
+        device.now.bytes (O.contents out.old) (O.contents out.new) (Some plain)) }
+    ensures err { IfErr result (λ stopped. IsNotExported (S.holds image.now) (S.refuses image.now)
+        first device.now.bytes (O.contents out.old) (O.contents out.new) stopped.file
+        stopped.refusal) }
 {
     match recover_in_window(rt.alloc(), first, device) {
         Ok((mut window, sizes)) => {
@@ -115,10 +116,11 @@ fn copy_out<R: Files<File = File> + AllocGlobal, S: DeviceFile, O: Write, E: Wri
     out: &mut O,
     err: &mut E,
 ) -> Result<SystemFile<File>, Stopped>
-    ensures ok { IfOk result (λ plain. IsPlainCopy (S.holds image.now) sizes.now window.old.outbox
-        (O.contents out.old) (O.contents out.new) (Some plain)) }
-    ensures err { IfErr result (λ stopped. IsNoPlainCopy (S.holds image.now) sizes.now
-        window.old.outbox (O.contents out.old) (O.contents out.new) stopped.file stopped.refusal) }
+    ensures ok { IfOk result (λ plain. IsPlainCopy (S.holds image.now) (S.refuses image.now)
+        sizes.now window.old.outbox (O.contents out.old) (O.contents out.new) (Some plain)) }
+    ensures err { IfErr result (λ stopped. IsNoPlainCopy (S.holds image.now) (S.refuses image.now)
+        sizes.now window.old.outbox (O.contents out.old) (O.contents out.new) stopped.file
+        stopped.refusal) }
 {
     let mut room = copy_room(rt.alloc(), b"exported ", sizes.blocks)?;
     let mut plain = new_target(rt, raw, sizes.blocks, replace)?;
@@ -139,8 +141,8 @@ fn export_watched<S: DeviceFile, D: DeviceFile, E: Write + IsTerminal>(
 ) -> Result<(), CopyFault>
     ensures ok { OnOk result (HasBlocks (S.holds image.now) sizes.now window.old.outbox
         (D.told to.old) (D.told to.new)) }
-    ensures err { IfErr result (HasSomeBlocks (S.holds image.now) sizes.now window.old.outbox
-        (D.told to.old) (D.told to.new)) }
+    ensures err { IfErr result (HasSomeBlocks (S.holds image.now) (S.refuses image.now) sizes.now
+        window.old.outbox (D.told to.old) (D.told to.new)) }
     ensures size { (D.size to.new ≡ D.size to.old) × (room.new.line ≡ room.old.line) }
 {
     let mut bar = Gauge::new(err);
@@ -203,7 +205,8 @@ pub(crate) fn room_to_recover(sizes: &Option<Super>) -> usize
 ///
 /// # Errors
 ///
-/// The first call that a file refused. Nothing was asked of either after that.
+/// The first call that a file refused: a read of the blocks that come next, or one of the plain
+/// file. Nothing was asked of either after that.
 pub fn export_blocks<S: DeviceFile, D: DeviceFile, M: Meter>(
     image: &S,
     sizes: &Super,
@@ -216,8 +219,8 @@ pub fn export_blocks<S: DeviceFile, D: DeviceFile, M: Meter>(
     requires { 512 ≤ length bytes.old }
     ensures ok { OnOk result (HasBlocks (S.holds image.now) sizes.now window.old.outbox
         (D.told plain.old) (D.told plain.new)) }
-    ensures err { IfErr result (HasSomeBlocks (S.holds image.now) sizes.now window.old.outbox
-        (D.told plain.old) (D.told plain.new)) }
+    ensures err { IfErr result (HasSomeBlocks (S.holds image.now) (S.refuses image.now) sizes.now
+        window.old.outbox (D.told plain.old) (D.told plain.new)) }
     ensures size { D.size plain.new ≡ D.size plain.old }
 {
     match copy_home(image, sizes, plain, run, bytes, meter) {
@@ -240,8 +243,8 @@ fn copy_home<S: DeviceFile, D: DeviceFile, M: Meter>(
     meter: &mut M,
 ) -> Result<(), CopyFault>
     requires { 512 ≤ length bytes.old }
-    ensures { Copies D.told D.size (S.holds image.now) sizes.now.home sizes.now.blocks 0
-        plain.old plain.new result }
+    ensures { Copies D.told D.size (S.holds image.now) (S.refuses image.now) sizes.now.home
+        sizes.now.blocks 0 plain.old plain.new result }
 {
     copy_sectors(image, sizes.home, sizes.blocks, plain, 0, run, bytes, meter)
 }

@@ -66,10 +66,11 @@ fn import_from<R: Files<File = File> + AllocGlobal, S: DeviceFile, O: Write, E: 
     out: &mut O,
     err: &mut E,
 ) -> Result<SystemFile<File>, Stopped>
-    ensures ok { IfOk result (λ file. IsImage (S.holds plain.now) format (S.size plain.now) slots
-        (O.contents out.old) (O.contents out.new) (Some file)) }
-    ensures err { IfErr result (λ stopped. IsNoImage (S.holds plain.now) format (S.size plain.now)
-        slots (O.contents out.old) (O.contents out.new) stopped.file stopped.refusal) }
+    ensures ok { IfOk result (λ file. IsImage (S.holds plain.now) (S.refuses plain.now) format
+        (S.size plain.now) slots (O.contents out.old) (O.contents out.new) (Some file)) }
+    ensures err { IfErr result (λ stopped. IsNoImage (S.holds plain.now) (S.refuses plain.now)
+        format (S.size plain.now) slots (O.contents out.old) (O.contents out.new) stopped.file
+        stopped.refusal) }
 {
     let Some(sizes) = sizes_of(format, plain.sectors(), slots) else {
         return Err(Stopped::from(Refusal::Sizes));
@@ -105,8 +106,8 @@ fn import_watched<S: DeviceFile, D: DeviceFile, E: Write + IsTerminal>(
 ) -> Result<(), CopyFault>
     ensures ok { OnOk result (IsImported (S.holds plain.now) (shape_of sizes.now)
         (D.told file.old) (D.told file.new)) }
-    ensures err { IfErr result (IsNotImported (S.holds plain.now) (shape_of sizes.now)
-        (D.told file.old) (D.told file.new)) }
+    ensures err { IfErr result (IsNotImported (S.holds plain.now) (S.refuses plain.now)
+        (shape_of sizes.now) (D.told file.old) (D.told file.new)) }
     ensures size { (D.size file.new ≡ D.size file.old) × (room.new.line ≡ room.old.line) }
 {
     let mut bar = Gauge::new(err);
@@ -131,7 +132,8 @@ fn refusal_of(fault: CopyFault) -> Refusal
 ///
 /// # Errors
 ///
-/// The first call that a file refused. Nothing was asked of either after that.
+/// The first call that a file refused: a read of the blocks that come next, or one of the file that
+/// becomes an image. Nothing was asked of either after that.
 pub fn import_blocks<S: DeviceFile, D: DeviceFile, M: Meter>(
     plain: &S,
     sizes: &Super,
@@ -143,8 +145,8 @@ pub fn import_blocks<S: DeviceFile, D: DeviceFile, M: Meter>(
     requires { 512 ≤ length bytes.old }
     ensures ok { OnOk result (IsImported (S.holds plain.now) (shape_of sizes.now)
         (D.told image.old) (D.told image.new)) }
-    ensures err { IfErr result (IsNotImported (S.holds plain.now) (shape_of sizes.now)
-        (D.told image.old) (D.told image.new)) }
+    ensures err { IfErr result (IsNotImported (S.holds plain.now) (S.refuses plain.now)
+        (shape_of sizes.now) (D.told image.old) (D.told image.new)) }
     ensures size { D.size image.new ≡ D.size image.old }
 {
     match copy_blocks(plain, sizes, image, run, bytes, meter) {
@@ -163,8 +165,8 @@ fn copy_blocks<S: DeviceFile, D: DeviceFile, M: Meter>(
     meter: &mut M,
 ) -> Result<(), CopyFault>
     requires { 512 ≤ length bytes.old }
-    ensures { Copies D.told D.size (S.holds plain.now) 0 sizes.now.blocks sizes.now.home
-        image.old image.new result }
+    ensures { Copies D.told D.size (S.holds plain.now) (S.refuses plain.now) 0 sizes.now.blocks
+        sizes.now.home image.old image.new result }
 {
     copy_sectors(plain, 0, sizes.blocks, image, sizes.home, run, bytes, meter)
 }

@@ -5,13 +5,15 @@ use Rattle.images.proofs.importing.import_blocks.Goals as goal
 
 pub returns-in-Ok-clause-ok : goal.returns-in-Ok-clause-ok
 returns-in-Ok-clause-ok g c =
-    imported_all (g.S.DeviceFile.holds c.args.plain.now) (shape_of c.args.sizes.now) (g.D.DeviceFile.told c.args.image.now)
+    imported_all (g.S.DeviceFile.holds c.args.plain.now) (g.S.DeviceFile.refuses c.args.plain.now) (shape_of c.args.sizes.now)
+    (g.D.DeviceFile.told c.args.image.now)
     (g.D.DeviceFile.told c.copy_blocks.new.image) (g.D.DeviceFile.told c.become_image.new.image) c.become_image.result
     c.in-Ok.ensures.ok c.become_image.ensures.asked
 
 pub returns-in-Ok-clause-err : goal.returns-in-Ok-clause-err
 returns-in-Ok-clause-err g c =
-    imported_unmade (g.S.DeviceFile.holds c.args.plain.now) (shape_of c.args.sizes.now) (g.D.DeviceFile.told c.args.image.now)
+    imported_unmade (g.S.DeviceFile.holds c.args.plain.now) (g.S.DeviceFile.refuses c.args.plain.now) (shape_of c.args.sizes.now)
+    (g.D.DeviceFile.told c.args.image.now)
     (g.D.DeviceFile.told c.copy_blocks.new.image) (g.D.DeviceFile.told c.become_image.new.image) c.become_image.result
     c.in-Ok.ensures.ok c.become_image.ensures.asked c.become_image.ensures.named
 
