@@ -165,11 +165,9 @@ module _ {stamp count j : ℕ} {numbers : List ℕ} {firsts : List (List ℕ)} {
   entry_is : (e : ℕ) → e < length numbers → take 16 (drop (32 + 16 * e) bytes) ≡ entry_bytes (get_or numbers e 0, get_or firsts e [])
   unfolding padded
   entry_is e below =
-      ap (λ (l : List ℕ). take 16 l) (sym (drop-drop (16 * e) 32 bytes))
-      ∙ ap (λ (l : List ℕ). take 16 (drop (16 * e) (drop 32 l))) d.spelled
-      ∙ piece_at entry_bytes 16 (zip numbers firsts) e (0, []) _ (omega (arith, length_zipped numbers firsts d.entries.each))
-      (zipped_long numbers firsts d.entries.each d.entries.sized)
-      ∙ ap entry_bytes (zipped numbers firsts d.entries.each e below)
+      rw (← (drop-drop (16 * e) 32 bytes), d.spelled, ← (zipped numbers firsts d.entries.each e below))
+      (piece_at entry_bytes 16 (zip numbers firsts) e (0, []) _ (omega (arith, length_zipped numbers firsts d.entries.each))
+      (zipped_long numbers firsts d.entries.each d.entries.sized))
 
   pub number_is : (e : ℕ) → e < length numbers → number_in bytes (4 + 2 * e) ≡ get_or numbers e 0
   unfolding number_in entry_bytes

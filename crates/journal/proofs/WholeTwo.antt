@@ -61,8 +61,7 @@ module _ (image : Image) (at s : ℕ) (numbers : List ℕ) (commit : IsCommitTwo
 
     first_long : length (slice_range (image (at + j)) (40 + 16 * e) (40 + 16 * e + 8)) ≡ 8
     first_long =
-        let d = (described j here).1.entries in
-        ap (λ (l : List ℕ). length l) first_there ∙ d.sized e [] (omega (arith, inside, d.each))
+        let d = (described j here).1.entries in rw first_there (d.sized e [] (omega (arith, inside, d.each)))
 
     small_there : get_or numbers (30 * j + e) 0 < 2 ^ 31
     small_there = omega (arith, (described j here).1.entries.small e 0 inside, it)
