@@ -173,10 +173,8 @@ module _ {stamp count j : ℕ} {numbers : List ℕ} {firsts : List (List ℕ)} {
   unfolding number_in entry_bytes
   number_is e below =
       let at : 8 * (4 + 2 * e) ≡ 32 + 16 * e = omega arith in
-      ap (λ (k : ℕ). little_number 8 (drop k bytes)) at
-      ∙ sym (little_from-take 0 8 16 (drop (32 + 16 * e) bytes) (omega arith))
-      ∙ ap (little_number 8) (entry_is e below)
-      ∙ little_number-reads_back 8 (get_or numbers e 0) [] (omega (arith, d.entries.small e 0 below))
+      rw (at, ← (little_from-take 0 8 16 (drop (32 + 16 * e) bytes) (omega arith)), entry_is e below)
+      (little_number-reads_back 8 (get_or numbers e 0) [] (omega (arith, d.entries.small e 0 below)))
 
   pub first_is : (e : ℕ) → e < length numbers → slice_range bytes (40 + 16 * e) (40 + 16 * e + 8) ≡ get_or firsts e []
   unfolding entry_bytes

@@ -41,16 +41,16 @@ module _ (L : Layout) (laws : Laws L) (shape : Shape) (some : 1 ≤ shape.slots)
           (omega (arith, slot_inside L laws shape stamp some, laws.inside (length entries) p few small))
 
 module _ (L : Layout) (laws : Laws L) (v : View) (some : 1 ≤ v.shape.slots)
-    (behind : 2 + L.slot_sectors * v.shape.slots ≤ v.shape.home) (before image : Image) where
+    (behind : 2 + L.slot_sectors * v.shape.slots ≤ v.shape.home) {before image : Image} where
   -- a write before or behind the log leaves the log
   log_same : {s : ℕ} {bytes : List ℕ} → Holds s bytes before image → (2 ≤ s → v.shape.home ≤ s)
       → Agree 2 (2 + L.slot_sectors * v.shape.slots) image before
   log_same write apart x low high = write.elsewhere x (λ e. grind (arith, behind, apart))
 
   -- a block that the records hide is written home
-  KeepsView-home : (b : ℕ) (bytes : List ℕ) → Hides v.records b → Holds (v.shape.home + b) bytes before image
+  KeepsView-home : (b : ℕ) {bytes : List ℕ} → Hides v.records b → Holds (v.shape.home + b) bytes before image
       → KeepsView L v before → KeepsView L v image
-  KeepsView-home b bytes hides write g = record {
+  KeepsView-home b hides write g = record {
     super = subst (IsSuper v.shape) (sym (write.elsewhere 0 (λ e. omega (arith, behind)))) g.super;
     head_is = subst (IsHead v.head) (sym (write.elsewhere 1 (λ e. omega (arith, behind)))) g.head_is;
     whole = λ j below. IsWholeIn-same L laws v.shape some before image (log_same write (λ low. omega arith)) (v.head + j)
@@ -65,9 +65,9 @@ module _ (L : Layout) (laws : Laws L) (v : View) (some : 1 ≤ v.shape.slots)
   }
 
   -- with the oldest record at home the head goes past it
-  KeepsView-head : (bytes : List ℕ) → 0 < length v.records → IsHead (v.head + 1) bytes → IsHomed v before
+  KeepsView-head : {bytes : List ℕ} → 0 < length v.records → IsHead (v.head + 1) bytes → IsHomed v before
       → Holds 1 bytes before image → KeepsView L v before → KeepsView L (with_less v) image
-  KeepsView-head bytes waits h homed write g = record {
+  KeepsView-head waits h homed write g = record {
     super = subst (IsSuper v.shape) (sym (write.elsewhere 0 (λ e. omega arith))) g.super;
     head_is = subst (IsHead (v.head + 1)) (sym write.here) h;
     whole = λ j below.
@@ -97,16 +97,16 @@ module _ (L : Layout) (laws : Laws L) (v : View) (some : 1 ≤ v.shape.slots)
   pub Resting-home : (before image : Image) (b : ℕ) (bytes : List ℕ) → Hides v.records b → Holds (v.shape.home + b) bytes before image
       → Resting L v before → Resting L v image
   Resting-home before image b bytes hides write r = record {
-    keeps = KeepsView-home L laws v some behind before image b bytes hides write r.keeps;
-    carries = CarriesBelow-same L laws v.shape some before image (log_same L laws v some behind before image write (λ low. omega arith)) (stamp_of v)
+    keeps = KeepsView-home L laws v some behind b hides write r.keeps;
+    carries = CarriesBelow-same L laws v.shape some before image (log_same L laws v some behind write (λ low. omega arith)) (stamp_of v)
         r.carries;
   }
 
   pub Resting-head : (before image : Image) (bytes : List ℕ) → 0 < length v.records → IsHead (v.head + 1) bytes → IsHomed v before
       → Holds 1 bytes before image → Resting L v before → Resting L (with_less v) image
   Resting-head before image bytes waits h homed write r = record {
-    keeps = KeepsView-head L laws v some behind before image bytes waits h homed write r.keeps;
-    carries = CarriesBelow-same L laws v.shape some before image (log_same L laws v some behind before image write (λ low. omega arith))
+    keeps = KeepsView-head L laws v some behind waits h homed write r.keeps;
+    carries = CarriesBelow-same L laws v.shape some before image (log_same L laws v some behind write (λ low. omega arith))
         (stamp_of (with_less v)) (rw (stamp_stays v waits) r.carries);
   }
 
@@ -115,8 +115,8 @@ module _ (L : Layout) (laws : Laws L) (v : View) (slots : HasSlots L v) where
   pub Guarded-home : (before image : Image) (b : ℕ) (bytes : List ℕ) (k durable : ℕ) → Hides v.records b
       → Holds (v.shape.home + b) bytes before image → Guarded L v k durable before → Guarded L v k durable image
   Guarded-home before image b bytes k durable hides write g = record {
-    keeps = KeepsView-home L laws v slots.some slots.behind before image b bytes hides write g.keeps;
-    parts = WrittenSoFar-same L laws v.shape slots.some before image (log_same L laws v slots.some slots.behind before image write (λ low. omega arith))
+    keeps = KeepsView-home L laws v slots.some slots.behind b hides write g.keeps;
+    parts = WrittenSoFar-same L laws v.shape slots.some before image (log_same L laws v slots.some slots.behind write (λ low. omega arith))
         (stamp_of v) v.under_way k durable slots.under_way.fit.few g.parts;
   }
 
@@ -124,8 +124,8 @@ module _ (L : Layout) (laws : Laws L) (v : View) (slots : HasSlots L v) where
   pub Guarded-head : (before image : Image) (bytes : List ℕ) (k durable : ℕ) → 0 < length v.records → IsHead (v.head + 1) bytes
       → IsHomed v before → Holds 1 bytes before image → Guarded L v k durable before → Guarded L (with_less v) k durable image
   Guarded-head before image bytes k durable waits h homed write g = record {
-    keeps = KeepsView-head L laws v slots.some slots.behind before image bytes waits h homed write g.keeps;
-    parts = WrittenSoFar-same L laws v.shape slots.some before image (log_same L laws v slots.some slots.behind before image write (λ low. omega arith))
+    keeps = KeepsView-head L laws v slots.some slots.behind waits h homed write g.keeps;
+    parts = WrittenSoFar-same L laws v.shape slots.some before image (log_same L laws v slots.some slots.behind write (λ low. omega arith))
         (stamp_of (with_less v)) v.under_way k durable slots.under_way.fit.few (rw (stamp_stays v waits) g.parts);
   }
 

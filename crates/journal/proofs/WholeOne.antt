@@ -115,7 +115,7 @@ module _ (shape : Shape) (image : Image) (stamp : ℕ) (numbers : List ℕ)
     inside = subst (λ (l : List ℕ). All (λ b. b < shape.blocks) l) (sym names) below_all;
     small = subst (λ (l : List ℕ). All (λ b. b < 2 ^ 31) l) (sym names) described.block_numbers.fit;
     sized = All-from_get_or (λ e. length e.1 ≡ 512) es (0, []) (λ i below.
-        ap (λ (l : List ℕ). length l) (bytes_of-entries_in image (at + 1) i numbers (omega (arith, many))) ∙ sized i (omega (arith, many)));
+        rw (bytes_of-entries_in image (at + 1) i numbers (omega (arith, many))) (sized i (omega (arith, many))));
   }
 
   there : (p : ℕ) → Kind 1 (length es) p → image (at + offset1 (length es) p) ≡ part1 stamp es p
