@@ -72,7 +72,8 @@ module _ (L : Layout) (laws : Laws L) (v : View) (some : 1 ≤ v.shape.slots)
     head_is = subst (IsHead (v.head + 1)) (sym write.here) h;
     whole = λ j below.
         let next : v.head + 1 + j ≡ v.head + (1 + j) = omega arith in
-        IsWholeIn-same L laws v.shape some before image (log_same write (λ low. omega arith)) (v.head + 1 + j) (get_or (drop 1 v.records) j [])
+        IsWholeIn-same L laws v.shape some before image (log_same write (λ low. omega arith))
+        (v.head + 1 + j) (get_or (drop 1 v.records) j [])
         (rw (next, get_or-drop 1 v.records j []) (g.whole (1 + j) (omega (arith, length-drop 1 v.records))));
     blocks = λ b below. with_records-same (drop 1 v.records) (home_of v.shape image) (home_of v.shape before) b
         (write.elsewhere (v.shape.home + b) (λ e. omega (arith, behind)))
@@ -98,7 +99,8 @@ module _ (L : Layout) (laws : Laws L) (v : View) (some : 1 ≤ v.shape.slots)
       → Resting L v before → Resting L v image
   Resting-home before image b bytes hides write r = record {
     keeps = KeepsView-home L laws v some behind b hides write r.keeps;
-    carries = CarriesBelow-same L laws v.shape some before image (log_same L laws v some behind write (λ low. omega arith)) (stamp_of v)
+    carries = CarriesBelow-same L laws v.shape some before image
+        (log_same L laws v some behind write (λ low. omega arith)) (stamp_of v)
         r.carries;
   }
 
@@ -106,7 +108,8 @@ module _ (L : Layout) (laws : Laws L) (v : View) (some : 1 ≤ v.shape.slots)
       → Holds 1 bytes before image → Resting L v before → Resting L (with_less v) image
   Resting-head before image bytes waits h homed write r = record {
     keeps = KeepsView-head L laws v some behind waits h homed write r.keeps;
-    carries = CarriesBelow-same L laws v.shape some before image (log_same L laws v some behind write (λ low. omega arith))
+    carries = CarriesBelow-same L laws v.shape some before image
+        (log_same L laws v some behind write (λ low. omega arith))
         (stamp_of (with_less v)) (rw (stamp_stays v waits) r.carries);
   }
 
@@ -116,7 +119,8 @@ module _ (L : Layout) (laws : Laws L) (v : View) (slots : HasSlots L v) where
       → Holds (v.shape.home + b) bytes before image → Guarded L v k durable before → Guarded L v k durable image
   Guarded-home before image b bytes k durable hides write g = record {
     keeps = KeepsView-home L laws v slots.some slots.behind b hides write g.keeps;
-    parts = WrittenSoFar-same L laws v.shape slots.some before image (log_same L laws v slots.some slots.behind write (λ low. omega arith))
+    parts = WrittenSoFar-same L laws v.shape slots.some before image
+        (log_same L laws v slots.some slots.behind write (λ low. omega arith))
         (stamp_of v) v.under_way k durable slots.under_way.fit.few g.parts;
   }
 
@@ -125,7 +129,8 @@ module _ (L : Layout) (laws : Laws L) (v : View) (slots : HasSlots L v) where
       → IsHomed v before → Holds 1 bytes before image → Guarded L v k durable before → Guarded L (with_less v) k durable image
   Guarded-head before image bytes k durable waits h homed write g = record {
     keeps = KeepsView-head L laws v slots.some slots.behind waits h homed write g.keeps;
-    parts = WrittenSoFar-same L laws v.shape slots.some before image (log_same L laws v slots.some slots.behind write (λ low. omega arith))
+    parts = WrittenSoFar-same L laws v.shape slots.some before image
+        (log_same L laws v slots.some slots.behind write (λ low. omega arith))
         (stamp_of (with_less v)) v.under_way k durable slots.under_way.fit.few (rw (stamp_stays v waits) g.parts);
   }
 

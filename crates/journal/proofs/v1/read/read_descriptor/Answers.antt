@@ -82,4 +82,5 @@ returns-in_err-read-clause-reads g c =
     search (rules, look_below, arith, within_one c.args.sizes.now c.args.stamp _ c.slot_of-slot.ensures c.requires.format)
 
 pub returns-in_err-read-2-clause-reads : goal.returns-in_err-read-2-clause-reads
-returns-in_err-read-2-clause-reads g c = search (rules, followed g (goal.at.returns-in_err-read-2-clause-reads g c).After-read-2)
+returns-in_err-read-2-clause-reads g c =
+    search (rules, followed g (goal.at.returns-in_err-read-2-clause-reads g c).After-read-2)

@@ -31,7 +31,8 @@ stays g c = λ i x. c.read_count.ensures.reads.passes.quiet.content_stays x i
 counted : (g : given.Over) (c : After-read_descriptors g) (entries : List Entry)
     → IsWhole (shape_of c.args.sizes.now) (g.M.Medium.state c.args.m.now).content c.args.stamp entries
     → (length (numbers_of entries) ≡ c.in-Some.count)
-    × HasDescriptors (g.M.Medium.state c.read_count.new.m).content (2 + 249 * c.slot_of-slot.result) c.args.stamp (numbers_of entries)
+    × HasDescriptors (g.M.Medium.state c.read_count.new.m).content (2 + 249 * c.slot_of-slot.result) c.args.stamp
+    (numbers_of entries)
 counted g c entries whole =
     let says = two_says _ _ _ _ c.requires.format c.slot_of-slot.ensures entries whole in
     (sym (rw c.in-Some.is at (c.in_ok-count.ensures.all _ says.committed)), rw (stays g c) says.described)
@@ -48,7 +49,8 @@ followed g c =
 -- what they find together
 joined : (g : given.Over) (c : After-read_descriptors g) {Z : Type 0} {H : State → State → Z → Type 0} (z : Z)
     → H (g.M.Medium.state c.args.m.now) (g.M.Medium.state c.read_descriptors.new.m) z
-    → LooksUp g.M.Medium.state g.M.Medium.follows 9 (λ s. s < c.args.sizes.now.home) H c.args.m.now c.read_descriptors.new.m (Ok z)
+    → LooksUp g.M.Medium.state g.M.Medium.follows 9 (λ s. s < c.args.sizes.now.home) H
+    c.args.m.now c.read_descriptors.new.m (Ok z)
 joined g c z finds =
     let a = c.read_count.ensures.reads.passes in
     let b = c.read_descriptors.ensures.reads.passes in
@@ -159,9 +161,11 @@ returns-else-are_blocks g c =
           rw c.in-Some.is at c.in_ok-count.ensures.reads.finds,
           descriptors_of c.in-Some.count,
           inr (
-            each_there (g.M.Medium.state c.args.m.now).content (2 + 249 * c.slot_of-slot.result) c.args.stamp c.in-Some.count read named.0 named.1,
+            each_there (g.M.Medium.state c.args.m.now).content (2 + 249 * c.slot_of-slot.result) c.args.stamp c.in-Some.count
+                read named.0 named.1,
             λ fit. bad fit.0
-                (rw c.if-not-branch.false at (c.in_ok-read_descriptors.ensures.all fit.0 fit.1 (rw (stays g after) fit.2))) fit.3 fit.4,
+                (rw c.if-not-branch.false at (c.in_ok-read_descriptors.ensures.all fit.0 fit.1 (rw (stays g after) fit.2)))
+                fit.3 fit.4,
             refl,
           ),
           refl,
@@ -176,4 +180,5 @@ returns-in_err-count g c =
     search (rules, looks_below)
 
 pub returns-in_err-read_descriptors : goal.returns-in_err-read_descriptors
-returns-in_err-read_descriptors g c = search (rules, followed g (goal.at.returns-in_err-read_descriptors g c).After-read_descriptors)
+returns-in_err-read_descriptors g c =
+    search (rules, followed g (goal.at.returns-in_err-read_descriptors g c).After-read_descriptors)

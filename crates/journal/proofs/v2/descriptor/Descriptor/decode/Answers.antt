@@ -48,7 +48,8 @@ invariant_of-descriptor c =
     search rules
 
 pub returns-then-eq-clause-all : goal.returns-then-eq-clause-all
-returns-then-eq-clause-all c stamp count j numbers firsts d = said (goal.at.returns-then-eq-clause-all c).After-firsts_at-firsts d
+returns-then-eq-clause-all c stamp count j numbers firsts d =
+    said (goal.at.returns-then-eq-clause-all c).After-firsts_at-firsts d
 
 pub returns-else-eq-clause-all : goal.returns-else-eq-clause-all
 returns-else-eq-clause-all c stamp count j numbers firsts d =
