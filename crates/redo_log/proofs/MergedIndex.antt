@@ -49,7 +49,36 @@ below_last f n block rises last i less = elim (cases_eq i (n - 1)) [
   | inr not ↦ omega (arith, rises i (n - 1) (omega (arith, not)) (omega arith), last (omega arith))
 ]
 
-module _ (old : List Copied) (slot : ℕ) (numbers : List ℕ) (sorted : IsSorted old) (rising : IsRising numbers) where
+-- the entry of a number of the record
+abbrev pub entry_of : ℕ → List ℕ → ℕ → Copied
+entry_of slot numbers place = record { block = slice_index numbers place; slot = slot; place = place }
+
+module _ (old : List Copied) (sorted : IsSorted old) (was left : ℕ) (index : List Copied) (block : ℕ) (fits : was ≤ length old)
+    (front : (i : ℕ) → i < was → get_or index i blank ≡ get_or old i blank) where
+  block_is : (i : ℕ) → i < was → block_at index i ≡ block_at old i
+  block_is i less = ap (λ (x : Copied). x.block) (front i less)
+
+  -- all entries that are left have smaller blocks
+  pub left_all : left ≡ was → (0 < was → block_at index (was - 1) < block) → IsLeft old block was left
+  left_all same last = record {
+    fewer = omega arith;
+    below = λ i less. below_last (block_at old) was block (λ i j less below. sorted i j less (omega (arith, below, fits)))
+        (λ some. rw (block_is (was - 1) (omega (arith, some))) at (last some)) i (omega (arith, less, same));
+    gone = λ b not. rw same refl;
+  }
+
+  -- the last entry has this block
+  pub left_less : was ≡ left + 1 → block_at index left ≡ block → IsLeft old block was left
+  left_less one_more is =
+      let block_now : block_at old left ≡ block = sym (block_is left (omega (arith, one_more))) ∙ is in
+      record {
+        fewer = omega arith;
+        below = λ i less. omega (arith, sorted i left less (omega arith), block_now);
+        gone = λ b not. rw (drop_more old left blank (omega arith), one_more)
+            (behind (get_or old left blank) (drop (left + 1) old) b (λ same. not (sym block_now ∙ same)));
+      }
+
+module _ {old : List Copied} {slot : ℕ} {numbers : List ℕ} (sorted : IsSorted old) (rising : IsRising numbers) where
   -- a block below the tail is not named by the numbers in it
   passes : (left place : ℕ) (tail : List Copied) (b : ℕ) (copies : ℕ → Option (ℕ × ℕ)) → IsTail old slot numbers left place tail
       → IsAbove (b + 1) tail → with_copies slot place (drop place numbers) copies b ≡ copies b
@@ -86,30 +115,26 @@ module _ (old : List Copied) (slot : ℕ) (numbers : List ℕ) (sorted : IsSorte
       split : drop left old ≡ c ∷ drop (left + 1) old
       split = rw is (drop_more old left blank inside)
 
-  -- the entry of a number of the record
-  abbrev pub entry_of : ℕ → Copied
-  entry_of place = record { block = slice_index numbers place; slot = slot; place = place }
-
   -- the last number that is left goes before the tail
   number_goes : (was left place : ℕ) (tail : List Copied) → place < length numbers → IsLeft old (slice_index numbers place) was left
-      → IsTail old slot numbers was (place + 1) tail → IsTail old slot numbers left place (entry_of place ∷ tail)
+      → IsTail old slot numbers was (place + 1) tail → IsTail old slot numbers left place (entry_of slot numbers place ∷ tail)
   number_goes was left place tail inside stays merged =
       let n = slice_index numbers place in
       let above = merged.over_numbers place (omega arith) in
       let with_it = with_copy n (slot, place) (look (drop left old)) in
       record {
-        sorted = sorted_cons (entry_of place) tail above merged.sorted;
-        over_entries = λ i less. above_cons (block_at old i + 1) (entry_of place) tail (omega (arith, stays.below i less))
+        sorted = sorted_cons (entry_of slot numbers place) tail above merged.sorted;
+        over_entries = λ i less. above_cons (block_at old i + 1) (entry_of slot numbers place) tail (omega (arith, stays.below i less))
             (merged.over_entries i (omega (arith, less, stays.fewer)));
-        over_numbers = λ i less. above_cons (slice_index numbers i + 1) (entry_of place) tail (omega (arith, rising i place less inside))
+        over_numbers = λ i less. above_cons (slice_index numbers i + 1) (entry_of slot numbers place) tail (omega (arith, rising i place less inside))
             (merged.over_numbers i (omega arith));
         looks = λ b. rw (drop_more numbers place 0 inside) (elim (cases_eq n b) [
           | inl same ↦
-              here (entry_of place) tail b same
+              here (entry_of slot numbers place) tail b same
               ∙ sym (with_here n (slot, place) (look (drop left old)) b same)
               ∙ sym (passes was (place + 1) tail b with_it merged (rw same at above))
           | inr not ↦
-              behind (entry_of place) tail b not
+              behind (entry_of slot numbers place) tail b not
               ∙ merged.looks b
               ∙ with_copies-same slot (place + 1) (drop (place + 1) numbers) (look (drop was old)) with_it b
               (sym (stays.gone b not) ∙ sym (with_other n (slot, place) (look (drop left old)) b not))
@@ -147,37 +172,12 @@ module _ (old : List Copied) (slot : ℕ) (numbers : List ℕ) (sorted : IsSorte
   -- the last number that is left, above all entries that are left then
   pub number_enters : (was left before place till to : ℕ) (index : List Copied) → before ≡ place + 1 → till ≡ to + 1
       → IsLeft old (slice_index numbers place) was left → IsMerging old slot numbers was before till index
-      → IsMerging old slot numbers left place to (set index to (entry_of place))
+      → IsMerging old slot numbers left place to (set index to (entry_of slot numbers place))
   number_enters was left before place till to index one_less room stays merged =
-      goes was left before place till to index (entry_of place) room merged stays.fewer (omega (arith, one_less))
+      goes was left before place till to index (entry_of slot numbers place) room merged stays.fewer (omega (arith, one_less))
       (omega (arith, merged.room, one_less, room, stays.fewer))
       (number_goes was left place (drop till index) (omega (arith, merged.places, one_less)) stays
       (rw one_less at merged.tail))
-
-  module _ (was left : ℕ) (index : List Copied) (block : ℕ) (fits : was ≤ length old)
-      (front : (i : ℕ) → i < was → get_or index i blank ≡ get_or old i blank) where
-    block_is : (i : ℕ) → i < was → block_at index i ≡ block_at old i
-    block_is i less = ap (λ (x : Copied). x.block) (front i less)
-
-    -- all entries that are left have smaller blocks
-    pub left_all : left ≡ was → (0 < was → block_at index (was - 1) < block) → IsLeft old block was left
-    left_all same last = record {
-      fewer = omega arith;
-      below = λ i less. below_last (block_at old) was block (λ i j less below. sorted i j less (omega (arith, below, fits)))
-          (λ some. rw (block_is (was - 1) (omega (arith, some))) at (last some)) i (omega (arith, less, same));
-      gone = λ b not. rw same refl;
-    }
-
-    -- the last entry has this block
-    pub left_less : was ≡ left + 1 → block_at index left ≡ block → IsLeft old block was left
-    left_less one_more is =
-        let block_now : block_at old left ≡ block = sym (block_is left (omega (arith, one_more))) ∙ is in
-        record {
-          fewer = omega arith;
-          below = λ i less. omega (arith, sorted i left less (omega arith), block_now);
-          gone = λ b not. rw (drop_more old left blank (omega arith), one_more)
-              (behind (get_or old left blank) (drop (left + 1) old) b (λ same. not (sym block_now ∙ same)));
-        }
 
   -- all that is left goes before the tail as it is
   rest_goes : (left : ℕ) (index tail : List Copied) → left ≤ length old → left ≤ length index

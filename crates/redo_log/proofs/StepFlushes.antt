@@ -52,8 +52,7 @@ one_flush Two = refl
 
 due_is : (format : LogFormat) (n made left : ℕ) → made + left ≡ steps_for format n → 0 < left → IsFlushDue (layout_of format) n made
     → step_flushes format left ≡ 1
-due_is format n made left sum some (inr all) = ap (λ (l : ℕ). step_flushes format l)
-    (last_due format n made left sum some all) ∙ one_flush format
+due_is format n made left sum some (inr all) = rw (last_due format n made left sum some all) (one_flush format)
 due_is One n made left sum some (inl early) = let third : left ≡ 3 = omega (arith, sum, early.1) in ap (λ (l : ℕ). step_flushes One l) third
 due_is Two n made left sum some (inl early) = absurd (omega (arith, early.0))
 

@@ -9,9 +9,7 @@ use Rattle.redo_log.proofs.index.merge.Goals as goal
 pub loop-place-preserved-then-index-left : goal.loop-place-preserved-then-index-left
 loop-place-preserved-then-index-left c =
     let l = c.loop-place in
-    entry_moves (take c.args.kept c.args.index.now) c.args.slot c.args.numbers.now c.requires.sorted c.requires.numbers.rising l.left
-    (l.left - 1)
-    l.place l.to (l.to - 1) l.index (omega (arith, c.if-left-gt0.true)) (omega (arith, c.loop-place-test.true, l.invariant.room))
+    entry_moves c.requires.sorted c.requires.numbers.rising l.left (l.left - 1) l.place l.to (l.to - 1) l.index (omega (arith, c.if-left-gt0.true)) (omega (arith, c.loop-place-test.true, l.invariant.room))
     (λ some. omega (arith, c.if-index-left.true)) l.invariant
 
 pub loop-place-preserved : goal.loop-place-preserved
@@ -25,25 +23,23 @@ loop-place-preserved c =
     ] in
     let stays : IsLeft old block l.left c.if-left-gt0-2.left = elim c.if-left-gt0-2.branch [
       | then-left-gt0-2+then-index-left-2 w ↦
-          left_less old c.args.slot c.args.numbers.now c.requires.sorted c.requires.numbers.rising l.left c.if-left-gt0-2.left l.index block
+          left_less old c.requires.sorted l.left c.if-left-gt0-2.left l.index block
           l.invariant.entries l.invariant.front (omega (arith, w.left-is, w.if-left-gt0-2.true))
           (ap (block_at l.index) w.left-is ∙ w.if-index-left-2.true)
       | else-left-gt0-2 w ↦
-          left_all old c.args.slot c.args.numbers.now c.requires.sorted c.requires.numbers.rising l.left c.if-left-gt0-2.left l.index block
+          left_all old c.requires.sorted l.left c.if-left-gt0-2.left l.index block
           l.invariant.entries l.invariant.front (omega (arith, w.left-is)) (λ some. elim w.else-left-gt0-2.branch [
             | else-left-gt0-2-via-then-left-gt0-2+else-index-left-2 v ↦ omega (arith, v.if-index-left-2.false, low some)
             | else-left-gt0-2-via-else-left-gt0-2 v ↦ absurd (omega (arith, some, v.if-left-gt0-2.false))
           ])
     ] in
-    number_enters old c.args.slot c.args.numbers.now c.requires.sorted c.requires.numbers.rising l.left c.if-left-gt0-2.left l.place
-    (l.place - 1)
-    l.to (l.to - 1) l.index (omega (arith, c.loop-place-test.true))
+    number_enters c.requires.sorted c.requires.numbers.rising l.left c.if-left-gt0-2.left l.place (l.place - 1) l.to (l.to - 1) l.index
+    (omega (arith, c.loop-place-test.true))
     (omega (arith, c.loop-place-test.true, l.invariant.room)) stays l.invariant
 
 pub returns : goal.returns
 returns c =
     let l = c.loop-place in
     let none : l.place ≡ 0 = omega (arith, c.loop-place-test.false) in
-    let ends = merging_ends (take c.args.kept c.args.index.now) c.args.slot c.args.numbers.now c.requires.sorted c.requires.numbers.rising
-    l.left l.to l.index (rw none at l.invariant) in
+    let ends = merging_ends c.requires.sorted c.requires.numbers.rising l.left l.to l.index (rw none at l.invariant) in
     search rules
