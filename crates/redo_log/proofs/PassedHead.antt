@@ -8,8 +8,6 @@ use Rattle.medium.specs.Moments.{EachCut}
 use Rattle.medium.proofs.Moments.{each_write, updated, updated_here, updated_elsewhere}
 use Rattle.journal.specs.Places.{Shape}
 use Rattle.journal.specs.Sectors.{IsHead}
-use Rattle.journal.specs.Record.{Entry}
-use Rattle.redo_log.specs.Logged.{Laid}
 use Rattle.redo_log.specs.Held.{View, view_retired, HasHead, Safe, Guards, with_head}
 use Rattle.redo_log.proofs.GuardedCalls.{Stands, past, keeps_of}
 
@@ -55,8 +53,7 @@ module _ {shape : Shape} {head : ℕ} {view : View} {steps made retire : ℕ} (s
           stamp = head;
           behind = refl;
           head_is = keeps.head_is;
-          laid = subst (λ (l : List (List Entry)). Laid shape head l view.array image) (drop-cons view.records 0 [] waits)
-              (record { whole = keeps.whole; blocks = keeps.blocks });
+          laid = rw (← drop-cons view.records 0 [] waits) (record { whole = keeps.whole; blocks = keeps.blocks });
           room = room;
         },
       ))
