@@ -126,8 +126,8 @@ module _ {old : List Copied} {slot : ℕ} {numbers : List ℕ} (sorted : IsSorte
         sorted = sorted_cons (entry_of slot numbers place) tail above merged.sorted;
         over_entries = λ i less. above_cons (block_at old i + 1) (entry_of slot numbers place) tail (omega (arith, stays.below i less))
             (merged.over_entries i (omega (arith, less, stays.fewer)));
-        over_numbers = λ i less. above_cons (slice_index numbers i + 1) (entry_of slot numbers place) tail (omega (arith, rising i place less inside))
-            (merged.over_numbers i (omega arith));
+        over_numbers = λ i less. above_cons (slice_index numbers i + 1) (entry_of slot numbers place) tail
+            (omega (arith, rising i place less inside)) (merged.over_numbers i (omega arith));
         looks = λ b. rw (drop_more numbers place 0 inside) (elim (cases_eq n b) [
           | inl same ↦
               here (entry_of slot numbers place) tail b same
