@@ -25,10 +25,6 @@ pub record CanMigrate (shape : Shape) : Type 0 where
   pub one : shape.format ≡ One
   pub room : 5 ≤ shape.slots
 
--- the image is a good one of format 1, but no slot of format 2 has room in its log
-abbrev pub HasSmallLog : ℕ → Image → Type 0
-HasSmallLog size image = HasFewSlots 5 size image
-
 -- The one image that a cut may leave has the super of format 2, this head, and zeros from there up
 -- to home.
 pub record IsMadeTwo (shape : Shape) (next : ℕ) (m : State) : Type 0 where
@@ -85,13 +81,13 @@ IsMigrationBy false old new answer = (answer.sizes.format ≡ Two) × IsRecovere
 abbrev pub IsMigrationCause : State → State → StartFault → Type 0
 IsMigrationCause old new fault = IsRefusalBy 5 WritesNothing old new fault
 
--- Why a migration is refused. Contents that stand for something, with a stamp left and a log that
--- is no small one, are refused by the device alone.
+-- Why a migration is refused. Contents that stand for something, with a stamp left and a log in
+-- which a slot of format 2 has room, are refused by the device alone.
 pub record IsMigrationRefusal (old new : State) (fault : StartFault) : Type 0 where
   pub cause : IsMigrationCause old new fault
   pub served : (shape : Shape) (array : Array) (next : ℕ)
       → StandsFor old.size shape old.content array next → next < 2 ^ 63
-      → (¬ HasSmallLog old.size old.content) → IsDeviceFault fault
+      → (¬ HasFewSlots 5 old.size old.content) → IsDeviceFault fault
 
 -- The image is ours for this array, in the format that it had, with this next stamp or the one
 -- behind it, or in format 2 in place of format 1, with the one behind it.
@@ -125,8 +121,8 @@ pub record MigrationLeaves (old new : State) : Type 0 where
       → (image : Image) → new.left_since (old.calls + 1) image
       → IsOursInEither old.size shape array next image
   pub spares : SparesTheRest old new
-  -- nothing is written where the log is too small
-  pub small : HasSmallLog old.size old.content → SparesFrom 0 old new
+  -- nothing is written where no slot of format 2 has room in the log of format 1
+  pub small : HasFewSlots 5 old.size old.content → SparesFrom 0 old new
   -- Whatever the image: no count falls, and the size stays.
   pub moments : LeavesOnly (λ _. Unit {0}) old new
   pub calls : new.calls ≤ old.calls + 6 + 738 * 64

@@ -56,7 +56,6 @@ returns-then-branch-clause-done g c entries all =
     let finds = found g (goal.at.returns-then-branch-clause-done g c).Then-branch in
     let shape = shape_of c.args.sizes.now in
     let old = g.M.Medium.state c.args.m.now in
-    let mid = g.M.Medium.state c.read_record.new.m in
     let new = g.M.Medium.state c.copy_blocks.new.m in
     let ns = c.read_record.new.to.numbers.items in
     let its = finds.all entries all in
@@ -68,8 +67,8 @@ returns-then-branch-clause-done g c entries all =
           ∙ ap (λ (bytes : List ℕ). get_or fs i [] ++ drop (length (get_or fs i [])) bytes)
           (c.read_record.ensures.passes.quiet.content_stays (data_at shape c.args.stamp i))
           ∙ its.blocks_are i below);
-      exact = calls_made shape.format shape old.content c.args.stamp c.read_record.new.to (length entries) finds.exact.0 old.calls
-          mid.calls new.calls finds.exact.1 many finds.exact.2 made;
+      exact = calls_made shape.format shape old.content c.args.stamp c.read_record.new.to (length entries) finds.exact.0 _
+          _ _ finds.exact.1 many finds.exact.2 made;
     }) c.copy_blocks.ensures.done c.copy_blocks.ensures.copies.exact
 
 pub returns-then-branch-clause-follows : goal.returns-then-branch-clause-follows

@@ -28,27 +28,22 @@ make_two-requires-clause-can g c =
 
 pub returns-in_err-found-clause-err : goal.returns-in_err-found-clause-err
 returns-in_err-found-clause-err g c =
-    let old = g.M.Medium.state c.args.m.now in
-    let mid = g.M.Medium.state c.recover_at_least.new.m in
     let p = err_from_is_err_and c.from_residual.result c.from_residual.ensures.1 in
     let why = c.in_err-found.ensures.err in
     rw (p.1, p.2) (record {
       cause = why;
-      served = λ shape array next s left some. served_slots 5 old mid shape array next s left some c.in_err-found.field-0.0 why;
+      served = λ shape array next s left some. served_slots 5 _ _ shape array next s left some c.in_err-found.field-0.0 why;
     })
 
 pub returns-in_err-make_two-clause-err : goal.returns-in_err-make_two-clause-err
 returns-in_err-make_two-clause-err g c =
-    let old = g.M.Medium.state c.args.m.now in
-    let mid = g.M.Medium.state c.recover_at_least.new.m in
-    let new = g.M.Medium.state c.make_two.new.m in
     let back = c.from_residual-in_err-make_two in
     let p = err_from_is_err_and back.result back.ensures.1 in
     let kind = c.in_err-make_two.field-0.0 in
     let before = c.recover_at_least.ensures.leaves.all.moments in
     rw (p.1, p.2) (record {
-      cause = call_refuses 5 WritesNothing old new kind
-          (refused_later old mid new before.failures_stay before.refused_stay kind c.in_err-make_two.ensures.cause);
+      cause = call_refuses 5 WritesNothing _ _ kind
+          (refused_later _ _ _ before.failures_stay before.refused_stay kind c.in_err-make_two.ensures.cause);
       served = λ shape array next s left some. (kind, refl);
     })
 
