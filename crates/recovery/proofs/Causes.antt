@@ -1,5 +1,5 @@
 -- Why a recovery is refused, and what that rules out.
-use Rattle.std.proofs.Common.{◌≡◌, ◌∙◌, ◌<◌, ◌≤◌, ◌^◌, ℕ, Result, refl, subst, arith, rules}
+use Rattle.std.proofs.Common.{◌≡◌, ◌<◌, ◌≤◌, ◌^◌, ℕ, Result, refl, subst, arith, rules}
 use Rattle.medium.specs.Medium.{State, Image, Passes}
 use Rattle.medium.specs.Moments.{IsQuiet}
 use Rattle.spec.specs.Blocks.{Array}

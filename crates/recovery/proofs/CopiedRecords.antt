@@ -5,9 +5,9 @@ use Rattle.std.proofs.Math.ListN.{get_or-map}
 use Rattle.std.proofs.lemmas.Bool.{cases_eq}
 use Rattle.std.proofs.lemmas.List.{length-map, take_more}
 use Rattle.medium.specs.Medium.{State, Image, Sets, CutLeaves, Within, Gains, Passes, IsSound}
-use Rattle.medium.specs.Moments.{StaysWithin, IsQuiet}
+use Rattle.medium.specs.Moments.{StaysWithin}
 use Rattle.medium.specs.declared.fault.MediumFault.{MediumFault}
-use Rattle.medium.proofs.Moments.{started_within, goes_on_within, joined_same, weaker, at_exit, quiet_leaves, updated, updated_here}
+use Rattle.medium.proofs.Moments.{started_within, goes_on_within, at_exit, updated, updated_here}
 use Rattle.medium.proofs.Moments.{updated_elsewhere}
 use Rattle.journal.specs.declared.log_format.LogFormat.{LogFormat}
 use Rattle.journal.specs.Places.{Shape, first_home, sectors_of, IsFirstHome}

@@ -4,8 +4,8 @@ use Rattle.std.specs.Prelude.{replicate}
 use Rattle.medium.specs.Medium.{State, Image, CutLeaves, Holds, Within, Gains, Passes, IsSound}
 use Rattle.medium.specs.Moments.{EachCut, IsFlushed, LeavesOnly, StaysWithin, SparesFrom}
 use Rattle.medium.specs.declared.fault.MediumFault.{MediumFault}
-use Rattle.medium.proofs.Moments.{gains_within, one_call, goes_on, goes_on_within, weaker, joined_same, at_exit, each_write, shrunk}
-use Rattle.medium.proofs.SparedSectors.{HasSpared, spared_joined}
+use Rattle.medium.proofs.Moments.{one_call, goes_on, weaker, joined_same, at_exit, each_write, shrunk}
+use Rattle.medium.proofs.SparedSectors.{spared_joined}
 use Rattle.spec.specs.Blocks.{Array}
 use Rattle.journal.specs.Places.{Shape, first_home, sectors_of}
 use Rattle.journal.specs.Sectors.{IsSuper, IsHead}
@@ -13,7 +13,7 @@ use Rattle.journal.specs.Record.{home_of}
 use Rattle.journal.specs.Standing.{IsOurs}
 use Rattle.recovery.specs.Copies.{cleared_at, WithOrWithout, IsBetween}
 use Rattle.recovery.specs.Formatted.{IsNoneOrNew, IsMidway, ImageLeaves}
-use Rattle.recovery.proofs.CopiedRecords.{sets_within, log_ends}
+use Rattle.recovery.proofs.CopiedRecords.{log_ends}
 use Rattle.recovery.proofs.SparedSectors.{spared_by}
 use Rattle.recovery.proofs.Zeros.{zeros_ours}
 

@@ -8,7 +8,6 @@ use Rattle.spec.specs.Blocks.{Array}
 use Rattle.medium.specs.Sent.{sent, SendsUpTo}
 use Rattle.medium.proofs.Moments.{weaker, joined_same, at_exit, only_image}
 use Rattle.medium.proofs.SparedSectors.{spared_behind, spared_joined}
-use Rattle.journal.specs.declared.log_format.LogFormat.{LogFormat}
 use Rattle.journal.specs.declared.log_format.LogFormat.TheVariants.{One}
 use Rattle.journal.specs.Places.{Shape, first_home, sectors_of, migrated}
 use Rattle.journal.specs.Sectors.{IsSuper, IsHead}
@@ -20,8 +19,7 @@ use Rattle.journal.specs.ImageFaults.{HasShape}
 use Rattle.journal.proofs.Formats.{laws_of}
 use Rattle.journal.proofs.StandingLaws.{StandsFor-one, StandsFor-shape}
 use Rattle.recovery.specs.Causes.{HasFewSlots}
-use Rattle.recovery.specs.Copies.{cleared_at, WithOrWithout, IsBetween, HasNewHead, copy_calls, most_start_of}
-use Rattle.recovery.specs.Tries.{AreTriesOf}
+use Rattle.recovery.specs.Copies.{cleared_at, WithOrWithout, IsBetween, HasNewHead, copy_calls}
 use Rattle.recovery.specs.Recovered.{IsRecoveredFrom, IsFresh, StandsForOneOf, IsOursForSome, LeavesAtLeast}
 use Rattle.recovery.specs.Migrated.{CanMigrate, IsMadeOf, IsMigratedFrom, IsFreshInEither, IsOursInEither, StandsInEither, MigrationLeaves}
 use Rattle.recovery.specs.declared.recovered.Recovered.{Recovered}

@@ -1,7 +1,7 @@
 -- A whole recovery: a flush, reads, copies and the new head; and what it leaves up to each of its exits.
-use Rattle.std.proofs.Common.{◌≡◌, ◌⊎◌, inl, inr, ⊎_elim, ℕ, ◌+◌, ◌*◌, ◌<◌, ◌≤◌, List, [], length, get_or, sym, ◌∙◌, ap, subst, arith, rules}
+use Rattle.std.proofs.Common.{◌≡◌, inl, inr, ⊎_elim, ℕ, ◌+◌, ◌*◌, ◌<◌, ◌≤◌, List, [], length, get_or, ◌∙◌, ap, arith, rules}
 use Rattle.std.specs.Prelude.{min, Result}
-use Rattle.medium.specs.Medium.{State, Image, CutLeaves, Stays, Within, Only, Passes, LooksOnly, IsSound}
+use Rattle.medium.specs.Medium.{State, Image, Stays, Within, Only, Passes, LooksOnly, IsSound}
 use Rattle.medium.specs.Moments.{EachCut, IsFlushed, LeavesOnly, IsQuiet, SparesFrom}
 use Rattle.medium.specs.Sent.{SendsUpTo}
 use Rattle.medium.specs.declared.fault.MediumFault.{MediumFault}
@@ -10,7 +10,7 @@ use Rattle.spec.specs.Blocks.{Array}
 use Rattle.medium.proofs.CallsSent.{none_sent, flush_sends}
 use Rattle.medium.proofs.Moments.{joined_same, weaker, at_exit, only_image, quiet_call, quiet_joined, quiet_leaves}
 use Rattle.medium.proofs.SectorsRead.{no_looks, looks_joined}
-use Rattle.medium.proofs.SparedSectors.{HasSpared, spared_quiet, spared_joined, spared_behind}
+use Rattle.medium.proofs.SparedSectors.{spared_quiet, spared_joined, spared_behind}
 use Rattle.journal.specs.Places.{Shape, first_home, sectors_of, limit_of}
 use Rattle.journal.specs.Sectors.{IsSuper}
 use Rattle.journal.specs.Values.{shape_of}
@@ -21,7 +21,7 @@ use Rattle.journal.specs.ImageFaults.{HasShape}
 use Rattle.journal.proofs.SectorNumbers.{IsSuper-one}
 use Rattle.recovery.specs.Causes.{HasFewSlots}
 use Rattle.recovery.specs.Calls.{CopiesPass, MovesHead}
-use Rattle.recovery.specs.Copies.{freed_at, copy_calls, most_calls_of, most_start_of, AreCopied, IsHomeInRecords, HasNewHead}
+use Rattle.recovery.specs.Copies.{copy_calls, most_calls_of, most_start_of, AreCopied, IsHomeInRecords, HasNewHead}
 use Rattle.recovery.specs.Tries.{AreTries}
 use Rattle.recovery.specs.Found.{IsFound, IsSurvey, SurveysAtMost}
 use Rattle.recovery.specs.Unread.{LooksNowhere}

@@ -1,4 +1,4 @@
-use Rattle.std.proofs.Common.{◌≡◌, ◌≢◌, ◌<◌, ◌≤◌, inl, inr, ◌∙◌, ◌+◌, ◌*◌, ◌%◌, ◌++◌, ℕ, List, length, drop, get_or, refl, sym, ap}
+use Rattle.std.proofs.Common.{◌≡◌, ◌≢◌, ◌<◌, ◌≤◌, inl, inr, ◌∙◌, ◌+◌, ◌*◌, ◌%◌, ◌++◌, ℕ, List, length, drop, get_or, sym, ap}
 use Rattle.std.proofs.Common.{subst, arith, rules, Result}
 use Rattle.std.specs.Prelude.{IfErr}
 use Rattle.std.proofs.lemmas.Bool.{cases_eq}

@@ -1,8 +1,7 @@
-use Rattle.std.proofs.Common.{◌≡◌, ◌∙◌, ◌+◌, ◌++◌, List, [], ℕ, length, drop, get_or, sym, ap, subst, arith, rules}
+use Rattle.std.proofs.Common.{◌≡◌, ◌∙◌, ◌++◌, List, [], ℕ, length, drop, get_or, ap, subst, arith, rules}
 use Rattle.std.specs.Prelude.{Some}
 use Rattle.medium.proofs.SectorsRead.{looks_joined}
 use Rattle.medium.proofs.CallsSent.{none_sent}
-use Rattle.journal.specs.Places.{first_home}
 use Rattle.journal.specs.Values.{shape_of}
 use Rattle.journal.specs.Reading.{data_at, FindsRecord}
 use Rattle.recovery.specs.Copies.{AreBlocks, IsHomeOf}

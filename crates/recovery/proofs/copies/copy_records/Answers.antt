@@ -1,4 +1,4 @@
-use Rattle.std.proofs.Common.{◌≡◌, ◌+◌, ◌*◌, ◌<◌, ◌≤◌, ℕ, [], length, get_or, refl, sym, arith, rules}
+use Rattle.std.proofs.Common.{◌≡◌, ◌+◌, ◌*◌, ◌<◌, ◌≤◌, ℕ, [], length, get_or, sym, arith, rules}
 use Rattle.std.specs.Prelude.{IfErr}
 use Rattle.std.proofs.Common.{Result}
 use Rattle.std.proofs.lemmas.List.{take_all}

@@ -1,6 +1,5 @@
 use Rattle.std.proofs.Common.{arith}
 use Rattle.std.proofs.lemmas.Result.{IfErr-weaker}
-use Rattle.recovery.specs.Causes.{IsRefusalBy, WritesNothing}
 use Rattle.recovery.specs.Recovered.{IsRecoveryRefusal}
 use Rattle.recovery.proofs.Causes.{refusal_cause, served_slots}
 use Rattle.recovery.proofs.recovery.recover.Goals as goal
