@@ -70,7 +70,8 @@ refused_look old new fault h = record { cause = h; served = served fault h }
     served Flush h s = (medium.Flush, refl)
     served NoMemory h s = absurd h
     served fault h s =
-        let faultless = λ (f : image.ImageFault) (h : image.HasFault old.size old.content f). HasFault-stands old.size old.content f h s in
+        let faultless = λ (f : image.ImageFault) (h : image.HasFault old.size old.content f).
+        HasFault-stands old.size old.content f h s in
         absurd (search (rules, faultless))
 
 -- the record of a stamp has so many blocks

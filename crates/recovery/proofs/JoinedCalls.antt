@@ -39,7 +39,8 @@ copies_on {all = all} {old = old} {mid = mid} {new = new} sound f first second f
 -- no call copies nothing
 pub none_made : {places : ℕ → Type 0} {most : ℕ} {m : State} → IsSound m → CopiesPass {X = Unit {0}} places most m m (Ok tt)
 none_made {places = places} {m = m} sound =
-    record { elsewhere = λ x not. refl; moments = started_within (freed_at places m.may_leave) m sound (λ s c left. inl left); calls = omega arith; cause = tt }
+    let moments = started_within (freed_at places m.may_leave) m sound (λ s c left. inl left) in
+    record { elsewhere = λ x not. refl; moments = moments; calls = omega arith; cause = tt }
 
 -- reads copy nothing
 pub none_copies : {X Y : Type 0} {places : ℕ → Type 0} {few most : ℕ} {old new : State} {reads : Result X MediumFault}

@@ -149,7 +149,8 @@ module _ (old mid : State) (found : Recovered) (recovered : IsRecoveredFrom old 
         cuts = λ each.
             let e = each old.content sound_old.holds_content in
             joined_same (StandsInEither old) old mid new (first.cuts each)
-            (weaker (IsOursInEither old.size e.0 e.1 e.2) (StandsInEither old) _ _ (λ image is. search (rules, e.3, is, sound_old.holds_content))
+            (weaker (IsOursInEither old.size e.0 e.1 e.2) (StandsInEither old) _ _
+            (λ image is. search (rules, e.3, is, sound_old.holds_content))
             (leaves_ours e.0 e.1 e.2 e.3));
         after_flush = λ shape array next ours more image since. ⊎_elim
             (λ was. first.after_flush shape array next ours (omega (arith, tried)) image was) (λ now. now)

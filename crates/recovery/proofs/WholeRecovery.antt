@@ -120,7 +120,8 @@ module _ (least : ℕ) (old mid seen : State) {result : Result (Unit {0}) Medium
       let cuts = λ (each : EachCut (IsOursForSome old.size) old).
       quiet_leaves (StandsForOneOf old) old seen known.flush.sound (itself old each) quiet in
       let moments = quiet_leaves (λ _. Unit {0}) old seen known.flush.sound (λ image cut. tt) quiet in
-      let most = λ (shape : Shape) (has : HasShape old.size shape old.content). most_start shape.format shape.slots old.calls mid.calls seen.calls seen.calls 0 counted
+      let most = λ (shape : Shape) (has : HasShape old.size shape old.content).
+      most_start shape.format shape.slots old.calls mid.calls seen.calls seen.calls 0 counted
       (known.reads.most shape (quiet_after (λ n i. HasShape n shape i) old mid before has)) (omega arith) (omega arith) in
       let sends = few_sent old seen (omega (arith, flush_sends old mid known.flush.passes, none_sent mid seen known.reads.reads)) in
       let looks = looked_later old mid seen before (unlooked least old mid known.flush) known.reads.looks in
@@ -161,7 +162,8 @@ module _ (least : ℕ) (old mid seen : State) {result : Result (Unit {0}) Medium
           let sound = known.flush.sound in
           let e = each old.content sound.holds_content in
           joined_same _ old seen later (survey_leaves.all.cuts each)
-          (weaker (IsOursWithNext old.size e.0 e.1 e.2) (StandsForOneOf old) _ _ (λ image is. search (rules, e.3, is, sound.holds_content))
+          (weaker (IsOursWithNext old.size e.0 e.1 e.2) (StandsForOneOf old) _ _
+          (λ image is. search (rules, e.3, is, sound.holds_content))
           (leaves_any e.0 e.1 e.2 e.3))
 
       later_after : (other : Shape) (array : Array) (next : ℕ) → IsOurs old.size other old.content array next → (image : Image)
@@ -180,7 +182,8 @@ module _ (least : ℕ) (old mid seen : State) {result : Result (Unit {0}) Medium
           cuts = later_cuts;
           after_flush = λ other array next ours more image since. later_after other array next ours image since;
           spares = found_spares found old seen later known.flush.sound quiet at_old spares;
-          moments = joined_same (λ _. Unit {0}) old seen later survey_leaves.all.moments (weaker _ _ _ _ (λ image p. tt) spares.moments);
+          moments = joined_same (λ _. Unit {0}) old seen later survey_leaves.all.moments
+              (weaker _ _ _ _ (λ image p. tt) spares.moments);
           calls = few_starts found.sizes.format found.sizes.slots old.calls later.calls found.sizes.most_slots few_made;
           most = λ other has. rw (one_shape other has.super) few_made;
           sends = found_sent old later found at_old

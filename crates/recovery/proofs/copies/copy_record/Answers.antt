@@ -28,11 +28,13 @@ copy_blocks-requires-clause-blocks g c = blocks g (goal.at.copy_blocks-requires-
 
 pub returns-in_err-read_record-clause-copies : goal.returns-in_err-read_record-clause-copies
 returns-in_err-read_record-clause-copies g c =
-    none_copies (g.met.M.Medium.sound c.args.m.now) c.read_record.ensures.passes (omega (arith, most_copied c.args.sizes.now.format 0)) (search rules)
+    none_copies (g.met.M.Medium.sound c.args.m.now) c.read_record.ensures.passes
+    (omega (arith, most_copied c.args.sizes.now.format 0)) (search rules)
 
 pub returns-else-branch-clause-copies : goal.returns-else-branch-clause-copies
 returns-else-branch-clause-copies g c =
-    none_copies (g.met.M.Medium.sound c.args.m.now) c.read_record.ensures.passes (omega (arith, most_copied c.args.sizes.now.format 0)) tt
+    none_copies (g.met.M.Medium.sound c.args.m.now) c.read_record.ensures.passes
+    (omega (arith, most_copied c.args.sizes.now.format 0)) tt
 
 -- there is a record
 pub returns-else-branch-clause-done : goal.returns-else-branch-clause-done

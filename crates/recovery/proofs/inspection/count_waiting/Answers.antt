@@ -39,7 +39,8 @@ returns-in-None g c =
 pub returns : goal.returns
 returns g c =
     let inv = c.loop-j.invariant in
-    let finds = counts_made (shape_of c.args.sizes.now) (g.M.Medium.state c.args.m.now).content c.args.head c.loop-j.j c.loop-j.waiting.items inv.long
+    let finds = counts_made (shape_of c.args.sizes.now) (g.M.Medium.state c.args.m.now).content
+    c.args.head c.loop-j.j c.loop-j.waiting.items inv.long
     c.loop-j.auto.j-end inv.each (λ less. absurd (omega (arith, less, c.loop-j-test.false))) in
     search (rules, finds)
 

@@ -27,7 +27,8 @@ wiping g c =
     let sound = g.met.M.Medium.sound c.clear.new.m in
     let same = ap (λ (s : Shape). s.home) c.migrated-sizes.ensures in
     record {
-      cuts = λ array fresh. weaker _ _ _ _ (λ image f. inl f) (wiped _ array _ _ _ c.requires.least c.requires.flushed fresh sound cleared.moments);
+      cuts = λ array fresh. weaker _ _ _ _ (λ image f. inl f)
+          (wiped _ array _ _ _ c.requires.least c.requires.flushed fresh sound cleared.moments);
       spares = clear_spares 2 _ _ _ sound cleared.elsewhere cleared.moments;
       sends = omega (arith, c.clear.ensures.follows.sent, same, home_one c.args.found.now.sizes c.requires.can.one);
       looked_stays = c.clear.ensures.follows.looks.looked_stays;

@@ -99,7 +99,8 @@ returns-in_err-sizes g c =
     let p = err_from_is_err_and c.from_residual.result c.from_residual.ensures.1 in
     let quiet = c.read_super.ensures.reads.quiet in
     let looked = super_looked _ _ c.read_super.ensures.follows.1 in
-    rw (p.1, p.2) (search (rules, quiet, looked, look_refusal c.args.least _ _ c.in_err-sizes.field-0.0 c.in_err-sizes.ensures.err quiet))
+    let err = look_refusal c.args.least _ _ c.in_err-sizes.field-0.0 c.in_err-sizes.ensures.err quiet in
+    rw (p.1, p.2) (search (rules, quiet, looked, err))
 
 pub returns-in_err-read : goal.returns-in_err-read
 returns-in_err-read g c = search (rules, head_read g (goal.at.returns-in_err-read g c).After-read)
