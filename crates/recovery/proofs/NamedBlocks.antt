@@ -1,5 +1,5 @@
 -- What is read of a whole record names its blocks, and how many calls bring them home.
-use Rattle.std.proofs.Common.{◌≡◌, ℕ, ◌+◌, ◌*◌, ◌≤◌, List, length, refl, arith, Result, Ok, Err}
+use Rattle.std.proofs.Common.{◌≡◌, ℕ, ◌+◌, ◌*◌, ◌≤◌, List, length, refl, arith, rules, Result, Ok, Err}
 use Rattle.std.specs.Prelude.{Some, OnOk}
 use Rattle.medium.specs.Medium.{Image}
 use Rattle.journal.specs.declared.log_format.LogFormat.{LogFormat}
@@ -20,11 +20,8 @@ both_ok (Err e) f p q = tt
 -- the numbers that were read are those of blocks
 pub blocks_read : (shape : Shape) (image : Image) (stamp : ℕ) (entries : List Entry) (read : Record) → IsWhole shape image stamp entries
     → IsRead shape image stamp entries read → AreBlocks shape read.numbers.items
-blocks_read shape image stamp entries read whole is = rw is.numbers_are (record {
-  few = omega (arith, long_as entries (numbers_of entries) refl, most_is shape.format, whole.fit.few);
-  rising = whole.fit.rising;
-  inside = whole.fit.inside;
-})
+blocks_read shape image stamp entries read whole is = rw is.numbers_are
+    (search (rules, long_as entries (numbers_of entries) refl, most_is shape.format, whole.fit.rising, whole.fit.inside))
 
 -- as many calls as it takes
 pub calls_made : (format : LogFormat) (shape : Shape) (image : Image) (stamp : ℕ) (read : Record) (n reads old mid new : ℕ)
