@@ -45,7 +45,7 @@ module _ (L : Layout) (shape : Shape) where
   abbrev pub part_at : ℕ → ℕ → ℕ → ℕ
   part_at stamp n p = slot_at stamp + L.offset n p
 
-  -- the record of this stamp is whole in this image, with these blocks: each part stands at its place
+  -- the record of this stamp is whole in this image, with these blocks: each part is at its place
   pub record IsWholeIn (image : Image) (stamp : ℕ) (entries : List Entry) : Type 0 where
     pub fit : AreEntries L.most shape.blocks entries
     pub least : 1 ≤ stamp
