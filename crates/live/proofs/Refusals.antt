@@ -1,7 +1,10 @@
 -- Which refusals the serving of an image file may have.
 use Rattle.std.proofs.Common.{◌≡◌, ◌≤◌, ℕ, List, refl, sym, ◌∙◌, ap, inl, inr, arith}
 use Rattle.std.proofs.Common.{subst}
-use Rattle.std.specs.Prelude.{◌⊎◌, Option, Some, None, IfSome}
+use Rattle.std.specs.Prelude.{Option, Some, None, IfSome}
+use Rattle.mirror.specs.declared.call.DeviceCall.{DeviceCall}
+use Rattle.mirror.specs.declared.call.DeviceCall.TheVariants.{Write, Flush}
+use Rattle.device_file.specs.Outbox.{EndIn, kind_of}
 use Rattle.bot_machine.specs.StartFaults.{StartFault}
 use Rattle.bot_machine.specs.StartFaults as start
 use Rattle.device_file.specs.Asked.{Told}
@@ -119,20 +122,23 @@ module _ (was now left after : Option (List ℕ)) (back : Option FileValue) (wor
 
 -- ---- status 3
 
--- the file refused a call that waited
-abbrev IsWaiting : FileFault → Type 0
-IsWaiting fault = (fault.call ≡ call.Write) ⊎ (fault.call ≡ call.Sync)
+-- the file refused the last of these calls that waited
+kind_not_three : (last : DeviceCall) → status_of_call (kind_of last) ≡ 3 → ⊥
+kind_not_three (Write w) is = omega (arith, is)
+kind_not_three Flush is = omega (arith, is)
 
-waiting_not_three : (fault : FileFault) → IsWaiting fault → status_of_call fault.call ≡ 3 → ⊥
-waiting_not_three fault (inl write) is = omega (arith, sym (ap status_of_call write) ∙ is)
-waiting_not_three fault (inr sync) is = omega (arith, sym (ap status_of_call sync) ∙ is)
+waiting_not_three : (calls : List DeviceCall) (fault : FileFault) → EndIn calls fault.call → status_of_call fault.call ≡ 3 → ⊥
+waiting_not_three calls fault (before, last, parts, kind) is = kind_not_three last (sym (ap status_of_call kind) ∙ is)
 
-part_not_three : (why : Option FileFault) (fault : FileFault) → why ≡ Some fault → IfSome why IsWaiting → status_of_call fault.call ≡ 3 → ⊥
-part_not_three why fault same named is = waiting_not_three fault (subst (λ (o : Option FileFault). IfSome o IsWaiting) same named) is
+part_not_three : (calls : List DeviceCall) (why : Option FileFault) (fault : FileFault) → why ≡ Some fault
+    → IfSome why (λ fault. EndIn calls fault.call) → status_of_call fault.call ≡ 3 → ⊥
+part_not_three calls why fault same named is =
+    waiting_not_three calls fault (subst (λ (o : Option FileFault). IfSome o (λ fault. EndIn calls fault.call)) same named) is
 
-player_not_three : (why : Option FileFault) → IfSome why IsWaiting → status_of (refusal_of_serving serve.Player why) ≡ 3 → ⊥
-player_not_three None named is = omega (arith, is)
-player_not_three (Some fault) named is = waiting_not_three fault named is
+player_not_three : (calls : List DeviceCall) (why : Option FileFault) → IfSome why (λ fault. EndIn calls fault.call)
+    → status_of (refusal_of_serving serve.Player why) ≡ 3 → ⊥
+player_not_three calls None named is = omega (arith, is)
+player_not_three calls (Some fault) named is = waiting_not_three calls fault named is
 
 serving_not_three : {D : Type 0} (told : D → Told) (holds : D → ℕ → List ℕ → Type 0) (refuses : D → ℕ → ℕ → Type 0) (most : ℕ)
     (was now left after : Option (List ℕ)) (first last : DiskOn D) (fault : ServeFault)
@@ -142,7 +148,8 @@ serving_not_three told holds refuses most was now left after first last (serve.L
 serving_not_three told holds refuses most was now left after first last serve.Reader stops is = omega (arith, is)
 serving_not_three told holds refuses most was now left after first last serve.Writer stops is = omega (arith, is)
 serving_not_three told holds refuses most was now left after first last serve.Player (script, all, stops) is =
-    player_not_three (medium_of last).fault stops.gives_up.stops.1.plays.carried.named is
+    player_not_three stops.gives_up.stops.1.plays.carried.carried.part (medium_of last).fault
+    stops.gives_up.stops.1.plays.carried.named is
 
 abbrev Unasked : Option FileValue → Type 0
 Unasked back = IfSome back (λ file. file ≡ fresh file.size)
@@ -157,7 +164,8 @@ module _ (was now left after : Option (List ℕ)) (back : Option FileValue) wher
         | inl (inl (none, given), unread, kept) ↦ same given
         | inl (inr on, unread, kept) ↦ elim on.refused [
           | inl start ↦ same (start.unasked ∙ on.on.over.file_is)
-          | inr part ↦ absurd (part_not_three (medium_of part.disk).fault part.fault part.fault_is part.starts.carried.named
+          | inr part ↦ absurd (part_not_three part.starts.carried.carried.part (medium_of part.disk).fault part.fault part.fault_is
+              part.starts.carried.named
               (sym (ap status_of part.refused_is) ∙ three))
         ]
         | inr serving ↦ absurd (serving_not_three _ _ _ most was now left after serving.first serving.last serving.fault serving.stopped
