@@ -1,15 +1,15 @@
--- The disks that a hearing follows.
+-- The disks that an oracle follows.
 use Rattle.std.specs.Prelude.{ℕ, true, List, [], ◌∷◌, fold, min}
 use Rattle.abstract_disk.specs.declared.disk.Disk.{Disk}
-use Rattle.abstract_disk.specs.declared.hearing.Hearing.{Hearing}
+use Rattle.abstract_disk.specs.declared.oracle.Oracle.{Oracle}
 
 -- the disks that are followed
-abbrev pub disks_of : Hearing → List Disk
-disks_of hearing = hearing.disks.items
+abbrev pub disks_of : Oracle → List Disk
+disks_of oracle = oracle.disks.items
 
 -- the blocks with which the life opened
-abbrev pub opening_of : Hearing → List (List ℕ)
-opening_of hearing = hearing.book.opening.blocks.items
+abbrev pub opening_of : Oracle → List (List ℕ)
+opening_of oracle = oracle.book.opening.blocks.items
 
 -- the number of the case of the exchange that the last event began, by the first of these disks
 abbrev pub case_in : List Disk → ℕ

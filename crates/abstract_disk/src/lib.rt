@@ -5,7 +5,7 @@
 //! leaves.
 //!
 //! Where one more call of the medium may be refused, a disk of the definitions may go on in several
-//! ways: `Hearing` follows all of them, and drops those that an answer refutes.
+//! ways: `Oracle` follows all of them, and drops those that an answer refutes.
 //!
 //! That the stamps of a log run out is not part of it.
 #![tactic(auto)]
@@ -16,12 +16,12 @@ mod cases;
 mod command;
 mod disk;
 mod exchange;
-mod hearing;
 mod inquiry_data;
 mod luck;
+mod oracle;
 mod sense_data;
 mod unit;
 
 pub use array::{Array, Block, Write};
 pub use book::Found;
-pub use hearing::Hearing;
+pub use oracle::Oracle;

@@ -7,7 +7,7 @@ use crate::finding::{Finding, Step};
 use crate::record::whole_record;
 use crate::shape::{LAST_STAMP, head_of};
 use crate::standing::{Standing, Verdict, examine};
-use abstract_disk::{Array, Hearing, Write};
+use abstract_disk::{Array, Oracle, Write};
 use bot_machine::{Disk, Life, PacketSize, Retiring, StartError, StartFault};
 use judging::{Host, blocks_of, cut, disk_identity, play};
 use medium::{Kept, SimMedium};
@@ -209,8 +209,8 @@ pub(crate) fn live(
     ensures { IfOk result RestsUnfused }
 {
     let life = forced_life(alloc, writes)?;
-    let mut hearing = Hearing::new(alloc, opening, limit, PacketSize::High512)?;
-    Ok(play(alloc, medium, Retiring::Late, &life, &mut hearing)?.medium)
+    let mut oracle = Oracle::new(alloc, opening, limit, PacketSize::High512)?;
+    Ok(play(alloc, medium, Retiring::Late, &life, &mut oracle)?.medium)
 }
 
 fn forced_life(alloc: Global, writes: &[Write]) -> Result<Life, judging::Finding> {

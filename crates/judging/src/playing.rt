@@ -4,7 +4,7 @@ ghost use Rattle.judging.specs.Judged.{judged_identity};
 ghost use Rattle.judging.specs.Resting.{RestsUnfused};
 
 use crate::finding::Finding;
-use abstract_disk::Hearing;
+use abstract_disk::Oracle;
 use bot_machine::{Answer, Answers, Event, Identity, Life, PacketSize, Retiring, run_lives_by};
 use medium::SimMedium;
 use std::alloc::{AllocError, Global};
@@ -21,7 +21,7 @@ pub struct Played {
 }
 
 /// Plays a life at high speed on a medium with its power on, nothing unflushed and no fuse armed.
-/// Its disk retires records so. The hearing hears each answer up to the event in which the power
+/// Its disk retires records so. The oracle observes each answer up to the event in which the power
 /// went.
 ///
 /// # Errors
@@ -33,14 +33,14 @@ pub fn play(
     medium: SimMedium,
     retiring: Retiring,
     life: &Life,
-    hearing: &mut Hearing,
+    oracle: &mut Oracle,
 ) -> Result<Played, Finding>
     requires { RestsUnfused medium }
     ensures rests { IfOk result (λ played. RestsUnfused played.medium) }
     ensures cut { IfOk result (λ played. OnSome played.cut_in (IsSome life.now.fuse)) }
 {
     let (medium, answers) = live(alloc, medium, retiring, life)?;
-    let cut_in = hear(&life.events, answers.list(), hearing)?;
+    let cut_in = observe(&life.events, answers.list(), oracle)?;
     match cut_in {
         Some(place) if life.fuse.is_none() => Err(Finding::Off(place)),
         _ => Ok(Played { medium, cut_in }),
@@ -92,17 +92,17 @@ pub(crate) fn live(
     }
 }
 
-/// Lets the hearing hear the answers to events, up to the event in which the power went. Gives the
-/// place of that event.
+/// Lets the oracle observe the answers to events, up to the event in which the power went. Gives
+/// the place of that event.
 ///
 /// # Errors
 ///
 /// `Answer` where no abstract disk gives that answer, or where the power is on again before the
 /// cut; `Count` where there are not as many answers as events.
-pub fn hear(
+pub fn observe(
     events: &[Event],
     told: &[Answer],
-    hearing: &mut Hearing,
+    oracle: &mut Oracle,
 ) -> Result<Option<usize>, Finding>
     ensures count { OnOk result (length told.now ≡ length events.now) }
     ensures cut { IfOk result (λ cut_in. IfSome cut_in (λ place. slice_get told.now place
@@ -120,7 +120,7 @@ pub fn hear(
                 Err(Finding::Answer(place))
             };
         }
-        if !hearing.hear(event, answer)? {
+        if !oracle.observe(event, answer)? {
             return Err(Finding::Answer(place));
         }
     }

@@ -3,7 +3,7 @@ ghost use Rattle.std.specs.Prelude.{IfOk};
 ghost use Rattle.judging.specs.Resting.{RestsUnfused};
 
 use crate::fault::Fault;
-use abstract_disk::{Array, Hearing};
+use abstract_disk::{Array, Oracle};
 use bot_machine::PacketSize;
 use judging::{Format, Shape, blocks_of, cut};
 use medium::{Kept, SimMedium};
@@ -21,12 +21,12 @@ pub(crate) fn served_by(alloc: Global, shape: Shape, image: SimMedium) -> Result
 }
 
 /// A life opens over these blocks.
-pub(crate) fn hearing_over(
+pub(crate) fn oracle_over(
     alloc: Global,
     format: Format,
     opening: &Array,
-) -> Result<Hearing, Fault> {
-    Ok(Hearing::new(alloc, opening, format.limit(), PacketSize::High512)?)
+) -> Result<Oracle, Fault> {
+    Ok(Oracle::new(alloc, opening, format.limit(), PacketSize::High512)?)
 }
 
 /// A copy of a medium after a cut that keeps the unflushed writes of this mask.

@@ -6,10 +6,10 @@
 //! it with each of its requests for memory refused in turn.
 
 use crate::fault::Fault;
-use crate::image::{hearing_over, tell};
-use abstract_disk::{Array, Hearing};
+use crate::image::{oracle_over, tell};
+use abstract_disk::{Array, Oracle};
 use bot_machine::{Answer, Event, Retiring, StartFault};
-use judging::{Finding, Format, Host, Player, Shape, TestWrite, copied, hear, served};
+use judging::{Finding, Format, Host, Player, Shape, TestWrite, copied, observe, served};
 use medium::{SimError, SimMedium};
 use std::alloc::{AllocError, Global};
 use std::io;
@@ -151,12 +151,12 @@ fn judge_answers(
     answers: &[Answer],
 ) -> Result<(), Fault> {
     let zeros = Array::zeros(alloc, BLOCKS as usize)?;
-    let mut hearing = hearing_over(alloc, format, &zeros)?;
-    hear_all(events, answers, &mut hearing)
+    let mut oracle = oracle_over(alloc, format, &zeros)?;
+    observe_all(events, answers, &mut oracle)
 }
 
-fn hear_all(events: &[Event], answers: &[Answer], hearing: &mut Hearing) -> Result<(), Fault> {
-    match hear(events, answers, hearing)? {
+fn observe_all(events: &[Event], answers: &[Answer], oracle: &mut Oracle) -> Result<(), Fault> {
+    match observe(events, answers, oracle)? {
         None => Ok(()),
         Some(place) => Err(Fault::Finding(Finding::Off(place))),
     }

@@ -1,8 +1,8 @@
 //! A life on an image, which is played again and again.
 use crate::case::Case;
 use crate::fault::Fault;
-use crate::image::hearing_over;
-use abstract_disk::{Array, Hearing};
+use crate::image::oracle_over;
+use abstract_disk::{Array, Oracle};
 use bot_machine::Life;
 use judging::{Played, Player, copied, play};
 use medium::SimMedium;
@@ -38,13 +38,13 @@ impl Trial {
     }
 
     /// A life opens over the blocks of the image.
-    pub(crate) fn hearing(&self, alloc: Global) -> Result<Hearing, Fault> {
-        hearing_over(alloc, self.case.format, &self.opening)
+    pub(crate) fn oracle(&self, alloc: Global) -> Result<Oracle, Fault> {
+        oracle_over(alloc, self.case.format, &self.opening)
     }
 
     /// Plays the life on a copy of the image.
-    pub(crate) fn play(&self, alloc: Global, hearing: &mut Hearing) -> Result<Played, Fault> {
+    pub(crate) fn play(&self, alloc: Global, oracle: &mut Oracle) -> Result<Played, Fault> {
         let image = copied(alloc, &self.image)?;
-        Ok(play(alloc, image, self.case.retiring(), &self.life, hearing)?)
+        Ok(play(alloc, image, self.case.retiring(), &self.life, oracle)?)
     }
 }

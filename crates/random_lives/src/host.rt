@@ -1,8 +1,8 @@
 //! A host that mostly behaves, and the lives that it makes of a disk.
 use crate::command::{Command, Data, any_command, request_sense};
 use crate::finding::Finding;
-use crate::heard::Heard;
 use crate::judge::Judge;
+use crate::observed::Observed;
 use crate::random::Random;
 use crate::shape::Shape;
 use crate::step::Step;
@@ -41,7 +41,7 @@ pub(crate) struct Host {
     pub(crate) judge: Judge,
     pub(crate) steps: Vec<Step>,
     pub(crate) shape: Shape,
-    /// What was found. From then on the host hears that the power is off, and nothing is played.
+    /// What was found. From then on the host observes that the power is off, and nothing is played.
     pub(crate) found: Result<(), Finding>,
     random: Random,
     tag: u32,
@@ -141,7 +141,7 @@ impl Host {
     }
 
     // An event, and before it perhaps others.
-    fn event(&mut self, event: Event) -> Heard {
+    fn event(&mut self, event: Event) -> Observed {
         if self.random.one_in(8) {
             self.ticks();
         }
@@ -161,22 +161,22 @@ impl Host {
     }
 
     // An event.
-    fn send(&mut self, event: Event) -> Heard {
+    fn send(&mut self, event: Event) -> Observed {
         if self.found.is_err() {
-            return Heard::Off;
+            return Observed::Off;
         }
         let played = self.judge.event(&event);
         self.note(Step::Event(event));
-        self.heard(played)
+        self.observed(played)
     }
 
-    // What the host hears of an event that was played.
-    fn heard(&mut self, played: Result<Heard, Finding>) -> Heard {
+    // What the host observes of an event that was played.
+    fn observed(&mut self, played: Result<Observed, Finding>) -> Observed {
         match played {
-            Ok(heard) => heard,
+            Ok(observed) => observed,
             Err(finding) => {
                 self.find(finding);
-                Heard::Off
+                Observed::Off
             }
         }
     }
@@ -220,8 +220,8 @@ impl Host {
     fn carry_on(&mut self, command: &Command) -> Flow {
         let wrapper = self.wrapper(command);
         match self.event(wrapper) {
-            Heard::Ack => self.move_data(command),
-            Heard::Off => Flow::Off,
+            Observed::Ack => self.move_data(command),
+            Observed::Off => Flow::Off,
             _ => self.recover(),
         }
     }
@@ -269,9 +269,9 @@ impl Host {
         }
         let packet = self.packet(&data.part(sent, length), length);
         match self.event(packet) {
-            Heard::Ack if !is_last => None,
-            Heard::Off => Some(Flow::Off),
-            Heard::Stall => {
+            Observed::Ack if !is_last => None,
+            Observed::Off => Some(Flow::Off),
+            Observed::Stall => {
                 self.clear(CLEAR_OUT);
                 Some(Flow::On)
             }
@@ -296,15 +296,15 @@ impl Host {
     // A token. `None` where the next one follows.
     fn take_part(&mut self) -> Option<Flow> {
         match self.event(Event::In) {
-            Heard::Data => None,
-            Heard::Stall => {
+            Observed::Data => None,
+            Observed::Stall => {
                 self.clear(CLEAR_IN);
                 None
             }
-            Heard::Passed => Some(Flow::Over),
-            Heard::Failed => Some(Flow::On),
-            Heard::Off => Some(Flow::Off),
-            Heard::Ack | Heard::Other => Some(self.recover()),
+            Observed::Passed => Some(Flow::Over),
+            Observed::Failed => Some(Flow::On),
+            Observed::Off => Some(Flow::Off),
+            Observed::Ack | Observed::Other => Some(self.recover()),
         }
     }
 
@@ -321,7 +321,7 @@ impl Host {
             if self.random.one_in(24) {
                 continue;
             }
-            if let Heard::Off = self.event(Event::Setup(request)) {
+            if let Observed::Off = self.event(Event::Setup(request)) {
                 return Flow::Off;
             }
         }

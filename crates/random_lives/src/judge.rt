@@ -1,13 +1,13 @@
 //! A script of lives, played and judged step by step.
 use crate::counts::{Counts, count};
 use crate::finding::Finding;
-use crate::heard::Heard;
 use crate::life::Life;
+use crate::observed::Observed;
 use crate::player::Player;
 use crate::reading::blocks_of;
 use crate::shape::Shape;
 use crate::step::Step;
-use abstract_disk::{Array, Hearing};
+use abstract_disk::{Array, Oracle};
 use bot_machine::{Answer, Disk, Event, StartFault};
 use judging::disk_identity;
 use medium::{Kept, SimMedium};
@@ -95,27 +95,27 @@ impl Judge {
     }
 
     /// Plays an event, and judges its answer.
-    pub(crate) fn event(&mut self, event: &Event) -> Result<Heard, Finding> {
+    pub(crate) fn event(&mut self, event: &Event) -> Result<Observed, Finding> {
         if let Stage::Waits = self.stage {
             self.start()?;
         }
         if let Stage::Refused = self.stage {
-            return Ok(Heard::Off);
+            return Ok(Observed::Off);
         }
         count(&mut self.counts.events);
         let answer = self.player.event(self.alloc, event)?;
-        self.hear(event, &answer)
+        self.observe(event, &answer)
     }
 
     // Judges the answer to an event.
-    fn hear(&mut self, event: &Event, answer: &Answer) -> Result<Heard, Finding> {
-        let heard = Heard::of(answer);
-        match (&mut self.stage, heard) {
+    fn observe(&mut self, event: &Event, answer: &Answer) -> Result<Observed, Finding> {
+        let observed = Observed::of(answer);
+        match (&mut self.stage, observed) {
             (Stage::Started(life), _) => {
-                life.hear(event, answer, self.fused, &mut self.counts)?;
-                Ok(heard)
+                life.observe(event, answer, self.fused, &mut self.counts)?;
+                Ok(observed)
             }
-            (_, Heard::Off) => Ok(heard),
+            (_, Observed::Off) => Ok(observed),
             _ => Err(Finding::On),
         }
     }
@@ -142,7 +142,7 @@ impl Judge {
     // A life opens.
     fn life(&self) -> Result<Life, AllocError> {
         let (limit, size) = (self.shape.limit(), self.shape.size);
-        let mut life = Life::new(Hearing::new(self.alloc, &self.opening, limit, size)?);
+        let mut life = Life::new(Oracle::new(self.alloc, &self.opening, limit, size)?);
         if self.failing {
             life.may_fail();
         }

@@ -1,24 +1,24 @@
-//! A life of a disk that was started, as its host heard it.
+//! A life of a disk that was started, as its host observed it.
 use crate::counts::{Counts, count};
 use crate::finding::Finding;
 use crate::step::copy_of;
-use abstract_disk::{Array, Hearing};
+use abstract_disk::{Array, Oracle};
 use bot_machine::{Answer, Event};
 use std::alloc::AllocError;
 
 /// A life of a disk that was started.
 #[derive(Drop)]
 pub(crate) struct Life {
-    hearing: Hearing,
+    oracle: Oracle,
     // The event in which the power went.
     off_in: Option<Event>,
 }
 
 impl Life {
-    /// Nothing was heard yet.
-    pub(crate) fn new(hearing: Hearing) -> Life {
+    /// Nothing was observed yet.
+    pub(crate) fn new(oracle: Oracle) -> Life {
         Life {
-            hearing,
+            oracle,
             off_in: None,
         }
     }
@@ -26,12 +26,12 @@ impl Life {
     /// A failure is armed.
     pub(crate) fn may_fail(&mut self) {
         if self.off_in.is_none() {
-            self.hearing.may_fail();
+            self.oracle.may_fail();
         }
     }
 
     /// The answer to an event. The power may go where a fuse was armed.
-    pub(crate) fn hear(
+    pub(crate) fn observe(
         &mut self,
         event: &Event,
         answer: &Answer,
@@ -59,16 +59,16 @@ impl Life {
         if self.off_in.is_some() {
             return Err(Finding::On);
         }
-        if !self.hearing.hear(event, answer)? {
+        if !self.oracle.observe(event, answer)? {
             return Err(Finding::Answer);
         }
-        count_case(self.hearing.begun_case(), event, counts);
+        count_case(self.oracle.begun_case(), event, counts);
         Ok(())
     }
 
     /// Whether a cut may leave these blocks.
     pub(crate) fn may_leave(&self, blocks: &Array) -> Result<bool, AllocError> {
-        let found = self.hearing.found(self.off_in.as_ref(), blocks)?;
+        let found = self.oracle.found(self.off_in.as_ref(), blocks)?;
         Ok(found.is_some())
     }
 

@@ -19,10 +19,10 @@
 mod command;
 mod counts;
 mod finding;
-mod heard;
 mod host;
 mod judge;
 mod life;
+mod observed;
 mod player;
 mod random;
 mod reading;

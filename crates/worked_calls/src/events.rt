@@ -2,9 +2,9 @@
 ghost use Rattle.std.specs.Prelude.{◌≡◌, IfOk};
 
 use crate::difference::Difference;
-use abstract_disk::{Array, Hearing};
+use abstract_disk::{Array, Oracle};
 use bot_machine::{Answer, Answers, Disk, Event, PacketSize, StartError, StartFault, run_events};
-use judging::{Finding, Format, Host, Shape, TestWrite, disk_identity, hear};
+use judging::{Finding, Format, Host, Shape, TestWrite, disk_identity, observe};
 use medium::{Medium, SimMedium};
 use std::alloc::{AllocError, Global};
 
@@ -131,7 +131,7 @@ pub(crate) fn judge(
     events: &[Event],
     told: &[Answer],
 ) -> Result<(), Finding> {
-    let mut hearing = Hearing::new(alloc, opening, limit, PacketSize::High512)?;
-    hear(events, told, &mut hearing)?;
+    let mut oracle = Oracle::new(alloc, opening, limit, PacketSize::High512)?;
+    observe(events, told, &mut oracle)?;
     Ok(())
 }

@@ -116,10 +116,10 @@ fn write_of(alloc: Global, byte: u8) -> Result<Write, AllocError> {
 fn judge_three(alloc: Global, lives: &[Life; 3], told: &[Answer]) -> Result<(), Finding> {
     let forced = write_of(alloc, 0x22)?;
     let mut array = Array::zeros(alloc, 16)?;
-    let rest = heard(alloc, &lives[0], told, &array)?;
-    let rest = heard(alloc, &lives[1], rest, &array)?;
+    let rest = observed(alloc, &lives[0], told, &array)?;
+    let rest = observed(alloc, &lives[1], rest, &array)?;
     array.apply(&forced);
-    let rest = heard(alloc, &lives[2], rest, &array)?;
+    let rest = observed(alloc, &lives[2], rest, &array)?;
     if rest.is_empty() {
         Ok(())
     } else {
@@ -128,7 +128,7 @@ fn judge_three(alloc: Global, lives: &[Life; 3], told: &[Answer]) -> Result<(), 
 }
 
 // Judges the first answers, which are those of this life over these blocks. Gives the others.
-fn heard<'a>(
+fn observed<'a>(
     alloc: Global,
     life: &Life,
     told: &'a [Answer],

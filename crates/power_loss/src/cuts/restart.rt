@@ -3,8 +3,8 @@ ghost use Rattle.judging.specs.Resting.{RestsUnfused};
 
 use crate::counts::{Cuts, count};
 use crate::fault::Fault;
-use crate::image::{hearing_over, served_by};
-use abstract_disk::{Array, Hearing};
+use crate::image::{oracle_over, served_by};
+use abstract_disk::{Array, Oracle};
 use bot_machine::{Event, Life, Retiring};
 use judging::{Shape, copied, play};
 use medium::{Kept, SimMedium};
@@ -46,19 +46,19 @@ impl<'a> Restart<'a> {
 
     // A start with a fuse, and a third life. Whether the power went.
     fn cut(&self, alloc: Global, life: &Life, counts: &mut Cuts) -> Result<bool, Fault> {
-        let mut hearing = hearing_over(alloc, self.shape.format, self.blocks)?;
-        self.heard(alloc, life, &mut hearing, counts)
+        let mut oracle = oracle_over(alloc, self.shape.format, self.blocks)?;
+        self.observed(alloc, life, &mut oracle, counts)
     }
 
-    fn heard(
+    fn observed(
         &self,
         alloc: Global,
         life: &Life,
-        hearing: &mut Hearing,
+        oracle: &mut Oracle,
         counts: &mut Cuts,
     ) -> Result<bool, Fault> {
         let image = copied(alloc, self.image)?;
-        let played = play(alloc, image, Retiring::Late, life, hearing)?;
+        let played = play(alloc, image, Retiring::Late, life, oracle)?;
         count(&mut counts.restarts);
         let cut = played.cut_in.is_some();
         self.third(alloc, played.medium, counts)?;

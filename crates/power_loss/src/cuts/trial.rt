@@ -5,7 +5,7 @@ use crate::cuts::restart::Restart;
 use crate::fault::Fault;
 use crate::image::{cut_copy, served_by, subsets};
 use crate::trial::Trial;
-use abstract_disk::{Found, Hearing};
+use abstract_disk::{Found, Oracle};
 use bot_machine::{Answer, Event};
 use judging::{Finding, Played, Player, copied};
 use medium::{Kept, SimMedium};
@@ -90,9 +90,9 @@ impl Trial {
         mask: u64,
         counts: &mut Cuts,
     ) -> Result<(), Fault> {
-        let mut hearing = self.hearing(alloc)?;
-        let image = self.left(alloc, burnt, mask, &mut hearing)?;
-        self.judge(alloc, burnt, &image, &hearing, counts)
+        let mut oracle = self.oracle(alloc)?;
+        let image = self.left(alloc, burnt, mask, &mut oracle)?;
+        self.judge(alloc, burnt, &image, &oracle, counts)
     }
 
     // The image that the life leaves.
@@ -101,9 +101,9 @@ impl Trial {
         alloc: Global,
         burnt: &Burnt<'_>,
         mask: u64,
-        hearing: &mut Hearing,
+        oracle: &mut Oracle,
     ) -> Result<SimMedium, Fault> {
-        let played = self.play(alloc, hearing)?;
+        let played = self.play(alloc, oracle)?;
         burnt.is_left(alloc, mask, &played)?;
         Ok(played.medium)
     }
@@ -114,7 +114,7 @@ impl Trial {
         alloc: Global,
         burnt: &Burnt<'_>,
         image: &SimMedium,
-        hearing: &Hearing,
+        oracle: &Oracle,
         counts: &mut Cuts,
     ) -> Result<(), Fault> {
         count(&mut counts.images);
@@ -126,7 +126,7 @@ impl Trial {
             image,
             blocks: &blocks,
         };
-        self.judge_restart(alloc, burnt, &restart, hearing, counts)
+        self.judge_restart(alloc, burnt, &restart, oracle, counts)
     }
 
     // Whether the blocks may be found, and what a cut of the next start leaves.
@@ -135,14 +135,14 @@ impl Trial {
         alloc: Global,
         burnt: &Burnt<'_>,
         restart: &Restart<'_>,
-        hearing: &Hearing,
+        oracle: &Oracle,
         counts: &mut Cuts,
     ) -> Result<(), Fault> {
         let event = self.event_at(burnt.place);
         if self.case.ticks == 0 {
-            self.judge_place(burnt, hearing.may_find(event)?)?;
+            self.judge_place(burnt, oracle.may_find(event)?)?;
         }
-        match hearing.found(event, restart.blocks)? {
+        match oracle.found(event, restart.blocks)? {
             Some(_) => restart.cut_everywhere(alloc, counts),
             None => Err(Fault::Finding(Finding::Blocks)),
         }

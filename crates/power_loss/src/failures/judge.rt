@@ -5,9 +5,9 @@ use crate::counts::{Failures, count};
 use crate::fault::Fault;
 use crate::image::{cut_copy, served_by, subsets};
 use crate::trial::Trial;
-use abstract_disk::{Array, Hearing};
+use abstract_disk::{Array, Oracle};
 use bot_machine::Answer;
-use judging::{Finding, Player, blocks_of, cut, hear, served};
+use judging::{Finding, Player, blocks_of, cut, observe, served};
 use medium::{Kept, Medium, SimMedium};
 use std::alloc::{AllocError, Global};
 
@@ -40,31 +40,31 @@ impl Trial {
         counts: &mut Failures,
     ) -> Result<bool, Fault> {
         let failed = has_failed(alloc, medium)?;
-        let mut hearing = self.hearing(alloc)?;
+        let mut oracle = self.oracle(alloc)?;
         if failed {
             count(&mut counts.calls);
-            hearing.may_fail();
+            oracle.may_fail();
         }
-        self.judge_heard(alloc, medium, answers, &mut hearing, counts)?;
+        self.judge_observed(alloc, medium, answers, &mut oracle, counts)?;
         Ok(failed)
     }
 
-    // The same by a hearing.
-    fn judge_heard(
+    // The same by an oracle.
+    fn judge_observed(
         &self,
         alloc: Global,
         medium: &SimMedium,
         answers: &[Answer],
-        hearing: &mut Hearing,
+        oracle: &mut Oracle,
         counts: &mut Failures,
     ) -> Result<(), Fault> {
-        if let Some(place) = hear(&self.life.events, answers, hearing)? {
+        if let Some(place) = observe(&self.life.events, answers, oracle)? {
             return Err(Fault::Finding(Finding::Off(place)));
         }
         for mask in subsets(medium.unflushed())? {
             count(&mut counts.images);
             let image = cut_copy(alloc, medium, mask)?;
-            self.judge_image(alloc, image, hearing, counts)?;
+            self.judge_image(alloc, image, oracle, counts)?;
         }
         Ok(())
     }
@@ -75,7 +75,7 @@ impl Trial {
         &self,
         alloc: Global,
         image: SimMedium,
-        hearing: &Hearing,
+        oracle: &Oracle,
         counts: &mut Failures,
     ) -> Result<(), Fault>
         requires { RestsUnfused image }
@@ -84,7 +84,7 @@ impl Trial {
         let (image, found) = blocks_of(alloc, image, blocks, limit)?;
         count(&mut counts.restarts);
         self.serves(alloc, cut(image, &Kept::None), &found, counts)?;
-        match hearing.found(None, &found)? {
+        match oracle.found(None, &found)? {
             Some(_) => Ok(()),
             None => Err(Fault::Finding(Finding::Blocks)),
         }

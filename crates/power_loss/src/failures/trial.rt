@@ -34,8 +34,8 @@ impl Trial {
 
     // The image that the life leaves.
     fn lived(&self, alloc: Global) -> Result<SimMedium, Fault> {
-        let mut hearing = self.hearing(alloc)?;
-        let played = self.play(alloc, &mut hearing)?;
+        let mut oracle = self.oracle(alloc)?;
+        let played = self.play(alloc, &mut oracle)?;
         Ok(played.medium)
     }
 

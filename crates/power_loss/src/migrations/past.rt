@@ -1,9 +1,9 @@
 //! The lives of a disk before its image is migrated.
 use crate::counts::{Migrations, count};
 use crate::fault::Fault;
-use crate::image::{hearing_over, served_by};
+use crate::image::{oracle_over, served_by};
 use crate::migrations::image::Size;
-use abstract_disk::{Array, Hearing};
+use abstract_disk::{Array, Oracle};
 use bot_machine::{Event, Life, Retiring};
 use judging::{Finding, Format, copied, play};
 use medium::{Kept, SimMedium};
@@ -49,15 +49,15 @@ impl Past {
     }
 
     fn play(&mut self, alloc: Global, life: &Life, counts: &mut Migrations) -> Result<(), Fault> {
-        let mut hearing = hearing_over(alloc, Format::One, &self.array)?;
-        self.hear(alloc, life, &mut hearing, counts)
+        let mut oracle = oracle_over(alloc, Format::One, &self.array)?;
+        self.observe(alloc, life, &mut oracle, counts)
     }
 
-    fn hear(
+    fn observe(
         &mut self,
         alloc: Global,
         life: &Life,
-        hearing: &mut Hearing,
+        oracle: &mut Oracle,
         counts: &mut Migrations,
     ) -> Result<(), Fault> {
         count(&mut counts.lives);
@@ -66,20 +66,20 @@ impl Past {
             copied(alloc, &self.medium)?,
             Retiring::Late,
             life,
-            hearing,
+            oracle,
         )?
         .medium;
         count(&mut counts.lives);
         self.array = served_by(alloc, self.size.shape(), copied(alloc, &self.medium)?)?;
-        self.judge(hearing)
+        self.judge(oracle)
     }
 
     // The blocks are those after some of the accepted writes, which take stamps.
-    fn judge(&mut self, hearing: &Hearing) -> Result<(), Fault> {
-        if hearing.found(None, &self.array)?.is_none() {
+    fn judge(&mut self, oracle: &Oracle) -> Result<(), Fault> {
+        if oracle.found(None, &self.array)?.is_none() {
             return Err(Fault::Finding(Finding::Blocks));
         }
-        let writes = hearing.may_find(None)?.most as u64;
+        let writes = oracle.may_find(None)?.most as u64;
         self.least_stamp = self.least_stamp.saturating_add(1);
         self.most_stamp = self.most_stamp.saturating_add(writes).saturating_add(1);
         Ok(())

@@ -3,7 +3,7 @@ use bot_machine::Answer;
 
 /// What a host goes by in an answer.
 #[derive(Clone, Copy)]
-pub(crate) enum Heard {
+pub(crate) enum Observed {
     /// The packet or the request is taken.
     Ack,
     /// The endpoint is halted, or the request is refused.
@@ -20,26 +20,26 @@ pub(crate) enum Heard {
     Other,
 }
 
-impl Heard {
+impl Observed {
     /// What a host goes by in this answer.
-    pub(crate) fn of(answer: &Answer) -> Heard {
+    pub(crate) fn of(answer: &Answer) -> Observed {
         match answer {
-            Answer::Ack => Heard::Ack,
-            Answer::Stall => Heard::Stall,
-            Answer::Off => Heard::Off,
+            Answer::Ack => Observed::Ack,
+            Answer::Stall => Observed::Stall,
+            Answer::Off => Observed::Off,
             Answer::Data(packet) => of_packet(packet),
-            _ => Heard::Other,
+            _ => Observed::Other,
         }
     }
 }
 
 // What a host goes by in a packet.
-fn of_packet(packet: &[u8]) -> Heard {
+fn of_packet(packet: &[u8]) -> Observed {
     if packet.len() != 13 || !packet.starts_with(b"USBS") {
-        return Heard::Data;
+        return Observed::Data;
     }
     match packet {
-        [.., 0] => Heard::Passed,
-        _ => Heard::Failed,
+        [.., 0] => Observed::Passed,
+        _ => Observed::Failed,
     }
 }

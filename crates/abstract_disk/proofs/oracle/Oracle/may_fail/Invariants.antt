@@ -1,6 +1,6 @@
 use Rattle.std.proofs.Common.{◌≡◌, ◌++◌, map, take, drop}
 use Rattle.abstract_disk.specs.Followed.{failing}
-use Rattle.abstract_disk.proofs.hearing.Hearing.may_fail.Given as goal
+use Rattle.abstract_disk.proofs.oracle.Oracle.may_fail.Given as goal
 
 abbrev pub invariant-loop-disk : goal.invariant-loop-disk
 invariant-loop-disk l =

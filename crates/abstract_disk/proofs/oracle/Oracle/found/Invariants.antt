@@ -1,6 +1,6 @@
 use Rattle.std.proofs.Common.{◌≤◌, IfSome, take}
 use Rattle.abstract_disk.specs.Followed.{least_promised}
-use Rattle.abstract_disk.proofs.hearing.Hearing.found.Given as goal
+use Rattle.abstract_disk.proofs.oracle.Oracle.found.Given as goal
 
 abbrev pub invariant-loop-disk : goal.invariant-loop-disk
 invariant-loop-disk l =

@@ -1,7 +1,7 @@
 use Rattle.std.proofs.Common.{arith}
 use Rattle.std.proofs.lemmas.List.Edits.{map_over_more}
 use Rattle.abstract_disk.specs.Followed.{failing}
-use Rattle.abstract_disk.proofs.hearing.Hearing.may_fail.Goals as goal
+use Rattle.abstract_disk.proofs.oracle.Oracle.may_fail.Goals as goal
 
 pub loop-disk-preserved : goal.loop-disk-preserved
 loop-disk-preserved c =

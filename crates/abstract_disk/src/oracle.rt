@@ -1,4 +1,4 @@
-//! Each answer that is heard leaves fewer disks that can be meant.
+//! Each answer that is observed leaves fewer disks that can be meant.
 ghost use Rattle.std.specs.Prelude.{◌≡◌, ◌↔◌, ◌<◌, ◌≤◌, length, map, IfOk, IfSome, IsTrue};
 ghost use Rattle.abstract_disk.specs.Followed.{disks_of, opening_of, case_in, failing};
 ghost use Rattle.abstract_disk.specs.Followed.{least_promised};
@@ -14,13 +14,13 @@ use std::mem;
 
 /// Every disk of the definitions that the answers so far allow, in one life.
 #[derive(Drop)]
-pub struct Hearing {
+pub struct Oracle {
     alloc: Global,
     book: Book,
     disks: Vec<Disk>,
 }
 
-impl Hearing {
+impl Oracle {
     /// A life opens over these blocks: the start answered Ok. A READ or a WRITE moves at most
     /// `limit` blocks (48 in format 1, 240 in format 2).
     ///
@@ -32,13 +32,13 @@ impl Hearing {
         opening: &Array,
         limit: u32,
         size: PacketSize,
-    ) -> Result<Hearing, AllocError>
-        ensures one { IfOk result (λ hearing. length (disks_of hearing) ≡ 1) }
-        ensures opening { IfOk result (λ hearing. opening_of hearing ≡ opening.now.blocks.items) }
+    ) -> Result<Oracle, AllocError>
+        ensures one { IfOk result (λ oracle. length (disks_of oracle) ≡ 1) }
+        ensures opening { IfOk result (λ oracle. opening_of oracle ≡ opening.now.blocks.items) }
     {
         let blocks = u32::try_from(opening.blocks.len()).map_err(|_| AllocError)?;
         let disk = Disk::new(Shape { blocks, limit }, size.bytes());
-        Ok(Hearing {
+        Ok(Oracle {
             alloc,
             book: Book::new(alloc, opening)?,
             disks: vec![in alloc; disk]?,
@@ -60,7 +60,7 @@ impl Hearing {
     /// # Errors
     ///
     /// Memory ran out. Which disks are followed then is not told: let it go.
-    pub fn hear(&mut self, event: &Event, answer: &Answer) -> Result<bool, AllocError>
+    pub fn observe(&mut self, event: &Event, answer: &Answer) -> Result<bool, AllocError>
         ensures { IfOk result (λ possible. IsTrue possible ↔ (0 < length (disks_of self.new))) }
     {
         let disks = mem::replace(&mut self.disks, Vec::new(self.alloc));
