@@ -55,8 +55,8 @@ impl<M: Medium> Store<M> {
         requires size { length to.old ≡ 512 * count }
         ensures { ReadsBlocks M.state M.follows result address count to.new self.old self.new }
     {
-        let mut active = self.active.place_of(address);
-        let mut frozen = self.frozen.place_of(address);
+        let mut active = self.active.lower_bound(address);
+        let mut frozen = self.frozen.lower_bound(address);
         for i in 0..count {
             let (block, at) = (address + i as u64, i * BLOCK);
             self.read_block(block, &mut active, &mut frozen, &mut to[at..at + BLOCK])?;

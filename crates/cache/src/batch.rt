@@ -10,7 +10,7 @@ ghost use Rattle.cache.specs.Places.{HasPlace, StandsAt, WouldStandAt, CanPutBlo
 use crate::counter::Steps;
 use crate::entry::BLOCK;
 use crate::parts::Parts;
-use crate::place::{place_of, read_number, search_among};
+use crate::place::{lower_bound, read_number, search_among};
 use crate::{BatchError, Frozen};
 use std::alloc::Global;
 use std::marker::Model;
@@ -102,15 +102,15 @@ impl Batch {
         ensures { IsTrue result ↔ (unlisted self.now.numbers address count ≡ count) }
     {
         let entries = self.parts.index.entries();
-        place_of(entries, address) == place_of(entries, address + count as u64)
+        lower_bound(entries, address) == lower_bound(entries, address + count as u64)
     }
 
     /// The place of a block's number among those that rise, or the one where it would stand.
     #[inline]
-    pub fn place_of(&self, block: u64) -> usize
+    pub fn lower_bound(&self, block: u64) -> usize
         ensures { HasPlace self.now.numbers block result }
     {
-        place_of(self.parts.index.entries(), block)
+        lower_bound(self.parts.index.entries(), block)
     }
 
     /// The 512 bytes of a block, where it is there. Its place is known, and becomes that of the
@@ -135,7 +135,7 @@ impl Batch {
         if count <= free {
             return true;
         }
-        let present = place_of(entries, address + count as u64) - place_of(entries, address);
+        let present = lower_bound(entries, address + count as u64) - lower_bound(entries, address);
         count - present <= free
     }
 
@@ -148,7 +148,7 @@ impl Batch {
         ensures { PutsRange address bytes.now self.old self.new }
     {
         let entries = self.parts.index.entries();
-        let place = place_of(entries, address);
+        let place = lower_bound(entries, address);
         if place == entries.len() {
             self.parts.append(address as u32, bytes);
         } else {

@@ -7,7 +7,7 @@ ghost use Rattle.cache.specs.View.{view_of, Invariant, IsArranged};
 
 use crate::BatchError;
 use crate::parts::Parts;
-use crate::place::place_of;
+use crate::place::lower_bound;
 use std::alloc::Global;
 use std::marker::Model;
 use std::mem;
@@ -81,15 +81,15 @@ impl Frozen {
         ensures { IsTrue result ↔ (unlisted self.now.numbers address count ≡ count) }
     {
         let entries = self.parts.index.entries();
-        place_of(entries, address) == place_of(entries, address + count as u64)
+        lower_bound(entries, address) == lower_bound(entries, address + count as u64)
     }
 
     /// The place of a block's number among those that rise, or the one where it would stand.
     #[inline]
-    pub fn place_of(&self, block: u64) -> usize
+    pub fn lower_bound(&self, block: u64) -> usize
         ensures { HasPlace self.now.numbers block result }
     {
-        place_of(self.parts.index.entries(), block)
+        lower_bound(self.parts.index.entries(), block)
     }
 
     /// The 512 bytes of a block, where it is there. Its place is known, and becomes that of the

@@ -12,7 +12,7 @@ use crate::arrange::arrange_cells;
 use crate::counter::Steps;
 use crate::entry::{BLOCK, Entry, number_of, put_entry, row_place};
 use crate::index::Index;
-use crate::place::place_of;
+use crate::place::lower_bound;
 use std::alloc::Global;
 
 // A batch has room for no more blocks than this.
@@ -57,7 +57,7 @@ impl Parts {
         requires { Invariant self.now }
         ensures { GetsBlock (view_of self.now) block result }
     {
-        let mut place = place_of(self.index.entries(), block);
+        let mut place = lower_bound(self.index.entries(), block);
         self.get_at(&mut place, block)
     }
 

@@ -5,13 +5,13 @@ use Rattle.cache.specs.Entries.{Entries}
 use Rattle.cache.proofs.Neighbours.{between_places}
 use Rattle.cache.proofs.frozen.Frozen.is_disjoint.Goals as goal
 
-missing : (c : goal.After-place_of-2)
-    → unlisted c.args.self.now.numbers c.args.address c.args.count + c.place_of-2.result ≡ c.args.count + c.place_of.result
+missing : (c : goal.After-lower_bound-2)
+    → unlisted c.args.self.now.numbers c.args.address c.args.count + c.lower_bound-2.result ≡ c.args.count + c.lower_bound.result
 missing c =
     let rising = subst (λ (batch : Entries). IsRising batch.numbers) c.self.view_is c.self.invariant.kept.paired.rising in
-    between_places c.args.self.now.numbers c.args.address c.args.count c.place_of.result c.place_of-2.result rising
-    (rw (c.entries-entries.ensures, ap (λ (batch : Entries). batch.numbers) c.self.view_is) at c.place_of.ensures)
-    (rw (c.entries-entries.ensures, ap (λ (batch : Entries). batch.numbers) c.self.view_is) at c.place_of-2.ensures)
+    between_places c.args.self.now.numbers c.args.address c.args.count c.lower_bound.result c.lower_bound-2.result rising
+    (rw (c.entries-entries.ensures, ap (λ (batch : Entries). batch.numbers) c.self.view_is) at c.lower_bound.ensures)
+    (rw (c.entries-entries.ensures, ap (λ (batch : Entries). batch.numbers) c.self.view_is) at c.lower_bound-2.ensures)
 
 pub returns : goal.returns
 returns c =
