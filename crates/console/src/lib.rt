@@ -9,5 +9,5 @@ mod words;
 
 pub use number::read_number;
 pub use output::write_out;
-pub use streams::{HeldStreams, hold_streams};
+pub use streams::{StreamGuard, guard_streams};
 pub use words::{ArgumentFault, arguments, is_file_word, words_of};

@@ -11,7 +11,7 @@ const NULL_DEVICE: &str = "/dev/null";
 /// standard streams. Where some of them were closed at the start, these handles take their places:
 /// so a file that is opened while they are held is never written to as an output.
 #[derive(Drop)]
-pub struct HeldStreams<F> {
+pub struct StreamGuard<F> {
     first: F,
     second: F,
     third: F,
@@ -19,8 +19,8 @@ pub struct HeldStreams<F> {
 
 /// Takes the places of those standard streams that were closed at the start. Such an input is then
 /// empty, and such an output takes nothing. `None` where the null device was not opened.
-pub fn hold_streams<R: Files>(rt: &R) -> Option<HeldStreams<R::File>> {
-    Some(HeldStreams {
+pub fn guard_streams<R: Files>(rt: &R) -> Option<StreamGuard<R::File>> {
+    Some(StreamGuard {
         first: open_null(rt)?,
         second: open_null(rt)?,
         third: open_null(rt)?,

@@ -9,7 +9,7 @@ ghost use Rattle.images.specs.Opened.{IsTargetUnmade};
 ghost use Rattle.images.specs.declared.refusal.Refusal.TheVariants as refused;
 
 use crate::refusal::Refusal;
-use console::hold_streams;
+use console::guard_streams;
 use device_file::SystemFile;
 use journal::{LogFormat, Super};
 use std::fs::{File, Files};
@@ -37,7 +37,7 @@ pub(crate) fn new_file<R: Files<File = File>>(
     ensures err { IfErr result (λ refusal. ((fault : FileFault) × (refusal ≡ refused.File fault))
         ⊎ (refusal ≡ refused.Streams)) }
 {
-    let Some(_streams) = hold_streams(rt) else {
+    let Some(_streams) = guard_streams(rt) else {
         return Err(Refusal::Streams);
     };
     create(rt, path, sectors, replace)

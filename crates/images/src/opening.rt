@@ -12,7 +12,7 @@ ghost use Rattle.images.specs.Opened.{
 
 use crate::ended::Stopped;
 use crate::refusal::Refusal;
-use console::hold_streams;
+use console::guard_streams;
 use device_file::{FileCall, FileFault, FirstSectors, OpenFault, SystemFile};
 use std::alloc::Global;
 use std::fs;
@@ -87,7 +87,7 @@ fn open_file<R: Files<File = File>>(
     ensures ok { IfOk result (λ file. file ≡ fresh file.size) }
     ensures err { IfErr result IsUnmade }
 {
-    let Some(_streams) = hold_streams(rt) else {
+    let Some(_streams) = guard_streams(rt) else {
         return Err(Refusal::Streams);
     };
     let opened = match access {

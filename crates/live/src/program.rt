@@ -12,7 +12,7 @@ use crate::ended::{Ended, Stopped};
 use crate::refusal::Refusal;
 use crate::serving::serve_file;
 use bot_machine::PacketSize;
-use console::{arguments, hold_streams, words_of};
+use console::{arguments, guard_streams, words_of};
 use device_file::SystemFile;
 use runner::read_live_words;
 use std::alloc::Global;
@@ -104,7 +104,7 @@ fn serve_image<R: Files<File = File> + AllocGlobal, I: Read, O: Write>(
     let Some((image, size)) = read_live_words(words) else {
         return Err(stopped(Refusal::Words));
     };
-    let Some(_streams) = hold_streams(rt) else {
+    let Some(_streams) = guard_streams(rt) else {
         return Err(stopped(Refusal::Streams));
     };
     match SystemFile::open(rt, image) {

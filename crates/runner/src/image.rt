@@ -8,7 +8,7 @@ ghost use Rattle.runner.specs.Program.{AreImageSizes, IsJustOpened, IsMade, simu
 
 use crate::read::{ReadFault, read_to_limit};
 use crate::refusal::Refusal;
-use console::{HeldStreams, hold_streams};
+use console::{StreamGuard, guard_streams};
 use journal::LogFormat;
 use medium::{FileMedium, Medium, SimError, SimMedium};
 use recovery::FormatFault;
@@ -43,10 +43,10 @@ pub(crate) fn make_image<R: Files<File = File> + AllocGlobal>(
 }
 
 /// Holds the standard streams that were closed at the start.
-pub(crate) fn hold<R: Files>(rt: &R) -> Result<HeldStreams<R::File>, Refusal>
+pub(crate) fn hold<R: Files>(rt: &R) -> Result<StreamGuard<R::File>, Refusal>
     ensures { IfErr result (λ refusal. refusal ≡ Refusal.File) }
 {
-    hold_streams(rt).ok_or(Refusal::File)
+    guard_streams(rt).ok_or(Refusal::File)
 }
 
 // Formats a medium of zeros, which has room for these sizes.
