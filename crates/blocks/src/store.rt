@@ -146,11 +146,11 @@ impl<M: Switch> Store<M> {
 
 impl<M: Outlet> Store<M> {
     /// Lets go of the call that the medium's device is to carry out next, if there is one.
-    pub fn give(&mut self)
+    pub fn pop(&mut self)
         ensures given { M.given self.old.medium self.new.medium }
         ensures untouched { IsUntouched M.state self.old self.new }
     {
-        self.medium.give();
+        self.medium.pop();
     }
 }
 

@@ -250,7 +250,7 @@ impl<M: Switch> Disk<M> {
 
 impl<M: Outlet> Disk<M> {
     /// Lets go of the call that the medium's device is to carry out next, if there is one.
-    pub fn give(&mut self)
+    pub fn pop(&mut self)
         ensures given { M.given self.old.unit.store.medium self.new.unit.store.medium }
         ensures unchanged { IsUnchanged (M.state self.old.unit.store.medium)
             (M.state self.new.unit.store.medium) }
@@ -258,7 +258,7 @@ impl<M: Outlet> Disk<M> {
         ensures fits { (book : Book) → FitsDisk (M.state self.old.unit.store.medium) self.old book
             → FitsDisk (M.state self.new.unit.store.medium) self.new book }
     {
-        self.unit.give();
+        self.unit.pop();
     }
 }
 

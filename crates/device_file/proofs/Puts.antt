@@ -5,7 +5,7 @@ use Rattle.std.proofs.Common.{length-append, inl, inr, Some, true, false}
 use Rattle.std.proofs.lemmas.Bool.{cases_lt}
 use Rattle.std.proofs.lemmas.List.{append-nil}
 use Rattle.medium.specs.Writes.{sector_of}
-use Rattle.mirror.specs.Mirror.{first_of}
+use Rattle.mirror.specs.OutboxMedium.{first_of}
 use Rattle.mirror.specs.declared.call.DeviceCall.{DeviceCall}
 use Rattle.mirror.specs.declared.call.DeviceCall.TheVariants.{Write}
 use Rattle.device_file.specs.Asked.{Told, asked_for, refused}

@@ -1,7 +1,7 @@
 //! The carrying out of an outbox by a file.
 ghost use Rattle.std.specs.Prelude.{◌≡◌, ◌<◌, [], ◌∷◌, Some, length};
 ghost use Rattle.mirror.specs.declared.call.DeviceCall.TheVariants.{Write, Flush};
-ghost use Rattle.mirror.specs.Mirror.{first_of};
+ghost use Rattle.mirror.specs.OutboxMedium.{first_of};
 ghost use Rattle.window.specs.Window.{without_first};
 ghost use Rattle.device_file.specs.Asked.{AsksFor, writes_of};
 ghost use Rattle.device_file.specs.Outbox.{LetsGo, CarriesOut, CarriesSome, Begins};

@@ -9,7 +9,7 @@ use window::WindowMedium;
 
 /// A window over the first sectors of a file, and the file. Calls of a medium are those of the
 /// window, and leave the file alone. What waits in the window's outbox is asked of the file by
-/// `give`, all of it at once.
+/// `pop`, all of it at once.
 ///
 /// That the file holds what the window thinks is a premise of whoever makes it.
 #[derive(Drop)]
@@ -119,7 +119,7 @@ impl<D: DeviceFile> Outlet for FileWindow<D> {
 
     ghost given = { Carries D.told };
 
-    fn give(&mut self) {
+    fn pop(&mut self) {
         self.carry();
     }
 }

@@ -1,6 +1,6 @@
 -- A format on a device, a part at a time: the next waits where the one before it is handed out.
 use Rattle.std.specs.Prelude.{◌≡◌, ◌⊎◌, ℕ, ◌+◌, ◌*◌, ◌<◌, ◌≤◌, List, length, Option, Some, None}
-use Rattle.mirror.specs.Mirror.{first_of}
+use Rattle.mirror.specs.OutboxMedium.{first_of}
 use Rattle.window.specs.Window.{Window, state_of, without_first}
 use Rattle.journal.specs.Places.{Shape, slot_sectors_of}
 use Rattle.image_calls.specs.Images.{WaitFor, Shows}

@@ -1,6 +1,6 @@
 //! What waits is handed out, and what comes next is made.
 ghost use Rattle.std.specs.Prelude.{◌≡◌};
-ghost use Rattle.mirror.specs.Mirror.{first_of};
+ghost use Rattle.mirror.specs.OutboxMedium.{first_of};
 ghost use Rattle.image_calls.specs.Formats.{MakesParts, LetsGo, ShowsNext};
 ghost use Rattle.image_calls.specs.Images.{Shows};
 
@@ -41,7 +41,7 @@ fn let_go(work: &mut Work) -> Option<DeviceCall>
     ensures rest { LetsGo work.old work.new }
 {
     let call = work.medium.first();
-    work.medium.give();
+    work.medium.pop();
     call
 }
 

@@ -122,7 +122,7 @@ fn play_ready<D: DeviceFile>(disk: &mut Disk<FileWindow<D>>, event: &Event) -> A
 {
     foresee(disk);
     let answer = answer_to(disk, event);
-    disk.give();
+    disk.pop();
     answer
 }
 

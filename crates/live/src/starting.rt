@@ -149,7 +149,7 @@ fn carry_start<D: DeviceFile>(
     ensures err { IfErr result (λ stopped. IsCarriedInPart D.told disk stopped.file
         stopped.refusal) }
 {
-    disk.give();
+    disk.pop();
     match disk.medium().fault() {
         None => Ok(disk),
         Some(fault) => Err(Stopped {

@@ -10,7 +10,7 @@ pub trait Outlet: Medium {
     ghost given: { Self → Self → Type 0 };
 
     /// Lets go of the call that the device is to carry out next, if there is one.
-    fn give(&mut self)
+    fn pop(&mut self)
         ensures given { given self.old self.new }
         ensures unchanged { IsUnchanged (Self.state self.old) (Self.state self.new) };
 }

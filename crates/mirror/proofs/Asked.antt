@@ -11,7 +11,7 @@ use Rattle.medium.specs.declared.fault.MediumFault.{MediumFault}
 use Rattle.medium.specs.declared.fault.MediumFault.TheVariants as fault
 use Rattle.mirror.specs.Device.{Device, durable, carried_out, after}
 use Rattle.mirror.specs.Story.{Told, kind_of, given, is_whole, are_whole}
-use Rattle.mirror.specs.Mirror.{Mirror, device_of, LeftSince, size_of, state_of, reads, gives, refuses}
+use Rattle.mirror.specs.OutboxMedium.{OutboxMedium, device_of, LeftSince, size_of, state_of, reads, gives, refuses}
 use Rattle.mirror.specs.MirrorLaws.{at_last, given-append}
 use Rattle.mirror.specs.declared.call.DeviceCall.{DeviceCall}
 use Rattle.mirror.specs.declared.call.DeviceCall.TheVariants.{Write}
@@ -31,7 +31,7 @@ pub whole_more : (calls : List DeviceCall) (call : DeviceCall) → are_whole cal
     → are_whole (calls ++ call ∷ []) ≡ true
 whole_more calls call whole one = list_all-append is_whole calls (call ∷ []) ∙ rw whole (rw one refl)
 
-pub given_device : (m : Mirror) (call : DeviceCall) → device_of (gives m call).story ≡ carried_out (device_of m.story) call
+pub given_device : (m : OutboxMedium) (call : DeviceCall) → device_of (gives m call).story ≡ carried_out (device_of m.story) call
 given_device m call =
     ap (λ (calls : List DeviceCall). after (durable m.story.opening) calls) (given_some m.story.asked call)
     ∙ after-append (durable m.story.opening) (given m.story.asked) (call ∷ [])
@@ -52,7 +52,7 @@ one_moment_more old new x opening asked t image left = elim (cases_lt (length ol
   })
 ]
 
-module _ (m : Mirror) where
+module _ (m : OutboxMedium) where
   others : (k kind : MediumFault) (t : Tally) → kind ≢ k → of_kind (one_more t k) kind ≡ of_kind t kind
   others fault.Read fault.Read t other = absurd (other refl)
   others fault.Read fault.Write t other = refl
@@ -156,42 +156,44 @@ module _ (m : Mirror) where
         given_content (Write (record { sector = s; block = block })) t ∙ at_other t s block ((device_of m.story).content t) other;
   }
 
-module _ (now new : Mirror) where
+module _ (now new : OutboxMedium) where
   pub passes_read : new ≡ reads now → Passes fault.Read (Ok tt) (state_of now) (state_of new)
-  passes_read e = subst (λ (n : Mirror). Passes fault.Read (Ok tt) (state_of now) (state_of n)) (sym e) (read_passes now)
+  passes_read e = subst (λ (n : OutboxMedium). Passes fault.Read (Ok tt) (state_of now) (state_of n)) (sym e) (read_passes now)
 
   pub content_read : new ≡ reads now → Stays (state_of now).content (state_of new).content
-  content_read e = subst (λ (n : Mirror). Stays (state_of now).content (state_of n).content) (sym e) (quiet_content now)
+  content_read e = subst (λ (n : OutboxMedium). Stays (state_of now).content (state_of n).content) (sym e) (quiet_content now)
 
   pub sets_read : new ≡ reads now → Within (state_of new).may_leave (state_of now).may_leave
-  sets_read e = subst (λ (n : Mirror). Within (state_of n).may_leave (state_of now).may_leave) (sym e) (quiet_sets now)
+  sets_read e = subst (λ (n : OutboxMedium). Within (state_of n).may_leave (state_of now).may_leave) (sym e) (quiet_sets now)
 
   module _ (call : DeviceCall) where
     pub passes_refused : new ≡ refuses now call → Passes (kind_of call) (Err (kind_of call)) (state_of now) (state_of new)
     passes_refused e =
-        subst (λ (n : Mirror). Passes (kind_of call) (Err (kind_of call)) (state_of now) (state_of n)) (sym e) (refused_passes now call)
+        subst (λ (n : OutboxMedium). Passes (kind_of call) (Err (kind_of call)) (state_of now) (state_of n)) (sym e)
+        (refused_passes now call)
 
     pub content_refused : new ≡ refuses now call → Stays (state_of now).content (state_of new).content
-    content_refused e = subst (λ (n : Mirror). Stays (state_of now).content (state_of n).content) (sym e) (quiet_content now)
+    content_refused e = subst (λ (n : OutboxMedium). Stays (state_of now).content (state_of n).content) (sym e) (quiet_content now)
 
     pub sets_refused : new ≡ refuses now call → Within (state_of new).may_leave (state_of now).may_leave
-    sets_refused e = subst (λ (n : Mirror). Within (state_of n).may_leave (state_of now).may_leave) (sym e) (quiet_sets now)
+    sets_refused e = subst (λ (n : OutboxMedium). Within (state_of n).may_leave (state_of now).may_leave) (sym e) (quiet_sets now)
 
     pub passes_given : new ≡ gives now call → are_whole (given now.story.asked) ≡ true → is_whole call ≡ true
         → Passes (kind_of call) (Ok tt) (state_of now) (state_of new)
     passes_given e whole one =
-        subst (λ (n : Mirror). Passes (kind_of call) (Ok tt) (state_of now) (state_of n)) (sym e) (given_passes now call whole one)
+        subst (λ (n : OutboxMedium). Passes (kind_of call) (Ok tt) (state_of now) (state_of n)) (sym e) (given_passes now call whole one)
 
     pub content_given : new ≡ gives now call → (s : ℕ) → (state_of new).content s ≡ (carried_out (device_of now.story) call).content s
     content_given e =
-        subst (λ (n : Mirror). (s : ℕ) → (state_of n).content s ≡ (carried_out (device_of now.story) call).content s) (sym e)
+        subst (λ (n : OutboxMedium). (s : ℕ) → (state_of n).content s ≡ (carried_out (device_of now.story) call).content s) (sym e)
         (given_content now call)
 
     pub sets_given : new ≡ gives now call → Within (state_of new).may_leave (carried_out (device_of now.story) call).may_leave
     sets_given e =
-        subst (λ (n : Mirror). Within (state_of n).may_leave (carried_out (device_of now.story) call).may_leave) (sym e)
+        subst (λ (n : OutboxMedium). Within (state_of n).may_leave (carried_out (device_of now.story) call).may_leave) (sym e)
         (given_sets now call)
 
   pub holds_given : (s : ℕ) (block : List ℕ) → new ≡ gives now (Write (record { sector = s; block = block }))
       → Holds s block (state_of now).content (state_of new).content
-  holds_given s block e = subst (λ (n : Mirror). Holds s block (state_of now).content (state_of n).content) (sym e) (written now s block)
+  holds_given s block e =
+      subst (λ (n : OutboxMedium). Holds s block (state_of now).content (state_of n).content) (sym e) (written now s block)

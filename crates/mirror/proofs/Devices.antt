@@ -4,7 +4,7 @@ use Rattle.std.proofs.Common.{subst, arith, length-append, append_assoc}
 use Rattle.std.proofs.Math.Seq.{take-nil, take-append-add}
 use Rattle.mirror.specs.Device.{durable, after}
 use Rattle.mirror.specs.Story.{given}
-use Rattle.mirror.specs.Mirror.{Mirror, sent, CoversDevice, ComesAfter}
+use Rattle.mirror.specs.OutboxMedium.{OutboxMedium, sent, CoversDevice, ComesAfter}
 use Rattle.mirror.specs.MirrorLaws.{given-append}
 use Rattle.mirror.specs.declared.call.DeviceCall.{DeviceCall}
 
@@ -45,13 +45,13 @@ later_part before since count le =
     }
 
 -- what was sent is what was given, as long as only calls of a medium are made
-still_sent : (old new : Mirror) → given old.story.asked ≡ sent old → ComesAfter old new → given new.story.asked ≡ sent new
+still_sent : (old new : OutboxMedium) → given old.story.asked ≡ sent old → ComesAfter old new → given new.story.asked ≡ sent new
 still_sent old new all follows =
     ap given follows.asked ∙ given-append old.story.asked follows.since
     ∙ ap (λ (l : List DeviceCall). l ++ given follows.since) all ∙ append_assoc old.story.taken old.outbox (given follows.since)
     ∙ (λ i. sym follows.taken_stays i ++ sym follows.outbox i)
 
-pub covers : (old new : Mirror) → given old.story.asked ≡ sent old → ComesAfter old new → CoversDevice old new
+pub covers : (old new : OutboxMedium) → given old.story.asked ≡ sent old → ComesAfter old new → CoversDevice old new
 covers old new all follows count image le left =
     let part = later_part old.story.asked follows.since count (omega (arith, le, ap (λ (l : List DeviceCall). length l) all)) in
     let gives : given (take part.at new.story.asked) ≡ take count (sent new) =

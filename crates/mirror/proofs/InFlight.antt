@@ -3,7 +3,7 @@ use Rattle.std.proofs.Common.{◌≡◌, ◌<◌, get_or, inl, inr, ℕ, zero, s
 use Rattle.std.specs.Prelude.{All, Contains}
 use Rattle.medium.specs.Medium.{Within}
 use Rattle.mirror.specs.Device.{Device, durable, carried_out, after}
-use Rattle.mirror.specs.Mirror.{Mirror, CoversDevice}
+use Rattle.mirror.specs.OutboxMedium.{OutboxMedium, CoversDevice}
 use Rattle.mirror.specs.Parts.{IsWrite, CoversParts}
 use Rattle.mirror.proofs.Asked.{after-append}
 use Rattle.mirror.specs.declared.call.DeviceCall.{DeviceCall}
@@ -57,7 +57,7 @@ kept_left base device in_flight (Flush ∷ kept) writes among within =
     let there = first_is (Contains in_flight) Flush kept among in
     absurd (written_left base in_flight Flush writes there.0 there.1 there.2)
 
-pub parts_follow : (old new : Mirror) → CoversDevice old new → CoversParts old new
+pub parts_follow : (old new : OutboxMedium) → CoversDevice old new → CoversParts old new
 parts_follow old new covers count done image le part left =
     let opening : Device = durable new.story.opening in
     let base : Device = after opening part.settled in

@@ -2,7 +2,7 @@
 use Rattle.std.proofs.Common.{◌≡◌, ℕ, List, [], ◌∷◌, ◌++◌, None, ◌∙◌, ap}
 use Rattle.mirror.specs.Device.{durable, after}
 use Rattle.mirror.specs.Story.{Told, given}
-use Rattle.mirror.specs.Mirror.{device_of}
+use Rattle.mirror.specs.OutboxMedium.{device_of}
 use Rattle.mirror.specs.declared.call.DeviceCall.{DeviceCall}
 use Rattle.mirror.proofs.Asked.{given_none}
 

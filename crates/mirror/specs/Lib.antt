@@ -1,5 +1,5 @@
 pub mod Device
-pub mod Mirror
 pub mod MirrorLaws
+pub mod OutboxMedium
 pub mod Parts
 pub mod Story

@@ -9,7 +9,8 @@ use Rattle.medium.specs.Medium.{Image, IsSound}
 use Rattle.medium.specs.SimLaws.{whole_sector}
 use Rattle.mirror.specs.Device.{Device, put, durable, carried_out, after}
 use Rattle.mirror.specs.Story.{Told, given, is_whole, are_whole}
-use Rattle.mirror.specs.Mirror.{Mirror, device_of, device_at, LeftSince, size_of, state_of}
+use Rattle.mirror.specs.OutboxMedium.{OutboxMedium, device_of, device_at, LeftSince}
+use Rattle.mirror.specs.OutboxMedium.{size_of, state_of}
 use Rattle.mirror.specs.declared.call.DeviceCall.{DeviceCall}
 use Rattle.mirror.specs.declared.call.DeviceCall.TheVariants.{Write, Flush}
 
@@ -95,7 +96,7 @@ now_left t image moment le left = record {
       (sym (take_all (length t.asked) t.asked (omega arith))) (left s);
 }
 
-pub is_sound : (m : Mirror) → IsSound (state_of m)
+pub is_sound : (m : OutboxMedium) → IsSound (state_of m)
 is_sound m = record {
   holds_content = after_holds (durable m.story.opening) (given m.story.asked) (λ s. refl);
   counts_now = λ moment image le left. now_left m.story image moment le left;

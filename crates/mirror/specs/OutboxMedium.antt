@@ -10,7 +10,7 @@ use Rattle.mirror.specs.Story as story
 use Rattle.mirror.specs.Story.{Told, given, are_whole}
 use Rattle.mirror.specs.declared.call.DeviceCall.{DeviceCall}
 
-pub record Mirror : Type 0 where
+pub record OutboxMedium : Type 0 where
   -- what it was asked since the beginning
   pub story : Told
   -- what the device is still to carry out, in order
@@ -40,7 +40,7 @@ size_of t = if are_whole (given t.asked) then length t.opening / 512 else 0
 
 -- Its content and sets are those of the device that has carried out all, and its moments those of
 -- the device on its way there. It keeps no account of what reads name.
-abbrev pub state_of : Mirror → State
+abbrev pub state_of : OutboxMedium → State
 state_of m = record {
   size = size_of m.story;
   content = (device_of m.story).content;
@@ -54,19 +54,19 @@ state_of m = record {
 }
 
 -- a read: nothing is appended
-abbrev pub reads : Mirror → Mirror
+abbrev pub reads : OutboxMedium → OutboxMedium
 reads m = record m { story = story.read m.story }
 
 -- a call that the device is to carry out: it alone is appended
-abbrev pub gives : Mirror → DeviceCall → Mirror
+abbrev pub gives : OutboxMedium → DeviceCall → OutboxMedium
 gives m call = record m { story = story.gave m.story call; outbox = m.outbox ++ call ∷ [] }
 
 -- a call that was refused: nothing is appended
-abbrev pub refuses : Mirror → DeviceCall → Mirror
+abbrev pub refuses : OutboxMedium → DeviceCall → OutboxMedium
 refuses m call = record m { story = story.refused m.story call }
 
 -- every call that was given to the device since the beginning, taken out or not
-abbrev pub sent : Mirror → List DeviceCall
+abbrev pub sent : OutboxMedium → List DeviceCall
 sent m = m.story.taken ++ m.outbox
 
 abbrev pub first_of : List DeviceCall → Option DeviceCall
@@ -75,7 +75,7 @@ first_of (call ∷ calls) = Some call
 
 -- The second comes after the first, by calls of a medium alone: all that they gave to the device is
 -- appended to the outbox, in order.
-pub record ComesAfter (old new : Mirror) : Type 0 where
+pub record ComesAfter (old new : OutboxMedium) : Type 0 where
   pub since : List (Option DeviceCall)
   pub asked : new.story.asked ≡ old.story.asked ++ since
   pub outbox : new.outbox ≡ old.outbox ++ given since
@@ -88,19 +88,19 @@ pub record ComesAfter (old new : Mirror) : Type 0 where
   pub failures_stay : of_all old.story.refused ≤ of_all new.story.refused
 
 -- What a loss of power may leave of a device that has carried out this many of the calls sent.
-abbrev pub DeviceLeaves : Mirror → ℕ → Image → Type 0
+abbrev pub DeviceLeaves : OutboxMedium → ℕ → Image → Type 0
 DeviceLeaves m count image =
     CutLeaves (after (durable m.story.opening) (take count (sent m))).may_leave image
 
 -- A device that has carried out what was sent until the first moment, and any first part of what
 -- was sent from then on: what a cut leaves of it, a cut of the medium since then could have left.
-abbrev pub CoversDevice : Mirror → Mirror → Type 0
+abbrev pub CoversDevice : OutboxMedium → OutboxMedium → Type 0
 CoversDevice old new =
     (count : ℕ) (image : Image) → length (sent old) ≤ count → DeviceLeaves new count image
     → (state_of new).left_since (state_of old).calls image
 
 -- what holds of every such medium
-pub record IsWellFormed (m : Mirror) : Type 0 where
+pub record IsWellFormed (m : OutboxMedium) : Type 0 where
   pub some : 0 < length m.story.opening
   pub whole : length m.story.opening % 512 ≡ 0
   pub whole_writes : are_whole (given m.story.asked) ≡ true

@@ -2,7 +2,7 @@
 use Rattle.std.specs.Prelude.{◌≡◌, ◌≤◌, ℕ, List, ◌++◌, length, take, All, Contains}
 use Rattle.medium.specs.Medium.{Image, CutLeaves}
 use Rattle.mirror.specs.Device.{durable, after}
-use Rattle.mirror.specs.Mirror.{Mirror, sent, state_of, CoversDevice}
+use Rattle.mirror.specs.OutboxMedium.{OutboxMedium, sent, state_of, CoversDevice}
 use Rattle.mirror.specs.declared.call.DeviceCall.{DeviceCall}
 use Rattle.mirror.specs.declared.call.DeviceCall.TheVariants.{Write, Flush}
 
@@ -24,7 +24,7 @@ pub record AreCarriedOut (handed done : List DeviceCall) : Type 0 where
 -- A device that was handed what was sent until the first moment, and any first part of what was
 -- sent since, and has carried out any part of its writes in flight: what a cut leaves of it, a cut
 -- of the medium since that moment could have left.
-abbrev pub CoversParts : Mirror → Mirror → Type 0
+abbrev pub CoversParts : OutboxMedium → OutboxMedium → Type 0
 CoversParts old new =
     (count : ℕ) (done : List DeviceCall) (image : Image) → length (sent old) ≤ count
     → AreCarriedOut (take count (sent new)) done
@@ -33,4 +33,4 @@ CoversParts old new =
 
 -- where each first part is covered, each part is
 abbrev pub PartsFollow : Type 0
-PartsFollow = (old new : Mirror) → CoversDevice old new → CoversParts old new
+PartsFollow = (old new : OutboxMedium) → CoversDevice old new → CoversParts old new

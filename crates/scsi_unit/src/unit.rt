@@ -189,10 +189,10 @@ impl<M: Switch> Unit<M> {
 
 impl<M: Outlet> Unit<M> {
     /// Lets go of the call that the medium's device is to carry out next, if there is one.
-    pub fn give(&mut self)
+    pub fn pop(&mut self)
         ensures { ArmsUnit M.state M.given self.old self.new }
     {
-        self.store.give();
+        self.store.pop();
     }
 }
 

@@ -6,7 +6,7 @@ use Rattle.std.proofs.lemmas.Bool.{cases_lt}
 use Rattle.std.proofs.lemmas.List.{drop_all}
 use Rattle.medium.specs.Medium.{Holds}
 use Rattle.medium.specs.Writes.{sector_of}
-use Rattle.mirror.specs.Mirror.{first_of}
+use Rattle.mirror.specs.OutboxMedium.{first_of}
 use Rattle.mirror.specs.declared.call.DeviceCall.{DeviceCall}
 use Rattle.mirror.specs.declared.call.DeviceCall.TheVariants.{Write}
 use Rattle.window.specs.Window.{Window, take_first, without_first}

@@ -3,7 +3,7 @@ use Rattle.std.specs.Prelude.{◌≡◌, ◌≢◌, ◌⊎◌, ◌↔◌, ℕ, �
 use Rattle.std.specs.Prelude.{not, List, length, Option, Some, None, Result, Ok, Err}
 use Rattle.inlet.specs.Inlet.{AreHeld}
 use Rattle.spec.specs.Blocks.{Write}
-use Rattle.mirror.specs.Mirror.{first_of}
+use Rattle.mirror.specs.OutboxMedium.{first_of}
 use Rattle.journal.specs.Places.{first_home}
 use Rattle.window.specs.Window.{state_of, without_first, ComesAfter, IsShown}
 use Rattle.blocks.specs.Background.{IsBackgroundStep, CountsDown}

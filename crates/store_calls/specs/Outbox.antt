@@ -4,7 +4,7 @@ use Rattle.std.specs.Prelude.{◌++◌, length, Option, Some, None}
 use Rattle.medium.specs.Writes.{sector_of}
 use Rattle.mirror.specs.declared.call.DeviceCall.{DeviceCall}
 use Rattle.mirror.specs.declared.call.DeviceCall.TheVariants.{Write, Flush}
-use Rattle.mirror.specs.Mirror.{first_of}
+use Rattle.mirror.specs.OutboxMedium.{first_of}
 use Rattle.window.specs.Window.{Window, without_first}
 
 -- the number of a call's kind, and where it is a write its sector and bytes

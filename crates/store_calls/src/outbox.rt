@@ -1,5 +1,5 @@
 //! What a device has to carry out, and what it shows.
-ghost use Rattle.mirror.specs.Mirror.{first_of};
+ghost use Rattle.mirror.specs.OutboxMedium.{first_of};
 ghost use Rattle.store_calls.specs.Outbox.{Shows};
 ghost use Rattle.store_calls.specs.Calls.{LetsGo, Sees};
 
@@ -18,7 +18,7 @@ pub(crate) fn next_call(
     ensures lets_go { LetsGo store.old store.new }
 {
     let call = store.medium().first();
-    store.give();
+    store.pop();
     show_call(call, sector, to)
 }
 

@@ -18,6 +18,6 @@ fn drain(store: &mut Store<WindowMedium>)
 {
     let waiting = store.medium().waiting();
     for _gone in 0..waiting {
-        store.give();
+        store.pop();
     }
 }

@@ -3,7 +3,7 @@ ghost use Rattle.std.specs.Prelude.{◌≡◌, ◌↔◌, ◌+◌, Some, MatchOp
 ghost use Rattle.mirror.specs.declared.call.DeviceCall.TheVariants as call;
 ghost use Rattle.blocks.specs.Passing.{IsUntouched};
 ghost use Rattle.window.specs.Window.{state_of};
-ghost use Rattle.mirror.specs.Mirror.{first_of};
+ghost use Rattle.mirror.specs.OutboxMedium.{first_of};
 ghost use Rattle.store_calls.specs.Outbox.{IsLongestRun, IsTo, IsNoRoom, ShowsRun};
 ghost use Rattle.store_calls.specs.Calls.{HandsOnRun};
 
@@ -55,11 +55,11 @@ fn take_run(
             1
         }
         Some(DeviceCall::Flush) => {
-            store.give();
+            store.pop();
             2
         }
         None => {
-            store.give();
+            store.pop();
             0
         }
     }
@@ -77,7 +77,7 @@ fn gather(store: &mut Store<WindowMedium>, first: u64, to: &mut [u8]) -> usize
             return at;
         };
         put_sector(to, at as u64, &block);
-        store.give();
+        store.pop();
     }
     most
 }

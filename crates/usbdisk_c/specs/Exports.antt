@@ -1,7 +1,7 @@
 -- What each export answers, and what it leaves in the handle.
 use Rattle.std.specs.Prelude.{◌≡◌, ◌≢◌, ◌⊎◌, ℕ, Bool, true, false, List, Option, Some, None}
 use Rattle.medium.specs.Medium.{Image}
-use Rattle.mirror.specs.Mirror.{first_of}
+use Rattle.mirror.specs.OutboxMedium.{first_of}
 use Rattle.window.specs.Window.{Window}
 use Rattle.journal.specs.Places.{Shape, first_home}
 use Rattle.journal.specs.Sectors.{IsSuper}

@@ -1,7 +1,7 @@
 -- What `usbdisk_take_run` hands out of a disk.
 use Rattle.std.specs.Prelude.{◌≡◌, ◌⊎◌, ℕ, List, length, Option, Some, None}
 use Rattle.window.specs.Window.{state_of}
-use Rattle.mirror.specs.Mirror.{first_of}
+use Rattle.mirror.specs.OutboxMedium.{first_of}
 use Rattle.store_calls.specs.Outbox.{ShowsRun, IsNoRoom}
 use Rattle.spec.specs.Book.{Book}
 use Rattle.bot_machine.specs.Disk.{FitsDisk, IsRearmed}

@@ -5,7 +5,7 @@ ghost use Rattle.usbdisk_c.specs.Plays.{TakesUnread};
 ghost use Rattle.spec.specs.declared.event.Answer.TheVariants as answer;
 ghost use Rattle.spec.specs.declared.event.Event.TheVariants as event;
 ghost use Rattle.std.specs.Prelude.{◌≤◌, length};
-ghost use Rattle.mirror.specs.Mirror.{first_of};
+ghost use Rattle.mirror.specs.OutboxMedium.{first_of};
 
 use crate::codes::{ACK, NAK, NEEDS, STALL, TOO_LONG};
 use crate::wanted::unseen;
@@ -146,6 +146,6 @@ pub(crate) fn next_call(disk: &mut Disk<WindowMedium>, sector: &mut u64, to: &mu
     ensures lets_go { LetsGo disk.old disk.new }
 {
     let call = disk.medium().first();
-    disk.give();
+    disk.pop();
     show_call(call, sector, to)
 }

@@ -18,6 +18,6 @@ fn drain(disk: &mut Disk<WindowMedium>)
 {
     let waiting = disk.medium().waiting();
     for _gone in 0..waiting {
-        disk.give();
+        disk.pop();
     }
 }

@@ -31,11 +31,11 @@ pub(crate) fn next_run(
             1
         }
         Some(DeviceCall::Flush) => {
-            disk.give();
+            disk.pop();
             2
         }
         None => {
-            disk.give();
+            disk.pop();
             0
         }
     }
@@ -54,7 +54,7 @@ fn gather(disk: &mut Disk<WindowMedium>, first: u64, to: &mut [u8]) -> usize
             return at;
         };
         put_sector(to, at as u64, &block);
-        disk.give();
+        disk.pop();
     }
     most
 }

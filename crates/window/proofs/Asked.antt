@@ -8,8 +8,8 @@ use Rattle.medium.specs.Medium.{Passes, Stays, Within}
 use Rattle.medium.specs.Tally.{Tally, of_kind, one_more}
 use Rattle.medium.specs.declared.fault.MediumFault.{MediumFault}
 use Rattle.medium.specs.declared.fault.MediumFault.TheVariants as fault
-use Rattle.mirror.specs.Mirror as mirror
-use Rattle.mirror.specs.Mirror.{Mirror}
+use Rattle.mirror.specs.OutboxMedium as mirror
+use Rattle.mirror.specs.OutboxMedium.{OutboxMedium}
 use Rattle.mirror.specs.Story as story
 use Rattle.mirror.specs.declared.call.DeviceCall.{DeviceCall}
 use Rattle.mirror.specs.declared.call.DeviceCall.TheVariants.{Write, Flush}
@@ -24,10 +24,10 @@ others_read fault.Write t other = refl
 others_read fault.Flush t other = refl
 
 -- the medium after a read that found nothing
-abbrev missed : Mirror → Mirror
+abbrev missed : OutboxMedium → OutboxMedium
 missed m = record m { story = record (story.read m.story) { refused = one_more m.story.refused fault.Read } }
 
-missed_passes : (m : Mirror) → Passes fault.Read (Err fault.Read) (mirror.state_of m) (mirror.state_of (missed m))
+missed_passes : (m : OutboxMedium) → Passes fault.Read (Err fault.Read) (mirror.state_of m) (mirror.state_of (missed m))
 missed_passes m = record {
   calls_are = length-append m.story.asked (None ∷ []);
   made_is = refl;

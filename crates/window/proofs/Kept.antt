@@ -7,7 +7,7 @@ use Rattle.std.proofs.lemmas.List.{length-take, length-replicate}
 use Rattle.medium.specs.Writes.{sector_of}
 use Rattle.mirror.specs.Device.{carried_out}
 use Rattle.mirror.specs.Story.{Told, given, is_whole, are_whole}
-use Rattle.mirror.specs.Mirror.{device_of, size_of}
+use Rattle.mirror.specs.OutboxMedium.{device_of, size_of}
 use Rattle.mirror.specs.MirrorLaws.{is_sound, size_whole}
 use Rattle.mirror.specs.declared.call.DeviceCall.{DeviceCall}
 use Rattle.mirror.proofs.Asked.{given_some, whole_more, given_content}

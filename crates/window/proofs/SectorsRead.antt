@@ -4,7 +4,7 @@ use Rattle.std.proofs.lemmas.List.Elements.{All-nil, All-cons}
 use Rattle.medium.specs.Medium.{Passes, LooksOnly}
 use Rattle.medium.specs.declared.fault.MediumFault.{MediumFault}
 use Rattle.medium.specs.declared.fault.MediumFault.TheVariants as fault
-use Rattle.mirror.specs.Mirror as mirror
+use Rattle.mirror.specs.OutboxMedium as mirror
 use Rattle.mirror.specs.Story.{kind_of, given, are_whole, is_whole}
 use Rattle.mirror.specs.declared.call.DeviceCall.{DeviceCall}
 use Rattle.mirror.proofs.Asked as asked

@@ -10,7 +10,7 @@ use Rattle.medium.specs.Medium.{Image, Holds}
 use Rattle.medium.specs.Writes.{sector_of}
 use Rattle.mirror.specs.Device.{put, durable, after}
 use Rattle.mirror.specs.Story.{Told, given}
-use Rattle.mirror.specs.Mirror.{device_of}
+use Rattle.mirror.specs.OutboxMedium.{device_of}
 use Rattle.window.specs.Seen.{same, agrees, overlaid, lies_in, bytes_of, nothings, reborn}
 
 same_self : (xs : List ℕ) → same xs xs ≡ true

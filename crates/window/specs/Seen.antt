@@ -9,7 +9,7 @@ use Rattle.medium.specs.Writes.{sector_of}
 use Rattle.medium.specs.declared.fault.MediumFault.TheVariants as fault
 use Rattle.mirror.specs.Story as story
 use Rattle.mirror.specs.Story.{Told}
-use Rattle.mirror.specs.Mirror.{device_of}
+use Rattle.mirror.specs.OutboxMedium.{device_of}
 use Rattle.mirror.specs.declared.call.DeviceCall.{DeviceCall}
 
 pub record Seen : Type 0 where

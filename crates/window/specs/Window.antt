@@ -7,8 +7,8 @@ use Rattle.medium.specs.Medium.{State}
 use Rattle.medium.specs.Sent.{sent}
 use Rattle.medium.specs.Tally.{Tally}
 use Rattle.inlet.specs.Inlet.{AreHeld}
-use Rattle.mirror.specs.Mirror as mirror
-use Rattle.mirror.specs.Mirror.{Mirror}
+use Rattle.mirror.specs.OutboxMedium as mirror
+use Rattle.mirror.specs.OutboxMedium.{OutboxMedium}
 use Rattle.mirror.specs.Story.{given}
 use Rattle.mirror.specs.declared.call.DeviceCall.{DeviceCall}
 use Rattle.window.specs.Seen as seen
@@ -26,7 +26,7 @@ pub record Window : Type 0 where
   pub held : ℕ
   pub span : ℕ
 
-abbrev pub mirror_of : Window → Mirror
+abbrev pub mirror_of : Window → OutboxMedium
 mirror_of w = record { story = w.seen.told; outbox = w.outbox; room = w.room }
 
 abbrev pub lies_in : ℕ → ℕ → ℕ → Bool

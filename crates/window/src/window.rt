@@ -3,7 +3,7 @@ ghost use Rattle.std.specs.Prelude.{◌≡◌, ◌≢◌, ◌⊎◌, ◌+◌, �
 ghost use Rattle.std.specs.Prelude.{true, false, IfOk, IsErrOf, IsTrue};
 ghost use Rattle.medium.specs.Moments.{IsFlushed};
 ghost use Rattle.medium.specs.Writes.{sector_of};
-ghost use Rattle.mirror.specs.Mirror.{first_of};
+ghost use Rattle.mirror.specs.OutboxMedium.{first_of};
 ghost use Rattle.window.specs.Window.{Window, state_of, fresh, without_first, ComesAfter};
 ghost use Rattle.window.specs.Window.{CoversDevice, IsServed, HasPlace, IsShown, is_in_sight};
 
@@ -299,7 +299,7 @@ impl Outlet for WindowMedium {
 
     ghost given = { λ old new. new ≡ without_first old };
 
-    fn give(&mut self) {
+    fn pop(&mut self) {
         let _call = self.take();
     }
 }

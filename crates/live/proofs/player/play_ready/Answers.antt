@@ -16,8 +16,8 @@ returns g c =
       parts = c.foresee.ensures.parts (window_of played) follows;
       kept = event_kept old played c.args.event.now answer step follows;
       served = event_served old played c.args.event.now answer step (c.foresee.ensures.served (window_of played) follows);
-      carried = c.give.ensures.given;
-      others = c.give.ensures.others;
-      again = ready_again g.D.DeviceFile.told old played c.give.new.self follows step.few.layout_stays c.give.ensures.given
-          c.give.ensures.others;
+      carried = c.pop.ensures.given;
+      others = c.pop.ensures.others;
+      again = ready_again g.D.DeviceFile.told old played c.pop.new.self follows step.few.layout_stays c.pop.ensures.given
+          c.pop.ensures.others;
     }

@@ -9,9 +9,9 @@ loop-gone-init c = (refl, none_yet c.args.store.now)
 
 pub loop-gone-preserved : goal.loop-gone-preserved
 loop-gone-preserved c = (
-  taking.one_more c.loop-gone._gone c.args.store.now.medium c.loop-gone.store.medium c.give.new.self.medium c.loop-gone.invariant.0
-      c.give.ensures.given,
-  one_more c.args.store.now c.loop-gone.store c.give.new.self c.loop-gone.invariant.1 c.give.ensures.untouched,
+  taking.one_more c.loop-gone._gone c.args.store.now.medium c.loop-gone.store.medium c.pop.new.self.medium c.loop-gone.invariant.0
+      c.pop.ensures.given,
+  one_more c.args.store.now c.loop-gone.store c.pop.new.self c.loop-gone.invariant.1 c.pop.ensures.untouched,
 )
 
 pub returns : goal.returns

@@ -1,5 +1,5 @@
 use Rattle.std.proofs.Common.{sym, ◌∙◌, ap, refl}
-use Rattle.mirror.specs.Mirror.{first_of}
+use Rattle.mirror.specs.OutboxMedium.{first_of}
 use Rattle.window.specs.Window.{Window}
 use Rattle.store_calls.proofs.OutboxTaken.{more}
 use Rattle.store_calls.proofs.Untouched.{none_yet, one_more}
@@ -10,9 +10,9 @@ loop-at-init c = (record { writes = refl; medium = refl; behind = λ i le. refl 
 
 pub loop-at-preserved : goal.loop-at-preserved
 loop-at-preserved c = (
-  more c.args.store.now.medium c.loop-at.store.medium c.give.new.self.medium c.args.first c.loop-at.at c.args.to.now c.loop-at.to
+  more c.args.store.now.medium c.loop-at.store.medium c.pop.new.self.medium c.args.first c.loop-at.at c.args.to.now c.loop-at.to
       c.put.new.bytes c.in-Some.block c.loop-at.invariant.0
       (ap (λ (w : Window). first_of w.outbox) (sym c.medium.ensures.is) ∙ sym c.first.ensures ∙ c.in-Some.ensures)
-      c.put.ensures c.give.ensures.given,
-  one_more c.args.store.now c.loop-at.store c.give.new.self c.loop-at.invariant.1 c.give.ensures.untouched,
+      c.put.ensures c.pop.ensures.given,
+  one_more c.args.store.now c.loop-at.store c.pop.new.self c.loop-at.invariant.1 c.pop.ensures.untouched,
 )

@@ -1,5 +1,5 @@
 use Rattle.std.proofs.Common.{sym, ◌∙◌, ap, refl}
-use Rattle.mirror.specs.Mirror.{first_of}
+use Rattle.mirror.specs.OutboxMedium.{first_of}
 use Rattle.window.specs.Window.{Window}
 use Rattle.store_calls.proofs.OutboxTaken.{more}
 use Rattle.usbdisk_c.specs.Plays.{medium_of}
@@ -11,10 +11,10 @@ loop-at-init c = (record { writes = refl; medium = refl; behind = λ i le. refl 
 
 pub loop-at-preserved : goal.loop-at-preserved
 loop-at-preserved c = (
-  more (medium_of c.args.disk.now) (medium_of c.loop-at.disk) (medium_of c.give.new.self) c.args.first c.loop-at.at c.args.to.now
+  more (medium_of c.args.disk.now) (medium_of c.loop-at.disk) (medium_of c.pop.new.self) c.args.first c.loop-at.at c.args.to.now
       c.loop-at.to c.put.new.bytes c.in-Some.block c.loop-at.invariant.0
       (ap (λ (w : Window). first_of w.outbox) (sym c.medium.ensures.is) ∙ sym c.first.ensures ∙ c.in-Some.ensures)
-      c.put.ensures c.give.ensures.given,
-  one_more c.args.disk.now c.loop-at.disk c.give.new.self c.loop-at.invariant.1
-      (record { others = c.give.ensures.others; fits = c.give.ensures.fits }),
+      c.put.ensures c.pop.ensures.given,
+  one_more c.args.disk.now c.loop-at.disk c.pop.new.self c.loop-at.invariant.1
+      (record { others = c.pop.ensures.others; fits = c.pop.ensures.fits }),
 )

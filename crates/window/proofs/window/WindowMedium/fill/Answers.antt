@@ -1,6 +1,6 @@
 use Rattle.std.proofs.Common.{rules, ◌≡◌, ◌≤◌, ◌+◌, ◌*◌, ◌/◌, ℕ, List, [], length, refl, sym, ◌∙◌, ap, arith, IsTrue}
 use Rattle.medium.specs.Writes.{sector_of}
-use Rattle.mirror.specs.Mirror.{device_of, size_of}
+use Rattle.mirror.specs.OutboxMedium.{device_of, size_of}
 use Rattle.window.specs.Window.{Window, moved}
 use Rattle.window.specs.WindowView.{view_of}
 use Rattle.window.specs.declared.window.WindowMedium.TheInside.{Inside}

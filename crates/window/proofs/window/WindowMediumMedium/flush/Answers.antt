@@ -1,7 +1,7 @@
 use Rattle.std.proofs.Common.{length, ◌≤◌, ◌≡◌, ℕ, List, true, refl, ap, sym, subst, arith}
 use Rattle.mirror.specs.declared.call.DeviceCall.TheVariants.{Flush}
 use Rattle.mirror.specs.Story.{given, are_whole}
-use Rattle.mirror.specs.Mirror.{device_of}
+use Rattle.mirror.specs.OutboxMedium.{device_of}
 use Rattle.mirror.specs.MirrorLaws.{is_sound}
 use Rattle.mirror.proofs.Asked.{content_refused, sets_refused, content_given, sets_given}
 use Rattle.window.specs.Seen.{Seen, refused}

@@ -1,7 +1,7 @@
 use Rattle.std.proofs.Common.{length, ◌≤◌, ◌≡◌, ◌/◌, inl, true, refl, ap, subst, arith}
 use Rattle.mirror.specs.declared.call.DeviceCall.TheVariants.{Write}
 use Rattle.mirror.specs.Story.{given, are_whole}
-use Rattle.mirror.specs.Mirror.{device_of}
+use Rattle.mirror.specs.OutboxMedium.{device_of}
 use Rattle.mirror.proofs.Asked.{content_refused, sets_refused, sets_given, holds_given}
 use Rattle.window.specs.Seen.{Seen, refused}
 use Rattle.window.specs.Window.{Window, mirror_of}
