@@ -21,11 +21,7 @@ pub(crate) fn served_by(alloc: Global, shape: Shape, image: SimMedium) -> Result
 }
 
 /// A life opens over these blocks.
-pub(crate) fn oracle_over(
-    alloc: Global,
-    format: Format,
-    opening: &Array,
-) -> Result<Oracle, Fault> {
+pub(crate) fn oracle_over(alloc: Global, format: Format, opening: &Array) -> Result<Oracle, Fault> {
     Ok(Oracle::new(alloc, opening, format.limit(), PacketSize::High512)?)
 }
 
