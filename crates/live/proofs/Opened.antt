@@ -2,7 +2,7 @@
 use Rattle.std.proofs.Common.{◌≡◌, ◌<◌, ◌≤◌, ◌+◌, ◌*◌, ℕ, true, List, length, min, inl, inr, arith, refl, sym, ap}
 use Rattle.std.proofs.Common.{subst}
 use Rattle.std.specs.Prelude.{Option, Some, None, nat_le}
-use Rattle.std.proofs.lemmas.Bool.{cases_Bool, leb-true}
+use Rattle.std.proofs.lemmas.Bool.{cases_Bool, leb-true, leb-false}
 use Rattle.medium.specs.Writes.{sector_of}
 use Rattle.journal.specs.Places.{Shape}
 use Rattle.journal.specs.Sectors.{IsSuper}
@@ -12,7 +12,7 @@ use Rattle.journal.proofs.SectorNumbers.{IsSuper-one}
 use Rattle.window.specs.Window.{Window, state_of, fresh}
 use Rattle.window.proofs.Kept.{opened_length, opened_front}
 use Rattle.device_file.specs.First.{SpellsSuper, near_of}
-use Rattle.live.specs.Ready.{most_room, IsReadyToStart, HasRoomToStart}
+use Rattle.live.specs.Ready.{IsReadyToStart, HasRoomToStart}
 use Rattle.live.specs.Starting.{IsWindowOf, room_for}
 
 module _ (sectors : ℕ) (bytes device : List ℕ) (some : 0 < sectors) where
@@ -36,14 +36,26 @@ module _ (sectors : ℕ) (bytes device : List ℕ) (some : 0 < sectors) where
       (room_for sectors (Some sizes))
   room_of_image sizes is count =
       let room = room_for sectors (Some sizes) in
+      let zero = at_0 room sizes.home (omega (arith, is.home_is.0)) count in
       elim (cases_Bool (nat_le (sizes.home + sizes.blocks) sectors)) [
         | inl fits ↦ inl (
           shape_of sizes,
-          subst (IsSuper (shape_of sizes)) (sym (at_0 room sizes.home (omega (arith, is.home_is.0)) count)) is,
-          within sizes.home sizes.blocks room count fits,
+          record { super = rw zero is; fits = within sizes.home sizes.blocks room count fits },
           rw fits (omega arith),
         )
-        | inr not ↦ inr (rw not (omega arith))
+        | inr not ↦ inr (
+          λ shape has.
+              let same = IsSuper-one shape (shape_of sizes) (sector_of bytes 0) (rw zero at has.super) is in
+              absurd (omega (
+                arith,
+                leb-false _ _ not,
+                has.fits,
+                size_is room sizes.home count,
+                ap (λ (s : Shape). s.home) same,
+                ap (λ (s : Shape). s.blocks) same,
+              )),
+          rw not (omega arith),
+        )
       ]
 
   ready : (sizes : Option Super) → SpellsSuper sizes (sector_of bytes 0) → length bytes ≡ 512 * min (near_of sizes) sectors
@@ -69,13 +81,14 @@ module _ (sectors : ℕ) (bytes device : List ℕ) (some : 0 < sectors) where
         span = omega arith;
       }
   ready None spells count =
-      let zero = at_0 most_room 2 (omega arith) count in record {
+      let zero = at_0 1 2 (omega arith) count in
+      record {
         empty = refl;
         log = record {
           some = omega (arith, some, count);
           log = λ shape has. absurd (spells shape (subst (IsSuper shape) zero has.super));
         };
-        room = inr (omega arith);
+        room = inr (λ shape has. spells shape (subst (IsSuper shape) zero has.super), omega arith);
         span = omega arith;
       }
 

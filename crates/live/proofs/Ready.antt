@@ -4,7 +4,7 @@ use Rattle.std.specs.Prelude.{Option, Some, None}
 use Rattle.std.proofs.lemmas.Bool.{cases_Bool, cases_lt}
 use Rattle.medium.specs.Sent.{sent}
 use Rattle.journal.specs.Places.{Shape}
-use Rattle.journal.specs.Sectors.{IsSuper}
+use Rattle.journal.specs.ImageFaults.{HasShape}
 use Rattle.journal.proofs.SectorNumbers.{IsSuper-one}
 use Rattle.mirror.specs.Story as story
 use Rattle.spec.specs.declared.case.Case.{Case}
@@ -27,7 +27,7 @@ use Rattle.file_window.specs.FileWindows.{Carries}
 use Rattle.live.specs.Missing.{DiskOn, medium_of, window_of, AreMissing, Wants, WantsNone}
 use Rattle.live.specs.Playing.{SeesRead, Prepares, PlaysReady, MissesNothing}
 use Rattle.live.specs.Ready.{room_of, RefusesNone, KeepsAll, IsReadyToStart, HasRoomToStart, layout_on, IsReady, SeesHome}
-use Rattle.live.proofs.Rooms.{enough, less_than_any}
+use Rattle.live.proofs.Rooms.{enough}
 
 -- what a disk keeps of being ready while calls wait
 record IsFit {D : Type 0} (disk : DiskOn D) : Type 0 where
@@ -36,12 +36,11 @@ record IsFit {D : Type 0} (disk : DiskOn D) : Type 0 where
   span : 240 ≤ (window_of disk).span
 
 -- the room of a start is that of the image
-room_by : (size room : ℕ) (content : ℕ → List ℕ) (layout : Shape) → HasRoomToStart size content room → IsSuper layout (content 0)
+room_by : (size room : ℕ) (content : ℕ → List ℕ) (layout : Shape) → HasRoomToStart size content room → HasShape size layout content
     → room_of layout.format layout.slots ≤ room
-room_by size room content layout (inl (shape, super, within, enough_room)) is =
-    subst (λ (s : Shape). room_of s.format s.slots ≤ room) (IsSuper-one shape layout (content 0) super is) enough_room
-room_by size room content layout (inr enough_room) is =
-    omega (arith, enough_room, less_than_any layout.format layout.slots is.most_slots)
+room_by size room content layout (inl (shape, has, enough_room)) is =
+    subst (λ (s : Shape). room_of s.format s.slots ≤ room) (IsSuper-one shape layout (content 0) has.super is.super) enough_room
+room_by size room content layout (inr (none, _)) is = absurd (none layout is)
 
 -- a sector that is read in one case alone
 in_case : (case : Case) (wanted : Option HomeSectors) (home : HomeSectors) → sectors_in case wanted ≡ Some home → wanted ≡ Some home
@@ -60,17 +59,14 @@ module _ {D : Type 0} where
   fit_started : (first : Window) (started : DiskOn D) (device : Device) → IsReadyToStart first
       → IsOpened (state_of first) (state_of (window_of started)) device started → ComesAfter first (window_of started) → IsFit started
   fit_started first started device ready opened follows =
-      let stood = opened.store.stood in record {
-        log = omega (
-          arith,
-          follows.near_stays,
-          ready.log.log (layout_on started) (record { super = stood.keeps.super; fits = stood.fits }),
-        );
+      let stood = opened.store.stood in
+      let has : HasShape (state_of first).size (layout_on started) (state_of first).content =
+      record { super = stood.keeps.super; fits = stood.fits } in record {
+        log = omega (arith, follows.near_stays, ready.log.log (layout_on started) has);
         room = omega (
           arith,
           follows.room_stays,
-          room_by (state_of first).size first.room (state_of first).content (layout_on started)
-              ready.room stood.keeps.super,
+          room_by (state_of first).size first.room (state_of first).content (layout_on started) ready.room has,
         );
         span = omega (arith, ready.span, follows.span_stays);
       }

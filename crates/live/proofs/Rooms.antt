@@ -16,7 +16,7 @@ use Rattle.window.specs.Looks.{near_in_sight, none_refused}
 use Rattle.scsi_unit.specs.Calls.{most_sends_of}
 use Rattle.scsi_unit.specs.StartFaults.{StartFault}
 use Rattle.bot_machine.specs.Opening.{IsNotOpened, StartLeaves}
-use Rattle.live.specs.Ready.{room_of, most_room, RefusesNone, IsReadyToStart, HasRoomToStart}
+use Rattle.live.specs.Ready.{room_of, RefusesNone, IsReadyToStart, HasRoomToStart}
 
 -- the room is enough for each event, and for a start
 pub enough : (format : LogFormat) (slots : ℕ) → most_sends_of format ≤ room_of format slots
@@ -27,11 +27,6 @@ enough_start : (format : LogFormat) (slots : ℕ) → most_start_sends format sl
 enough_start One slots = le-max_right 309 (most_start_sends One slots)
 enough_start Two slots = le-max_right 1479 (most_start_sends Two slots)
 
--- that of any image is enough for each
-pub less_than_any : (format : LogFormat) (slots : ℕ) → slots ≤ 64 → room_of format slots ≤ most_room
-less_than_any One slots few = omega (arith, few)
-less_than_any Two slots few = omega (arith, few)
-
 -- ---- a start
 
 module _ (first after : Window) (ready : IsReadyToStart first) (leaves : StartLeaves (state_of first) (state_of after)) where
@@ -40,14 +35,9 @@ module _ (first after : Window) (ready : IsReadyToStart first) (leaves : StartLe
 
   fits_by : HasRoomToStart (state_of first).size (state_of first).content first.room
       → length first.outbox + sent (state_of after) ≤ sent (state_of first) + first.room
-  fits_by (inl (shape, super, within, room)) = omega (
-    arith,
-    none_waits,
-    room,
-    leaves.bounded.sends.most shape (record { super = super; fits = within }),
-    enough_start shape.format shape.slots,
-  )
-  fits_by (inr room) = omega (arith, none_waits, room, leaves.bounded.sends.any, enough_start Two 64)
+  fits_by (inl (shape, has, room)) =
+      omega (arith, none_waits, room, leaves.bounded.sends.most shape has, enough_start shape.format shape.slots)
+  fits_by (inr (none, room)) = omega (arith, none_waits, room, leaves.bounded.sends.none none)
 
   pub start_misses : ComesAfter first after → LooksAtLog (state_of first) (state_of after) → IsServed first after
       → RefusesNone first after

@@ -1,10 +1,9 @@
 -- Nothing that a disk asks of its window is refused: no write and no flush for want of room, and no
 -- read of a sector that is not in sight.
 use Rattle.std.specs.Prelude.{⊤, ◌≡◌, ◌⊎◌, ℕ, ◌≤◌, [], max}
-use Rattle.journal.specs.Places.{Shape, first_home, sectors_of}
-use Rattle.journal.specs.Sectors.{IsSuper}
+use Rattle.journal.specs.ImageFaults.{HasShape}
+use Rattle.journal.specs.Places.{Shape, first_home}
 use Rattle.journal.specs.declared.log_format.LogFormat.{LogFormat}
-use Rattle.journal.specs.declared.log_format.LogFormat.TheVariants.{Two}
 use Rattle.medium.specs.Medium.{Image}
 use Rattle.recovery.specs.Copies.{most_start_sends}
 use Rattle.recovery.specs.Looks.{HoldsLog}
@@ -20,10 +19,6 @@ use Rattle.live.specs.Missing.{DiskOn, window_of, WantsNone}
 abbrev pub room_of : LogFormat → ℕ → ℕ
 room_of format slots = max (most_sends_of format) (most_start_sends format slots)
 
--- the most that any image wants
-abbrev pub most_room : ℕ
-most_room = room_of Two 64
-
 -- No call of a medium was refused from one moment to another.
 abbrev pub RefusesNone : Window → Window → Type 0
 RefusesNone old new = (state_of new).failures ≡ (state_of old).failures
@@ -34,13 +29,12 @@ KeepsAll old new = kept_out new.seen.told.refused ≡ kept_out old.seen.told.ref
 
 -- ---- a start
 
--- The room is that of the image, where a good super tells its format and its slots, and else what
--- any image wants.
+-- The room is that of the image, where its super tells the format and the slots and the medium has
+-- all its sectors. Where there is no such image, no disk starts, by one call at most.
 abbrev pub HasRoomToStart : ℕ → Image → ℕ → Type 0
 HasRoomToStart size content room =
-    ((shape : Shape) × IsSuper shape (content 0) × (sectors_of shape ≤ size)
-    × (room_of shape.format shape.slots ≤ room))
-    ⊎ (most_room ≤ room)
+    ((shape : Shape) × HasShape size shape content × (room_of shape.format shape.slots ≤ room))
+    ⊎ (((shape : Shape) → ¬ HasShape size shape content) × (1 ≤ room))
 
 -- A window over which a start misses nothing: nothing waits, all sectors before the first home
 -- sector lie in memory, and there is the room. What the longest transfer reads can be in sight.

@@ -19,17 +19,16 @@ use Rattle.bot_machine.specs.StartFaults.{StartFault}
 use Rattle.runner.specs.Script.{device}
 use Rattle.live.specs.Missing.{DiskOn, medium_of, window_of}
 use Rattle.live.specs.Playing.{CoversParts}
-use Rattle.live.specs.Ready.{room_of, most_room, IsReady, RefusesNone}
+use Rattle.live.specs.Ready.{room_of, IsReady, RefusesNone}
 use Rattle.live.specs.Status.{refusal_of_open}
 use Rattle.live.specs.declared.refusal.Refusal.{Refusal}
 use Rattle.live.specs.declared.refusal.Refusal.TheVariants as refused
 
--- The room over a file of so many sectors, by its super. What no disk starts on has that of any
--- image.
+-- The room over a file of this size in sectors, by its super: one call, where no disk can start.
 abbrev pub room_for : ℕ → Option Super → ℕ
 room_for size (Some sizes) =
-    if nat_le (sizes.home + sizes.blocks) size then room_of sizes.format sizes.slots else most_room
-room_for size None = most_room
+    if nat_le (sizes.home + sizes.blocks) size then room_of sizes.format sizes.slots else 1
+room_for size None = 1
 
 -- the disk of a script, which sends the records of its log home ahead of the next one
 abbrev pub ahead_device : ℕ → Device

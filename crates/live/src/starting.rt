@@ -23,8 +23,8 @@ use window::{DeviceHolds, WindowMedium};
 /// The most sectors that are in sight at once behind the first ones: those of the longest transfer.
 const SPAN: u32 = 240;
 
-/// As many writes and flushes as a start makes at most, whatever the image.
-const MOST_ROOM: usize = 15_364;
+/// As many writes and flushes as a start makes at most where no disk can start: it flushes.
+const ROOM_WITHOUT_IMAGE: usize = 1;
 
 /// A disk that has started on an open file, once the file has carried out what the start sent.
 pub(crate) fn start_on<D: DeviceFile>(
@@ -87,15 +87,15 @@ fn refusal_of(fault: OpenFault) -> Refusal
     }
 }
 
-// How many calls an outbox has to have room for, over a file of so many sectors with such a super.
+// How many calls an outbox has to have room for, over a file of this many sectors with such a super.
 fn room_to_serve(sizes: &Option<Super>, sectors: u64) -> usize
     ensures { result ≡ room_for sectors sizes.now }
 {
     let Some(sizes) = sizes else {
-        return MOST_ROOM;
+        return ROOM_WITHOUT_IMAGE;
     };
     if sizes.sectors() > sectors {
-        return MOST_ROOM;
+        return ROOM_WITHOUT_IMAGE;
     }
     room_with(sizes)
 }
