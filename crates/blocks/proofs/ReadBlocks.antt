@@ -47,7 +47,7 @@ one_more_suc array address (suc i) =
 pub one_more : (array : Array) (address i : ℕ) → blocks_at array address (i + 1) ≡ blocks_at array address i ++ array (address + i)
 one_more array address i = rw add-one (one_more_suc array address i)
 
--- a slice that begins with so many blocks begins with one more where the next block is put behind them
+-- a slice that begins with i blocks begins with i + 1 where the next block is put behind them
 pub put_block : (array : Array) (address i at size end : ℕ) (to block : List ℕ) → at ≡ 512 * i → size ≡ 512 → end ≡ 512 * (i + 1)
     → end ≤ length to → length block ≡ length (take size (drop at to)) → take (512 * i) to ≡ blocks_at array address i
     → block ≡ array (address + i) → take end (put_mid at size to block) ≡ blocks_at array address (i + 1)

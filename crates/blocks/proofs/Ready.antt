@@ -198,7 +198,7 @@ none_ready true log slots =
     let all = ahead_free_calls log free in
     omega (arith, no, more, all)
 
--- so many slots are wanted: one more
+-- where count more slots are wanted, count more are wanted with those to spare
 more_spare : (ahead : Bool) (count more : ℕ) → with_spare ahead (count + more) ≡ count + with_spare ahead more
 more_spare false count more = refl
 more_spare true count more = omega arith
@@ -219,7 +219,7 @@ roomy_one ahead numbers log more = from log.steps_left numbers
         let none = none_ready ahead log (omega (arith, slots, all, same)) in
         omega (arith, none)
 
--- behind the record of a batch there are so many left
+-- behind the record of a batch `more` slots are free, and those to spare
 pub slots_behind : (ahead : Bool) (numbers : List ℕ) (log : LogValue) (more : ℕ)
     → HasSlots (with_spare ahead (to_begin numbers log + more)) log
     → HasSlots (with_spare ahead more) (finished_with ahead numbers [] log)

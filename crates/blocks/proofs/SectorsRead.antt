@@ -47,7 +47,7 @@ one_more before mid after old half address i same first last =
     (IsLogOrHome (first_home (layout_of old)) address (i + 1)) mid after
     (λ x named. ⊎_elim inl (λ range. inr (omega (arith, range.0), omega (arith, range.1))) named) here)
 
--- so many blocks, and more
+-- what looks at few blocks at most looks at many at most
 pub fewer_read : (before after : State) (s : Cached) (address few many : ℕ) → few ≤ many → LooksAtBlocks before after s address few
     → LooksAtBlocks before after s address many
 fewer_read before after s address few many le looks =

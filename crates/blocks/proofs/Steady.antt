@@ -14,7 +14,7 @@ use Rattle.blocks.proofs.OldestHome.{calls_short, going_short, passes_short}
 use Rattle.blocks.proofs.Ready.{ahead_free_calls}
 use Rattle.blocks.proofs.Room.{finishes_none}
 
--- all steps of a record of so many blocks
+-- all steps of a record of count blocks
 calls_from : (count : ℕ) → turns_calls (suc (suc count)) ≡ 2 * count + 3
 calls_from zero = refl
 calls_from (suc count) = let rest = calls_from count in omega (arith, rest)

@@ -23,13 +23,13 @@ block_reads s b =
     if is_listed s.active.numbers b then 0 else
     (if is_listed s.frozen.numbers b then 0 else 1)
 
--- how many it takes to read so many blocks from this address on
+-- how many it takes to read count blocks from this address on
 abbrev pub reads_of : Cached → ℕ → ℕ → ℕ
 reads_of s address zero = 0
 reads_of s address (suc count) = block_reads s address + reads_of s (address + 1) count
 
--- A read makes so many calls at most, whatever becomes of it, and exactly so many where it is good.
--- They are never more than a bound that does not look into the log, and no write or flush is among
+-- A read makes at most count calls, whatever becomes of it, and exactly count where it is good.
+-- They are at most `most`, a bound that does not look into the log, and no write or flush is among
 -- them.
 pub record CostsReads {A E : Type 0} (result : Result A E) (most count : ℕ) (before after : State)
     : Type 0 where
@@ -47,7 +47,7 @@ pub record TurnsBatches (ahead : Bool) (old new : Cached) (address count : ℕ) 
   pub alone : ¬ FitsBeside (transfer_limit old) old.active.numbers address count
       → (new.frozen ≡ old.active) × (new.log ≡ finished ahead old.frozen old.log)
 
--- What a good write of so many blocks from this address on costs. One batch more is to become a
+-- What a good write of count blocks from this address on costs. One batch more is to become a
 -- record. Where the range does not fit beside the active batch, it makes the calls that make the
 -- frozen one durable, and no other, and the flushes for that.
 pub record CostsWrite {A E : Type 0} (ahead : Bool) (result : Result A E) (address count : ℕ)
@@ -60,7 +60,7 @@ pub record CostsWrite {A E : Type 0} (ahead : Bool) (result : Result A E) (addre
       → OnOk result (after.made Flush
       ≡ before.made Flush + finish_flushes old.frozen.numbers old.log)
 
--- where a write of so many blocks from this address on is good: the batch that takes it, and the
+-- where a write of count blocks from this address on is good: the batch that takes it, and the
 -- batches before that
 pub record WritesRange {A E : Type 0} (ahead : Bool) (result : Result A E) (address count : ℕ)
     (old new : Cached) : Type 0 where

@@ -7,13 +7,13 @@ use Rattle.journal.specs.Standing.{IsOurs}
 use Rattle.spec.specs.Book.{Book}
 use Rattle.spec.specs.Promise as promise
 
--- the image of a medium of so many sectors is ours, with so many logical blocks in some shape, and
+-- the image of a medium of `size` sectors is ours, with `blocks` logical blocks in some shape, and
 -- stands for this array with this next stamp
 abbrev pub StandsAs : ℕ → ℕ → Image → Array → ℕ → Type 0
 StandsAs size blocks image array next =
     (shape : Shape) × (shape.blocks ≡ blocks) × IsOurs size shape image array next
 
--- what a start after a loss of power may find on a medium of so many sectors, by the promise
+-- what a start after a loss of power may find on a medium of `size` sectors, by the promise
 abbrev pub MayFind : ℕ → Book → Image → Type 0
 MayFind size book image = promise.MayFind (StandsAs size) book image
 

@@ -110,7 +110,7 @@ pub record CostsSync (ahead : Bool) (result : Answer) (before after : State) (ol
   pub steady : ahead ≡ true → IsSteady old.log → old.frozen.numbers ≡ []
       → 0 < length old.active.numbers
       → OnOk result (after.calls ≡ before.calls + steady_calls old.active.numbers old.log)
-  -- So many of its calls are flushes.
+  -- The flushes among its calls are those for both batches.
   pub flushes : OnOk result (after.made Flush ≡ before.made Flush
       + both_flushes ahead old.frozen.numbers old.active.numbers old.log)
   -- In format 2 a sync of one batch flushes once where a slot is free, and no more often.

@@ -14,7 +14,7 @@ abbrev pub room_flushes : LogValue → ℕ
 room_flushes log =
     if nat_lt (log.next - log.head) log.shape.slots then 0 else turns_flushes (of_oldest log)
 
--- those that make a batch durable, of whose record so many steps are left
+-- those that make a batch durable, where a given number of steps is left of its record
 abbrev pub finish_flushes_from : ℕ → List ℕ → LogValue → ℕ
 finish_flushes_from (suc steps) numbers log = steps_flushes log.shape.format (suc steps)
 finish_flushes_from zero [] log = 0

@@ -10,7 +10,7 @@ use Rattle.blocks.specs.Passing.{PassesPaid, KeepsMedium, TellsLife}
 use Rattle.blocks.specs.StoreValue.{Cached, StoreValue, is_dead, steps_left}
 use Rattle.blocks.specs.Turns.{IsTurn}
 
--- so much is known of each of them: both batches stay, and no step is left of a record
+-- this is known of each of them: both batches stay, and no step is left of a record
 pub record StaysIdle (old new : Cached) : Type 0 where
   pub active : new.active ≡ old.active
   pub frozen : new.frozen ≡ old.frozen
@@ -42,8 +42,8 @@ pub record BringsHome (before after : State) (old new : Cached) : Type 0 where
   pub head : new.log.head ≡ old.log.head
   pub stays : StaysIdle old new
 
--- Where it is good, the log is this one, by exactly so many calls. None of its calls is a flush,
--- good or refused. No more records are passed than so many, and whether the store is live it tells.
+-- Where it is good, the log is this one, by exactly count calls. None of its calls is a flush,
+-- good or refused. At most `most` records are passed, and whether the store is live it tells.
 pub record GoesAhead (result : Result (Unit {0}) StoreFault) (is : LogValue) (count most : ℕ)
     (before after : State) (old new : Cached) : Type 0 where
   pub log : is_dead new ≡ false → new.log ≡ is

@@ -15,7 +15,7 @@ pub record IsBatchOf (shape : Shape) (batch : Entries) : Type 0 where
   pub room : batch.room ≡ limit_of shape.format
   pub inside : (n : ℕ) → Listed batch.numbers n → n < shape.blocks
 
--- the log and the batches of a store over a medium of so many sectors, with these sizes, and
+-- the log and the batches of a store over a medium of `size` sectors, with these sizes, and
 -- whether a record is under way
 pub record Invariant (size : ℕ) (sizes : Super) (cached : Cached) (writing : Bool) : Type 0 where
   pub shape : cached.log.shape ≡ shape_of sizes

@@ -5,7 +5,7 @@ use Rattle.spec.specs.Blocks.{Array}
 pub use Rattle.journal.specs.Places.{Shape, limit_of}
 use Rattle.journal.specs.Standing.{StandsFor}
 
--- the image stands for something, in a shape of whose format a transfer has so many blocks at most
+-- the image stands for something, in a shape of whose format a transfer has at most `limit` blocks
 pub record HasLimit (size limit : ℕ) (image : Image) : Type 0 where
   pub shape : Shape
   pub array : Array

@@ -8,7 +8,7 @@ use Rattle.blocks.specs.StoreValue.{Cached, layout_of}
 abbrev pub LooksAtLog : State → State → Cached → Type 0
 LooksAtLog before after s = LooksOnly (λ sector. sector < first_home (layout_of s)) before after
 
--- a sector of the log, or where one of so many blocks from an address on is at home
+-- a sector of the log, or where one of count blocks from an address on is at home
 abbrev pub IsLogOrHome : ℕ → ℕ → ℕ → ℕ → Type 0
 IsLogOrHome home address count sector = (sector < home)
     ⊎ ((home + address ≤ sector) × (sector < home + address + count))

@@ -18,7 +18,7 @@ use Rattle.spec.specs.Book.{Book}
 use Rattle.spec.specs.Promise as promise
 use Rattle.blocks.specs.Finding.{StandsAs}
 
--- the image of a medium of so many sectors has so many logical blocks in some shape, and stands for
+-- the image of a medium of `size` sectors has `blocks` logical blocks in some shape, and stands for
 -- this array with this next stamp
 abbrev pub StandsForSome : ℕ → ℕ → Image → Array → ℕ → Type 0
 StandsForSome size blocks image array next =

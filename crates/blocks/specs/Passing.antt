@@ -11,8 +11,8 @@ use Rattle.blocks.specs.StoreValue.{Cached, StoreValue, is_dead}
 use Rattle.blocks.specs.Looks.{LooksAtLog, LooksAtBlocks}
 use Rattle.blocks.specs.Turns.{IsTurn, IsReadCause, IsPaid}
 
--- A call makes a turn of this kind, and so many calls of the medium at most, and so many writes and
--- flushes among them. The medium comes after what it was, by calls alone.
+-- A call makes a turn of this kind, and at most `most` calls of the medium, with at most `sends`
+-- writes and flushes among them. The medium comes after what it was, by calls alone.
 pub record PassesOn {M : Type 0} (state : M → State) (Follows : M → M → Type 0)
     (Turn : State → State → Cached → Cached → Type 0) (most sends : ℕ) (old new : StoreValue M)
     : Type 0 where
@@ -28,7 +28,7 @@ pub record PassesOn {M : Type 0} (state : M → State) (Follows : M → M → Ty
   pub policy : new.goes_ahead ≡ old.goes_ahead
 
 -- A call makes a turn, and no more calls of the medium than the background steps that it takes off
--- pay for, and so many writes and flushes among them at most. The medium comes after what it was,
+-- pay for, with at most `sends` writes and flushes among them. The medium comes after what it was,
 -- by calls alone.
 pub record PassesPaid {M : Type 0} (state : M → State) (Follows : M → M → Type 0) (sends : ℕ)
     (old new : StoreValue M) : Type 0 where
@@ -56,7 +56,7 @@ TellsLife result s =
 
 -- A call writes nothing: what the store keeps stays, no content changes, and nothing else may be
 -- left by a cut. The medium comes after what it was, by calls alone, of which each read names a
--- sector of the log, or the home of one of so many blocks from an address on.
+-- sector of the log, or the home of one of count blocks from an address on.
 pub record KeepsStore {M : Type 0} (state : M → State) (Follows : M → M → Type 0)
     (address count : ℕ) (old new : StoreValue M) : Type 0 where
   pub stays : new.cached ≡ old.cached

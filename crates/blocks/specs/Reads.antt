@@ -44,7 +44,7 @@ pub record IsAtHome (s : Cached) (block : ℕ) : Type 0 where
   pub frozen : map_of s.frozen block ≡ None
   pub log : s.log.waiting ≡ []
 
--- so are so many blocks from an address on
+-- so are count blocks from an address on
 pub record AreAtHome (s : Cached) (address count : ℕ) : Type 0 where
   pub active : unlisted s.active.numbers address count ≡ count
   pub frozen : unlisted s.frozen.numbers address count ≡ count
@@ -70,7 +70,7 @@ pub record ReadsNext {M : Type 0} (state : M → State) (Follows : M → M → T
   pub reads : ReadsBlock state Follows result block bytes old new
   pub next : HasPlaces old.cached (block + 1) first second
 
--- so many blocks from an address on are read, as each of them is
+-- from an address on count blocks are read, as each of them is
 pub record ReadsBlocks {M : Type 0} (state : M → State) (Follows : M → M → Type 0)
     (result : Result (Unit {0}) StoreFault) (address count : ℕ) (bytes : List ℕ)
     (old new : StoreValue M) : Type 0 where

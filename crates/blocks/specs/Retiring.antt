@@ -10,7 +10,7 @@ pub use Rattle.blocks.specs.Ahead.{oldest_retired}
 use Rattle.blocks.specs.Ahead.{ahead_room, ahead_room_calls}
 use Rattle.blocks.specs.StoreValue.{wants, waiting, firsts_in}
 
--- so many slots are free
+-- at least count slots are free
 abbrev pub HasSlots : ℕ → LogValue → Type 0
 HasSlots count log = (log.next - log.head) + count ≤ log.shape.slots
 
@@ -43,7 +43,7 @@ written_out log = record log {
   steps_left = 0;
 }
 
--- where so many steps are left of the record of a batch
+-- where a given number of steps is left of the record of a batch
 abbrev pub finished_from : Bool → ℕ → List ℕ → List (List ℕ) → LogValue → LogValue
 finished_from ahead (suc steps) numbers firsts log = written_out log
 finished_from ahead zero [] firsts log = log
@@ -59,7 +59,7 @@ finished_with ahead numbers firsts log = finished_from ahead log.steps_left numb
 abbrev pub finished : Bool → Entries → LogValue → LogValue
 finished ahead batch log = finished_with ahead batch.numbers (firsts_in batch) log
 
--- how many calls write the record of a batch, of whose record so many are left
+-- how many calls write the record of a batch, where a given number of its steps is left
 abbrev pub calls_from : ℕ → LogFormat → List ℕ → ℕ
 calls_from (suc steps) format numbers = suc steps
 calls_from zero format [] = 0
@@ -81,8 +81,8 @@ abbrev pub ready_calls : Bool → LogValue → ℕ
 ready_calls false log = room_calls log
 ready_calls true log = ahead_room_calls log
 
--- so many calls make a batch durable, of whose record so many are left: those, or those for room
--- and for its own record
+-- how many calls make a batch durable, where a given number of steps is left of its record: those,
+-- or those for room and for its own record
 abbrev pub finish_from : Bool → ℕ → List ℕ → LogValue → ℕ
 finish_from ahead (suc steps) numbers log = suc steps
 finish_from ahead zero [] log = 0
@@ -103,7 +103,7 @@ both_calls ahead frozen active log =
 abbrev pub to_begin : List ℕ → LogValue → ℕ
 to_begin numbers log = waiting log.steps_left (wants numbers)
 
--- so many slots, and two besides where the store goes ahead
+-- a count of slots, and two besides where the store goes ahead
 abbrev pub with_spare : Bool → ℕ → ℕ
 with_spare false count = count
 with_spare true count = count + 2

@@ -67,7 +67,7 @@ abbrev pub wants : List ℕ → ℕ
 wants [] = 0
 wants (n ∷ numbers) = 1
 
--- a batch that holds blocks takes so many steps, and an empty one none
+-- a batch that holds blocks takes `most` steps, and an empty one none
 abbrev pub steps_for : ℕ → List ℕ → ℕ
 steps_for most [] = 0
 steps_for most (n ∷ numbers) = most
@@ -84,7 +84,7 @@ steps_left s = s.log.steps_left + s.log.retire_steps_left
     + waiting s.log.steps_left (steps_for (batch_steps s) s.frozen.numbers)
     + steps_for (batch_steps s) s.active.numbers
 
--- these numbers and those of the range are at most so many together
+-- these numbers and those of the range are at most `limit` together
 abbrev pub FitsBeside : ℕ → List ℕ → ℕ → ℕ → Type 0
 FitsBeside limit numbers address count = length numbers + unlisted numbers address count ≤ limit
 
@@ -116,7 +116,7 @@ pub record FitsBook (m : State) (s : Cached) (book : Book) : Type 0 where
   pub under_way : 0 < s.log.steps_left → view.under_way ≡ entries_of s.frozen.numbers s.frozen.bytes
   pub some : 0 < s.log.steps_left → wants s.frozen.numbers ≡ 1
   pub blocks : s.log.shape.blocks ≡ book.blocks
-  -- so many writes are durable, and so many are with the frozen batch
+  -- how many writes are durable, and how many with those in the frozen batch
   pub floor_count : ℕ
   pub middle_count : ℕ
   pub promises : book.mark ≤ floor_count

@@ -3,7 +3,7 @@
 //! The active batch takes writes. The frozen one is on its way to the log and never changes on its
 //! way. A read takes a block from the active batch, else from the frozen one, else its newest
 //! logged copy, else from home. One record carries one batch, and a batch holds whole writes: so a
-//! start after a loss of power finds the first so many of the accepted writes, none in part.
+//! start after a loss of power finds the first n of the accepted writes, for some n, none in part.
 #![tactic(auto)]
 
 mod ahead;

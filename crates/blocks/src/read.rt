@@ -47,7 +47,7 @@ impl<M: Medium> Store<M> {
         self.read_each(address, count, to)
     }
 
-    // Reads so many blocks one by one, each from where it is newest.
+    // Reads `count` blocks one by one, each from where it is newest.
     fn read_each(&mut self, address: u64, count: usize, to: &mut [u8]) -> Result<(), StoreFault>
         requires live { is_dead self.old.cached ≡ false }
         requires inside { address + count ≤ blocks_of self.old.cached }
@@ -107,7 +107,7 @@ impl<M: Medium> Store<M> {
         }
     }
 
-    // Whether so many blocks from the address on are at home alone: no batch has one of them, and
+    // Whether `count` blocks from the address on are at home alone: no batch has one of them, and
     // no record waits to be retired.
     #[inline]
     fn are_at_home(&self, address: u64, count: usize) -> bool

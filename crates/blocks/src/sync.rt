@@ -28,8 +28,8 @@ impl<M: Medium> Store<M> {
             → OnOk result (FitsBook (M.state self.new.medium) self.new.cached (promised book)) }
         ensures answers { Answers result self.old self.new }
         ensures batches { FinishesBoth result self.old self.new }
-        // It makes the calls that write the records and that retire for their room, and no other,
-        // and so many flushes.
+        // It makes the calls that write the records and that retire for their room, and no other
+        // call or flush.
         ensures cost { CostsSync self.old.goes_ahead result (M.state self.old.medium)
             (M.state self.new.medium) self.old.cached }
     {
