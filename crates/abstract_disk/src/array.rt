@@ -21,7 +21,7 @@ pub struct Write {
 }
 
 impl Array {
-    /// So many blocks of zeros.
+    /// `count` blocks of zeros.
     ///
     /// # Errors
     ///
@@ -54,7 +54,7 @@ impl Array {
         self.blocks[from..from + count].copy_from_slice(&write.blocks[..count]);
     }
 
-    /// The array after the first so many of these writes, in their order.
+    /// The array after the first `count` of these writes, in their order.
     pub(crate) fn after(
         &self,
         alloc: Global,

@@ -48,8 +48,8 @@ impl Book {
         Ok(())
     }
 
-    /// The least number of those in `found` for which the blocks after the first so many writes are
-    /// these. Behind the accepted ones comes the write in progress, where there is one.
+    /// The least n of those in `found` for which the blocks after the first n writes are these.
+    /// Behind the accepted ones comes the write in progress, where there is one.
     pub(crate) fn least_like(
         &self,
         alloc: Global,

@@ -24,7 +24,7 @@ pub(crate) enum Status {
 }
 
 impl Way {
-    /// So many bytes from the device, or none.
+    /// `length` bytes from the device, or none.
     pub(crate) fn to_host(length: u32) -> Way {
         if length == 0 {
             Way::Nothing
@@ -33,7 +33,7 @@ impl Way {
         }
     }
 
-    /// So many bytes to the device, or none.
+    /// `length` bytes to the device, or none.
     pub(crate) fn to_device(length: u32) -> Way {
         if length == 0 {
             Way::Nothing

@@ -158,7 +158,7 @@ fn carried_out(
 }
 
 impl Taking {
-    /// After one more packet, where each packet but the last has so many bytes.
+    /// After one more packet, where each packet but the last has `size` bytes.
     pub(crate) fn take(
         mut self,
         alloc: Global,
