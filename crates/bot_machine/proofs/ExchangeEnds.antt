@@ -79,7 +79,7 @@ line_at size in_halted out_halted locked left = record {
   left = left;
 }
 
--- what the answers give where so much is left and nothing is left afterwards
+-- what the answers give where this is left of the exchange and nothing is left afterwards
 abbrev Ends : Script → List Answer → Type 0
 Ends finished answers = packets_in answers ≡ []
 Ends (taking case command intended bytes due) answers = ⊥

@@ -55,7 +55,7 @@ pub named_in : {M : Type 0} (before after : State) (disk : DiskValue M) (happens
 named_in before after disk happens At told looks = besides before after disk.unit At (ReadsAt disk happens) told looks
 
 module _ {M : Type 0} (before after : State) (old new : DiskValue M) (packet : List ℕ) (told : Answer) where
-  -- what a packet does where Bulk-Out is halted or not, and so much is left of the exchange
+  -- what a packet does where Bulk-Out is halted or not, and this is left of the exchange
   pub record DoesFor (halted : Bool) (left : Script) : Type 0 where
     pub proceeds : (book : Book) → FitsDisk before old book → Proceeds before after old.unit new.unit
         (λ unit later. OutStep Intends CarriesOut Ticks (has_refused before after) halted left packet

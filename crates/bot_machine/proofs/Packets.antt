@@ -19,7 +19,7 @@ one_more n size some h =
     ] in
     omega (arith, before, last)
 
--- where there is data, the first packet takes so many bytes of it
+-- where there is data, the first packet takes at most `size` bytes of it
 pub packets_of-more : (size : ℕ) (bytes : List ℕ) → 0 < size → 0 < length bytes
     → packets_of size bytes ≡ take size bytes ∷ packets_of size (drop size bytes)
 unfolding packets_of

@@ -25,7 +25,7 @@ pub record CarriesOutAtOnce (packet : List ℕ) (unit : UnitState) (block taken 
   pub block_is : block ≡ command.block.items
   pub none_taken : taken ≡ []
 
--- the packet, of at most so many bytes, ends the data of a command, which is carried out over the
+-- the packet, of at most `most` bytes, ends the data of a command, which is carried out over the
 -- intended bytes
 pub record CarriesOutLast (most : ℕ) (command : Cbw) (intended : Way) (bytes : List ℕ) (due : ℕ)
     (packet : List ℕ) (block taken : List ℕ) : Type 0 where
@@ -34,7 +34,7 @@ pub record CarriesOutLast (most : ℕ) (command : Cbw) (intended : Way) (bytes :
   pub block_is : block ≡ command.block.items
   pub taken_is : taken ≡ take (size_of_way intended) (bytes ++ packet)
 
--- a packet of at most so many bytes to Bulk-Out, which is halted or not, has this command block
+-- a packet of at most `most` bytes to Bulk-Out, which is halted or not, has this command block
 -- carried out over these bytes
 abbrev pub PacketCarriesOut : ℕ → Bool → Script → List ℕ → UnitState → List ℕ → List ℕ → Type 0
 PacketCarriesOut most true left packet unit block taken = ⊥

@@ -25,13 +25,13 @@ answer_to_setup (setup.Byte byte) = answer.Byte byte
 answer_to_setup (setup.Two bytes) = answer.Two bytes
 answer_to_setup setup.Stall = answer.Stall
 
--- data comes in packets of at most so many bytes
+-- data comes in packets of at most `most` bytes
 abbrev pub IsPacket : ℕ → InAnswer → Type 0
 IsPacket most (in_token.Data bytes) = length bytes.now ≤ most
 IsPacket most in_token.Nak = Unit {0}
 IsPacket most in_token.Stall = Unit {0}
 
--- a list of answers, and room for so many
+-- a list of answers, and how many it has room for
 pub record Room : Type 0 where
   pub list : List Answer
   pub room : ℕ

@@ -74,7 +74,7 @@ KeepsPromiseUpTo before device actions told after =
     (state_of before).content (CutLeaves (state_of before).may_leave) (state_of before).failures
     (state_of after).failures actions told (CutLeaves (state_of after).may_leave)
 
--- lives went on by these actions, and the answers to so many events were appended
+-- lives went on by these actions, and the answers to `events` events were appended
 pub record AppendsFor (before after : LivesValue) (old new : Room) (actions : List Action)
     (events : ℕ)
     : Type 0 where

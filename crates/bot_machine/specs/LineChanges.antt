@@ -15,7 +15,7 @@ pub record ChangesLine (old : BulkState) (change : Line → Line) (new : BulkSta
   pub phase : new.phase ≡ old.phase
   pub size : new.size ≡ old.size
 
--- So many bytes of the staging buffer are laid out, a halt after them, and the status wrapper.
+-- `sent` bytes of the staging buffer are laid out, a halt after them, and the status wrapper.
 pub record LaysOut (old : BulkState) (sent : ℕ) (halt : Option Endpoint) (status : List ℕ)
     (new : BulkState) : Type 0 where
   pub line : (taken staging : List ℕ) (left : Script) → sent ≤ length staging

@@ -64,7 +64,7 @@ module _ {M : Type 0} (before after : State) (old new : UnitValue M) (from to : 
       packet (on_line from unit) (on_line to later))
       (write_of_packet from.packet_size false (taking_of t taken) packet (state_of old book)) book
 
--- where a packet, of at most so many bytes, has no command carried out, the unit stays as it is
+-- where a packet, of at most `most` bytes, has no command carried out, the unit stays as it is
 abbrev pub RestsOn : {M : Type 0} → ℕ → State → UnitValue M → UnitValue M → Script → List ℕ
     → Type 0
 RestsOn most before old new left packet = (book : Book) → FitsUnit before old book
@@ -72,7 +72,7 @@ RestsOn most before old new left packet = (book : Book) → FitsUnit before old 
     → PacketCarriesOut most false left packet (state_of old book) block taken → ⊥)
     → new ≡ old
 
--- Where a packet, of at most so many bytes, has a command carried out, the unit makes no call of
+-- Where a packet, of at most `most` bytes, has a command carried out, the unit makes no call of
 -- the medium that it does not need, no more than its calls of the store add up to, and the line is
 -- to tell its answer.
 abbrev pub SparesOn : {M : Type 0} → ℕ → State → State → UnitValue M → UnitValue M → Line

@@ -21,7 +21,7 @@ impl Model for Answers {
 }
 
 impl Answers {
-    /// No answers yet, with room for so many; `None` for want of memory.
+    /// No answers yet, with room for `room` of them; `None` for want of memory.
     pub fn with_room(alloc: Global, room: usize) -> Option<Answers>
         ensures { IfSome result (λ answers. answers ≡ record { list = []; room = room }) }
     {

@@ -197,14 +197,14 @@ fn end_data<M: Medium>(
     carry_out(unit, bulk, staging, &exchange, &taken[..filled]);
 }
 
-// How many bytes the next packet has, where so many are due.
+// How many bytes the next packet has, where `due` bytes are due.
 fn size_of_next(due: u32, most: u32) -> usize
     ensures { result ≡ min due most }
 {
     due.min(most) as usize
 }
 
-// Tells that a packet had a wrong size, where so many bytes were due.
+// Tells that a packet had a wrong size, where `due` bytes were due.
 fn conclude_wrong_size(bulk: &mut BulkState, tag: u32, due: u32)
     ensures { LaysOut bulk.old 0 None (status_wrapper tag due PhaseError) bulk.new }
 {
@@ -212,7 +212,7 @@ fn conclude_wrong_size(bulk: &mut BulkState, tag: u32, due: u32)
     bulk.lay_out(0, None, status);
 }
 
-// Appends to the first bytes of a buffer, up to so many.
+// Appends a packet to the first bytes of a buffer, up to `size` bytes in all.
 fn fill(buffer: &mut [u8], filled: &mut usize, packet: &[u8], size: usize)
     requires before { filled.old ≤ size }
     requires room { size ≤ length buffer.old }

@@ -13,8 +13,8 @@ use crate::exchange::Exchange;
 use spec::PacketSize;
 use wrappers::{Case, Endpoint, Status, outcome, write_csw};
 
-// The data of a command that is being taken: the intended bytes that came already are so many, and
-// so many bytes are still to come.
+// The data of a command that is being taken: `filled` of the intended bytes came already, and `due`
+// bytes are still to come.
 #[derive(Drop)]
 pub(crate) struct Taking {
     pub(crate) exchange: Exchange,

@@ -127,7 +127,7 @@ impl Lives {
         disk_state::into_medium(state.unwrap())
     }
 
-    /// Arms a fuse for the rest of this life: so many writes and flushes happen, and at the next
+    /// Arms a fuse for the rest of this life: `writes` writes and flushes happen, and at the next
     /// the power goes. No disk is started.
     pub fn fuse(&mut self, writes: u64)
         ensures goes_on { LivesGoOn self.old (arms writes ∷ []) [] self.new }

@@ -108,7 +108,7 @@ struct Buffers {
     staging: Vec<u8>,
 }
 
-// Buffers for transfers of so many blocks; `None` for want of memory.
+// Buffers for transfers of `blocks` blocks; `None` for want of memory.
 fn buffers_for(alloc: Global, blocks: u32) -> Option<Buffers>
     ensures { IfSome result (λ made. HaveRoom blocks made.taken.items made.staging.items) }
 {
