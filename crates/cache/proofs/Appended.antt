@@ -21,7 +21,7 @@ insert_last {X} (y ∷ xs) (suc n) x e = ap (λ (l : List X). y ∷ l) (insert_l
 taken : {X : Type 0} (xs : List X) (n : ℕ) (d : X) → n < length xs → take (suc n) xs ≡ insert (take n xs) n (get_or xs n d)
 taken xs n d lt = take-suc xs n d lt ∙ sym (insert_last (take n xs) n (get_or xs n d) (sym (length-take-le n xs (omega (arith, lt)))))
 
--- The numbers and the blocks after so many were put behind the first ones.
+-- The numbers and the blocks after i of them were put behind the first ones.
 pub record AreAppended (old_numbers : List ℕ) (old_blocks : List (List ℕ)) (numbers : List ℕ) (blocks : List (List ℕ))
     (address i : ℕ) (bytes : List ℕ) : Type 0 where
   pub paired : ArePaired (take (length old_numbers + i) numbers) (take (length old_numbers + i) blocks)

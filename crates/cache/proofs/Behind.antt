@@ -17,7 +17,7 @@ use Rattle.cache.proofs.Columns.{length-numbers, length-places, number_at, place
 use Rattle.cache.proofs.Kept.{well_formed}
 use Rattle.cache.proofs.Swaps.{gathered_at, length-gathered}
 
--- the numbers and the blocks of entries, of which so many were put behind the others
+-- the numbers and the blocks of entries, of which count were put behind the others
 pub record ArePutBehind (old new : List Entry) (row written : List (List ℕ)) (number count : ℕ) (bytes : List ℕ) : Type 0 where
   pub paired : ArePaired (numbers_of new) (gathered (places_of new) written)
   pub placed : ArePlaces (places_of new)
@@ -165,7 +165,7 @@ module _ (old new : List Entry) (row written : List (List ℕ)) (number count : 
         more = more;
       }
 
--- the cells of an index and a row, of which so many entries and blocks were put behind the others
+-- the cells of an index and a row, of which count entries and blocks were put behind the others
 pub record AreLaidBehind (old : Parts) (index : Index) (cells : List Entry) (row : List (List ℕ)) (number count : ℕ)
     (bytes : List ℕ) : Type 0 where
   pub put : ArePutBehind (entries_of old.index) (slice_range cells index.start index.end) old.row.items row number count bytes

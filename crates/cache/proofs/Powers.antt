@@ -9,7 +9,7 @@ use Rattle.cache.specs.Digits.{GrowsWithinDigits}
 use Rattle.cache.specs.Places.{HasPlace}
 use Rattle.cache.proofs.HalvedSearch.{smaller, not_smaller, smaller_power, digits_of}
 
--- The place is one of a power of two from `low` on, of which this is the half, after so many steps.
+-- The place is one of a power of two from `low` on, of which this is the half, after `taken` steps.
 pub record IsHalving (numbers : List ℕ) (block low half taken : ℕ) : Type 0 where
   pub power : ℕ
   pub half_is : half ≡ 2 ^ power / 2

@@ -19,7 +19,7 @@ places_of entries = map (λ (entry : Entry). entry.place) entries
 abbrev pub entries_of : Index → List Entry
 entries_of index = slice_range index.cells.items index.start index.end
 
--- there is room for so many entries on each side of the middle
+-- there is room for `room` entries on each side of the middle
 pub record IsCentred (index : Index) (room : ℕ) : Type 0 where
   pub low : index.start ≤ room
   pub high : room ≤ index.end

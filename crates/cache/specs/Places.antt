@@ -43,7 +43,7 @@ pub record FindsPlace (numbers : List ℕ) (number at old new : ℕ) : Type 0 wh
   pub place : HasPlace numbers number at
   pub few : GrowsWithinDigits (length numbers) old new
 
--- Numbers at the front are skipped: so many, if there are some and the last of them is smaller, in
+-- Numbers at the front are skipped: `spare`, if that is not 0 and the last of them is smaller, in
 -- one step, and else none.
 pub record Skips (numbers : List ℕ) (spare number skipped old new : ℕ) : Type 0 where
   pub cases : (skipped ≡ spare) ⊎ ((skipped ≡ 0) × (number ≤ slice_index numbers (spare - 1)))

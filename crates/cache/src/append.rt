@@ -19,7 +19,7 @@ pub(crate) fn write_blocks(row: &mut [[u8; BLOCK]], from: usize, bytes: &[u8])
     }
 }
 
-/// Writes so many entries from this cell on, whose numbers and places follow each other.
+/// Writes `count` entries from this cell on, whose numbers and places follow each other.
 pub(crate) fn write_entries(cells: &mut [Entry], from: usize, count: usize, number: u32, place: u32)
     requires inside { from + count ≤ length cells.old }
     requires small { number + count ≤ 2 ^ 31 }

@@ -36,7 +36,7 @@ impl Model for Batch {
 }
 
 impl Batch {
-    /// An empty batch with room for so many blocks.
+    /// An empty batch with room for `room` blocks.
     ///
     /// # Errors
     /// `TooLarge` where the room is for more than 65,536 blocks, and else `NoMemory` alone: a
@@ -94,7 +94,7 @@ impl Batch {
         self.parts.get(block)
     }
 
-    /// Whether none of so many blocks from the address on is there. The range ends at 2^31 or
+    /// Whether none of the `count` blocks from the address on is there. The range ends at 2^31 or
     /// before.
     #[inline]
     pub fn is_disjoint(&self, address: u64, count: usize) -> bool
@@ -123,7 +123,7 @@ impl Batch {
         self.parts.get_at(place, block)
     }
 
-    /// Whether there is room for so many blocks from the address on, of which those that are there
+    /// Whether there is room for `count` blocks from the address on, of which those that are there
     /// already take no more. The range ends at 2^31 or before.
     #[inline]
     pub fn fits(&self, address: u64, count: usize) -> bool

@@ -32,7 +32,7 @@ impl Model for Frozen {
 }
 
 impl Frozen {
-    /// An empty batch with room for so many blocks.
+    /// An empty batch with room for `room` blocks.
     ///
     /// # Errors
     /// `TooLarge` where the room is for more than 65,536 blocks, and else `NoMemory` alone: a
@@ -73,7 +73,7 @@ impl Frozen {
         self.parts.get(block)
     }
 
-    /// Whether none of so many blocks from the address on is there. The range ends at 2^31 or
+    /// Whether none of the `count` blocks from the address on is there. The range ends at 2^31 or
     /// before.
     #[inline]
     pub fn is_disjoint(&self, address: u64, count: usize) -> bool

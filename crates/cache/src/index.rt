@@ -17,7 +17,7 @@ pub(crate) struct Index {
 }
 
 impl Index {
-    /// No entries, with room for so many on each side.
+    /// No entries, with room for `room` of them on each side.
     pub(crate) fn new(alloc: Global, room: usize) -> Result<Index, AllocError>
         requires { room ≤ 65536 }
         ensures centred { IfOk result (λ index. IsCentred index room) }

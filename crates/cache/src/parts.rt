@@ -32,7 +32,7 @@ pub(crate) struct Parts {
 }
 
 impl Parts {
-    /// No blocks, with room for so many.
+    /// No blocks, with room for `room` of them.
     pub(crate) fn new(alloc: Global, room: usize) -> Result<Parts, BatchError>
         ensures large { IsErrOf result BatchError.TooLarge ↔ 65536 < room }
         ensures empty { IfOk result
