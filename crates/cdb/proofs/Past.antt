@@ -52,7 +52,7 @@ sized : (code length_ known : ℕ) → known ≡ code → command_size code ≤ 
     → command_size known ≤ length_
 sized code length_ known same enough = subst (λ (k : ℕ). command_size k ≤ length_) (sym same) enough
 
--- each row of a command of so many bytes reads none past them
+-- each row of a command reads no byte past those that the command has
 request_sense_past : (block more : List ℕ) → 6 ≤ length block
     → request_sense (block ++ more) ≡ request_sense block
 request_sense_past block more enough =

@@ -15,7 +15,7 @@ use Rattle.spec.specs.declared.command.Command.TheVariants.{ReadCapacity16}
 use Rattle.spec.specs.Commands.{is_one_of}
 use Rattle.spec.specs.Inquiry.{page_codes}
 
--- a READ or WRITE that moves at most so many blocks, all of them on a medium of n blocks
+-- a READ or WRITE that moves at most `limit` blocks, all of them on a medium of n blocks
 pub record IsWithin (n limit : ℕ) (transfer : Transfer) : Type 0 where
   pub few : transfer.count ≤ limit
   pub on_medium : transfer.address + transfer.count ≤ n

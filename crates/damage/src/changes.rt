@@ -168,7 +168,7 @@ pub(crate) fn supers(judge: &mut Judge, standing: &Standing) -> Result<(), Alloc
     Ok(())
 }
 
-// Supers of a version with so many slots: homes at the limits, and numbers of blocks.
+// Supers of a version with `slots` slots: homes at the limits, and numbers of blocks.
 fn supers_of(
     judge: &mut Judge,
     standing: &Standing,

@@ -35,7 +35,7 @@ fn try_sectors(judge: &mut Judge, whole: &[u8]) -> Result<(), AllocError> {
     Ok(())
 }
 
-// Tries the image with so many bytes, and makes it whole again.
+// Tries the image with `bytes` bytes, and makes it whole again.
 fn try_resized(judge: &mut Judge, bytes: usize, whole: &[u8]) -> Result<(), AllocError> {
     judge.image.resize(bytes, 0xff)?;
     judge.whole()?;
@@ -44,7 +44,7 @@ fn try_resized(judge: &mut Judge, bytes: usize, whole: &[u8]) -> Result<(), Allo
     Ok(())
 }
 
-// No medium has so many bytes.
+// No medium has `length` bytes.
 fn try_no_sectors(alloc: Global, length: usize, judge: &mut Judge) -> Result<(), Finding> {
     count(&mut judge.counts.images);
     let bytes = vec![in alloc; 0u8; length]?;

@@ -48,7 +48,7 @@ fn add_record(
     add_sectors(found, slot.saturating_add(248), 1)
 }
 
-// Adds so many sectors from this one on.
+// Adds `count` sectors from this one on.
 fn add_sectors(found: &mut Vec<Stretch>, first: u64, count: u64) -> Result<(), AllocError> {
     for behind in 0..count {
         found.push(sector(first.saturating_add(behind)))?;
@@ -96,7 +96,7 @@ pub(crate) fn shared_by(
 }
 
 impl Shared {
-    // Takes the places of a record with so many blocks.
+    // Takes the places of a record with `count` blocks.
     fn take(&mut self, two: bool, slot: u64, count: u64) -> Result<(), AllocError> {
         self.take_entries(two, slot, count)?;
         if two {
@@ -109,7 +109,7 @@ impl Shared {
         }
     }
 
-    // Takes the stamps and the counts of so many descriptors, or of the commit.
+    // Takes the stamps and the counts of `count` descriptors, or of the commit.
     fn take_heads(&mut self, first: u64, count: u64) -> Result<(), AllocError> {
         for behind in 0..count {
             let start = sector(first.saturating_add(behind)).start;
@@ -119,7 +119,7 @@ impl Shared {
         Ok(())
     }
 
-    // Takes the entries of so many blocks.
+    // Takes the entries of `count` blocks.
     fn take_entries(&mut self, two: bool, slot: u64, count: u64) -> Result<(), AllocError> {
         for place in 0..count {
             self.entries.push(entry_at(two, slot, place))?;
@@ -127,7 +127,7 @@ impl Shared {
         Ok(())
     }
 
-    // Takes the stamps of so many data places of format 2.
+    // Takes the stamps of `count` data places of format 2.
     fn take_stamps(&mut self, slot: u64, count: u64) -> Result<(), AllocError> {
         for place in 0..count {
             self.stamps.push(stamp_at(slot, place))?;

@@ -94,7 +94,7 @@ pub(crate) fn head_of(image: &[u8]) -> Result<u64, StartFault> {
     }
 }
 
-// Whether the image has so many sectors.
+// Whether the image has all sectors of this shape.
 fn has_room(image: &[u8], shape: Shape) -> bool {
     let sectors = image.len() as u64 / 512;
     shape.home.saturating_add(shape.blocks) <= sectors

@@ -26,7 +26,7 @@ pub(crate) enum Subject {
     Migrated,
 }
 
-/// A forced write of so many blocks.
+/// A forced write of `count` blocks.
 #[derive(Clone, Copy)]
 struct TestWrite {
     address: u32,
