@@ -28,7 +28,7 @@ abbrev pub some_writes : ℕ → List (List ℕ) → List DeviceCall
 some_writes first [] = []
 some_writes first (block ∷ blocks) = some_write first block ++ some_writes (first + 1) blocks
 
--- of a call, where it is a write to one of so many sectors from this one on, that write to the
+-- of a call, where it is a write to one of count sectors from `first` on, that write to the
 -- sectors from 0 on
 abbrev pub moved_call : ℕ → ℕ → DeviceCall → List DeviceCall
 moved_call first count (Write w) = if lies_in first count w.sector
@@ -74,7 +74,7 @@ pub record TakesCalls {D : Type 0} (told : D → Told) (sectors : D → ℕ) (ca
   pub size : sectors new ≡ sectors old
   pub named : IfErr result (λ fault. fault.call ≡ call.Write)
 
--- So many blocks were read of a file, from a sector on, and the other was asked to write those of
+-- Of a file count blocks were read, from a sector on, and the other was asked to write those of
 -- them that are no zeros to its own sectors, in order; it carried all of that out.
 pub record IsCopied (holds : ℕ → List ℕ → Type 0) (first count at : ℕ) (old new : Told)
     : Type 0 where
@@ -88,8 +88,8 @@ abbrev pub asked_until : CopyFault → List DeviceCall → Told → Told
 asked_until (fault.From why) calls t = asked_for calls t
 asked_until (fault.To why) calls t = refused (asked_for calls t)
 
--- So many were read, and of their writes and what waited the other was asked for a first part; the
--- others wait.
+-- Of the file count were read, and of their writes and what waited the other was asked for a first
+-- part; the others wait.
 pub record IsCopying (holds : ℕ → List ℕ → Type 0) (first count at : ℕ) (old new : Told)
     (waited waits : List DeviceCall) : Type 0 where
   pub blocks : List (List ℕ)
@@ -97,7 +97,7 @@ pub record IsCopying (holds : ℕ → List ℕ → Type 0) (first count at : ℕ
   pub were_read : AreReadFrom holds first blocks
   pub puts : Puts (some_writes at blocks) old new waited waits
 
--- where it was the file that is read, behind so many of so many sectors it refused a read of more
+-- where it was the file that is read, behind `read` of count sectors it refused a read of more
 abbrev pub MissesNext : (ℕ → ℕ → Type 0) → ℕ → ℕ → ℕ → CopyFault → Type 0
 MissesNext refuses first count read (fault.From why) =
     (more : ℕ) × (1 ≤ more) × (read + more ≤ count) × refuses (first + read) more
@@ -108,7 +108,7 @@ abbrev pub NamesCall : CopyFault → Type 0
 NamesCall (fault.From why) = why.call ≡ call.Read
 NamesCall (fault.To why) = why.call ≡ call.Write
 
--- So many were read at most, and the other was asked for a first part of what waited and of their
+-- At most count were read, and the other was asked for a first part of what waited and of their
 -- writes; where it refused a call, that is the last of these. Else the read that comes next was
 -- refused.
 pub record IsCopiedFrom (holds : ℕ → List ℕ → Type 0) (refuses : ℕ → ℕ → Type 0)
@@ -124,7 +124,7 @@ pub record IsCopiedFrom (holds : ℕ → List ℕ → Type 0) (refuses : ℕ →
   pub misses : MissesNext refuses first count (length blocks) why
   pub named : NamesCall why
 
--- So many sectors were to be copied to a file of which writes waited: they were read, and it took
+-- There were count sectors to copy to a file of which writes waited: they were read, and it took
 -- their writes; or a file refused a call. The file written is as large as before.
 pub record TakesCopies {D : Type 0} (told : D → Told) (sectors : D → ℕ)
     (holds : ℕ → List ℕ → Type 0) (refuses : ℕ → ℕ → Type 0) (first count at : ℕ) (old new : D)
@@ -146,8 +146,8 @@ pub record EndsCopy {D : Type 0} (told : D → Told) (sectors : D → ℕ) (old 
   pub err : IfErr result (StopsWriting (told old) (told new) waited)
   pub size : sectors new ≡ sectors old
 
--- So many sectors can be copied by reads of so many bytes: they have numbers in both files, and a
--- read gives a sector at least.
+-- A copy of count sectors can be made by reads of `bytes` bytes: they have numbers in both files,
+-- and a read gives a sector at least.
 pub record CanCopy (first count at bytes : ℕ) : Type 0 where
   pub reads : first + count < 2 ^ 64
   pub writes : at + count < 2 ^ 64

@@ -7,6 +7,6 @@ pub record FileValue : Type 0 where
   pub size : ℕ
   pub told : Told
 
--- a file of so many sectors that was asked nothing
+-- a file of `sectors` sectors that was asked nothing
 abbrev pub fresh : ℕ → FileValue
 fresh sectors = record { size = sectors; told = begun }

@@ -13,7 +13,7 @@ AreReadFrom holds first [] = Unit {0}
 AreReadFrom holds first (block ∷ blocks) =
     holds first block × AreReadFrom holds (first + 1) blocks
 
--- so many first sectors of these bytes
+-- a given number of first sectors of these bytes
 abbrev pub sectors_in : ℕ → List ℕ → List (List ℕ)
 sectors_in zero bytes = []
 sectors_in (suc count) bytes = sectors_in count bytes ++ sector_of bytes count ∷ []

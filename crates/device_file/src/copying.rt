@@ -20,10 +20,10 @@ pub enum CopyFault {
     To(FileFault),
 }
 
-/// Copies so many sectors of a file, from one on, to another file that was just made or emptied, to
-/// its sectors from this one on. Blocks of zeros are not written, since they are there. As many
-/// sectors are read at once as the bytes have, and behind each such read the meter hears how many
-/// it were by then.
+/// Copies `count` sectors of a file, from `first` on, to another file that was just made or
+/// emptied, to its sectors from `at` on. Blocks of zeros are not written, since they are there. As
+/// many sectors are read at once as the bytes have, and behind each such read the meter hears how
+/// many it were by then.
 ///
 /// # Errors
 ///

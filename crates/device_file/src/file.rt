@@ -21,7 +21,7 @@ pub trait DeviceFile {
     /// A read gave this block of this sector. Nothing else is known of it.
     ghost holds: { Self → ℕ → List ℕ → Type 0 };
 
-    /// A read of so many sectors from this one on was refused. Nothing else is known of it.
+    /// A read from this sector on, of this many sectors, was refused. Nothing else is known of it.
     ghost refuses: { Self → ℕ → ℕ → Type 0 };
 
     /// How many sectors there are.

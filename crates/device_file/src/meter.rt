@@ -2,6 +2,6 @@
 
 /// What hears how far a copy has come. Nothing of the copy depends on it.
 pub trait Meter {
-    /// So many of all sectors were read and handed on, since the copy began.
+    /// `done` of `all` sectors were read and handed on, since the copy began.
     fn tell(&mut self, done: u64, all: u64);
 }

@@ -11,7 +11,7 @@ use mirror::{DeviceCall, SectorWrite};
 use window::WindowMedium;
 
 /// Takes all that waits out of the outbox of a window, and has a file carry out those writes of it
-/// that go to so many sectors from this one on: in order, to its own sectors from 0 on,
+/// that go to `count` sectors from `first` on: in order, to its own sectors from 0 on,
 /// neighbouring ones by one write.
 ///
 /// # Errors
@@ -82,7 +82,7 @@ fn move_call<D: DeviceFile>(
     put_block(file, run, &moved)
 }
 
-// Whether a sector is one of so many from this one on.
+// Whether a sector is one of the `count` sectors from `first` on.
 fn is_among(sector: u64, first: u64, count: u64) -> bool
     ensures is { result ≡ lies_in first count sector }
     ensures order { result ≡ true → first ≤ sector }

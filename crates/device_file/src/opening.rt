@@ -75,7 +75,7 @@ impl FirstSectors {
     }
 
     /// A window over the file: its first sectors hold these bytes, the others what the device
-    /// holds, all durably. There is room to show so many sectors, and for so many writes and
+    /// holds, all durably. There is room to show `span` sectors, and for `room` writes and
     /// flushes.
     ///
     /// # Errors
@@ -121,7 +121,7 @@ fn super_in(sector: &[u8; SECTOR]) -> Option<Super>
     }
 }
 
-// How many of the first of so many sectors are to lie in memory.
+// How many of `sectors` sectors, from the first on, are to lie in memory.
 fn near_for(sizes: &Option<Super>, sectors: u64) -> u64
     ensures { result ≡ min (near_of sizes.now) sectors }
 {

@@ -78,8 +78,8 @@ impl<F: SectorFile + Drop> SystemFile<F> {
         Ok(SystemFile::over(file, length / SECTOR))
     }
 
-    /// A file of so many sectors at this path, which was made now, or emptied. Nothing was written
-    /// to it: what the system gives for a part of a file that nobody wrote is zeros.
+    /// A file of `sectors` sectors at this path, which was made now, or emptied. Nothing was
+    /// written to it: what the system gives for a part of a file that nobody wrote is zeros.
     ///
     /// A file that is there is refused as `AlreadyExists`, and stays as it is, where it is not to
     /// be replaced. To be replaced it is locked, and only then emptied.
@@ -106,7 +106,7 @@ impl<F: SectorFile + Drop> SystemFile<F> {
 }
 
 impl<F> SystemFile<F> {
-    // A file of so many sectors, which was asked nothing.
+    // A file of `sectors` sectors, which was asked nothing.
     fn over(file: F, sectors: u64) -> SystemFile<F>
         ensures { result ≡ fresh sectors }
     {
