@@ -19,7 +19,7 @@ use Rattle.image_calls.specs.Works.{Work}
 use Rattle.image_calls.specs.declared.image_fault.ImageFault.{ImageFault}
 use Rattle.image_calls.specs.declared.image_fault.ImageFault.TheVariants as fault
 
--- these bytes are no first sectors of a device of so many
+-- these bytes are no first sectors of a device of `sectors` sectors
 abbrev pub IsNoLength : List ℕ → ℕ → Type 0
 IsNoLength near sectors = (length near ≡ 0) ⊎ (length near % 512 ≢ 0)
     ⊎ (512 * sectors < length near)
@@ -30,7 +30,7 @@ pub record WaitFor (first new : Window) : Type 0 where
   pub follows : ComesAfter first new
   pub covers : CoversDevice first new
 
--- A log was laid on the device of this medium, by so many calls as it has sectors, and six more.
+-- A log was laid on the device of this medium, by 5 calls more than there are sectors before home.
 pub record IsLaidOn (shape : Shape) (first new : Window) : Type 0 where
   pub laid : IsLaid shape (state_of first) (state_of new)
   pub leaves : LayingLeaves shape (state_of first) (state_of new)
@@ -60,8 +60,8 @@ pub record IsMigratedOn (first new : Window) : Type 0 where
   pub seen : MissesNone first new
 
 -- Why none was, by calls of the medium alone. No write and no flush was refused where there was the
--- room that a migration needs of an image of this format with so many slots. Where one was, those
--- of this very migration had no room together.
+-- room that a migration needs by the format and the slots of the image. Where one was, those of
+-- this very migration had no room together.
 pub record IsMigratedNot (first after : Window) (why : StartFault) : Type 0 where
   pub refusal : IsMigrationRefusal (state_of first) (state_of after) why
   pub follows : ComesAfter first after

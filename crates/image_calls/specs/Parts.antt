@@ -55,7 +55,7 @@ abbrev pub parts_left : Option Plan → ℕ
 parts_left (Some plan) = suc (plan.sizes.home + plan.sizes.blocks - plan.at)
 parts_left None = 0
 
--- so many writes and flushes at most, and no read
+-- at most `most` writes and flushes, and no read
 abbrev pub SendsPart : ℕ → State → State → Type 0
 SendsPart most old new = MakesNoRead old new × SendsUpTo most old new
 

@@ -15,7 +15,7 @@ use journal::LogFormat;
 use std::alloc::Global;
 use window::DeviceHolds;
 
-/// Lays a log on a device of so many sectors, of which these are the first: one or more. What the
+/// Lays a log on a device of `sectors` sectors, of which these are the first: one or more. What the
 /// device has to carry out waits in the handle.
 ///
 /// # Errors
@@ -47,7 +47,7 @@ pub fn lay_in(
     Ok(())
 }
 
-/// Begins to make an image of zeros on a device of so many sectors, of which these are the first:
+/// Begins to make an image of zeros on a device of `sectors` sectors, of which these are the first:
 /// one or more. What the device has to carry out waits in the handle, a part at a time: each call
 /// of `next_call` makes the next part wait where nothing does.
 ///
@@ -79,8 +79,8 @@ pub fn format_in(
     Ok(())
 }
 
-/// Makes an image of format 1 on a device of so many sectors one of format 2. The first sectors are
-/// all before the first home sector.
+/// Makes an image of format 1 on a device of `sectors` sectors one of format 2. The first sectors
+/// are all before the first home sector.
 ///
 /// # Errors
 ///

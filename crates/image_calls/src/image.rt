@@ -19,7 +19,7 @@ use window::{DeviceHolds, WindowError, WindowMedium};
 // The most slots that a log has.
 const MOST_SLOTS: u64 = 64;
 
-// A medium of a device of so many sectors, of which these are the first. None is ever shown.
+// A medium of a device of `sectors` sectors, of which these are the first. None is ever shown.
 fn window_of(
     alloc: Global,
     near: &[u8],
@@ -52,7 +52,7 @@ fn hold(alloc: Global, medium: WindowMedium, left: Option<Plan>) -> Result<Box<W
     }
 }
 
-// How many calls it takes to lay a log of this format with so many slots.
+// How many calls it takes to lay a log of this format with `slots` slots.
 fn calls_to_lay(format: LogFormat, slots: u64) -> u64
     requires { slots ≤ 64 }
     ensures { result ≡ slot_sectors_of format * slots + 7 }

@@ -4,7 +4,7 @@ use Rattle.device_file.specs.Asked.{Told}
 use Rattle.device_file.specs.Copied.{IsCopied, IsCopiedInPart}
 use Rattle.device_file.specs.declared.copying.CopyFault.{CopyFault}
 
--- So many sectors were copied, or a file refused a call. The file written is as large as before.
+-- All count sectors were copied, or a file refused a call. The file written is as large as before.
 pub record Copies {D : Type 0} (told : D → Told) (sectors : D → ℕ) (holds : ℕ → List ℕ → Type 0)
     (refuses : ℕ → ℕ → Type 0) (first count at : ℕ) (old new : D)
     (result : Result (Unit {0}) CopyFault) : Type 0 where

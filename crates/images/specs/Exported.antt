@@ -16,7 +16,7 @@ use Rattle.images.specs.Texts.{blocks_text}
 use Rattle.images.specs.declared.refusal.Refusal.{Refusal}
 use Rattle.images.specs.declared.refusal.Refusal.TheVariants as refused
 
--- what is told of so many blocks
+-- what is told of `blocks` blocks
 abbrev pub exported_text : ℕ → List ℕ
 exported_text blocks = blocks_text (codes "exported ") blocks
 

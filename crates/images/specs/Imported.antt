@@ -15,7 +15,7 @@ use Rattle.images.specs.Texts.{blocks_text}
 use Rattle.images.specs.declared.refusal.Refusal.{Refusal}
 use Rattle.images.specs.declared.refusal.Refusal.TheVariants as refused
 
--- what is told of so many blocks
+-- what is told of `blocks` blocks
 abbrev pub imported_text : ℕ → List ℕ
 imported_text blocks = blocks_text (codes "imported ") blocks
 
@@ -24,7 +24,7 @@ abbrev pub import_refusal : CopyFault → Refusal
 import_refusal (fault.From why) = refused.Plain why
 import_refusal (fault.To why) = refused.Target why
 
--- Of a plain file of so many sectors. What a read of it gave, which of them it refused, what was
+-- Of a plain file of `blocks` sectors. What a read of it gave, which of them it refused, what was
 -- written then and now, and the file of the image, where one was made.
 module _ (holds : ℕ → List ℕ → Type 0) (refuses : ℕ → ℕ → Type 0) (format : LogFormat)
     (blocks slots : ℕ) (was now : Option (List ℕ)) (back : Option FileValue) where

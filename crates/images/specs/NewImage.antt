@@ -57,7 +57,7 @@ pub record BecomesImage {D : Type 0} (told : D → Told) (sectors : D → ℕ) (
   pub size : sectors new ≡ sectors old
   pub named : IfErr result (λ fault. (fault.call ≡ call.Write) ⊎ (fault.call ≡ call.Sync))
 
--- The one image that a cut may leave of a device of so many sectors has these sizes, the head at
+-- The one image that a cut may leave of a device of `size` sectors has these sizes, the head at
 -- stamp 1, and zeros everywhere else; it is ours, for blocks of zeros, and its next stamp is 2.
 pub record IsNewImage (size : ℕ) (shape : Shape) (device : Device) : Type 0 where
   pub durable : Only device.content device.may_leave

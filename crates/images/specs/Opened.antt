@@ -13,9 +13,9 @@ use Rattle.device_file.specs.declared.opening.FirstSectors.{FirstSectors}
 use Rattle.images.specs.declared.refusal.Refusal.{Refusal}
 use Rattle.images.specs.declared.refusal.Refusal.TheVariants as refused
 
--- These are the first sectors of a file of so many, as they were read: all before the first home
--- sector that their super tells, and two where they have none; those that the file has, where it is
--- shorter.
+-- These are the first sectors of a file of `size` sectors, as they were read: all before the first
+-- home sector that their super tells, and two where they have none; those that the file has, where
+-- it is shorter.
 pub record HasFirst (size : ℕ) (first : FirstSectors) : Type 0 where
   pub size_is : first.sectors ≡ size
   pub spells : SpellsSuper first.sizes (sector_of first.bytes.items 0)
@@ -28,7 +28,7 @@ pub record HaveImage (first : FirstSectors) (sizes : Super) : Type 0 where
   pub fits : sizes.home + sizes.blocks ≤ first.sectors
 
 -- a window over a device that holds these first sectors and behind them these bytes, with room for
--- so many calls
+-- `room` calls
 abbrev pub IsWindowOver : FirstSectors → List ℕ → ℕ → Window → Type 0
 IsWindowOver first device room w =
     w ≡ window.fresh first.sectors first.bytes.items device 0 room

@@ -27,7 +27,7 @@ pub(crate) struct CopyRoom {
     ghost some: { 512 ≤ length bytes.items },
 }
 
-/// The memory of a copy of so many blocks, with the line that tells at the end what was done.
+/// The memory of a copy of `blocks` blocks, with the line that tells at the end what was done.
 pub(crate) fn copy_room(alloc: Global, done: &[u8], blocks: u64) -> Result<CopyRoom, Refusal>
     ensures line { IfOk result (λ room. room.line.items ≡ blocks_text done.now blocks) }
     ensures err { IfErr result (λ cause. cause ≡ Refusal.NoMemory) }

@@ -52,7 +52,7 @@ impl<'a, E: Write> Meter for Gauge<'a, E> {
 // What is written of a copy.
 #[derive(Clone, Copy)]
 enum Word {
-    /// So many sectors of all, over what stands on the line.
+    /// `done` sectors of `all`, over what stands on the line.
     Part { done: u64, all: u64 },
     /// The end of the line.
     End,

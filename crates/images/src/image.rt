@@ -25,7 +25,7 @@ pub(crate) fn sizes_of(format: LogFormat, blocks: u64, slots: u64) -> Option<Sup
     Some(Super::new(format, blocks, slots))
 }
 
-/// A file of so many sectors at this path, which was made or emptied now. One that is there is
+/// A file of `sectors` sectors at this path, which was made or emptied now. One that is there is
 /// emptied only where it is to be replaced.
 pub(crate) fn new_file<R: Files<File = File>>(
     rt: &R,

@@ -124,7 +124,7 @@ fn refusal_of(fault: OpenFault) -> Refusal
     }
 }
 
-/// A window over a file with these first sectors, with room for so many calls. Of the others, which
+/// A window over a file with these first sectors, with room for `room` calls. Of the others, which
 /// the device is thought to hold, none is ever shown.
 pub(crate) fn window_over(
     alloc: Global,

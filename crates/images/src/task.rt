@@ -33,7 +33,7 @@ pub(crate) enum Task<'a> {
     Migrate {
         image: &'a str,
     },
-    /// To make an image of the blocks of a plain file, with so many slots for the log of a format.
+    /// To make an image of the blocks of a plain file, with `slots` slots for the log of a format.
     Import {
         raw: &'a str,
         image: &'a str,
@@ -47,7 +47,7 @@ pub(crate) enum Task<'a> {
         raw: &'a str,
         replace: bool,
     },
-    /// To make an image of so many blocks of zeros, with so many slots for the log of a format.
+    /// To make an image of `blocks` blocks of zeros, with `slots` slots for the log of a format.
     Make {
         image: &'a str,
         format: LogFormat,
