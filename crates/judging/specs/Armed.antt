@@ -4,7 +4,7 @@ use Rattle.medium.specs.Sim.{IsFused, IsFailing}
 use Rattle.spec.specs.Lives.{arms, fails}
 use Rattle.bot_machine.specs.LivesValue.{LivesValue, LivesGoOn, medium_in}
 
--- a fuse is armed: so many writes and flushes happen, and at the next the power goes
+-- a fuse is armed: `writes` writes and flushes happen, and at the next the power goes
 pub record ArmsFuse (writes : ℕ) (before after : LivesValue) : Type 0 where
   pub goes_on : LivesGoOn before (arms writes ∷ []) [] after
   pub fused : IsFused writes (medium_in before.state) (medium_in after.state)

@@ -24,7 +24,7 @@ sense_command = record {
   length = 18;
 }
 
--- READ(10) of so many blocks from this address on
+-- READ(10) of count blocks from this address on
 abbrev pub read_command : ℕ → ℕ → Command
 read_command address count = record {
   block = transfer_block 0x28 0 address count;
@@ -32,7 +32,7 @@ read_command address count = record {
   length = count * 512;
 }
 
--- WRITE(10) of so many blocks from this address on, with FUA where it is forced
+-- WRITE(10) of count blocks from this address on, with FUA where it is forced
 abbrev pub write_command : ℕ → ℕ → Bool → Command
 write_command address count forced = record {
   block = transfer_block 0x2a (if forced then 8 else 0) address count;

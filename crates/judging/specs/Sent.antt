@@ -14,7 +14,7 @@ pub record Sent : Type 0 where
   pub tag : ℕ
   pub between : ℕ
 
--- so many steps in the background behind these events
+-- these events, and count steps in the background behind them
 abbrev pub ticked : List Event → ℕ → List Event
 ticked events count = events ++ replicate count Tick
 
@@ -24,7 +24,7 @@ abbrev pub paused : List Event → ℕ → List Event
 paused [] between = []
 paused (event ∷ events) between = ticked (event ∷ events) between
 
--- so many steps in the background more
+-- with count steps in the background more
 abbrev pub with_ticks : Sent → ℕ → Sent
 with_ticks sent count = record sent { events = ticked sent.events count }
 
@@ -32,7 +32,7 @@ with_ticks sent count = record sent { events = ticked sent.events count }
 abbrev pub with_event : Sent → Event → Sent
 with_event sent event = record sent { events = paused sent.events sent.between ++ event ∷ [] }
 
--- so many tokens to Bulk-In more
+-- with a given number of tokens to Bulk-In more
 abbrev pub with_tokens : Sent → ℕ → Sent
 with_tokens sent zero = sent
 with_tokens sent (suc count) = with_event (with_tokens sent count) In

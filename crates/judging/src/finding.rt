@@ -19,7 +19,7 @@ pub enum Finding {
     Start(StartFault),
     /// Not the blocks after some beginning of the accepted writes that holds every promised one.
     Blocks,
-    /// A host was to send a packet that is too long, or so many blocks as no command moves.
+    /// A host was to send a packet that is too long, or more blocks than a command moves.
     Packet,
     /// The identity was refused.
     Identity,

@@ -44,7 +44,7 @@ impl Host {
         Host::with_ticks(alloc, 0)
     }
 
-    /// No event so far. So many steps in the background come between any two events.
+    /// No event so far. `between` steps in the background come between any two events.
     pub fn with_ticks(alloc: Global, between: u32) -> Host
         ensures { result ≡ record { events = []; tag = 0; between = between } }
     {
@@ -82,7 +82,7 @@ impl Host {
         self.tokens(2)
     }
 
-    /// READ(10) of so many blocks from this address on.
+    /// READ(10) of `count` blocks from this address on.
     ///
     /// # Errors
     ///
@@ -154,7 +154,7 @@ impl Host {
         self.event(Event::In)
     }
 
-    // So many steps in the background.
+    // `count` steps in the background.
     fn ticks(&mut self, count: u32) -> Result<(), Finding>
         ensures { OnOk result (self.new ≡ with_ticks self.old count) }
     {
@@ -189,7 +189,7 @@ impl Host {
         Ok(())
     }
 
-    // So many tokens to Bulk-In.
+    // `count` tokens to Bulk-In.
     fn tokens(&mut self, count: u32) -> Result<(), Finding>
         ensures { OnOk result (self.new ≡ with_tokens self.old count) }
     {
@@ -200,7 +200,7 @@ impl Host {
     }
 }
 
-// How many blocks these are. `Packet` where no command moves so many.
+// How many blocks these are. `Packet` where no command moves as many.
 fn count_of(blocks: &[Block]) -> Result<u16, Finding>
     ensures { IfOk result (λ count. count ≡ length blocks.now) }
 {

@@ -57,7 +57,7 @@ impl Player {
         self.lives.medium()
     }
 
-    /// Arms a fuse: so many writes and flushes happen, and at the next the power goes.
+    /// Arms a fuse: `writes` writes and flushes happen, and at the next the power goes.
     pub fn fuse(&mut self, writes: u64)
         ensures { ArmsFuse writes self.old self.new }
     {

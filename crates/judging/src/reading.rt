@@ -12,8 +12,8 @@ use bot_machine::{Answer, Life, Retiring};
 use medium::{Kept, SimMedium};
 use std::alloc::{AllocError, Global};
 
-/// The blocks that a medium serves, by a life that reads every one of its so many blocks with READs
-/// of at most so many (a limit of 0 counts as 1). The medium comes back after that life.
+/// The blocks that a medium serves, by a life that reads each of its `blocks` blocks with READs of
+/// at most `limit` blocks (a limit of 0 counts as 1). The medium comes back after that life.
 ///
 /// # Errors
 ///
@@ -117,7 +117,7 @@ impl<'a> Told<'a> {
         }
     }
 
-    // So many blocks, which go to the end of these.
+    // `count` blocks, which go to the end of these.
     fn blocks(&mut self, count: u16, array: &mut Vec<Block>) -> Result<(), Finding> {
         for _ in 0..count {
             let Answer::Data(packet) = self.next()? else {

@@ -9,7 +9,7 @@ use crate::host::Host;
 use abstract_disk::{Block, Write};
 use std::alloc::{AllocError, Global};
 
-/// A WRITE of so many blocks to the addresses from this one on, with FUA where it is forced.
+/// A WRITE of `count` blocks to the addresses from `address` on, with FUA where it is forced.
 #[derive(Clone, Copy)]
 pub struct TestWrite {
     pub address: u32,
