@@ -48,7 +48,7 @@ in_case C5 wanted home is = is
 in_case C6 wanted home is = is
 in_case _ wanted home is = absurd (cc is)
 
--- a window with the bytes of the device has so many sectors at most
+-- a window has no more sectors than the bytes of the device make
 size_most : (w : Window) → (state_of w).size ≤ length w.seen.told.opening / 512
 size_most w = elim (cases_Bool (story.are_whole (story.given w.seen.told.asked))) [
   | inl whole ↦ rw whole (omega arith)

@@ -28,7 +28,7 @@ pub record Foresees (w : Window) : Type 0 where
 -- What a file was asked, what its reads gave, and which of them it refused.
 module _ {D : Type 0} (told : D → Told) (holds : D → ℕ → List ℕ → Type 0)
     (refuses : D → ℕ → ℕ → Type 0) where
-  -- So many sectors were read of the file, and exactly what it gave was shown to the window. Where
+  -- Of the file count sectors were read, and exactly what it gave was shown to the window. Where
   -- that is what the medium holds, the disk fits what it fitted.
   pub record SeesRead (old : DiskOn D) (first count : ℕ) (new : DiskOn D) : Type 0 where
     pub bytes : List ℕ

@@ -14,8 +14,8 @@ use Rattle.spec.specs.declared.event.Event.{Event}
 use Rattle.spec.specs.declared.event.Event.TheVariants as event
 use Rattle.live.specs.Missing.{DiskOn, window_of, WantsNone}
 
--- as many writes and flushes as an event makes at most, and as a start does that finds so many
--- slots
+-- as many writes and flushes as an event makes at most, and as a start does that finds
+-- `slots` slots
 abbrev pub room_of : LogFormat → ℕ → ℕ
 room_of format slots = max (most_sends_of format) (most_start_sends format slots)
 

@@ -12,7 +12,7 @@ use Rattle.live.specs.declared.refusal.Refusal.{Refusal}
 
 -- What a file was asked, what its reads gave, which of them it refused, how many sectors it has,
 -- and which bytes are thought to stand behind the first ones: whatever they are. Packets have at
--- most so many bytes. What was written, and what the input had left, then and now.
+-- most `most` bytes. What was written, and what the input had left, then and now.
 module _ {D : Type 0} (told : D → Told) (holds : D → ℕ → List ℕ → Type 0)
     (refuses : D → ℕ → ℕ → Type 0) (size : D → ℕ) (device : List ℕ) (most : ℕ) (file : D)
     (was now left after : Option (List ℕ)) where

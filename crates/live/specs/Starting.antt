@@ -24,7 +24,7 @@ use Rattle.live.specs.Status.{refusal_of_open}
 use Rattle.live.specs.declared.refusal.Refusal.{Refusal}
 use Rattle.live.specs.declared.refusal.Refusal.TheVariants as refused
 
--- The room over a file of this size in sectors, by its super: one call, where no disk can start.
+-- The room over a file of `size` sectors, by its super: one call, where no disk can start.
 abbrev pub room_for : ℕ → Option Super → ℕ
 room_for size (Some sizes) =
     if nat_le (sizes.home + sizes.blocks) size then room_of sizes.format sizes.slots else 1
@@ -53,7 +53,7 @@ module _ {D : Type 0} (holds : D → ℕ → List ℕ → Type 0) (size : D → 
     pub of : IsWindowOf file window
     pub over : IsOver window file m
 
--- no window was had over a file that refuses these reads and has so many sectors: it has none, it
+-- no window was had over a file that refuses these reads and has `size` sectors: it has none, it
 -- refused a read of first ones, or there was no memory
 abbrev pub HasNoWindow : (ℕ → ℕ → Type 0) → ℕ → Refusal → Type 0
 HasNoWindow refuses size refusal =
@@ -75,7 +75,7 @@ module _ {D : Type 0} (told : D → Told) (started : DiskOn D) where
     pub refused_is : refusal ≡ refused.File fault
     pub given : back ≡ (medium_of disk).file
 
--- What a file was asked. Packets have at most so many bytes.
+-- What a file was asked. Packets have at most `most` bytes.
 module _ {D : Type 0} (told : D → Told) (most : ℕ) (medium : FileWindow D) where
   -- A disk started on the medium, and the file was asked for nothing. Then it was asked for exactly
   -- what waits, in order: it carried that out, or refused a call, behind which it was asked for

@@ -27,7 +27,7 @@ type LeftFile = Option<SystemFile<File>>;
 /// Serves an image file, line by line of an input, and gives the exit status.
 ///
 /// The words are the image's, behind which `--packet 64` or `--packet 512` may stand: packets have
-/// at most so many bytes, 512 where nothing is told. A refusal names the image and the cause on
+/// at most that many bytes, 512 where nothing is told. A refusal names the image and the cause on
 /// `err`, and a line that is none of a script its number. At status 3, for a fault of the image,
 /// the file was asked for nothing.
 pub fn live_command<R: Files<File = File> + AllocGlobal, I: Read, O: Write, E: Write>(

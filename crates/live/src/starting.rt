@@ -87,7 +87,7 @@ fn refusal_of(fault: OpenFault) -> Refusal
     }
 }
 
-// How many calls an outbox has to have room for, over a file of this many sectors with such a super.
+// How many calls an outbox must have room for, over a file of `sectors` sectors with such a super.
 fn room_to_serve(sizes: &Option<Super>, sectors: u64) -> usize
     ensures { result ≡ room_for sectors sizes.now }
 {

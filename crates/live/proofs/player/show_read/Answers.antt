@@ -3,7 +3,7 @@ use Rattle.device_file.specs.Reads.{AreRead}
 use Rattle.file_window.specs.declared.file.FileWindow.{FileWindow}
 use Rattle.live.proofs.player.show_read.Goals as goal
 
--- so many whole sectors
+-- the bytes of count sectors are count whole ones
 counted : (size count : ℕ) → size ≡ 512 * count → size / 512 ≡ count
 counted size count is = omega (arith, is)
 
