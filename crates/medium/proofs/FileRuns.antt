@@ -24,7 +24,7 @@ one_call P call good old mid new c a p = record {
   each = All-append P c.calls (call ∷ []) c.each (All-cons P call [] p (All-nil P));
 }
 
--- of these bytes so many were put, from this place on
+-- of these bytes the first `done` were put, from this place on
 pub record Putting (at : ℕ) (bytes : List ℕ) (done : ℕ) (old new : Told) : Type 0 where
   pub few : done ≤ length bytes
   pub calls : Calls (IsWriteWithin at (length bytes)) old new
@@ -50,7 +50,7 @@ module _ (at : ℕ) (bytes : List ℕ) (done : ℕ) (part : List ℕ) (part_is :
   part_long : length part ≡ length bytes - done
   part_long = ap (λ (l : List ℕ). length l) part_is ∙ length-drop done bytes
 
-  -- so many more were taken
+  -- of the part, count bytes were taken
   pub put_more : (count : ℕ) → 0 < count → count ≤ length part → AsksFor true (Write (at + done)) mid new
       → Takes (at + done) (take count part) mid new
       → Putting at bytes (done + count) old new
@@ -127,7 +127,7 @@ put_all at bytes done old new some all p = let most = p.most in let grown = p.gr
   };
 }
 
--- of so many bytes these were read, from the first on
+-- of `many` bytes the first `done` were read, and stand in these
 pub record Reading (many : ℕ) (bytes : List ℕ) (done : ℕ) (old new : Told) : Type 0 where
   pub few : done ≤ many
   pub reads : Calls IsRead old new
@@ -187,7 +187,7 @@ module _ (many done : ℕ) (bytes part : List ℕ) (old mid new : Told) (r : Rea
     size = k.size ∙ r.size;
   }
 
--- what is left of bytes behind so many of them, as a slice of them
+-- what is left of bytes behind `done` of them, as a slice of them
 pub left_of : (done : ℕ) (bytes : List ℕ) → take (length bytes - done) (drop done bytes) ≡ drop done bytes
 left_of done bytes = take_all (length bytes - done) (drop done bytes) (omega (arith, length-drop done bytes))
 

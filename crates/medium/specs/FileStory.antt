@@ -61,7 +61,7 @@ pub record KeepsBytes (old new : Told) : Type 0 where
   pub bytes : (p : ℕ) → holds new p ≡ holds old p
   pub size : new.size ≡ old.size
 
--- so many bytes: those that it held, and zeros behind them
+-- it has `size` bytes: those that it held, and zeros behind them
 pub record IsResized (size : ℕ) (old new : Told) : Type 0 where
   pub size_is : new.size ≡ size
   pub kept : (p : ℕ) → p < old.size → p < size → holds new p ≡ holds old p
@@ -77,7 +77,7 @@ pub record Gives (at : ℕ) (bytes : List ℕ) (old new : Told) : Type 0 where
   pub has : HasBytes at bytes old new
   pub size_stays : new.size ≡ old.size
 
--- what so many bytes from this place on hold may have changed, and nothing else
+-- what count bytes from this place on hold may have changed, and nothing else
 pub record TakesWithin (at count : ℕ) (old new : Told) : Type 0 where
   pub elsewhere : (p : ℕ) → (p < at) ⊎ (at + count ≤ p) → holds new p ≡ holds old p
   pub grows : old.size ≤ new.size
@@ -99,7 +99,7 @@ IsRead (Read at) = Unit {0}
 IsRead (Write at) = ⊥
 IsRead Sync = ⊥
 
--- a write that begins at one of so many places from this one on
+-- a write that begins at one of count places from this one on
 abbrev pub IsWriteWithin : ℕ → ℕ → FileCall → Type 0
 IsWriteWithin from count Lock = ⊥
 IsWriteWithin from count Measure = ⊥
@@ -118,7 +118,7 @@ pub record Calls (P : FileCall → Type 0) (old new : Told) : Type 0 where
 abbrev pub HoldsFirst : List ℕ → Told → Type 0
 HoldsFirst bytes t = (p : ℕ) → p < length bytes → holds t p ≡ slice_index bytes p
 
--- The file was locked, and then measured: it has so many bytes.
+-- The file was locked, and then measured: it has `bytes` bytes.
 pub record IsMeasured (bytes : ℕ) (t : Told) : Type 0 where
   pub asked : t.asked ≡ Lock ∷ Measure ∷ []
   pub size : t.size ≡ bytes
@@ -144,7 +144,7 @@ pub record IsPut (at : ℕ) (bytes : List ℕ) (old new : Told) : Type 0 where
   pub calls : Calls (IsWriteWithin at (length bytes)) old new
   pub takes : Takes at bytes old new
 
--- By writes alone; what so many bytes hold may have changed, and no other byte was touched.
+-- By writes alone; what count bytes hold may have changed, and no other byte was touched.
 pub record MayPut (at count : ℕ) (old new : Told) : Type 0 where
   pub calls : Calls (IsWriteWithin at count) old new
   pub takes : TakesWithin at count old new

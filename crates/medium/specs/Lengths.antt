@@ -3,7 +3,7 @@ use Rattle.std.specs.Prelude.{◌≡◌, ◌⊎◌, ◌↔◌, ℕ, ◌*◌, ◌
 use Rattle.medium.specs.declared.file.FileError.{FileError}
 use Rattle.medium.specs.declared.file.FileError.TheVariants.{BadLength, TooLong}
 
--- so many sectors have so many bytes, and where these are no image it is told why
+-- it is told how many bytes `sectors` sectors have, and where these are no image, why
 pub record IsLengthOf (sectors : ℕ) (result : Result ℕ FileError) : Type 0 where
   pub ok : IfOk result (λ bytes. bytes ≡ 512 * sectors)
   pub none : IsErrOf result BadLength ↔ sectors ≡ 0

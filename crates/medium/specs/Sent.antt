@@ -8,6 +8,6 @@ use Rattle.medium.specs.declared.fault.MediumFault.TheVariants.{Write, Flush}
 abbrev pub sent : State → ℕ
 sent m = m.made Write + m.made Flush
 
--- no more of them were made than so many
+-- at most `most` of them were made
 abbrev pub SendsUpTo : ℕ → State → State → Type 0
 SendsUpTo most old new = sent new ≤ sent old + most

@@ -106,11 +106,11 @@ pub record IsCut (keep : ℕ → Bool) (old new : Sim) : Type 0 where
   pub made_stays : new.made ≡ old.made
   pub refused_stay : new.refused ≡ old.refused
 
--- a fuse of so many writes and flushes is armed, and nothing else has changed
+-- a fuse of `writes` writes and flushes is armed, and nothing else has changed
 abbrev pub IsFused : ℕ → Sim → Sim → Type 0
 IsFused writes old new = new ≡ record old { power = record old.power { fuse = Some writes } }
 
--- a failure of the call so far from now is armed, and nothing else has changed
+-- a failure of the call with this number from now is armed, and nothing else has changed
 abbrev pub IsFailing : ℕ → Sim → Sim → Type 0
 IsFailing call old new = new ≡ record old { power = record old.power { fail = Some call } }
 

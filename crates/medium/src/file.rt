@@ -96,7 +96,7 @@ impl<F: SectorFile + Drop> FileMedium<F> {
         Ok(FileMedium::over(file, bytes))
     }
 
-    /// Makes a file of so many sectors of zeros at this path, in place of one that is there.
+    /// Makes a file of `sectors` sectors of zeros at this path, in place of one that is there.
     ///
     /// # Errors
     /// `BadLength` where there are 0 sectors, `TooLong` where there are more than 65,536 and then
@@ -163,7 +163,7 @@ fn measured_bytes<S: ToldFile>(
     first_bytes(alloc, file, count)
 }
 
-// So many bytes of a file, the first ones.
+// The first `count` bytes of a file.
 fn first_bytes<S: ToldFile>(alloc: Global, file: &mut S, count: usize) -> Result<Vec<u8>, FileError>
     requires { count < 2 ^ 63 }
     ensures count { IfOk result (λ bytes. length bytes.items ≡ count) }
@@ -178,7 +178,7 @@ fn first_bytes<S: ToldFile>(alloc: Global, file: &mut S, count: usize) -> Result
     Ok(bytes)
 }
 
-// So many bytes of zeros.
+// `length` bytes of zeros.
 fn zeros(alloc: Global, length: usize) -> Result<Vec<u8>, FileError>
     ensures ok { IfOk result (λ bytes. bytes.items ≡ replicate length 0) }
     ensures err { IfErr result (λ e. e ≡ FileError.NoMemory) }
@@ -240,7 +240,7 @@ fn check_length(length: u64) -> Result<usize, FileError>
     length_of(length / SECTOR as u64)
 }
 
-// The bytes of so many sectors, where they are an image.
+// How many bytes `sectors` sectors have, where they are an image.
 fn length_of(sectors: u64) -> Result<usize, FileError>
     ensures { IsLengthOf sectors result }
 {

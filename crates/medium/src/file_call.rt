@@ -7,7 +7,7 @@ pub enum FileCall {
     Lock,
     /// To tell how many bytes it has.
     Measure,
-    /// To have so many bytes.
+    /// To have this many bytes.
     Resize(u64),
     /// To tell bytes from this place on.
     Read(u64),

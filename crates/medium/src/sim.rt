@@ -56,7 +56,7 @@ impl Model for SimMedium {
 }
 
 impl SimMedium {
-    /// A medium of these bytes, all flushed, with room for so many unflushed writes.
+    /// A medium of these bytes, all flushed, with room for `room` unflushed writes.
     ///
     /// # Errors
     /// `BadLength` where the length is 0 or no multiple of 512, and otherwise `NoMemory` where the

@@ -6,10 +6,10 @@ use crate::medium::Medium;
 
 /// A medium that can be told to refuse calls. Being told changes no content, no set and no count.
 pub trait Switch: Medium {
-    /// What arming a fuse of so many writes makes of the first.
+    /// What arming a fuse of this many writes makes of the first.
     ghost fused: { ℕ → Self → Self → Type 0 };
 
-    /// What arming a failure of the call so far from now makes of the first.
+    /// What arming a failure of the call with this number from now makes of the first.
     ghost failing: { ℕ → Self → Self → Type 0 };
 
     /// The next `writes` writes and flushes still happen. The one after them and every later call
