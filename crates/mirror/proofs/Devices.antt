@@ -8,7 +8,7 @@ use Rattle.mirror.specs.OutboxMedium.{OutboxMedium, sent, CoversDevice, ComesAft
 use Rattle.mirror.specs.MirrorLaws.{given-append}
 use Rattle.mirror.specs.declared.call.DeviceCall.{DeviceCall}
 
--- the calls of the medium that gave the first so many calls of the device
+-- the calls of the medium that gave the first count calls of the device
 record FirstPart (asked : List (Option DeviceCall)) (count : ℕ) : Type 0 where
   at : ℕ
   inside : at ≤ length asked

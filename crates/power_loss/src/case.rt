@@ -154,7 +154,7 @@ fn force_life(alloc: Global, host: &mut Host) -> Result<(), Finding> {
     Ok(())
 }
 
-// A write of so many blocks to this address, with FUA.
+// A write of `count` blocks to this address, with FUA.
 fn forced(address: u32, count: u32) -> TestWrite {
     TestWrite {
         address,

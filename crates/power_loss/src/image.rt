@@ -37,7 +37,7 @@ pub(crate) fn cut_copy(
     Ok(cut(copy, &Kept::Mask(mask)))
 }
 
-/// The masks of all subsets of so many unflushed writes.
+/// The masks of all subsets of `unflushed` unflushed writes.
 pub(crate) fn subsets(unflushed: usize) -> Result<Range<u64>, Fault> {
     if unflushed > 10 {
         return Err(Fault::Unflushed(unflushed));

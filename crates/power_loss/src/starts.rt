@@ -15,7 +15,7 @@ use std::alloc::{AllocError, Global};
 use std::io;
 use std::io::Write;
 
-// Writes of so many blocks each, one at each eighth block: fewer than the log has slots, so that
+// Writes of `COUNT` blocks each, one at each eighth block: fewer than the log has slots, so that
 // their records wait.
 const WRITES: u8 = 6;
 

@@ -63,7 +63,7 @@ impl Command {
 }
 
 impl Data {
-    /// So many bytes from this place on, but no more than a packet has.
+    /// `length` bytes from this place on, but no more than a packet has.
     pub(crate) fn part(&self, from: u32, length: u32) -> [u8; 512] {
         let mut bytes = [0; 512];
         for (place, byte) in (0..length).zip(bytes.iter_mut()) {
@@ -135,7 +135,7 @@ pub(crate) fn read_10(address: u32, count: u32) -> Command {
     sends(block, 10, count.saturating_mul(512))
 }
 
-// A command of 6 bytes that sends at most so many.
+// A command of 6 bytes that sends at most `most` bytes.
 fn short(random: &mut Random, code: u8, most: u32) -> Command {
     let mut block = [0; 16];
     block[0] = code;
@@ -151,7 +151,7 @@ fn short(random: &mut Random, code: u8, most: u32) -> Command {
     sends(block, 6, allocation.min(most))
 }
 
-// A command that is to send so many bytes.
+// A command that is to send `bytes` bytes.
 fn sends(block: [u8; 16], length: u8, bytes: u32) -> Command {
     Command {
         block,
@@ -332,7 +332,7 @@ fn on_the_disk(random: &mut Random, shape: &Shape, kind: u64) -> Extent {
     }
 }
 
-// Blocks of the disk, at most so many.
+// Blocks of the disk, at most `most`.
 fn inside(random: &mut Random, blocks: u64, most: u64) -> Extent {
     let count = random.below(most).saturating_add(1);
     Extent {

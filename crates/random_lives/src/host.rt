@@ -101,7 +101,7 @@ impl Host {
         }
     }
 
-    // Once in so many times a fuse of fewer writes and flushes than this is armed.
+    // Once in `times` times a fuse of fewer than `bound` writes and flushes is armed.
     fn perhaps_fuse(&mut self, times: u64, bound: u64) {
         if self.random.one_in(times) {
             let writes = self.random.below(bound);
@@ -193,7 +193,7 @@ impl Host {
         }
     }
 
-    // A packet to Bulk-Out of so many of these bytes, but no more than a packet has.
+    // A packet to Bulk-Out of the first `length` of these bytes, but no more than a packet has.
     fn packet(&mut self, bytes: &[u8], length: u32) -> Event {
         let length = length.min(self.shape.size.bytes());
         let bytes = bytes.get(..length as usize).unwrap_or(bytes);
@@ -339,7 +339,7 @@ fn spoil(random: &mut Random, wrapper: &mut [u8; 32]) -> u32 {
     length
 }
 
-// None of so many unflushed writes, all, or some.
+// None of `unflushed` unflushed writes, all, or some.
 fn any_kept(random: &mut Random, unflushed: u64, alloc: Global) -> Result<Kept, AllocError> {
     match random.below(6) {
         0 => Ok(Kept::None),

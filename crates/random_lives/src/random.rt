@@ -25,7 +25,7 @@ impl Random {
         self.number() % bound.max(1)
     }
 
-    /// True once in so many times.
+    /// True once in `times` times.
     pub(crate) fn one_in(&mut self, times: u64) -> bool {
         self.below(times) == 0
     }

@@ -32,7 +32,7 @@ fn read_all(disk: &mut Disk<SimMedium>, blocks: u32, bytes: &mut Vec<u8>) -> Res
     Ok(())
 }
 
-// The blocks of these bytes, if they are so many.
+// The blocks of these bytes, if they are `blocks` blocks.
 fn array_of(alloc: Global, bytes: &[u8], blocks: u32) -> Result<Array, Finding> {
     let mut array = Array {
         blocks: Vec::new(alloc),

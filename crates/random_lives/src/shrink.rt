@@ -24,7 +24,7 @@ fn shrink(alloc: Global, trial: &Trial, stays: &mut Vec<bool>) {
     }
 }
 
-// Leaves out each part of so many steps without which there is still a fault. Whether there was
+// Leaves out each part of `part` steps without which there is still a fault. Whether there was
 // one.
 fn leave_out_each(alloc: Global, trial: &Trial, part: usize, stays: &mut Vec<bool>) -> bool {
     let mut left_out = false;
@@ -34,7 +34,7 @@ fn leave_out_each(alloc: Global, trial: &Trial, part: usize, stays: &mut Vec<boo
     left_out
 }
 
-// Leaves out so many steps from this one on, if there is still a fault. Whether it did.
+// Leaves out `part` steps from this one on, if there is still a fault. Whether it did.
 fn leave_out(
     alloc: Global,
     trial: &Trial,
@@ -52,7 +52,7 @@ fn leave_out(
     left_out
 }
 
-// So many steps from this one on do not stay. Whether one of them did.
+// `part` steps from this one on do not stay. Whether one of them did.
 fn clear(stays: &mut [bool], from: usize, part: usize) -> bool {
     let mut any = false;
     for stays in stays.iter_mut().skip(from).take(part) {

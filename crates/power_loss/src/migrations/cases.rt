@@ -172,7 +172,7 @@ fn send_write(alloc: Global, host: &mut Host, stroke: TestWrite, seed: u8) -> Re
     host.write(&write, stroke.forced)
 }
 
-// So many steps in the background.
+// `count` steps in the background.
 fn tick(host: &mut Host, count: u32) -> Result<(), Finding> {
     for _ in 0..count {
         host.event(Event::Tick)?;
@@ -180,7 +180,7 @@ fn tick(host: &mut Host, count: u32) -> Result<(), Finding> {
     Ok(())
 }
 
-// So many blocks, each of another byte than the one before.
+// `count` blocks, each of another byte than the one before.
 fn contents(alloc: Global, seed: u8, count: u32) -> Result<Vec<Block>, AllocError> {
     let mut blocks = Vec::new(alloc);
     let mut byte = seed;

@@ -23,7 +23,7 @@ pub(crate) enum Choices {
 }
 
 impl Choices {
-    // The number of the write that is kept alone, of so many.
+    // The number of the write that is kept alone, of `unflushed` writes.
     fn alone(self, unflushed: usize) -> Option<usize> {
         match self {
             Choices::Few => None,
