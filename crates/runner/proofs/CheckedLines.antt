@@ -10,7 +10,7 @@ use Rattle.runner.specs.Line.{IsScriptLine}
 use Rattle.runner.specs.Lines.{lines_of}
 use Rattle.runner.specs.Script.{IsFirstBadLine}
 
--- so many lines were read, all of them of a script, and these are left
+-- the first `number` lines were read, all of them of a script, and these are left
 pub record IsReadTo (kind : ScriptKind) (most : ℕ) (all left : List (List ℕ)) (number : ℕ) : Type 0 where
   pub before : List (List ℕ)
   pub good : All (IsScriptLine kind most) before

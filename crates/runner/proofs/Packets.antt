@@ -8,7 +8,7 @@ use Rattle.runner.specs.Line.{SpellsPacket}
 pub length-digits : {most : ℕ} {digits packet : List ℕ} → SpellsPacket most digits packet → length digits ≡ 2 * length packet
 length-digits {most} {digits} {packet} spelled = (decode_of-ok digits packet spelled.decoded).2
 
--- digits for so many bytes are decoded into as many
+-- digits for count bytes are decoded into as many
 pub sized : (digits bytes : List ℕ) (count : ℕ) → decode_of digits ≡ Ok bytes → length bytes ≡ count → decode_sized digits count ≡ Ok bytes
 sized digits bytes count decoded counted =
     decode_sized-twice digits count ((decode_of-ok digits bytes decoded).2 ∙ ap (λ n. 2 * n) counted) ∙ decoded

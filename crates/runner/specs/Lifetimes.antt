@@ -44,7 +44,7 @@ actions_of In = flat_map comes (events_of In)
 actions_of (Setup packet) = flat_map comes (events_of (Setup packet))
 actions_of (Tick count) = flat_map comes (events_of (Tick count))
 
--- the line does this, in a script of several lives, where packets have at most so many bytes
+-- the line does this, in a script of several lives, where packets have at most `most` bytes
 pub record LineActs (most : ℕ) (line : List ℕ) (actions : List Action) : Type 0 where
   pub asked : ScriptLine
   pub spelled : Spells most line asked
@@ -86,7 +86,7 @@ fused_after fused (starts ∷ actions) = fused_after fused actions
 fused_after fused (cuts keeps ∷ actions) = fused_after false actions
 fused_after fused (plays event ∷ actions) = fused_after fused actions
 
--- Actions of a disk with packets of at most so many bytes, over a medium in memory, and their
+-- Actions of a disk with packets of at most `most` bytes, over a medium in memory, and their
 -- answers. They move the disk and its medium one after another, and leave this medium. A fuse, a
 -- failure and a cut do exactly what they say, an event is one step of the disk, and each step in
 -- the background is one. The truth values say in which of them the medium refused a call.

@@ -17,7 +17,7 @@ use Rattle.runner.specs.Lines.{words_of}
 abbrev pub IsSkipped : List ℕ → Type 0
 IsSkipped line = (line ≡ []) ⊎ ((comment : List ℕ) × (line ≡ codes "#" ++ comment))
 
--- hex digits of either case for a packet of 1 to so many bytes
+-- hex digits of either case for a packet of 1 to `most` bytes
 pub record SpellsPacket (most : ℕ) (digits packet : List ℕ) : Type 0 where
   pub decoded : decode_of digits ≡ Ok packet
   pub some : 0 < length packet
@@ -68,7 +68,7 @@ pub record IsNoSwitch (line : List ℕ) : Type 0 where
   pub no_fail : (call : ℕ) → SpellsCount (codes "fail ") 1 1000000000 line call → ⊥
   pub no_cut : (kept : KeptWrites) → SpellsCut line kept → ⊥
 
--- the line spells what it asks for, where packets have at most so many bytes
+-- the line spells what it asks for, where packets have at most `most` bytes
 abbrev pub Spells : ℕ → List ℕ → ScriptLine → Type 0
 Spells most line Skipped = IsSkipped line
 Spells most line (Out packet) = SpellsOut most line packet.items

@@ -27,12 +27,12 @@ use Rattle.runner.specs.Status.{refusal_of_fault, refusal_of_start}
 use Rattle.runner.specs.Task.{AreFormatWords, IsMigrateLine, IsScriptCommand, IsCommandLine}
 use Rattle.runner.specs.Text.{ended}
 
--- so many blocks and log slots of this format make an image of at most 65,536 sectors
+-- `blocks` blocks and `slots` log slots of this format make an image of at most 65,536 sectors
 abbrev pub AreImageSizes : LogFormat → ℕ → ℕ → Type 0
 AreImageSizes format blocks slots = AreSizes 65536 (new_shape format blocks slots)
 
--- an image file of exactly the sectors that so many blocks and log slots of this format take,
--- formatted
+-- an image file of exactly the sectors that `blocks` blocks and `slots` log slots of this format
+-- take, formatted
 pub record IsMade (format : LogFormat) (blocks slots : ℕ) (made : Copied) : Type 0 where
   pub sizes : AreImageSizes format blocks slots
   pub exact : length made.bytes ≡ 512 * sectors_of (new_shape format blocks slots)
@@ -124,7 +124,7 @@ module _ (was now : Option (List ℕ)) where
       pub migrated : IsMigrated file.state_of opened after
 
     -- exactly the text of a life of some script's events on some image file was appended, with
-    -- packets of at most so many bytes
+    -- packets of at most `most` bytes
     pub record IsRun (most : ℕ) : Type 0 where
       pub opened : Copied
       pub is_opened : IsJustOpened opened
@@ -134,7 +134,7 @@ module _ (was now : Option (List ℕ)) where
       pub played : IsPlayed file.state_of most left was now opened after
 
     -- exactly the text of lives by some script's lines over a copy of some image was appended, with
-    -- packets of at most so many bytes
+    -- packets of at most `most` bytes
     pub record IsSim (most : ℕ) : Type 0 where
       pub none : back ≡ None
       pub image : List ℕ

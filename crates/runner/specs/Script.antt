@@ -23,7 +23,7 @@ use Rattle.runner.specs.declared.line.ScriptKind.TheVariants.{OneLife}
 use Rattle.runner.specs.Line.{Spells, Allows, IsScriptLine}
 use Rattle.runner.specs.Events.{events_of}
 
--- the line plays these events, in a script of one life, where packets have at most so many bytes
+-- the line plays these events, in a script of one life, where packets have at most `most` bytes
 pub record LinePlays (most : ℕ) (line : List ℕ) (events : List Event) : Type 0 where
   pub asked : ScriptLine
   pub spelled : Spells most line asked
@@ -76,16 +76,16 @@ identification = record {
   serial = codes "000000000001";
 }
 
--- the disk of a script, with packets of at most so many bytes
+-- the disk of a script, with packets of at most `most` bytes
 abbrev pub device : ℕ → Device
 device most = record { identity = identification; packet_size = most; retiring = Late }
 
--- a disk that has just started on this book, with packets of at most so many bytes, and moves so
--- many blocks at most
+-- a disk that has just started on this book, with packets of at most `most` bytes, and moves
+-- at most `limit` blocks
 abbrev pub started : ℕ → ℕ → Book → Conversation UnitState
 started most limit book = on_line (at_rest most) (opened_unit limit identification book)
 
--- A disk with packets of at most so many bytes starts on the medium and plays the events, each one
+-- A disk with packets of at most `most` bytes starts on the medium and plays the events, each one
 -- step of it, and the medium that comes back is the one that the last of them left: nothing is done
 -- to it afterwards.
 pub record IsLeftBy {M : Type 0} (state : M → State) (most : ℕ) (medium : M) (events : List Event)
@@ -97,7 +97,7 @@ pub record IsLeftBy {M : Type 0} (state : M → State) (most : ℕ) (medium : M)
   pub steps : StepsThrough state first events answers refusals last
   pub left : back ≡ last.unit.store.medium
 
--- A life of a disk with packets of at most so many bytes: its events and their answers, from a
+-- A life of a disk with packets of at most `most` bytes: its events and their answers, from a
 -- start on a medium in one state until the medium is in another. The disk opens with the array and
 -- the next stamp for which the contents stood, and the answers are by the rules of the unit; in
 -- some events the medium refused a call, whatever the premise. Where every image that a cut could

@@ -45,7 +45,7 @@ pub record IsTooLong (begins : List ℕ) : Type 0 where
   pub long : 1100 < length begins
   pub no_comment : (comment : List ℕ) → begins ≡ codes "#" ++ comment → ⊥
 
--- How a player goes through events, and how it has no answer to one; packets have at most so many
+-- How a player goes through events, and how it has no answer to one; packets have at most `most`
 -- bytes; the player and what was written then, and now.
 module _ {D : Type 0} (Goes : D → List Event → List Answer → D → Type 0)
     (Stops : D → Event → D → Type 0) (most : ℕ) (was now : Option (List ℕ)) (old new : D) where

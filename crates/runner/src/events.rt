@@ -32,7 +32,7 @@ impl Iterator for ScriptLine {
 }
 
 impl ScriptLine {
-    // The first packet of so many of one byte.
+    // The first packet of `count` times this byte.
     fn next_fill(&mut self, byte: u8, count: u64, size: PacketSize) -> Option<Event>
         requires { self.old ≡ ScriptLine.Skipped }
         ensures { YieldsFirst events_of (ScriptLine.Fill byte count size) result self.new }
@@ -49,7 +49,7 @@ impl ScriptLine {
         Some(Event::Out(packet_of(byte, taken as usize)))
     }
 
-    // The first of so many steps.
+    // The first of `count` steps.
     fn next_tick(&mut self, count: u64) -> Option<Event>
         requires { self.old ≡ ScriptLine.Skipped }
         ensures { YieldsFirst events_of (ScriptLine.Tick count) result self.new }
@@ -62,7 +62,7 @@ impl ScriptLine {
     }
 }
 
-// So many of one byte.
+// `count` times this byte.
 fn packet_of(byte: u8, count: usize) -> ArrayVec<u8, 512>
     requires { count ≤ 512 }
     ensures { result.items ≡ replicate count byte }

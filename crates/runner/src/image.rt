@@ -21,8 +21,8 @@ const IMAGE_LIMIT: usize = 65_536 * 512;
 /// The unflushed writes that a simulated medium holds.
 const ROOM: usize = 16_384;
 
-/// Makes an image file of this format and so many blocks of zeros, with so many log slots, in place
-/// of one that is there. The sizes are tested before the file is touched.
+/// Makes an image file of this format and `blocks` blocks of zeros, with `slots` log slots, in
+/// place of one that is there. The sizes are tested before the file is touched.
 pub(crate) fn make_image<R: Files<File = File> + AllocGlobal>(
     rt: &R,
     path: &str,

@@ -26,7 +26,7 @@ pub enum ScriptLine {
     Skipped,
     /// A packet to Bulk-Out.
     Out(ArrayVec<u8, 512>),
-    /// So many of one byte to Bulk-Out, in packets of a size, the last one shorter.
+    /// `count` times one byte to Bulk-Out, in packets of `size`, the last one shorter.
     Fill {
         byte: u8,
         count: u64,
@@ -36,11 +36,11 @@ pub enum ScriptLine {
     In,
     /// A setup packet.
     Setup([u8; 8]),
-    /// So many steps in the background.
+    /// `count` steps in the background.
     Tick {
         count: u64,
     },
-    /// A fuse of so many writes and flushes.
+    /// A fuse of `writes` writes and flushes.
     Fuse {
         writes: u64,
     },

@@ -19,7 +19,7 @@ pub enum ReadFault {
     Reader,
 }
 
-/// Reads to the end, if that comes after at most so many bytes.
+/// Reads to the end, if that comes after at most `limit` bytes.
 ///
 /// # Errors
 ///

@@ -18,7 +18,7 @@ const MOST: u64 = 4_294_967_295;
 /// What a command line asks for.
 #[derive(Clone, Copy)]
 pub(crate) enum Task<'a> {
-    /// To make an image of so many blocks of zeros, with so many slots for the log of a format.
+    /// To make an image of `blocks` blocks of zeros, with `slots` slots for the log of a format.
     Format {
         image: &'a str,
         format: LogFormat,
@@ -168,7 +168,7 @@ pub(crate) fn read_packet_ending(ending: &[&str]) -> Option<PacketSize>
     }
 }
 
-// The size of so many bytes, behind this name.
+// The size of a packet of `bytes` bytes, behind this name.
 fn named_size(name: &str, bytes: &str) -> Option<PacketSize>
     ensures size { IfSome result (IsPacketEnding (name.now ∷ bytes.now ∷ [])) }
     ensures none { IfNone result ((size : PacketSize)

@@ -21,7 +21,7 @@ pub(crate) fn read_out(line: &[u8], size: PacketSize) -> Option<ArrayVec<u8, 512
     read_packet(behind(line, b"out ")?, size.bytes() as usize)
 }
 
-// The bytes of a packet that is not empty, at most so many, from their hex digits.
+// The bytes of a packet that is not empty, at most `most`, from their hex digits.
 fn read_packet(digits: &[u8], most: usize) -> Option<ArrayVec<u8, 512>>
     requires { most ≤ 512 }
     ensures spelled { IfSome result (λ packet. SpellsPacket most digits.now packet.items) }
