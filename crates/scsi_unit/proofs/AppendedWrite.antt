@@ -20,7 +20,7 @@ use Rattle.scsi_unit.specs.Laws.{WritesAreWrites}
 use Rattle.scsi_unit.proofs.Intentions.{served_by, moved_by}
 use Rattle.scsi_unit.proofs.Directions.{out_or_none}
 
--- these are so many blocks, each of 512 bytes
+-- these are count blocks, each of 512 bytes
 pub record AreBlocks (count : ℕ) (blocks : List (List ℕ)) : Type 0 where
   pub count_is : length blocks ≡ count
   pub sized : All (λ block. length block ≡ 512) blocks

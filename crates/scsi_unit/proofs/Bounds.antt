@@ -20,7 +20,7 @@ use Rattle.scsi_unit.specs.UnitValue.{UnitValue, unit_limit}
 one_more : (slots width steps : ℕ) → steps ≤ (slots + 4) * width → 2 * steps + 2 * width ≤ 2 * (slots + 5) * width
 one_more slots width steps few = omega (arith, few)
 
--- two calls for each step that is left, and so many more
+-- two calls for each step that is left, and `more` besides
 with_more : (slots limit steps more : ℕ) → steps ≤ (slots + 4) * (2 * limit + 16) → more ≤ 6 * limit + 32
     → 2 * steps + more ≤ most_calls_of slots limit
 with_more slots limit steps more few few_more = omega (arith, few_more, one_more slots (2 * limit + 16) steps few)

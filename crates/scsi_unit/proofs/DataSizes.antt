@@ -24,7 +24,7 @@ sends_at : (bytes n : ℕ) (nothing : Bool) → (nothing ≡ false → bytes ≢
 sends_at bytes n true some is = cc
 sends_at bytes n false some is = let same : bytes ≡ n = cc in (same, omega (arith, same, some refl))
 
--- so many bytes are sent where they are intended
+-- where n bytes are intended, n bytes are sent
 pub sends_is : (bytes n : ℕ) → sends bytes ≡ intent.In n → (bytes ≡ n) × (0 < n)
 sends_is bytes n is = sends_at bytes n (bytes == 0) (λ no. eqb-false bytes 0 no) is
 

@@ -1,4 +1,4 @@
--- So many bytes one way, or none.
+-- A number of bytes one way, or none.
 use Rattle.std.specs.Prelude.{ℕ, Bool, if◌then◌else◌}
 use Rattle.spec.specs.declared.intent.Intent.TheVariants as intent
 use Rattle.spec.specs.Rules.{Intention}

@@ -7,7 +7,7 @@ use Rattle.spec.specs.Commands.{byte_at, command_of}
 use Rattle.spec.specs.Rules.{Intention, needs_medium, passes_attention, checked_for_fault, command_by, moves, moves_after, intention_by}
 use Rattle.spec.specs.declared.intent.Intent.TheVariants as intent
 
--- of what is moved: so many bytes to the initiator, or from it
+-- of what is moved: a number of bytes to the initiator, or from it
 module _ (moved : ℕ → Intention) (good : (sense : Sense) (n : ℕ) → intent.Fail sense ≢ moved n) where
   -- a command that a faulted unit does not refuse moves what it moves without the fault
   not_refused : (refuses : Bool) (sense : Sense) (command : Command) (n : ℕ)

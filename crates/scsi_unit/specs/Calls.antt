@@ -61,7 +61,7 @@ pub record IsBounded {M : Type 0} (before after : State) (block taken : List ℕ
   pub most : after.calls
       ≤ before.calls + calls_after (command_for old block) taken old.write_cache old.store.cached
 
--- The most that any command makes over so many slots, with so many blocks in a transfer at most:
+-- The most that any command makes over `slots` slots, with at most `limit` blocks in a transfer:
 -- two for each step that may be left and for each of one more batch, and two for each block of one
 -- transfer.
 abbrev pub most_calls_of : ℕ → ℕ → ℕ
@@ -80,7 +80,7 @@ most_sends_of format = 3 * most_sent format
 abbrev pub most_sends : {M : Type 0} → UnitValue M → ℕ
 most_sends unit = most_sends_of (layout_of unit.store.cached).format
 
--- A command that reads these blocks, or none, makes so many calls at most, and no more writes and
+-- A command that reads these blocks, or none, makes at most count calls, and no more writes and
 -- flushes than any. Its reads name no home sector but theirs.
 pub record MakesAtMost {M : Type 0} (count : ℕ) (read : Option Transfer) (before after : State)
     (old : UnitValue M) : Type 0 where

@@ -76,7 +76,7 @@ impl<M: Medium> Unit<M> {
     }
 }
 
-// So many bytes to the initiator.
+// `bytes` bytes to the initiator.
 fn sends(bytes: u32) -> Intent
     ensures { result ≡ sends bytes }
 {
@@ -86,7 +86,7 @@ fn sends(bytes: u32) -> Intent
     }
 }
 
-// So many bytes from the initiator.
+// `bytes` bytes from the initiator.
 fn takes(bytes: u32) -> Intent
     ensures { result ≡ takes bytes }
 {
