@@ -27,7 +27,7 @@ abbrev pub after : Array → List Write → Array
 after array [] = array
 after array (write ∷ writes) = after (apply array write) writes
 
--- so many blocks of these bytes
+-- a given number of blocks of these bytes
 abbrev pub chunks : ℕ → List ℕ → List (List ℕ)
 chunks zero bytes = []
 chunks (suc count) bytes = take 512 bytes ∷ chunks count (drop 512 bytes)

@@ -13,12 +13,12 @@ pub record Book : Type 0 where
   pub stamp : ℕ
   -- the writes that were accepted, in order
   pub writes : List Write
-  -- so many of the first of them are promised: no cut loses them
+  -- how many of the first of them are promised: no cut loses these
   pub mark : ℕ
   -- whether every image that a cut could leave was ours when the life opened
   pub ours : Bool
 
--- the array after the first so many writes
+-- the array after the first k writes
 abbrev pub after_first : ℕ → Book → Array
 after_first k book = after book.opening (take k book.writes)
 
@@ -47,7 +47,7 @@ StampsOut book = 2 ^ 63 - 1 ≤ book.stamp + length book.writes
 abbrev pub write_of : ℕ → List ℕ → Write
 write_of address bytes = record { address = address; blocks = chunks (length bytes / 512) bytes }
 
--- the bytes of so many blocks from this address on, one block after the other
+-- the bytes of a number of blocks from this address on, one block after the other
 abbrev pub blocks_at : Array → ℕ → ℕ → List ℕ
 blocks_at array address zero = []
 blocks_at array address (suc count) = array address ++ blocks_at array (address + 1) count

@@ -13,7 +13,7 @@ command_signature = 0x55 ∷ 0x53 ∷ 0x42 ∷ 0x43 ∷ []
 abbrev pub field_at : List ℕ → ℕ → ℕ
 field_at packet place = little_number 4 (drop place packet)
 
--- the host announces so many bytes; if there are any, bit 7 of the flags is set if it reads them
+-- the host announces `announced` bytes; if there are any, bit 7 of `flags` is set if it reads them
 abbrev pub Announces : ℕ → ℕ → Way → Type 0
 Announces announced flags Nothing = announced ≡ 0
 Announces announced flags (In n) = (announced ≡ n) × (0 < n) × (128 ≤ flags)

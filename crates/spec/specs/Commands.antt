@@ -38,7 +38,7 @@ is_one_of values number = list_any (λ value. value == number) values
 abbrev pub byte_at : ℕ → List ℕ → ℕ
 byte_at place block = slice_index block place
 
--- the number in so many bytes from a place on
+-- the number in `bytes` bytes from a place on
 unfoldable pub number_at : ℕ → ℕ → List ℕ → ℕ
 number_at place bytes block = big_number bytes (drop place block)
 
@@ -212,7 +212,7 @@ synchronize_cache_16 n block = range_row 0x91 16 n (range_16 block) SynchronizeC
 
 -- ---- the table, and what a block says
 
--- the table, for a medium of n blocks and transfers of so many blocks at most
+-- the table, for a medium of n blocks and transfers of at most `limit` blocks
 abbrev pub table : ℕ → ℕ → List ℕ → List Row
 table n limit block =
     test_unit_ready

@@ -21,7 +21,7 @@ pub record Presentation : Type 0 where
 
 -- what is done to a disk over its lives
 pub data Action : Type 0 where
-  -- a fuse is armed: so many more writes and flushes of the medium happen
+  -- a fuse is armed: this many more writes and flushes of the medium happen
   arms : ℕ → Action
   -- a failure is armed: the medium refuses its call with this number from now on, once
   fails : ℕ → Action
@@ -56,7 +56,7 @@ pub record Standing : Type 0 where
   -- the most blocks of one READ or WRITE: it is told by the image
   pub limit : ℕ
 
--- The next life may find these blocks, with this next stamp: those after the first so many accepted
+-- The next life may find these blocks, with this next stamp: those after the first count accepted
 -- writes, the promised ones at least, perhaps with the write in progress, whole.
 pub record IsLeft (remains : Remains) (next : Book) : Type 0 where
   pub book : Book

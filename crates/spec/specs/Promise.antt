@@ -13,7 +13,7 @@ use Rattle.spec.specs.Lives.{Standing, Opens, LivesRun}
 abbrev pub first_standing : ℕ → Book → Standing
 first_standing limit book = record { place = before_first book; armed = false; limit = limit }
 
--- What an image is found to hold: so many logical blocks, with these bytes, and this next stamp.
+-- What an image is found to hold: this many logical blocks, with these bytes, and this next stamp.
 module _ {Image : Type 0} (Holds : ℕ → Image → Array → ℕ → Type 0) where
   -- the image holds the blocks after some of the first writes of the book, the promised ones at
   -- least

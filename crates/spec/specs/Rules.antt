@@ -65,8 +65,8 @@ checked_for_fault faulted (Ok command) =
     if faulted && needs_medium command then Err internal_target_failure else Ok command
 checked_for_fault faulted (Err sense) = Err sense
 
--- The command of a command block, or the sense with which it is refused, by a unit with so many
--- blocks, with so many in a transfer at most, with or without a pending unit attention, faulted or
+-- The command of a command block, or the sense with which it is refused, by a unit with `blocks`
+-- blocks, with at most `limit` in a transfer, with or without a pending unit attention, faulted or
 -- not. The checks in order: the unit attention; what the table of commands says of the block; that
 -- the unit is not faulted.
 unfoldable pub command_by : ℕ → ℕ → Bool → Bool → List ℕ → Result Command Sense
@@ -83,11 +83,11 @@ checked unit block = command_by unit.book.blocks unit.limit unit.kept.attention 
 abbrev pub Intention : Type 0
 Intention = Intent Sense
 
--- so many bytes to the initiator
+-- `bytes` bytes to the initiator
 abbrev pub sends : ℕ → Intention
 sends bytes = if bytes == 0 then intent.None else intent.In bytes
 
--- so many bytes from the initiator
+-- `bytes` bytes from the initiator
 abbrev pub takes : ℕ → Intention
 takes bytes = if bytes == 0 then intent.None else intent.Out bytes
 

@@ -39,7 +39,7 @@ abbrev pub UnitRun : Conversation UnitState → List Event → List Answer → L
 UnitRun old events answers refusals new =
     Run Intends CarriesOut Ticks old events answers refusals new
 
--- The write that is in progress in a packet to Bulk-Out, of at most so many bytes: that of the
+-- The write that is in progress in a packet to Bulk-Out, of at most `most` bytes: that of the
 -- command whose last bytes it has. A command that is carried out in the event of its wrapper takes
 -- no bytes, and writes none.
 abbrev pub write_of_packet : ℕ → Bool → Script → List ℕ → UnitState → Option Write

@@ -6,9 +6,9 @@
 pub enum Intent<S> {
     /// No data.
     None,
-    /// So many bytes of data, to the initiator.
+    /// The number of bytes of data to the initiator.
     In(u32),
-    /// So many bytes of data, from the initiator.
+    /// The number of bytes of data from the initiator.
     Out(u32),
     /// The command is refused, with this sense.
     Fail(S),
