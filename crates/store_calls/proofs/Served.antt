@@ -96,7 +96,7 @@ pub unread : (old new : Store) (why : StoreFault) → IsReadCause (state_of old.
 unread old new ReadFault cause live all log = absurd (omega (arith, cause.1, all.refuses.seen log))
 unread old new Dead cause live all log = absurd (false≢true (sym live ∙ cause))
 
--- so many are no more than those of an event of a disk
+-- `sends`, once and twice, are no more than those of an event of a disk
 pub few_once : (sends : ℕ) → sends ≤ 3 * sends
 few_once sends = omega arith
 

@@ -25,13 +25,13 @@ use Rattle.store_calls.specs.declared.calls.Sizes.{Sizes}
 
 -- ---- whether a call may move blocks
 
--- the store is live, and so many bytes are whole blocks of it from this address on, 1 to as many as
+-- the store is live, and `size` bytes are whole blocks of it from this address on, 1 to as many as
 -- its limit
 pub record MayMove (s : Cached) (address size : ℕ) : Type 0 where
   pub transfer : IsTransfer (transfer_limit s) (blocks_of s) address size
   pub live : is_dead s ≡ false
 
--- so many bytes are no whole blocks, none, or more than the limit
+-- `size` bytes are no whole blocks, none, or more than the limit
 abbrev pub IsNoSize : Cached → ℕ → Type 0
 IsNoSize s size = (size ≡ 0) ⊎ (size % 512 ≢ 0) ⊎ (transfer_limit s * 512 < size)
 
@@ -54,7 +54,7 @@ pub record KeepsAll (address count : ℕ) (old new : Store) : Type 0 where
   pub turn : IsTurn (state_of old.medium) (state_of new.medium) old.cached new.cached
   pub appends : Appends old new
 
--- So many blocks were read: those after all accepted writes.
+-- The count blocks were read: those after all accepted writes.
 pub record IsRead (address count : ℕ) (old : Store) (filled : List ℕ) (new : Store) : Type 0 where
   pub bytes : (book : Book) → FitsBook (state_of old.medium) old.cached book
       → filled ≡ blocks_at (array_of book) address count

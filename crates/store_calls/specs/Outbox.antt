@@ -16,7 +16,7 @@ Shows (Some (Write w)) sector bytes sector' bytes' kind =
 Shows (Some Flush) sector bytes sector' bytes' kind =
     (kind ≡ 2) × (sector' ≡ sector) × (bytes' ≡ bytes)
 
--- so many calls leave the outbox, one by one
+-- this many calls leave the outbox, one by one
 abbrev pub without : ℕ → Window → Window
 without zero w = w
 without (suc count) w = without_first (without count w)
@@ -28,7 +28,7 @@ pub record IsEmptied (old new : Window) : Type 0 where
 
 -- ---- a run
 
--- writes of so many blocks of these bytes, in order, to the sectors from this one on
+-- writes of this many blocks of these bytes, in order, to the sectors from this one on
 abbrev pub writes_of : ℕ → ℕ → List ℕ → List DeviceCall
 writes_of zero sector bytes = []
 writes_of (suc count) sector bytes = writes_of count sector bytes
@@ -40,7 +40,7 @@ IsTo sector (Some (Write w)) = w.sector ≡ sector
 IsTo sector (Some Flush) = ⊥
 IsTo sector None = ⊥
 
--- So many calls leave the outbox, one by one: writes to neighbouring sectors from this one on.
+-- Of the calls count leave the outbox, one by one: writes to neighbouring sectors from this one on.
 -- Their bytes lie one behind the other, and the others in the room stay.
 pub record IsRun (old new : Window) (sector count : ℕ) (room filled : List ℕ) : Type 0 where
   pub writes : old.outbox ≡ writes_of count sector filled ++ new.outbox
@@ -54,7 +54,7 @@ pub record IsLongestRun (old new : Window) (sector count : ℕ) (room filled : L
   -- the room is full, or what waits next is no write to the next sector
   pub ends : (count ≡ length room / 512) ⊎ ¬ IsTo (sector + count) (first_of new.outbox)
 
--- so many bytes are room for no sector, or for a part of one
+-- `size` bytes are room for no sector, or for a part of one
 abbrev pub IsNoRoom : ℕ → Type 0
 IsNoRoom size = (size ≡ 0) ⊎ (size % 512 ≢ 0)
 

@@ -17,7 +17,7 @@ use Rattle.blocks.specs.StoreValue.{layout_of}
 use Rattle.store_calls.specs.Stores.{Store}
 
 -- As many writes and flushes as `usbdisk_room` tells: those of an event of a disk, which are more
--- than those of any call of a store, and those of a start that finds so many slots.
+-- than those of any call of a store, and those of a start that finds `slots` slots.
 abbrev pub room_of : LogFormat → ℕ → ℕ
 room_of format slots = max (3 * most_sent format) (most_start_sends format slots)
 
@@ -69,11 +69,11 @@ pub record Appends (old new : Store) : Type 0 where
   pub served : IsServed old.medium new.medium
   pub refuses : RefusesNothing (HasRoom old) (HoldsLog old) old.medium new.medium
 
--- each of so many sectors from one on is in sight
+-- each of count sectors from `home` on is in sight
 abbrev pub AreInSight : Window → ℕ → ℕ → Type 0
 AreInSight m home count = (s : ℕ) → home ≤ s → s < home + count → is_in_sight m s ≡ true
 
--- The sectors of a device that are to be shown, of so many home sectors from one on: those behind
+-- The sectors of a device that are to be shown, of count home sectors from `home` on: those behind
 -- the first ones, which lie in memory, and not all of them are in sight.
 pub record AreMissing (m : Window) (home count first missing : ℕ) : Type 0 where
   pub some : 0 < missing

@@ -44,7 +44,7 @@ pub record EndsIn (first after : Window) (why : StartFault) : Type 0 where
       → sent (state_of first) + first.room < sent (state_of after)
   pub sighted : HoldsImageLog first → why ≢ start.Read
 
--- these bytes are no first sectors of a device of so many
+-- these bytes are no first sectors of a device of `sectors` sectors
 abbrev pub IsNoLength : List ℕ → ℕ → Type 0
 IsNoLength near sectors = (length near ≡ 0) ⊎ (length near % 512 ≢ 0)
     ⊎ (512 * sectors < length near)

@@ -26,7 +26,7 @@ pub struct Sizes {
     pub limit: u32,
 }
 
-/// Starts a store on a device of so many sectors, of which these are the first.
+/// Starts a store on a device of `sectors` sectors, of which these are the first.
 ///
 /// # Errors
 ///

@@ -31,7 +31,7 @@ pub(crate) fn foresee(store: &Store<WindowMedium>)
     device_laws();
 }
 
-/// Whether so many bytes may be moved from or to the blocks from this address on.
+/// Whether `size` bytes may be moved from or to the blocks from this address on.
 pub(crate) fn may_move(
     store: &Store<WindowMedium>,
     address: u64,
@@ -74,7 +74,7 @@ pub(crate) fn read_blocks(
     }
 }
 
-// Those of the home sectors of so many blocks that are neither in memory nor in sight: all from the
+// Those of the home sectors of `count` blocks that are neither in memory nor in sight: all from the
 // first of them on.
 fn unseen(store: &Store<WindowMedium>, address: u64, count: u32) -> Option<Missing>
     requires some { 0 < count }

@@ -6,8 +6,8 @@ use journal::{LogFormat, Super};
 
 const SECTOR: usize = 512;
 
-/// How many writes and flushes an outbox must have room for, for an image of this format with so
-/// many slots.
+/// How many writes and flushes an outbox must have room for, for an image of this format with
+/// `slots` slots.
 pub fn room_for(format: LogFormat, slots: u64) -> u64
     requires { slots ≤ 64 }
     ensures { result ≡ room_of format slots }

@@ -29,7 +29,7 @@ pub(crate) fn next_run(
     Ok(take_run(store, sector, to, count))
 }
 
-// Whether so many bytes are room for no sector, or for a part of one.
+// Whether `size` bytes are room for no sector, or for a part of one.
 fn is_no_room(size: usize) -> bool
     ensures { IsTrue result ↔ IsNoRoom size }
 {
@@ -82,7 +82,7 @@ fn gather(store: &mut Store<WindowMedium>, first: u64, to: &mut [u8]) -> usize
     most
 }
 
-/// What the call writes, where it is a write to the sector so far behind the first.
+/// What the call writes, where it is a write to the sector `behind` sectors behind the first.
 pub fn block_for(next: Option<DeviceCall>, first: u64, behind: u64) -> Option<[u8; 512]>
     ensures { MatchOption result (¬ IsTo (first + behind) next)
         (λ block. next ≡ Some (call.Write (record { sector = first + behind; block = block }))) }

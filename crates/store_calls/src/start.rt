@@ -13,7 +13,7 @@ use mirror::device_laws;
 use std::alloc::Global;
 use window::{DeviceHolds, WindowError, WindowMedium};
 
-/// A medium of a device of so many sectors, of which these are the first.
+/// A medium of a device of `sectors` sectors, of which these are the first.
 ///
 /// # Errors
 ///
@@ -72,8 +72,8 @@ fn may_start(near: &[u8], room: usize) -> Result<(), CallFault>
     Ok(())
 }
 
-/// A store on a device of so many sectors, of which these are the first. It retires ahead where its
-/// log allows it. Too little room is refused before anything is done.
+/// A store on a device of `sectors` sectors, of which these are the first. It retires ahead where
+/// its log allows it. Too little room is refused before anything is done.
 pub(crate) fn begin(
     alloc: Global,
     near: &[u8],
