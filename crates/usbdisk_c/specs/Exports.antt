@@ -29,13 +29,13 @@ identity_of who = record {
   serial = who.serial;
 }
 
--- a disk for packets of so many bytes, with these texts, was started on these bytes, and retires
+-- a disk for packets of `packet` bytes, with these texts, was started on these bytes, and retires
 -- ahead where its log allows it
 abbrev pub BeginsOn : Window → Identification → ℕ → Disk → Type 0
 BeginsOn first who packet new = (size : PacketSize) × (packet ≡ bytes_of size)
     × IsLegible who × Begins first (device_by who size Ahead) new
 
--- a disk may be made for packets of so many bytes, with these texts
+-- a disk may be made for packets of `packet` bytes, with these texts
 abbrev pub IsNamed : Identification → ℕ → Type 0
 IsNamed who packet = ((packet ≡ 64) ⊎ (packet ≡ 512)) × IsLegible who
 

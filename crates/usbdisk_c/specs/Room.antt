@@ -6,8 +6,8 @@ use Rattle.journal.specs.declared.log_format.LogFormat.TheVariants.{One, Two}
 use Rattle.recovery.specs.Copies.{most_start_sends}
 use Rattle.scsi_unit.specs.Calls.{most_sends_of}
 
--- As many writes and flushes as an event makes at most, and as a start does that finds so many
--- slots.
+-- As many writes and flushes as an event makes at most, and as a start does that finds
+-- `slots` slots.
 abbrev pub room_of : LogFormat → ℕ → ℕ
 room_of format slots = max (most_sends_of format) (most_start_sends format slots)
 
@@ -15,11 +15,11 @@ room_of format slots = max (most_sends_of format) (most_start_sends format slots
 abbrev pub room_for : Shape → ℕ
 room_for shape = room_of shape.format shape.slots
 
--- a log has so many slots
+-- a log may have `slots` slots
 abbrev pub AreSlots : ℕ → Type 0
 AreSlots slots = (1 ≤ slots) × (slots ≤ 64)
 
--- no image has a format of this number, or no log so many slots
+-- no image has a format of this number, or no log has `slots` slots
 abbrev pub AreNone : ℕ → ℕ → Type 0
 AreNone format slots = ((format ≢ 1) × (format ≢ 2)) ⊎ (slots ≡ 0) ⊎ (64 < slots)
 
@@ -42,7 +42,7 @@ slot_memory One = 2312
 slot_memory Two = 5776
 
 -- How many bytes of memory a start takes, by measure: the first sectors, the window, the outbox,
--- two batches and two buffers of a transfer each, so many for each slot, and the disk.
+-- two batches and two buffers of a transfer each, what each slot takes, and the disk.
 abbrev pub memory_of : ℕ → ℕ → ℕ → ℕ → LogFormat → ℕ
 memory_of size slots span room format =
     size + 512 * span + 528 * room + 2096 * limit_of format + slot_memory format * slots + 2672

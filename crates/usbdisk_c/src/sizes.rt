@@ -3,8 +3,8 @@ ghost use Rattle.usbdisk_c.specs.Room.{TellsRoom, TellsMemory};
 
 use journal::LogFormat;
 
-/// How many writes and flushes an outbox must have room for, for an image of this format with so
-/// many slots.
+/// How many writes and flushes an outbox must have room for, for an image of this format with
+/// `slots` slots.
 pub(crate) fn room_for(version: u32, slots: u64) -> u64
     ensures { TellsRoom version slots result }
 {
@@ -17,7 +17,7 @@ pub(crate) fn room_for(version: u32, slots: u64) -> u64
     }
 }
 
-/// How many bytes of memory a start takes, for so many bytes of the first sectors, a window of this
+/// How many bytes of memory a start takes, for `size` bytes of the first sectors, a window of this
 /// span and an outbox of this room.
 pub(crate) fn memory_for(size: u64, version: u32, slots: u64, span: u32, room: u64) -> u64
     ensures { TellsMemory size version slots span room result }

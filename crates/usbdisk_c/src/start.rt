@@ -46,7 +46,7 @@ impl Refusal {
     }
 }
 
-// The size of a packet of so many bytes.
+// The size of a packet of `bytes` bytes.
 fn packet_size(bytes: u32) -> Option<PacketSize>
     ensures { MatchOption result ((bytes ≢ 64) × (bytes ≢ 512)) (λ size. bytes ≡ bytes_of size) }
 {
@@ -71,7 +71,7 @@ fn read_identity(identity: &UsbDiskIdentity) -> Option<Identity>
     Identity::new(vendor, product, revision, serial)
 }
 
-/// A disk on a device of so many sectors, of which these are the first. What is wrong with the
+/// A disk on a device of `sectors` sectors, of which these are the first. What is wrong with the
 /// arguments, and too little room, is refused before anything is done. The disk retires ahead
 /// where its log allows it.
 pub(crate) fn begin(

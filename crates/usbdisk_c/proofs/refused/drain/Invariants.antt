@@ -4,6 +4,6 @@ use Rattle.usbdisk_c.specs.Plays.{medium_of}
 use Rattle.usbdisk_c.specs.Runs.{KeepsRest}
 use Rattle.usbdisk_c.proofs.refused.drain.Given as goal
 
--- so many calls left the outbox
+-- `_gone` calls left the outbox
 abbrev pub invariant-loop-gone : goal.invariant-loop-gone
 invariant-loop-gone l = (medium_of l.disk ≡ without l._gone (medium_of l.fn.disk)) × KeepsRest l.fn.disk l.disk
