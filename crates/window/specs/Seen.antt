@@ -18,15 +18,15 @@ pub record Seen : Type 0 where
   -- the sectors that reads named, in order
   pub looked : List ℕ
 
--- whether a sector lies among so many from the first on
+-- whether a sector lies among count sectors from `first` on
 abbrev pub lies_in : ℕ → ℕ → ℕ → Bool
 lies_in first count s = nat_le first s && nat_lt s (first + count)
 
--- so many bytes: those of the list, and zeros where it ends
+-- the first count bytes of the list, and zeros where it ends
 abbrev pub filled : ℕ → List ℕ → List ℕ
 filled count bytes = take count (bytes ++ replicate count 0)
 
--- the bytes of a device of so many sectors: the first as they were read, the rest as it holds them
+-- the bytes of a device of `size` sectors: the first as they were read, the rest as it holds them
 abbrev pub opened : ℕ → List ℕ → List ℕ → List ℕ
 opened size near holds = near ++ filled (512 * size - length near) holds
 
@@ -58,7 +58,7 @@ same [] (y ∷ ys) = false
 same (x ∷ xs) [] = false
 same (x ∷ xs) (y ∷ ys) = (x == y) && same xs ys
 
--- whether each of so many sectors from the first on is in the image as it is shown
+-- whether each of a number of sectors from the first on is in the image as it is shown
 abbrev pub agrees : Image → ℕ → ℕ → List ℕ → Bool
 agrees image first zero bytes = true
 agrees image first (suc count) bytes =
@@ -69,7 +69,7 @@ abbrev pub overlaid : Image → ℕ → ℕ → List ℕ → Image
 overlaid image first count bytes s =
     if lies_in first count s then sector_of bytes (s - first) else image s
 
--- the bytes of the first so many sectors
+-- the bytes of a given number of first sectors
 abbrev pub bytes_of : ℕ → Image → List ℕ
 bytes_of zero image = []
 bytes_of (suc count) image = bytes_of count image ++ image count

@@ -19,9 +19,9 @@ pub record Window : Type 0 where
   pub seen : Seen
   pub outbox : List DeviceCall
   pub room : ℕ
-  -- so many first sectors lie in memory
+  -- how many first sectors lie in memory
   pub near : ℕ
-  -- and of the others so many from this one on, of so many at most
+  -- and of the others: from which one on, how many, and how many at most
   pub from : ℕ
   pub held : ℕ
   pub span : ℕ
@@ -43,7 +43,7 @@ is_in_sight w s = nat_lt s w.near || lies_in w.from w.held s
 abbrev pub fits : Window → Bool
 fits w = nat_lt (length w.outbox) w.room
 
--- a medium of a device of so many sectors, before the first call
+-- a medium of a device of `size` sectors, before the first call
 abbrev pub fresh : ℕ → List ℕ → List ℕ → ℕ → ℕ → Window
 fresh size near holds span room = record {
   seen = seen.begun size near holds;

@@ -58,8 +58,8 @@ impl Model for WindowMedium {
 }
 
 impl WindowMedium {
-    /// A medium of a device of so many sectors, of which the first hold these bytes and the others
-    /// what it holds, all durably. There is room to show so many sectors at a time, and for so many
+    /// A medium of a device of `size` sectors, of which the first hold these bytes and the others
+    /// what it holds, all durably. There is room to show `span` sectors at a time, and for `room`
     /// writes and flushes in the outbox.
     ///
     /// # Errors
