@@ -45,13 +45,13 @@ fn gives_back(refused: &StartError<SimMedium>) -> Result<(), Difference> {
     Ok(())
 }
 
-/// So many sectors as make no image.
+/// 68 sectors of zeros, which are no image.
 pub(crate) fn zeros(alloc: Global) -> Result<SimMedium, Finding> {
     let bytes = vec![in alloc; 0u8; 68 * 512]?;
     Ok(SimMedium::new(alloc, bytes, 1)?)
 }
 
-// Plays the forty writes with so many steps in the background between any two events. Gives the
+// Plays the forty writes with `between` steps in the background between any two events. Gives the
 // number of flushes since the start.
 fn forty_writes(alloc: Global, between: u32) -> Result<u64, Finding> {
     let host = host_of_forty(alloc, between)?;
@@ -123,7 +123,7 @@ fn played(
     Ok(answers)
 }
 
-/// Judges answers by an abstract disk over these blocks, whose commands move so many at most.
+/// Judges answers by an abstract disk over these blocks, whose commands move at most `limit`.
 pub(crate) fn judge(
     alloc: Global,
     opening: &Array,

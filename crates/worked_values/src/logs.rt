@@ -48,7 +48,7 @@ impl Logs {
     }
 }
 
-// So many sectors of zeros.
+// `sectors` sectors of zeros.
 fn zeros(alloc: Global, sectors: usize) -> Option<Recorder<SimMedium>> {
     let Ok(image) = vec![in alloc; 0; sectors.saturating_mul(512)] else {
         return None;

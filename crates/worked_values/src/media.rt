@@ -139,7 +139,7 @@ impl Media {
         }
     }
 
-    // `medium BYTE OFFSET ROOM`: so many bytes, all of this value.
+    // `medium BYTE OFFSET ROOM`: OFFSET bytes, all of the value BYTE.
     fn make(&mut self, call: &Call, answer: &mut Answer) {
         self.room = call.size(3);
         self.store = None;
@@ -160,7 +160,7 @@ impl Media {
         }
     }
 
-    // `room COUNT`: a medium of the flushed bytes, with room for so many writes.
+    // `room COUNT`: a medium of the flushed bytes, with room for COUNT writes.
     fn make_room(&mut self, call: &Call, answer: &mut Answer) {
         self.room = call.size(1);
         match image_of(&self.sim).to_vec(self.alloc) {

@@ -47,7 +47,7 @@ impl Mirrors {
         }
     }
 
-    // `mirror SIZE ROOM`: so many bytes of zeros, with room for so many calls.
+    // `mirror SIZE ROOM`: SIZE bytes of zeros, with room for ROOM calls.
     fn make(&mut self, call: &Call, answer: &mut Answer) {
         let Ok(near) = vec![in self.alloc; 0; call.size(1)] else {
             return answer.no_memory();

@@ -85,7 +85,7 @@ impl Ring {
         }
     }
 
-    // The next call but so many is refused.
+    // The call with this number from now, counted from 1, is refused.
     fn fail(&mut self, call: u64, answer: &mut Answer) {
         if call == 0 {
             return answer.say("no call");
@@ -208,7 +208,7 @@ fn write_out<M: Medium>(
     Ok(())
 }
 
-// Makes so many retire steps.
+// Makes `steps` retire steps.
 fn retire<M: Medium>(log: &mut Log, m: &mut M, steps: u64) -> Result<(), LogFault>
     requires fits { sectors_of log.old.shape ≤ (M.state m.old).size }
     ensures shape { log.new.shape ≡ log.old.shape }

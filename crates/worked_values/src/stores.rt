@@ -99,7 +99,7 @@ fn is_written_through(store: &mut Store<SimMedium>, address: u64, byte: u8) -> b
         && store.sync().is_ok()
 }
 
-// The bytes of so many blocks.
+// How many bytes the blocks have that are asked for.
 fn size_of(call: &Call) -> usize {
     call.size(3).saturating_mul(512)
 }
@@ -120,7 +120,7 @@ fn tick(store: &mut Store<SimMedium>, count: u64) {
     }
 }
 
-// Whether so many bytes from an address on are whole blocks of a store, and no more than it takes
+// Whether `size` bytes from an address on are whole blocks of a store, and no more than it takes
 // at once.
 fn is_inside(store: &Store<SimMedium>, address: u64, size: usize) -> bool
     ensures { IsTrue result
