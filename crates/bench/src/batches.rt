@@ -18,7 +18,7 @@ fn put_each(batch: &mut Batch, addresses: &[u8]) -> bool {
     true
 }
 
-// Puts a block at each address and freezes the batch, so many times. The last one has to have all.
+// Puts a block at each address and freezes the batch, `count` times. The last one has to have all.
 fn fill_each(batch: &mut Batch, frozen: &mut Frozen, addresses: &[u8], count: u32) -> bool {
     for _ in 0..count {
         frozen.clear();
@@ -30,7 +30,7 @@ fn fill_each(batch: &mut Batch, frozen: &mut Frozen, addresses: &[u8], count: u3
     frozen.numbers().len() == addresses.len()
 }
 
-// Fills a batch in this order and freezes it, so many times. The answer is the number of blocks.
+// Fills a batch in this order and freezes it, `count` times. The answer is the number of blocks.
 pub(crate) fn fill_batches(alloc: Global, blocks: u8, order: Order, count: u32) -> Option<u64> {
     let mut batch = Batch::new(alloc, blocks as usize).ok()?;
     let mut frozen = Frozen::new(alloc, blocks as usize).ok()?;
@@ -41,7 +41,7 @@ pub(crate) fn fill_batches(alloc: Global, blocks: u8, order: Order, count: u32) 
     }
 }
 
-// Fills it with so many blocks in this order and freezes it, so many times.
+// Fills it with `blocks` blocks in this order and freezes it, `count` times.
 fn fill_in_order(
     batch: &mut Batch,
     frozen: &mut Frozen,

@@ -12,7 +12,7 @@ fn copy(to: &mut [u8], from: &[u8])
     to.copy_from_slice(from);
 }
 
-// Copies 64 bytes so many times; the last one.
+// Copies 64 bytes `count` times; the last one.
 fn copy_64(count: u32) -> Option<u64> {
     let from = [1; 64];
     let mut to = [0; 64];
@@ -22,7 +22,7 @@ fn copy_64(count: u32) -> Option<u64> {
     to.last().map(|byte| u64::from(*byte))
 }
 
-// Copies 512 bytes so many times; the last one.
+// Copies 512 bytes `count` times; the last one.
 fn copy_512(count: u32) -> Option<u64> {
     let from = [1; 512];
     let mut to = [0; 512];
@@ -32,7 +32,7 @@ fn copy_512(count: u32) -> Option<u64> {
     to.last().map(|byte| u64::from(*byte))
 }
 
-// Copies a packet of this size so many times; the last byte.
+// Copies a packet of this size `count` times; the last byte.
 pub(crate) fn copy_packets(size: PacketSize, count: u32) -> Option<u64> {
     match size {
         PacketSize::Full64 => copy_64(count),

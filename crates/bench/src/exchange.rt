@@ -31,7 +31,7 @@ fn wrapper(direction: u8, announced: u32, command: &[u8; 10]) -> [u8; 31] {
     bytes
 }
 
-// The wrapper of a READ or a WRITE (10) of so many blocks.
+// The wrapper of a READ or a WRITE (10) of `count` blocks.
 fn transfer_wrapper(code: u8, flags: u8, address: u8, count: u8) -> [u8; 31] {
     let direction = if code == READ { IN } else { OUT };
     let announced = 512 * u32::from(count);
@@ -58,7 +58,7 @@ fn is_opened(disk: &mut Disk<SimMedium>, wrapper: &[u8; 31]) -> bool {
     is_taken(disk, wrapper)
 }
 
-// A token to Bulk-In, which wants so many bytes; the last one of them.
+// A token to Bulk-In, which wants `size` bytes; the last one of them.
 #[inline(never)]
 fn last_byte(disk: &mut Disk<SimMedium>, size: usize) -> Option<u8> {
     match disk.bulk_in() {
@@ -89,7 +89,7 @@ pub(crate) fn request_sense(disk: &mut Disk<SimMedium>) -> bool {
     is_opened(disk, &wrapper(IN, 18, &command)) && last_byte(disk, 18).is_some() && has_passed(disk)
 }
 
-// A WRITE (10) of so many blocks, all alike. So are their bytes: each packet is the start of a
+// A WRITE (10) of `count` blocks, all alike. So are their bytes: each packet is the start of a
 // block.
 pub(crate) fn write(
     disk: &mut Disk<SimMedium>,
@@ -111,7 +111,7 @@ pub(crate) fn write(
     has_passed(disk)
 }
 
-// A READ (10) of so many blocks. Each packet ends in this byte.
+// A READ (10) of `count` blocks. Each packet ends in this byte.
 pub(crate) fn read(disk: &mut Disk<SimMedium>, address: u8, count: u8, end: u8) -> bool {
     let size = disk.packet_size() as usize;
     if !is_opened(disk, &transfer_wrapper(READ, 0, address, count)) {

@@ -67,7 +67,7 @@ impl Setting {
     }
 }
 
-// A medium of so many sectors of zeros.
+// A medium of `sectors` sectors of zeros.
 fn blank(alloc: Global, sectors: usize) -> Option<SimMedium>
     requires { sectors ≤ 65_000 }
 {

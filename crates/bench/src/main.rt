@@ -1,6 +1,6 @@
 //! The program `bench`: plays exchanges on a disk over a medium in memory, so that their
 //! instructions can be counted. `bench FORMAT SLOTS PACKET COUNT WHAT` plays what the word names
-//! COUNT times, on a medium of this format with so many log slots, by packets of PACKET bytes. With
+//! COUNT times, on a medium of this format with SLOTS log slots, by packets of PACKET bytes. With
 //! `each` it plays all that is in `EACH`, one behind the other, and prints the sum of the numbers.
 #![tactic(auto)]
 
@@ -46,7 +46,7 @@ fn played(alloc: Global, on: Setting, what: &str, count: u32) -> Option<u64> {
     play(alloc, on, task_of(what)?, count)
 }
 
-// Plays each task that holds no memory at the end so many times, and gives the sum of the numbers.
+// Plays each task that holds no memory at the end `count` times, and gives the sum of the numbers.
 fn played_each(alloc: Global, on: Setting, count: u32) -> Option<u64> {
     let mut sum: u64 = 0;
     for (_, task) in &EACH {

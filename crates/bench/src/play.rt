@@ -1,4 +1,4 @@
-// Plays exchanges so many times.
+// Plays exchanges, each a given number of times.
 use crate::exchange::{BLOCK, read, synchronize, test_unit_ready, write};
 use crate::fixture::{Setting, formatted, started};
 use crate::kind::Kind;
@@ -74,7 +74,7 @@ pub(crate) fn fresh(alloc: Global, setting: Setting) -> Option<Disk<SimMedium>> 
     started(alloc, formatted(alloc, setting)?, setting.packet())
 }
 
-// Plays it so many times on one disk, and tells whether all went well.
+// Plays it `count` times on one disk, and tells whether all went well.
 fn repeat(disk: &mut Disk<SimMedium>, kind: Kind, given: &Given, count: u32) -> bool {
     for _ in 0..count {
         if !play_once(disk, kind, given) {
@@ -93,7 +93,7 @@ fn flushes_if(all_well: bool, disk: &Disk<SimMedium>) -> Option<u64> {
     }
 }
 
-// Plays it so many times on a disk, whose active batch is filled first where that is asked for. The
+// Plays it `count` times on a disk, whose active batch is filled first where that is asked for. The
 // answer is the number of flushes so far.
 pub(crate) fn play_often(
     disk: &mut Disk<SimMedium>,
@@ -118,7 +118,7 @@ fn settle(disk: &mut Disk<SimMedium>) -> bool {
     false
 }
 
-// Writes two ranges of blocks in turn so many times on one disk, and then has all of it written out
+// Writes two ranges of blocks in turn `count` times on one disk, and then has all of it written out
 // and brought home. The answer is the number of flushes.
 pub(crate) fn write_long(disk: &mut Disk<SimMedium>, setting: Setting, count: u32) -> Option<u64> {
     let given = Given::new(setting.limit(), Order::Ascending);
@@ -144,7 +144,7 @@ fn restart_once(
     }
 }
 
-// Plays it so many times, each time on a disk that was just started, on one medium; with `Each` at
+// Plays it `count` times, each time on a disk that was just started, on one medium; with `Each` at
 // the addresses in this order. The answer is the number of flushes so far.
 pub(crate) fn restart(
     alloc: Global,

@@ -87,7 +87,7 @@ fn task_in(table: &[(&str, Task)], word: &str) -> Option<Task> {
     None
 }
 
-// Plays a task so many times, and gives a number that it came to; `None` where something did not go
+// Plays a task `count` times, and gives a number that it came to; `None` where something did not go
 // well.
 pub(crate) fn play(alloc: Global, on: Setting, task: Task, count: u32) -> Option<u64> {
     match task {

@@ -51,7 +51,7 @@ fn is_direction(flags: u8) -> bool
     matches!(flags, 0 | DIRECTION_IN)
 }
 
-// Whether a command block may have so many bytes.
+// Whether a command block may have `length` bytes.
 fn is_block_length(length: u8) -> bool
     ensures { IsTrue result ↔ ((0 < length) × (length ≤ 16)) }
 {
