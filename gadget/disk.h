@@ -40,7 +40,7 @@ struct disk {
 /* Opens and locks an image file or a block device, and reads what it is. False: said why. Starts nothing. */
 bool disk_open(struct disk *disk, const char *path);
 
-/* Starts the disk for packets of so many bytes, on what the device holds, and carries out its recovery. Where one is started
+/* Starts the disk for packets of `packet` bytes, on what the device holds, and carries out its recovery. Where one is started
  * already it is stopped first, which is a loss of power: settle it before. False: said why. */
 bool disk_start(struct disk *disk, uint32_t packet);
 
@@ -48,13 +48,13 @@ bool disk_start(struct disk *disk, uint32_t packet);
  * taken. ACK: all. NAK: the host has to wait; call again with the rest. STALL: the endpoint is halted. */
 uint32_t disk_out(struct disk *disk, const uint8_t *bytes, size_t size, size_t *taken);
 
-/* The host waits for so many bytes from Bulk-In: collects packets, and tells how many bytes there are. ACK: the room is full,
+/* The host waits for `size` bytes from Bulk-In: collects packets, and tells how many bytes there are. ACK: the room is full,
  * or a short packet ended the transfer. NAK: nothing more is there now; call again with the rest of the room. STALL: the
  * endpoint is halted behind these bytes. DISK_OVERFLOW: a packet did not fit, and is lost; never so where the room is a
  * multiple of the packet. It makes no call of the device. */
 uint32_t disk_in(struct disk *disk, uint8_t *bytes, size_t size, size_t *got);
 
-/* So many bytes are on their way to the host, and nothing else is to be done. Where READs follow each other, what the next one
+/* `size` bytes are on their way to the host, and nothing else is to be done. Where READs follow each other, what the next one
  * will ask for is shown ahead: as many sectors as the one before this READ had, since hosts read in turns of a long READ and
  * the rest. */
 void disk_look_ahead(struct disk *disk, uint64_t size);

@@ -12,7 +12,7 @@
 #include <sys/resource.h>
 #include <unistd.h>
 
-/* IDLE: after so many milliseconds without an event steps in the background are made, STEPS between two looks at the host.
+/* IDLE: after this many milliseconds without an event steps in the background are made, STEPS between two looks at the host.
  * PRIORITY: as of `nice`. */
 enum { IDLE = 20, STEPS = 8, EVENTS = 4, PRIORITY = -3 };
 

@@ -38,7 +38,7 @@ struct engine {
 /* False: the system refused, errno tells why. */
 bool engine_open(struct engine *engine);
 
-/* Notes which transfers are done, and empties `ready`. Waits for at least so many. */
+/* Notes which transfers are done, and empties `ready`. Waits for at least `least` of them. */
 void engine_collect(struct engine *engine, unsigned least);
 
 /* Opens an endpoint's file. Bulk-In sends. */
@@ -47,7 +47,7 @@ bool queue_open(struct queue *queue, const char *path, bool sends);
 /* The next transfer whose bytes are free, or NULL. */
 struct transfer *queue_free(struct queue *queue);
 
-/* Hands that transfer to the kernel, with so many bytes. False: the endpoint is disabled. */
+/* Hands that transfer to the kernel, with `size` bytes. False: the endpoint is disabled. */
 bool queue_submit(struct engine *engine, struct queue *queue, size_t size);
 
 /* The oldest transfer where it is done, or NULL; and lets it go. */

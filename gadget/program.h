@@ -13,7 +13,7 @@ bool program_begin(const char *name);
 /* A line to standard error. */
 void say(const char *format, ...) __attribute__((format(printf, 1, 2)));
 
-/* Waits as poll does, at most so many milliseconds (-1: for ever). SIGTERM and SIGINT end it. Answers how many are ready. */
+/* Waits as poll does, at most `milliseconds` (-1: for ever). SIGTERM and SIGINT end it. Answers how many are ready. */
 int wait_for(struct pollfd *files, unsigned count, int milliseconds);
 
 /* Whether SIGTERM or SIGINT came. */

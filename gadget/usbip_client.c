@@ -14,7 +14,7 @@ enum { SEND_WAIT = 10000, ONE_TURN = 64 };
 /* Flags of a transfer: fewer bytes than asked for are an error. */
 enum { SHORT_IS_WRONG = 1 };
 
-/* Receives up to so many bytes in all. True: they are all there. False: not yet, or the client is to be ended. */
+/* Receives up to `size` bytes in all. True: they are all there. False: not yet, or the client is to be ended. */
 bool receive(struct client *client, uint8_t *to, size_t size, size_t *have, enum outcome *outcome)
 {
     *outcome = GOES_ON;

@@ -29,7 +29,7 @@ static int put_device(uint8_t *data)
     return DEVICE_SIZE;
 }
 
-/* The configuration for packets of so many bytes, as itself or as the one at the other speed. */
+/* The configuration for packets of `packet` bytes, as itself or as the one at the other speed. */
 static int put_configuration(uint8_t *data, uint8_t type, uint32_t packet)
 {
     uint8_t low = (uint8_t)packet, high = (uint8_t)(packet >> 8);

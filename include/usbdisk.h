@@ -120,14 +120,14 @@ enum {
     USBDISK_FLUSH = 2
 };
 
-/* How many writes and flushes the outbox must have room for: for an image of this format (1 or 2) with so
- * many log slots, as usbdisk_look tells them. A start with less room is refused, and with as much no call
+/* How many writes and flushes the outbox must have room for: for an image of this format (1 or 2) with
+ * `slots` log slots, as usbdisk_look tells them. A start with less room is refused, and with as much no call
  * of the disk or the store is refused for want of it, as long as the outbox was carried out before. 0 where
  * there is no such format or number of slots. Where you do not know them, ask for format 2 and 64. */
 uint64_t usbdisk_room(uint32_t format, uint64_t slots);
 
-/* How many bytes of memory a start takes where it is given so many bytes of the first sectors: for an
- * image of this format, with so many log slots, a window of this span, and an outbox of so much room.
+/* How many bytes of memory a start takes where it is given `near_size` bytes of the first sectors: for
+ * an image of this format, with `slots` log slots, a window of this span, and an outbox of this room.
  * It is the same for every size of the device. 0 where there is no such format or no such number of
  * slots; near_size is not judged. A store without the transport takes less. */
 uint64_t usbdisk_memory(uint64_t near_size, uint32_t format, uint64_t slots, uint32_t span, uint64_t room);
@@ -151,7 +151,7 @@ struct usbdisk_layout {
  * Answers 0; or BAD_SUPER, BAD_VERSION or BAD_SIZE, as a start does, and `*layout` stays. */
 uint32_t usbdisk_look(const uint8_t sector[512], struct usbdisk_layout *layout);
 
-/* Starts a disk on a device of so many sectors: copies the first ones, and recovers the disk from
+/* Starts a disk on a device of `sectors` sectors: copies the first ones, and recovers the disk from
  * whatever a loss of power left. The recovery's own writes are in the outbox then.
  *
  * near: the device's first sectors, as many as usbdisk_near tells, or as the device has where these
@@ -248,7 +248,7 @@ struct usbdisk_image {
 
 #define USBDISK_IMAGE_NONE { 0 }
 
-/* Makes an image on a device of so many sectors: so many blocks of zeros, 1 to 2^31, and so many log slots,
+/* Makes an image on a device of `sectors` sectors: `blocks` blocks of zeros, 1 to 2^31, and `slots` log slots,
  * 1 to 64. Format 1 takes 2 + 50 * slots + blocks sectors, format 2 takes 2 + 249 * slots + blocks; what lies
  * behind them is spared. No sector of the device is read.
  *
@@ -265,8 +265,8 @@ struct usbdisk_image {
 uint32_t usbdisk_format(struct usbdisk_image *image, const uint8_t *near, size_t near_size, uint64_t sectors,
                         const struct usbdisk_device *device, uint32_t format, uint64_t blocks, uint64_t slots);
 
-/* Makes an image on a device of so many sectors, around so many blocks, 1 to 2^31, that are at home
- * already, with so many log slots, 1 to 64: super, head and log alone. Home begins at sector
+/* Makes an image on a device of `sectors` sectors, around `blocks` blocks, 1 to 2^31, that are at home
+ * already, with `slots` log slots, 1 to 64: super, head and log alone. Home begins at sector
  * 2 + 50 * slots in format 1, at 2 + 249 * slots in format 2. The new image stands for what home holds;
  * no sector from there on is written, and none is read. What waited in an old log is gone.
  *
@@ -391,7 +391,7 @@ uint32_t usbdisk_store_refused(struct usbdisk_store *store);
 
 /* What the program gives to the library.
  *
- * rattle_alloc: so many bytes, aligned to `alignment`, a power of two up to 16; `ok` is false where
+ * rattle_alloc: `size` bytes, aligned to `alignment`, a power of two up to 16; `ok` is false where
  * there are none. rattle_dealloc: frees a block. */
 struct rattle_tried {
     bool ok;

@@ -7,7 +7,7 @@
 #include <stdbool.h>
 #include <stdint.h>
 
-/* Opens the device, for so many sectors of 512 bytes. What they hold does not matter. It is called once
+/* Opens the device, for `sectors` sectors of 512 bytes. What they hold does not matter. It is called once
  * for each of the two formats, and there is no close: at the second call let go of what the first took. */
 bool device_open(uint64_t sectors);
 

@@ -27,7 +27,7 @@ static bool are_spared(uint64_t first)
     return !memcmp(device[first], kept[first], 512 * (SECTORS - first));
 }
 
-/* Makes an image of this format, up to a cut behind so many calls. How many there were. */
+/* Makes an image of this format, up to a cut behind `most` calls. How many there were. */
 static int make(uint32_t format, int most)
 {
     struct usbdisk_image image = USBDISK_IMAGE_NONE;

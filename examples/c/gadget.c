@@ -18,7 +18,7 @@ static const struct usbdisk_identity who = { "EXAMPLE ", "IMAGE FILE      ", "00
 static const struct usbdisk_device name;
 static unsigned sectors_written, writes, flushes;
 
-/* So many sectors of the device, by one read. */
+/* `count` sectors of the device, by one read. */
 static bool read_sectors(FILE *device, uint64_t first, uint8_t *bytes, size_t count)
 {
     return !fseek(device, (long)(first * 512), SEEK_SET) && fread(bytes, 512, count, device) == count;

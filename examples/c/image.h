@@ -5,7 +5,7 @@
 #include <stddef.h>
 #include <stdint.h>
 
-/* Makes one of this format in so many bytes, and answers as usbdisk_format. */
+/* Makes one of this format in `size` bytes, and answers as usbdisk_format. */
 uint32_t format_memory(uint8_t *medium, size_t size, uint32_t format, uint64_t blocks, uint64_t slots);
 
 #endif

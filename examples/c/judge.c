@@ -1,7 +1,7 @@
 /* Judges a device (device.h): lives of a disk over it, each with random WRITEs, READs and SYNCHRONIZE
  * CACHEs until the power is cut at a random call of the device, in every other life at the next flush
  * behind it, when all that it is to keep is written. The next start must find the blocks after the
- * first so many of the accepted writes, in order, none in part: all that were promised, and past the
+ * first n of the accepted writes, for some n, in order, none in part: all that were promised, and past the
  * accepted ones at most the one in progress, whole.
  *
  * judge [LIVES [FIRST SEED]]
@@ -203,7 +203,7 @@ static bool read_block(struct usbdisk *disk, unsigned address, uint32_t *number)
     return status_is_good(disk);
 }
 
-/* The blocks after the first so many writes. */
+/* The blocks after the first `count` writes. */
 static void blocks_after(size_t count, uint32_t blocks[BLOCKS])
 {
     memcpy(blocks, book.opening, sizeof book.opening);

@@ -51,7 +51,7 @@ static void write_sector(uint64_t sector, const uint8_t *bytes)
     memcpy(place->bytes, bytes, 512);
 }
 
-/* Carries out so many calls of a handle at most, and tells how many there were. */
+/* Carries out at most `most` calls of a handle, and tells how many there were. */
 static int carry_out(struct usbdisk_image *image, int most)
 {
     uint8_t bytes[512];

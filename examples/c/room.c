@@ -128,7 +128,7 @@ static uint64_t most_of_start(uint32_t format, uint64_t room, uint32_t *answer)
     return calls;
 }
 
-/* A start with room for so many calls, for an image that wants so many: whether it is refused by name
+/* A start with room for `room` calls, for an image that wants `wants`: whether it is refused by name
  * where that is too little, with nothing changed and no memory taken, and is good where it is not. */
 static bool is_judged(uint64_t room, uint64_t wants)
 {

@@ -8,7 +8,7 @@
 /* How many blocks there are, and of how many bytes each. */
 void tud_msc_capacity_cb(uint8_t lun, uint32_t *block_count, uint16_t *block_size);
 
-/* Reads or writes so many bytes from so many bytes behind the start of a block on. They answer how many
+/* Reads or writes `bufsize` bytes from `offset` bytes behind the start of a block on. They answer how many
  * bytes were moved, or a negative number where they cannot be. A long READ or WRITE comes in parts, each
  * as long as the stack's buffer: with one of whole blocks the offset is 0. */
 int32_t tud_msc_read10_cb(uint8_t lun, uint32_t lba, uint32_t offset, void *buffer, uint32_t bufsize);

@@ -335,7 +335,7 @@ def it_refuses_by_name():
 
 
 def limit_writes(size):
-    """Behind so many bytes of a file no write is taken."""
+    """Behind `size` bytes of a file no write is taken."""
     signal.signal(signal.SIGXFSZ, signal.SIG_IGN)
     resource.setrlimit(resource.RLIMIT_FSIZE, (size, resource.RLIM_INFINITY))
 

@@ -68,7 +68,8 @@ pub struct UsbDisk {
     run: Vec<u8>,
 }
 
-/// Makes an image of format 1 or 2 with so many blocks and log slots in memory that stands for a device.
+/// Makes an image of format 1 or 2 with `blocks` blocks and `slots` log slots in memory that stands
+/// for a device.
 pub fn format(bytes: &mut [u8], format: u32, blocks: u64, slots: u64) -> Result<(), Error> {
     let device = raw::Device { mark: 0 };
     let mut image = raw::UsbDiskImage::none();
@@ -90,7 +91,7 @@ pub fn format(bytes: &mut [u8], format: u32, blocks: u64, slots: u64) -> Result<
     check(unsafe { raw::usbdisk_end(&mut image) })
 }
 
-/// How much room an outbox needs for an image of this format with so many slots.
+/// How much room an outbox needs for an image of this format with `slots` slots.
 pub fn room(format: u32, slots: u64) -> usize {
     // SAFETY: the call takes numbers alone.
     unsafe { raw::usbdisk_room(format, slots) as usize }
