@@ -10,8 +10,8 @@
 
 enum { PAGE_BLOCKS = 8, MIB_BLOCKS = 2048 };
 
-/* A workload: WRITEs of so many blocks (0: as many as a transfer has), one behind the other or at random pages, forced or
- * not, with a SYNCHRONIZE CACHE behind each so many blocks (0: none). */
+/* A workload: WRITEs of `blocks` blocks (0: as many as a transfer has), one behind the other or at random pages, forced or
+ * not, with a SYNCHRONIZE CACHE behind each `sync_blocks` blocks (0: none). */
 struct workload {
     const char *what;
     uint32_t blocks;
@@ -78,7 +78,7 @@ static uint32_t next_address(const struct workload *work, uint32_t blocks, unsig
     return i * blocks % (BLOCKS - BLOCKS % blocks);
 }
 
-/* So many WRITEs, carried out by the disk, or by the floor. */
+/* `writes` WRITEs, carried out by the disk, or by the floor. */
 static void play(struct bench *bench, const struct workload *work, unsigned writes, bool is_floor)
 {
     uint32_t blocks = work->blocks ? work->blocks : bench->host.limit, since = 0;
@@ -98,7 +98,7 @@ static void play(struct bench *bench, const struct workload *work, unsigned writ
     }
 }
 
-/* What a workload came to, over so many host's sectors. */
+/* What a workload came to, over the sectors that the host wrote. */
 static void tell(const struct bench *bench, const struct bench *floor, const struct workload *work)
 {
     const struct device *device = &bench->device;

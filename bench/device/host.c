@@ -36,7 +36,7 @@ static void bulk_in(struct host *host, uint32_t size)
         fail("a command fails");
 }
 
-/* The command block wrapper of a command of 10 bytes, whose data has so many bytes. */
+/* The command block wrapper of a command of 10 bytes, whose data has `length` bytes. */
 static void send_wrapper(struct host *host, const uint8_t block[10], uint32_t length, bool sends)
 {
     uint8_t wrapper[31] = { 'U', 'S', 'B', 'C', 1, 0, 0, 0, length & 255, length >> 8 & 255, length >> 16 & 255, 0,

@@ -1,4 +1,4 @@
-/* Plays something so many times on a disk over the library for C, for valgrind to count: what a maker links costs a packet.
+/* Plays something COUNT times on a disk over the library for C, for valgrind to count: what a maker links costs a packet.
  *
  * packets FORMAT SLOTS read|write|forced COUNT window|whole: a transfer of the longest READ from home, of a WRITE into the
  * empty batch with an empty outbox, or of a WRITE with FUA whose record and retiring are taken out, each time. The disk has
