@@ -4,7 +4,7 @@ use Rattle.std.proofs.Common.{append_assoc, append-nil}
 use Rattle.std.proofs.lemmas.Bool.{cases_Bool, true≢false}
 use Rattle.std.specs.Io.KnownBytes.{Appends}
 use Rattle.std.proofs.KnownBytes.{Appends-nil, Appends-trans}
-use Rattle.medium.specs.Sim.{Sim, IsCut, IsFailing, ComesAfter}
+use Rattle.medium.specs.Sim.{Sim, IsFailing, ComesAfter}
 use Rattle.bot_machine.specs.StartFaults.{StartFault}
 use Rattle.spec.specs.declared.event.Event.{Event}
 use Rattle.spec.specs.declared.event.Answer.{Answer}

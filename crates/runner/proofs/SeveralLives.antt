@@ -1,6 +1,6 @@
 -- Lives of a disk over a medium in memory, from the first on.
 use Rattle.std.proofs.Common.{◌≡◌, ℕ, ◌+◌, ◌≤◌, Bool, false, List, [], ◌∷◌, ◌++◌, None, Option, refl, subst, ◌∙◌, arith}
-use Rattle.medium.specs.Medium.{Image, CutLeaves}
+use Rattle.medium.specs.Medium.{CutLeaves}
 use Rattle.medium.specs.Sim.{Sim, state_of}
 use Rattle.bot_machine.specs.StartFaults.{StartFault}
 use Rattle.bot_machine.specs.StartFaults as start

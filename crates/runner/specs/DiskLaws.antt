@@ -1,6 +1,6 @@
 -- A disk plays events.
-use Rattle.std.specs.Prelude.{◌≡◌, ℕ, suc, Bool, List, [], ◌∷◌, ◌++◌, length}
-use Rattle.std.proofs.Common.{refl, sym, ap, ◌∙◌, subst}
+use Rattle.std.specs.Prelude.{◌≡◌, suc, Bool, List, [], ◌∷◌, ◌++◌, length}
+use Rattle.std.proofs.Common.{refl, ap, ◌∙◌, subst}
 use Rattle.medium.specs.Medium.{State}
 use Rattle.bot_machine.specs.Disk.{DiskValue, StepsThrough}
 use Rattle.spec.specs.declared.event.Event.{Event}

@@ -4,6 +4,8 @@ ghost use Rattle.std.specs.List.{position};
 ghost use Rattle.std.specs.Iterator.{YieldsFirstBy, item_count};
 ghost use Rattle.runner.specs.Lines.{parts_of, lines_of, words_of, parts_in};
 
+use memchr::memchr;
+
 /// The parts of a text, without the separators between them. What stands after the last separator
 /// is a part too, perhaps an empty one.
 #[derive(Drop)]
@@ -66,5 +68,5 @@ fn first_part(bytes: &[u8], separator: u8) -> (&[u8], Option<&[u8]>)
 pub(crate) fn separator_at(bytes: &[u8], separator: u8) -> Option<usize>
     ensures { result ≡ position (λ byte. byte == separator) bytes.now }
 {
-    bytes.iter().position(|byte| *byte == separator)
+    memchr(separator, bytes)
 }

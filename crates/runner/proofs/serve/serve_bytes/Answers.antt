@@ -1,4 +1,4 @@
-use Rattle.std.proofs.Common.{◌≡◌, ◌==◌, ◌++◌, ◌∷◌, ◌∙◌, ◌≤◌, ◌+◌, ◌-◌, ℕ, suc, List, take, drop, length, append-nil, sym, ap, subst, refl}
+use Rattle.std.proofs.Common.{◌≡◌, ◌++◌, ◌∷◌, ◌∙◌, ◌≤◌, ◌+◌, ◌-◌, ℕ, suc, List, take, drop, length, append-nil, sym, ap, subst, refl}
 use Rattle.std.proofs.Common.{arith, length-drop}
 use Rattle.std.proofs.lemmas.List.{take_rest}
 use Rattle.spec.specs.Packets.{bytes_of}
