@@ -1,8 +1,6 @@
 -- A medium with an outbox, and the device that carries out what comes out of it.
-use Rattle.std.specs.Prelude.{◌+◌, ◌≡◌, ℕ, ◌/◌, ◌%◌, ◌<◌, ◌≤◌, true, List, [], ◌∷◌, ◌++◌}
-use Rattle.std.specs.Prelude.{length}
-use Rattle.std.specs.Prelude.{take}
-use Rattle.std.specs.Prelude.{Option, Some, None, if◌then◌else◌}
+use Rattle.std.specs.Prelude.{◌≡◌, ℕ, ◌/◌, ◌%◌, ◌<◌, ◌≤◌, true, List, [], ◌∷◌, ◌++◌}
+use Rattle.std.specs.Prelude.{length, take, Option, Some, None, if◌then◌else◌}
 use Rattle.medium.specs.Medium.{State, Image, CutLeaves}
 use Rattle.medium.specs.Tally.{of_kind, of_all}
 use Rattle.mirror.specs.Device.{Device, durable, after}
@@ -79,13 +77,7 @@ pub record ComesAfter (old new : OutboxMedium) : Type 0 where
   pub since : List (Option DeviceCall)
   pub asked : new.story.asked ≡ old.story.asked ++ since
   pub outbox : new.outbox ≡ old.outbox ++ given since
-  pub opening_stays : new.story.opening ≡ old.story.opening
   pub taken_stays : new.story.taken ≡ old.story.taken
-  pub room_stays : new.room ≡ old.room
-  -- no call is refused as long as what waited and these calls have room together
-  pub refuses : of_all old.story.refused < of_all new.story.refused
-      → new.room < length old.outbox + length since
-  pub failures_stay : of_all old.story.refused ≤ of_all new.story.refused
 
 -- What a loss of power may leave of a device that has carried out this many of the calls sent.
 abbrev pub DeviceLeaves : OutboxMedium → ℕ → Image → Type 0

@@ -1,5 +1,5 @@
 use Rattle.std.proofs.Common.{ℕ, ◌≡◌, List, ◌++◌, length, drop, inl, inr, refl, sym, ◌∙◌, ap}
-use Rattle.std.proofs.Common.{subst, arith}
+use Rattle.std.proofs.Common.{subst, arith, rules}
 use Rattle.std.specs.List.{list_all}
 use Rattle.std.proofs.lemmas.Bool.{cases_lt}
 use Rattle.std.proofs.lemmas.List.{drop_at}
@@ -8,22 +8,8 @@ use Rattle.mirror.proofs.Devices.{covers}
 use Rattle.window.specs.Window.{Window, mirror_of, is_in_sight, kept_out, ComesAfter, CoversDevice, IsServed}
 use Rattle.window.proofs.window.WindowMedium.waiting.Goals as goal
 
--- what a device is covered by does not depend on what was refused
 covered : (old new : Window) → mirror.IsWellFormed (mirror_of old) → ComesAfter old new → CoversDevice old new
-covered old new kept follows count image le left =
-    let part = covers (mirror_of old) (record (mirror_of new) {
-      story = record new.seen.told { refused = old.seen.told.refused };
-    }) kept.all_sent (record {
-      since = follows.since;
-      asked = follows.asked;
-      outbox = follows.outbox;
-      opening_stays = follows.opening_stays;
-      taken_stays = follows.taken_stays;
-      room_stays = follows.room_stays;
-      refuses = λ more. absurd (omega (arith, more));
-      failures_stay = omega arith;
-    }) count image le left in
-    record { at = part.at; later = part.later; past = part.past; cut = part.cut }
+covered old new kept follows = covers (mirror_of old) (mirror_of new) kept.all_sent (search rules)
 
 pub returns-clause-device : goal.returns-clause-device
 returns-clause-device c = subst (λ (w : Window). (new : Window) → ComesAfter w new → CoversDevice w new) c.self.view_is
