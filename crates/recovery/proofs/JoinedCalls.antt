@@ -1,5 +1,5 @@
 -- Calls, and then others: what they are together.
-use Rattle.std.proofs.Common.{◌≡◌, inl, inr, ⊎_elim, ℕ, ◌+◌, ◌≤◌, ◌∙◌, Result, Ok, refl, arith, rules}
+use Rattle.std.proofs.Common.{◌≡◌, inl, inr, ⊎_elim, ℕ, ◌+◌, ◌*◌, ◌<◌, ◌≤◌, ◌∙◌, Result, Ok, refl, arith, rules, mul-le-mul_left}
 use Rattle.std.specs.Prelude.{OnOk, IfErr}
 use Rattle.medium.specs.Medium.{State, Image, CutLeaves, LooksOnly, IsSound}
 use Rattle.medium.specs.declared.fault.MediumFault.{MediumFault}
@@ -73,3 +73,7 @@ follows_on through wider first second fit = record {
   sent = omega (arith, first.sent, second.sent, fit);
   looks = looks_joined _ _ _ _ first.looks (looks_wider _ _ _ _ wider second.looks);
 }
+
+-- the calls for a few and for one more
+pub each_once_more : (each few many : ℕ) → few < many → each * few + each ≤ each * many
+each_once_more each few many less = omega (arith, mul-le-mul_left {m = few + 1} {n = many} each (omega arith))

@@ -1,12 +1,13 @@
 -- What calls of a medium do and cost, and why they are refused.
-use Rattle.std.specs.Prelude.{◌≡◌, ◌⊎◌, ℕ, ◌+◌, ◌≤◌, Result, OnOk, IfErr}
+use Rattle.std.specs.Prelude.{◌≡◌, ℕ, ◌+◌, ◌≤◌, Result, OnOk, IfErr}
 use Rattle.medium.specs.Medium.{State, Image, CutLeaves}
 use Rattle.medium.specs.Moments.{LeavesOnly, SparesFrom, IsQuiet}
 use Rattle.medium.specs.Sent.{SendsUpTo}
 use Rattle.medium.specs.declared.fault.MediumFault.{MediumFault}
 pub use Rattle.journal.specs.Reads.{ReadsPass, ReadsAllPass}
 use Rattle.recovery.specs.Causes.{IsRefusedCall, MakesReadsAlone}
-use Rattle.recovery.specs.Copies.{freed_at, cleared_at, HasNewHead}
+use Rattle.recovery.specs.Copies.{freed_at, cleared_at}
+use Rattle.recovery.specs.Unread.{LooksNowhere}
 
 -- The medium comes after what it was, by calls alone, of which so many at most are writes and
 -- flushes. Of what they read this holds.
@@ -67,13 +68,9 @@ abbrev pub ClearsAllPass : {X : Type 0} → (ℕ → Type 0) → ℕ → State �
 ClearsAllPass places count old new result =
     WritesAllPass places (CutLeaves (cleared_at places old.may_leave)) count old new result
 
--- Every write before is made durable, and the head gets this stamp: three calls, or fewer where the
--- medium refused one. A cut leaves what it could leave before, or the contents with the new head.
-pub record MovesHead {X : Type 0} (stamp : ℕ) (old new : State) (result : Result X MediumFault)
-    : Type 0 where
-  pub moments : LeavesOnly
-      (λ image. CutLeaves old.may_leave image ⊎ HasNewHead stamp old.content image) old new
-  pub spares : SparesFrom 2 old new
-  pub calls : new.calls ≤ old.calls + 3
-  pub exact : OnOk result (new.calls ≡ old.calls + 3)
-  pub cause : IfErr result (IsRefusedCall old new)
+-- At each moment of some calls a cut leaves an image that has P. They spare the sectors from this
+-- one on, and read nothing.
+pub record Leaves (P : Image → Type 0) (end : ℕ) (old new : State) : Type 0 where
+  pub moments : LeavesOnly P old new
+  pub spares : SparesFrom end old new
+  pub looked_stays : LooksNowhere old new

@@ -29,13 +29,17 @@ pub record CountsWhole (shape : Shape) (head : ℕ) (old new : State) (count : �
   pub exact : AreTries shape old.content head (min (count + 1) shape.slots) old.calls new.calls
   pub is : IsCount shape old.content head count
 
+-- the record of this stamp is whole, and has so many blocks
+abbrev pub HasCount : Shape → Image → ℕ → ℕ → Type 0
+HasCount shape image stamp count =
+    (entries : List Entry) × IsWhole shape image stamp entries × (count ≡ length entries)
+
 -- By as many calls as show it, the record of this stamp has so many blocks, or it is not whole.
 pub record CountsBlocks (shape : Shape) (stamp : ℕ) (old new : State) (found : Option ℕ)
     : Type 0 where
   pub exact : IsTryOf shape.format shape old.content stamp old.calls new.calls
   pub counted : MatchOption found (¬ HasWhole shape old.content stamp)
-      (λ count. (entries : List Entry) × IsWhole shape old.content stamp entries
-      × (count ≡ length entries))
+      (λ count. HasCount shape old.content stamp count)
 
 -- A survey wants at least this many slots in a log of format 1, and found this. It read the super,
 -- the head and, for each stamp that it tried, what shows whether its record is whole.

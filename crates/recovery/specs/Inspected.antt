@@ -10,11 +10,10 @@ use Rattle.journal.specs.Places.{Shape, sectors_of, slot_sectors_of}
 use Rattle.journal.specs.Sectors.{IsSuper}
 use Rattle.journal.specs.SuperFaults.{IsSuperFault}
 use Rattle.journal.specs.Values.{shape_of}
-use Rattle.journal.specs.Record.{Entry}
-use Rattle.journal.specs.Formats.{IsWhole}
 use Rattle.journal.specs.Standing.{IsCount, StandsFor, Stands}
 use Rattle.journal.specs.ImageFaults as image
 use Rattle.recovery.specs.Causes.{IsRefusedCall, MakesReadsAlone, IsDeviceFault}
+use Rattle.recovery.specs.Found.{HasCount}
 use Rattle.recovery.specs.Looks.{LooksAtLog}
 use Rattle.recovery.specs.declared.inspection.Inspection.{Inspection}
 use Rattle.recovery.specs.declared.start_fault.StartFault.{StartFault}
@@ -26,8 +25,7 @@ use Rattle.recovery.specs.declared.start_fault.StartFault.TheVariants.{BadSize, 
 -- many as there are slots; and each has so many blocks.
 pub record AreCounts (shape : Shape) (image : Image) (head : ℕ) (counts : List ℕ) : Type 0 where
   pub is : IsCount shape image head (length counts)
-  pub each : (j : ℕ) → j < length counts → (entries : List Entry)
-      × IsWhole shape image (head + j) entries × (slice_index counts j ≡ length entries)
+  pub each : (j : ℕ) → j < length counts → HasCount shape image (head + j) (slice_index counts j)
 
 -- The answer is what the contents stand for: their sizes, their head, and of each record that waits
 -- there, in order of the stamps, how many blocks it has.

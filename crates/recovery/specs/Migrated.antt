@@ -44,15 +44,10 @@ abbrev pub IsFreshInEither : Shape → Array → ℕ → Image → Type 0
 IsFreshInEither shape array next image =
     IsFresh shape array next image ⊎ IsFresh (migrated shape) array next image
 
--- What the making of format 2 leaves at each moment of it, good or refused.
-pub record MakingLeaves (shape : Shape) (next : ℕ) (old new : State) : Type 0 where
-  pub cuts : (array : Array) → IsFresh shape array next old.content
-      → LeavesOnly (IsFreshInEither shape array next) old new
-  pub spares : SparesFrom (first_home shape) old new
-  -- a write for each sector of the log, a flush, the head, a flush, the super and a flush
-  pub sends : SendsUpTo (slot_sectors_of One * shape.slots + 5) old new
-  -- nothing is read
-  pub looked_stays : new.looked ≡ old.looked
+-- so, where no record waited, for the array that stood there
+abbrev pub StaysFresh : Shape → ℕ → Image → Image → Type 0
+StaysFresh shape next before image = (array : Array) → IsFresh shape array next before
+    → IsFreshInEither shape array next image
 
 -- The answer is what contents of format 1 stood for, with a stamp left for the next record, and the
 -- sizes of format 2. They have become format 2, with the head at that stamp and the array at home,

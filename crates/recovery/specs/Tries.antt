@@ -30,26 +30,27 @@ module _ (image : Image) (at stamp : ℕ) where
       ⊎ ((count : ℕ) × IsCommitted image at stamp count × (behind : ℕ)
       × IsReadBehind blocks count behind × (reads ≡ 1 + behind))
 
--- So many sectors of an image of format 2, and no other number of them, are read to tell whether
--- the record of this stamp is whole.
-pub record IsTryTwo (shape : Shape) (image : Image) (stamp reads : ℕ) : Type 0 where
-  pub is : IsReadInSlot image (slot_at format2 shape stamp) stamp shape.blocks reads
-  pub only : (other : ℕ) → IsReadInSlot image (slot_at format2 shape stamp) stamp shape.blocks other
-      → other ≡ reads
+  -- So many sectors, and no other number of them, are read to tell whether the record is whole.
+  pub record IsTryTwo (blocks reads : ℕ) : Type 0 where
+    pub is : IsReadInSlot blocks reads
+    pub only : (other : ℕ) → IsReadInSlot blocks other → other ≡ reads
 
 -- So many stamps are tried from the first on, by so many reads for each.
 pub record AreTriesTwo (shape : Shape) (image : Image) (first tries before after : ℕ)
     : Type 0 where
   pub reads : List ℕ
   pub many : length reads ≡ tries
-  pub each : (j : ℕ) → j < tries → IsTryTwo shape image (first + j) (slice_index reads j)
+  pub each : (j : ℕ) → j < tries
+      → IsTryTwo image (slot_at format2 shape (first + j)) (first + j) shape.blocks
+      (slice_index reads j)
   pub after_is : after ≡ before + sum reads
 
 -- By the try of a stamp one count of calls becomes another: by two reads in format 1.
 abbrev pub IsTryOf : LogFormat → Shape → Image → ℕ → ℕ → ℕ → Type 0
 IsTryOf One shape image stamp before after = after ≡ before + 2
 IsTryOf Two shape image stamp before after =
-    (reads : ℕ) × IsTryTwo shape image stamp reads × (after ≡ before + reads)
+    (reads : ℕ) × IsTryTwo image (slot_at format2 shape stamp) stamp shape.blocks reads
+    × (after ≡ before + reads)
 
 -- so by tries of so many stamps from the first on: by two reads each in format 1
 abbrev pub AreTriesOf : LogFormat → Shape → Image → ℕ → ℕ → ℕ → ℕ → Type 0

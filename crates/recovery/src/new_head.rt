@@ -2,6 +2,7 @@
 ghost use Rattle.std.specs.Prelude.{◌<◌, ◌≤◌, ◌^◌};
 ghost use Rattle.recovery.specs.Steps.{MovesHeadTo};
 
+use crate::sectors::write_through;
 use journal::Head;
 use medium::{Medium, MediumFault};
 
@@ -13,6 +14,5 @@ pub(crate) fn move_head<M: Medium>(m: &mut M, stamp: u64) -> Result<(), MediumFa
     ensures { MovesHeadTo M.state M.follows stamp m.old m.new result }
 {
     m.flush()?;
-    m.write(1, &Head::new(stamp).encode())?;
-    m.flush()
+    write_through(m, 1, &Head::new(stamp).encode())
 }

@@ -1,27 +1,50 @@
-use Rattle.std.proofs.Common.{◌≡◌, ◌∙◌, ◌++◌, List, [], ℕ, length, drop, get_or, ap, subst, arith, rules}
-use Rattle.std.specs.Prelude.{Some}
+use Rattle.std.proofs.Common.{◌≡◌, ◌∙◌, ◌+◌, ◌*◌, ◌++◌, ◌≤◌, List, [], ℕ, length, drop, get_or, refl, ap, subst, arith, rules}
+use Rattle.std.proofs.Common.{Result, Ok, Err}
+use Rattle.std.specs.Prelude.{Some, OnOk}
+use Rattle.medium.specs.Medium.{Image}
 use Rattle.medium.proofs.SectorsRead.{looks_joined}
 use Rattle.medium.proofs.CallsSent.{none_sent}
+use Rattle.journal.specs.declared.log_format.LogFormat.{LogFormat}
+use Rattle.journal.specs.declared.record.Record.{Record}
+use Rattle.journal.specs.Places.{Shape, limit_of}
+use Rattle.journal.specs.Record.{numbers_of}
 use Rattle.journal.specs.Values.{shape_of}
-use Rattle.journal.specs.Reading.{data_at, FindsRecord}
-use Rattle.recovery.specs.Copies.{AreBlocks, IsHomeOf}
+use Rattle.journal.specs.Reading.{record_reads_of, data_at, IsReadFor, FindsRecord}
+use Rattle.journal.proofs.Formats.{most_is}
+use Rattle.recovery.specs.Copies.{AreBlocks, IsHomeOf, calls_of, most_calls_of}
 use Rattle.recovery.proofs.CopiedRecords.{number_of, long_as}
 use Rattle.recovery.proofs.JoinedCalls.{none_copies, all_pass, copies_on}
-use Rattle.recovery.proofs.NamedBlocks.{both_ok, blocks_read, calls_made, most_copied}
 use Rattle.recovery.proofs.copies.copy_record.Given as given
 use Rattle.recovery.proofs.copies.copy_record.Goals as goal
 use Rattle.recovery.proofs.copies.copy_record.Goals.{Then-branch}
+
+-- what follows from two facts at an `Ok`
+both_ok : {T E P Q R : Type 0} (r : Result T E) → (P → Q → R) → OnOk r P → OnOk r Q → OnOk r R
+both_ok (Ok x) f p q = f p q
+both_ok (Err e) f p q = tt
+
+-- as many calls as it takes
+calls_made : (format : LogFormat) (shape : Shape) (image : Image) (stamp : ℕ) (read : Record) (n reads old mid new : ℕ)
+    → IsReadFor format shape image stamp (Some read) reads → length read.numbers.items ≡ n → mid ≡ old + reads
+    → new ≡ mid + 2 * length read.numbers.items → new ≡ old + calls_of format n
+calls_made format shape image stamp read n reads old mid new is long first last = grind arith
+
+-- and at most so many
+most_copied : (format : LogFormat) (n : ℕ) → n ≤ limit_of format → record_reads_of format + 2 * n ≤ most_calls_of format
+most_copied format n few = grind arith
 
 -- what was found of the record
 found : (g : given.Over) (c : Then-branch g) → FindsRecord (shape_of c.args.sizes.now) c.args.stamp (g.M.Medium.state c.args.m.now)
     (g.M.Medium.state c.read_record.new.m) (Some c.read_record.new.to)
 found g c = rw c.if-branch.true at c.in_ok-read_record.ensures.finds
 
+-- the numbers that were read are those of blocks
 blocks : (g : given.Over) (c : Then-branch g) → AreBlocks (shape_of c.args.sizes.now) c.read_record.new.to.numbers.items
 blocks g c =
-    let whole = c.requires.whole in
-    blocks_read (shape_of c.args.sizes.now) (g.M.Medium.state c.args.m.now).content c.args.stamp whole.0 c.read_record.new.to whole.1
-    ((found g c).all whole.0 whole.1)
+    let entries = c.requires.whole.0 in
+    let fit = c.requires.whole.1.fit in
+    rw ((found g c).all entries c.requires.whole.1).numbers_are
+    (search (rules, long_as entries (numbers_of entries) refl, most_is c.args.sizes.now.format, fit.rising, fit.inside))
 
 pub copy_blocks-requires-clause-blocks : goal.copy_blocks-requires-clause-blocks
 copy_blocks-requires-clause-blocks g c = blocks g (goal.at.copy_blocks-requires-clause-blocks g c).Then-branch
@@ -31,15 +54,11 @@ returns-in_err-read_record-clause-copies g c =
     none_copies (g.met.M.Medium.sound c.args.m.now) c.read_record.ensures.passes
     (omega (arith, most_copied c.args.sizes.now.format 0)) (search rules)
 
-pub returns-else-branch-clause-copies : goal.returns-else-branch-clause-copies
-returns-else-branch-clause-copies g c =
-    none_copies (g.met.M.Medium.sound c.args.m.now) c.read_record.ensures.passes
-    (omega (arith, most_copied c.args.sizes.now.format 0)) tt
-
 -- there is a record
-pub returns-else-branch-clause-done : goal.returns-else-branch-clause-done
-returns-else-branch-clause-done g c entries whole =
-    let finds = rw c.if-branch.false at c.in_ok-read_record.ensures.finds in absurd (finds.all entries whole)
+pub returns-else-branch : goal.returns-else-branch
+returns-else-branch g c =
+    let finds = rw c.if-branch.false at c.in_ok-read_record.ensures.finds in
+    absurd (finds.all c.requires.whole.0 c.requires.whole.1)
 
 pub returns-then-branch-clause-copies : goal.returns-then-branch-clause-copies
 returns-then-branch-clause-copies g c =
@@ -56,8 +75,6 @@ pub returns-then-branch-clause-done : goal.returns-then-branch-clause-done
 returns-then-branch-clause-done g c entries all =
     let finds = found g (goal.at.returns-then-branch-clause-done g c).Then-branch in
     let shape = shape_of c.args.sizes.now in
-    let old = g.M.Medium.state c.args.m.now in
-    let new = g.M.Medium.state c.copy_blocks.new.m in
     let ns = c.read_record.new.to.numbers.items in
     let its = finds.all entries all in
     let many : length ns ≡ length entries = long_as entries ns its.numbers_are in
@@ -68,8 +85,8 @@ returns-then-branch-clause-done g c entries all =
           ∙ ap (λ (bytes : List ℕ). get_or fs i [] ++ drop (length (get_or fs i [])) bytes)
           (c.read_record.ensures.passes.quiet.content_stays (data_at shape c.args.stamp i))
           ∙ its.blocks_are i below);
-      exact = calls_made shape.format shape old.content c.args.stamp c.read_record.new.to (length entries) finds.exact.0 _
-          _ _ finds.exact.1 many finds.exact.2 made;
+      exact = calls_made shape.format shape _ c.args.stamp c.read_record.new.to _ finds.exact.0 _ _ _ finds.exact.1 many finds.exact.2
+          made;
     }) c.copy_blocks.ensures.done c.copy_blocks.ensures.copies.exact
 
 pub returns-then-branch-clause-follows : goal.returns-then-branch-clause-follows

@@ -1,8 +1,17 @@
-use Rattle.std.proofs.Common.{◌∙◌, ap, rules}
+use Rattle.std.proofs.Common.{refl, arith, rules, ◌∙◌, ap}
 use Rattle.std.specs.Prelude.{replicate}
-use Rattle.journal.specs.Places.{sectors_of, new_shape}
-use Rattle.recovery.proofs.Zeros.{zeros_from, formatted}
+use Rattle.journal.specs.Places.{Shape, new_shape, sectors_of}
+use Rattle.medium.specs.Medium.{State, Image}
+use Rattle.recovery.specs.Formatted.{IsArrayFrom, IsMade, IsFormatted}
 use Rattle.recovery.proofs.formatting.make.Goals as goal
+
+-- an array of zeros is that of an image that has them up to its end
+zeros_from : (shape : Shape) (before : Image) → IsArrayFrom shape (sectors_of shape) before (λ b. replicate 512 0)
+zeros_from shape before = record { zeros = λ b below inside. refl; kept = λ b below past. absurd (omega (arith, below, past)) }
+
+-- and then it is a formatted one
+formatted : (shape : Shape) (old new : State) → IsMade shape (λ b. replicate 512 0) (sectors_of shape) old new → IsFormatted shape new
+formatted shape old new made = search (rules, made.zeros)
 
 pub returns-in_err-write_image : goal.returns-in_err-write_image
 returns-in_err-write_image g c =
@@ -18,7 +27,7 @@ returns g c =
     let shape = new_shape c.args.format c.args.blocks c.args.slots in
     let from = zeros_from shape (g.M.Medium.state c.args.m.now).content in
     record {
-      ok = formatted shape _ (g.M.Medium.state c.write_image.new.m) (wrote.done (λ b. replicate 512 0) from);
+      ok = formatted shape _ _ (wrote.done (λ b. replicate 512 0) from);
       err = search rules;
       leaves = wrote.leaves (λ b. replicate 512 0) from;
       calls = search rules;

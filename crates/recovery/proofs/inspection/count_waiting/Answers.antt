@@ -1,18 +1,48 @@
-use Rattle.std.proofs.Common.{rules, ◌+◌, ◌<◌, ◌∷◌, ◌∙◌, [], length, refl, ap, arith}
-use Rattle.std.proofs.lemmas.List.{length-append}
-use Rattle.medium.specs.Medium.{LooksOnly}
+use Rattle.std.proofs.Common.{rules, ◌≡◌, ◌+◌, ◌<◌, ◌≤◌, ℕ, inl, inr, List, ◌∷◌, ◌++◌, ◌∙◌, [], length, refl, ap, arith}
+use Rattle.std.specs.Prelude.{slice_index}
+use Rattle.std.proofs.lemmas.Bool.{cases_lt}
+use Rattle.std.proofs.lemmas.List.{length-append, get_or_append_left, get_or_push}
+use Rattle.medium.specs.Medium.{Image, LooksOnly}
 use Rattle.medium.proofs.Moments.{quiet_start}
 use Rattle.medium.proofs.SectorsRead.{no_looks, looks_joined}
+use Rattle.journal.specs.declared.log_format.LogFormat.{LogFormat}
 use Rattle.journal.specs.Formats.{HasWhole}
-use Rattle.journal.specs.Places.{first_home}
+use Rattle.journal.specs.Places.{Shape, first_home}
 use Rattle.journal.specs.Values.{shape_of}
-use Rattle.recovery.proofs.OneTry.{few_tried}
+use Rattle.recovery.specs.Copies.{most_reads_of}
+use Rattle.recovery.specs.Found.{HasCount}
+use Rattle.recovery.specs.Inspected.{AreCounts}
 use Rattle.recovery.proofs.FoundRecords.{quiet_before, quiet_after}
-use Rattle.recovery.proofs.InspectedImage.{HasCount, counts_made, one_counted}
 use Rattle.recovery.proofs.JoinedCalls.{reads_on}
 use Rattle.recovery.proofs.inspection.count_waiting.Given as given
 use Rattle.recovery.proofs.inspection.count_waiting.Goals as goal
 use Rattle.recovery.proofs.inspection.count_waiting.Goals.{After-count_blocks}
+
+-- fewer than a slot has sectors
+few_tried : (format : LogFormat) → most_reads_of format ≤ 250
+few_tried format = grind arith
+
+-- all that were counted
+counts_made : (shape : Shape) (image : Image) (head j : ℕ) (counts : List ℕ) → length counts ≡ j → j ≤ shape.slots
+    → ((k : ℕ) → k < j → HasCount shape image (head + k) (slice_index counts k))
+    → (j < shape.slots → ¬ HasWhole shape image (head + j)) → AreCounts shape image head counts
+counts_made shape image head j counts long few each ends = record {
+  is = record {
+    few = omega (arith, long, few);
+    whole = λ k below. let e = each k (omega (arith, below, long)) in (e.0, e.1);
+    ends = λ less w. ends (omega (arith, less, long)) (rw long at w);
+  };
+  each = λ k below. each k (omega (arith, below, long));
+}
+
+-- one more
+one_counted : (shape : Shape) (image : Image) (head j count : ℕ) (before after : List ℕ) → length before ≡ j
+    → after ≡ before ++ count ∷ [] → ((k : ℕ) → k < j → HasCount shape image (head + k) (slice_index before k))
+    → HasCount shape image (head + j) count → (k : ℕ) → k < j + 1 → HasCount shape image (head + k) (slice_index after k)
+one_counted shape image head j count before after long is each here k below = elim (cases_lt k j) [
+  | inl less ↦ rw (is, get_or_append_left before (count ∷ []) 0 k (omega (arith, less, long))) (each k less)
+  | inr more ↦ let at : k ≡ j = omega (arith, below, more) in rw (at, is, get_or_push before count 0 j long) here
+]
 
 -- the looks so far, and those at one record more
 followed : (g : given.Over) (c : After-count_blocks g) → g.M.Medium.follows c.args.m.now c.count_blocks.new.m

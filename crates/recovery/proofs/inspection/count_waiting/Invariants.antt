@@ -4,7 +4,7 @@ use Rattle.medium.specs.Medium.{LooksOnly}
 use Rattle.journal.specs.Places.{first_home}
 use Rattle.journal.specs.Reads.{ReadsPass}
 use Rattle.journal.specs.Values.{shape_of}
-use Rattle.recovery.proofs.InspectedImage.{HasCount}
+use Rattle.recovery.specs.Found.{HasCount}
 use Rattle.recovery.proofs.inspection.count_waiting.Given as goal
 
 abbrev pub invariant-loop-j : goal.invariant-loop-j

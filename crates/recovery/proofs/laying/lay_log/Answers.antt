@@ -1,10 +1,15 @@
-use Rattle.std.proofs.Common.{ap}
-use Rattle.journal.specs.Places.{first_home, new_shape}
-use Rattle.recovery.specs.Formatted.{LayingLeaves}
-use Rattle.recovery.proofs.Zeros.{home_from}
+use Rattle.std.proofs.Common.{refl, ap, arith}
+use Rattle.medium.specs.Medium.{Image}
+use Rattle.journal.specs.Places.{Shape, first_home, new_shape}
+use Rattle.journal.specs.Record.{home_of}
+use Rattle.recovery.specs.Formatted.{IsArrayFrom, LayingLeaves}
 use Rattle.recovery.proofs.laying.lay_log.Given as given
 use Rattle.recovery.proofs.laying.lay_log.Goals as goal
 use Rattle.recovery.proofs.laying.lay_log.Goals.{After-write_image}
+
+-- what home holds is the array of one that has zeros up to home
+home_from : (shape : Shape) (before : Image) → IsArrayFrom shape (first_home shape) before (home_of shape before)
+home_from shape before = record { zeros = λ b below inside. absurd (omega (arith, inside)); kept = λ b below past. refl }
 
 -- what is left, good or refused
 left : (g : given.Over) (c : After-write_image g) → LayingLeaves (new_shape c.args.format c.args.blocks c.args.slots)

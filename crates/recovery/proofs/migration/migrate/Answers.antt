@@ -16,15 +16,14 @@ use Rattle.recovery.proofs.migration.migrate.Goals.{After-make_two}
 -- format 2 is made, good or refused
 makes : (g : given.Over) (c : After-make_two g) → MigrationLeaves (g.M.Medium.state c.args.m.now) (g.M.Medium.state c.make_two.new.m)
 makes g c =
-    let start = c.in_ok-found.ensures in
-    let making = c.make_two.ensures in
-    migration_leaves _ _ _ start.ok.from start.ok.room (c.migrates.ensures.0 c.if-migrates.true) _ making.leaves.spares start.fresh
-    (g.met.M.Medium.sound c.args.m.now) (g.met.M.Medium.sound c.recover_at_least.new.m)
-    making.leaves.cuts c.recover_at_least.ensures.leaves making.calls.calls making.leaves.sends making.leaves.looked_stays
+    let made = c.make_two.ensures in
+    migration_leaves _ _ _ c.in_ok-found.ensures.ok (c.migrates.ensures.0 c.if-migrates.true) _ made.leaves
+    (g.met.M.Medium.sound c.args.m.now) (g.met.M.Medium.sound c.recover_at_least.new.m) c.in_ok-found.ensures.fresh
+    c.recover_at_least.ensures.leaves made.calls.calls made.sends
 
 pub make_two-requires-clause-can : goal.make_two-requires-clause-can
 make_two-requires-clause-can g c =
-    let start = c.in_ok-found.ensures.ok in can_migrate _ _ _ start.from start.room (c.migrates.ensures.0 c.if-migrates.true)
+    can_migrate _ _ _ c.in_ok-found.ensures.ok (c.migrates.ensures.0 c.if-migrates.true)
 
 pub returns-in_err-found-clause-err : goal.returns-in_err-found-clause-err
 returns-in_err-found-clause-err g c =
@@ -61,16 +60,14 @@ returns-in_ok-make_two-clause-leaves g c = makes g (goal.at.returns-in_ok-make_t
 
 pub returns-in_ok-make_two-clause-ok : goal.returns-in_ok-make_two-clause-ok
 returns-in_ok-make_two-clause-ok g c =
-    let start = c.in_ok-found.ensures.ok in
     let done = c.in_ok-make_two.ensures in
-    migrated_from _ _ _ start.from start.room (c.migrates.ensures.0 c.if-migrates.true) _ c.make_two.ensures.leaves.spares _ done.ok
+    migrated_from _ _ _ c.in_ok-found.ensures.ok (c.migrates.ensures.0 c.if-migrates.true) _ c.make_two.ensures.leaves _ done.ok
     done.calls.exact
 
 pub returns-in_ok-make_two-clause-fresh : goal.returns-in_ok-make_two-clause-fresh
-returns-in_ok-make_two-clause-fresh g c shape array next ours =
-    let start = c.in_ok-found.ensures.ok in
-    migrated_fresh _ _ _ start.from start.room (c.migrates.ensures.0 c.if-migrates.true) _ c.make_two.ensures.leaves.spares _
-    c.in_ok-make_two.ensures.ok shape array next ours
+returns-in_ok-make_two-clause-fresh g c =
+    migrated_fresh _ _ _ c.in_ok-found.ensures.ok (c.migrates.ensures.0 c.if-migrates.true) _ c.make_two.ensures.leaves _
+    c.in_ok-make_two.ensures.ok
 
 pub returns-else-migrates-clause-fresh : goal.returns-else-migrates-clause-fresh
 returns-else-migrates-clause-fresh g c shape array next ours =

@@ -1,7 +1,10 @@
-use Rattle.std.proofs.Common.{ℕ, inr, subst, arith, rules, ◌∙◌}
+use Rattle.std.proofs.Common.{ℕ, inl, inr, ⊎_elim, subst, sym, arith, rules, ◌∙◌, ◌⊎◌}
+use Rattle.medium.specs.Medium.{CutLeaves}
+use Rattle.medium.proofs.Moments.{weaker, joined_same, quiet_call, quiet_leaves}
+use Rattle.medium.proofs.SparedSectors.{spared_silent, spared_joined}
 use Rattle.journal.specs.Sectors.{IsHead}
-use Rattle.medium.proofs.SparedSectors.{spared_silent, spared_write, spared_joined}
-use Rattle.recovery.proofs.HeadMoves.{head_written, head_flushed}
+use Rattle.recovery.specs.Copies.{HasNewHead}
+use Rattle.recovery.proofs.MadeImage.{through_spares}
 use Rattle.recovery.proofs.new_head.move_head.Goals as goal
 
 pub returns-in_err-flush : goal.returns-in_err-flush
@@ -13,38 +16,28 @@ returns-in_err-flush g c =
       first.passes.looked_stays (λ e. cc e),
     )
 
-pub returns-in_err-write : goal.returns-in_err-write
-returns-in_err-write g c =
-    let sound = g.met.M.Medium.sound c.args.m.now in
-    let sound_mid = g.met.M.Medium.sound c.flush.new.self in
-    let first = c.flush.ensures in
-    let second = c.write.ensures in
-    let head = subst (λ (n : ℕ). IsHead n c.encode.result) c.new.ensures c.encode.ensures in
-    search (
-      rules,
-      head_written c.args.stamp _ _ sound first.passes first.sets c.in_ok-flush.ensures.ok sound_mid _ c.encode.result head second.passes
-          second.sets,
-      spared_joined 2 _ _ _ (spared_silent 2 _ _ sound first.passes first.content first.sets)
-          (spared_write 2 _ _ 1 c.encode.result sound_mid (omega arith) second.passes second.sets c.in_err-write.ensures.err),
-      g.met.M.Medium.follows_through,
-      second.passes.looked_stays (λ e. cc e) ∙ first.passes.looked_stays (λ e. cc e),
-    )
-
+-- an image that could be left before, or the contents before with the new head
 pub returns : goal.returns
 returns g c =
+    let old = g.M.Medium.state c.args.m.now in
     let sound = g.met.M.Medium.sound c.args.m.now in
-    let sound_mid = g.met.M.Medium.sound c.flush.new.self in
     let first = c.flush.ensures in
-    let second = c.write.ensures in
-    let third = c.flush-2.ensures in
+    let second = c.write_through.ensures in
     let head = subst (λ (n : ℕ). IsHead n c.encode.result) c.new.ensures c.encode.ensures in
+    let only = c.in_ok-flush.ensures.ok in
+    let quiet = quiet_call _ _ first.passes first.content first.sets in
     search (
       rules,
-      head_flushed c.args.stamp _ _ sound first.passes first.sets c.in_ok-flush.ensures.ok sound_mid _ c.encode.result head second.passes
-          second.sets _ third.passes third.sets,
-      spared_joined 2 _ _ _ (spared_joined 2 _ _ _ (spared_silent 2 _ _ sound first.passes first.content first.sets)
-          (spared_write 2 _ _ 1 c.encode.result sound_mid (omega arith) second.passes second.sets (inr c.in_ok-write.ensures.ok)))
-          (spared_silent 2 _ _ (g.met.M.Medium.sound c.write.new.self) third.passes third.content third.sets),
+      joined_same _ _ _ _ (quiet_leaves _ _ _ sound (λ image cut. inl cut) quiet)
+          (weaker _ (λ image. CutLeaves old.may_leave image ⊎ HasNewHead c.args.stamp old.content image) _ _
+          (λ image either. ⊎_elim (λ cut. inl (λ s. first.sets s (image s) (cut s)))
+          (λ w. inr (record {
+            head = subst (IsHead c.args.stamp) (sym w.2.here) head;
+            elsewhere = λ x not. w.2.elsewhere x not ∙ only x (w.0 x) (w.1 x);
+          })) either) second.writes.moments),
+      spared_joined 2 _ _ _ (spared_silent 2 _ _ sound first.passes first.content first.sets)
+          (through_spares 2 1 c.encode.result _ _ (omega arith) (g.met.M.Medium.sound c.write_through.new.m) second.writes.elsewhere
+          second.writes.moments),
       g.met.M.Medium.follows_through,
-      third.passes.looked_stays (λ e. cc e) ∙ (second.passes.looked_stays (λ e. cc e) ∙ first.passes.looked_stays (λ e. cc e)),
+      second.follows.looks.looked_stays ∙ first.passes.looked_stays (λ e. cc e),
     )

@@ -1,38 +1,42 @@
-use Rattle.std.proofs.Common.{◌+◌, rules, arith}
+use Rattle.std.proofs.Common.{inl, inr, ⊎_elim, ◌+◌, rules, arith}
 use Rattle.std.proofs.lemmas.Result.{err_from_is_err_and}
+use Rattle.medium.proofs.Moments.{quiet_start}
+use Rattle.medium.proofs.SectorsRead.{no_looks}
 use Rattle.journal.specs.Values.{shape_of}
 use Rattle.journal.specs.Formats.{HasWhole}
+use Rattle.recovery.specs.Recovered.{LeavesAtLeast}
 use Rattle.recovery.proofs.Causes.{refusal_before}
 use Rattle.recovery.proofs.CopiedRecords.{log_ends}
 use Rattle.recovery.proofs.FoundRecords.{quiet_after}
-use Rattle.recovery.proofs.WholeRecovery.{IsFlush, IsSurveyed, IsCopying, IsMoving, flushed, flush_leaves, survey_leaves, copies_leave}
-use Rattle.recovery.proofs.WholeRecovery.{moves_leave, recovery_fresh, recovery_from}
+use Rattle.recovery.proofs.MadeImage.{wider}
+use Rattle.recovery.proofs.WholeRecovery.{IsSurveyed, IsCopying, flushed, survey_leaves, copies_leave, moves_leave, recovery_fresh}
+use Rattle.recovery.proofs.WholeRecovery.{recovery_from}
 use Rattle.recovery.proofs.recovery.recover_at_least.Given as given
 use Rattle.recovery.proofs.recovery.recover_at_least.Goals as goal
-use Rattle.recovery.proofs.recovery.recover_at_least.Goals.{After-flush, After-inspect, After-copy_records, After-move_head}
+use Rattle.recovery.proofs.recovery.recover_at_least.Goals.{After-inspect, After-copy_records, After-move_head}
 
--- the flush
-flush : (g : given.Over) (c : After-flush g)
-    → IsFlush c.flush.result (g.M.Medium.state c.args.m.now) (g.M.Medium.state c.flush.new.self)
-flush g c = search (rules, g.met.M.Medium.sound)
-
--- and the survey
+-- the flush and the survey
 survey : (g : given.Over) (c : After-inspect g)
-    → IsFlush c.flush.result (g.M.Medium.state c.args.m.now) (g.M.Medium.state c.flush.new.self)
     → IsSurveyed c.flush.result (g.M.Medium.state c.args.m.now) (g.M.Medium.state c.flush.new.self) (g.M.Medium.state c.inspect.new.m)
-survey g c first = search (rules, g.met.M.Medium.sound)
+survey g c = search (rules, g.met.M.Medium.sound)
 
 -- the copies of what it found
 copying : (g : given.Over) (c : After-copy_records g)
-    → IsCopying c.args.least (g.M.Medium.state c.flush.new.self) (g.M.Medium.state c.inspect.new.m) (g.M.Medium.state c.copy_records.new.m)
-    c.in_ok-found.found c.copy_records.result
-copying g c = search (rules, c.in_ok-found.ensures.ok, g.met.M.Medium.sound)
+    → IsCopying c.args.least (g.M.Medium.state c.args.m.now) (g.M.Medium.state c.flush.new.self) (g.M.Medium.state c.inspect.new.m)
+    (g.M.Medium.state c.copy_records.new.m) c.in_ok-found.found c.copy_records.result
+copying g c = search (rules, c.in_ok-flush.ensures.ok, c.in_ok-found.ensures.ok, g.met.M.Medium.sound)
 
 -- and the move of the head
-moving : (g : given.Over) (c : After-move_head g)
-    → IsMoving (g.M.Medium.state c.inspect.new.m) (g.M.Medium.state c.copy_records.new.m) (g.M.Medium.state c.move_head.new.m)
-    c.in_ok-found.found c.move_head.result
-moving g c = search (rules, c.in_ok-copy_records.ensures.done)
+moved : (g : given.Over) (c : After-move_head g)
+    → IsSurveyed c.flush.result (g.M.Medium.state c.args.m.now) (g.M.Medium.state c.flush.new.self) (g.M.Medium.state c.inspect.new.m)
+    → IsCopying c.args.least (g.M.Medium.state c.args.m.now) (g.M.Medium.state c.flush.new.self) (g.M.Medium.state c.inspect.new.m)
+    (g.M.Medium.state c.copy_records.new.m) c.in_ok-found.found c.copy_records.result
+    → LeavesAtLeast c.args.least (g.M.Medium.state c.args.m.now) (g.M.Medium.state c.move_head.new.m)
+moved g c known copies =
+    let moves = c.move_head.ensures in
+    moves_leave c.args.least _ _ _ known _ _ copies _
+    (wider _ (λ image either. ⊎_elim inl (λ head. inr (c.in_ok-copy_records.ensures.done, head)) either) moves.leaves) moves.calls.calls
+    moves.sends
 
 pub copy_records-requires-clause-whole : goal.copy_records-requires-clause-whole
 copy_records-requires-clause-whole g c j below =
@@ -51,15 +55,19 @@ move_head-requires-clause-inside g c =
       log_ends (shape_of sizes) sizes.home_is,
     )
 
+-- behind a refused flush there is no survey
 pub returns-in_err-flush : goal.returns-in_err-flush
-returns-in_err-flush g c = search (rules, flush_leaves c.args.least _ _ (flush g (goal.at.returns-in_err-flush g c).After-flush))
+returns-in_err-flush g c =
+    let mid = g.M.Medium.state c.flush.new.self in
+    let known : IsSurveyed c.flush.result (g.M.Medium.state c.args.m.now) mid mid =
+    search (rules, quiet_start mid, no_looks, g.met.M.Medium.sound) in
+    search (rules, survey_leaves c.args.least _ _ _ known)
 
 pub returns-in_err-found : goal.returns-in_err-found
 returns-in_err-found g c =
-    let at = goal.at.returns-in_err-found g c in
-    let known = survey g at.After-inspect (flush g at.After-flush) in
+    let known = survey g (goal.at.returns-in_err-found g c).After-inspect in
     let p = err_from_is_err_and c.from_residual-in_err-found.result c.from_residual-in_err-found.ensures.1 in
-    let err = refusal_before _ _ _ known.flush.passes (flushed c.args.least _ _ known.flush) known.reads.reads c.args.least
+    let err = refusal_before _ _ _ known.passes (flushed c.args.least _ _ _ known) known.reads.reads c.args.least
     c.in_err-found.field-0.0 c.in_err-found.ensures.err in
     rw (p.1, p.2) (search (rules, err, survey_leaves c.args.least _ _ _ known, g.met.M.Medium.follows_through))
 
@@ -70,7 +78,7 @@ returns-in_err-copy_records g c = record {
   err = search rules;
   leaves =
       let at = goal.at.returns-in_err-copy_records g c in
-      copies_leave c.args.least _ _ _ (survey g at.After-inspect (flush g at.After-flush)) _ _ (copying g at.After-copy_records);
+      copies_leave c.args.least _ _ _ (survey g at.After-inspect) _ _ (copying g at.After-copy_records);
   follows = search (rules, g.met.M.Medium.follows_through);
 }
 
@@ -81,22 +89,22 @@ returns-in_err-move_head g c = record {
   err = search rules;
   leaves =
       let at = goal.at.returns-in_err-move_head g c in
-      moves_leave c.args.least _ _ _ (survey g at.After-inspect (flush g at.After-flush)) _ _ (copying g at.After-copy_records) _
-      (moving g at.After-move_head);
+      moved g at.After-move_head (survey g at.After-inspect) (copying g at.After-copy_records);
   follows = search (rules, g.met.M.Medium.follows_through);
 }
 
 pub returns : goal.returns
 returns g c =
     let at = goal.at.returns g c in
-    let known = survey g at.After-inspect (flush g at.After-flush) in
-    let copied = copying g at.After-copy_records in
-    let moved = moving g at.After-move_head in
+    let known = survey g at.After-inspect in
+    let copies = copying g at.After-copy_records in
+    let done = c.in_ok-copy_records.ensures.done in
     let head = c.in_ok-move_head.ensures in
+    let new = g.M.Medium.state c.move_head.new.m in
     search (
       rules,
-      recovery_from c.args.least _ _ _ known _ _ copied _ moved head.done.0 head.done.1 head.moves.exact,
-      recovery_fresh c.args.least _ _ _ known _ _ copied _ moved head.done.0 head.done.1,
-      moves_leave c.args.least _ _ _ known _ _ copied _ moved,
+      recovery_from c.args.least _ _ _ known _ _ copies new done head.done.0 head.done.1 head.calls.exact,
+      recovery_fresh c.args.least _ _ _ known _ _ copies new done head.done.0 head.done.1,
+      moved g at.After-move_head known copies,
       g.met.M.Medium.follows_through,
     )

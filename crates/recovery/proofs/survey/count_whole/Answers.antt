@@ -1,18 +1,51 @@
-use Rattle.std.proofs.Common.{◌≡◌, ◌+◌, inl, inr, subst, arith, rules}
+use Rattle.std.proofs.Common.{◌≡◌, ◌+◌, ℕ, inl, inr, [], ◌∷◌, ◌++◌, refl, subst, arith, rules}
 use Rattle.std.specs.Prelude.{min}
-use Rattle.std.proofs.lemmas.Bool.{cases_eq}
+use Rattle.std.proofs.lemmas.Bool.{cases_lt, cases_eq}
+use Rattle.std.proofs.lemmas.List.{length-append, get_or_append_left, get_or_push}
+use Rattle.std.proofs.lemmas.List.Sums.{sum_by_push}
+use Rattle.medium.specs.Medium.{Image}
 use Rattle.medium.proofs.Moments.{quiet_start}
 use Rattle.medium.proofs.SectorsRead.{no_looks, looks_joined}
+use Rattle.journal.specs.declared.log_format.LogFormat.{LogFormat}
+use Rattle.journal.specs.declared.log_format.LogFormat.TheVariants.{One, Two}
+use Rattle.journal.specs.Places.{Shape}
 use Rattle.journal.specs.Values.{shape_of}
 use Rattle.journal.specs.Formats.{HasWhole}
 use Rattle.recovery.specs.Copies.{most_reads_of}
-use Rattle.recovery.specs.Tries.{IsTryOf, AreTries}
+use Rattle.recovery.specs.Tries.{IsTryOf, AreTriesOf, AreTries}
 use Rattle.recovery.proofs.FoundRecords.{quiet_before}
-use Rattle.recovery.proofs.JoinedCalls.{reads_on}
-use Rattle.recovery.proofs.SurveyCalls.{no_tries, tries_more, each_once_more}
+use Rattle.recovery.proofs.JoinedCalls.{each_once_more, reads_on}
 use Rattle.recovery.proofs.survey.count_whole.Given as given
 use Rattle.recovery.proofs.survey.count_whole.Goals as goal
 use Rattle.recovery.proofs.survey.count_whole.Goals.{In_ok-count_blocks}
+
+-- none so far
+no_tries : (format : LogFormat) (shape : Shape) (image : Image) (first at : ℕ) → AreTriesOf format shape image first 0 at at
+no_tries One shape image first at = omega arith
+no_tries Two shape image first at = record {
+  reads = [];
+  many = refl;
+  each = λ j below. absurd (omega (arith, below));
+  after_is = let none : at ≡ at + 0 = omega arith in none;
+}
+
+-- one more
+tries_more : (format : LogFormat) (shape : Shape) (image : Image) (first j old mid new : ℕ)
+    → AreTriesOf format shape image first j old mid → IsTryOf format shape image (first + j) mid new
+    → AreTriesOf format shape image first (j + 1) old new
+tries_more One shape image first j old mid new before last = omega (arith, before, last)
+tries_more Two shape image first j old mid new before last = record {
+  reads = before.reads ++ last.0 ∷ [];
+  many = omega (arith, before.many, length-append before.reads (last.0 ∷ []));
+  each = λ k below. elim (cases_lt k j) [
+    | inl less ↦
+        rw (get_or_append_left before.reads (last.0 ∷ []) 0 k (omega (arith, less, before.many))) (before.each k less)
+    | inr more ↦
+        let at : k ≡ j = omega (arith, below, more) in
+        rw (at, get_or_push before.reads last.0 0 j before.many) last.1
+  ];
+  after_is = omega (arith, before.after_is, last.2, sum_by_push (λ x. x) before.reads last.0);
+}
 
 -- one stamp more was tried
 one_more : (g : given.Over) (c : In_ok-count_blocks g) → AreTries (shape_of c.args.sizes.now) (g.M.Medium.state c.args.m.now).content

@@ -1,4 +1,5 @@
-use Rattle.std.proofs.Common.{◌≡◌, ◌∙◌, ◌+◌, arith, rules}
+use Rattle.std.proofs.Common.{◌≡◌, ◌∙◌, ◌+◌, ℕ, arith, rules}
+use Rattle.medium.specs.Medium.{State}
 use Rattle.std.specs.Prelude.{min}
 use Rattle.std.proofs.lemmas.Result.{err_from_is_err_and}
 use Rattle.medium.proofs.Moments.{quiet_call, quiet_joined}
@@ -11,16 +12,24 @@ use Rattle.journal.specs.Sectors.{IsHead}
 use Rattle.journal.specs.Standing.{IsCount}
 use Rattle.journal.proofs.SectorNumbers.{IsSuper-one}
 use Rattle.journal.proofs.StandingLaws.{count_stands}
-use Rattle.recovery.specs.Causes.{HasFewSlots}
+use Rattle.recovery.specs.Causes.{HasFewSlots, IsRefusalBy}
+use Rattle.recovery.specs.Inspected.{IsLookCause}
+use Rattle.recovery.specs.declared.start_fault.StartFault.{StartFault}
+use Rattle.recovery.specs.declared.start_fault.StartFault.TheVariants.{NoMemory}
 use Rattle.recovery.specs.Found.{SurveysAtMost}
 use Rattle.recovery.specs.Tries.{AreTries}
 use Rattle.recovery.proofs.Causes.{enough_slots}
 use Rattle.recovery.proofs.FoundRecords.{quiet_before}
-use Rattle.recovery.proofs.InspectedImage.{look_refusal}
 use Rattle.recovery.proofs.SectorsRead.{looked_on, super_looked}
 use Rattle.recovery.proofs.survey.inspect.Given as given
 use Rattle.recovery.proofs.survey.inspect.Goals as goal
 use Rattle.recovery.proofs.survey.inspect.Goals.{After-read, After-count_whole, In_ok-count}
+
+-- a refused look is a refused survey
+look_refusal : (least : ℕ) (old new : State) (fault : StartFault) → IsLookCause old new fault → IsQuiet old new
+    → IsRefusalBy least IsQuiet old new fault
+look_refusal least old new NoMemory h quiet = absurd h
+look_refusal least old new fault h quiet = search rules
 
 -- the super and the head are read
 head_read : (g : given.Over) (c : After-read g) → SurveysAtMost (g.M.Medium.state c.args.m.now) (g.M.Medium.state c.read.new.self)
