@@ -1,24 +1,31 @@
 -- Calls, and then others: what they are together.
 use Rattle.std.proofs.Common.{◌≡◌, inl, inr, ⊎_elim, ℕ, ◌+◌, ◌*◌, ◌<◌, ◌≤◌, ◌∙◌, Result, Ok, refl, arith, rules, mul-le-mul_left}
-use Rattle.std.specs.Prelude.{OnOk, IfErr}
+use Rattle.std.specs.Prelude.{OnOk, IfOk, IfErr}
 use Rattle.medium.specs.Medium.{State, Image, CutLeaves, LooksOnly, IsSound}
 use Rattle.medium.specs.declared.fault.MediumFault.{MediumFault}
 use Rattle.medium.proofs.Moments.{quiet_joined, quiet_leaves, started_within, joined_same, weaker}
 use Rattle.medium.proofs.SectorsRead.{looks_joined, looks_wider}
-use Rattle.journal.specs.Reads.{IsRefusedCall, ReadsPass}
+use Rattle.journal.specs.Reads.{IsRefusedCall, ReadsPass, LooksUp}
 use Rattle.recovery.specs.Calls.{FollowsBy, WritesPass, WritesAllPass, CopiesPass}
 use Rattle.recovery.specs.Copies.{freed_at}
 use Rattle.recovery.proofs.CopiedRecords.{sets_within}
 
 -- reads
-pub reads_on : {X Y Z : Type 0} {few many most : ℕ} {old mid new : State} {one : Result X MediumFault} {two : Result Y MediumFault}
-    {result : Result Z MediumFault} → ReadsPass few old mid one → ReadsPass many mid new two → few + many ≤ most
-    → IfErr result (IsRefusedCall old new) → ReadsPass most old new result
-reads_on first second fit cause = record {
-  quiet = quiet_joined _ _ _ first.quiet second.quiet;
-  reads = λ kind other. second.reads kind other ∙ first.reads kind other;
-  calls = omega (arith, first.calls, second.calls, fit);
-  cause = cause;
+pub looks_on : {M X Y Z : Type 0} {state : M → State} {Follows : M → M → Type 0} {few many most : ℕ} {places : ℕ → Type 0}
+    {F : State → State → X → Type 0} {G : State → State → Y → Type 0} {H : State → State → Z → Type 0} {old mid new : M}
+    {one : Result X MediumFault} {two : Result Y MediumFault} {result : Result Z MediumFault}
+    → ((a b c : M) → Follows a b → Follows b c → Follows a c) → LooksUp state Follows few places F old mid one
+    → LooksUp state Follows many places G mid new two → few + many ≤ most → IfErr result (IsRefusedCall (state old) (state new))
+    → IfOk result (H (state old) (state new)) → LooksUp state Follows most places H old new result
+looks_on through first second fit cause finds = record {
+  passes = record {
+    quiet = quiet_joined _ _ _ first.passes.quiet second.passes.quiet;
+    reads = λ kind other. second.passes.reads kind other ∙ first.passes.reads kind other;
+    calls = omega (arith, first.passes.calls, second.passes.calls, fit);
+    cause = cause;
+  };
+  finds = finds;
+  follows = (through _ _ _ first.follows.0 second.follows.0, looks_joined _ _ _ _ first.follows.1 second.follows.1);
 }
 
 -- copies

@@ -1,17 +1,26 @@
-use Rattle.std.proofs.Common.{refl, subst}
+use Rattle.std.proofs.Common.{refl, subst, ℕ}
+use Rattle.medium.specs.Medium.{State}
+use Rattle.medium.specs.declared.fault.MediumFault.{MediumFault}
+use Rattle.medium.specs.declared.fault.MediumFault.TheVariants as medium
 use Rattle.std.proofs.lemmas.Result.{err_from_is_err_and}
 use Rattle.medium.specs.Moments.{EachCut}
 use Rattle.journal.specs.Places.{Shape}
 use Rattle.journal.specs.Values.{shape_of}
 use Rattle.journal.proofs.SectorNumbers.{IsSuper-one}
-use Rattle.recovery.specs.Causes.{WritesNothing}
+use Rattle.recovery.specs.Causes.{start_fault_of, IsRefusedCall, WritesNothing, IsRefusalBy}
 use Rattle.recovery.specs.Migrated.{MigrationLeaves}
 use Rattle.recovery.specs.Recovered.{IsFresh}
-use Rattle.recovery.proofs.Causes.{served_slots, refused_later, call_refuses}
+use Rattle.recovery.proofs.Causes.{served_slots, refused_later}
 use Rattle.recovery.proofs.MigrationCuts.{can_migrate, recovery_leaves, migration_leaves, migrated_fresh, migrated_from}
 use Rattle.recovery.proofs.migration.migrate.Given as given
 use Rattle.recovery.proofs.migration.migrate.Goals as goal
 use Rattle.recovery.proofs.migration.migrate.Goals.{After-make_two}
+
+-- such a call refuses a start
+call_refuses : (least : ℕ) (Calls : State → State → Type 0) (old new : State) (kind : MediumFault) → IsRefusedCall old new kind
+    → IsRefusalBy least Calls old new (start_fault_of kind)
+call_refuses least Calls old new medium.Read h = h
+call_refuses least Calls old new kind h = h
 
 -- format 2 is made, good or refused
 makes : (g : given.Over) (c : After-make_two g) → MigrationLeaves (g.M.Medium.state c.args.m.now) (g.M.Medium.state c.make_two.new.m)

@@ -1,16 +1,14 @@
-use Rattle.std.proofs.Common.{◌≡◌, ◌∙◌, inl, inr, ◌+◌, ◌<◌, ◌≤◌, length, refl, sym, ap, subst, arith, rules}
-use Rattle.std.proofs.lemmas.List.{length-map}
+use Rattle.std.proofs.Common.{◌≡◌, ◌∙◌, inl, inr, ◌+◌, ◌<◌, ◌≤◌, length, refl, sym, subst, arith, rules}
 use Rattle.std.specs.Prelude.{ℕ, Option, Some, None, MatchOption}
 use Rattle.medium.specs.Medium.{Image}
-use Rattle.medium.proofs.SectorsRead.{looks_joined}
 use Rattle.journal.specs.declared.log_format.LogFormat.{LogFormat}
 use Rattle.journal.specs.declared.log_format.LogFormat.TheVariants.{One, Two}
 use Rattle.journal.specs.declared.record.Record.{Record}
 use Rattle.journal.specs.Places.{Shape}
 use Rattle.journal.specs.SectorsTwo.{descriptors_of}
 use Rattle.journal.specs.Values.{shape_of}
-use Rattle.journal.specs.Entry.{Entry}
-use Rattle.journal.specs.Reading.{AreStamped, IsReadFor, IsReadForStamps, record_reads_of, stamp_reads_of}
+use Rattle.journal.specs.Formats.{HasWhole}
+use Rattle.journal.specs.Reading.{IsReadFor, IsReadForStamps, record_reads_of, stamp_reads_of}
 use Rattle.journal.proofs.CopiedBlock.{stamped_whole}
 use Rattle.journal.proofs.DescribedNumbers.{each_there}
 use Rattle.journal.proofs.EntriesTwo.{commit_count}
@@ -18,8 +16,8 @@ use Rattle.journal.proofs.SlotTwo.{untrue}
 use Rattle.recovery.specs.Copies.{most_reads_of}
 use Rattle.recovery.specs.Tries.{StopsAtBad, ReadsUpToBad, HasDescriptor, HasPlace, NamesBlocks, IsReadBehind, IsReadInSlot}
 use Rattle.recovery.specs.Tries.{IsTryTwo, IsTryOf}
-use Rattle.recovery.proofs.FoundRecords.{quiet_before, quiet_after}
-use Rattle.recovery.proofs.JoinedCalls.{reads_on}
+use Rattle.recovery.proofs.CopiedRecords.{long_as}
+use Rattle.recovery.proofs.JoinedCalls.{looks_on}
 use Rattle.recovery.proofs.record.count_blocks.Goals as goal
 
 -- there is one first bad one
@@ -113,12 +111,8 @@ returns-then-not-branch g c =
 pub returns-in_err-are_stamped : goal.returns-in_err-are_stamped
 returns-in_err-are_stamped g c =
     let few : length c.read_record.new.to.numbers.items ≤ 240 = search rules in
-    record {
-      passes = reads_on c.read_record.ensures.passes c.are_stamped.ensures.passes
-          (most_tried c.args.sizes.now.format c.len-count.result (omega (arith, few, c.len-count.ensures.value))) (search rules);
-      finds = search rules;
-      follows = search (rules, g.met.M.Medium.follows_through, looks_joined);
-    }
+    looks_on g.met.M.Medium.follows_through c.read_record.ensures c.are_stamped.ensures
+    (most_tried c.args.sizes.now.format c.len-count.result (omega (arith, few, c.len-count.ensures.value))) (search rules) (search rules)
 
 pub returns : goal.returns
 returns g c =
@@ -126,37 +120,19 @@ returns g c =
     let stamp = c.args.stamp in
     let old = g.M.Medium.state c.args.m.now in
     let mid = g.M.Medium.state c.read_record.new.m in
-    let quiet = c.read_record.ensures.passes.quiet in
+    let same : mid.content ≡ old.content = λ i s. c.read_record.ensures.passes.quiet.content_stays s i in
     let read = c.read_record.new.to in
     let few : length c.read_record.new.to.numbers.items ≤ 240 = search rules in
     let finds = rw c.if-not-branch.false at c.in_ok-read_record.ensures.finds in
     let asked = c.in_ok-are_stamped.ensures.finds in
     let count : c.len-count.result ≡ length c.read_record.new.to.numbers.items = c.len-count.ensures.value in
-    let f : Entry → ℕ = λ e. e.0 in
-    record {
-      passes = reads_on c.read_record.ensures.passes c.are_stamped.ensures.passes
-          (most_tried c.args.sizes.now.format c.len-count.result (omega (arith, few, count))) tt;
-      finds = record {
-        exact = try_read shape.format shape old.content stamp read finds.exact.0 asked.exact.0 old.calls mid.calls
-            (g.M.Medium.state c.are_stamped.new.m).calls finds.exact.1 finds.exact.2
-            (rw count at
-            (quiet_before (λ n i. IsReadForStamps shape.format shape i stamp c.len-count.result asked.exact.0) old mid quiet asked.exact.1))
-            asked.exact.2;
-        counted = option_weaker c.counted.result
-            (λ not whole.
-            let many : length whole.0 ≡ c.len-count.result =
-            sym (count ∙ ap (λ l. length l) (finds.all whole.0 whole.1).numbers_are ∙ length-map whole.0 f) in
-            let there = rw many at (stamped_whole shape old.content stamp whole.0 whole.1) in
-            untrue (sym not ∙ asked.is.1
-            (quiet_after (λ n i. AreStamped shape.format shape i stamp c.len-count.result) old mid quiet there)))
-            (λ blocks is.
-            let good = quiet_before (λ n i. AreStamped shape.format shape i stamp c.len-count.result) old mid quiet (asked.is.0 is.0) in
-            let whole = finds.some (rw count at good) in (
-              whole.0,
-              whole.1,
-              is.1 ∙ count ∙ ap (λ l. length l) (finds.all whole.0 whole.1).numbers_are ∙ length-map whole.0 f,
-            ))
-            c.counted.ensures;
-      };
-      follows = search (rules, g.met.M.Medium.follows_through, looks_joined);
-    }
+    let is = rw (same, count) at asked.is in
+    let long = λ (whole : HasWhole shape old.content stamp). long_as whole.0 read.numbers.items (finds.all whole.0 whole.1).numbers_are in
+    looks_on g.met.M.Medium.follows_through c.read_record.ensures c.are_stamped.ensures
+    (most_tried c.args.sizes.now.format c.len-count.result (omega (arith, few, count))) tt (record {
+      exact = try_read shape.format shape old.content stamp read finds.exact.0 asked.exact.0 old.calls mid.calls _
+          finds.exact.1 finds.exact.2 (rw (same, count) at asked.exact.1) asked.exact.2;
+      counted = option_weaker c.counted.result
+          (λ not whole. untrue (sym not ∙ is.1 (rw (← long whole) at (stamped_whole shape old.content stamp whole.0 whole.1))))
+          (λ blocks yes. let whole = finds.some (is.0 yes.0) in (whole.0, whole.1, yes.1 ∙ count ∙ long whole)) c.counted.ensures;
+    })

@@ -1,19 +1,49 @@
-use Rattle.std.proofs.Common.{inl, inr, ⊎_elim, ◌+◌, rules, arith}
+use Rattle.std.proofs.Common.{inl, inr, ⊎_elim, ℕ, ◌+◌, Result, rules, arith}
 use Rattle.std.proofs.lemmas.Result.{err_from_is_err_and}
-use Rattle.medium.proofs.Moments.{quiet_start}
+use Rattle.medium.specs.Medium.{State, Image, Passes}
+use Rattle.medium.specs.Moments.{IsQuiet}
+use Rattle.medium.specs.declared.fault.MediumFault.{MediumFault}
+use Rattle.medium.specs.declared.fault.MediumFault.TheVariants as medium
+use Rattle.medium.proofs.Moments.{quiet_start, quiet_joined}
 use Rattle.medium.proofs.SectorsRead.{no_looks}
 use Rattle.journal.specs.Values.{shape_of}
 use Rattle.journal.specs.Formats.{HasWhole}
+use Rattle.journal.specs.ImageFaults as image
+use Rattle.recovery.specs.Causes.{IsRefusedCall, MakesReadsAlone, WritesNothing, HasFewSlots, IsRefusalBy}
 use Rattle.recovery.specs.Recovered.{LeavesAtLeast}
-use Rattle.recovery.proofs.Causes.{refusal_before}
+use Rattle.recovery.specs.declared.start_fault.StartFault.{StartFault}
+use Rattle.recovery.specs.declared.start_fault.StartFault.TheVariants.{NoMemory, StampsUsedUp, LogTooSmall}
+use Rattle.recovery.proofs.Causes.{refused_later}
 use Rattle.recovery.proofs.CopiedRecords.{log_ends}
-use Rattle.recovery.proofs.FoundRecords.{quiet_after}
+use Rattle.recovery.proofs.FoundRecords.{quiet_before, quiet_after}
 use Rattle.recovery.proofs.MadeImage.{wider}
 use Rattle.recovery.proofs.WholeRecovery.{IsSurveyed, IsCopying, flushed, survey_leaves, copies_leave, moves_leave, recovery_fresh}
 use Rattle.recovery.proofs.WholeRecovery.{recovery_from}
 use Rattle.recovery.proofs.recovery.recover_at_least.Given as given
 use Rattle.recovery.proofs.recovery.recover_at_least.Goals as goal
 use Rattle.recovery.proofs.recovery.recover_at_least.Goals.{After-inspect, After-copy_records, After-move_head}
+
+module _ (old mid new : State) {result : Result (Unit {0}) MediumFault} (flush : Passes medium.Flush result old mid)
+    (quiet : IsQuiet old mid) (reads : MakesReadsAlone mid new) where
+  back : (P : ℕ → Image → Type 0) → P mid.size mid.content → P old.size old.content
+  back P h = quiet_before P old mid quiet h
+
+  refused_before : (kind : MediumFault) → IsRefusedCall mid new kind → IsRefusedCall old new kind
+  refused_before kind h = refused_later old mid new quiet.failures_stay quiet.refused_stay kind h
+
+  wrote_nothing : IsQuiet mid new → WritesNothing old new
+  wrote_nothing later = search (rules, quiet_joined old mid new quiet later, reads, flush.others_made, flush.made_is)
+
+  -- a refusal by reads after a flush is one by both
+  refusal_before : (least : ℕ) (fault : StartFault) → IsRefusalBy least IsQuiet mid new fault
+      → IsRefusalBy least WritesNothing old new fault
+  refusal_before least NoMemory h = h
+  refusal_before least StampsUsedUp h =
+      (back (λ n i. ¬ HasFewSlots least n i) h.0, back (λ n i. image.HasNoStampLeft n i) h.1, wrote_nothing h.2)
+  refusal_before least LogTooSmall h = (back (λ n i. HasFewSlots least n i) h.0, wrote_nothing h.1)
+  refusal_before least fault h =
+      let same = λ (f : image.ImageFault). back (λ n i. image.HasFault n i f) in
+      search (rules, refused_before, same, wrote_nothing)
 
 -- the flush and the survey
 survey : (g : given.Over) (c : After-inspect g)

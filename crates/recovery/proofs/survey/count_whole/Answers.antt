@@ -5,7 +5,7 @@ use Rattle.std.proofs.lemmas.List.{length-append, get_or_append_left, get_or_pus
 use Rattle.std.proofs.lemmas.List.Sums.{sum_by_push}
 use Rattle.medium.specs.Medium.{Image}
 use Rattle.medium.proofs.Moments.{quiet_start}
-use Rattle.medium.proofs.SectorsRead.{no_looks, looks_joined}
+use Rattle.medium.proofs.SectorsRead.{no_looks}
 use Rattle.journal.specs.declared.log_format.LogFormat.{LogFormat}
 use Rattle.journal.specs.declared.log_format.LogFormat.TheVariants.{One, Two}
 use Rattle.journal.specs.Places.{Shape}
@@ -14,7 +14,7 @@ use Rattle.journal.specs.Formats.{HasWhole}
 use Rattle.recovery.specs.Copies.{most_reads_of}
 use Rattle.recovery.specs.Tries.{IsTryOf, AreTriesOf, AreTries}
 use Rattle.recovery.proofs.FoundRecords.{quiet_before}
-use Rattle.recovery.proofs.JoinedCalls.{each_once_more, reads_on}
+use Rattle.recovery.proofs.JoinedCalls.{each_once_more, looks_on}
 use Rattle.recovery.proofs.survey.count_whole.Given as given
 use Rattle.recovery.proofs.survey.count_whole.Goals as goal
 use Rattle.recovery.proofs.survey.count_whole.Goals.{In_ok-count_blocks}
@@ -54,7 +54,7 @@ one_more g c =
     let shape = shape_of c.args.sizes.now in
     let mid = g.M.Medium.state c.loop-j.m in
     let new = g.M.Medium.state c.count_blocks.new.m in
-    tries_more shape.format shape _ c.args.head c.loop-j.j _ mid.calls new.calls c.loop-j.invariant.tries
+    tries_more shape.format shape _ c.args.head c.loop-j.j _ mid.calls new.calls c.loop-j.invariant.finds.0
     (quiet_before (λ n i. IsTryOf shape.format shape i (c.args.head + c.loop-j.j) mid.calls new.calls) _ mid
     c.loop-j.invariant.passes.quiet c.in_ok-count_blocks.ensures.finds.exact)
 
@@ -72,39 +72,26 @@ loop-j-preserved g c =
     let j = c.loop-j.j in
     let counted = rw c.in-Some.is at c.in_ok-count_blocks.ensures.finds.counted in
     let there = quiet_before (λ n i. HasWhole shape i (c.args.head + j)) old _ inv.passes.quiet (counted.0, counted.1) in
-    record {
-      passes = reads_on inv.passes c.count_blocks.ensures.passes (omega arith) tt;
-      tries = one_more g (goal.at.loop-j-preserved g c).In_ok-count_blocks;
-      whole = λ k below. elim (cases_eq j k) [
+    looks_on g.met.M.Medium.follows_through inv c.count_blocks.ensures (omega arith) tt (
+      one_more g (goal.at.loop-j-preserved g c).In_ok-count_blocks,
+      λ k below. elim (cases_eq j k) [
         | inl is ↦ subst (λ n. HasWhole shape old.content (c.args.head + n)) is there
-        | inr not ↦ inv.whole k (omega arith)
-      ];
-      follows = g.met.M.Medium.follows_through _ _ _ inv.follows c.count_blocks.ensures.follows.0;
-      looks = looks_joined _ _ _ _ inv.looks c.count_blocks.ensures.follows.1;
-    }
+        | inr not ↦ inv.finds.1 k (omega arith)
+      ],
+    )
 
 pub returns-in_err-count_blocks : goal.returns-in_err-count_blocks
-returns-in_err-count_blocks g c =
-    let inv = c.loop-j.invariant in
-    record {
-      passes = reads_on inv.passes c.count_blocks.ensures.passes
-          (each_once_more (most_reads_of c.args.sizes.now.format) c.loop-j.j c.args.sizes.now.slots c.loop-j-test.true) (search rules);
-      finds = search rules;
-      follows = search (rules, g.met.M.Medium.follows_through, looks_joined);
-    }
+returns-in_err-count_blocks g c = looks_on g.met.M.Medium.follows_through c.loop-j.invariant c.count_blocks.ensures
+    (each_once_more (most_reads_of c.args.sizes.now.format) c.loop-j.j c.args.sizes.now.slots c.loop-j-test.true)
+    (search rules) (search rules)
 
 pub returns-in_default : goal.returns-in_default
 returns-in_default g c =
-    let reads = most_reads_of c.args.sizes.now.format in
-    let inv = c.loop-j.invariant in
     let below = c.loop-j-test.true in
     let many : c.loop-j.j + 1 ≡ min (c.loop-j.j + 1) c.args.sizes.now.slots = omega (arith, below) in
-    record {
-      passes = reads_on inv.passes c.count_blocks.ensures.passes
-          (each_once_more reads c.loop-j.j c.args.sizes.now.slots below) tt;
-      finds = search (rules, rw many at (one_more g (goal.at.returns-in_default g c).In_ok-count_blocks));
-      follows = search (rules, g.met.M.Medium.follows_through, looks_joined);
-    }
+    looks_on g.met.M.Medium.follows_through c.loop-j.invariant c.count_blocks.ensures
+    (each_once_more (most_reads_of c.args.sizes.now.format) c.loop-j.j c.args.sizes.now.slots below) tt
+    (search (rules, rw many at (one_more g (goal.at.returns-in_default g c).In_ok-count_blocks)))
 
 pub returns : goal.returns
 returns g c =
@@ -112,4 +99,4 @@ returns g c =
     let slots = c.args.sizes.now.slots in
     let all : c.loop-j.j ≡ slots = omega (arith, c.loop-j.auto.j-end, c.loop-j-test.false) in
     let many : c.loop-j.j ≡ min (slots + 1) slots = omega (arith, all) in
-    search (rules, inv.passes.reads, rw all at inv.passes.calls, rw many at inv.tries)
+    search (rules, inv.passes.reads, rw all at inv.passes.calls, rw many at inv.finds.0)

@@ -1,11 +1,11 @@
-use Rattle.std.proofs.Common.{◌≡◌, ◌∙◌, ◌+◌, ℕ, arith, rules}
-use Rattle.medium.specs.Medium.{State}
+use Rattle.std.proofs.Common.{◌≡◌, ◌∙◌, ◌+◌, ◌<◌, ℕ, subst, arith, rules}
+use Rattle.medium.specs.Medium.{State, Image}
 use Rattle.std.specs.Prelude.{min}
 use Rattle.std.proofs.lemmas.Result.{err_from_is_err_and}
-use Rattle.medium.proofs.Moments.{quiet_call, quiet_joined}
+use Rattle.medium.proofs.Moments.{quiet_joined}
 use Rattle.medium.specs.Moments.{IsQuiet}
-use Rattle.medium.proofs.SectorsRead.{look_below}
-use Rattle.journal.specs.Places.{Shape, first_home}
+use Rattle.journal.specs.declared.log_format.LogFormat.TheVariants.{One}
+use Rattle.journal.specs.Places.{Shape}
 use Rattle.journal.specs.ImageFaults.{HasShape}
 use Rattle.journal.specs.Values.{shape_of}
 use Rattle.journal.specs.Sectors.{IsHead}
@@ -18,9 +18,8 @@ use Rattle.recovery.specs.declared.start_fault.StartFault.{StartFault}
 use Rattle.recovery.specs.declared.start_fault.StartFault.TheVariants.{NoMemory}
 use Rattle.recovery.specs.Found.{SurveysAtMost}
 use Rattle.recovery.specs.Tries.{AreTries}
-use Rattle.recovery.proofs.Causes.{enough_slots}
 use Rattle.recovery.proofs.FoundRecords.{quiet_before}
-use Rattle.recovery.proofs.SectorsRead.{looked_on, super_looked}
+use Rattle.recovery.proofs.SectorsRead.{looked_on, super_looked, head_read}
 use Rattle.recovery.proofs.survey.inspect.Given as given
 use Rattle.recovery.proofs.survey.inspect.Goals as goal
 use Rattle.recovery.proofs.survey.inspect.Goals.{After-read, After-count_whole, In_ok-count}
@@ -31,18 +30,19 @@ look_refusal : (least : ℕ) (old new : State) (fault : StartFault) → IsLookCa
 look_refusal least old new NoMemory h quiet = absurd h
 look_refusal least old new fault h quiet = search rules
 
+-- an image with this super has few slots only where the super has
+enough_slots : (least size : ℕ) (shape : Shape) (content : Image) → HasShape size shape content
+    → (¬ ((shape.format ≡ One) × (shape.slots < least))) → ¬ HasFewSlots least size content
+enough_slots least size shape content has not few =
+    let same : few.shape ≡ shape = IsSuper-one few.shape shape (content 0) few.has.super has.super in
+    not (subst (λ (s : Shape). (s.format ≡ One) × (s.slots < least)) same (few.one, few.few))
+
 -- the super and the head are read
-head_read : (g : given.Over) (c : After-read g) → SurveysAtMost (g.M.Medium.state c.args.m.now) (g.M.Medium.state c.read.new.self)
-head_read g c =
-    let shape = shape_of c.in_ok-sizes.sizes in
-    let has = c.in_ok-sizes.ensures.ok in
-    search (
-      rules,
-      quiet_joined _ _ _ c.read_super.ensures.reads.quiet
-          (quiet_call _ _ c.read.ensures.passes c.read.ensures.content c.read.ensures.sets),
-      looked_on shape _ _ _ has (super_looked _ _ c.read_super.ensures.follows.1)
-          (look_below (first_home shape) _ _ 1 (omega (arith, c.in_ok-sizes.sizes.home_is.0)) c.read.ensures.follows.1),
-    )
+read : (g : given.Over) (c : After-read g) → SurveysAtMost (g.M.Medium.state c.args.m.now) (g.M.Medium.state c.read.new.self)
+read g c =
+    let super = c.read_super.ensures in
+    let head = c.read.ensures in
+    head_read c.in_ok-sizes.sizes c.in_ok-sizes.ensures.ok super.reads super.follows.1 head.passes head.content head.sets head.follows.1
 
 -- and what shows whether records are whole
 records_read : (g : given.Over) (c : After-count_whole g)
@@ -77,14 +77,14 @@ returns-then-head-count g c =
     let mid = g.M.Medium.state c.read.new.self in
     let new = g.M.Medium.state c.count_whole.new.m in
     let tries = min (c.in_ok-count.count + 1) c.in_ok-sizes.sizes.slots in
-    let read = head_read g at.After-read in
-    let known = counted g at.In_ok-count read.quiet in
+    let before = read g at.After-read in
+    let known = counted g at.In_ok-count before.quiet in
     let calls : mid.calls ≡ (g.M.Medium.state c.args.m.now).calls + 2 =
     omega (arith, c.in_ok-sizes.ensures.reads.exact, c.read.ensures.passes.calls_are) in
     let exact = rw calls at
-    (quiet_before (λ n i. AreTries shape i c.in-Some.head.stamp tries mid.calls new.calls) _ mid read.quiet
+    (quiet_before (λ n i. AreTries shape i c.in-Some.head.stamp tries mid.calls new.calls) _ mid before.quiet
     c.in_ok-count.ensures.finds.exact) in
-    search (rules, records_read g at.After-count_whole read, known, exact, g.met.M.Medium.follows_through)
+    search (rules, records_read g at.After-count_whole before, known, exact, g.met.M.Medium.follows_through)
 
 pub returns-else-head-count : goal.returns-else-head-count
 returns-else-head-count g c =
@@ -92,16 +92,16 @@ returns-else-head-count g c =
     let shape = shape_of c.in_ok-sizes.sizes in
     let old = g.M.Medium.state c.args.m.now in
     let has = c.in_ok-sizes.ensures.ok in
-    let read = head_read g at.After-read in
-    let known = counted g at.In_ok-count read.quiet in
-    let reads = records_read g at.After-count_whole read in
+    let before = read g at.After-read in
+    let known = counted g at.In_ok-count before.quiet in
+    let reads = records_read g at.After-count_whole before in
     let s = count_stands old.size shape old.content c.in-Some.head.stamp c.in_ok-count.count has.fits has.super known.0 known.1 in
     search (rules, reads, known, s, g.met.M.Medium.follows_through)
 
 pub returns-in_err-count : goal.returns-in_err-count
 returns-in_err-count g c =
     let at = goal.at.returns-in_err-count g c in
-    search (rules, records_read g at.After-count_whole (head_read g at.After-read), g.met.M.Medium.follows_through)
+    search (rules, records_read g at.After-count_whole (read g at.After-read), g.met.M.Medium.follows_through)
 
 pub returns-in_err-sizes : goal.returns-in_err-sizes
 returns-in_err-sizes g c =
@@ -112,10 +112,10 @@ returns-in_err-sizes g c =
     rw (p.1, p.2) (search (rules, quiet, looked, err))
 
 pub returns-in_err-read : goal.returns-in_err-read
-returns-in_err-read g c = search (rules, head_read g (goal.at.returns-in_err-read g c).After-read)
+returns-in_err-read g c = search (rules, read g (goal.at.returns-in_err-read g c).After-read)
 
 pub returns-in_default : goal.returns-in_default
-returns-in_default g c = search (rules, head_read g (goal.at.returns-in_default g c).After-read)
+returns-in_default g c = search (rules, read g (goal.at.returns-in_default g c).After-read)
 
 pub returns-then-has_few_slots : goal.returns-then-has_few_slots
-returns-then-has_few_slots g c = search (rules, head_read g (goal.at.returns-then-has_few_slots g c).After-read)
+returns-then-has_few_slots g c = search (rules, read g (goal.at.returns-then-has_few_slots g c).After-read)
