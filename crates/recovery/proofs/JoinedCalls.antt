@@ -1,12 +1,13 @@
 -- Calls, and then others: what they are together.
-use Rattle.std.proofs.Common.{◌≡◌, inl, inr, ⊎_elim, ℕ, ◌+◌, ◌*◌, ◌<◌, ◌≤◌, ◌∙◌, Result, Ok, refl, arith, rules, mul-le-mul_left}
-use Rattle.std.specs.Prelude.{OnOk, IfOk, IfErr}
-use Rattle.medium.specs.Medium.{State, Image, CutLeaves, LooksOnly, IsSound}
+use Rattle.std.proofs.Common.{inl, inr, ⊎_elim, ℕ, ◌+◌, ◌*◌, ◌<◌, ◌≤◌, ◌∙◌, Result, Ok, refl, arith, mul-le-mul_left}
+use Rattle.std.specs.Prelude.{IfOk, IfErr}
+use Rattle.medium.specs.Medium.{State, CutLeaves, IsSound}
 use Rattle.medium.specs.declared.fault.MediumFault.{MediumFault}
+use Rattle.medium.proofs.CallsSent.{none_sent}
 use Rattle.medium.proofs.Moments.{quiet_joined, quiet_leaves, started_within, joined_same, weaker}
-use Rattle.medium.proofs.SectorsRead.{looks_joined, looks_wider}
-use Rattle.journal.specs.Reads.{IsRefusedCall, ReadsPass, LooksUp}
-use Rattle.recovery.specs.Calls.{FollowsBy, WritesPass, WritesAllPass, CopiesPass}
+use Rattle.medium.proofs.SectorsRead.{no_looks, looks_joined, looks_wider}
+use Rattle.journal.specs.Reads.{IsRefusedCall, LooksUp}
+use Rattle.recovery.specs.Calls.{Copies}
 use Rattle.recovery.specs.Copies.{freed_at}
 use Rattle.recovery.proofs.CopiedRecords.{sets_within}
 
@@ -29,57 +30,55 @@ looks_on through first second fit cause finds = record {
 }
 
 -- copies
-pub copies_on : {X Y Z : Type 0} {more all : ℕ → Type 0} {few many most : ℕ} {old mid new : State} {one : Result X MediumFault}
-    {two : Result Y MediumFault} {result : Result Z MediumFault} → IsSound mid → ((x : ℕ) → more x → all x)
-    → CopiesPass all few old mid one → CopiesPass more many mid new two → few + many ≤ most → IfErr result (IsRefusedCall old new)
-    → CopiesPass all most old new result
-copies_on {all = all} {old = old} {mid = mid} {new = new} sound f first second fit cause = record {
+pub copies_on : {M X Y Z : Type 0} {state : M → State} {Follows : M → M → Type 0} {more all P Q : ℕ → Type 0}
+    {few many most less much sends : ℕ} {old mid new : M} {one : Result X MediumFault} {two : Result Y MediumFault}
+    {result : Result Z MediumFault} → ((a b c : M) → Follows a b → Follows b c → Follows a c) → IsSound (state mid)
+    → ((x : ℕ) → more x → all x) → ((s : ℕ) → Q s → P s) → Copies state Follows all P few less old mid one
+    → Copies state Follows more Q many much mid new two → few + many ≤ most → less + much ≤ sends
+    → IfErr result (IsRefusedCall (state old) (state new)) → Copies state Follows all P most sends old new result
+copies_on {state = state} {all = all} {old = old} {mid = mid} through sound f wider first second fit few cause = record {
   elsewhere = λ x not. second.elsewhere x (λ h. not (f x h)) ∙ first.elsewhere x not;
   moments =
-      let sets = sets_within (freed_at all old.may_leave) old mid sound first.moments in
-      joined_same _ old mid new first.moments
+      let sets = sets_within (freed_at all (state old).may_leave) (state old) (state mid) sound first.moments in
+      joined_same _ _ _ _ first.moments
       (weaker _ _ _ _ (λ image cut s. ⊎_elim (sets s (image s)) (λ p. inr (f s p)) (cut s)) second.moments);
   calls = omega (arith, first.calls, second.calls, fit);
+  sent = omega (arith, first.sent, second.sent, few);
+  looks = looks_joined _ _ _ _ first.looks (looks_wider _ _ _ _ wider second.looks);
   cause = cause;
+  follows = through _ _ _ first.follows second.follows;
 }
-
--- no call copies nothing
-pub none_made : {places : ℕ → Type 0} {most : ℕ} {m : State} → IsSound m → CopiesPass {X = Unit {0}} places most m m (Ok tt)
-none_made {places = places} {m = m} sound =
-    let moments = started_within (freed_at places m.may_leave) m sound (λ s c left. inl left) in
-    record { elsewhere = λ x not. refl; moments = moments; calls = omega arith; cause = tt }
 
 -- reads copy nothing
-pub none_copies : {X Y : Type 0} {places : ℕ → Type 0} {few most : ℕ} {old new : State} {reads : Result X MediumFault}
-    {result : Result Y MediumFault} → IsSound old → ReadsPass few old new reads → few ≤ most → IfErr result (IsRefusedCall old new)
-    → CopiesPass places most old new result
-none_copies {places = places} {old = old} {new = new} sound passes fit cause = record {
-  elsewhere = λ x not. passes.quiet.content_stays x;
-  moments = quiet_leaves (CutLeaves (freed_at places old.may_leave)) old new sound (λ image cut s. inl (cut s)) passes.quiet;
-  calls = omega (arith, passes.calls, fit);
+pub none_copies : {M X Y : Type 0} {state : M → State} {Follows : M → M → Type 0} {places reads : ℕ → Type 0}
+    {F : State → State → X → Type 0} {few most sends : ℕ} {old new : M} {one : Result X MediumFault} {result : Result Y MediumFault}
+    → IsSound (state old) → LooksUp state Follows few reads F old new one → few ≤ most
+    → IfErr result (IsRefusedCall (state old) (state new)) → Copies state Follows places reads most sends old new result
+none_copies {state = state} {places = places} {old = old} {new = new} sound looked fit cause = record {
+  elsewhere = λ x not. looked.passes.quiet.content_stays x;
+  moments = quiet_leaves (CutLeaves (freed_at places (state old).may_leave)) _ _ sound (λ image cut s. inl (cut s)) looked.passes.quiet;
+  calls = omega (arith, looked.passes.calls, fit);
+  sent = omega (arith, none_sent (state old) (state new) looked.passes.reads);
+  looks = looked.follows.1;
   cause = cause;
+  follows = looked.follows.0;
 }
 
--- what an exact count says beside the copies
-pub all_pass : {X : Type 0} {places : ℕ → Type 0} {P : Image → Type 0} {count : ℕ} {old new : State} {result : Result X MediumFault}
-    → WritesAllPass places P count old new result → WritesPass places P count old new result
-all_pass all = search (rules, all.elsewhere)
-
-pub pass_all : {X : Type 0} {places : ℕ → Type 0} {P : Image → Type 0} {count : ℕ} {old new : State} {result : Result X MediumFault}
-    → WritesPass places P count old new result → OnOk result (new.calls ≡ old.calls + count)
-    → WritesAllPass places P count old new result
-pass_all pass exact = search (rules, pass.elsewhere)
-
--- calls that read sectors with P
-pub follows_on : {M : Type 0} {state : M → State} {Follows : M → M → Type 0} {P Q : ℕ → Type 0} {few many most : ℕ} {old mid new : M}
-    → ((a b c : M) → Follows a b → Follows b c → Follows a c) → ((s : ℕ) → Q s → P s)
-    → FollowsBy state Follows few (LooksOnly P) old mid → FollowsBy state Follows many (LooksOnly Q) mid new → few + many ≤ most
-    → FollowsBy state Follows most (LooksOnly P) old new
-follows_on through wider first second fit = record {
-  follows = through _ _ _ first.follows second.follows;
-  sent = omega (arith, first.sent, second.sent, fit);
-  looks = looks_joined _ _ _ _ first.looks (looks_wider _ _ _ _ wider second.looks);
-}
+-- nor does no call
+pub none_made : {M : Type 0} {state : M → State} {Follows : M → M → Type 0} {places reads : ℕ → Type 0} {most sends : ℕ} {m : M}
+    → IsSound (state m) → Follows m m → Copies {X = Unit {0}} state Follows places reads most sends m m (Ok tt)
+none_made {state = state} {places = places} {m = m} sound itself =
+    let moments = started_within (freed_at places (state m).may_leave) (state m) sound (λ s c left. inl left) in
+    let looks = no_looks _ (state m) (state m) refl in
+    record {
+      elsewhere = λ x not. refl;
+      moments = moments;
+      calls = omega arith;
+      sent = omega arith;
+      looks = looks;
+      cause = tt;
+      follows = itself;
+    }
 
 -- the calls for a few and for one more
 pub each_once_more : (each few many : ℕ) → few < many → each * few + each ≤ each * many

@@ -23,9 +23,9 @@ use Rattle.journal.specs.Standing.{StandsFor, IsOurs}
 use Rattle.journal.specs.ImageFaults.{HasShape}
 use Rattle.journal.proofs.SectorNumbers.{IsSuper-one}
 use Rattle.recovery.specs.Causes.{HasFewSlots}
-use Rattle.recovery.specs.Calls.{CopiesPass, Leaves}
+use Rattle.recovery.specs.Calls.{Leaves}
 use Rattle.recovery.specs.Copies.{copy_calls, most_calls_of, most_reads_of, most_start_of, most_start_sends, AreCopied, IsHomeInRecords}
-use Rattle.recovery.specs.Copies.{HasNewHead}
+use Rattle.recovery.specs.Copies.{freed_at, HasNewHead}
 use Rattle.recovery.specs.Looks.{HoldsLog}
 use Rattle.recovery.specs.Tries.{AreTries, AreTriesOf}
 use Rattle.recovery.specs.Found.{IsFound, IsSurvey, SurveysAtMost}
@@ -68,14 +68,16 @@ pub record IsSurveyed (result : Result (Unit {0}) MediumFault) (old mid seen : S
   pub reads : SurveysAtMost mid seen
 
 -- copies were made of what the survey found
-pub record IsCopying {X : Type 0} (least : ℕ) (old mid seen copied : State) (found : Found) (result : Result X MediumFault)
-    : Type 0 where
+pub record IsCopying (least : ℕ) (old mid seen copied : State) (found : Found) : Type 0 where
   pub only : Only old.content mid.may_leave
   pub survey : IsSurvey least mid seen found
   pub sound : IsSound copied
-  pub copies : CopiesPass (IsHomeInRecords (shape_of found.sizes) seen.content found.head found.count)
-      (most_calls_of found.sizes.format * found.count) seen copied result
-  pub sends : SendsUpTo (limit_of found.sizes.format * found.count) seen copied
+  pub elsewhere : (x : ℕ) → ¬ IsHomeInRecords (shape_of found.sizes) seen.content found.head found.count x
+      → copied.content x ≡ seen.content x
+  pub moments : LeavesOnly
+      (CutLeaves (freed_at (IsHomeInRecords (shape_of found.sizes) seen.content found.head found.count) seen.may_leave)) seen copied
+  pub calls : copied.calls ≤ seen.calls + most_calls_of found.sizes.format * found.count
+  pub sent : SendsUpTo (limit_of found.sizes.format * found.count) seen copied
   pub looks : LooksOnly (λ s. s < first_home (shape_of found.sizes)) seen copied
 
 -- they were good
@@ -132,8 +134,7 @@ module _ (least : ℕ) (old mid seen : State) {result : Result (Unit {0}) Medium
       (known.reads.looks near (quiet_after (λ n i. HoldsLog near n i) old mid flushed holds)) in
       search (rules, cuts, after, moments, counted, most, one_sent, looks, spared_quiet, quiet, known.sound)
 
-  module _ (copied : State) (found : Found) {X : Type 0} {copies : Result X MediumFault}
-      (copying : IsCopying least old mid seen copied found copies) where
+  module _ (copied : State) (found : Found) (copying : IsCopying least old mid seen copied found) where
     abbrev shape : Shape
     shape = shape_of found.sizes
 
@@ -153,18 +154,18 @@ module _ (least : ℕ) (old mid seen : State) {result : Result (Unit {0}) Medium
         let f = found_matches old.size old.content found at_old array next ours.stands in
         weaker _ _ _ _ (λ image cut. copies_ours old.size shape old.content array next ours found.head found.count f.0 f.1 image
         (λ x. ⊎_elim (λ left. inl (copying.only x (image x) (known.reads.quiet.sets_shrink x (image x) left)))
-        (λ home. inr (rw same at home)) (cut x))) copying.copies.moments
+        (λ home. inr (rw same at home)) (cut x))) copying.moments
 
     copied_spares : SparesFrom (sectors_of (shape_of found.sizes)) seen copied
     copied_spares =
         let apart = not_behind shape seen.content found.head found.count in
-        spared_by (sectors_of shape) seen copied copying.sound (λ s le. copying.copies.elsewhere s (apart s le))
+        spared_by (sectors_of shape) seen copied copying.sound (λ s le. copying.elsewhere s (apart s le))
         (weaker _ _ _ _
-        (λ image cut s le. ⊎_elim (λ was. was) (λ place. absurd (apart s le place)) (cut s)) copying.copies.moments)
+        (λ image cut s le. ⊎_elim (λ was. was) (λ place. absurd (apart s le place)) (cut s)) copying.moments)
 
     copied_log : (x : ℕ) → x < first_home (shape_of found.sizes) → copied.content x ≡ old.content x
     copied_log x below =
-        copying.copies.elsewhere x (not_in_log shape seen.content found.head found.count x below) ∙ quiet.content_stays x
+        copying.elsewhere x (not_in_log shape seen.content found.head found.count x below) ∙ quiet.content_stays x
 
     module _ (done : AllCopied found seen copied) where
       -- the records of what the contents stand for are copied
@@ -208,10 +209,10 @@ module _ (least : ℕ) (old mid seen : State) {result : Result (Unit {0}) Medium
 
       few_made : new.calls ≤ old.calls + 6 + most_start_of found.sizes.format * found.sizes.slots
       few_made = most_start found.sizes.format found.sizes.slots old.calls mid.calls seen.calls new.calls found.count counted
-          (known.reads.most shape copying.survey.is.shape) (omega (arith, copying.copies.calls, few)) copying.survey.is.count.few
+          (known.reads.most shape copying.survey.is.shape) (omega (arith, copying.calls, few)) copying.survey.is.count.few
 
       few_sent : SendsUpTo (most_start_sends found.sizes.format found.sizes.slots) old new
-      few_sent = omega (arith, mul-le-mul_left (limit_of found.sizes.format) at_old.count.few, one_sent, copying.sends, sends)
+      few_sent = omega (arith, mul-le-mul_left (limit_of found.sizes.format) at_old.count.few, one_sent, copying.sent, sends)
 
       pub moves_leave : LeavesAtLeast least old new
       moves_leave = record {
@@ -283,7 +284,7 @@ module _ (least : ℕ) (old mid seen : State) {result : Result (Unit {0}) Medium
                   ∙ copied_home done st.array (found.head + found.count + 1) s b below;
               elsewhere = λ x not other. head.elsewhere x not
                   ∙ ⊎_elim (copied_log x)
-                  (λ past. copying.copies.elsewhere x (not_behind shape seen.content found.head found.count x past)
+                  (λ past. copying.elsewhere x (not_behind shape seen.content found.head found.count x past)
                   ∙ quiet.content_stays x) other;
               calls = tries_moved found.sizes.format shape old.content s.head (min (length s.records + 1) slots)
                   (mid.calls + 2) seen.calls (old.calls + 6 + copy_calls found.sizes.format s.records) new.calls

@@ -1,6 +1,6 @@
 -- What calls of a medium do and cost, and why they are refused.
 use Rattle.std.specs.Prelude.{◌≡◌, ℕ, ◌+◌, ◌≤◌, Result, OnOk, IfErr}
-use Rattle.medium.specs.Medium.{State, Image, CutLeaves}
+use Rattle.medium.specs.Medium.{State, Image, CutLeaves, LooksOnly}
 use Rattle.medium.specs.Moments.{LeavesOnly, SparesFrom, IsQuiet}
 use Rattle.medium.specs.Sent.{SendsUpTo}
 use Rattle.medium.specs.declared.fault.MediumFault.{MediumFault}
@@ -31,15 +31,6 @@ pub record ReadsUpTo {X E : Type 0} (count : ℕ) (old new : State) (result : Re
   pub calls : new.calls ≤ old.calls + count
   pub exact : OnOk result (new.calls ≡ old.calls + count)
 
--- At most this many calls, which write to these sectors alone. A cut at any moment of them leaves
--- an image that has P. An error is a call that the medium refused.
-pub record WritesPass {X : Type 0} (places : ℕ → Type 0) (P : Image → Type 0) (most : ℕ)
-    (old new : State) (result : Result X MediumFault) : Type 0 where
-  pub elsewhere : (x : ℕ) → ¬ places x → new.content x ≡ old.content x
-  pub moments : LeavesOnly P old new
-  pub calls : new.calls ≤ old.calls + most
-  pub cause : IfErr result (IsRefusedCall old new)
-
 -- Calls that write to these sectors alone: this many where Ok, no more than that where the medium
 -- refused one. A cut at any moment of them leaves an image that has P.
 pub record WritesAllPass {X : Type 0} (places : ℕ → Type 0) (P : Image → Type 0) (count : ℕ)
@@ -50,17 +41,20 @@ pub record WritesAllPass {X : Type 0} (places : ℕ → Type 0) (P : Image → T
   pub exact : OnOk result (new.calls ≡ old.calls + count)
   pub cause : IfErr result (IsRefusedCall old new)
 
--- At most this many calls, which copy to these sectors: a cut may leave anything in them.
-abbrev pub CopiesPass : {X : Type 0} → (ℕ → Type 0) → ℕ → State → State → Result X MediumFault
-    → Type 0
-CopiesPass places most old new result =
-    WritesPass places (CutLeaves (freed_at places old.may_leave)) most old new result
-
--- The same, with this many calls where Ok.
-abbrev pub CopiesAllPass : {X : Type 0} → (ℕ → Type 0) → ℕ → State → State
-    → Result X MediumFault → Type 0
-CopiesAllPass places count old new result =
-    WritesAllPass places (CutLeaves (freed_at places old.may_leave)) count old new result
+-- The medium comes after what it was, by at most this many calls, of which so many at most are
+-- writes and flushes. They copy to these sectors: a cut may leave anything in them. Each read names
+-- one of those. An error is a call that the medium refused.
+pub record Copies {M X : Type 0} (state : M → State) (Follows : M → M → Type 0)
+    (places reads : ℕ → Type 0) (most sends : ℕ) (old new : M) (result : Result X MediumFault)
+    : Type 0 where
+  pub elsewhere : (x : ℕ) → ¬ places x → (state new).content x ≡ (state old).content x
+  pub moments : LeavesOnly (CutLeaves (freed_at places (state old).may_leave))
+      (state old) (state new)
+  pub calls : (state new).calls ≤ (state old).calls + most
+  pub sent : SendsUpTo sends (state old) (state new)
+  pub looks : LooksOnly reads (state old) (state new)
+  pub cause : IfErr result (IsRefusedCall (state old) (state new))
+  pub follows : Follows old new
 
 -- Calls that write zeros to these sectors: a cut may leave zeros in them.
 abbrev pub ClearsAllPass : {X : Type 0} → (ℕ → Type 0) → ℕ → State → State

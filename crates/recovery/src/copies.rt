@@ -1,12 +1,11 @@
 //! The copying of the whole records home.
 ghost use Rattle.std.specs.Prelude.{◌≡◌, ◌<◌, ◌≤◌, ◌+◌, ◌*◌, ◌^◌, ◌++◌};
 ghost use Rattle.std.specs.Prelude.{List, ℕ, OnOk, length, [], get_or, slice_index, drop};
-ghost use Rattle.medium.specs.Medium.{LooksOnly};
 ghost use Rattle.journal.specs.Places.{first_home, sectors_of, limit_of};
 ghost use Rattle.journal.specs.Values.{shape_of};
 ghost use Rattle.journal.specs.Record.{Entry};
 ghost use Rattle.journal.specs.Formats.{IsWhole, HasWhole};
-ghost use Rattle.recovery.specs.Calls.{FollowsBy, CopiesPass, CopiesAllPass};
+ghost use Rattle.recovery.specs.Calls.{Copies};
 ghost use Rattle.journal.specs.Reading.{data_at};
 ghost use Rattle.recovery.specs.Copies.{most_calls_of, IsHomeOf, IsHomeInRecord, IsHomeInRecords};
 ghost use Rattle.recovery.specs.Copies.{AreBlocks, IsCopied, AreCopied};
@@ -27,8 +26,9 @@ pub(crate) fn copy_sector<M: Medium>(
     requires few { length first.now ≤ 512 }
     ensures done { OnOk result ((M.state m.new).content to
         ≡ first.now ++ drop (length first.now) ((M.state m.old).content from)) }
-    ensures copies { CopiesAllPass (λ x. x ≡ to) 2 (M.state m.old) (M.state m.new) result }
-    ensures follows { FollowsBy M.state M.follows 1 (LooksOnly (λ s. s ≡ from)) m.old m.new }
+    ensures copies { Copies M.state M.follows (λ s. s ≡ to) (λ s. s ≡ from) 2 1
+        m.old m.new result }
+    ensures exact { OnOk result ((M.state m.new).calls ≡ (M.state m.old).calls + 2) }
 {
     let mut sector = [0; 512];
     m.read(from, &mut sector)?;
@@ -51,10 +51,12 @@ fn copy_blocks<M: Medium>(
         ≡ get_or read.now.firsts.items i []
         ++ drop (length (get_or read.now.firsts.items i []))
         ((M.state m.old).content (data_at (shape_of sizes.now) stamp i))) }
-    ensures copies { CopiesAllPass (IsHomeOf (shape_of sizes.now) read.now.numbers.items)
-        (2 * length read.now.numbers.items) (M.state m.old) (M.state m.new) result }
-    ensures follows { FollowsBy M.state M.follows (length read.now.numbers.items)
-        (LooksOnly (λ s. s < first_home (shape_of sizes.now))) m.old m.new }
+    ensures copies { Copies M.state M.follows
+        (IsHomeOf (shape_of sizes.now) read.now.numbers.items)
+        (λ s. s < first_home (shape_of sizes.now)) (2 * length read.now.numbers.items)
+        (length read.now.numbers.items) m.old m.new result }
+    ensures exact { OnOk result ((M.state m.new).calls
+        ≡ (M.state m.old).calls + 2 * length read.now.numbers.items) }
 {
     let slot = slot_of(stamp, sizes.slots);
     for i in 0..read.numbers.len() {
@@ -81,11 +83,10 @@ fn copy_record<M: Medium>(
         → IsWhole (shape_of sizes.now) (M.state m.old).content stamp entries
         → OnOk result
         (IsCopied (shape_of sizes.now) entries (M.state m.old) (M.state m.new)) }
-    ensures copies { CopiesPass
+    ensures copies { Copies M.state M.follows
         (IsHomeInRecord (shape_of sizes.now) (M.state m.old).content stamp)
-        (most_calls_of sizes.now.format) (M.state m.old) (M.state m.new) result }
-    ensures follows { FollowsBy M.state M.follows (limit_of sizes.now.format)
-        (LooksOnly (λ s. s < first_home (shape_of sizes.now))) m.old m.new }
+        (λ s. s < first_home (shape_of sizes.now)) (most_calls_of sizes.now.format)
+        (limit_of sizes.now.format) m.old m.new result }
 {
     if read_record(m, sizes, stamp, read)? {
         copy_blocks(m, sizes, stamp, read)
@@ -105,13 +106,11 @@ pub(crate) fn copy_records<M: Medium>(m: &mut M, found: &Found) -> Result<(), Me
         (M.state m.old).content (found.now.head + k) (get_or records k []))
         → OnOk result
         (AreCopied (shape_of found.now.sizes) records (M.state m.old) (M.state m.new)) }
-    ensures copies { CopiesPass (IsHomeInRecords (shape_of found.now.sizes)
+    ensures copies { Copies M.state M.follows (IsHomeInRecords (shape_of found.now.sizes)
         (M.state m.old).content found.now.head found.now.count)
+        (λ s. s < first_home (shape_of found.now.sizes))
         (most_calls_of found.now.sizes.format * found.now.count)
-        (M.state m.old) (M.state m.new) result }
-    ensures follows { FollowsBy M.state M.follows
-        (limit_of found.now.sizes.format * found.now.count)
-        (LooksOnly (λ s. s < first_home (shape_of found.now.sizes))) m.old m.new }
+        (limit_of found.now.sizes.format * found.now.count) m.old m.new result }
 {
     let mut read = Record::new();
     for j in 0..found.count {

@@ -1,20 +1,18 @@
-use Rattle.std.proofs.Common.{◌≡◌, ◌≢◌, ◌<◌, ◌≤◌, inl, inr, ◌∙◌, ◌+◌, ◌*◌, ◌%◌, ◌++◌, ℕ, List, length, drop, get_or, sym, ap}
-use Rattle.std.proofs.Common.{subst, arith, rules, Result}
+use Rattle.std.proofs.Common.{◌≡◌, ◌≢◌, ◌<◌, ◌≤◌, inl, inr, ◌∙◌, ◌+◌, ◌*◌, ◌%◌, ◌++◌, ℕ, List, length, drop, get_or, ap}
+use Rattle.std.proofs.Common.{arith, rules, Result}
 use Rattle.std.specs.Prelude.{IfErr}
 use Rattle.std.proofs.lemmas.Bool.{cases_eq}
 use Rattle.std.proofs.lemmas.Nat.{mod_below}
-use Rattle.medium.specs.Medium.{LooksOnly}
 use Rattle.medium.specs.declared.fault.MediumFault.{MediumFault}
-use Rattle.medium.proofs.SectorsRead.{no_looks}
 use Rattle.journal.specs.Places.{first_home, first_data_of}
 use Rattle.journal.specs.Formats.{layout_of}
 use Rattle.journal.specs.Reads.{IsRefusedCall}
 use Rattle.journal.specs.Values.{shape_of}
 use Rattle.journal.specs.Reading.{data_at}
 use Rattle.journal.proofs.SectorsRead.{place_before}
-use Rattle.recovery.specs.Calls.{CopiesPass, FollowsBy}
+use Rattle.recovery.specs.Calls.{Copies}
 use Rattle.recovery.specs.Copies.{IsHomeOf}
-use Rattle.recovery.proofs.JoinedCalls.{all_pass, pass_all, copies_on, none_made, follows_on}
+use Rattle.recovery.proofs.JoinedCalls.{copies_on, none_made}
 use Rattle.recovery.proofs.copies.copy_blocks.Given as given
 use Rattle.recovery.proofs.copies.copy_blocks.Goals as goal
 use Rattle.recovery.proofs.copies.copy_blocks.Goals.{After-first, After-copy_sector}
@@ -38,22 +36,15 @@ written_at g c = c.home_of.ensures
     ∙ ap (λ (l : List ℕ). first_home (shape_of c.args.sizes.now) + get_or l c.loop-i.i 0) c.deref.ensures.0
 
 -- the copies, good or refused, once one more was made
-copied : (g : given.Over) (c : After-copy_sector g) {X : Type 0} (result : Result X MediumFault) (most : ℕ)
+copied : (g : given.Over) (c : After-copy_sector g) {X : Type 0} (result : Result X MediumFault) (most sends : ℕ)
     → c.home_of.result ≡ first_home (shape_of c.args.sizes.now) + get_or c.args.read.now.numbers.items c.loop-i.i 0
-    → 2 * c.loop-i.i + 2 ≤ most → IfErr result (IsRefusedCall (g.M.Medium.state c.args.m.now) (g.M.Medium.state c.copy_sector.new.m))
-    → CopiesPass (IsHomeOf (shape_of c.args.sizes.now) c.args.read.now.numbers.items) most (g.M.Medium.state c.args.m.now)
-    (g.M.Medium.state c.copy_sector.new.m) result
-copied g c result most to fit cause = copies_on (g.met.M.Medium.sound c.loop-i.m)
-    (λ x e. (c.loop-i.i, omega (arith, c.loop-i-test.true, c.len-i-end.ensures.value), e ∙ to)) c.loop-i.invariant.copies
-    (all_pass c.copy_sector.ensures.copies) fit cause
-
-followed : (g : given.Over) (c : After-copy_sector g) (most : ℕ) → c.copy_place.result < first_home (shape_of c.args.sizes.now)
-    → c.loop-i.i + 1 ≤ most
-    → FollowsBy g.M.Medium.state g.M.Medium.follows most (LooksOnly (λ s. s < first_home (shape_of c.args.sizes.now))) c.args.m.now
-    c.copy_sector.new.m
-followed g c most low fit = follows_on g.met.M.Medium.follows_through
-    (λ s here. subst (λ (x : ℕ). x < first_home (shape_of c.args.sizes.now)) (sym here) low) c.loop-i.invariant.follows
-    c.copy_sector.ensures.follows fit
+    → c.copy_place.result < first_home (shape_of c.args.sizes.now) → 2 * c.loop-i.i + 2 ≤ most → c.loop-i.i + 1 ≤ sends
+    → IfErr result (IsRefusedCall (g.M.Medium.state c.args.m.now) (g.M.Medium.state c.copy_sector.new.m))
+    → Copies g.M.Medium.state g.M.Medium.follows (IsHomeOf (shape_of c.args.sizes.now) c.args.read.now.numbers.items)
+    (λ s. s < first_home (shape_of c.args.sizes.now)) most sends c.args.m.now c.copy_sector.new.m result
+copied g c result most sends to low fit few cause = copies_on g.met.M.Medium.follows_through (g.met.M.Medium.sound c.loop-i.m)
+    (λ x e. (c.loop-i.i, omega (arith, c.loop-i-test.true, c.len-i-end.ensures.value), e ∙ to))
+    (λ s here. omega (arith, here, low)) c.loop-i.invariant.copies c.copy_sector.ensures.copies fit few cause
 
 pub copy_place-requires-clause-inside : goal.copy_place-requires-clause-inside
 copy_place-requires-clause-inside g c =
@@ -73,13 +64,15 @@ copy_sector-requires-clause-to_inside g c =
     omega (arith, to, below, c.requires.fits, c.loop-i.invariant.copies.moments.size_stays)
 
 pub loop-i-init : goal.loop-i-init
-loop-i-init g c = search (rules, none_made, g.met.M.Medium.sound, g.met.M.Medium.follows_itself, no_looks)
+loop-i-init g c = search (rules, none_made, g.met.M.Medium.sound, g.met.M.Medium.follows_itself)
 
 pub returns-in_err-copy_sector-clause-copies : goal.returns-in_err-copy_sector-clause-copies
 returns-in_err-copy_sector-clause-copies g c =
     let at = goal.at.returns-in_err-copy_sector-clause-copies g c in
-    pass_all (copied g at.After-copy_sector _ _ (written_at g at.After-first)
-    (omega (arith, c.loop-i-test.true, c.len-i-end.ensures.value)) (search rules)) (search rules)
+    let from = read_at g at.After-first in
+    let inside : c.loop-i.i < length c.args.read.now.numbers.items = omega (arith, c.loop-i-test.true, c.len-i-end.ensures.value) in
+    copied g at.After-copy_sector _ _ _ (written_at g at.After-first) (omega (arith, from.0, from.1)) (omega (arith, inside))
+    (omega (arith, inside)) (search rules)
 
 pub loop-i-preserved : goal.loop-i-preserved
 loop-i-preserved g c =
@@ -107,13 +100,6 @@ loop-i-preserved g c =
             let apart : first_home shape + get_or ns k 0 ≢ c.home_of.result = λ e. omega (arith, e, to, up) in
             c.copy_sector.ensures.copies.elsewhere (first_home shape + get_or ns k 0) apart ∙ inv.copied k (omega arith)
       ];
-      copies = copied g at.After-copy_sector _ _ to (omega arith) tt;
-      calls = omega (arith, inv.calls, c.in_ok-copy_sector.ensures.copies.exact);
-      follows = followed g at.After-copy_sector _ (omega (arith, from.0, from.1)) (omega arith);
+      copies = copied g at.After-copy_sector _ _ _ to (omega (arith, from.0, from.1)) (omega arith) (omega arith) tt;
+      calls = omega (arith, inv.calls, c.in_ok-copy_sector.ensures.exact);
     }
-
-pub returns-in_err-copy_sector-clause-follows : goal.returns-in_err-copy_sector-clause-follows
-returns-in_err-copy_sector-clause-follows g c =
-    let at = goal.at.returns-in_err-copy_sector-clause-follows g c in
-    let from = read_at g at.After-first in
-    followed g at.After-copy_sector _ (omega (arith, from.0, from.1)) (omega (arith, c.loop-i-test.true, c.len-i-end.ensures.value))

@@ -2,8 +2,6 @@ use Rattle.std.proofs.Common.{◌≡◌, ◌∙◌, ◌+◌, ◌*◌, ◌++◌, 
 use Rattle.std.proofs.Common.{Result, Ok, Err}
 use Rattle.std.specs.Prelude.{Some, OnOk}
 use Rattle.medium.specs.Medium.{Image}
-use Rattle.medium.proofs.SectorsRead.{looks_joined}
-use Rattle.medium.proofs.CallsSent.{none_sent}
 use Rattle.journal.specs.declared.log_format.LogFormat.{LogFormat}
 use Rattle.journal.specs.declared.record.Record.{Record}
 use Rattle.journal.specs.Places.{Shape, limit_of}
@@ -13,7 +11,7 @@ use Rattle.journal.specs.Reading.{record_reads_of, data_at, IsReadFor, FindsReco
 use Rattle.journal.proofs.Formats.{most_is}
 use Rattle.recovery.specs.Copies.{AreBlocks, IsHomeOf, calls_of, most_calls_of}
 use Rattle.recovery.proofs.CopiedRecords.{number_of, long_as}
-use Rattle.recovery.proofs.JoinedCalls.{none_copies, all_pass, copies_on}
+use Rattle.recovery.proofs.JoinedCalls.{none_copies, copies_on}
 use Rattle.recovery.proofs.copies.copy_record.Given as given
 use Rattle.recovery.proofs.copies.copy_record.Goals as goal
 use Rattle.recovery.proofs.copies.copy_record.Goals.{Then-branch}
@@ -51,8 +49,8 @@ copy_blocks-requires-clause-blocks g c = blocks g (goal.at.copy_blocks-requires-
 
 pub returns-in_err-read_record-clause-copies : goal.returns-in_err-read_record-clause-copies
 returns-in_err-read_record-clause-copies g c =
-    none_copies (g.met.M.Medium.sound c.args.m.now) c.read_record.ensures.passes
-    (omega (arith, most_copied c.args.sizes.now.format 0)) (search rules)
+    none_copies (g.met.M.Medium.sound c.args.m.now) c.read_record.ensures (omega (arith, most_copied c.args.sizes.now.format 0))
+    (search rules)
 
 -- there is a record
 pub returns-else-branch : goal.returns-else-branch
@@ -66,10 +64,11 @@ returns-then-branch-clause-copies g c =
     let shape = shape_of c.args.sizes.now in
     let whole = c.requires.whole in
     let is = (found g at).all whole.0 whole.1 in
-    copies_on (g.met.M.Medium.sound c.read_record.new.m)
-    (λ x h. (whole.0, whole.1, subst (λ (l : List ℕ). IsHomeOf shape l x) is.numbers_are h))
-    (none_copies (g.met.M.Medium.sound c.args.m.now) c.read_record.ensures.passes (omega arith) c.read_record.ensures.passes.cause)
-    (all_pass c.copy_blocks.ensures.copies) (most_copied c.args.sizes.now.format _ (blocks g at).few) (search rules)
+    let few = (blocks g at).few in
+    copies_on {less = 0} g.met.M.Medium.follows_through (g.met.M.Medium.sound c.read_record.new.m)
+    (λ x h. (whole.0, whole.1, subst (λ (l : List ℕ). IsHomeOf shape l x) is.numbers_are h)) (λ s below. below)
+    (none_copies (g.met.M.Medium.sound c.args.m.now) c.read_record.ensures (omega arith) c.read_record.ensures.passes.cause)
+    c.copy_blocks.ensures.copies (most_copied c.args.sizes.now.format _ few) (omega (arith, few)) (search rules)
 
 pub returns-then-branch-clause-done : goal.returns-then-branch-clause-done
 returns-then-branch-clause-done g c entries all =
@@ -87,10 +86,4 @@ returns-then-branch-clause-done g c entries all =
           ∙ its.blocks_are i below);
       exact = calls_made shape.format shape _ c.args.stamp c.read_record.new.to _ finds.exact.0 _ _ _ finds.exact.1 many finds.exact.2
           made;
-    }) c.copy_blocks.ensures.done c.copy_blocks.ensures.copies.exact
-
-pub returns-then-branch-clause-follows : goal.returns-then-branch-clause-follows
-returns-then-branch-clause-follows g c =
-    let few = (blocks g (goal.at.returns-then-branch-clause-follows g c).Then-branch).few in
-    let none = none_sent (g.M.Medium.state c.args.m.now) (g.M.Medium.state c.read_record.new.m) c.read_record.ensures.passes.reads in
-    search (rules, g.met.M.Medium.follows_through, looks_joined, few, none)
+    }) c.copy_blocks.ensures.done c.copy_blocks.ensures.exact

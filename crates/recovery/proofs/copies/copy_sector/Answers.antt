@@ -16,11 +16,6 @@ returns-clause-copies g c =
       rules,
       goes_on_within bound _ _ _ (quiet_leaves _ _ _ (g.met.M.Medium.sound c.args.m.now) (λ image cut s. inl (cut s)) quiet) wrote.passes
           (gains_within bound _ _ c.args.to bytes (λ s b left. inl (read.sets s b left)) wrote.sets (λ s b here. inr here.0)),
+      looks_joined _ _ _ _ read.follows.1 (write_looks _ _ _ wrote.passes),
+      g.met.M.Medium.follows_through,
     )
-
-pub returns-clause-follows : goal.returns-clause-follows
-returns-clause-follows g c = search (
-  rules,
-  g.met.M.Medium.follows_through,
-  looks_joined _ _ _ _ c.read.ensures.follows.1 (write_looks _ _ _ c.write.ensures.passes),
-)

@@ -53,14 +53,16 @@ survey g c = search (rules, g.met.M.Medium.sound)
 -- the copies of what it found
 copying : (g : given.Over) (c : After-copy_records g)
     → IsCopying c.args.least (g.M.Medium.state c.args.m.now) (g.M.Medium.state c.flush.new.self) (g.M.Medium.state c.inspect.new.m)
-    (g.M.Medium.state c.copy_records.new.m) c.in_ok-found.found c.copy_records.result
-copying g c = search (rules, c.in_ok-flush.ensures.ok, c.in_ok-found.ensures.ok, g.met.M.Medium.sound)
+    (g.M.Medium.state c.copy_records.new.m) c.in_ok-found.found
+copying g c =
+    let copies = c.copy_records.ensures.copies in
+    search (rules, c.in_ok-flush.ensures.ok, c.in_ok-found.ensures.ok, copies.elsewhere, g.met.M.Medium.sound)
 
 -- and the move of the head
 moved : (g : given.Over) (c : After-move_head g)
     → IsSurveyed c.flush.result (g.M.Medium.state c.args.m.now) (g.M.Medium.state c.flush.new.self) (g.M.Medium.state c.inspect.new.m)
     → IsCopying c.args.least (g.M.Medium.state c.args.m.now) (g.M.Medium.state c.flush.new.self) (g.M.Medium.state c.inspect.new.m)
-    (g.M.Medium.state c.copy_records.new.m) c.in_ok-found.found c.copy_records.result
+    (g.M.Medium.state c.copy_records.new.m) c.in_ok-found.found
     → LeavesAtLeast c.args.least (g.M.Medium.state c.args.m.now) (g.M.Medium.state c.move_head.new.m)
 moved g c known copies =
     let moves = c.move_head.ensures in
