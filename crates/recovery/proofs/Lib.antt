@@ -4,7 +4,6 @@ pub mod MadeImage
 pub mod CopiedRecords
 pub mod JoinedCalls
 pub mod FoundRecords
-pub mod MigrationCuts
 pub mod WholeRecovery
 pub mod ReplayedImages
 pub mod SectorsRead

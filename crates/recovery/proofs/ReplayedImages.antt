@@ -20,6 +20,10 @@ use Rattle.recovery.specs.Copies.{IsHomeInRecords, HasNewHead}
 use Rattle.recovery.specs.Recovered.{IsFresh}
 use Rattle.recovery.proofs.CopiedRecords.{log_ends, home_in_whole, long_as, number_of, whole_same, not_in_log}
 
+-- two arrays have the same blocks
+abbrev pub AreSame : Shape → Array → Array → Type 0
+AreSame shape a c = (b : ℕ) → b < shape.blocks → a b ≡ c b
+
 module _ (L : Layout) (laws : Laws L) (shape : Shape) (image : Image) where
   -- a whole record carries its stamp in its last sector
   last_carries : (stamp : ℕ) (es : List Entry) → IsWholeIn L shape image stamp es
@@ -114,7 +118,7 @@ copies_ours size shape start array next ours head count head_is count_is image e
 -- the new head, once every block is at home
 pub new_head_fresh : (size : ℕ) (shape : Shape) (start : Image) (array : Array) (next : ℕ) → IsOurs size shape start array next
     → (before image : Image) → ((x : ℕ) → x < first_home shape → before x ≡ start x)
-    → ((b : ℕ) → b < shape.blocks → before (first_home shape + b) ≡ array b) → HasNewHead next before image → IsFresh shape array next image
+    → AreSame shape (home_of shape before) array → HasNewHead next before image → IsFresh shape array next image
 new_head_fresh size shape start array next ours before image log home moved =
     let super = ours.stands.keeps.super in
     let ends = log_ends shape super.home_is in
@@ -129,7 +133,7 @@ new_head_fresh size shape start array next ours before image log home moved =
 -- no record waits in a log of zeros
 pub zeros_fresh : (shape : Shape) (array : Array) (next : ℕ) (image : Image) → IsSuper shape (image 0) → IsHead next (image 1)
     → ((x : ℕ) → 2 ≤ x → x < first_home shape → image x ≡ replicate 512 0)
-    → ((b : ℕ) → b < shape.blocks → image (first_home shape + b) ≡ array b) → IsFresh shape array next image
+    → AreSame shape (home_of shape image) array → IsFresh shape array next image
 zeros_fresh shape array next image super head zeros home =
     let ends = log_ends shape super.home_is in
     search (rules, home, zeros_carry shape image next head.least (λ x low high. zeros x low (omega (arith, high, ends))))

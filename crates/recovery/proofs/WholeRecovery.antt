@@ -4,7 +4,7 @@ use Rattle.std.proofs.Common.{mul-le-mul_left}
 use Rattle.std.specs.Prelude.{min, Result}
 use Rattle.medium.specs.Medium.{State, Image, CutLeaves, Stays, Within, Only, Passes, LooksOnly, IsSound}
 use Rattle.medium.specs.Moments.{EachCut, IsFlushed, LeavesOnly, IsQuiet, SparesFrom}
-use Rattle.medium.specs.Sent.{sent, SendsUpTo}
+use Rattle.medium.specs.Sent.{SendsUpTo}
 use Rattle.medium.specs.declared.fault.MediumFault.{MediumFault}
 use Rattle.medium.specs.declared.fault.MediumFault.TheVariants.{Flush}
 use Rattle.spec.specs.Blocks.{Array}
@@ -20,9 +20,9 @@ use Rattle.journal.specs.Values.{shape_of}
 use Rattle.journal.specs.Record.{Entry, with_records, home_of}
 use Rattle.journal.specs.Formats.{IsWhole}
 use Rattle.journal.specs.Standing.{StandsFor, IsOurs}
-use Rattle.journal.specs.ImageFaults.{HasShape}
+use Rattle.journal.specs.ImageFaults as image
 use Rattle.journal.proofs.SectorNumbers.{IsSuper-one}
-use Rattle.recovery.specs.Causes.{HasFewSlots}
+use Rattle.recovery.specs.Causes.{IsRefusedCall, WritesNothing, HasFewSlots, IsRefusalBy}
 use Rattle.recovery.specs.Calls.{Leaves}
 use Rattle.recovery.specs.Copies.{copy_calls, most_calls_of, most_reads_of, most_start_of, most_start_sends, AreCopied, IsHomeInRecords}
 use Rattle.recovery.specs.Copies.{freed_at, HasNewHead}
@@ -31,8 +31,12 @@ use Rattle.recovery.specs.Tries.{AreTries, AreTriesOf}
 use Rattle.recovery.specs.Found.{IsFound, IsSurvey, SurveysAtMost}
 use Rattle.recovery.specs.Recovered.{IsRecoveredAtLeast, IsFresh, IsOursForSome, IsOursWithNext, StandsForOneOf, LeavesAtLeast}
 use Rattle.recovery.specs.declared.found.Found.{Found}
+use Rattle.recovery.specs.declared.start_fault.StartFault.{StartFault}
+use Rattle.recovery.specs.declared.start_fault.StartFault.TheVariants.{NoMemory, StampsUsedUp, LogTooSmall}
+use Rattle.recovery.proofs.Causes.{refused_later}
 use Rattle.recovery.proofs.CopiedRecords.{log_ends, not_in_log, not_behind, spared_by}
 use Rattle.recovery.proofs.FoundRecords.{quiet_before, quiet_after, found_stands, found_matches}
+use Rattle.recovery.proofs.MadeImage.{wider}
 use Rattle.recovery.proofs.ReplayedImages.{copies_ours, new_head_fresh, fresh_ours}
 use Rattle.recovery.proofs.SectorsRead.{looked_on}
 
@@ -49,13 +53,9 @@ most_start : (format : LogFormat) (slots old mid seen new count : ℕ) → mid �
 most_start format slots old mid seen new count a b c few = grind arith
 
 -- whatever the format and the slots
-few_starts : (format : LogFormat) (slots old new : ℕ) → slots ≤ 64 → new ≤ old + 6 + most_start_of format * slots
-    → new ≤ old + 6 + 738 * 64
-few_starts format slots old new few most = grind arith
-
-all_slots : (format : LogFormat) (slots old new : ℕ) → slots ≤ 64 → new ≤ old + most_start_sends format slots
-    → new ≤ old + most_start_sends Two 64
-all_slots format slots old new few most = grind arith
+most_of : (format : LogFormat) (slots : ℕ) → slots ≤ 64
+    → (most_start_of format * slots ≤ 738 * 64) × (most_start_sends format slots ≤ most_start_sends Two 64)
+most_of format slots few = (grind arith, grind arith)
 
 -- a flush was made, and behind a good one a survey
 pub record IsSurveyed (result : Result (Unit {0}) MediumFault) (old mid seen : State) : Type 0 where
@@ -87,13 +87,17 @@ AllCopied found seen copied = (records : List (List Entry)) → found.count ≡ 
     → AreCopied (shape_of found.sizes) records seen copied
 
 -- an image that a cut leaves before the head is moved, or behind good copies the one with the new head
-abbrev pub MayMove : Found → State → State → Image → Type 0
+abbrev MayMove : Found → State → State → Image → Type 0
 MayMove found seen copied image = CutLeaves copied.may_leave image
     ⊎ (AllCopied found seen copied × HasNewHead (found.head + found.count + 1) copied.content image)
 
 module _ (least : ℕ) (old mid seen : State) {result : Result (Unit {0}) MediumFault} (known : IsSurveyed result old mid seen) where
   pub flushed : IsQuiet old mid
   flushed = quiet_call old mid known.passes known.content known.sets
+
+  -- what held of the medium behind the flush held before it
+  back : (P : ℕ → Image → Type 0) → P mid.size mid.content → P old.size old.content
+  back P h = quiet_before P old mid flushed h
 
   quiet : IsQuiet old seen
   quiet = quiet_joined old mid seen flushed known.reads.quiet
@@ -106,6 +110,9 @@ module _ (least : ℕ) (old mid seen : State) {result : Result (Unit {0}) Medium
 
   one_sent : SendsUpTo 1 old seen
   one_sent = omega (arith, flush_sends old mid known.passes, none_sent mid seen known.reads.reads)
+
+  wrote_nothing : WritesNothing old seen
+  wrote_nothing = search (rules, quiet, known.reads.reads, known.passes.others_made, known.passes.made_is)
 
   -- from the first good flush up to the first write there is one image
   seen_after : Only old.content mid.may_leave → (shape : Shape) (array : Array) (next : ℕ) → IsOurs old.size shape old.content array next
@@ -126,20 +133,32 @@ module _ (least : ℕ) (old mid seen : State) {result : Result (Unit {0}) Medium
       let after = λ (shape : Shape) (array : Array) (next : ℕ) (ours : IsOurs old.size shape old.content array next)
       (more : old.calls + 2 ≤ seen.calls). seen_after (known.only more) shape array next ours in
       let moments = quiet_leaves (λ _. Unit {0}) old seen known.sound (λ image cut. tt) quiet in
-      let most = λ (shape : Shape) (has : HasShape old.size shape old.content).
+      let most = λ (shape : Shape) (has : image.HasShape old.size shape old.content).
       most_start shape.format shape.slots old.calls mid.calls seen.calls seen.calls 0 counted
-      (known.reads.most shape (quiet_after (λ n i. HasShape n shape i) old mid flushed has)) (omega arith) (omega arith) in
+      (known.reads.most shape (quiet_after (λ n i. image.HasShape n shape i) old mid flushed has)) (omega arith) (omega arith) in
       let looks = λ (near : ℕ) (holds : HoldsLog near old.size old.content). looks_joined (λ s. s < near) old mid seen
       (no_looks _ old mid (known.passes.looked_stays (λ e. cc e)))
       (known.reads.looks near (quiet_after (λ n i. HoldsLog near n i) old mid flushed holds)) in
       search (rules, cuts, after, moments, counted, most, one_sent, looks, spared_quiet, quiet, known.sound)
+
+  -- a refusal by the survey is one by the flush and it
+  pub refusal : (fault : StartFault) → IsRefusalBy least IsQuiet mid seen fault → IsRefusalBy least WritesNothing old seen fault
+  refusal NoMemory h = h
+  refusal StampsUsedUp h =
+      (back (λ n i. ¬ HasFewSlots least n i) h.0, back (λ n i. image.HasNoStampLeft n i) h.1, wrote_nothing)
+  refusal LogTooSmall h = (back (λ n i. HasFewSlots least n i) h.0, wrote_nothing)
+  refusal fault h =
+      let later = λ (kind : MediumFault) (h : IsRefusedCall mid seen kind).
+      refused_later old mid seen flushed.failures_stay flushed.refused_stay kind h in
+      let same = λ (f : image.ImageFault). back (λ n i. image.HasFault n i f) in
+      search (rules, later, same, wrote_nothing)
 
   module _ (copied : State) (found : Found) (copying : IsCopying least old mid seen copied found) where
     abbrev shape : Shape
     shape = shape_of found.sizes
 
     at_old : IsFound old.size old.content found
-    at_old = quiet_before (λ n i. IsFound n i found) old mid flushed copying.survey.is
+    at_old = back (λ n i. IsFound n i found) copying.survey.is
 
     one_shape : (other : Shape) → IsSuper other (old.content 0) → other ≡ shape
     one_shape other s = IsSuper-one other shape (old.content 0) s at_old.shape.super
@@ -214,8 +233,8 @@ module _ (least : ℕ) (old mid seen : State) {result : Result (Unit {0}) Medium
       few_sent : SendsUpTo (most_start_sends found.sizes.format found.sizes.slots) old new
       few_sent = omega (arith, mul-le-mul_left (limit_of found.sizes.format) at_old.count.few, one_sent, copying.sent, sends)
 
-      pub moves_leave : LeavesAtLeast least old new
-      moves_leave = record {
+      later_leave : LeavesAtLeast least old new
+      later_leave = record {
         all = record {
           cuts = λ each.
               let e = each old.content known.sound.holds_content in
@@ -236,12 +255,12 @@ module _ (least : ℕ) (old mid seen : State) {result : Result (Unit {0}) Medium
           };
           moments = joined_same (λ _. Unit {0}) old seen new survey_leaves.all.moments
               (weaker _ _ _ _ (λ image p. tt) spares.moments);
-          calls = few_starts found.sizes.format found.sizes.slots old.calls new.calls found.sizes.most_slots few_made;
+          calls = omega (arith, few_made, (most_of found.sizes.format found.sizes.slots found.sizes.most_slots).0);
           most = λ other has. rw (one_shape other has.super) few_made;
           sends = record {
             most = λ other has. rw (one_shape other has.super) few_sent;
             none = λ no. absurd (no shape at_old.shape);
-            any = all_slots found.sizes.format found.sizes.slots (sent old) (sent new) found.sizes.most_slots few_sent;
+            any = omega (arith, few_sent, (most_of found.sizes.format found.sizes.slots found.sizes.most_slots).1);
           };
           looks = looked_on shape old seen new at_old.shape survey_leaves.all.looks
               (looks_joined _ seen copied new copying.looks (no_looks _ copied new leaves.looked_stays));
@@ -250,11 +269,17 @@ module _ (least : ℕ) (old mid seen : State) {result : Result (Unit {0}) Medium
       }
 
     pub copies_leave : LeavesAtLeast least old copied
-    copies_leave = moves_leave copied (record {
+    copies_leave = later_leave copied (record {
       moments = started _ copied copying.sound (λ image cut. inl cut);
       spares = spared_start 2 copied copying.sound;
       looked_stays = refl;
     }) (omega arith) (omega arith)
+
+    pub moves_leave : (new : State) → AllCopied found seen copied
+        → Leaves (λ image. CutLeaves copied.may_leave image ⊎ HasNewHead (found.head + found.count + 1) copied.content image) 2 copied new
+        → new.calls ≤ copied.calls + 3 → SendsUpTo 3 copied new → LeavesAtLeast least old new
+    moves_leave new done leaves few sends =
+        later_leave new (wider _ (λ image either. ⊎_elim inl (λ head. inr (done, head)) either) leaves) few sends
 
     module _ (new : State) (done : AllCopied found seen copied)
         (head : HasNewHead (found.head + found.count + 1) copied.content new.content) (durable : IsFlushed new) where
@@ -270,8 +295,8 @@ module _ (least : ℕ) (old mid seen : State) {result : Result (Unit {0}) Medium
           let st = found_stands old.size old.content found at_old in
           let s = st.stands in
           let slots = found.sizes.slots in
-          let tries = quiet_before (λ n i. AreTries shape i found.head (min (found.count + 1) slots) (mid.calls + 2) seen.calls)
-          old mid flushed copying.survey.exact in
+          let tries = back (λ n i. AreTries shape i found.head (min (found.count + 1) slots) (mid.calls + 2) seen.calls)
+          copying.survey.exact in
           let copied_all = all_copied done st.array (found.head + found.count + 1) s in
           record {
             from = record {

@@ -1,20 +1,158 @@
-use Rattle.std.proofs.Common.{refl, subst, ℕ}
-use Rattle.medium.specs.Medium.{State}
+use Rattle.std.proofs.Common.{◌≡◌, inl, inr, ⊎_elim, ℕ, ◌+◌, ◌*◌, ◌≤◌, length, refl, sym, ◌∙◌, subst, arith, rules}
+use Rattle.std.specs.Prelude.{min}
+use Rattle.std.proofs.lemmas.Bool.{cases_lt}
+use Rattle.std.proofs.lemmas.Result.{err_from_is_err_and}
+use Rattle.medium.specs.Medium.{State, IsSound}
+use Rattle.medium.specs.Moments.{EachCut, LeavesOnly}
+use Rattle.spec.specs.Blocks.{Array}
+use Rattle.medium.specs.Sent.{SendsUpTo}
 use Rattle.medium.specs.declared.fault.MediumFault.{MediumFault}
 use Rattle.medium.specs.declared.fault.MediumFault.TheVariants as medium
-use Rattle.std.proofs.lemmas.Result.{err_from_is_err_and}
-use Rattle.medium.specs.Moments.{EachCut}
-use Rattle.journal.specs.Places.{Shape}
+use Rattle.medium.proofs.Moments.{weaker, joined_same, only_image}
+use Rattle.medium.proofs.SectorsRead.{no_looks, looks_joined}
+use Rattle.medium.proofs.SparedSectors.{spared_behind, spared_joined}
+use Rattle.journal.specs.declared.log_format.LogFormat.{LogFormat}
+use Rattle.journal.specs.declared.log_format.LogFormat.TheVariants.{One}
+use Rattle.journal.specs.Places.{Shape, first_home, sectors_of, migrated}
+use Rattle.journal.specs.Record.{home_of}
 use Rattle.journal.specs.Values.{shape_of}
 use Rattle.journal.proofs.SectorNumbers.{IsSuper-one}
+use Rattle.journal.specs.Standing.{IsOurs}
+use Rattle.journal.specs.ImageFaults.{HasShape}
+use Rattle.journal.proofs.StandingLaws.{StandsFor-one, StandsFor-shape}
 use Rattle.recovery.specs.Causes.{start_fault_of, IsRefusedCall, WritesNothing, IsRefusalBy}
-use Rattle.recovery.specs.Migrated.{MigrationLeaves}
-use Rattle.recovery.specs.Recovered.{IsFresh}
+use Rattle.recovery.specs.Calls.{Leaves}
+use Rattle.recovery.specs.Copies.{copy_calls, most_start_sends}
+use Rattle.recovery.specs.Recovered.{IsRecoveredAtLeast, IsFresh, StandsForOneOf, IsOursForSome, LeavesAtLeast}
+use Rattle.recovery.specs.Migrated.{CanMigrate, IsMadeOf, IsMigratedFrom, StaysFresh, IsOursInEither, StandsInEither, MigrationLeaves}
+use Rattle.recovery.specs.Migrated.{most_migration_sends}
+use Rattle.recovery.specs.declared.recovered.Recovered.{Recovered}
 use Rattle.recovery.proofs.Causes.{served_slots, refused_later}
-use Rattle.recovery.proofs.MigrationCuts.{can_migrate, recovery_leaves, migration_leaves, migrated_fresh, migrated_from}
+use Rattle.recovery.proofs.CopiedRecords.{log_ends}
+use Rattle.recovery.proofs.ReplayedImages.{AreSame, zeros_fresh, fresh_ours}
 use Rattle.recovery.proofs.migration.migrate.Given as given
 use Rattle.recovery.proofs.migration.migrate.Goals as goal
 use Rattle.recovery.proofs.migration.migrate.Goals.{After-make_two}
+
+-- a recovery is a part of a migration
+start_migrates : (format : LogFormat) (slots old new : ℕ) → new ≤ old + most_start_sends format slots
+    → new ≤ old + most_migration_sends format slots
+start_migrates format slots old new most = grind arith
+
+-- what a recovery leaves
+recovery_leaves : (old new : State) → LeavesAtLeast 5 old new → MigrationLeaves old new
+recovery_leaves old new leaves =
+    let all = leaves.all in
+    let cuts = λ (each : EachCut (IsOursForSome old.size) old).
+    weaker (StandsForOneOf old) (StandsInEither old) old new (λ image o. search (rules, o)) (all.cuts each) in
+    search (rules, cuts, all.after_flush, start_migrates, all.sends.most, all.sends.none, all.looks, leaves.small)
+
+module _ (old mid : State) (found : Recovered) (start : IsRecoveredAtLeast 5 old mid found) (one : found.sizes.format ≡ One) where
+  abbrev shape : Shape
+  shape = shape_of found.sizes
+
+  has_shape : HasShape old.size shape old.content
+  has_shape = StandsFor-shape old.size shape old.content start.from.array found.next start.from.stood
+
+  -- there is room for a slot of format 2
+  can_migrate : CanMigrate (shape_of found.sizes)
+  can_migrate = record {
+    one = one;
+    room = ⊎_elim (λ few. absurd (search (rules, start.room, has_shape, few))) (λ room. room) (cases_lt found.sizes.slots 5);
+  }
+
+  -- the calls of a recovery of format 1
+  tried : mid.calls ≡ old.calls + 6 + copy_calls One start.from.stood.records
+      + 2 * min (length start.from.stood.records + 1) found.sizes.slots
+  tried = let calls = rw one at start.from.calls in omega (arith, calls)
+
+  module _ (new : State) (making : Leaves (StaysFresh (shape_of found.sizes) found.next mid.content) found.sizes.home mid new) where
+    -- the home sectors hold what recovery left there
+    kept_home : AreSame (shape_of found.sizes) (home_of shape new.content) start.from.array
+    kept_home b below = making.spares.content (first_home shape + b) (omega arith) ∙ start.from.home b below
+
+    module _ (sound_old : IsSound old) (sound_mid : IsSound mid)
+        (fresh : (shape : Shape) (array : Array) (next : ℕ) → IsOurs old.size shape old.content array next
+        → EachCut (IsFresh shape array next) mid) where
+      -- each image is ours for the contents
+      leaves_ours : (other : Shape) (array : Array) (next : ℕ) → IsOurs old.size other old.content array next
+          → LeavesOnly (IsOursInEither old.size other array next) mid new
+      leaves_ours other array next ours =
+          let same = StandsFor-one old.size old.size other shape old.content array start.from.array next found.next ours.stands
+          start.from.stood in
+          let here = rw (same.0, same.1) at ours in
+          let fits = start.from.stood.fits in
+          rw (same.0, same.1) (weaker _ _ _ _
+          (λ image either. ⊎_elim (λ was. inl (inr (fresh_ours old.size shape array found.next image fits was)))
+          (λ two. inr (can_migrate, fresh_ours old.size (migrated shape) array found.next image fits two))
+          (either array (fresh shape array found.next here mid.content sound_mid.holds_content))) making.moments)
+
+      migration_leaves : LeavesAtLeast 5 old mid → new.calls ≤ mid.calls + (50 * found.sizes.slots + 5)
+          → SendsUpTo (50 * found.sizes.slots + 5) mid new → MigrationLeaves old new
+      migration_leaves before last sends = record {
+        cuts = λ each.
+            let e = each old.content sound_old.holds_content in
+            joined_same (StandsInEither old) old mid new (first.cuts each)
+            (weaker (IsOursInEither old.size e.0 e.1 e.2) (StandsInEither old) _ _
+            (λ image is. search (rules, e.3, is, sound_old.holds_content))
+            (leaves_ours e.0 e.1 e.2 e.3));
+        after_flush = λ other array next ours more image since. ⊎_elim
+            (λ was. first.after_flush other array next ours (omega (arith, tried)) image was) (λ now. now)
+            ((leaves_ours other array next ours).before (old.calls + 1) image (omega (arith, tried)) since);
+        spares = record {
+          behind = λ other has. rw (one_shape other has)
+              (spared_joined (sectors_of shape) old mid new (first.spares.behind shape has_shape)
+              (spared_behind (first_home shape) (sectors_of shape) mid new (omega arith) making.spares));
+          unserved = λ none.
+              let past = none shape start.from.array found.next start.from.stood in absurd (omega (arith, past, start.from.stamp_left));
+        };
+        small = λ few. absurd (start.room few);
+        moments = joined_same (λ _. Unit {0}) old mid new before.all.moments (weaker _ _ _ _ (λ image p. tt) making.moments);
+        calls =
+            let most = rw one at (before.all.most shape has_shape) in
+            omega (arith, most, last, found.sizes.most_slots);
+        sends = λ other has. rw (one_shape other has, one)
+            (let most = rw one at (before.all.sends.most shape has_shape) in omega (arith, most, sends));
+        sends_one = λ no. absurd (no shape has_shape);
+        looks = λ near holds. looks_joined _ old mid new (before.all.looks near holds) (no_looks _ mid new making.looked_stays);
+      }
+        where
+          first : MigrationLeaves old mid
+          first = recovery_leaves old mid before
+
+          one_shape : (other : Shape) → HasShape old.size other old.content → other ≡ shape
+          one_shape other has = IsSuper-one other shape (old.content 0) has.super start.from.stood.keeps.super
+
+    module _ (answer : Recovered) (is : IsMadeOf found new answer) where
+      here_fresh : (array : Array) → AreSame shape start.from.array array → IsFresh (migrated shape) array found.next new.content
+      here_fresh array same = zeros_fresh (migrated shape) array found.next new.content is.made.super is.made.head is.made.zeros
+          (λ b below. kept_home b below ∙ same b below)
+
+      migrated_fresh : (other : Shape) (array : Array) (next : ℕ) → IsOurs old.size other old.content array next
+          → EachCut (IsFresh (shape_of answer.sizes) array next) new
+      migrated_fresh other array next ours image cut =
+          let same = StandsFor-one old.size old.size shape other old.content start.from.array array found.next next
+          start.from.stood ours.stands in
+          rw (only_image new.content new.may_leave is.made.flushed image cut, is.sizes_are, ← same.1) (here_fresh array same.2)
+
+      migrated_from : new.calls ≡ mid.calls + (50 * found.sizes.slots + 5) → IsMigratedFrom old new answer
+      migrated_from counted =
+          let stood = start.from.stood in
+          subst (λ (n : ℕ). IsMigratedFrom old new (record { sizes = answer.sizes; next = n })) (sym is.next_is) (record {
+            shape = shape;
+            could = can_migrate;
+            sizes_are = is.sizes_are;
+            array = start.from.array;
+            stood = stood;
+            stamp_left = start.from.stamp_left;
+            made = is.made;
+            home = kept_home;
+            behind = λ x past. making.spares.content x (omega (arith, past))
+                ∙ start.from.elsewhere x (λ e. omega (arith, e, past, log_ends shape stood.keeps.super.home_is)) (inr past);
+            ours = fresh_ours old.size (migrated shape) start.from.array found.next new.content stood.fits
+                (here_fresh start.from.array (λ b below. refl));
+            calls = omega (arith, tried, counted);
+          })
 
 -- such a call refuses a start
 call_refuses : (least : ℕ) (Calls : State → State → Type 0) (old new : State) (kind : MediumFault) → IsRefusedCall old new kind
