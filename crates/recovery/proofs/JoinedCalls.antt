@@ -1,14 +1,21 @@
 -- Calls, and then others: what they are together.
-use Rattle.std.proofs.Common.{inl, inr, ⊎_elim, ℕ, ◌+◌, ◌*◌, ◌<◌, ◌≤◌, ◌∙◌, Result, Ok, refl, arith, mul-le-mul_left}
+use Rattle.std.proofs.Common.{◌≡◌, inl, inr, ⊎_elim, ℕ, ◌+◌, ◌*◌, ◌<◌, ◌≤◌, ◌∙◌, Result, Ok, refl, arith, rules, mul-le-mul_left}
 use Rattle.std.specs.Prelude.{IfOk, IfErr}
-use Rattle.medium.specs.Medium.{State, CutLeaves, IsSound}
+use Rattle.medium.specs.Medium.{State, CutLeaves, Stays, Within, Passes, LooksOnly, IsSound}
 use Rattle.medium.specs.declared.fault.MediumFault.{MediumFault}
+use Rattle.medium.specs.declared.fault.MediumFault.TheVariants.{Read}
 use Rattle.medium.proofs.CallsSent.{none_sent}
-use Rattle.medium.proofs.Moments.{quiet_joined, quiet_leaves, started_within, joined_same, weaker}
-use Rattle.medium.proofs.SectorsRead.{no_looks, looks_joined, looks_wider}
+use Rattle.medium.proofs.Moments.{quiet_call, quiet_joined, quiet_leaves, started_within, joined_same, weaker}
+use Rattle.medium.proofs.SectorsRead.{no_looks, looks_joined, looks_wider, looks_below, look_below}
+use Rattle.journal.specs.declared.super_sector.Super.{Super}
+use Rattle.journal.specs.Places.{Shape, first_home}
+use Rattle.journal.specs.ImageFaults.{HasShape}
+use Rattle.journal.specs.Values.{shape_of}
 use Rattle.journal.specs.Reads.{IsRefusedCall, LooksUp}
-use Rattle.recovery.specs.Calls.{Copies}
+use Rattle.recovery.specs.Calls.{Copies, ReadsUpTo}
 use Rattle.recovery.specs.Copies.{freed_at}
+use Rattle.recovery.specs.Found.{SurveysAtMost}
+use Rattle.recovery.specs.Looks.{LooksAtLog}
 use Rattle.recovery.proofs.CopiedRecords.{sets_within}
 
 -- reads
@@ -83,3 +90,25 @@ none_made {state = state} {places = places} {m = m} sound itself =
 -- the calls for a few and for one more
 pub each_once_more : (each few many : ℕ) → few < many → each * few + each ≤ each * many
 each_once_more each few many less = omega (arith, mul-le-mul_left {m = few + 1} {n = many} each (omega arith))
+
+-- calls that read sectors of the log, and then others that do
+pub looked_on : (shape : Shape) (old mid new : State) → HasShape old.size shape old.content → LooksAtLog old mid
+    → LooksOnly (λ s. s < first_home shape) mid new → LooksAtLog old new
+looked_on shape old mid new has first last near holds =
+    looks_joined (λ s. s < near) old mid new (first near holds) (looks_below (first_home shape) near mid new (holds.log shape has) last)
+
+-- the super is read
+pub super_looked : (old new : State) → LooksOnly (λ s. s ≡ 0) old new → LooksAtLog old new
+super_looked old new look near holds = look_below near old new 0 holds.some look
+
+-- and behind it the head
+pub head_read : {X E : Type 0} {first : Result X E} {second : Result (Unit {0}) MediumFault} {old mid new : State} (sizes : Super)
+    → HasShape old.size (shape_of sizes) old.content → ReadsUpTo 1 old mid first → LooksOnly (λ s. s ≡ 0) old mid
+    → Passes Read second mid new → Stays mid.content new.content → Within new.may_leave mid.may_leave → LooksOnly (λ s. s ≡ 1) mid new
+    → SurveysAtMost old new
+head_read {old = old} {mid = mid} {new = new} sizes has super looks read stays within look = search (
+  rules,
+  quiet_joined old mid new super.quiet (quiet_call mid new read stays within),
+  looked_on (shape_of sizes) old mid new has (super_looked old mid looks)
+      (look_below (first_home (shape_of sizes)) mid new 1 (omega (arith, sizes.home_is.0)) look),
+)

@@ -6,4 +6,3 @@ pub mod JoinedCalls
 pub mod FoundRecords
 pub mod WholeRecovery
 pub mod ReplayedImages
-pub mod SectorsRead

@@ -153,3 +153,10 @@ fresh_ours size shape array next image fits f = record {
   };
   carries = λ slot o stamp low small carries. omega (arith, f.carries slot o stamp low small carries);
 }
+
+-- an image of zeros behind a super and a head is ours, for what it has at home
+pub zeros_ours : (size : ℕ) (shape : Shape) (array : Array) (image : Image) → sectors_of shape ≤ size → IsSuper shape (image 0)
+    → IsHead 1 (image 1) → ((x : ℕ) → 2 ≤ x → x < first_home shape → image x ≡ replicate 512 0)
+    → AreSame shape (home_of shape image) array → IsOurs size shape image array 2
+zeros_ours size shape array image fits super head zeros home =
+    fresh_ours size shape array 1 image fits (zeros_fresh shape array 1 image super head zeros home)

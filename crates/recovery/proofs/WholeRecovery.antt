@@ -38,7 +38,7 @@ use Rattle.recovery.proofs.CopiedRecords.{log_ends, not_in_log, not_behind, spar
 use Rattle.recovery.proofs.FoundRecords.{quiet_before, quiet_after, found_stands, found_matches}
 use Rattle.recovery.proofs.MadeImage.{wider}
 use Rattle.recovery.proofs.ReplayedImages.{copies_ours, new_head_fresh, fresh_ours}
-use Rattle.recovery.proofs.SectorsRead.{looked_on}
+use Rattle.recovery.proofs.JoinedCalls.{looked_on}
 
 -- other calls before and behind them
 tries_moved : (format : LogFormat) (shape : Shape) (image : Image) (first tries old new before after more : ℕ) → before ≡ old + more

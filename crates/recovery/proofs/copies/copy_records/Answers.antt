@@ -1,57 +1,26 @@
 use Rattle.std.proofs.Common.{◌≡◌, ◌+◌, ◌*◌, ◌<◌, ◌≤◌, ℕ, List, [], ◌∷◌, ◌++◌, length, take, get_or, refl, sym, ◌∙◌, arith, rules, Result}
 use Rattle.std.specs.Prelude.{IfErr}
 use Rattle.std.proofs.lemmas.List.{take_all, take_more}
-use Rattle.medium.specs.Medium.{State, Image}
 use Rattle.medium.specs.declared.fault.MediumFault.{MediumFault}
 use Rattle.journal.specs.declared.log_format.LogFormat.{LogFormat}
-use Rattle.journal.specs.Formats.{IsWhole}
-use Rattle.journal.specs.Places.{Shape, first_home, limit_of}
-use Rattle.journal.specs.Record.{Entry, numbers_of, block_of, with_blocks, with_records, home_of}
+use Rattle.journal.specs.Places.{first_home, limit_of}
+use Rattle.journal.specs.Record.{Entry, numbers_of, with_records, home_of}
 use Rattle.journal.specs.Reads.{IsRefusedCall}
 use Rattle.journal.specs.Values.{shape_of}
 use Rattle.recovery.specs.Calls.{Copies}
 use Rattle.journal.proofs.Overlay.{with_blocks-copied, with_blocks-same, with_records-append}
-use Rattle.recovery.specs.Copies.{calls_of, copy_calls, most_calls_of, IsHomeInRecord, IsHomeInRecords, IsCopied, AreCopied}
+use Rattle.recovery.specs.Copies.{calls_of, copy_calls, most_calls_of, IsHomeInRecords}
 use Rattle.recovery.proofs.CopiedRecords.{number_of, long_as, home_in_whole, not_in_log, whole_same}
 use Rattle.recovery.proofs.JoinedCalls.{each_once_more, copies_on, none_made}
 use Rattle.recovery.proofs.copies.copy_records.Given as given
 use Rattle.recovery.proofs.copies.copy_records.Goals as goal
 use Rattle.recovery.proofs.copies.copy_records.Goals.{After-copy_record}
 
--- after the copies of a record home is as if its blocks were laid over it
-record_home : (shape : Shape) (old new : Image) (stamp : ℕ) (entries : List Entry) → IsWhole shape old stamp entries
-    → ((i : ℕ) → i < length entries → new (first_home shape + (get_or entries i (0, [])).0) ≡ block_of entries i)
-    → ((x : ℕ) → ¬ IsHomeInRecord shape old stamp x → new x ≡ old x)
-    → (b : ℕ) → new (first_home shape + b) ≡ with_blocks entries (home_of shape old) b
-record_home shape old new stamp entries whole copied elsewhere b =
-    with_blocks-copied entries (home_of shape old) (home_of shape new) copied
-    (λ d not. elsewhere (first_home shape + d) (λ h.
-    let home = home_in_whole shape old stamp entries (first_home shape + d) whole h in
-    let below = home.1 in
-    let is = home.2 in
-    let many = long_as entries (numbers_of entries) refl in
-    let n = number_of entries (numbers_of entries) home.0 refl in
-    not home.0 (omega (arith, many, below)) (omega (arith, n, is))))
-    b
-
 -- one call more for each block of one more record
 copy_calls-append : (format : LogFormat) (records : List (List Entry)) (entries : List Entry)
     → copy_calls format (records ++ entries ∷ []) ≡ copy_calls format records + calls_of format (length entries)
 copy_calls-append format [] entries = omega arith
 copy_calls-append format (r ∷ records) entries = let more = copy_calls-append format records entries in omega (arith, more)
-
--- one more record copied
-one_more_copied : (shape : Shape) (old mid new : State) (stamp : ℕ) (records : List (List Entry)) (j : ℕ) → j < length records
-    → IsWhole shape mid.content stamp (get_or records j [])
-    → ((x : ℕ) → ¬ IsHomeInRecord shape mid.content stamp x → new.content x ≡ mid.content x) → AreCopied shape (take j records) old mid
-    → IsCopied shape (get_or records j []) mid new → AreCopied shape (take (j + 1) records) old new
-one_more_copied shape old mid new stamp records j below whole elsewhere before now = rw (take_more records j [] below) (record {
-  home = λ b. record_home shape mid.content new.content stamp (get_or records j []) whole now.home elsewhere b
-      ∙ with_blocks-same (get_or records j []) (home_of shape mid.content) (with_records (take j records) (home_of shape old.content)) b
-      (before.home b)
-      ∙ sym (with_records-append (take j records) (get_or records j []) (home_of shape old.content) b);
-  exact = omega (arith, before.exact, now.exact, copy_calls-append shape.format (take j records) (get_or records j []));
-})
 
 -- so many calls, good or refused, once one more record was copied
 copied : (g : given.Over) (c : After-copy_record g) {X : Type 0} (result : Result X MediumFault) (most sends : ℕ)
@@ -101,11 +70,26 @@ loop-j-preserved g c =
     record {
       done = λ records count whole.
           let short : j < length records = omega (arith, c.loop-j-test.true, count) in
-          let here = whole_same shape old.content mid.content (found.head + j) (get_or records j []) found.sizes.some_slots
+          let es = get_or records j [] in
+          let here = whole_same shape old.content mid.content (found.head + j) es found.sizes.some_slots
           found.sizes.home_is (λ y below. inv.copies.elsewhere y (not_in_log shape old.content found.head found.count y below))
           (whole j short) in
-          one_more_copied shape old mid _ (found.head + j) records j short here c.copy_record.ensures.copies.elsewhere
-          (inv.done records count whole) (c.in_ok-copy_record.ensures.done (get_or records j []) here);
+          let before = inv.done records count whole in
+          let now = c.in_ok-copy_record.ensures.done es here in
+          rw (take_more records j [] short) (record {
+            -- home is as if the blocks of one more record were laid over it
+            home = λ b. with_blocks-copied es (home_of shape mid.content) _ now.home
+                (λ d not. c.copy_record.ensures.copies.elsewhere (first_home shape + d) (λ h.
+                let home = home_in_whole shape mid.content (found.head + j) es (first_home shape + d) here h in
+                let below = home.1 in
+                let is = home.2 in
+                let many = long_as es (numbers_of es) refl in
+                let n = number_of es (numbers_of es) home.0 refl in
+                not home.0 (omega (arith, many, below)) (omega (arith, n, is)))) b
+                ∙ with_blocks-same es (home_of shape mid.content) (with_records (take j records) (home_of shape old.content)) b
+                (before.home b) ∙ sym (with_records-append (take j records) es (home_of shape old.content) b);
+            exact = omega (arith, before.exact, now.exact, copy_calls-append shape.format (take j records) es);
+          });
       copies = copied g (goal.at.loop-j-preserved g c).After-copy_record _ _ _ (omega arith) (omega arith) tt;
     }
 

@@ -11,7 +11,7 @@ use Rattle.journal.specs.Standing.{IsOurs}
 use Rattle.journal.specs.Values.{shape_of}
 use Rattle.recovery.specs.Calls.{Leaves}
 use Rattle.recovery.specs.Formatted.{IsArrayFrom, IsNoneOrNew, ImageLeaves}
-use Rattle.recovery.proofs.Zeros.{zeros_ours}
+use Rattle.recovery.proofs.ReplayedImages.{zeros_ours}
 use Rattle.recovery.proofs.MadeImage.{wider, then_leave, through_leaves, clear_spares, first_leaves, rest_leaves}
 use Rattle.recovery.proofs.formatting.write_image.Given as given
 use Rattle.recovery.proofs.formatting.write_image.Goals as goal

@@ -1,4 +1,4 @@
-use Rattle.std.proofs.Common.{rules, ◌≡◌, ◌+◌, ◌<◌, ◌≤◌, ℕ, inl, inr, List, ◌∷◌, ◌++◌, ◌∙◌, [], length, ap, arith}
+use Rattle.std.proofs.Common.{rules, ◌≡◌, ◌+◌, ◌<◌, ◌≤◌, ℕ, inl, inr, List, ◌∷◌, ◌∙◌, [], length, ap, arith}
 use Rattle.std.specs.Prelude.{slice_index}
 use Rattle.std.proofs.lemmas.Bool.{cases_lt}
 use Rattle.std.proofs.lemmas.List.{length-append, get_or_append_left, get_or_push}
@@ -33,15 +33,6 @@ counts_made shape image head j counts long few each ends = record {
   each = λ k below. each k (omega (arith, below, long));
 }
 
--- one more
-one_counted : (shape : Shape) (image : Image) (head j count : ℕ) (before after : List ℕ) → length before ≡ j
-    → after ≡ before ++ count ∷ [] → ((k : ℕ) → k < j → HasCount shape image (head + k) (slice_index before k))
-    → HasCount shape image (head + j) count → (k : ℕ) → k < j + 1 → HasCount shape image (head + k) (slice_index after k)
-one_counted shape image head j count before after long is each here k below = elim (cases_lt k j) [
-  | inl less ↦ rw (is, get_or_append_left before (count ∷ []) 0 k (omega (arith, less, long))) (each k less)
-  | inr more ↦ let at : k ≡ j = omega (arith, below, more) in rw (at, is, get_or_push before count 0 j long) here
-]
-
 pub returns-in-None : goal.returns-in-None
 returns-in-None g c =
     let shape = shape_of c.args.sizes.now in
@@ -71,13 +62,18 @@ loop-j-preserved g c =
     let inv = c.loop-j.invariant in
     let j = c.loop-j.j in
     let n = c.in-Some.count in
+    let before = c.loop-j.waiting.items in
     let counted = rw c.in-Some.is at c.in_ok-count.ensures.finds.counted in
     let here = quiet_before (λ _ i. HasCount shape i (c.args.head + j) n) old _ inv.passes.quiet counted in
-    let long = ap (λ l. length l) c.push.ensures.items ∙ length-append c.loop-j.waiting.items (n ∷ []) in
+    let long = ap (λ l. length l) c.push.ensures.items ∙ length-append before (n ∷ []) in
     looks_on g.met.M.Medium.follows_through inv c.count_blocks.ensures (omega (arith, few_tried shape.format)) tt (
       omega (arith, long, inv.finds.0),
-      one_counted shape old.content c.args.head j n c.loop-j.waiting.items c.push.new.self.items inv.finds.0 c.push.ensures.items
-          inv.finds.1 here,
+      λ k below. elim (cases_lt k j) [
+        | inl less ↦
+            rw (c.push.ensures.items, get_or_append_left before (n ∷ []) 0 k (omega (arith, less, inv.finds.0))) (inv.finds.1 k less)
+        | inr more ↦
+            let at : k ≡ j = omega (arith, below, more) in rw (at, c.push.ensures.items, get_or_push before n 0 j inv.finds.0) here
+      ],
     )
 
 pub returns-in_err-count : goal.returns-in_err-count

@@ -1,41 +1,26 @@
-use Rattle.std.proofs.Common.{◌≡◌, ◌∙◌, ℕ, ◌+◌, ◌<◌, List, [], length, get_or, sym, ap, subst, arith, rules}
-use Rattle.std.specs.Prelude.{slice_index, map}
+use Rattle.std.proofs.Common.{◌∙◌, ℕ, ◌+◌, ◌<◌, List, [], length, sym, ap, subst, arith, rules}
+use Rattle.std.specs.Prelude.{map}
 use Rattle.std.proofs.lemmas.List.{ext_get_or, get_or-map, length-map}
 use Rattle.std.proofs.lemmas.Result.{err_from_is_err_and}
-use Rattle.medium.specs.Medium.{State, Image}
+use Rattle.medium.specs.Medium.{State}
 use Rattle.medium.proofs.Moments.{quiet_joined}
-use Rattle.journal.specs.Places.{Shape}
 use Rattle.journal.specs.Record.{Entry}
 use Rattle.journal.specs.Sectors.{IsHead}
 use Rattle.journal.specs.Values.{shape_of}
-use Rattle.journal.specs.Formats.{layout_of, IsWhole}
+use Rattle.journal.specs.Formats.{layout_of}
 use Rattle.journal.specs.ImageFaults.{HasShape}
 use Rattle.journal.proofs.Formats.{laws_of}
 use Rattle.journal.proofs.Wholeness.{IsWhole-one}
 use Rattle.journal.proofs.StandingLaws.{count_stands}
-use Rattle.recovery.specs.Found.{HasCount, SurveysAtMost}
+use Rattle.recovery.specs.Found.{SurveysAtMost}
 use Rattle.recovery.specs.Inspected.{AreCounts, IsInspected, OnlyLooks}
 use Rattle.recovery.specs.declared.inspection.Inspection.{Inspection}
 use Rattle.recovery.proofs.Causes.{served_look}
 use Rattle.recovery.proofs.FoundRecords.{quiet_before}
-use Rattle.recovery.proofs.SectorsRead.{looked_on, super_looked, head_read}
+use Rattle.recovery.proofs.JoinedCalls.{looked_on, super_looked, head_read}
 use Rattle.recovery.proofs.inspection.inspect.Given as given
 use Rattle.recovery.proofs.inspection.inspect.Goals as goal
 use Rattle.recovery.proofs.inspection.inspect.Goals.{After-read, After-count_waiting}
-
--- the counts are those of the records, in order
-counts_same : (shape : Shape) (image : Image) (head : ℕ) (counts : List ℕ) (records : List (List Entry))
-    → length records ≡ length counts → ((j : ℕ) → j < length records → IsWhole shape image (head + j) (get_or records j []))
-    → ((j : ℕ) → j < length counts → HasCount shape image (head + j) (slice_index counts j))
-    → counts ≡ map (λ entries. length entries) records
-counts_same shape image head counts records long whole each =
-    let f : List Entry → ℕ = λ entries. length entries in
-    ext_get_or 0 counts (map f records) (sym long ∙ sym (length-map records f)) (λ j below.
-    let e = each j below in
-    let inside : j < length records = omega (arith, below, long) in
-    let one = IsWhole-one (layout_of shape.format) (laws_of shape.format) shape image (head + j) e.0 (get_or records j []) e.1
-    (whole j inside) in
-    e.2 ∙ ap f one ∙ sym (get_or-map f records j [] 0 inside))
 
 -- what was read is what the image stands for
 counts_stand : (old : State) (answer : Inspection) → HasShape old.size (shape_of answer.sizes) old.content
@@ -44,13 +29,20 @@ counts_stand : (old : State) (answer : Inspection) → HasShape old.size (shape_
 counts_stand old answer has head are =
     let shape = shape_of answer.sizes in
     let s = count_stands old.size shape old.content answer.head (length answer.waiting.items) has.fits has.super head are.is in
+    let records = s.stands.records in
+    let f : List Entry → ℕ = λ entries. length entries in
     record {
       array = s.array;
       next = answer.head + length answer.waiting.items + 1;
       stood = s.stands;
       head_is = sym s.head_is;
-      counts_are = counts_same shape old.content answer.head answer.waiting.items s.stands.records s.count_is
-          (rw s.head_is at s.stands.keeps.whole) are.each;
+      -- the counts are those of the records, in order
+      counts_are = ext_get_or 0 answer.waiting.items (map f records) (sym s.count_is ∙ sym (length-map records f)) (λ j below.
+          let e = are.each j below in
+          let inside : j < length s.stands.records = omega (arith, below, s.count_is) in
+          let whole = rw s.head_is at (s.stands.keeps.whole j inside) in
+          e.2 ∙ ap f (IsWhole-one (layout_of shape.format) (laws_of shape.format) shape old.content (answer.head + j) e.0 _ e.1 whole)
+          ∙ sym (get_or-map f records j [] 0 inside));
     }
 
 -- the super and the head are read

@@ -19,7 +19,7 @@ use Rattle.recovery.specs.declared.start_fault.StartFault.TheVariants.{NoMemory}
 use Rattle.recovery.specs.Found.{SurveysAtMost}
 use Rattle.recovery.specs.Tries.{AreTries}
 use Rattle.recovery.proofs.FoundRecords.{quiet_before}
-use Rattle.recovery.proofs.SectorsRead.{looked_on, super_looked, head_read}
+use Rattle.recovery.proofs.JoinedCalls.{looked_on, super_looked, head_read}
 use Rattle.recovery.proofs.survey.inspect.Given as given
 use Rattle.recovery.proofs.survey.inspect.Goals as goal
 use Rattle.recovery.proofs.survey.inspect.Goals.{After-read, After-count_whole, In_ok-count}
