@@ -1,7 +1,8 @@
 -- Calls, and then others: what they are together.
-use Rattle.std.proofs.Common.{◌≡◌, inl, inr, ⊎_elim, ℕ, ◌+◌, ◌*◌, ◌<◌, ◌≤◌, ◌∙◌, Result, Ok, refl, arith, rules, mul-le-mul_left}
+use Rattle.std.proofs.Common.{◌≡◌, inl, inr, ⊎_elim, ℕ, ◌+◌, ◌*◌, ◌<◌, ◌≤◌, ◌∙◌, Result, Ok, refl, subst, arith, rules, mul-le-mul_left}
 use Rattle.std.specs.Prelude.{IfOk, IfErr}
-use Rattle.medium.specs.Medium.{State, CutLeaves, Stays, Within, Passes, LooksOnly, IsSound}
+use Rattle.medium.specs.Medium.{State, Image, CutLeaves, Stays, Within, Passes, LooksOnly, IsSound}
+use Rattle.medium.specs.Moments.{IsQuiet}
 use Rattle.medium.specs.declared.fault.MediumFault.{MediumFault}
 use Rattle.medium.specs.declared.fault.MediumFault.TheVariants.{Read}
 use Rattle.medium.proofs.CallsSent.{none_sent}
@@ -17,6 +18,16 @@ use Rattle.recovery.specs.Copies.{freed_at}
 use Rattle.recovery.specs.Found.{SurveysAtMost}
 use Rattle.recovery.specs.Looks.{LooksAtLog}
 use Rattle.recovery.proofs.CopiedRecords.{sets_within}
+
+-- what holds of a medium's size and contents after calls that wrote nothing held before them
+pub quiet_before : (P : ℕ → Image → Type 0) (old mid : State) → IsQuiet old mid → P mid.size mid.content → P old.size old.content
+quiet_before P old mid quiet h =
+    let same : mid.content ≡ old.content = λ i s. quiet.content_stays s i in
+    subst (λ (n : ℕ). P n old.content) quiet.size_stays (subst (P mid.size) same h)
+
+-- and what held before them holds after them
+pub quiet_after : (P : ℕ → Image → Type 0) (old mid : State) → IsQuiet old mid → P old.size old.content → P mid.size mid.content
+quiet_after P old mid quiet = quiet_before (λ n i. P n i → P mid.size mid.content) old mid quiet (λ h. h)
 
 -- reads
 pub looks_on : {M X Y Z : Type 0} {state : M → State} {Follows : M → M → Type 0} {few many most : ℕ} {places : ℕ → Type 0}

@@ -3,6 +3,5 @@ pub mod Zeros
 pub mod MadeImage
 pub mod CopiedRecords
 pub mod JoinedCalls
-pub mod FoundRecords
 pub mod WholeRecovery
 pub mod ReplayedImages

@@ -71,10 +71,10 @@ home_hidden shape image head records whole b home =
     subst (Hides records) (omega (arith, is, number)) (records-hide records j here.0 home.1 (omega (arith, here.1, long)))
 
 -- copies of its records at home change nothing of what an image stands for
-pub copies_ours : (size : ℕ) (shape : Shape) (start : Image) (array : Array) (next : ℕ) (ours : IsOurs size shape start array next)
+pub copies_ours : {size : ℕ} {shape : Shape} {start : Image} {array : Array} {next : ℕ} (ours : IsOurs size shape start array next)
     (head count : ℕ) → head ≡ ours.stands.head → count ≡ length ours.stands.records → (image : Image)
     → ((x : ℕ) → (image x ≡ start x) ⊎ IsHomeInRecords shape start head count x) → IsOurs size shape image array next
-copies_ours size shape start array next ours head count head_is count_is image each =
+copies_ours {shape = shape} {start = start} {next = next} ours head count head_is count_is image each =
     record {
       stands = record {
         fits = ours.stands.fits;
@@ -116,10 +116,10 @@ copies_ours size shape start array next ours head count head_is count_is image e
         (each (first_home shape + b))
 
 -- the new head, once every block is at home
-pub new_head_fresh : (size : ℕ) (shape : Shape) (start : Image) (array : Array) (next : ℕ) → IsOurs size shape start array next
-    → (before image : Image) → ((x : ℕ) → x < first_home shape → before x ≡ start x)
+pub new_head_fresh : {size : ℕ} {shape : Shape} {start before image : Image} {array : Array} {next : ℕ}
+    → IsOurs size shape start array next → ((x : ℕ) → x < first_home shape → before x ≡ start x)
     → AreSame shape (home_of shape before) array → HasNewHead next before image → IsFresh shape array next image
-new_head_fresh size shape start array next ours before image log home moved =
+new_head_fresh {shape = shape} {start = start} {image = image} {next = next} ours log home moved =
     let super = ours.stands.keeps.super in
     let ends = log_ends shape super.home_is in
     record {
@@ -139,9 +139,9 @@ zeros_fresh shape array next image super head zeros home =
     search (rules, home, zeros_carry shape image next head.least (λ x low high. zeros x low (omega (arith, high, ends))))
 
 -- an image in which no record waits is ours, with the stamp behind
-pub fresh_ours : (size : ℕ) (shape : Shape) (array : Array) (next : ℕ) (image : Image) → sectors_of shape ≤ size
+pub fresh_ours : {size : ℕ} {shape : Shape} {array : Array} {next : ℕ} {image : Image} → sectors_of shape ≤ size
     → IsFresh shape array next image → IsOurs size shape image array (next + 1)
-fresh_ours size shape array next image fits f = record {
+fresh_ours {shape = shape} {next = next} {image = image} fits f = record {
   stands = record {
     fits = fits;
     head = next;
@@ -159,4 +159,4 @@ pub zeros_ours : (size : ℕ) (shape : Shape) (array : Array) (image : Image) �
     → IsHead 1 (image 1) → ((x : ℕ) → 2 ≤ x → x < first_home shape → image x ≡ replicate 512 0)
     → AreSame shape (home_of shape image) array → IsOurs size shape image array 2
 zeros_ours size shape array image fits super head zeros home =
-    fresh_ours size shape array 1 image fits (zeros_fresh shape array 1 image super head zeros home)
+    fresh_ours fits (zeros_fresh shape array 1 image super head zeros home)

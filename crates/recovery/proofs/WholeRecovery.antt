@@ -1,5 +1,5 @@
 -- A whole recovery: a flush, reads, copies and the new head; and what it leaves up to each of its exits.
-use Rattle.std.proofs.Common.{◌≡◌, ◌⊎◌, inl, inr, ⊎_elim, ℕ, ◌+◌, ◌*◌, ◌<◌, ◌≤◌, List, [], length, get_or, ◌∙◌, ap, refl, arith, rules}
+use Rattle.std.proofs.Common.{◌≡◌, ◌⊎◌, inl, inr, ⊎_elim, ℕ, ◌+◌, ◌*◌, ◌<◌, ◌≤◌, List, [], length, get_or, sym, ◌∙◌, ap, refl, arith, rules}
 use Rattle.std.proofs.Common.{mul-le-mul_left}
 use Rattle.std.specs.Prelude.{min, Result}
 use Rattle.medium.specs.Medium.{State, Image, CutLeaves, Stays, Within, Only, Passes, LooksOnly, IsSound}
@@ -22,6 +22,7 @@ use Rattle.journal.specs.Formats.{IsWhole}
 use Rattle.journal.specs.Standing.{StandsFor, IsOurs}
 use Rattle.journal.specs.ImageFaults as image
 use Rattle.journal.proofs.SectorNumbers.{IsSuper-one}
+use Rattle.journal.proofs.StandingLaws.{Stood, count_stands, heads, counts}
 use Rattle.recovery.specs.Causes.{IsRefusedCall, WritesNothing, HasFewSlots, IsRefusalBy}
 use Rattle.recovery.specs.Calls.{Leaves}
 use Rattle.recovery.specs.Copies.{copy_calls, most_calls_of, most_reads_of, most_start_of, most_start_sends, AreCopied, IsHomeInRecords}
@@ -35,10 +36,9 @@ use Rattle.recovery.specs.declared.start_fault.StartFault.{StartFault}
 use Rattle.recovery.specs.declared.start_fault.StartFault.TheVariants.{NoMemory, StampsUsedUp, LogTooSmall}
 use Rattle.recovery.proofs.Causes.{refused_later}
 use Rattle.recovery.proofs.CopiedRecords.{log_ends, not_in_log, not_behind, spared_by}
-use Rattle.recovery.proofs.FoundRecords.{quiet_before, quiet_after, found_stands, found_matches}
 use Rattle.recovery.proofs.MadeImage.{wider}
-use Rattle.recovery.proofs.ReplayedImages.{copies_ours, new_head_fresh, fresh_ours}
-use Rattle.recovery.proofs.JoinedCalls.{looked_on}
+use Rattle.recovery.proofs.ReplayedImages.{AreSame, copies_ours, new_head_fresh, fresh_ours}
+use Rattle.recovery.proofs.JoinedCalls.{quiet_before, quiet_after, looked_on}
 
 -- other calls before and behind them
 tries_moved : (format : LogFormat) (shape : Shape) (image : Image) (first tries old new before after more : ℕ) → before ≡ old + more
@@ -163,15 +163,29 @@ module _ (least : ℕ) (old mid seen : State) {result : Result (Unit {0}) Medium
     one_shape : (other : Shape) → IsSuper other (old.content 0) → other ≡ shape
     one_shape other s = IsSuper-one other shape (old.content 0) s at_old.shape.super
 
+    -- for what the contents stand
+    stood : Stood old.size shape old.content found.head found.count
+    stood = count_stands old.size shape old.content found.head found.count at_old.shape.fits at_old.shape.super at_old.head at_old.count
+
+    -- the head and the count are those of all for which they stand
+    matches : {array : Array} {next : ℕ} (s : StandsFor old.size shape old.content array next)
+        → (found.head ≡ s.head) × (found.count ≡ length s.records)
+    matches {array} {next} s =
+        let n = old.size in
+        let stamp = found.head + found.count + 1 in (
+          sym stood.head_is ∙ heads n n shape old.content stood.array array stamp next stood.stands s,
+          sym stood.count_is ∙ counts n n shape old.content stood.array array stamp next stood.stands s,
+        )
+
     enough : ¬ HasFewSlots least old.size old.content
     enough few = copying.survey.room (quiet_after (λ n i. HasFewSlots least n i) old mid flushed few)
 
     -- each sector is as it was, or is the home of a block that is copied
-    copied_ours : (array : Array) (next : ℕ) → IsOurs old.size (shape_of found.sizes) old.content array next
-        → LeavesOnly (λ image. IsOurs old.size (shape_of found.sizes) image array next) seen copied
-    copied_ours array next ours =
-        let f = found_matches old.size old.content found at_old array next ours.stands in
-        weaker _ _ _ _ (λ image cut. copies_ours old.size shape old.content array next ours found.head found.count f.0 f.1 image
+    copied_ours : {array : Array} {next : ℕ} → IsOurs old.size shape old.content array next
+        → LeavesOnly (λ image. IsOurs old.size shape image array next) seen copied
+    copied_ours ours =
+        let f = matches ours.stands in
+        weaker _ _ _ _ (λ image cut. copies_ours ours found.head found.count f.0 f.1 image
         (λ x. ⊎_elim (λ left. inl (copying.only x (image x) (known.reads.quiet.sets_shrink x (image x) left)))
         (λ home. inr (rw same at home)) (cut x))) copying.moments
 
@@ -188,24 +202,22 @@ module _ (least : ℕ) (old mid seen : State) {result : Result (Unit {0}) Medium
 
     module _ (done : AllCopied found seen copied) where
       -- the records of what the contents stand for are copied
-      all_copied : (array : Array) (next : ℕ) (s : StandsFor old.size (shape_of found.sizes) old.content array next)
-          → AreCopied (shape_of found.sizes) s.records seen copied
-      all_copied array next s =
-          let f = found_matches old.size old.content found at_old array next s in
+      all_copied : {array : Array} {next : ℕ} (s : StandsFor old.size shape old.content array next) → AreCopied shape s.records seen copied
+      all_copied s =
+          let f = matches s in
           done s.records f.1 (λ k less. rw (same, f.0) (s.keeps.whole k less))
 
-      copied_home : (array : Array) (next : ℕ) → StandsFor old.size (shape_of found.sizes) old.content array next → (b : ℕ)
-          → b < found.sizes.blocks → copied.content (first_home (shape_of found.sizes) + b) ≡ array b
-      copied_home array next s b below = (all_copied array next s).home b
+      copied_home : {array : Array} {next : ℕ} → StandsFor old.size shape old.content array next
+          → AreSame shape (home_of shape copied.content) array
+      copied_home s b below = (all_copied s).home b
           ∙ ap (λ (i : Image). with_records s.records (home_of shape i) b) same ∙ s.keeps.blocks b below
 
-      moved_fresh : (array : Array) (next : ℕ) → IsOurs old.size (shape_of found.sizes) old.content array next → (image : Image)
-          → HasNewHead (found.head + found.count + 1) copied.content image → IsFresh (shape_of found.sizes) array next image
-      moved_fresh array next ours image moved =
-          let f = found_matches old.size old.content found at_old array next ours.stands in
+      moved_fresh : {array : Array} {next : ℕ} {image : Image} → IsOurs old.size shape old.content array next
+          → HasNewHead (found.head + found.count + 1) copied.content image → IsFresh shape array next image
+      moved_fresh {next = next} ours moved =
+          let f = matches ours.stands in
           let is : found.head + found.count + 1 ≡ next = omega (arith, f.0, f.1, ours.stands.next_is) in
-          new_head_fresh old.size shape old.content array next ours copied.content image copied_log
-          (copied_home array next ours.stands) (rw is at moved)
+          new_head_fresh ours copied_log (copied_home ours.stands) (rw is at moved)
 
     -- the copies, and perhaps the new head
     module _ (new : State) (leaves : Leaves (MayMove found seen copied) 2 copied new) (few : new.calls ≤ copied.calls + 3)
@@ -216,10 +228,10 @@ module _ (least : ℕ) (old mid seen : State) {result : Result (Unit {0}) Medium
       leaves_ours other array next theirs =
           let is = one_shape other theirs.stands.keeps.super in
           let ours = rw is at theirs in
-          let so_far = copied_ours array next ours in
+          let so_far = copied_ours ours in
           rw is (joined_same _ seen copied new (weaker _ _ _ _ (λ image o. inl o) so_far)
           (weaker _ _ _ _ (λ image either. ⊎_elim (λ cut. inl (at_exit _ seen copied copying.sound so_far image cut))
-          (λ m. inr (fresh_ours old.size shape array next image at_old.shape.fits (moved_fresh m.0 array next ours image m.1))) either)
+          (λ m. inr (fresh_ours at_old.shape.fits (moved_fresh m.0 ours m.1))) either)
           leaves.moments))
 
       spares : SparesFrom (sectors_of (shape_of found.sizes)) seen new
@@ -249,8 +261,7 @@ module _ (least : ℕ) (old mid seen : State) {result : Result (Unit {0}) Medium
             behind = λ other has. rw (one_shape other has.super)
                 (spared_joined (sectors_of shape) old seen new (spared_quiet (sectors_of shape) old seen known.sound quiet) spares);
             unserved = λ none.
-                let st = found_stands old.size old.content found at_old in
-                let past = none shape st.array (found.head + found.count + 1) st.stands in
+                let past = none shape stood.array (found.head + found.count + 1) stood.stands in
                 absurd (omega (arith, past, at_old.stamp_left));
           };
           moments = joined_same (λ _. Unit {0}) old seen new survey_leaves.all.moments
@@ -287,34 +298,31 @@ module _ (least : ℕ) (old mid seen : State) {result : Result (Unit {0}) Medium
           → EachCut (IsFresh other array next) new
       recovery_fresh other array next ours image cut =
           let is : other ≡ shape = one_shape other ours.stands.keeps.super in
-          rw (is, only_image new.content new.may_leave durable image cut) (moved_fresh done array next (rw is at ours) new.content head)
+          rw (is, only_image new.content new.may_leave durable image cut) (moved_fresh done (rw is at ours) head)
 
       pub recovery_from : new.calls ≡ copied.calls + 3
           → IsRecoveredAtLeast least old new (record { sizes = found.sizes; next = found.head + found.count + 1 })
       recovery_from last =
-          let st = found_stands old.size old.content found at_old in
-          let s = st.stands in
+          let s = stood.stands in
           let slots = found.sizes.slots in
           let tries = back (λ n i. AreTries shape i found.head (min (found.count + 1) slots) (mid.calls + 2) seen.calls)
           copying.survey.exact in
-          let copied_all = all_copied done st.array (found.head + found.count + 1) s in
+          let copied_all = all_copied done s in
           record {
             from = record {
-              array = st.array;
+              array = stood.array;
               stood = s;
               stamp_left = at_old.stamp_left;
               flushed = durable;
               head = head.head;
               home = λ b below. head.elsewhere (first_home shape + b) (λ e. omega (arith, e, log_ends shape at_old.shape.super.home_is))
-                  ∙ copied_home done st.array (found.head + found.count + 1) s b below;
+                  ∙ copied_home done s b below;
               elsewhere = λ x not other. head.elsewhere x not
-                  ∙ ⊎_elim (copied_log x)
-                  (λ past. copying.elsewhere x (not_behind shape seen.content found.head found.count x past)
-                  ∙ quiet.content_stays x) other;
+                  ∙ ⊎_elim (copied_log x) (λ past. copied_spares.content x past ∙ quiet.content_stays x) other;
               calls = tries_moved found.sizes.format shape old.content s.head (min (length s.records + 1) slots)
                   (mid.calls + 2) seen.calls (old.calls + 6 + copy_calls found.sizes.format s.records) new.calls
                   (copy_calls found.sizes.format s.records + 3) (omega (arith, counted)) (omega (arith, copied_all.exact, last))
-                  (rw (st.head_is, st.count_is) tries);
+                  (rw (stood.head_is, stood.count_is) tries);
             };
             room = enough;
           }

@@ -1,4 +1,4 @@
-use Rattle.std.proofs.Common.{◌≡◌, ◌≢◌, ◌<◌, ◌≤◌, inl, inr, ◌∙◌, ◌+◌, ◌*◌, ◌%◌, ◌++◌, ℕ, List, length, drop, get_or, ap}
+use Rattle.std.proofs.Common.{◌≡◌, ◌≢◌, ◌<◌, ◌≤◌, inl, inr, ◌∙◌, ◌+◌, ◌*◌, ◌%◌, ℕ, length, get_or, ap}
 use Rattle.std.proofs.Common.{arith, rules, Result}
 use Rattle.std.specs.Prelude.{IfErr}
 use Rattle.std.proofs.lemmas.Bool.{cases_eq}
@@ -17,23 +17,19 @@ use Rattle.recovery.proofs.copies.copy_blocks.Given as given
 use Rattle.recovery.proofs.copies.copy_blocks.Goals as goal
 use Rattle.recovery.proofs.copies.copy_blocks.Goals.{After-first, After-copy_sector}
 
--- the sector that is read has the data of the block, and stands in the log
-read_at : (g : given.Over) (c : After-first g) → (c.copy_place.result ≡ data_at (shape_of c.args.sizes.now) c.args.stamp c.loop-i.i)
-    × (data_at (shape_of c.args.sizes.now) c.args.stamp c.loop-i.i < first_home (shape_of c.args.sizes.now))
-read_at g c =
+-- the sector that is read has the data of the block and stands in the log, and the one that is written is its home
+at_block : (g : given.Over) (c : After-first g) → (c.loop-i.i < length c.args.read.now.numbers.items)
+    × (c.copy_place.result ≡ data_at (shape_of c.args.sizes.now) c.args.stamp c.loop-i.i)
+    × (c.copy_place.result < first_home (shape_of c.args.sizes.now))
+    × (c.home_of.result ≡ first_home (shape_of c.args.sizes.now) + get_or c.args.read.now.numbers.items c.loop-i.i 0)
+at_block g c =
     let sizes = c.args.sizes.now in
-    let inside : c.loop-i.i < length c.args.read.now.numbers.items = omega (arith, c.loop-i-test.true, c.len-i-end.ensures.value) in (
-      c.copy_place.ensures
-          ∙ ap (λ (k : ℕ). 2 + (layout_of sizes.format).slot_sectors * k + first_data_of sizes.format + c.loop-i.i) c.slot_of-slot.ensures,
-      place_before sizes.format sizes.slots sizes.home (c.args.stamp % sizes.slots) c.loop-i.i sizes.home_is
-          (mod_below c.args.stamp sizes.slots sizes.some_slots) (omega (arith, inside, c.requires.blocks.few)),
-    )
-
--- and the one that is written is the home of the block
-written_at : (g : given.Over) (c : After-first g)
-    → c.home_of.result ≡ first_home (shape_of c.args.sizes.now) + get_or c.args.read.now.numbers.items c.loop-i.i 0
-written_at g c = c.home_of.ensures
-    ∙ ap (λ (l : List ℕ). first_home (shape_of c.args.sizes.now) + get_or l c.loop-i.i 0) c.deref.ensures.0
+    let inside : c.loop-i.i < length c.args.read.now.numbers.items = omega (arith, c.loop-i-test.true, c.len-i-end.ensures.value) in
+    let from : c.copy_place.result ≡ data_at (shape_of c.args.sizes.now) c.args.stamp c.loop-i.i = c.copy_place.ensures
+    ∙ ap (λ (k : ℕ). 2 + (layout_of sizes.format).slot_sectors * k + first_data_of sizes.format + c.loop-i.i) c.slot_of-slot.ensures in
+    let low = place_before sizes.format sizes.slots sizes.home (c.args.stamp % sizes.slots) c.loop-i.i sizes.home_is
+    (mod_below c.args.stamp sizes.slots sizes.some_slots) (omega (arith, inside, c.requires.blocks.few)) in
+    (inside, from, omega (arith, from, low), rw c.deref.ensures.0 at c.home_of.ensures)
 
 -- the copies, good or refused, once one more was made
 copied : (g : given.Over) (c : After-copy_sector g) {X : Type 0} (result : Result X MediumFault) (most sends : ℕ)
@@ -53,15 +49,14 @@ copy_place-requires-clause-inside g c =
 
 pub copy_sector-requires-clause-from_inside : goal.copy_sector-requires-clause-from_inside
 copy_sector-requires-clause-from_inside g c =
-    let at = read_at g (goal.at.copy_sector-requires-clause-from_inside g c).After-first in
-    omega (arith, at.0, at.1, c.requires.fits, c.loop-i.invariant.copies.moments.size_stays)
+    let low = (at_block g (goal.at.copy_sector-requires-clause-from_inside g c).After-first).2 in
+    omega (arith, low, c.requires.fits, c.loop-i.invariant.copies.moments.size_stays)
 
 pub copy_sector-requires-clause-to_inside : goal.copy_sector-requires-clause-to_inside
 copy_sector-requires-clause-to_inside g c =
-    let to = written_at g (goal.at.copy_sector-requires-clause-to_inside g c).After-first in
-    let inside : c.loop-i.i < length c.args.read.now.numbers.items = omega (arith, c.loop-i-test.true, c.len-i-end.ensures.value) in
-    let below = c.requires.blocks.inside c.loop-i.i 0 inside in
-    omega (arith, to, below, c.requires.fits, c.loop-i.invariant.copies.moments.size_stays)
+    let at = at_block g (goal.at.copy_sector-requires-clause-to_inside g c).After-first in
+    let below = c.requires.blocks.inside c.loop-i.i 0 at.0 in
+    omega (arith, at.3, below, c.requires.fits, c.loop-i.invariant.copies.moments.size_stays)
 
 pub loop-i-init : goal.loop-i-init
 loop-i-init g c = search (rules, none_made, g.met.M.Medium.sound, g.met.M.Medium.follows_itself)
@@ -69,37 +64,29 @@ loop-i-init g c = search (rules, none_made, g.met.M.Medium.sound, g.met.M.Medium
 pub returns-in_err-copy_sector-clause-copies : goal.returns-in_err-copy_sector-clause-copies
 returns-in_err-copy_sector-clause-copies g c =
     let at = goal.at.returns-in_err-copy_sector-clause-copies g c in
-    let from = read_at g at.After-first in
-    let inside : c.loop-i.i < length c.args.read.now.numbers.items = omega (arith, c.loop-i-test.true, c.len-i-end.ensures.value) in
-    copied g at.After-copy_sector _ _ _ (written_at g at.After-first) (omega (arith, from.0, from.1)) (omega (arith, inside))
-    (omega (arith, inside)) (search rules)
+    let block = at_block g at.After-first in
+    copied g at.After-copy_sector _ _ _ block.3 block.2 (omega (arith, block.0)) (omega (arith, block.0)) (search rules)
 
 pub loop-i-preserved : goal.loop-i-preserved
 loop-i-preserved g c =
     let at = goal.at.loop-i-preserved g c in
     let shape = shape_of c.args.sizes.now in
     let i = c.loop-i.i in
-    let inside : c.loop-i.i < length c.args.read.now.numbers.items = omega (arith, c.loop-i-test.true, c.len-i-end.ensures.value) in
-    let from = read_at g at.After-first in
-    let to = written_at g at.After-first in
+    let block = at_block g at.After-first in
     let ns = c.args.read.now.numbers.items in
-    let fs = c.args.read.now.firsts.items in
-    let old = g.M.Medium.state c.args.m.now in
     let mid = g.M.Medium.state c.loop-i.m in
-    let new = g.M.Medium.state c.copy_sector.new.m in
     let inv = c.loop-i.invariant in
-    let place : mid.content c.copy_place.result ≡ old.content (data_at shape c.args.stamp i) = ap mid.content from.0
-    ∙ inv.copies.elsewhere (data_at shape c.args.stamp i) (λ h. let is = h.2 in omega (arith, from.1, is)) in
+    let place : mid.content c.copy_place.result ≡ (g.M.Medium.state c.args.m.now).content (data_at shape c.args.stamp i) =
+    inv.copies.elsewhere c.copy_place.result (λ h. let is = h.2 in omega (arith, block.2, is))
+    ∙ ap (g.M.Medium.state c.args.m.now).content block.1 in
     record {
       copied = λ k below. elim (cases_eq k i) [
-        | inl same ↦ rw (same, ← to) (c.in_ok-copy_sector.ensures.done
-            ∙ ap (λ (bytes : List ℕ). c.first.result.now ++ drop (length c.first.result.now) bytes) place
-            ∙ ap (λ (bytes : List ℕ). bytes ++ drop (length bytes) (old.content (data_at shape c.args.stamp i))) c.first.ensures.is)
+        | inl same ↦ rw (same, ← block.3) (rw (place, c.first.ensures.is) at c.in_ok-copy_sector.ensures.done)
         | inr other ↦
-            let up = c.requires.blocks.rising k i (omega arith) inside in
-            let apart : first_home shape + get_or ns k 0 ≢ c.home_of.result = λ e. omega (arith, e, to, up) in
+            let up = c.requires.blocks.rising k i (omega arith) block.0 in
+            let apart : first_home shape + get_or ns k 0 ≢ c.home_of.result = λ e. omega (arith, e, block.3, up) in
             c.copy_sector.ensures.copies.elsewhere (first_home shape + get_or ns k 0) apart ∙ inv.copied k (omega arith)
       ];
-      copies = copied g at.After-copy_sector _ _ _ to (omega (arith, from.0, from.1)) (omega arith) (omega arith) tt;
+      copies = copied g at.After-copy_sector _ _ _ block.3 block.2 (omega arith) (omega arith) tt;
       calls = omega (arith, inv.calls, c.in_ok-copy_sector.ensures.exact);
     }

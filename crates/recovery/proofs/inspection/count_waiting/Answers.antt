@@ -12,8 +12,7 @@ use Rattle.journal.specs.Values.{shape_of}
 use Rattle.recovery.specs.Copies.{most_reads_of}
 use Rattle.recovery.specs.Found.{HasCount}
 use Rattle.recovery.specs.Inspected.{AreCounts}
-use Rattle.recovery.proofs.FoundRecords.{quiet_before, quiet_after}
-use Rattle.recovery.proofs.JoinedCalls.{looks_on}
+use Rattle.recovery.proofs.JoinedCalls.{quiet_before, quiet_after, looks_on}
 use Rattle.recovery.proofs.inspection.count_waiting.Goals as goal
 
 -- fewer than a slot has sectors

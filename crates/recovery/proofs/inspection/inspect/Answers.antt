@@ -16,8 +16,7 @@ use Rattle.recovery.specs.Found.{SurveysAtMost}
 use Rattle.recovery.specs.Inspected.{AreCounts, IsInspected, OnlyLooks}
 use Rattle.recovery.specs.declared.inspection.Inspection.{Inspection}
 use Rattle.recovery.proofs.Causes.{served_look}
-use Rattle.recovery.proofs.FoundRecords.{quiet_before}
-use Rattle.recovery.proofs.JoinedCalls.{looked_on, super_looked, head_read}
+use Rattle.recovery.proofs.JoinedCalls.{quiet_before, looked_on, super_looked, head_read}
 use Rattle.recovery.proofs.inspection.inspect.Given as given
 use Rattle.recovery.proofs.inspection.inspect.Goals as goal
 use Rattle.recovery.proofs.inspection.inspect.Goals.{After-read, After-count_waiting}

@@ -83,8 +83,8 @@ module _ (old mid : State) (found : Recovered) (start : IsRecoveredAtLeast 5 old
           let here = rw (same.0, same.1) at ours in
           let fits = start.from.stood.fits in
           rw (same.0, same.1) (weaker _ _ _ _
-          (λ image either. ⊎_elim (λ was. inl (inr (fresh_ours old.size shape array found.next image fits was)))
-          (λ two. inr (can_migrate, fresh_ours old.size (migrated shape) array found.next image fits two))
+          (λ image either. ⊎_elim (λ was. inl (inr (fresh_ours fits was)))
+          (λ two. inr (can_migrate, fresh_ours fits two))
           (either array (fresh shape array found.next here mid.content sound_mid.holds_content))) making.moments)
 
       migration_leaves : LeavesAtLeast 5 old mid → new.calls ≤ mid.calls + (50 * found.sizes.slots + 5)
@@ -149,8 +149,7 @@ module _ (old mid : State) (found : Recovered) (start : IsRecoveredAtLeast 5 old
             home = kept_home;
             behind = λ x past. making.spares.content x (omega (arith, past))
                 ∙ start.from.elsewhere x (λ e. omega (arith, e, past, log_ends shape stood.keeps.super.home_is)) (inr past);
-            ours = fresh_ours old.size (migrated shape) start.from.array found.next new.content stood.fits
-                (here_fresh start.from.array (λ b below. refl));
+            ours = fresh_ours stood.fits (here_fresh start.from.array (λ b below. refl));
             calls = omega (arith, tried, counted);
           })
 

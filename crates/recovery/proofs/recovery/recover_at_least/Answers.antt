@@ -5,7 +5,7 @@ use Rattle.medium.proofs.SectorsRead.{no_looks}
 use Rattle.journal.specs.Values.{shape_of}
 use Rattle.journal.specs.Formats.{HasWhole}
 use Rattle.recovery.proofs.CopiedRecords.{log_ends}
-use Rattle.recovery.proofs.FoundRecords.{quiet_after}
+use Rattle.recovery.proofs.JoinedCalls.{quiet_after}
 use Rattle.recovery.proofs.WholeRecovery.{IsSurveyed, IsCopying, survey_leaves, copies_leave, moves_leave, recovery_fresh}
 use Rattle.recovery.proofs.WholeRecovery.{recovery_from, refusal}
 use Rattle.recovery.proofs.recovery.recover_at_least.Given as given

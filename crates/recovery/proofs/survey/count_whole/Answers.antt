@@ -13,8 +13,7 @@ use Rattle.journal.specs.Values.{shape_of}
 use Rattle.journal.specs.Formats.{HasWhole}
 use Rattle.recovery.specs.Copies.{most_reads_of}
 use Rattle.recovery.specs.Tries.{IsTryOf, AreTriesOf, AreTries}
-use Rattle.recovery.proofs.FoundRecords.{quiet_before}
-use Rattle.recovery.proofs.JoinedCalls.{each_once_more, looks_on}
+use Rattle.recovery.proofs.JoinedCalls.{quiet_before, each_once_more, looks_on}
 use Rattle.recovery.proofs.survey.count_whole.Given as given
 use Rattle.recovery.proofs.survey.count_whole.Goals as goal
 use Rattle.recovery.proofs.survey.count_whole.Goals.{In_ok-count_blocks}
@@ -52,11 +51,9 @@ one_more : (g : given.Over) (c : In_ok-count_blocks g) → AreTries (shape_of c.
     c.args.head (c.loop-j.j + 1) (g.M.Medium.state c.args.m.now).calls (g.M.Medium.state c.count_blocks.new.m).calls
 one_more g c =
     let shape = shape_of c.args.sizes.now in
-    let mid = g.M.Medium.state c.loop-j.m in
-    let new = g.M.Medium.state c.count_blocks.new.m in
-    tries_more shape.format shape _ c.args.head c.loop-j.j _ mid.calls new.calls c.loop-j.invariant.finds.0
-    (quiet_before (λ n i. IsTryOf shape.format shape i (c.args.head + c.loop-j.j) mid.calls new.calls) _ mid
-    c.loop-j.invariant.passes.quiet c.in_ok-count_blocks.ensures.finds.exact)
+    let inv = c.loop-j.invariant in
+    let same : (g.M.Medium.state c.loop-j.m).content ≡ (g.M.Medium.state c.args.m.now).content = λ i s. inv.passes.quiet.content_stays s i in
+    tries_more shape.format shape _ c.args.head c.loop-j.j _ _ _ inv.finds.0 (rw same at c.in_ok-count_blocks.ensures.finds.exact)
 
 pub loop-j-init : goal.loop-j-init
 loop-j-init g c =

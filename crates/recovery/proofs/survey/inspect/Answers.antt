@@ -1,6 +1,5 @@
-use Rattle.std.proofs.Common.{◌≡◌, ◌∙◌, ◌+◌, ◌<◌, ℕ, subst, arith, rules}
-use Rattle.medium.specs.Medium.{State, Image}
-use Rattle.std.specs.Prelude.{min}
+use Rattle.std.proofs.Common.{◌≡◌, ◌∙◌, ◌+◌, ◌<◌, ℕ, arith, rules}
+use Rattle.medium.specs.Medium.{State}
 use Rattle.std.proofs.lemmas.Result.{err_from_is_err_and}
 use Rattle.medium.proofs.Moments.{quiet_joined}
 use Rattle.medium.specs.Moments.{IsQuiet}
@@ -17,8 +16,6 @@ use Rattle.recovery.specs.Inspected.{IsLookCause}
 use Rattle.recovery.specs.declared.start_fault.StartFault.{StartFault}
 use Rattle.recovery.specs.declared.start_fault.StartFault.TheVariants.{NoMemory}
 use Rattle.recovery.specs.Found.{SurveysAtMost}
-use Rattle.recovery.specs.Tries.{AreTries}
-use Rattle.recovery.proofs.FoundRecords.{quiet_before}
 use Rattle.recovery.proofs.JoinedCalls.{looked_on, super_looked, head_read}
 use Rattle.recovery.proofs.survey.inspect.Given as given
 use Rattle.recovery.proofs.survey.inspect.Goals as goal
@@ -29,13 +26,6 @@ look_refusal : (least : ℕ) (old new : State) (fault : StartFault) → IsLookCa
     → IsRefusalBy least IsQuiet old new fault
 look_refusal least old new NoMemory h quiet = absurd h
 look_refusal least old new fault h quiet = search rules
-
--- an image with this super has few slots only where the super has
-enough_slots : (least size : ℕ) (shape : Shape) (content : Image) → HasShape size shape content
-    → (¬ ((shape.format ≡ One) × (shape.slots < least))) → ¬ HasFewSlots least size content
-enough_slots least size shape content has not few =
-    let same : few.shape ≡ shape = IsSuper-one few.shape shape (content 0) few.has.super has.super in
-    not (subst (λ (s : Shape). (s.format ≡ One) × (s.slots < least)) same (few.one, few.few))
 
 -- the super and the head are read
 read : (g : given.Over) (c : After-read g) → SurveysAtMost (g.M.Medium.state c.args.m.now) (g.M.Medium.state c.read.new.self)
@@ -62,28 +52,27 @@ counted : (g : given.Over) (c : In_ok-count g) → IsQuiet (g.M.Medium.state c.a
     × IsCount (shape_of c.in_ok-sizes.sizes) (g.M.Medium.state c.args.m.now).content c.in-Some.head.stamp c.in_ok-count.count
     × (¬ HasFewSlots c.args.least (g.M.Medium.state c.args.m.now).size (g.M.Medium.state c.args.m.now).content)
 counted g c quiet =
-    let old = g.M.Medium.state c.args.m.now in (
+    let old = g.M.Medium.state c.args.m.now in
+    let same : (g.M.Medium.state c.read.new.self).content ≡ old.content = λ i s. quiet.content_stays s i in (
       rw (← (c.in_ok-read.ensures.ok ∙ c.read_super.ensures.reads.quiet.content_stays 1)) c.in-Some.ensures.some,
-      quiet_before (λ n i. IsCount (shape_of c.in_ok-sizes.sizes) i c.in-Some.head.stamp c.in_ok-count.count) old _ quiet
-          c.in_ok-count.ensures.finds.is,
-      enough_slots c.args.least old.size (shape_of c.in_ok-sizes.sizes) old.content c.in_ok-sizes.ensures.ok
-          (λ both. let is = c.if-has_few_slots.ensures.1 both in absurd (cc is)),
+      rw same at c.in_ok-count.ensures.finds.is,
+      λ few.
+          let one = IsSuper-one few.shape (shape_of c.in_ok-sizes.sizes) (old.content 0) few.has.super c.in_ok-sizes.ensures.ok.super in
+          let both : (few.shape.format ≡ One) × (few.shape.slots < c.args.least) = (few.one, few.few) in
+          let is = c.if-has_few_slots.ensures.1 (rw one at both) in
+          absurd (cc is),
     )
 
 pub returns-then-head-count : goal.returns-then-head-count
 returns-then-head-count g c =
     let at = goal.at.returns-then-head-count g c in
-    let shape = shape_of c.in_ok-sizes.sizes in
+    let old = g.M.Medium.state c.args.m.now in
     let mid = g.M.Medium.state c.read.new.self in
-    let new = g.M.Medium.state c.count_whole.new.m in
-    let tries = min (c.in_ok-count.count + 1) c.in_ok-sizes.sizes.slots in
     let before = read g at.After-read in
     let known = counted g at.In_ok-count before.quiet in
-    let calls : mid.calls ≡ (g.M.Medium.state c.args.m.now).calls + 2 =
-    omega (arith, c.in_ok-sizes.ensures.reads.exact, c.read.ensures.passes.calls_are) in
-    let exact = rw calls at
-    (quiet_before (λ n i. AreTries shape i c.in-Some.head.stamp tries mid.calls new.calls) _ mid before.quiet
-    c.in_ok-count.ensures.finds.exact) in
+    let same : mid.content ≡ old.content = λ i s. before.quiet.content_stays s i in
+    let calls : mid.calls ≡ old.calls + 2 = omega (arith, c.in_ok-sizes.ensures.reads.exact, c.read.ensures.passes.calls_are) in
+    let exact = rw (same, calls) at c.in_ok-count.ensures.finds.exact in
     search (rules, records_read g at.After-count_whole before, known, exact, g.met.M.Medium.follows_through)
 
 pub returns-else-head-count : goal.returns-else-head-count
