@@ -8,9 +8,7 @@ use Rattle.spec.specs.Blocks.{Array}
 use Rattle.journal.specs.Places.{Shape, first_home, sectors_of, IsFirstHome}
 use Rattle.journal.specs.Sectors.{IsSuper, IsHead}
 use Rattle.journal.specs.Record.{Entry, numbers_of, with_records, home_of, Hides}
-use Rattle.journal.specs.Layout.{Layout, IsWholeIn, slot_at}
-use Rattle.journal.specs.LayoutLaws.{Laws}
-use Rattle.journal.specs.Formats.{layout_of, IsWhole, HasWhole, CarriesBelow}
+use Rattle.journal.specs.Formats.{layout_of, HasWhole, CarriesBelow}
 use Rattle.journal.specs.Standing.{IsOurs}
 use Rattle.journal.proofs.Apart.{in_log}
 use Rattle.journal.proofs.Formats.{laws_of}
@@ -24,27 +22,22 @@ use Rattle.recovery.proofs.CopiedRecords.{log_ends, home_in_whole, long_as, numb
 abbrev pub AreSame : Shape → Array → Array → Type 0
 AreSame shape a c = (b : ℕ) → b < shape.blocks → a b ≡ c b
 
-module _ (L : Layout) (laws : Laws L) (shape : Shape) (image : Image) where
-  -- a whole record carries its stamp in its last sector
-  last_carries : (stamp : ℕ) (es : List Entry) → IsWholeIn L shape image stamp es
-      → L.carries (L.slot_sectors - 1) stamp (image (slot_at L shape stamp + (L.slot_sectors - 1)))
-  last_carries stamp es w =
-      let last = L.parts (length es) - 1 in
-      let inside : last < L.parts (length es) = omega (arith, laws.some_parts (length es)) in
-      let late = laws.last_is_late (length es) in
-      rw (← laws.last (length es), w.there last inside)
-      (⊎_elim (λ early. absurd (omega (arith, early, late))) (λ carried. carried)
-      (laws.carries shape.blocks stamp es last (record { fit = w.fit; least = w.least; below = w.below }) inside))
-
--- so its stamp is below the end of all that are carried
+-- a whole record carries its stamp in its last sector, so the stamp is below the end of all that are carried
 carried_whole : (shape : Shape) (image : Image) (stamp end : ℕ) → 1 ≤ shape.slots → HasWhole shape image stamp
     → CarriesBelow shape image end → stamp < end
-carried_whole shape image stamp end some w below =
+carried_whole shape image stamp end some whole below =
     let L = layout_of shape.format in
     let laws = laws_of shape.format in
-    let inside = laws.inside 0 0 (omega arith) (laws.some_parts 0) in
-    below (stamp % shape.slots) (L.slot_sectors - 1) stamp (mod_below stamp shape.slots some) (omega (arith, inside))
-    (last_carries L laws shape image stamp w.0 w.1)
+    let es = whole.0 in
+    let w = whole.1 in
+    let last = L.parts (length es) - 1 in
+    let inside : last < L.parts (length es) = omega (arith, laws.some_parts (length es)) in
+    let first = laws.inside 0 0 (omega arith) (laws.some_parts 0) in
+    let late = laws.last_is_late (length es) in
+    below (stamp % shape.slots) (L.slot_sectors - 1) stamp (mod_below stamp shape.slots some) (omega (arith, first))
+    (rw (← laws.last (length es), w.there last inside)
+    (⊎_elim (λ early. absurd (omega (arith, early, late))) (λ carried. carried)
+    (laws.carries shape.blocks stamp es last (record { fit = w.fit; least = w.least; below = w.below }) inside)))
 
 -- a log of zeros carries nothing from stamp 1 on
 zeros_carry : (shape : Shape) (image : Image) (end : ℕ) → 1 ≤ end
@@ -56,19 +49,6 @@ zeros_carry shape image end some zeros slot o stamp low small carries =
     let none = (laws_of shape.format).zeros o stamp
     (subst (L.carries o stamp) (zeros (2 + L.slot_sectors * slot + o) (omega arith) inside) carries) in
     omega (arith, none, some)
-
--- a block that is copied is hidden by the records
-pub home_hidden : (shape : Shape) (image : Image) (head : ℕ) (records : List (List Entry))
-    → ((j : ℕ) → j < length records → IsWhole shape image (head + j) (get_or records j [])) → (b : ℕ)
-    → IsHomeInRecords shape image head (length records) (first_home shape + b) → Hides records b
-home_hidden shape image head records whole b home =
-    let j = home.0 in
-    let es = get_or records j [] in
-    let here = home_in_whole shape image (head + j) es (first_home shape + b) (whole j home.1) home.2 in
-    let is = here.2 in
-    let long = long_as es (numbers_of es) refl in
-    let number = number_of es (numbers_of es) here.0 refl in
-    subst (Hides records) (omega (arith, is, number)) (records-hide records j here.0 home.1 (omega (arith, here.1, long)))
 
 -- copies of its records at home change nothing of what an image stands for
 pub copies_ours : {size : ℕ} {shape : Shape} {start : Image} {array : Array} {next : ℕ} (ours : IsOurs size shape start array next)
@@ -108,11 +88,21 @@ copies_ours {shape = shape} {start = start} {next = next} ours head count head_i
     log : (x : ℕ) → x < first_home shape → image x ≡ start x
     log x below = ⊎_elim (λ same. same) (λ home. absurd (not_in_log shape start head count x below home)) (each x)
 
-    home : (b : ℕ) → with_records ours.stands.records (home_of shape image) b ≡ with_records ours.stands.records (home_of shape start) b
-    home b =
-        ⊎_elim (λ same. with_records-same ours.stands.records (home_of shape image) (home_of shape start) b same)
-        (λ copied. home_hidden shape start ours.stands.head ours.stands.records ours.stands.keeps.whole b
-        (rw (head_is, count_is) at copied) (home_of shape image) (home_of shape start))
+    records : List (List Entry)
+    records = ours.stands.records
+
+    -- a block that is copied is hidden by the records
+    home : (b : ℕ) → with_records records (home_of shape image) b ≡ with_records records (home_of shape start) b
+    home b = ⊎_elim (λ same. with_records-same records (home_of shape image) (home_of shape start) b same)
+        (λ copied.
+        let h = rw (head_is, count_is) at copied in
+        let es = get_or records h.0 [] in
+        let here = home_in_whole shape start _ es (first_home shape + b) (ours.stands.keeps.whole h.0 h.1) h.2 in
+        let is = here.2 in
+        let long = long_as es (numbers_of es) refl in
+        let number = number_of es (numbers_of es) here.0 refl in
+        let hides = records-hide records h.0 here.0 h.1 (omega (arith, here.1, long)) in
+        subst (Hides records) (omega (arith, is, number)) hides (home_of shape image) (home_of shape start))
         (each (first_home shape + b))
 
 -- the new head, once every block is at home

@@ -39,15 +39,11 @@ pub record IsMadeOf (found : Recovered) (new : State) (answer : Recovered) : Typ
   pub next_is : answer.next ≡ found.next
   pub made : IsMadeTwo (shape_of found.sizes) found.next new
 
--- no record waits in the image, which is of the format that it had or of format 2
-abbrev pub IsFreshInEither : Shape → Array → ℕ → Image → Type 0
-IsFreshInEither shape array next image =
-    IsFresh shape array next image ⊎ IsFresh (migrated shape) array next image
-
--- so, where no record waited, for the array that stood there
+-- where no record waited for an array, none waits in the image, which is of the format that it had
+-- or of format 2
 abbrev pub StaysFresh : Shape → ℕ → Image → Image → Type 0
 StaysFresh shape next before image = (array : Array) → IsFresh shape array next before
-    → IsFreshInEither shape array next image
+    → IsFresh shape array next image ⊎ IsFresh (migrated shape) array next image
 
 -- The answer is what contents of format 1 stood for, with a stamp left for the next record, and the
 -- sizes of format 2. They have become format 2, with the head at that stamp and the array at home,

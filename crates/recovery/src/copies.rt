@@ -24,11 +24,11 @@ pub(crate) fn copy_sector<M: Medium>(
     requires from_inside { from < (M.state m.old).size }
     requires to_inside { to < (M.state m.old).size }
     requires few { length first.now ≤ 512 }
-    ensures done { OnOk result ((M.state m.new).content to
-        ≡ first.now ++ drop (length first.now) ((M.state m.old).content from)) }
+    ensures done { OnOk result (((M.state m.new).content to
+        ≡ first.now ++ drop (length first.now) ((M.state m.old).content from))
+        × ((M.state m.new).calls ≡ (M.state m.old).calls + 2)) }
     ensures copies { Copies M.state M.follows (λ s. s ≡ to) (λ s. s ≡ from) 2 1
         m.old m.new result }
-    ensures exact { OnOk result ((M.state m.new).calls ≡ (M.state m.old).calls + 2) }
 {
     let mut sector = [0; 512];
     m.read(from, &mut sector)?;
@@ -45,18 +45,17 @@ fn copy_blocks<M: Medium>(
 ) -> Result<(), MediumFault>
     requires fits { sectors_of (shape_of sizes.now) ≤ (M.state m.old).size }
     requires blocks { AreBlocks (shape_of sizes.now) read.now.numbers.items }
-    ensures done { OnOk result ((i : ℕ) → i < length read.now.numbers.items
+    ensures done { OnOk result (((i : ℕ) → i < length read.now.numbers.items
         → (M.state m.new).content (first_home (shape_of sizes.now)
         + slice_index read.now.numbers.items i)
         ≡ get_or read.now.firsts.items i []
         ++ drop (length (get_or read.now.firsts.items i []))
-        ((M.state m.old).content (data_at (shape_of sizes.now) stamp i))) }
+        ((M.state m.old).content (data_at (shape_of sizes.now) stamp i)))
+        × ((M.state m.new).calls ≡ (M.state m.old).calls + 2 * length read.now.numbers.items)) }
     ensures copies { Copies M.state M.follows
         (IsHomeOf (shape_of sizes.now) read.now.numbers.items)
         (λ s. s < first_home (shape_of sizes.now)) (2 * length read.now.numbers.items)
         (length read.now.numbers.items) m.old m.new result }
-    ensures exact { OnOk result ((M.state m.new).calls
-        ≡ (M.state m.old).calls + 2 * length read.now.numbers.items) }
 {
     let slot = slot_of(stamp, sizes.slots);
     for i in 0..read.numbers.len() {

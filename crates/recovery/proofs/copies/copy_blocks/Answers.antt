@@ -81,12 +81,12 @@ loop-i-preserved g c =
     ∙ ap (g.M.Medium.state c.args.m.now).content block.1 in
     record {
       copied = λ k below. elim (cases_eq k i) [
-        | inl same ↦ rw (same, ← block.3) (rw (place, c.first.ensures.is) at c.in_ok-copy_sector.ensures.done)
+        | inl same ↦ rw (same, ← block.3) (rw (place, c.first.ensures.is) at c.in_ok-copy_sector.ensures.done.0)
         | inr other ↦
             let up = c.requires.blocks.rising k i (omega arith) block.0 in
             let apart : first_home shape + get_or ns k 0 ≢ c.home_of.result = λ e. omega (arith, e, block.3, up) in
             c.copy_sector.ensures.copies.elsewhere (first_home shape + get_or ns k 0) apart ∙ inv.copied k (omega arith)
       ];
       copies = copied g at.After-copy_sector _ _ _ block.3 block.2 (omega arith) (omega arith) tt;
-      calls = omega (arith, inv.calls, c.in_ok-copy_sector.ensures.exact);
+      calls = omega (arith, inv.calls, c.in_ok-copy_sector.ensures.done.1);
     }

@@ -1,6 +1,6 @@
 use Rattle.std.proofs.Common.{◌≡◌, ◌∙◌, ◌+◌, ◌*◌, ◌++◌, ◌≤◌, List, [], ℕ, length, drop, get_or, refl, ap, subst, arith, rules}
-use Rattle.std.proofs.Common.{Result, Ok, Err}
-use Rattle.std.specs.Prelude.{Some, OnOk}
+use Rattle.std.specs.Prelude.{Some}
+use Rattle.std.proofs.lemmas.Result.{on_ok_weaker}
 use Rattle.medium.specs.Medium.{Image}
 use Rattle.journal.specs.declared.log_format.LogFormat.{LogFormat}
 use Rattle.journal.specs.declared.record.Record.{Record}
@@ -15,11 +15,6 @@ use Rattle.recovery.proofs.JoinedCalls.{none_copies, copies_on}
 use Rattle.recovery.proofs.copies.copy_record.Given as given
 use Rattle.recovery.proofs.copies.copy_record.Goals as goal
 use Rattle.recovery.proofs.copies.copy_record.Goals.{Then-branch}
-
--- what follows from two facts at an `Ok`
-both_ok : {T E P Q R : Type 0} (r : Result T E) → (P → Q → R) → OnOk r P → OnOk r Q → OnOk r R
-both_ok (Ok x) f p q = f p q
-both_ok (Err e) f p q = tt
 
 -- as many calls as it takes
 calls_made : (format : LogFormat) (shape : Shape) (image : Image) (stamp : ℕ) (read : Record) (n reads old mid new : ℕ)
@@ -78,12 +73,12 @@ returns-then-branch-clause-done g c entries all =
     let its = finds.all entries all in
     let many : length ns ≡ length entries = long_as entries ns its.numbers_are in
     let fs = c.read_record.new.to.firsts.items in
-    both_ok c.copy_blocks.result (λ done made. record {
+    on_ok_weaker c.copy_blocks.result (λ done. record {
       home = λ i below.
-          rw (← number_of entries ns i its.numbers_are) (done i (omega (arith, many, below))
+          rw (← number_of entries ns i its.numbers_are) (done.0 i (omega (arith, many, below))
           ∙ ap (λ (bytes : List ℕ). get_or fs i [] ++ drop (length (get_or fs i [])) bytes)
           (c.read_record.ensures.passes.quiet.content_stays (data_at shape c.args.stamp i))
           ∙ its.blocks_are i below);
       exact = calls_made shape.format shape _ c.args.stamp c.read_record.new.to _ finds.exact.0 _ _ _ finds.exact.1 many finds.exact.2
-          made;
-    }) c.copy_blocks.ensures.done c.copy_blocks.ensures.exact
+          done.1;
+    }) c.copy_blocks.ensures.done

@@ -52,7 +52,8 @@ one_more : (g : given.Over) (c : In_ok-count_blocks g) → AreTries (shape_of c.
 one_more g c =
     let shape = shape_of c.args.sizes.now in
     let inv = c.loop-j.invariant in
-    let same : (g.M.Medium.state c.loop-j.m).content ≡ (g.M.Medium.state c.args.m.now).content = λ i s. inv.passes.quiet.content_stays s i in
+    let same : (g.M.Medium.state c.loop-j.m).content ≡ (g.M.Medium.state c.args.m.now).content =
+    λ i s. inv.passes.quiet.content_stays s i in
     tries_more shape.format shape _ c.args.head c.loop-j.j _ _ _ inv.finds.0 (rw same at c.in_ok-count_blocks.ensures.finds.exact)
 
 pub loop-j-init : goal.loop-j-init
