@@ -1,18 +1,26 @@
--- Where the blocks of whole records are at home, and what a cut leaves of the sectors.
-use Rattle.std.proofs.Common.{◌≡◌, inl, inr, ℕ, ◌+◌, ◌*◌, ◌<◌, ◌≤◌, List, [], length, get_or, refl, ◌∙◌, ap, subst, arith}
+-- Records are copied home: where their blocks are, what a cut leaves of the sectors, and what images stand for meanwhile.
+use Rattle.std.proofs.Common.{◌≡◌, inl, inr, ℕ, ◌+◌, ◌*◌, ◌<◌, ◌≤◌, List, [], length, get_or, refl, ◌∙◌, ap, subst}
+use Rattle.std.proofs.Common.{◌⊎◌, ⊎_elim, ◌-◌, ◌%◌, replicate, sym, arith, rules}
 use Rattle.std.proofs.Math.ListN.{get_or-map}
 use Rattle.std.proofs.lemmas.Bool.{cases_eq}
 use Rattle.std.proofs.lemmas.List.{length-map}
+use Rattle.std.proofs.lemmas.Nat.{mod_below}
 use Rattle.medium.specs.Medium.{State, Image, Sets, CutLeaves, Within, IsSound}
 use Rattle.medium.specs.Moments.{LeavesOnly, StaysWithin, SparesFrom}
 use Rattle.medium.proofs.Moments.{at_exit, updated, updated_here, updated_elsewhere}
 use Rattle.medium.proofs.SparedSectors.{HasSpared}
+use Rattle.spec.specs.Blocks.{Array}
 use Rattle.journal.specs.Places.{Shape, first_home, sectors_of, IsFirstHome}
-use Rattle.journal.specs.Record.{Entry, numbers_of}
-use Rattle.journal.specs.Formats.{layout_of, IsWhole}
+use Rattle.journal.specs.Record.{Entry, numbers_of, with_records, home_of, Hides}
+use Rattle.journal.specs.Formats.{layout_of, IsWhole, HasWhole, CarriesBelow}
 use Rattle.journal.proofs.Formats.{laws_of, sectors_are}
-use Rattle.journal.proofs.Wholeness.{IsWhole-one, IsWhole-same, slot_inside}
-use Rattle.recovery.specs.Copies.{IsHomeOf, IsHomeInRecord, IsHomeInRecords}
+use Rattle.journal.proofs.Wholeness.{IsWhole-one, IsWhole-same, slot_inside, CarriesBelow-agree}
+use Rattle.journal.specs.Sectors.{IsSuper, IsHead}
+use Rattle.journal.specs.Standing.{IsOurs}
+use Rattle.journal.proofs.Apart.{in_log}
+use Rattle.journal.proofs.Overlay.{with_records-same, records-hide}
+use Rattle.recovery.specs.Copies.{IsHomeOf, IsHomeInRecord, IsHomeInRecords, HasNewHead}
+use Rattle.recovery.specs.Recovered.{IsFresh}
 
 -- what a cut may leave in one sector an image has there that it may leave
 image_with : (m : State) (s : ℕ) (c : List ℕ) → IsSound m → m.may_leave s c → (image : Image) × CutLeaves m.may_leave image × (image s ≡ c)
@@ -82,3 +90,136 @@ not_behind shape image head count x past home =
     let below = whole.fit.inside home.2.2.0 0 home.2.2.1 in
     let is = home.2.2.2 in
     omega (arith, below, is, past)
+
+-- two arrays have the same blocks
+abbrev pub AreSame : Shape → Array → Array → Type 0
+AreSame shape a c = (b : ℕ) → b < shape.blocks → a b ≡ c b
+
+-- a whole record carries its stamp in its last sector, so the stamp is below the end of all that are carried
+carried_whole : (shape : Shape) (image : Image) (stamp end : ℕ) → 1 ≤ shape.slots → HasWhole shape image stamp
+    → CarriesBelow shape image end → stamp < end
+carried_whole shape image stamp end some whole below =
+    let L = layout_of shape.format in
+    let laws = laws_of shape.format in
+    let es = whole.0 in
+    let w = whole.1 in
+    let last = L.parts (length es) - 1 in
+    let inside : last < L.parts (length es) = omega (arith, laws.some_parts (length es)) in
+    let first = laws.inside 0 0 (omega arith) (laws.some_parts 0) in
+    let late = laws.last_is_late (length es) in
+    below (stamp % shape.slots) (L.slot_sectors - 1) stamp (mod_below stamp shape.slots some) (omega (arith, first))
+    (rw (← laws.last (length es), w.there last inside)
+    (⊎_elim (λ early. absurd (omega (arith, early, late))) (λ carried. carried)
+    (laws.carries shape.blocks stamp es last (record { fit = w.fit; least = w.least; below = w.below }) inside)))
+
+-- a log of zeros carries nothing from stamp 1 on
+zeros_carry : (shape : Shape) (image : Image) (end : ℕ) → 1 ≤ end
+    → ((x : ℕ) → 2 ≤ x → x < 2 + (layout_of shape.format).slot_sectors * shape.slots → image x ≡ replicate 512 0)
+    → CarriesBelow shape image end
+zeros_carry shape image end some zeros slot o stamp low small carries =
+    let L = layout_of shape.format in
+    let inside = in_log L.slot_sectors slot shape.slots o low small in
+    let none = (laws_of shape.format).zeros o stamp
+    (subst (L.carries o stamp) (zeros (2 + L.slot_sectors * slot + o) (omega arith) inside) carries) in
+    omega (arith, none, some)
+
+-- copies of its records at home change nothing of what an image stands for
+pub copies_ours : {size : ℕ} {shape : Shape} {start : Image} {array : Array} {next : ℕ} (ours : IsOurs size shape start array next)
+    (head count : ℕ) → head ≡ ours.stands.head → count ≡ length ours.stands.records → (image : Image)
+    → ((x : ℕ) → (image x ≡ start x) ⊎ IsHomeInRecords shape start head count x) → IsOurs size shape image array next
+copies_ours {shape = shape} {start = start} {next = next} ours head count head_is count_is image each =
+    record {
+      stands = record {
+        fits = ours.stands.fits;
+        head = ours.stands.head;
+        records = ours.stands.records;
+        keeps = record {
+          super = subst (IsSuper shape) (sym (log 0 (omega (arith, log_ends shape first)))) ours.stands.keeps.super;
+          head_is = subst (IsHead ours.stands.head) (sym (log 1 (omega (arith, log_ends shape first)))) ours.stands.keeps.head_is;
+          whole = λ j below. whole_same shape start image (ours.stands.head + j) (get_or ours.stands.records j []) some first log
+              (ours.stands.keeps.whole j below);
+          blocks = λ b below. home b ∙ ours.stands.keeps.blocks b below;
+        };
+        few = ours.stands.few;
+        ends = λ less w. ours.stands.ends less (
+          w.0,
+          whole_same shape image start (ours.stands.head + length ours.stands.records) w.0 some first (λ x below. sym (log x below))
+              w.1,
+        );
+        next_is = ours.stands.next_is;
+      };
+      carries = CarriesBelow-agree (layout_of shape.format) (laws_of shape.format) shape start image next
+          (λ x low high. log x (omega (arith, log_ends shape first))) ours.carries;
+    }
+  where
+    some : 1 ≤ shape.slots
+    some = ours.stands.keeps.super.some_slots
+
+    first : IsFirstHome shape.format shape.slots shape.home
+    first = ours.stands.keeps.super.home_is
+
+    log : (x : ℕ) → x < first_home shape → image x ≡ start x
+    log x below = ⊎_elim (λ same. same) (λ home. absurd (not_in_log shape start head count x below home)) (each x)
+
+    records : List (List Entry)
+    records = ours.stands.records
+
+    -- a block that is copied is hidden by the records
+    home : (b : ℕ) → with_records records (home_of shape image) b ≡ with_records records (home_of shape start) b
+    home b = ⊎_elim (λ same. with_records-same records (home_of shape image) (home_of shape start) b same)
+        (λ copied.
+        let h = rw (head_is, count_is) at copied in
+        let es = get_or records h.0 [] in
+        let here = home_in_whole shape start _ es (first_home shape + b) (ours.stands.keeps.whole h.0 h.1) h.2 in
+        let is = here.2 in
+        let long = long_as es (numbers_of es) refl in
+        let number = number_of es (numbers_of es) here.0 refl in
+        let hides = records-hide records h.0 here.0 h.1 (omega (arith, here.1, long)) in
+        subst (Hides records) (omega (arith, is, number)) hides (home_of shape image) (home_of shape start))
+        (each (first_home shape + b))
+
+-- the new head, once every block is at home
+pub new_head_fresh : {size : ℕ} {shape : Shape} {start before image : Image} {array : Array} {next : ℕ}
+    → IsOurs size shape start array next → ((x : ℕ) → x < first_home shape → before x ≡ start x)
+    → AreSame shape (home_of shape before) array → HasNewHead next before image → IsFresh shape array next image
+new_head_fresh {shape = shape} {start = start} {image = image} {next = next} ours log home moved =
+    let super = ours.stands.keeps.super in
+    let ends = log_ends shape super.home_is in
+    record {
+      super = rw (moved.elsewhere 0 (λ e. omega arith), log 0 (omega (arith, ends))) super;
+      head = moved.head;
+      home = λ b below. moved.elsewhere (first_home shape + b) (λ e. omega (arith, e, ends)) ∙ home b below;
+      carries = CarriesBelow-agree (layout_of shape.format) (laws_of shape.format) shape start image next
+          (λ x low high. moved.elsewhere x (λ e. omega (arith, low, e)) ∙ log x (omega (arith, high, ends))) ours.carries;
+    }
+
+-- no record waits in a log of zeros
+pub zeros_fresh : (shape : Shape) (array : Array) (next : ℕ) (image : Image) → IsSuper shape (image 0) → IsHead next (image 1)
+    → ((x : ℕ) → 2 ≤ x → x < first_home shape → image x ≡ replicate 512 0)
+    → AreSame shape (home_of shape image) array → IsFresh shape array next image
+zeros_fresh shape array next image super head zeros home =
+    let ends = log_ends shape super.home_is in
+    search (rules, home, zeros_carry shape image next head.least (λ x low high. zeros x low (omega (arith, high, ends))))
+
+-- an image in which no record waits is ours, with the stamp behind
+pub fresh_ours : {size : ℕ} {shape : Shape} {array : Array} {next : ℕ} {image : Image} → sectors_of shape ≤ size
+    → IsFresh shape array next image → IsOurs size shape image array (next + 1)
+fresh_ours {shape = shape} {next = next} {image = image} fits f = record {
+  stands = record {
+    fits = fits;
+    head = next;
+    records = [];
+    keeps = record { super = f.super; head_is = f.head; whole = λ j below. absurd (omega arith); blocks = λ b below. f.home b below };
+    few = omega arith;
+    ends = λ less w. omega (arith, carried_whole shape image (next + 0) next f.super.some_slots w f.carries);
+    next_is = omega arith;
+  };
+  carries = λ slot o stamp low small carries. omega (arith, f.carries slot o stamp low small carries);
+}
+
+-- an image of zeros behind a super and a head is ours, for what it has at home
+pub zeros_ours : (size : ℕ) (shape : Shape) (array : Array) (image : Image) → sectors_of shape ≤ size → IsSuper shape (image 0)
+    → IsHead 1 (image 1) → ((x : ℕ) → 2 ≤ x → x < first_home shape → image x ≡ replicate 512 0)
+    → AreSame shape (home_of shape image) array → IsOurs size shape image array 2
+zeros_ours size shape array image fits super head zeros home =
+    fresh_ours fits (zeros_fresh shape array 1 image super head zeros home)

@@ -4,4 +4,3 @@ pub mod MadeImage
 pub mod CopiedRecords
 pub mod JoinedCalls
 pub mod WholeRecovery
-pub mod ReplayedImages

@@ -35,9 +35,8 @@ use Rattle.recovery.specs.declared.found.Found.{Found}
 use Rattle.recovery.specs.declared.start_fault.StartFault.{StartFault}
 use Rattle.recovery.specs.declared.start_fault.StartFault.TheVariants.{NoMemory, StampsUsedUp, LogTooSmall}
 use Rattle.recovery.proofs.Causes.{refused_later}
-use Rattle.recovery.proofs.CopiedRecords.{log_ends, not_in_log, not_behind, spared_by}
+use Rattle.recovery.proofs.CopiedRecords.{log_ends, not_in_log, not_behind, spared_by, AreSame, copies_ours, new_head_fresh, fresh_ours}
 use Rattle.recovery.proofs.MadeImage.{wider}
-use Rattle.recovery.proofs.ReplayedImages.{AreSame, copies_ours, new_head_fresh, fresh_ours}
 use Rattle.recovery.proofs.JoinedCalls.{quiet_before, quiet_after, looked_on}
 
 -- other calls before and behind them

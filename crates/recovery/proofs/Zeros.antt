@@ -1,2 +1,2 @@
 -- An image of zeros behind a super and a head.
-pub use Rattle.recovery.proofs.ReplayedImages.{zeros_ours}
+pub use Rattle.recovery.proofs.CopiedRecords.{zeros_ours}

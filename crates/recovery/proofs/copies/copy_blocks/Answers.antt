@@ -1,6 +1,5 @@
-use Rattle.std.proofs.Common.{◌≡◌, ◌≢◌, ◌<◌, ◌≤◌, inl, inr, ◌∙◌, ◌+◌, ◌*◌, ◌%◌, ℕ, length, get_or, ap}
+use Rattle.std.proofs.Common.{◌≡◌, ◌≢◌, ◌<◌, ◌≤◌, inl, inr, ◌∙◌, ◌+◌, ◌*◌, ◌%◌, ℕ, length, get_or, ap, IfErr}
 use Rattle.std.proofs.Common.{arith, rules, Result}
-use Rattle.std.specs.Prelude.{IfErr}
 use Rattle.std.proofs.lemmas.Bool.{cases_eq}
 use Rattle.std.proofs.lemmas.Nat.{mod_below}
 use Rattle.medium.specs.declared.fault.MediumFault.{MediumFault}

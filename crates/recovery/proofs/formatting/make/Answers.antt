@@ -1,5 +1,4 @@
-use Rattle.std.proofs.Common.{refl, arith, rules, ◌∙◌, ap}
-use Rattle.std.specs.Prelude.{replicate}
+use Rattle.std.proofs.Common.{refl, arith, rules, ◌∙◌, ap, replicate}
 use Rattle.journal.specs.Places.{Shape, new_shape, sectors_of}
 use Rattle.medium.specs.Medium.{State, Image}
 use Rattle.recovery.specs.Formatted.{IsArrayFrom, IsMade, IsFormatted}

@@ -1,5 +1,4 @@
-use Rattle.std.proofs.Common.{◌≡◌, inl, inr, ◌+◌, ◌≤◌, ◌<◌, ◌∙◌, ℕ, refl, sym, ⊎_elim, subst, rules, arith}
-use Rattle.std.specs.Prelude.{replicate}
+use Rattle.std.proofs.Common.{◌≡◌, inl, inr, ◌+◌, ◌≤◌, ◌<◌, ◌∙◌, ℕ, refl, sym, ⊎_elim, subst, rules, arith, replicate}
 use Rattle.std.proofs.lemmas.Bool.{cases_lt}
 use Rattle.std.proofs.lemmas.Result.{err_from_is_err_and, on_ok_weaker}
 use Rattle.medium.specs.Medium.{Image, Holds}
@@ -11,7 +10,7 @@ use Rattle.journal.specs.Standing.{IsOurs}
 use Rattle.journal.specs.Values.{shape_of}
 use Rattle.recovery.specs.Calls.{Leaves}
 use Rattle.recovery.specs.Formatted.{IsArrayFrom, IsNoneOrNew, ImageLeaves}
-use Rattle.recovery.proofs.ReplayedImages.{zeros_ours}
+use Rattle.recovery.proofs.CopiedRecords.{zeros_ours}
 use Rattle.recovery.proofs.MadeImage.{wider, then_leave, through_leaves, clear_spares, first_leaves, rest_leaves}
 use Rattle.recovery.proofs.formatting.write_image.Given as given
 use Rattle.recovery.proofs.formatting.write_image.Goals as goal

@@ -1,5 +1,4 @@
-use Rattle.std.proofs.Common.{◌≡◌, ◌<◌, ◌+◌, ◌*◌, ℕ, Ok, length}
-use Rattle.std.specs.Prelude.{slice_index}
+use Rattle.std.proofs.Common.{◌≡◌, ◌<◌, ◌+◌, ◌*◌, ℕ, Ok, length, slice_index}
 use Rattle.journal.specs.Places.{first_home}
 use Rattle.journal.specs.Reads.{LooksUp}
 use Rattle.journal.specs.Values.{shape_of}

@@ -14,9 +14,8 @@ use Rattle.recovery.specs.Copies.{IsBetween}
 use Rattle.recovery.specs.Migrated.{StaysFresh}
 use Rattle.recovery.specs.Recovered.{IsFresh}
 use Rattle.recovery.specs.declared.recovered.Recovered.{Recovered}
-use Rattle.recovery.proofs.CopiedRecords.{log_ends}
+use Rattle.recovery.proofs.CopiedRecords.{log_ends, zeros_fresh}
 use Rattle.recovery.proofs.MadeImage.{wider, then_leave, clear_spares, through_leaves}
-use Rattle.recovery.proofs.ReplayedImages.{zeros_fresh}
 use Rattle.recovery.proofs.migration.make_two.Given as given
 use Rattle.recovery.proofs.migration.make_two.Goals as goal
 use Rattle.recovery.proofs.migration.make_two.Goals.{After-clear, After-move_head, After-write_through}

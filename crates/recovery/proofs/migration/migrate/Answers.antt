@@ -1,5 +1,4 @@
-use Rattle.std.proofs.Common.{◌≡◌, inl, inr, ⊎_elim, ℕ, ◌+◌, ◌*◌, ◌≤◌, length, refl, sym, ◌∙◌, subst, arith, rules}
-use Rattle.std.specs.Prelude.{min}
+use Rattle.std.proofs.Common.{◌≡◌, inl, inr, ⊎_elim, ℕ, ◌+◌, ◌*◌, ◌≤◌, length, refl, sym, ◌∙◌, subst, arith, rules, min}
 use Rattle.std.proofs.lemmas.Bool.{cases_lt}
 use Rattle.std.proofs.lemmas.Result.{err_from_is_err_and}
 use Rattle.medium.specs.Medium.{State, IsSound}
@@ -28,8 +27,7 @@ use Rattle.recovery.specs.Migrated.{CanMigrate, IsMadeOf, IsMigratedFrom, StaysF
 use Rattle.recovery.specs.Migrated.{most_migration_sends}
 use Rattle.recovery.specs.declared.recovered.Recovered.{Recovered}
 use Rattle.recovery.proofs.Causes.{served_slots, refused_later}
-use Rattle.recovery.proofs.CopiedRecords.{log_ends}
-use Rattle.recovery.proofs.ReplayedImages.{AreSame, zeros_fresh, fresh_ours}
+use Rattle.recovery.proofs.CopiedRecords.{log_ends, AreSame, zeros_fresh, fresh_ours}
 use Rattle.recovery.proofs.migration.migrate.Given as given
 use Rattle.recovery.proofs.migration.migrate.Goals as goal
 use Rattle.recovery.proofs.migration.migrate.Goals.{After-make_two}

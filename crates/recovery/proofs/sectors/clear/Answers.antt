@@ -1,6 +1,5 @@
-use Rattle.std.proofs.Common.{◌≡◌, ℕ, inl, inr, ⊎_elim, ◌∙◌, ap, arith, rules}
+use Rattle.std.proofs.Common.{◌≡◌, ℕ, inl, inr, ⊎_elim, ◌∙◌, ap, arith, rules, replicate}
 use Rattle.std.proofs.lemmas.Bool.{cases_eq}
-use Rattle.std.specs.Prelude.{replicate}
 use Rattle.medium.specs.Moments.{StaysWithin}
 use Rattle.medium.proofs.Moments.{gains_within, goes_on_within}
 use Rattle.recovery.specs.Copies.{cleared_at, IsBetween}

@@ -1,5 +1,4 @@
-use Rattle.std.proofs.Common.{◌≡◌, ◌<◌, ◌≤◌, ◌+◌, ◌-◌, ℕ}
-use Rattle.std.specs.Prelude.{replicate}
+use Rattle.std.proofs.Common.{◌≡◌, ◌<◌, ◌≤◌, ◌+◌, ◌-◌, ℕ, replicate}
 use Rattle.medium.specs.Moments.{StaysWithin}
 use Rattle.recovery.specs.Calls.{FollowsBy}
 use Rattle.recovery.specs.Unread.{ReadsNothing}
