@@ -19,7 +19,7 @@ use Rattle.journal.specs.Sectors.{IsSuper, IsHead}
 use Rattle.journal.specs.Standing.{IsOurs}
 use Rattle.journal.proofs.Apart.{in_log}
 use Rattle.journal.proofs.Overlay.{with_records-same, records-hide}
-use Rattle.recovery.specs.Copies.{IsHomeOf, IsHomeInRecord, IsHomeInRecords, HasNewHead}
+use Rattle.recovery.specs.Copies.{IsHomeOf, IsHomeInRecord, IsHomeInRecords}
 use Rattle.recovery.specs.Recovered.{IsFresh}
 
 -- what a cut may leave in one sector an image has there that it may leave
@@ -82,14 +82,6 @@ whole_same shape before image stamp entries some home log w =
 -- home is behind the log
 pub not_in_log : (shape : Shape) (image : Image) (head count x : ℕ) → x < first_home shape → ¬ IsHomeInRecords shape image head count x
 not_in_log shape image head count x below home = let is = home.2.2.2 in omega (arith, is)
-
--- nothing behind the image is at home
-pub not_behind : (shape : Shape) (image : Image) (head count x : ℕ) → sectors_of shape ≤ x → ¬ IsHomeInRecords shape image head count x
-not_behind shape image head count x past home =
-    let whole = home.2.1 in
-    let below = whole.fit.inside home.2.2.0 0 home.2.2.1 in
-    let is = home.2.2.2 in
-    omega (arith, below, is, past)
 
 -- two arrays have the same blocks
 abbrev pub AreSame : Shape → Array → Array → Type 0
@@ -177,21 +169,6 @@ copies_ours {shape = shape} {start = start} {next = next} ours head count head_i
         let hides = records-hide records h.0 here.0 h.1 (omega (arith, here.1, long)) in
         subst (Hides records) (omega (arith, is, number)) hides (home_of shape image) (home_of shape start))
         (each (first_home shape + b))
-
--- the new head, once every block is at home
-pub new_head_fresh : {size : ℕ} {shape : Shape} {start before image : Image} {array : Array} {next : ℕ}
-    → IsOurs size shape start array next → ((x : ℕ) → x < first_home shape → before x ≡ start x)
-    → AreSame shape (home_of shape before) array → HasNewHead next before image → IsFresh shape array next image
-new_head_fresh {shape = shape} {start = start} {image = image} {next = next} ours log home moved =
-    let super = ours.stands.keeps.super in
-    let ends = log_ends shape super.home_is in
-    record {
-      super = rw (moved.elsewhere 0 (λ e. omega arith), log 0 (omega (arith, ends))) super;
-      head = moved.head;
-      home = λ b below. moved.elsewhere (first_home shape + b) (λ e. omega (arith, e, ends)) ∙ home b below;
-      carries = CarriesBelow-agree (layout_of shape.format) (laws_of shape.format) shape start image next
-          (λ x low high. moved.elsewhere x (λ e. omega (arith, low, e)) ∙ log x (omega (arith, high, ends))) ours.carries;
-    }
 
 -- no record waits in a log of zeros
 pub zeros_fresh : (shape : Shape) (array : Array) (next : ℕ) (image : Image) → IsSuper shape (image 0) → IsHead next (image 1)

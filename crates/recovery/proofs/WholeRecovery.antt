@@ -18,10 +18,12 @@ use Rattle.journal.specs.Places.{Shape, first_home, sectors_of, limit_of}
 use Rattle.journal.specs.Sectors.{IsSuper}
 use Rattle.journal.specs.Values.{shape_of}
 use Rattle.journal.specs.Record.{Entry, with_records, home_of}
-use Rattle.journal.specs.Formats.{IsWhole}
+use Rattle.journal.specs.Formats.{layout_of, IsWhole}
 use Rattle.journal.specs.Standing.{StandsFor, IsOurs}
 use Rattle.journal.specs.ImageFaults as image
 use Rattle.journal.proofs.SectorNumbers.{IsSuper-one}
+use Rattle.journal.proofs.Formats.{laws_of}
+use Rattle.journal.proofs.Wholeness.{CarriesBelow-agree}
 use Rattle.journal.proofs.StandingLaws.{Stood, count_stands, heads, counts}
 use Rattle.recovery.specs.Causes.{IsRefusedCall, WritesNothing, HasFewSlots, IsRefusalBy}
 use Rattle.recovery.specs.Calls.{Leaves}
@@ -35,7 +37,7 @@ use Rattle.recovery.specs.declared.found.Found.{Found}
 use Rattle.recovery.specs.declared.start_fault.StartFault.{StartFault}
 use Rattle.recovery.specs.declared.start_fault.StartFault.TheVariants.{NoMemory, StampsUsedUp, LogTooSmall}
 use Rattle.recovery.proofs.Causes.{refused_later}
-use Rattle.recovery.proofs.CopiedRecords.{log_ends, not_in_log, not_behind, spared_by, AreSame, copies_ours, new_head_fresh, fresh_ours}
+use Rattle.recovery.proofs.CopiedRecords.{log_ends, not_in_log, spared_by, AreSame, copies_ours, fresh_ours}
 use Rattle.recovery.proofs.MadeImage.{wider}
 use Rattle.recovery.proofs.JoinedCalls.{quiet_before, quiet_after, looked_on}
 
@@ -188,10 +190,16 @@ module _ (least : ℕ) (old mid seen : State) {result : Result (Unit {0}) Medium
         (λ x. ⊎_elim (λ left. inl (copying.only x (image x) (known.reads.quiet.sets_shrink x (image x) left)))
         (λ home. inr (rw same at home)) (cut x))) copying.moments
 
+    -- nothing behind the image is at home
+    apart : (x : ℕ) → sectors_of (shape_of found.sizes) ≤ x → ¬ IsHomeInRecords shape seen.content found.head found.count x
+    apart x past home =
+        let whole = home.2.1 in
+        let below = whole.fit.inside home.2.2.0 0 home.2.2.1 in
+        let is = home.2.2.2 in
+        omega (arith, below, is, past)
+
     copied_spares : SparesFrom (sectors_of (shape_of found.sizes)) seen copied
-    copied_spares =
-        let apart = not_behind shape seen.content found.head found.count in
-        spared_by (sectors_of shape) seen copied copying.sound (λ s le. copying.elsewhere s (apart s le))
+    copied_spares = spared_by (sectors_of shape) seen copied copying.sound (λ s le. copying.elsewhere s (apart s le))
         (weaker _ _ _ _
         (λ image cut s le. ⊎_elim (λ was. was) (λ place. absurd (apart s le place)) (cut s)) copying.moments)
 
@@ -211,12 +219,21 @@ module _ (least : ℕ) (old mid seen : State) {result : Result (Unit {0}) Medium
       copied_home s b below = (all_copied s).home b
           ∙ ap (λ (i : Image). with_records s.records (home_of shape i) b) same ∙ s.keeps.blocks b below
 
+      -- the new head, once every block is at home
       moved_fresh : {array : Array} {next : ℕ} {image : Image} → IsOurs old.size shape old.content array next
           → HasNewHead (found.head + found.count + 1) copied.content image → IsFresh shape array next image
-      moved_fresh {next = next} ours moved =
+      moved_fresh {next = next} {image = image} ours moved =
           let f = matches ours.stands in
           let is : found.head + found.count + 1 ≡ next = omega (arith, f.0, f.1, ours.stands.next_is) in
-          new_head_fresh ours copied_log (copied_home ours.stands) (rw is at moved)
+          let super = ours.stands.keeps.super in
+          let ends = log_ends shape super.home_is in
+          record {
+            super = rw (moved.elsewhere 0 (λ e. omega arith), copied_log 0 (omega (arith, ends))) super;
+            head = rw is at moved.head;
+            home = λ b below. moved.elsewhere (first_home shape + b) (λ e. omega (arith, e, ends)) ∙ copied_home ours.stands b below;
+            carries = CarriesBelow-agree (layout_of shape.format) (laws_of shape.format) shape old.content image next
+                (λ x low high. moved.elsewhere x (λ e. omega (arith, low, e)) ∙ copied_log x (omega (arith, high, ends))) ours.carries;
+          }
 
     -- the copies, and perhaps the new head
     module _ (new : State) (leaves : Leaves (MayMove found seen copied) 2 copied new) (few : new.calls ≤ copied.calls + 3)

@@ -4,7 +4,6 @@ use Rattle.medium.specs.Medium.{State, Image, CutLeaves, LooksOnly}
 use Rattle.medium.specs.Moments.{LeavesOnly, SparesFrom, IsQuiet}
 use Rattle.medium.specs.Sent.{SendsUpTo}
 use Rattle.medium.specs.declared.fault.MediumFault.{MediumFault}
-pub use Rattle.journal.specs.Reads.{ReadsPass, ReadsAllPass}
 use Rattle.recovery.specs.Causes.{IsRefusedCall, MakesReadsAlone}
 use Rattle.recovery.specs.Copies.{freed_at, cleared_at}
 use Rattle.recovery.specs.Unread.{LooksNowhere}

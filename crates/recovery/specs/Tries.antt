@@ -5,9 +5,7 @@ use Rattle.journal.specs.declared.log_format.LogFormat.{LogFormat}
 use Rattle.journal.specs.declared.log_format.LogFormat.TheVariants.{One, Two}
 use Rattle.journal.specs.Places.{Shape}
 use Rattle.journal.specs.SectorsTwo.{descriptors_of}
-pub use Rattle.journal.specs.SlotReads.{StopsAtBad, ReadsUpToBad}
-pub use Rattle.journal.specs.SlotReads.{IsCommitted, HasDescriptor, HasPlace, NamesBlocks}
-use Rattle.journal.specs.SlotReads.{IsReadInVain}
+use Rattle.journal.specs.SlotReads.{ReadsUpToBad, IsCommitted, HasPlace, NamesBlocks, IsReadInVain}
 use Rattle.journal.specs.Layout.{slot_at}
 use Rattle.journal.specs.Format2.{format2}
 

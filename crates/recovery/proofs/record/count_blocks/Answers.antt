@@ -6,6 +6,7 @@ use Rattle.journal.specs.declared.log_format.LogFormat.TheVariants.{One, Two}
 use Rattle.journal.specs.declared.record.Record.{Record}
 use Rattle.journal.specs.Places.{Shape}
 use Rattle.journal.specs.SectorsTwo.{descriptors_of}
+use Rattle.journal.specs.SlotReads.{StopsAtBad, ReadsUpToBad, HasDescriptor, HasPlace, NamesBlocks}
 use Rattle.journal.specs.Values.{shape_of}
 use Rattle.journal.specs.Formats.{HasWhole}
 use Rattle.journal.specs.Reading.{IsReadFor, IsReadForStamps, record_reads_of, stamp_reads_of}
@@ -14,8 +15,7 @@ use Rattle.journal.proofs.DescribedNumbers.{each_there}
 use Rattle.journal.proofs.EntriesTwo.{commit_count}
 use Rattle.journal.proofs.SlotTwo.{untrue}
 use Rattle.recovery.specs.Copies.{most_reads_of}
-use Rattle.recovery.specs.Tries.{StopsAtBad, ReadsUpToBad, HasDescriptor, HasPlace, NamesBlocks, IsReadBehind, IsReadInSlot}
-use Rattle.recovery.specs.Tries.{IsTryTwo, IsTryOf}
+use Rattle.recovery.specs.Tries.{IsReadBehind, IsReadInSlot, IsTryTwo, IsTryOf}
 use Rattle.recovery.proofs.CopiedRecords.{long_as}
 use Rattle.recovery.proofs.JoinedCalls.{looks_on}
 use Rattle.recovery.proofs.record.count_blocks.Goals as goal
