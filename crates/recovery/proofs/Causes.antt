@@ -1,23 +1,17 @@
 -- Why a recovery is refused, and what that rules out.
-use Rattle.std.proofs.Common.{◌<◌, ◌≤◌, ◌^◌, ℕ, refl, arith, rules}
+use Rattle.std.proofs.Common.{◌<◌, ◌^◌, ℕ, refl, arith, rules}
 use Rattle.medium.specs.Medium.{State}
 use Rattle.spec.specs.Blocks.{Array}
-use Rattle.medium.specs.declared.fault.MediumFault.{MediumFault}
 use Rattle.medium.specs.declared.fault.MediumFault.TheVariants as medium
 use Rattle.journal.specs.Places.{Shape}
 use Rattle.journal.specs.Standing.{Stands, StandsFor}
 use Rattle.journal.specs.ImageFaults as image
 use Rattle.journal.proofs.StandingLaws.{StandsFor-one}
 use Rattle.journal.proofs.FaultLaws.{HasFault-stands}
-use Rattle.recovery.specs.Causes.{IsRefusedCall, WritesNothing, HasFewSlots, IsRefusalBy, IsDeviceFault}
+use Rattle.recovery.specs.Causes.{WritesNothing, HasFewSlots, IsRefusalBy, IsDeviceFault}
 use Rattle.recovery.specs.Inspected.{IsLookCause}
 use Rattle.recovery.specs.declared.start_fault.StartFault.{StartFault}
 use Rattle.recovery.specs.declared.start_fault.StartFault.TheVariants.{NoMemory, Read, Write, Flush, StampsUsedUp, LogTooSmall}
-
--- a call that the medium refused after others was refused after what was before them
-pub refused_later : (old mid new : State) → old.failures ≤ mid.failures → ((kind : MediumFault) → old.refused kind ≤ mid.refused kind)
-    → (kind : MediumFault) → IsRefusedCall mid new kind → IsRefusedCall old new kind
-refused_later old mid new failures refused kind h = let stays = refused kind in search rules
 
 -- a look at contents that stand for something is refused by the device
 pub served_look : (old new : State) (fault : StartFault) → IsLookCause old new fault → Stands old.size old.content → IsDeviceFault fault

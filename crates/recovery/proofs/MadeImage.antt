@@ -38,7 +38,7 @@ through_spares first place bytes old new below sound elsewhere moments = spared_
     apart : (s : ℕ) → first ≤ s → s ≢ place
     apart s le same = omega (arith, le, same, below)
 
--- and flushed
+-- and flushed: it leaves P where each image had P before, and each has it with that sector written
 pub through_leaves : {place : ℕ} {bytes : List ℕ} {old new : State} {result : Result (Unit {0}) MediumFault} (P : Image → Type 0)
     (end : ℕ) → place < end → IsSound new
     → WritesAllPass (λ x. x ≡ place) (WithOrWithout place bytes old.may_leave) 2 old new result → ReadsNothing old new → EachCut P old

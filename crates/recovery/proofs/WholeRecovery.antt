@@ -25,7 +25,7 @@ use Rattle.journal.proofs.SectorNumbers.{IsSuper-one}
 use Rattle.journal.proofs.Formats.{laws_of}
 use Rattle.journal.proofs.Wholeness.{CarriesBelow-agree}
 use Rattle.journal.proofs.StandingLaws.{Stood, count_stands, heads, counts}
-use Rattle.recovery.specs.Causes.{IsRefusedCall, WritesNothing, HasFewSlots, IsRefusalBy}
+use Rattle.recovery.specs.Causes.{WritesNothing, HasFewSlots, IsRefusalBy}
 use Rattle.recovery.specs.Calls.{Leaves}
 use Rattle.recovery.specs.Copies.{copy_calls, most_calls_of, most_reads_of, most_start_of, most_start_sends, AreCopied, IsHomeInRecords}
 use Rattle.recovery.specs.Copies.{freed_at, HasNewHead}
@@ -36,19 +36,18 @@ use Rattle.recovery.specs.Recovered.{IsRecoveredAtLeast, IsFresh, IsOursForSome,
 use Rattle.recovery.specs.declared.found.Found.{Found}
 use Rattle.recovery.specs.declared.start_fault.StartFault.{StartFault}
 use Rattle.recovery.specs.declared.start_fault.StartFault.TheVariants.{NoMemory, StampsUsedUp, LogTooSmall}
-use Rattle.recovery.proofs.Causes.{refused_later}
 use Rattle.recovery.proofs.CopiedRecords.{log_ends, not_in_log, spared_by, AreSame, copies_ours, fresh_ours}
 use Rattle.recovery.proofs.MadeImage.{wider}
 use Rattle.recovery.proofs.JoinedCalls.{quiet_before, quiet_after, looked_on}
 
--- other calls before and behind them
+-- tries, with other calls before and behind them
 tries_moved : (format : LogFormat) (shape : Shape) (image : Image) (first tries old new before after more : ℕ) → before ≡ old + more
     → after ≡ new + more → AreTriesOf format shape image first tries old new → AreTriesOf format shape image first tries before after
 tries_moved One shape image first tries old new before after more e f t = omega (arith, e, f, t)
 tries_moved Two shape image first tries old new before after more e f t =
     record { reads = t.reads; many = t.many; each = t.each; after_is = omega (arith, e, f, t.after_is) }
 
--- a whole recovery
+-- how many calls a whole recovery makes at most
 most_start : (format : LogFormat) (slots old mid seen new count : ℕ) → mid ≡ old + 1 → seen ≤ mid + 2 + most_reads_of format * slots
     → new ≤ seen + most_calls_of format * count + 3 → count ≤ slots → new ≤ old + 6 + most_start_of format * slots
 most_start format slots old mid seen new count a b c few = grind arith
@@ -81,7 +80,7 @@ pub record IsCopying (least : ℕ) (old mid seen copied : State) (found : Found)
   pub sent : SendsUpTo (limit_of found.sizes.format * found.count) seen copied
   pub looks : LooksOnly (λ s. s < first_home (shape_of found.sizes)) seen copied
 
--- they were good
+-- they were good: the records are home
 abbrev pub AllCopied : Found → State → State → Type 0
 AllCopied found seen copied = (records : List (List Entry)) → found.count ≡ length records
     → ((k : ℕ) → k < length records → IsWhole (shape_of found.sizes) seen.content (found.head + k) (get_or records k []))
@@ -131,8 +130,6 @@ module _ (least : ℕ) (old mid seen : State) {result : Result (Unit {0}) Medium
       -- before the first call an image that is allowed stands for itself
       let cuts = λ (each : EachCut (IsOursForSome old.size) old). quiet_leaves (StandsForOneOf old) old seen known.sound
       (λ image cut. let e = each image cut in search (rules, e.3)) quiet in
-      let after = λ (shape : Shape) (array : Array) (next : ℕ) (ours : IsOurs old.size shape old.content array next)
-      (more : old.calls + 2 ≤ seen.calls). seen_after (known.only more) shape array next ours in
       let moments = quiet_leaves (λ _. Unit {0}) old seen known.sound (λ image cut. tt) quiet in
       let most = λ (shape : Shape) (has : image.HasShape old.size shape old.content).
       most_start shape.format shape.slots old.calls mid.calls seen.calls seen.calls 0 counted
@@ -140,7 +137,7 @@ module _ (least : ℕ) (old mid seen : State) {result : Result (Unit {0}) Medium
       let looks = λ (near : ℕ) (holds : HoldsLog near old.size old.content). looks_joined (λ s. s < near) old mid seen
       (no_looks _ old mid (known.passes.looked_stays (λ e. cc e)))
       (known.reads.looks near (quiet_after (λ n i. HoldsLog near n i) old mid flushed holds)) in
-      search (rules, cuts, after, moments, counted, most, one_sent, looks, spared_quiet, quiet, known.sound)
+      search (rules, cuts, seen_after, known.only, moments, counted, most, one_sent, looks, spared_quiet, quiet, known.sound)
 
   -- a refusal by the survey is one by the flush and it
   pub refusal : (fault : StartFault) → IsRefusalBy least IsQuiet mid seen fault → IsRefusalBy least WritesNothing old seen fault
@@ -149,10 +146,8 @@ module _ (least : ℕ) (old mid seen : State) {result : Result (Unit {0}) Medium
       (back (λ n i. ¬ HasFewSlots least n i) h.0, back (λ n i. image.HasNoStampLeft n i) h.1, wrote_nothing)
   refusal LogTooSmall h = (back (λ n i. HasFewSlots least n i) h.0, wrote_nothing)
   refusal fault h =
-      let later = λ (kind : MediumFault) (h : IsRefusedCall mid seen kind).
-      refused_later old mid seen flushed.failures_stay flushed.refused_stay kind h in
       let same = λ (f : image.ImageFault). back (λ n i. image.HasFault n i f) in
-      search (rules, later, same, wrote_nothing)
+      search (rules, flushed.failures_stay, flushed.refused_stay, same, wrote_nothing)
 
   module _ (copied : State) (found : Found) (copying : IsCopying least old mid seen copied found) where
     abbrev shape : Shape

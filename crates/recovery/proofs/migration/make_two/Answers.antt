@@ -53,7 +53,7 @@ IsStill shape next before image = (array : Array) → IsFresh shape array next b
 abbrev LeavesStill : Recovered → State → State → Type 0
 LeavesStill found old new = Leaves (IsStill (shape_of found.sizes) found.next old.content) found.sizes.home old new
 
--- that may become format 2
+-- so where an image may have become format 2
 still : {shape : Shape} {before : Image} {next end : ℕ} {old new : State} → Leaves (IsStill shape next before) end old new
     → Leaves (StaysFresh shape next before) end old new
 still so = wider _ (λ image is array fresh. inl (is array fresh)) so

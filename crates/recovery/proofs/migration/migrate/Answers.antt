@@ -26,7 +26,7 @@ use Rattle.recovery.specs.Recovered.{IsRecoveredAtLeast, IsFresh, StandsForOneOf
 use Rattle.recovery.specs.Migrated.{CanMigrate, IsMadeOf, IsMigratedFrom, StaysFresh, IsOursInEither, StandsInEither, MigrationLeaves}
 use Rattle.recovery.specs.Migrated.{most_migration_sends}
 use Rattle.recovery.specs.declared.recovered.Recovered.{Recovered}
-use Rattle.recovery.proofs.Causes.{served_slots, refused_later}
+use Rattle.recovery.proofs.Causes.{served_slots}
 use Rattle.recovery.proofs.CopiedRecords.{log_ends, AreSame, zeros_fresh, fresh_ours}
 use Rattle.recovery.proofs.migration.migrate.Given as given
 use Rattle.recovery.proofs.migration.migrate.Goals as goal
@@ -185,8 +185,7 @@ returns-in_err-make_two-clause-err g c =
     let kind = c.in_err-make_two.field-0.0 in
     let before = c.recover_at_least.ensures.leaves.all.moments in
     rw (p.1, p.2) (record {
-      cause = call_refuses 5 WritesNothing _ _ kind
-          (refused_later _ _ _ before.failures_stay before.refused_stay kind c.in_err-make_two.ensures.cause);
+      cause = call_refuses 5 WritesNothing _ _ kind (search (rules, before.refused_stay kind, c.in_err-make_two.ensures.cause));
       served = λ shape array next s left some. (kind, refl);
     })
 

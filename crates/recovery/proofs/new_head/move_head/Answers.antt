@@ -16,7 +16,7 @@ returns-in_err-flush g c =
       first.passes.looked_stays (λ e. cc e),
     )
 
--- an image that could be left before, or the contents before with the new head
+-- each image could be left before, or is the contents before with the new head
 pub returns : goal.returns
 returns g c =
     let old = g.M.Medium.state c.args.m.now in
