@@ -8,7 +8,7 @@ use Rattle.recovery.specs.Causes.{IsRefusedCall, MakesReadsAlone}
 use Rattle.recovery.specs.Copies.{freed_at, cleared_at}
 use Rattle.recovery.specs.Unread.{LooksNowhere}
 
--- The medium comes after what it was, by calls alone, of which so many at most are writes and
+-- The medium comes after what it was, by calls alone, of which at most `sends` are writes and
 -- flushes. Of what they read this holds.
 pub record FollowsBy {M : Type 0} (state : M → State) (Follows : M → M → Type 0) (sends : ℕ)
     (Looks : State → State → Type 0) (old new : M) : Type 0 where
@@ -40,7 +40,7 @@ pub record WritesAllPass {X : Type 0} (places : ℕ → Type 0) (P : Image → T
   pub exact : OnOk result (new.calls ≡ old.calls + count)
   pub cause : IfErr result (IsRefusedCall old new)
 
--- The medium comes after what it was, by at most this many calls, of which so many at most are
+-- The medium comes after what it was, by at most `most` calls, of which at most `sends` are
 -- writes and flushes. They copy to these sectors: a cut may leave anything in them. Each read names
 -- one of those. An error is a call that the medium refused.
 pub record Copies {M X : Type 0} (state : M → State) (Follows : M → M → Type 0)

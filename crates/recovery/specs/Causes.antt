@@ -55,7 +55,7 @@ pub record HasFewSlots (least size : ℕ) (content : Image) : Type 0 where
   pub one : shape.format ≡ One
   pub few : shape.slots < least
 
--- Why a start is refused that asks for so many slots of a log of format 1. They are counted before
+-- Why a start is refused that asks for `least` slots of a log of format 1. They are counted before
 -- it is found that no stamp is left.
 abbrev pub IsRefusalBy : ℕ → (State → State → Type 0) → State → State → StartFault → Type 0
 IsRefusalBy least Calls old new StampsUsedUp = (¬ HasFewSlots least old.size old.content)

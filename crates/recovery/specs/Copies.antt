@@ -44,12 +44,12 @@ IsHomeInRecord shape image stamp x =
     (entries : List Entry) × IsWhole shape image stamp entries
     × IsHomeOf shape (numbers_of entries) x
 
--- a block of one of so many whole records from this stamp on is at home in the sector
+-- a block of one of count whole records from this stamp on is at home in sector x
 abbrev pub IsHomeInRecords : Shape → Image → ℕ → ℕ → ℕ → Type 0
 IsHomeInRecords shape image head count x = (j : ℕ) × (j < count)
     × IsHomeInRecord shape image (head + j) x
 
--- how many calls it takes to read again what names the blocks of a record of so many, which are its
+-- how many calls it takes to read again what names the n blocks of a record, which are its
 -- descriptors and its commit, and to read and write each block
 abbrev pub calls_of : LogFormat → ℕ → ℕ
 calls_of One n = 2 + 2 * n

@@ -13,7 +13,7 @@ use Rattle.recovery.specs.Calls.{CallsUpTo}
 use Rattle.recovery.specs.declared.format_fault.FormatFault.{FormatFault}
 use Rattle.recovery.specs.declared.format_fault.FormatFault.TheVariants.{BadSize, Medium}
 
--- the sizes are in their limits, and so many sectors are enough for them
+-- the sizes are in their limits, and `size` sectors are enough for them
 pub record AreSizes (size : ℕ) (shape : Shape) : Type 0 where
   pub some_blocks : 1 ≤ shape.blocks
   pub most_blocks : shape.blocks ≤ 2 ^ 31

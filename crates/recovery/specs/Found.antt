@@ -17,24 +17,24 @@ use Rattle.recovery.specs.Looks.{LooksAtLog}
 use Rattle.recovery.specs.Tries.{AreTries, IsTryOf}
 use Rattle.recovery.specs.declared.found.Found.{Found}
 
--- the image of a medium of so many sectors has none of the faults, and this is what it has
+-- the image of a medium of `size` sectors has none of the faults, and this is what it has
 pub record IsFound (size : ℕ) (image : Image) (found : Found) : Type 0 where
   pub shape : HasShape size (shape_of found.sizes) image
   pub head : IsHead found.head (image 1)
   pub count : IsCount (shape_of found.sizes) image found.head found.count
   pub stamp_left : found.head + found.count + 1 < 2 ^ 63
 
--- By as many calls as show it, so many records are whole from this stamp on.
+-- By as many calls as show it, count records are whole from this stamp on.
 pub record CountsWhole (shape : Shape) (head : ℕ) (old new : State) (count : ℕ) : Type 0 where
   pub exact : AreTries shape old.content head (min (count + 1) shape.slots) old.calls new.calls
   pub is : IsCount shape old.content head count
 
--- the record of this stamp is whole, and has so many blocks
+-- the record of this stamp is whole, and has count blocks
 abbrev pub HasCount : Shape → Image → ℕ → ℕ → Type 0
 HasCount shape image stamp count =
     (entries : List Entry) × IsWhole shape image stamp entries × (count ≡ length entries)
 
--- By as many calls as show it, the record of this stamp has so many blocks, or it is not whole.
+-- By as many calls as show it, the record of this stamp has count blocks, or it is not whole.
 pub record CountsBlocks (shape : Shape) (stamp : ℕ) (old new : State) (found : Option ℕ)
     : Type 0 where
   pub exact : IsTryOf shape.format shape old.content stamp old.calls new.calls

@@ -22,7 +22,7 @@ use Rattle.recovery.specs.declared.start_fault.StartFault.TheVariants.{BadSuper,
 use Rattle.recovery.specs.declared.start_fault.StartFault.TheVariants.{BadSize, BadHead}
 
 -- As many records as there are counts are whole from the head on, without a gap, and at most as
--- many as there are slots; and each has so many blocks.
+-- many as there are slots; and each has as many blocks as its count says.
 pub record AreCounts (shape : Shape) (image : Image) (head : ℕ) (counts : List ℕ) : Type 0 where
   pub is : IsCount shape image head (length counts)
   pub each : (j : ℕ) → j < length counts → HasCount shape image (head + j) (slice_index counts j)
@@ -56,7 +56,7 @@ IsLookCause old new BadSize = image.HasFault old.size old.content image.BadSize
 IsLookCause old new BadHead = image.HasFault old.size old.content image.BadHead
 IsLookCause old new fault = ⊥
 
--- what is wrong with a super on a medium of so many sectors
+-- what is wrong with a super on a medium of `size` sectors
 abbrev pub IsSuperCause : ℕ → List ℕ → StartFault → Type 0
 IsSuperCause size sector BadSuper = IsSuperFault Magic sector ⊎ IsSuperFault Rest sector
 IsSuperCause size sector BadVersion = IsSuperFault Version sector

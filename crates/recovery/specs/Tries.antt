@@ -11,7 +11,7 @@ use Rattle.journal.specs.Format2.{format2}
 
 -- of the record of a stamp in the slot of format 2 that begins at this sector
 module _ (image : Image) (at stamp : ℕ) where
-  -- How many sectors are read behind a commit of so many blocks: descriptors up to the first bad
+  -- How many sectors are read behind a commit of count blocks: descriptors up to the first bad
   -- one; or all of them, where they name no such blocks; or all of them, and data places up to the
   -- first bad one.
   abbrev pub IsReadBehind : ℕ → ℕ → ℕ → Type 0
@@ -33,7 +33,7 @@ module _ (image : Image) (at stamp : ℕ) where
     pub is : IsReadInSlot blocks reads
     pub only : (other : ℕ) → IsReadInSlot blocks other → other ≡ reads
 
--- So many stamps are tried from the first on, by so many reads for each.
+-- As many stamps as `tries` says are tried from the first on, by a number of reads for each.
 pub record AreTriesTwo (shape : Shape) (image : Image) (first tries before after : ℕ)
     : Type 0 where
   pub reads : List ℕ
@@ -50,7 +50,7 @@ IsTryOf Two shape image stamp before after =
     (reads : ℕ) × IsTryTwo image (slot_at format2 shape stamp) stamp shape.blocks reads
     × (after ≡ before + reads)
 
--- so by tries of so many stamps from the first on: by two reads each in format 1
+-- so by tries of this many stamps from the first on: by two reads each in format 1
 abbrev pub AreTriesOf : LogFormat → Shape → Image → ℕ → ℕ → ℕ → ℕ → Type 0
 AreTriesOf One shape image first tries before after = after ≡ before + 2 * tries
 AreTriesOf Two shape image first tries before after =

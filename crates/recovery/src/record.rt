@@ -28,7 +28,7 @@ pub(crate) fn count_blocks<M: Medium>(
     Ok(counted(are_stamped(m, sizes, stamp, count)?, count))
 }
 
-// How many blocks a record has with so many numbers, if its data places carry its stamp.
+// How many blocks a record of `count` numbers has, if its data places carry its stamp.
 fn counted(is_stamped: bool, count: u64) -> Option<u64>
     ensures { MatchOption result (is_stamped ≡ false)
         (λ blocks. (is_stamped ≡ true) × (blocks ≡ count)) }

@@ -39,7 +39,7 @@ pub fn recover<M: Medium>(m: &mut M) -> Result<Recovered, StartFault>
     recover_at_least(m, 0)
 }
 
-/// Recovers an image whose log, where it is of format 1, has so many slots at least.
+/// Recovers an image whose log, where it is of format 1, has at least `least` slots.
 pub(crate) fn recover_at_least<M: Medium>(m: &mut M, least: u64) -> Result<Recovered, StartFault>
     ensures { RecoversAtLeast M.state M.follows least m.old m.new result }
 {

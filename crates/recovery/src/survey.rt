@@ -53,7 +53,7 @@ pub(crate) fn read_super<M: Medium>(m: &mut M) -> Result<Super, StartFault>
     sizes_in(&sector, m.sectors())
 }
 
-// The sizes in a super on a medium of so many sectors, or what is wrong with it.
+// The sizes in a super on a medium of `sectors` sectors, or what is wrong with it.
 fn sizes_in(sector: &[u8; 512], sectors: u64) -> Result<Super, StartFault>
     ensures ok { IfOk result (λ sizes. IsSuper (shape_of sizes) sector.now
         × (sectors_of (shape_of sizes) ≤ sectors)) }

@@ -22,7 +22,7 @@ copy_calls-append : (format : LogFormat) (records : List (List Entry)) (entries 
 copy_calls-append format [] entries = omega arith
 copy_calls-append format (r ∷ records) entries = let more = copy_calls-append format records entries in omega (arith, more)
 
--- so many calls, good or refused, once one more record was copied
+-- how many calls, good or refused, once one more record was copied
 copied : (g : given.Over) (c : After-copy_record g) {X : Type 0} (result : Result X MediumFault) (most sends : ℕ)
     → most_calls_of c.args.found.now.sizes.format * c.loop-j.j + most_calls_of c.args.found.now.sizes.format ≤ most
     → limit_of c.args.found.now.sizes.format * c.loop-j.j + limit_of c.args.found.now.sizes.format ≤ sends
