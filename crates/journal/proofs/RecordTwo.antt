@@ -1,9 +1,9 @@
 -- The descriptors of a record of format 2, by its entries.
-use Rattle.std.proofs.Common.{◌≡◌, ℕ, ◌*◌, ◌<◌, List, [], ◌∷◌, ◌++◌, length, get_or, take, drop, refl, sym, ◌∙◌, ap}
+use Rattle.std.proofs.Common.{◌≡◌, ℕ, ◌+◌, ◌*◌, ◌<◌, List, [], ◌∷◌, ◌++◌, length, get_or, take, drop, refl, sym, ◌∙◌, ap}
 use Rattle.std.proofs.Common.{arith}
 use Rattle.std.specs.Prelude.{zip}
 use Rattle.std.specs.List.{flat_map}
-use Rattle.std.proofs.lemmas.List.{take-take, take-map, drop-map, length-map, length-take-le}
+use Rattle.std.proofs.lemmas.List.{take-take, take-map, drop-map, length-map, length-take-le, get_or-take, get_or-drop}
 use Rattle.std.proofs.lemmas.List.Elements.{All-take, All-drop, All-from_get_or}
 use Rattle.std.proofs.Math.ListN.{get_or-map}
 use Rattle.byteorder.specs.Endian.{little_bytes}
@@ -40,6 +40,17 @@ pub firsts_of_chunk : (es : List Entry) (j : ℕ) → firsts_of (chunk_of es j) 
 firsts_of_chunk es j =
     let f : Entry → List ℕ = λ e. take 8 e.1 in
     sym (take-map f 30 (drop (30 * j) es)) ∙ ap (λ (l : List (List ℕ)). take 30 l) (sym (drop-map f (30 * j) es))
+
+-- one of them, by its place in the record
+module _ (es : List Entry) (j e : ℕ) (small : e < 30) where
+  chunk_at : get_or (chunk_of es j) e (0, []) ≡ get_or es (30 * j + e) (0, [])
+  chunk_at = get_or-take 30 (drop (30 * j) es) e (0, []) small ∙ get_or-drop (30 * j) es e (0, [])
+
+  pub number_at : get_or (numbers_of (chunk_of es j)) e 0 ≡ (get_or es (30 * j + e) (0, [])).0
+  number_at = get_or-map (λ (x : Entry). x.0) (chunk_of es j) e (0, []) ∙ ap (λ (x : Entry). x.0) chunk_at
+
+  pub first_at : get_or (firsts_of (chunk_of es j)) e [] ≡ take 8 (get_or es (30 * j + e) (0, [])).1
+  first_at = get_or-map (λ (x : Entry). take 8 x.1) (chunk_of es j) e (0, []) ∙ ap (λ (x : Entry). take 8 x.1) chunk_at
 
 -- in a record in the limits it is a descriptor
 pub descriptor_two : {blocks stamp : ℕ} {es : List Entry} (j : ℕ) → IsRecordOf format2 blocks stamp es → 30 * j < length es

@@ -2,8 +2,8 @@
 use Rattle.std.specs.Prelude.{◌≡◌, ◌<◌, ◌≤◌, ℕ, ◌+◌, ◌*◌, ◌-◌, ◌/◌, ◌%◌, ◌^◌, List, ◌++◌, length}
 use Rattle.std.specs.Prelude.{drop, map, slice_range, if◌then◌else◌, nat_lt}
 use Rattle.std.specs.List.{range_with_len}
-use Rattle.byteorder.specs.Endian.{little_number}
 use Rattle.medium.specs.Medium.{Image}
+use Rattle.journal.specs.Spelling.{number_in}
 use Rattle.journal.specs.SectorsTwo.{descriptors_of, descriptor_bytes, place_bytes, commit_bytes}
 use Rattle.journal.specs.SectorsTwo.{IsDescriptorTwo, IsCommitTwo}
 use Rattle.journal.specs.Record.{Entry, block_of}
@@ -33,7 +33,7 @@ part2 stamp entries p =
 -- the i-th entry of the record that may stand in the slot from this sector on
 abbrev pub entry_in : Image → ℕ → ℕ → Entry
 entry_in image at i = (
-  little_number 8 (drop (32 + 16 * (i % 30)) (image (at + i / 30))),
+  number_in (image (at + i / 30)) (4 + 2 * (i % 30)),
   slice_range (image (at + i / 30)) (40 + 16 * (i % 30)) (40 + 16 * (i % 30) + 8)
       ++ drop 8 (image (at + (8 + i))),
 )
@@ -41,7 +41,7 @@ entry_in image at i = (
 -- the only record that may be whole there
 abbrev pub record_in : Image → ℕ → List Entry
 record_in image at =
-    map (entry_in image at) (range_with_len 0 (little_number 8 (drop 16 (image (at + 248)))))
+    map (entry_in image at) (range_with_len 0 (number_in (image (at + 248)) 2))
 
 abbrev pub format2 : Layout
 format2 = record {
