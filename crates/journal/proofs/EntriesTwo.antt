@@ -22,11 +22,6 @@ pub place_says : (s : ℕ) (block : List ℕ) → s < 2 ^ 64 → number_in (plac
 unfolding number_in place_bytes
 place_says s block small = little_number-reads_back 8 s [] small
 
--- and in a commit
-pub commit_says : (s n : ℕ) → s < 2 ^ 64 → number_in (commit_bytes s n) 1 ≡ s
-unfolding number_in commit_bytes padded
-commit_says s n small = little_number-reads_back 8 s [] small
-
 -- the count in a commit
 pub commit_counts : (s n : ℕ) → n < 2 ^ 64 → number_in (commit_bytes s n) 2 ≡ n
 unfolding number_in commit_bytes padded
@@ -137,7 +132,8 @@ entries_cut numbers items firsts j few used rising small are each sized =
 -- the numbers of a commit
 module _ (stamp count : ℕ) (bytes : List ℕ) (c : IsCommitTwo stamp count bytes) where
   pub commit_stamp : number_in bytes 1 ≡ stamp
-  commit_stamp = rw c.spelled (commit_says stamp count (omega (arith, c.most)))
+  unfolding number_in commit_bytes padded
+  commit_stamp = rw c.spelled (little_number-reads_back 8 stamp [] (omega (arith, c.most)))
 
   pub commit_count : number_in bytes 2 ≡ count
   commit_count = rw c.spelled (commit_counts stamp count (omega (arith, c.few)))
@@ -145,22 +141,18 @@ module _ (stamp count : ℕ) (bytes : List ℕ) (c : IsCommitTwo stamp count byt
 -- what the bytes of a descriptor say
 module _ {stamp count j : ℕ} {numbers : List ℕ} {firsts : List (List ℕ)} {bytes : List ℕ}
     (d : IsDescriptorTwo stamp count j numbers firsts bytes) where
-  pub stamp_is : number_in bytes 1 ≡ stamp
+  pub header_says : (number_in bytes 1 ≡ stamp) × (number_in bytes 2 ≡ count) × (number_in bytes 3 ≡ j)
   unfolding number_in padded
-  stamp_is = rw d.spelled (little_number-reads_back 8 stamp [] (omega (arith, d.most)))
-
-  pub count_is : number_in bytes 2 ≡ count
-  unfolding number_in padded
-  count_is = rw d.spelled (little_number-reads_back 8 count [] (omega (arith, d.entries.few)))
-
-  pub index_is : number_in bytes 3 ≡ j
-  unfolding number_in padded
-  index_is = rw d.spelled (little_number-reads_back 8 j [] (omega (arith, d.entries.few, d.entries.used)))
+  header_says = rw d.spelled (
+    little_number-reads_back 8 stamp [] (omega (arith, d.most)),
+    little_number-reads_back 8 count [] (omega (arith, d.entries.few)),
+    little_number-reads_back 8 j [] (omega (arith, d.entries.few, d.entries.used)),
+  )
 
   -- how many entries these numbers say
   pub here_is : {here many index : ℕ} → here ≡ min 30 (many - 30 * index) → many ≡ number_in bytes 2 → index ≡ number_in bytes 3
       → here ≡ entries_here count j
-  here_is is a b = cc (is, a, b, count_is, index_is)
+  here_is is a b = cc (is, a, b, header_says.1, header_says.2)
 
   entry_is : (e : ℕ) → e < length numbers → take 16 (drop (32 + 16 * e) bytes) ≡ entry_bytes (get_or numbers e 0, get_or firsts e [])
   unfolding padded
@@ -203,12 +195,12 @@ pub IsDescriptorTwo-one : (bytes : List ℕ) (a b m n i j : ℕ) (ns ms : List �
     → IsDescriptorTwo a m i ns fs bytes → IsDescriptorTwo b n j ms gs bytes
     → (a ≡ b) × (m ≡ n) × (i ≡ j) × (ns ≡ ms) × (fs ≡ gs)
 IsDescriptorTwo-one bytes a b m n i j ns ms fs gs d e =
-    let counts = sym (count_is d) ∙ count_is e in
-    let indices = sym (index_is d) ∙ index_is e in
-    let here : length ns ≡ entries_here n j = cc (d.entries.many, counts, indices) in (
-      sym (stamp_is d) ∙ stamp_is e,
-      counts,
-      indices,
+    let x = header_says d in
+    let y = header_says e in
+    let here : length ns ≡ entries_here n j = cc (d.entries.many, x.1, y.1, x.2, y.2) in (
+      sym x.0 ∙ y.0,
+      sym x.1 ∙ y.1,
+      sym x.2 ∙ y.2,
       numbers_are e (length ns) ns here refl (λ x below. sym (number_is d x below)),
       firsts_are e (length ns) fs here d.entries.each (λ x below. sym (first_is d x below)),
     )

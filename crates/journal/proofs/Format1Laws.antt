@@ -9,7 +9,7 @@ use Rattle.journal.specs.Sectors.{IsDescriptor, IsCommit}
 use Rattle.journal.specs.Record.{Entry, numbers_of, block_of}
 use Rattle.journal.specs.LayoutLaws.{IsRecordOf}
 use Rattle.journal.specs.Format1.{format1, offset1, part1, Carries1, commit1, descriptor1}
-use Rattle.journal.proofs.SectorNumbers.{descriptor_stamp, commit_stamp}
+use Rattle.journal.proofs.SectorNumbers.{descriptor_says, commit_says}
 
 pub below_is : (a b : ℕ) → a < b → nat_lt a b ≡ true
 below_is a b lt = grind (arith, nat_tests, lt)
@@ -88,8 +88,8 @@ module _ {blocks s : ℕ} {entries : List Entry} (r : IsRecordOf format1 blocks 
 -- a stamp that a sector carries is its second number
 pub carried1 : (o s : ℕ) (bytes : List ℕ) → Carries1 o s bytes → number_in bytes 1 ≡ s
 carried1 o s bytes c = elim (cases_lt o 1) [
-  | inl d ↦ descriptor_stamp (c.descriptor d).1
-  | inr b ↦ commit_stamp (c.commit (c.place b)).1
+  | inl d ↦ (descriptor_says (c.descriptor d).1).0
+  | inr b ↦ (commit_says (c.commit (c.place b)).1).0
 ]
 
 pub one_stamp1 : (blocks s t : ℕ) (entries : List Entry) (p : ℕ) → IsRecordOf format1 blocks s entries

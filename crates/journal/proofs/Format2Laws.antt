@@ -9,7 +9,7 @@ use Rattle.journal.specs.Record.{Entry, block_of, numbers_of}
 use Rattle.journal.specs.LayoutLaws.{IsRecordOf}
 use Rattle.journal.specs.SectorsTwo.{descriptor_bytes, place_bytes, commit_bytes, chunk_of, firsts_of}
 use Rattle.journal.specs.Format2.{format2, offset2, part2, Carries2}
-use Rattle.journal.proofs.EntriesTwo.{stamp_is, place_says, commit_stamp}
+use Rattle.journal.proofs.EntriesTwo.{header_says, place_says, commit_stamp}
 use Rattle.journal.proofs.RecordTwo.{descriptor_two}
 use Rattle.journal.proofs.Format1Laws.{below_is, above_is}
 
@@ -85,7 +85,7 @@ stamp_place o = if nat_lt o 8 then 1 else (if nat_lt o 248 then 0 else 1)
 carried2 : (o s : ℕ) (bytes : List ℕ) → Carries2 o s bytes → number_in bytes (stamp_place o) ≡ s
 unfolding stamp_place
 carried2 o s bytes c = elim (cases_lt o 8) [
-  | inl d ↦ let f = c.descriptor d in rw (below_is o 8 d) (stamp_is f.3)
+  | inl d ↦ let f = c.descriptor d in rw (below_is o 8 d) (header_says f.3).0
   | inr b ↦ elim (cases_lt o 248) [
     | inl p ↦
         let f = c.place b p in rw (above_is o 8 b, below_is o 248 p, f.1) (place_says s f.0 (omega (arith, c.most)))

@@ -7,7 +7,7 @@ use Rattle.journal.specs.LayoutLaws.{Laws}
 use Rattle.journal.specs.Format1.{format1}
 use Rattle.journal.specs.Format2.{format2}
 use Rattle.journal.specs.Formats.{layout_of}
-use Rattle.journal.proofs.SectorNumbers.{commit_count}
+use Rattle.journal.proofs.SectorNumbers.{commit_says}
 use Rattle.journal.proofs.EntriesTwo.{commit_counts}
 use Rattle.journal.proofs.Format1Laws.{inside1, apart1, carries1, one_stamp1, zeros1, commit_of}
 use Rattle.journal.proofs.Format1Laws.{part_commit as part_commit1, offset_commit as offset_commit1}
@@ -28,8 +28,8 @@ format1_laws = record {
   last_part = λ s a b same.
       cc (part_commit1 s a (length a + 2 - 1) (omega arith), part_commit1 s b (length b + 2 - 1) (omega arith), same);
   count = λ blocks s a b ra rb e. cc (
-    commit_count (commit_of ra),
-    commit_count (commit_of rb),
+    (commit_says (commit_of ra)).1,
+    (commit_says (commit_of rb)).1,
     part_commit1 s a (length a + 2 - 1) (omega arith),
     part_commit1 s b (length b + 2 - 1) (omega arith),
     e,

@@ -16,13 +16,12 @@ behind_three : (a b c i : ℕ) (ns : List ℕ) → get_or (a ∷ b ∷ c ∷ ns)
 behind_three a b c i ns = let e : 3 + i ≡ suc (suc (suc i)) = omega arith in ap (λ (k : ℕ). get_or (a ∷ b ∷ c ∷ ns) k 0) e
 
 module _ {stamp : ℕ} {numbers bytes : List ℕ} (d : IsDescriptor stamp numbers bytes) where
-  -- the stamp of a descriptor
-  pub descriptor_stamp : number_in bytes 1 ≡ stamp
-  descriptor_stamp = spelling-get 1 _ bytes (omega arith) (omega (arith, d.most)) d.spelled
-
-  -- how many block numbers it has
-  pub descriptor_count : number_in bytes 2 ≡ length numbers
-  descriptor_count = spelling-get 2 _ bytes (omega arith) (omega (arith, d.block_numbers.few)) d.spelled
+  -- the stamp of a descriptor, and how many block numbers it has
+  pub descriptor_says : (number_in bytes 1 ≡ stamp) × (number_in bytes 2 ≡ length numbers)
+  descriptor_says = (
+    spelling-get 1 _ bytes (omega arith) (omega (arith, d.most)) d.spelled,
+    spelling-get 2 _ bytes (omega arith) (omega (arith, d.block_numbers.few)) d.spelled,
+  )
 
   -- each of its block numbers
   pub descriptor_number : (i : ℕ) → i < length numbers → number_in bytes (3 + i) ≡ get_or numbers i 0
@@ -36,7 +35,7 @@ module _ {stamp : ℕ} {numbers bytes : List ℕ} (d : IsDescriptor stamp number
       → length list ≡ count
       → ((i : ℕ) → i < count → get_or list i 0 ≡ number_in bytes (3 + i)) → list ≡ numbers
   descriptor_numbers count list is size read =
-      let same : count ≡ length numbers = is ∙ descriptor_count in
+      let same : count ≡ length numbers = is ∙ descriptor_says.1 in
       ext_get_or 0 list numbers (size ∙ same)
       (λ i below. read i (omega (arith, size)) ∙ descriptor_number i (omega (arith, size, same)))
 
@@ -49,38 +48,32 @@ format_is One = refl
 format_is Two = refl
 
 -- a format has version 1 or 2
-pub version_known : (format : LogFormat) → (version_of format ≡ 1) ⊎ (version_of format ≡ 2)
+version_known : (format : LogFormat) → (version_of format ≡ 1) ⊎ (version_of format ≡ 2)
 version_known One = inl refl
 version_known Two = inr refl
 
 -- home is near the log
-pub home_near : (format : LogFormat) (slots home : ℕ) → IsFirstHome format slots home → home ≤ 2 + 249 * (slots + 1)
+home_near : (format : LogFormat) (slots home : ℕ) → IsFirstHome format slots home → home ≤ 2 + 249 * (slots + 1)
 home_near One slots home h = omega (arith, h.1)
 home_near Two slots home h = omega (arith, h.1)
 
 module _ {shape : Shape} {bytes : List ℕ} (s : IsSuper shape bytes) where
-  -- how many blocks a super has
-  pub super_blocks : number_in bytes 2 ≡ shape.blocks
-  super_blocks = spelling-get 2 _ bytes (omega arith) (omega (arith, s.most_blocks)) s.spelled
-
-  -- how many slots it has
-  pub super_slots : number_in bytes 3 ≡ shape.slots
-  super_slots = spelling-get 3 _ bytes (omega arith) (omega (arith, s.most_slots)) s.spelled
-
-  -- where home begins
-  pub super_home : number_in bytes 5 ≡ shape.home
-  super_home = spelling-get 5 _ bytes (omega arith)
-      (omega (arith, s.most_slots, home_near shape.format shape.slots shape.home s.home_is)) s.spelled
-
-  -- its version
-  pub super_version : number_in bytes 1 ≡ version_of shape.format
-  super_version = spelling-get 1 _ bytes (omega arith) (grind (arith, version_known shape.format)) s.spelled
+  -- the version of a super, its blocks and slots, and where home begins
+  super_says : (number_in bytes 1 ≡ version_of shape.format) × (number_in bytes 2 ≡ shape.blocks)
+      × (number_in bytes 3 ≡ shape.slots) × (number_in bytes 5 ≡ shape.home)
+  super_says =
+      let near = home_near shape.format shape.slots shape.home s.home_is in (
+        spelling-get 1 _ bytes (omega arith) (grind (arith, version_known shape.format)) s.spelled,
+        spelling-get 2 _ bytes (omega arith) (omega (arith, s.most_blocks)) s.spelled,
+        spelling-get 3 _ bytes (omega arith) (omega (arith, s.most_slots)) s.spelled,
+        spelling-get 5 _ bytes (omega arith) (omega (arith, s.most_slots, near)) s.spelled,
+      )
 
   -- a super has no fault
   pub super_begins : HasMagic bytes × HasVersion bytes × HasZeroRest bytes
   super_begins = (
     spelling-get 0 _ bytes (omega arith) (omega arith) s.spelled,
-    ⊎_elim (λ e. inl (super_version ∙ e)) (λ e. inr (super_version ∙ e)) (version_known shape.format),
+    rw super_says.0 (version_known shape.format),
     ap (λ (l : List ℕ). drop 48 l) s.spelled
         ∙ spelling-rest (super_mark ∷ version_of shape.format ∷ shape.blocks ∷ shape.slots ∷ 2 ∷ shape.home ∷ []),
   )
@@ -96,10 +89,10 @@ shape_in bytes = record {
 
 pub shape_is : {shape : Shape} {bytes : List ℕ} → IsSuper shape bytes → shape_in bytes ≡ shape
 shape_is {shape} s = λ i. record {
-  format = (ap format_in (super_version s) ∙ format_is shape.format) i;
-  blocks = super_blocks s i;
-  slots = super_slots s i;
-  home = super_home s i;
+  format = (ap format_in (super_says s).0 ∙ format_is shape.format) i;
+  blocks = (super_says s).1 i;
+  slots = (super_says s).2 i;
+  home = (super_says s).3 i;
 }
 
 -- a super spells one shape
@@ -114,11 +107,10 @@ head_stamp h = spelling-get 1 _ _ (omega arith) (omega (arith, h.most)) h.spelle
 pub IsHead-one : (a b : ℕ) (bytes : List ℕ) → IsHead a bytes → IsHead b bytes → a ≡ b
 IsHead-one a b bytes h k = sym (head_stamp h) ∙ head_stamp k
 
-module _ {stamp count : ℕ} {bytes : List ℕ} (c : IsCommit stamp count bytes) where
-  -- the stamp of a commit
-  pub commit_stamp : number_in bytes 1 ≡ stamp
-  commit_stamp = spelling-get 1 _ bytes (omega arith) (omega (arith, c.most)) c.spelled
-
-  -- its count
-  pub commit_count : number_in bytes 2 ≡ count
-  commit_count = spelling-get 2 _ bytes (omega arith) (omega (arith, c.few)) c.spelled
+-- the stamp of a commit, and its count
+pub commit_says : {stamp count : ℕ} {bytes : List ℕ} → IsCommit stamp count bytes
+    → (number_in bytes 1 ≡ stamp) × (number_in bytes 2 ≡ count)
+commit_says c = (
+  spelling-get 1 _ _ (omega arith) (omega (arith, c.most)) c.spelled,
+  spelling-get 2 _ _ (omega arith) (omega (arith, c.few)) c.spelled,
+)

@@ -12,7 +12,7 @@ use Rattle.journal.specs.Sectors.{IsRising, IsDescriptor, IsCommit}
 use Rattle.journal.specs.Record.{Entry, numbers_of, block_of, entries_in}
 use Rattle.journal.specs.Layout.{AreEntries, IsWholeIn}
 use Rattle.journal.specs.Format1.{format1, offset1, part1, descriptor1, commit1, numbers_in, record_in}
-use Rattle.journal.proofs.SectorNumbers.{descriptor_count, descriptor_number}
+use Rattle.journal.proofs.SectorNumbers.{descriptor_says, descriptor_number}
 use Rattle.journal.proofs.Format1Laws.{offset_early, offset_commit, part_descriptor, part_place, part_commit, descriptor_of, commit_of}
 use Rattle.journal.proofs.Format1Laws.{Kind, Described, Placed, Committed, kind_of}
 use Rattle.journal.proofs.Wholeness.{record_of}
@@ -53,8 +53,8 @@ bytes_of-entries_in image place (suc i) (b ∷ numbers) below =
 -- the numbers that a descriptor spells are those of its record
 pub numbers_read : (stamp : ℕ) (numbers bytes : List ℕ) → IsDescriptor stamp numbers bytes → numbers ≡ numbers_in bytes
 numbers_read stamp numbers bytes d =
-    fill_by_all (λ i. number_in bytes (3 + i)) numbers (number_in bytes 2) 0 (sym (descriptor_count d))
-    (λ i below. sym (descriptor_number d i (omega (arith, descriptor_count d))))
+    fill_by_all (λ i. number_in bytes (3 + i)) numbers (number_in bytes 2) 0 (sym (descriptor_says d).1)
+    (λ i below. sym (descriptor_number d i (omega (arith, (descriptor_says d).1))))
 
 module _ (shape : Shape) (image : Image) (s : ℕ) (es : List Entry) (w : IsWholeIn format1 shape image s es) where
   pub descriptor_there : IsDescriptor s (numbers_of es) (image (2 + 50 * (s % shape.slots)))

@@ -1,11 +1,11 @@
 use Rattle.std.proofs.Common.{◌≡◌, rules, length, ◌∙◌, IsTrue}
-use Rattle.journal.proofs.SectorNumbers.{descriptor_stamp, descriptor_count, descriptor_numbers}
+use Rattle.journal.proofs.SectorNumbers.{descriptor_says, descriptor_numbers}
 use Rattle.journal.proofs.v1.descriptor.Descriptor.decode.Goals as goal
 
 pub returns-then-stamp-lt1-clause-all : goal.returns-then-stamp-lt1-clause-all
 returns-then-stamp-lt1-clause-all c stamp numbers d =
-    let st : c.number_at-stamp.result ≡ stamp = c.number_at-stamp.ensures.is ∙ descriptor_stamp d in
-    let count : c.number_at-count.result ≡ length numbers = c.number_at-count.ensures.is ∙ descriptor_count d in
+    let st : c.number_at-stamp.result ≡ stamp = c.number_at-stamp.ensures.is ∙ (descriptor_says d).0 in
+    let count : c.number_at-count.result ≡ length numbers = c.number_at-count.ensures.is ∙ (descriptor_says d).1 in
     search rules
 
 pub returns-then-not-are_block_numbers-clause-all : goal.returns-then-not-are_block_numbers-clause-all
@@ -18,7 +18,7 @@ returns-then-not-are_block_numbers-clause-all c stamp numbers d =
 pub returns-then-eq-clause-all : goal.returns-then-eq-clause-all
 returns-then-eq-clause-all c stamp numbers d =
     let read = c.numbers_at-numbers.ensures in (
-      c.number_at-stamp.ensures.is ∙ descriptor_stamp d,
+      c.number_at-stamp.ensures.is ∙ (descriptor_says d).0,
       descriptor_numbers d _ c.numbers_at-numbers.result.items c.number_at-count.ensures.is read.count read.each,
     )
 
@@ -27,5 +27,5 @@ returns-else-eq-clause-all c stamp numbers d =
     let read = c.numbers_at-numbers.ensures in
     let same = descriptor_numbers d _ c.numbers_at-numbers.result.items c.number_at-count.ensures.is read.count read.each in
     let e : c.encode.result ≡ c.args.sector.now =
-    cc (c.encode.ensures.spelled, c.number_at-stamp.ensures.is, descriptor_stamp d, same, d.spelled) in
+    cc (c.encode.ensures.spelled, c.number_at-stamp.ensures.is, (descriptor_says d).0, same, d.spelled) in
     search rules

@@ -2,7 +2,7 @@ use Rattle.std.proofs.Common.{◌≡◌, ℕ, List, ◌<◌, ◌+◌, ◌*◌, �
 use Rattle.std.specs.Prelude.{All}
 use Rattle.journal.specs.Sectors.{IsRising}
 use Rattle.journal.specs.SectorsTwo.{IsDescriptorTwo}
-use Rattle.journal.proofs.EntriesTwo.{stamp_is, count_is, index_is, here_is, numbers_are, firsts_are, sized_from}
+use Rattle.journal.proofs.EntriesTwo.{header_says, here_is, numbers_are, firsts_are, sized_from}
 use Rattle.journal.proofs.v2.descriptor.Descriptor.decode.Goals as goal
 use Rattle.journal.proofs.v2.descriptor.Descriptor.decode.Goals.{After-firsts_at-firsts}
 
@@ -15,18 +15,18 @@ said c d =
     let here = here_is d c.count_here-here.ensures c.number_at-count.ensures.is c.number_at-index.ensures.is in
     let a = c.numbers_at-numbers in
     let b = c.firsts_at-firsts in (
-      c.number_at-stamp.ensures.is ∙ stamp_is d,
-      c.number_at-count.ensures.is ∙ count_is d,
-      c.number_at-index.ensures.is ∙ index_is d,
+      c.number_at-stamp.ensures.is ∙ (header_says d).0,
+      c.number_at-count.ensures.is ∙ (header_says d).1,
+      c.number_at-index.ensures.is ∙ (header_says d).2,
       numbers_are d c.count_here-here.result a.result.items here a.ensures.count a.ensures.each,
       firsts_are d c.count_here-here.result b.result.items here b.ensures.count b.ensures.each,
     )
 
 pub returns-then-stamp-lt1-clause-all : goal.returns-then-stamp-lt1-clause-all
 returns-then-stamp-lt1-clause-all c stamp count j numbers firsts d =
-    let st : c.number_at-stamp.result ≡ stamp = c.number_at-stamp.ensures.is ∙ stamp_is d in
-    let many : c.number_at-count.result ≡ count = c.number_at-count.ensures.is ∙ count_is d in
-    let index : c.number_at-index.result ≡ j = c.number_at-index.ensures.is ∙ index_is d in
+    let st : c.number_at-stamp.result ≡ stamp = c.number_at-stamp.ensures.is ∙ (header_says d).0 in
+    let many : c.number_at-count.result ≡ count = c.number_at-count.ensures.is ∙ (header_says d).1 in
+    let index : c.number_at-index.result ≡ j = c.number_at-index.ensures.is ∙ (header_says d).2 in
     search rules
 
 pub returns-then-not-are_small-clause-all : goal.returns-then-not-are_small-clause-all
