@@ -18,12 +18,12 @@ length_bytes : (numbers : List ℕ) → length (flat_map (little_bytes 8) number
 length_bytes numbers = length_pieces (little_bytes 8) 8 numbers (λ i d below. refl)
 
 -- a number written behind those that are spelled
-pub spelling-put : (i number : ℕ) (numbers sector part : List ℕ) → length numbers ≡ i
+pub spelling_put : (i number : ℕ) (numbers sector part : List ℕ) → length numbers ≡ i
     → 8 * i + 8 ≤ 512 → length sector ≡ 512 → sector ≡ spelling numbers
     → part ≡ little_bytes 8 number ++ drop 8 (mid_of (8 * i) (length sector - 8 * i) sector)
     → put_mid (8 * i) (length sector - 8 * i) sector part ≡ spelling (numbers ++ number ∷ [])
 unfolding spelling
-spelling-put i number numbers sector part count inside size is wrote =
+spelling_put i number numbers sector part count inside size is wrote =
     let flat : List ℕ = flat_map (little_bytes 8) numbers in
     let zeros : List ℕ = replicate (512 - 8 * length numbers) 0 in
     let fewer : List ℕ = replicate (512 - 8 * length numbers - 8) 0 in
@@ -71,10 +71,10 @@ spelling-rest numbers =
     drop_at (flat_map (little_bytes 8) numbers) (replicate (512 - 8 * length numbers) 0) (8 * length numbers) (length_bytes numbers)
 
 -- bytes written behind those that are there
-pub padded-put : (i k : ℕ) (before sector part new : List ℕ) → length before ≡ i → k ≡ length part → i + length part ≤ 512
+pub padded_put : (i k : ℕ) (before sector part new : List ℕ) → length before ≡ i → k ≡ length part → i + length part ≤ 512
     → sector ≡ padded before → new ≡ part → put_mid i k sector new ≡ padded (before ++ part)
 unfolding padded
-padded-put i k before sector part new count same inside is wrote =
+padded_put i k before sector part new count same inside is wrote =
     let left : ℕ = 512 - length before in
     let fewer : left - k ≡ 512 - length (before ++ part) = omega (arith, length-append before part) in
     cc (

@@ -16,6 +16,7 @@ pub(crate) fn mark_number(text: &[u8; 8]) -> u64
 }
 
 /// Writes the i-th number of a sector.
+#[tactic(auto, using(crate::proofs::OneSpelling::spelling_put))]
 pub(crate) fn put(sector: &mut [u8], i: usize, number: u64)
     requires size { length sector.old ≡ 512 }
     requires inside { 8 * i + 8 ≤ 512 }

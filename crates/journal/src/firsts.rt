@@ -11,6 +11,7 @@ pub type Firsts = ArrayVec<[u8; 8], 240>;
 
 /// Those of these blocks, whose bytes stand one after the other, where a data place does not have
 /// them, which is so in format 2.
+#[tactic(auto, using(crate::proofs::BatchEntries::all_firsts_of))]
 pub fn first_bytes(format: LogFormat, bytes: &[u8]) -> Option<Firsts>
     requires { length bytes.now ≤ 512 * 240 }
     ensures kind { MatchOption result (format ≡ LogFormat.One) (λ _. format ≡ LogFormat.Two) }

@@ -5,6 +5,7 @@ ghost use Rattle.journal.specs.SectorsTwo.{place_bytes};
 use byteorder::{ByteOrder, LittleEndian};
 
 /// The bytes of a data place for this block.
+#[tactic(auto, unfolding(crate::specs::SectorsTwo::place_bytes))]
 pub fn data_sector(stamp: u64, block: &[u8]) -> [u8; 512]
     requires { length block.now ≡ 512 }
     ensures { result ≡ place_bytes stamp block.now }

@@ -34,6 +34,7 @@ fn count_of(sector: &[u8; 512], stamp: u64) -> Option<u64>
 }
 
 // Reads how many blocks the record of a stamp has, if its commit is there.
+#[tactic(auto, using(medium::proofs::SectorsRead::look_below))]
 fn read_count<M: Medium>(m: &mut M, slot: u64, stamp: u64) -> Result<Option<u64>, MediumFault>
     requires slot { slot < 64 }
     requires inside { slot_end slot ≤ (M.state m.old).size }
@@ -65,6 +66,7 @@ fn descriptor_of(sector: &[u8; 512], stamp: u64, count: u64, j: u64) -> Option<D
 }
 
 // Reads descriptor j of the record of a stamp with so many blocks, if it is there.
+#[tactic(auto, using(medium::proofs::SectorsRead::look_below))]
 fn read_descriptor<M: Medium>(
     m: &mut M,
     slot: u64,

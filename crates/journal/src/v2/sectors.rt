@@ -7,6 +7,7 @@ ghost use Rattle.journal.specs.SectorsTwo.{padded, place_bytes};
 use byteorder::{ByteOrder, LittleEndian};
 
 /// Writes these bytes behind those that are written.
+#[tactic(auto, using(crate::proofs::OneSpelling::padded_put))]
 pub(crate) fn append(sector: &mut [u8], at: usize, part: &[u8])
     requires size { length sector.old ≡ 512 }
     requires inside { at + length part.now ≤ 512 }

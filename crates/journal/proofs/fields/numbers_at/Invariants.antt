@@ -1,10 +1,6 @@
-use Rattle.std.proofs.Common.{◌≡◌, ◌<◌, ◌+◌, ℕ, length, get_or}
-use Rattle.journal.specs.Spelling.{number_in}
+use Rattle.std.proofs.Common.{◌+◌}
+use Rattle.journal.specs.Spelling.{number_in, AreItems}
 use Rattle.journal.proofs.fields.numbers_at.Given as goal
 
 abbrev pub invariant-loop-i : goal.invariant-loop-i
-invariant-loop-i l = record {
-  read : (k : ℕ) → k < l.i
-      → get_or l.numbers.items k 0 ≡ number_in l.sector (3 + k);
-  size : length l.numbers.items ≡ l.i;
-}
+invariant-loop-i l = AreItems l.i (λ i. number_in l.sector (3 + i)) 0 l.numbers.items

@@ -1,10 +1,7 @@
-use Rattle.std.proofs.Common.{◌≡◌, ◌<◌, ◌+◌, ◌*◌, ℕ, [], length, get_or}
+use Rattle.std.proofs.Common.{◌+◌, ◌*◌, []}
 use Rattle.std.specs.Prelude.{slice_range}
+use Rattle.journal.specs.Spelling.{AreItems}
 use Rattle.journal.proofs.v2.descriptor.firsts_at.Given as goal
 
 abbrev pub invariant-loop-i : goal.invariant-loop-i
-invariant-loop-i l = record {
-  read : (k : ℕ) → k < l.i
-      → get_or l.firsts.items k [] ≡ slice_range l.sector (40 + 16 * k) (40 + 16 * k + 8);
-  size : length l.firsts.items ≡ l.i;
-}
+invariant-loop-i l = AreItems l.i (λ i. slice_range l.sector (40 + 16 * i) (40 + 16 * i + 8)) [] l.firsts.items

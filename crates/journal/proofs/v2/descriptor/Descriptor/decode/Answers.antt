@@ -23,11 +23,7 @@ said c d =
     )
 
 pub returns-then-stamp-lt1-clause-all : goal.returns-then-stamp-lt1-clause-all
-returns-then-stamp-lt1-clause-all c stamp count j numbers firsts d =
-    let st : c.number_at-stamp.result ≡ stamp = c.number_at-stamp.ensures.is ∙ (header_says d).0 in
-    let many : c.number_at-count.result ≡ count = c.number_at-count.ensures.is ∙ (header_says d).1 in
-    let index : c.number_at-index.result ≡ j = c.number_at-index.ensures.is ∙ (header_says d).2 in
-    search rules
+returns-then-stamp-lt1-clause-all c stamp count j numbers firsts d = let says = header_says d in search (rules, arith)
 
 pub returns-then-not-are_small-clause-all : goal.returns-then-not-are_small-clause-all
 returns-then-not-are_small-clause-all c stamp count j numbers firsts d =
