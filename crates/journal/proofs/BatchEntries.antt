@@ -7,8 +7,10 @@ use Rattle.std.proofs.lemmas.List.{ext_get_or}
 use Rattle.std.proofs.Math.ListN.{get_or-map}
 use Rattle.journal.specs.SectorsTwo.{firsts_of, chunk_of}
 use Rattle.journal.proofs.EntriesTwo.{length_range}
-use Rattle.journal.proofs.RecordTwo.{firsts_of_chunk}
+use Rattle.journal.proofs.RecordTwo.{firsts_of_chunk, numbers_of_chunk, descriptor_spelled}
 use Rattle.journal.specs.Record.{Entry, numbers_of, entries_from, entries_of}
+use Rattle.journal.proofs.Format1Laws.{offset_early, offset_commit, part_descriptor, part_place, part_commit}
+use Rattle.journal.proofs.Format2Laws as two
 
 numbers_from : (k : ℕ) (numbers bytes : List ℕ) → numbers_of (entries_from k numbers bytes) ≡ numbers
 numbers_from k [] bytes = refl
@@ -82,3 +84,21 @@ firsts_of_batch numbers bytes firsts j size count each =
     ∙ sym (first_eight numbers bytes (30 * j + i) size (omega (arith, count, long, left)))
     ∙ sym (get_or-take 30 (drop (30 * j) all) i [] (omega (arith, count, long)) ∙ get_or-drop (30 * j) all i []))
     ∙ sym (firsts_of_chunk (entries_of numbers bytes) j)
+
+pub ruleset parts_one =
+    (offset_early, offset_commit, part_descriptor, part_place, part_commit, numbers_of_batch, length_of_batch, entry_of_batch)
+
+pub ruleset parts_two = (
+  two.offset_descriptor,
+  two.offset_place,
+  two.offset_commit,
+  two.part_descriptor,
+  two.part_place,
+  two.part_commit,
+  numbers_of_batch,
+  length_of_batch,
+  entry_of_batch,
+  firsts_of_batch,
+  numbers_of_chunk,
+  descriptor_spelled,
+)

@@ -54,10 +54,10 @@ unfolding spelling
 spelling-none = refl
 
 -- the i-th number, read back
-pub spelling-get : (i : ℕ) (numbers sector : List ℕ) → i < length numbers → get_or numbers i 0 < 2 ^ 64
+pub spelling_get : (i : ℕ) (numbers sector : List ℕ) → i < length numbers → get_or numbers i 0 < 2 ^ 64
     → sector ≡ spelling numbers → number_in sector i ≡ get_or numbers i 0
 unfolding spelling number_in
-spelling-get i numbers sector below small is =
+spelling_get i numbers sector below small is =
     let zeros : List ℕ = replicate (512 - 8 * length numbers) 0 in
     rw is (sym (little_from-take 0 8 8 (drop (8 * i) (flat_map (little_bytes 8) numbers ++ zeros)) (omega arith))
     ∙ ap (little_number 8) (piece_at (little_bytes 8) 8 numbers i 0 zeros below (λ j d inside. refl))

@@ -9,7 +9,7 @@ use Rattle.journal.specs.declared.log_format.LogFormat.TheVariants.{One, Two}
 use Rattle.journal.specs.Spelling.{number_in, super_mark, descriptor_mark}
 use Rattle.journal.specs.Sectors.{version_of, IsSuper, IsHead, IsDescriptor, IsCommit}
 use Rattle.journal.specs.SuperFaults.{HasMagic, HasVersion, HasZeroRest}
-use Rattle.journal.proofs.OneSpelling.{spelling-get, spelling-rest}
+use Rattle.journal.proofs.OneSpelling.{spelling_get, spelling-rest}
 
 -- a number behind three others
 behind_three : (a b c i : ℕ) (ns : List ℕ) → get_or (a ∷ b ∷ c ∷ ns) (3 + i) 0 ≡ get_or ns i 0
@@ -19,15 +19,15 @@ module _ {stamp : ℕ} {numbers bytes : List ℕ} (d : IsDescriptor stamp number
   -- the stamp of a descriptor, and how many block numbers it has
   pub descriptor_says : (number_in bytes 1 ≡ stamp) × (number_in bytes 2 ≡ length numbers)
   descriptor_says = (
-    spelling-get 1 _ bytes (omega arith) (omega (arith, d.most)) d.spelled,
-    spelling-get 2 _ bytes (omega arith) (omega (arith, d.block_numbers.few)) d.spelled,
+    spelling_get 1 _ bytes (omega arith) (omega (arith, d.most)) d.spelled,
+    spelling_get 2 _ bytes (omega arith) (omega (arith, d.block_numbers.few)) d.spelled,
   )
 
   -- each of its block numbers
   pub descriptor_number : (i : ℕ) → i < length numbers → number_in bytes (3 + i) ≡ get_or numbers i 0
   descriptor_number i below =
       let it = behind_three descriptor_mark stamp (length numbers) i numbers in
-      spelling-get (3 + i) (descriptor_mark ∷ stamp ∷ length numbers ∷ numbers) bytes (omega arith)
+      spelling_get (3 + i) (descriptor_mark ∷ stamp ∷ length numbers ∷ numbers) bytes (omega arith)
       (omega (arith, it, d.block_numbers.fit i 0 below)) d.spelled ∙ it
 
   -- a list that was read as its block numbers is its block numbers
@@ -63,16 +63,16 @@ module _ {shape : Shape} {bytes : List ℕ} (s : IsSuper shape bytes) where
       × (number_in bytes 3 ≡ shape.slots) × (number_in bytes 5 ≡ shape.home)
   super_says =
       let near = home_near shape.format shape.slots shape.home s.home_is in (
-        spelling-get 1 _ bytes (omega arith) (grind (arith, version_known shape.format)) s.spelled,
-        spelling-get 2 _ bytes (omega arith) (omega (arith, s.most_blocks)) s.spelled,
-        spelling-get 3 _ bytes (omega arith) (omega (arith, s.most_slots)) s.spelled,
-        spelling-get 5 _ bytes (omega arith) (omega (arith, s.most_slots, near)) s.spelled,
+        spelling_get 1 _ bytes (omega arith) (grind (arith, version_known shape.format)) s.spelled,
+        spelling_get 2 _ bytes (omega arith) (omega (arith, s.most_blocks)) s.spelled,
+        spelling_get 3 _ bytes (omega arith) (omega (arith, s.most_slots)) s.spelled,
+        spelling_get 5 _ bytes (omega arith) (omega (arith, s.most_slots, near)) s.spelled,
       )
 
   -- a super has no fault
   pub super_begins : HasMagic bytes × HasVersion bytes × HasZeroRest bytes
   super_begins = (
-    spelling-get 0 _ bytes (omega arith) (omega arith) s.spelled,
+    spelling_get 0 _ bytes (omega arith) (omega arith) s.spelled,
     rw super_says.0 (version_known shape.format),
     ap (λ (l : List ℕ). drop 48 l) s.spelled
         ∙ spelling-rest (super_mark ∷ version_of shape.format ∷ shape.blocks ∷ shape.slots ∷ 2 ∷ shape.home ∷ []),
@@ -101,7 +101,7 @@ IsSuper-one a b bytes s t = sym (shape_is s) ∙ shape_is t
 
 -- the stamp of a head
 pub head_stamp : {stamp : ℕ} {bytes : List ℕ} → IsHead stamp bytes → number_in bytes 1 ≡ stamp
-head_stamp h = spelling-get 1 _ _ (omega arith) (omega (arith, h.most)) h.spelled
+head_stamp h = spelling_get 1 _ _ (omega arith) (omega (arith, h.most)) h.spelled
 
 -- a sector is a head of one stamp
 pub IsHead-one : (a b : ℕ) (bytes : List ℕ) → IsHead a bytes → IsHead b bytes → a ≡ b
@@ -111,6 +111,6 @@ IsHead-one a b bytes h k = sym (head_stamp h) ∙ head_stamp k
 pub commit_says : {stamp count : ℕ} {bytes : List ℕ} → IsCommit stamp count bytes
     → (number_in bytes 1 ≡ stamp) × (number_in bytes 2 ≡ count)
 commit_says c = (
-  spelling-get 1 _ _ (omega arith) (omega (arith, c.most)) c.spelled,
-  spelling-get 2 _ _ (omega arith) (omega (arith, c.few)) c.spelled,
+  spelling_get 1 _ _ (omega arith) (omega (arith, c.most)) c.spelled,
+  spelling_get 2 _ _ (omega arith) (omega (arith, c.few)) c.spelled,
 )

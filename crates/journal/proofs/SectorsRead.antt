@@ -4,9 +4,13 @@ use Rattle.journal.specs.declared.log_format.LogFormat.{LogFormat}
 use Rattle.journal.specs.declared.log_format.LogFormat.TheVariants.{One, Two}
 use Rattle.journal.specs.Places.{limit_of, first_data_of, IsFirstHome}
 use Rattle.journal.specs.Formats.{layout_of}
+use Rattle.medium.proofs.Moments.{quiet_call}
+use Rattle.medium.proofs.SectorsRead.{look_below}
 
 -- a data place stands before home
 pub place_before : (format : LogFormat) (slots home slot i : ℕ) → IsFirstHome format slots home → slot < slots → i < limit_of format
     → 2 + (layout_of format).slot_sectors * slot + first_data_of format + i < home
 place_before One slots home slot i first low inside = omega (arith, first.0, low, inside)
 place_before Two slots home slot i first low inside = omega (arith, first.0, low, inside)
+
+pub ruleset copies = (quiet_call, look_below, place_before)

@@ -15,6 +15,7 @@ use medium::{Medium, MediumFault};
 /// # Errors
 ///
 /// As the medium.
+#[tactic(auto, using(crate::proofs::SectorsRead::copies))]
 pub fn read_copy<M: Medium>(
     m: &mut M,
     sizes: &Super,

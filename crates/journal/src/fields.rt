@@ -27,6 +27,7 @@ pub(crate) fn put(sector: &mut [u8], i: usize, number: u64)
 }
 
 /// The i-th number of a sector.
+#[tactic(auto, unfolding(crate::specs::Spelling::number_in))]
 pub(crate) fn number_at(sector: &[u8], i: usize) -> u64
     requires size { length sector.now ≡ 512 }
     requires inside { 8 * i + 8 ≤ 512 }

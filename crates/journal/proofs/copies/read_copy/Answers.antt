@@ -11,15 +11,3 @@ returns-clause-ok g c stamp entries slot below is whole =
     c.put_first.ensures
     ∙ begun_is c.args.sizes.now.format (shape_of c.args.sizes.now) (g.M.Medium.state c.args.m.now).content stamp entries whole c.args.i
     below c.args.first.now is c.read.new.to (rw (c.in_ok-read.ensures.ok, c.copy_place.ensures, slot))
-
-pub returns-in_err-read-clause-reads : goal.returns-in_err-read-clause-reads
-returns-in_err-read-clause-reads g c =
-    let s = c.args.sizes.now in
-    let before = place_before s.format s.slots s.home c.args.slot c.args.i s.home_is c.requires.slot c.requires.inside in
-    search (rules, quiet_call, look_below, arith)
-
-pub returns-clause-reads : goal.returns-clause-reads
-returns-clause-reads g c =
-    let s = c.args.sizes.now in
-    let before = place_before s.format s.slots s.home c.args.slot c.args.i s.home_is c.requires.slot c.requires.inside in
-    search (rules, quiet_call, look_below, arith)
