@@ -204,3 +204,5 @@ IsDescriptorTwo-one bytes a b m n i j ns ms fs gs d e =
       numbers_are e (length ns) ns here refl (λ x below. sym (number_is d x below)),
       firsts_are e (length ns) fs here d.entries.each (λ x below. sym (first_is d x below)),
     )
+
+pub ruleset commits = (commit_stamp, commit_count)

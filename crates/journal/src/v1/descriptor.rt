@@ -47,6 +47,7 @@ impl Descriptor {
     }
 
     /// The descriptor that these bytes spell, if they spell one.
+    #[tactic(auto, using(crate::proofs::SectorNumbers::descriptor_says))]
     pub fn decode(sector: &[u8; 512]) -> Option<Descriptor>
         ensures some { IfSome result (λ d. IsDescriptor d.stamp d.numbers.items sector.now) }
         ensures all { (stamp : ℕ) (numbers : List ℕ) → IsDescriptor stamp numbers sector.now

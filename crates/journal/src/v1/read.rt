@@ -13,6 +13,7 @@ use crate::{Record, Super, slot_of};
 use medium::{Medium, MediumFault};
 
 // Reads the descriptor of the record of a stamp, if it is whole.
+#[tactic(auto, using(crate::proofs::SectorsRead::reads))]
 fn read_descriptor<M: Medium>(
     m: &mut M,
     sizes: &Super,

@@ -43,6 +43,7 @@ impl Commit {
     }
 
     /// The commit that these bytes spell, if they spell one.
+    #[tactic(auto, using(crate::proofs::EntriesTwo::commits))]
     pub fn decode(sector: &[u8; 512]) -> Option<Commit>
         ensures some { IfSome result (λ commit.
             IsCommitTwo commit.stamp commit.count sector.now) }

@@ -35,6 +35,7 @@ pub struct Descriptor {
 impl Descriptor {
     /// Descriptor `index` of the record with this stamp and these blocks, whose bytes stand one
     /// after the other.
+    #[tactic(auto, using(crate::proofs::EntriesTwo::items_here))]
     pub fn new(stamp: u64, numbers: &[u64], bytes: &[u8], index: usize) -> Descriptor
         requires { CanDescribe stamp numbers.now bytes.now index }
         ensures { Describes stamp numbers.now bytes.now index result.stamp result.count
@@ -66,6 +67,7 @@ impl Descriptor {
     }
 
     /// The descriptor that these bytes spell, if they spell one.
+    #[tactic(auto, using(crate::proofs::EntriesTwo::header_says))]
     pub fn decode(sector: &[u8; 512]) -> Option<Descriptor>
         ensures some { IfSome result (λ d. IsDescriptorTwo d.stamp d.count d.index
             d.numbers.items d.firsts.items sector.now) }

@@ -91,6 +91,7 @@ fn read_descriptor<M: Medium>(
 }
 
 // Reads what the descriptors of a record of so many blocks say. False where they are not there.
+#[tactic(auto, using(crate::proofs::SectorsRead::reads))]
 fn read_descriptors<M: Medium>(
     m: &mut M,
     slot: u64,
@@ -137,6 +138,7 @@ fn are_blocks(numbers: &[u64], blocks: u64) -> bool
 }
 
 /// Reads the record of a stamp up to its data places. False where its other sectors are not there.
+#[tactic(auto, using(crate::proofs::SectorsRead::reads))]
 pub(crate) fn read_record<M: Medium>(
     m: &mut M,
     sizes: &Super,
@@ -179,6 +181,7 @@ fn has_stamp<M: Medium>(m: &mut M, slot: u64, stamp: u64, i: u64) -> Result<bool
 }
 
 // Whether so many data places of a slot begin with the stamp.
+#[tactic(auto, using(crate::proofs::SectorsRead::reads))]
 fn has_stamps<M: Medium>(m: &mut M, slot: u64, stamp: u64, count: u64) -> Result<bool, MediumFault>
     requires slot { slot < 64 }
     requires few { count ≤ 240 }

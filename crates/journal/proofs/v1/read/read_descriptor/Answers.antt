@@ -29,16 +29,6 @@ followed g c =
           (look_below _ _ _ _ (omega (arith, ends, c.commit_place.ensures)) b.1),
     )
 
-pub read-requires : goal.read-requires
-read-requires g c =
-    let ends = within_one c.args.sizes.now c.args.stamp _ c.slot_of-slot.ensures c.requires.format in
-    search (rules, arith)
-
-pub read-requires-2 : goal.read-requires-2
-read-requires-2 g c =
-    let ends = within_one c.args.sizes.now c.args.stamp c.slot_of-slot.result c.slot_of-slot.ensures c.requires.format in
-    omega (arith, ends, c.requires.fits, c.commit_place.ensures, c.read.ensures.passes.size_stays)
-
 pub returns-clause-reads : goal.returns-clause-reads
 returns-clause-reads g c = record {
   passes = search rules;
@@ -76,11 +66,3 @@ returns-clause-all g c entries whole =
     (rw (c.in_ok-read-2.ensures.ok, c.commit_place.ensures, c.read.ensures.content _, slot)
     (commit_there shape old.content c.args.stamp entries w))
     w.fit.inside
-
-pub returns-in_err-read-clause-reads : goal.returns-in_err-read-clause-reads
-returns-in_err-read-clause-reads g c =
-    search (rules, look_below, arith, within_one c.args.sizes.now c.args.stamp _ c.slot_of-slot.ensures c.requires.format)
-
-pub returns-in_err-read-2-clause-reads : goal.returns-in_err-read-2-clause-reads
-returns-in_err-read-2-clause-reads g c =
-    search (rules, followed g (goal.at.returns-in_err-read-2-clause-reads g c).After-read-2)

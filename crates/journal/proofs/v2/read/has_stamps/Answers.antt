@@ -5,14 +5,6 @@ use Rattle.journal.proofs.SlotTwo.{untrue}
 use Rattle.medium.proofs.SectorsRead.{looks_joined}
 use Rattle.journal.proofs.v2.read.has_stamps.Goals as goal
 
-pub returns-in_err-has_stamp : goal.returns-in_err-has_stamp
-returns-in_err-has_stamp g c =
-    let inv = c.loop-i.invariant in
-    let next = c.has_stamp.ensures.follows in
-    let through = g.met.M.Medium.follows_through _ _ _ inv.follows next.0 in
-    let looks = looks_joined _ _ _ _ inv.looks next.1 in
-    search rules
-
 pub returns-then-not-branch : goal.returns-then-not-branch
 returns-then-not-branch g c = record {
   passes = search rules;

@@ -90,14 +90,6 @@ returns-clause-reads g c = record {
   follows = search rules;
 }
 
-pub returns-in_err-found-clause-reads : goal.returns-in_err-found-clause-reads
-returns-in_err-found-clause-reads g c =
-    let inv = c.loop-j.invariant in
-    let next = c.read_descriptor.ensures.reads.follows in
-    let through = g.met.M.Medium.follows_through _ _ _ inv.follows next.0 in
-    let looks = looks_joined _ _ _ _ inv.looks next.1 in
-    search rules
-
 pub returns-in_default-clause-reads : goal.returns-in_default-clause-reads
 returns-in_default-clause-reads g c = record {
   passes = search rules;

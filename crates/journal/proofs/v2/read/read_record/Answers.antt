@@ -173,12 +173,3 @@ returns-else-are_blocks g c =
         omega (arith, named.2, c.in_ok-count.ensures.reads.passes.exact),
       );
     })
-
-pub returns-in_err-count : goal.returns-in_err-count
-returns-in_err-count g c =
-    let ends = within_two c.args.sizes.now c.args.stamp c.slot_of-slot.result c.slot_of-slot.ensures c.requires.format in
-    search (rules, looks_below)
-
-pub returns-in_err-read_descriptors : goal.returns-in_err-read_descriptors
-returns-in_err-read_descriptors g c =
-    search (rules, followed g (goal.at.returns-in_err-read_descriptors g c).After-read_descriptors)

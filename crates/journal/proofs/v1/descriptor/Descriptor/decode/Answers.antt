@@ -2,9 +2,6 @@ use Rattle.std.proofs.Common.{◌≡◌, rules, arith, ◌∙◌, IsTrue}
 use Rattle.journal.proofs.SectorNumbers.{descriptor_says, descriptor_numbers}
 use Rattle.journal.proofs.v1.descriptor.Descriptor.decode.Goals as goal
 
-pub returns-then-stamp-lt1-clause-all : goal.returns-then-stamp-lt1-clause-all
-returns-then-stamp-lt1-clause-all c stamp numbers d = let says = descriptor_says d in search (rules, arith)
-
 pub returns-then-not-are_block_numbers-clause-all : goal.returns-then-not-are_block_numbers-clause-all
 returns-then-not-are_block_numbers-clause-all c stamp numbers d =
     let read = c.numbers_at-numbers.ensures in

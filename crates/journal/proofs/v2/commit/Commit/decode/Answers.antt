@@ -2,12 +2,6 @@ use Rattle.std.proofs.Common.{◌≡◌, rules, arith}
 use Rattle.journal.proofs.EntriesTwo.{commit_stamp, commit_count}
 use Rattle.journal.proofs.v2.commit.Commit.decode.Goals as goal
 
-pub returns-then-stamp-lt1-clause-all : goal.returns-then-stamp-lt1-clause-all
-returns-then-stamp-lt1-clause-all c stamp count d = grind (arith, commit_stamp, commit_count)
-
-pub returns-then-eq-clause-all : goal.returns-then-eq-clause-all
-returns-then-eq-clause-all c stamp count d = search (rules, commit_stamp, commit_count)
-
 pub returns-else-eq-clause-all : goal.returns-else-eq-clause-all
 returns-else-eq-clause-all c stamp count d =
     let st = commit_stamp stamp count c.args.sector.now d in

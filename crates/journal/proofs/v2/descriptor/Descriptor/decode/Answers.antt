@@ -22,9 +22,6 @@ said c d =
       firsts_are d c.count_here-here.result b.result.items here b.ensures.count b.ensures.each,
     )
 
-pub returns-then-stamp-lt1-clause-all : goal.returns-then-stamp-lt1-clause-all
-returns-then-stamp-lt1-clause-all c stamp count j numbers firsts d = let says = header_says d in search (rules, arith)
-
 pub returns-then-not-are_small-clause-all : goal.returns-then-not-are_small-clause-all
 returns-then-not-are_small-clause-all c stamp count j numbers firsts d =
     let read = c.numbers_at-numbers.ensures in

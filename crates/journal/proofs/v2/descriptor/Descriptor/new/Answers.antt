@@ -2,9 +2,6 @@ use Rattle.std.proofs.Common.{◌+◌, ◌*◌, ℕ, List, length, drop, ap, ari
 use Rattle.journal.proofs.EntriesTwo.{items_here, sized_from, entries_cut}
 use Rattle.journal.proofs.v2.descriptor.Descriptor.new.Goals as goal
 
-pub returns : goal.returns
-returns c = search (rules, items_here)
-
 pub invariant_of-result : goal.invariant_of-result
 invariant_of-result c =
     let numbers = c.args.numbers.now in
