@@ -41,16 +41,16 @@ firsts_of_chunk es j =
     let f : Entry → List ℕ = λ e. take 8 e.1 in
     sym (take-map f 30 (drop (30 * j) es)) ∙ ap (λ (l : List (List ℕ)). take 30 l) (sym (drop-map f (30 * j) es))
 
--- one of them, by its place in the record
-module _ (es : List Entry) (j e : ℕ) (small : e < 30) where
-  chunk_at : get_or (chunk_of es j) e (0, []) ≡ get_or es (30 * j + e) (0, [])
-  chunk_at = get_or-take 30 (drop (30 * j) es) e (0, []) small ∙ get_or-drop (30 * j) es e (0, [])
+-- one of some entries that follow each other
+module _ (es : List Entry) (many from i : ℕ) (few : i < many) where
+  part_at : get_or (take many (drop from es)) i (0, []) ≡ get_or es (from + i) (0, [])
+  part_at = get_or-take many (drop from es) i (0, []) few ∙ get_or-drop from es i (0, [])
 
-  pub number_at : get_or (numbers_of (chunk_of es j)) e 0 ≡ (get_or es (30 * j + e) (0, [])).0
-  number_at = get_or-map (λ (x : Entry). x.0) (chunk_of es j) e (0, []) ∙ ap (λ (x : Entry). x.0) chunk_at
+  pub number_at : get_or (numbers_of (take many (drop from es))) i 0 ≡ (get_or es (from + i) (0, [])).0
+  number_at = get_or-map (λ (e : Entry). e.0) (take many (drop from es)) i (0, []) ∙ ap (λ (e : Entry). e.0) part_at
 
-  pub first_at : get_or (firsts_of (chunk_of es j)) e [] ≡ take 8 (get_or es (30 * j + e) (0, [])).1
-  first_at = get_or-map (λ (x : Entry). take 8 x.1) (chunk_of es j) e (0, []) ∙ ap (λ (x : Entry). take 8 x.1) chunk_at
+  pub first_at : get_or (firsts_of (take many (drop from es))) i [] ≡ take 8 (get_or es (from + i) (0, [])).1
+  first_at = get_or-map (λ (e : Entry). take 8 e.1) (take many (drop from es)) i (0, []) ∙ ap (λ (e : Entry). take 8 e.1) part_at
 
 -- in a record in the limits it is a descriptor
 pub descriptor_two : {blocks stamp : ℕ} {es : List Entry} (j : ℕ) → IsRecordOf format2 blocks stamp es → 30 * j < length es

@@ -5,7 +5,7 @@ use Rattle.journal.specs.declared.log_format.LogFormat.TheVariants.{One, Two}
 use Rattle.journal.specs.Places.{limit_of, first_data_of, IsFirstHome}
 use Rattle.journal.specs.Formats.{layout_of}
 use Rattle.journal.proofs.Within.{within_one, within_two}
-use Rattle.medium.proofs.Moments.{quiet_call}
+use Rattle.medium.proofs.Moments.{quiet_call, quiet_joined}
 use Rattle.medium.proofs.SectorsRead.{look_below, looks_below, looks_joined}
 
 -- a data place stands before home
@@ -16,4 +16,4 @@ place_before Two slots home slot i first low inside = omega (arith, first.0, low
 
 pub ruleset copies = (quiet_call, look_below, place_before)
 
-pub ruleset reads = (look_below, looks_below, looks_joined, within_one, within_two)
+pub ruleset reads = (look_below, looks_below, looks_joined, quiet_joined, within_one, within_two)

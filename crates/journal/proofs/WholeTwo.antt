@@ -102,8 +102,8 @@ module _ (shape : Shape) (image : Image) (s : ℕ) (es : List Entry) (w : IsWhol
       let b = block_of es i in
       rw (
         rw split at (read_entry image at commit_whole (i / 30) (i % 30) d (omega (arith, d.entries.many))),
-        number_at es (i / 30) (i % 30) (omega arith),
-        first_at es (i / 30) (i % 30) (omega arith),
+        number_at es 30 (30 * (i / 30)) (i % 30) (omega arith),
+        first_at es 30 (30 * (i / 30)) (i % 30) (omega arith),
         split,
         place_there i below,
         place_rest s b,
@@ -151,7 +151,7 @@ module _ (shape : Shape) (image : Image) (s slot : ℕ) (numbers : List ℕ) (sa
       ext_get_or [] (firsts_of (chunk_of read j)) _ (omega (arith, many, left, d.entries.each, d.entries.many)) (λ e inside.
       let here : e < length (take 30 (drop (30 * j) numbers)) = omega (arith, inside, many, left, d.entries.many) in
       rw (
-        first_at read j e (omega (arith, inside, many, left)),
+        first_at read 30 (30 * j) e (omega (arith, inside, many, left)),
         read_entry image (2 + 249 * slot) says.committed j e d here,
       ) (take_at _ (drop 8 (image (2 + 249 * slot + (8 + (30 * j + e))))) 8 (d.entries.sized e [] (omega (arith, here, d.entries.each)))))
 

@@ -17,18 +17,6 @@ IfSome_from : {X : Type 0} (found : Option X) {P Q R S : X → Type 0} → IfSom
 IfSome_from None p q r f = tt
 IfSome_from (Some x) p q r f = f x p q r
 
--- the descriptor and then the commit are read, before home
-followed : (g : given.Over) (c : After-read-2 g) → g.M.Medium.follows c.args.m.now c.read-2.new.self
-    × LooksOnly (λ s. s < c.args.sizes.now.home) (g.M.Medium.state c.args.m.now) (g.M.Medium.state c.read-2.new.self)
-followed g c =
-    let ends = within_one c.args.sizes.now c.args.stamp c.slot_of-slot.result c.slot_of-slot.ensures c.requires.format in
-    let a = c.read.ensures.follows in
-    let b = c.read-2.ensures.follows in (
-      g.met.M.Medium.follows_through _ _ _ a.0 b.0,
-      looks_joined _ _ _ _ (look_below _ _ _ _ (omega (arith, ends, c.place_of.ensures)) a.1)
-          (look_below _ _ _ _ (omega (arith, ends, c.commit_place.ensures)) b.1),
-    )
-
 pub returns-clause-reads : goal.returns-clause-reads
 returns-clause-reads g c = record {
   passes = search rules;
@@ -52,7 +40,14 @@ returns-clause-reads g c = record {
             (sound.holds_content (at + 1 + i)))),
         sym (numbers_of-entries_in old.content (at + 1) d.numbers.items),
       ));
-  follows = followed g (goal.at.returns-clause-reads g c).After-read-2;
+  follows =
+      let ends = within_one c.args.sizes.now c.args.stamp _ c.slot_of-slot.ensures c.requires.format in
+      let a = c.read.ensures.follows in
+      let b = c.read-2.ensures.follows in (
+        g.met.M.Medium.follows_through _ _ _ a.0 b.0,
+        looks_joined _ _ _ _ (look_below _ _ _ _ (omega (arith, ends, c.place_of.ensures)) a.1)
+            (look_below _ _ _ _ (omega (arith, ends, c.commit_place.ensures)) b.1),
+      );
 }
 
 pub returns-clause-all : goal.returns-clause-all

@@ -2,7 +2,7 @@ use Rattle.std.proofs.Common.{◌+◌, ◌*◌, ℕ, inl, inr, refl, rules, arit
 use Rattle.journal.specs.SlotTwo.{HasPlaces}
 use Rattle.journal.specs.SlotReads.{HasPlace}
 use Rattle.journal.proofs.SlotTwo.{untrue}
-use Rattle.medium.proofs.SectorsRead.{looks_joined}
+use Rattle.journal.proofs.SectorsRead.{reads}
 use Rattle.journal.proofs.v2.read.has_stamps.Goals as goal
 
 pub returns-then-not-branch : goal.returns-then-not-branch
@@ -21,10 +21,7 @@ returns-then-not-branch g c = record {
         inr (record { first = i; inside = c.loop-i-test.true; before = inv.stamped; bad = bad; reads_are = refl }),
         omega (arith, inv.calls, c.in_ok-has_stamp.ensures.passes.exact),
       );
-  follows =
-      let inv = c.loop-i.invariant in
-      let next = c.has_stamp.ensures.follows in
-      (g.met.M.Medium.follows_through _ _ _ inv.follows next.0, looks_joined _ _ _ _ inv.looks next.1);
+  follows = search (rules, reads, g.met.M.Medium.follows_through);
 }
 
 pub returns : goal.returns

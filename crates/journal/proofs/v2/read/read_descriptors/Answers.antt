@@ -1,12 +1,11 @@
 use Rattle.std.proofs.Common.{◌≡◌, ◌∙◌, ◌+◌, ◌*◌, ◌<◌, ℕ, List, ◌++◌, length, take, drop, refl, ap, rules, arith}
 use Rattle.std.proofs.Math.Seq.{take-add}
 use Rattle.std.proofs.lemmas.List.{length-append}
-use Rattle.medium.proofs.Moments.{quiet_joined}
 use Rattle.journal.specs.Entry.{Entry, numbers_of}
 use Rattle.journal.specs.SectorsTwo.{chunk_of, firsts_of}
 use Rattle.journal.proofs.DescribedNumbers.{described_more}
 use Rattle.journal.proofs.RecordTwo.{firsts_of_chunk}
-use Rattle.medium.proofs.SectorsRead.{looks_joined}
+use Rattle.journal.proofs.SectorsRead.{reads}
 use Rattle.journal.proofs.v2.read.read_descriptors.Goals as goal
 
 pub returns-in_default-clause-all : goal.returns-in_default-clause-all
@@ -19,8 +18,6 @@ returns-in_default-clause-all g c numbers long has =
 pub loop-j-preserved : goal.loop-j-preserved
 loop-j-preserved g c =
     let old = g.M.Medium.state c.args.m.now in
-    let mid = g.M.Medium.state c.loop-j.m in
-    let new = g.M.Medium.state c.read_descriptor.new.m in
     let inv = c.loop-j.invariant in
     let s = c.args.stamp in
     let n = c.args.count in
@@ -39,7 +36,7 @@ loop-j-preserved g c =
     let next : 30 * j + 30 ≡ 30 * (j + 1) = omega arith in
     let full : length ns ≡ 30 * j = omega (arith, inv.long, below, c.descriptors-j-end.ensures) in
     record {
-      quiet = quiet_joined old mid new inv.quiet c.read_descriptor.ensures.reads.passes.quiet;
+      quiet = search (rules, reads);
       reads = λ kind other. c.read_descriptor.ensures.reads.passes.reads kind other ∙ inv.reads kind other;
       calls = omega (arith, inv.calls, c.in_ok-found.ensures.reads.passes.exact);
       long = rw more (omega (arith, length-append ns d.numbers.items, is.entries.many, full));
@@ -68,10 +65,8 @@ loop-j-preserved g c =
         length-append ns d.numbers.items,
         length-append fs d.firsts.items,
       ));
-      follows =
-          g.met.M.Medium.follows_through c.args.m.now c.loop-j.m c.read_descriptor.new.m inv.follows
-          c.read_descriptor.ensures.reads.follows.0;
-      looks = looks_joined (λ s. s < 2 + 249 * c.args.slot + 249) old mid new inv.looks c.read_descriptor.ensures.reads.follows.1;
+      follows = search (rules, g.met.M.Medium.follows_through);
+      looks = search (rules, reads);
     }
 
 pub returns-clause-reads : goal.returns-clause-reads
@@ -110,8 +105,5 @@ returns-in_default-clause-reads g c = record {
         },
         omega (arith, inv.calls, c.in_ok-found.ensures.reads.passes.exact),
       );
-  follows =
-      let inv = c.loop-j.invariant in
-      let next = c.read_descriptor.ensures.reads.follows in
-      (g.met.M.Medium.follows_through _ _ _ inv.follows next.0, looks_joined _ _ _ _ inv.looks next.1);
+  follows = search (rules, reads, g.met.M.Medium.follows_through);
 }

@@ -4,6 +4,7 @@ use Rattle.std.proofs.lemmas.List.{length-map}
 use Rattle.medium.specs.Medium.{State, LooksOnly}
 use Rattle.medium.proofs.Moments.{quiet_joined}
 use Rattle.medium.proofs.SectorsRead.{looks_joined, looks_below}
+use Rattle.journal.proofs.SectorsRead.{reads}
 use Rattle.journal.specs.Entry.{Entry}
 use Rattle.journal.specs.Sectors.{IsRising}
 use Rattle.journal.specs.SectorsTwo.{descriptors_of}
@@ -37,32 +38,18 @@ counted g c entries whole =
     let says = two_says _ _ _ _ c.requires.format c.slot_of-slot.ensures entries whole in
     (sym (rw c.in-Some.is at (c.in_ok-count.ensures.all _ says.committed)), rw (stays g c) says.described)
 
--- the commit and then the descriptors are read, of a slot that ends before home
-followed : (g : given.Over) (c : After-read_descriptors g) → g.M.Medium.follows c.args.m.now c.read_descriptors.new.m
-    × LooksOnly (λ s. s < c.args.sizes.now.home) (g.M.Medium.state c.args.m.now) (g.M.Medium.state c.read_descriptors.new.m)
-followed g c =
-    let a = c.read_count.ensures.reads.follows in
-    let b = c.read_descriptors.ensures.reads.follows in
-    let ends = within_two c.args.sizes.now c.args.stamp c.slot_of-slot.result c.slot_of-slot.ensures c.requires.format in
-    (g.met.M.Medium.follows_through _ _ _ a.0 b.0, looks_below _ _ _ _ ends (looks_joined _ _ _ _ a.1 b.1))
-
--- what they find together
+-- the commit and then the descriptors are read, of a slot that ends before home, and find this
 joined : (g : given.Over) (c : After-read_descriptors g) {Z : Type 0} {H : State → State → Z → Type 0} (z : Z)
     → H (g.M.Medium.state c.args.m.now) (g.M.Medium.state c.read_descriptors.new.m) z
     → LooksUp g.M.Medium.state g.M.Medium.follows 9 (λ s. s < c.args.sizes.now.home) H
     c.args.m.now c.read_descriptors.new.m (Ok z)
 joined g c z finds =
-    let a = c.read_count.ensures.reads.passes in
-    let b = c.read_descriptors.ensures.reads.passes in
-    record {
-      passes = record {
-        quiet = quiet_joined _ _ _ a.quiet b.quiet;
-        reads = λ kind other. b.reads kind other ∙ a.reads kind other;
-        calls = omega (arith, a.calls, b.calls);
-        cause = tt;
-      };
+    let a = c.read_count.ensures.reads.follows in
+    let b = c.read_descriptors.ensures.reads.follows in
+    let ends = within_two c.args.sizes.now c.args.stamp _ c.slot_of-slot.ensures c.requires.format in record {
+      passes = search (rules, reads, arith);
       finds = finds;
-      follows = followed g c;
+      follows = (g.met.M.Medium.follows_through _ _ _ a.0 b.0, looks_below _ _ _ _ ends (looks_joined _ _ _ _ a.1 b.1));
     }
 
 pub returns-in_default : goal.returns-in_default
@@ -80,9 +67,7 @@ returns-in_default g c = record {
       c.in_ok-count.ensures.reads.passes.exact,
     );
   };
-  follows =
-      let ends = within_two c.args.sizes.now c.args.stamp c.slot_of-slot.result c.slot_of-slot.ensures c.requires.format in
-      search (rules, looks_below);
+  follows = search (rules, reads);
 }
 
 pub returns-then-not-branch : goal.returns-then-not-branch
