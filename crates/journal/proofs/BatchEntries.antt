@@ -9,8 +9,6 @@ use Rattle.journal.specs.SectorsTwo.{firsts_of, chunk_of}
 use Rattle.journal.proofs.EntriesTwo.{length_range}
 use Rattle.journal.proofs.RecordTwo.{first_at, numbers_of_chunk, descriptor_spelled}
 use Rattle.journal.specs.Record.{Entry, numbers_of, entries_from, entries_of}
-use Rattle.journal.proofs.Format1Laws.{offset_early, offset_commit, part_descriptor, part_place, part_commit}
-use Rattle.journal.proofs.Format2Laws as two
 
 numbers_from : (k : ℕ) (numbers bytes : List ℕ) → numbers_of (entries_from k numbers bytes) ≡ numbers
 numbers_from k [] bytes = refl
@@ -51,18 +49,8 @@ firsts_of_part : (numbers bytes : List ℕ) (firsts : List (List ℕ)) (many fro
     → firsts ≡ firsts_of (take many (drop from (entries_of numbers bytes)))
 firsts_of_part numbers bytes firsts many from size count each =
     let es : List Entry = entries_of numbers bytes in
-    let long = length-map (take many (drop from es)) (λ (e : Entry). take 8 e.1) in
     ext_get_or [] firsts (firsts_of (take many (drop from es)))
-    (omega (
-      arith,
-      count,
-      long,
-      length_of_batch numbers bytes,
-      length-take many (drop from numbers),
-      length-drop from numbers,
-      length-take many (drop from es),
-      length-drop from es,
-    )) (λ i below.
+    (simp (length-map, length-take, length-drop, length_of_batch) (simp (length-take, length-drop) at count)) (λ i below.
     let few : i < many = omega (arith, count, length-take many (drop from numbers)) in
     let inside : from + i < length numbers = omega (arith, count, length-take many (drop from numbers), length-drop from numbers) in
     let a : 512 * (from + i) + 512 - 512 * (from + i) ≡ 512 = omega arith in
@@ -88,20 +76,4 @@ pub firsts_of_batch : (numbers bytes : List ℕ) (firsts : List (List ℕ)) (j :
     → firsts ≡ firsts_of (chunk_of (entries_of numbers bytes) j)
 firsts_of_batch numbers bytes firsts j = firsts_of_part numbers bytes firsts 30 (30 * j)
 
-pub ruleset parts_one =
-    (offset_early, offset_commit, part_descriptor, part_place, part_commit, numbers_of_batch, length_of_batch, entry_of_batch)
-
-pub ruleset parts_two = (
-  two.offset_descriptor,
-  two.offset_place,
-  two.offset_commit,
-  two.part_descriptor,
-  two.part_place,
-  two.part_commit,
-  numbers_of_batch,
-  length_of_batch,
-  entry_of_batch,
-  firsts_of_batch,
-  numbers_of_chunk,
-  descriptor_spelled,
-)
+pub ruleset batch = (numbers_of_batch, length_of_batch, entry_of_batch, firsts_of_batch, numbers_of_chunk, descriptor_spelled)

@@ -20,102 +20,78 @@ use Rattle.journal.proofs.Formats.{laws_of}
 use Rattle.journal.proofs.SectorNumbers.{head_stamp, shape_in, shape_is}
 
 -- so or not
-abbrev pub Decided : Type 0 → Type 0
+abbrev Decided : Type 0 → Type 0
 Decided P = P ⊎ (¬ P)
 
--- both or not both
-pub both : {P Q : Type 0} → Decided P → Decided Q → Decided (P × Q)
-both p q = ⊎_elim (λ h. ⊎_elim (λ k. inl (h, k)) (λ n. inr (λ w. n w.1)) q) (λ n. inr (λ w. n w.0)) p
-
--- what has the same meaning
-pub along : {P Q : Type 0} → (P → Q) → (Q → P) → Decided P → Decided Q
-along f g p = ⊎_elim (λ h. inl (f h)) (λ n. inr (λ q. n (g q))) p
-
--- below or not
-pub below_or_not : (a b : ℕ) → Decided (a < b)
-below_or_not a b = ⊎_elim (λ l. inl l) (λ ge. inr (λ l. omega arith)) (cases_lt a b)
-
--- at most or not
-pub at_most_or_not : (a b : ℕ) → Decided (a ≤ b)
-at_most_or_not a b = ⊎_elim (λ l. inr (λ le. omega arith)) (λ ge. inl ge) (cases_lt b a)
-
 -- all of so many or not
-pub each_or_not : (P : ℕ → Type 0) (n : ℕ) → ((k : ℕ) → Decided (P k)) → Decided ((k : ℕ) → k < n → P k)
-each_or_not P n p = ⊎_elim (λ all. inl all) (λ bad. inr (λ all. bad.3 (all bad.0 bad.1)))
-    (all_or_first P (λ k. ¬ P k) n (λ k below. p k))
+each_or_not : (P : ℕ → Type 0) (n : ℕ) → ((k : ℕ) → Decided (P k)) → Decided ((k : ℕ) → k < n → P k)
+each_or_not P n p = let first = all_or_first P (λ k. ¬ P k) n (λ k below. p k) in search (rules, arith)
 
 -- two lists of numbers are the same or not
 pub same_or_not : (xs ys : List ℕ) → Decided (xs ≡ ys)
 same_or_not xs ys =
-    along (λ h. ext_get_or 0 xs ys h.0 h.1) (λ e. (ap length e, λ k below. ap (λ (l : List ℕ). get_or l k 0) e))
-    (both (cases_eq (length xs) (length ys))
-    (each_or_not (λ k. get_or xs k 0 ≡ get_or ys k 0) (length xs) (λ k. cases_eq (get_or xs k 0) (get_or ys k 0))))
+    let each = each_or_not (λ k. get_or xs k 0 ≡ get_or ys k 0) (length xs) (λ k. cases_eq (get_or xs k 0) (get_or ys k 0)) in
+    search (rules, arith, cases_eq (length xs) (length ys), ext_get_or 0 xs ys)
 
 -- all of a list or not
-pub all_or_not : {A : Type 0} (P : A → Type 0) → ((x : A) → Decided (P x)) → (xs : List A) (d : A) → Decided (All P xs)
+all_or_not : {A : Type 0} (P : A → Type 0) → ((x : A) → Decided (P x)) → (xs : List A) (d : A) → Decided (All P xs)
 all_or_not P each xs d =
-    along (All-from_get_or P xs d) (λ all k below. all k d below)
-    (each_or_not (λ k. P (get_or xs k d)) (length xs) (λ k. each (get_or xs k d)))
+    let all = each_or_not (λ k. P (get_or xs k d)) (length xs) (λ k. each (get_or xs k d)) in
+    search (rules, All-from_get_or P xs d)
+
+-- below or not
+below_or_not : (a b : ℕ) → Decided (a < b)
+below_or_not a b = grind (arith, cases_lt a b)
 
 -- numbers rise or not
-pub rising_or_not : (numbers : List ℕ) → Decided (IsRising numbers)
+rising_or_not : (numbers : List ℕ) → Decided (IsRising numbers)
 rising_or_not numbers =
-    along (λ h i j less below. h j below i less) (λ rising j below i less. rising i j less below)
-    (each_or_not (λ j. (i : ℕ) → i < j → get_or numbers i 0 < get_or numbers j 0) (length numbers)
-    (λ j. each_or_not (λ i. get_or numbers i 0 < get_or numbers j 0) j (λ i. below_or_not (get_or numbers i 0) (get_or numbers j 0))))
+    let all = each_or_not (λ j. (i : ℕ) → i < j → get_or numbers i 0 < get_or numbers j 0) (length numbers)
+    (λ j. each_or_not (λ i. get_or numbers i 0 < get_or numbers j 0) j (λ i. below_or_not (get_or numbers i 0) (get_or numbers j 0))) in
+    search (rules, arith)
 
 -- a sector is a head or not
 pub head_or_not : (bytes : List ℕ) → Decided ((stamp : ℕ) × IsHead stamp bytes)
 head_or_not bytes =
     let s = number_in bytes 1 in
     let spelled = same_or_not bytes (spelling (head_mark ∷ s ∷ [])) in
-    let least = at_most_or_not 1 s in
-    let most = below_or_not s (2 ^ 63) in
-    let here : Decided (IsHead s bytes) = search rules in
-    along (λ h. (s, h)) (λ h. subst (λ (n : ℕ). IsHead n bytes) (sym (head_stamp h.1)) h.1) here
-
--- home begins where it has to or not
-first_home_or_not : (format : LogFormat) (slots home : ℕ) → Decided (IsFirstHome format slots home)
-first_home_or_not format slots home =
-    let end : ℕ = 2 + slot_sectors_of format * slots in
-    search (rules, at_most_or_not end home, below_or_not home (end + gap_of format))
+    let here : Decided (IsHead s bytes) = search (rules, arith, cases_lt) in
+    let one = λ (h : (stamp : ℕ) × IsHead stamp bytes). rw (← (head_stamp h.1)) at h.1 in
+    search (rules, one)
 
 -- a sector is a super or not
 pub super_or_not : (bytes : List ℕ) → Decided ((shape : Shape) × IsSuper shape bytes)
 super_or_not bytes =
     let s : Shape = shape_in bytes in
     let spelled = same_or_not bytes (spelling (super_mark ∷ version_of s.format ∷ s.blocks ∷ s.slots ∷ 2 ∷ s.home ∷ [])) in
-    let some_blocks = at_most_or_not 1 s.blocks in
-    let most_blocks = at_most_or_not s.blocks (2 ^ 31) in
-    let some_slots = at_most_or_not 1 s.slots in
-    let most_slots = at_most_or_not s.slots 64 in
-    let home = first_home_or_not s.format s.slots s.home in
-    let here : Decided (IsSuper s bytes) = search rules in
-    along (λ i. (s, i)) (λ w. subst (λ (x : Shape). IsSuper x bytes) (sym (shape_is w.1)) w.1) here
+    let here : Decided (IsSuper s bytes) = search (rules, arith, cases_lt) in
+    let one : ((shape : Shape) × IsSuper shape bytes) → IsSuper s bytes = λ w. subst (λ (x : Shape). IsSuper x bytes) (sym (shape_is w.1)) w.1 in
+    search (rules, one)
 
 -- blocks make a record or not
 entries_or_not : (most blocks : ℕ) (es : List Entry) → Decided (AreEntries most blocks es)
 entries_or_not most blocks es =
-    let some = at_most_or_not 1 (length es) in
-    let few = at_most_or_not (length es) most in
+    let some = cases_lt 0 (length es) in
+    let few = cases_lt most (length es) in
     let rising = rising_or_not (numbers_of es) in
     let inside = all_or_not (λ b. b < blocks) (λ b. below_or_not b blocks) (numbers_of es) 0 in
     let small = all_or_not (λ b. b < 2 ^ 31) (λ b. below_or_not b (2 ^ 31)) (numbers_of es) 0 in
     let sized = all_or_not (λ e. length e.1 ≡ 512) (λ e. cases_eq (length e.1) 512) es (0, []) in
-    search rules
+    search (rules, arith)
 
 -- a record is whole or not
-pub whole_or_not : (L : Layout) (laws : Laws L) (shape : Shape) (image : Image) (stamp : ℕ)
-    → Decided (HasWholeIn L shape image stamp)
+whole_or_not : (L : Layout) (laws : Laws L) (shape : Shape) (image : Image) (stamp : ℕ) → Decided (HasWholeIn L shape image stamp)
 whole_or_not L laws shape image stamp =
     let es : List Entry = L.read image (slot_at L shape stamp) in
     let fit = entries_or_not L.most shape.blocks es in
-    let least = at_most_or_not 1 stamp in
+    let least = below_or_not 0 stamp in
     let below = below_or_not stamp (2 ^ 63 - 1) in
     let there = each_or_not (λ p. image (part_at L shape stamp (length es) p) ≡ L.part stamp es p) (L.parts (length es))
     (λ p. same_or_not (image (part_at L shape stamp (length es) p)) (L.part stamp es p)) in
     let here : Decided (IsWholeIn L shape image stamp es) = search rules in
-    along (λ h. (es, h)) (λ w. subst (IsWholeIn L shape image stamp) (laws.read shape image stamp w.0 w.1) w.1) here
+    let one : HasWholeIn L shape image stamp → IsWholeIn L shape image stamp es =
+    λ w. subst (IsWholeIn L shape image stamp) (laws.read shape image stamp w.0 w.1) w.1 in
+    search (rules, one)
 
 -- each image has a count of whole records from each stamp on
 pub count_of : (shape : Shape) (image : Image) (head : ℕ) → (count : ℕ) × IsCount shape image head count

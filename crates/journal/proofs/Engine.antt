@@ -33,7 +33,7 @@ module _ (L : Layout) (laws : Laws L) (shape : Shape) where
   late_carries image stamp es p w below late free = elim (laws.carries shape.blocks stamp es p (record_of w) below) [
     | inl early ↦ omega arith
     | inr c ↦
-        let less = free stamp (subst (L.carries (L.offset (length es) p) stamp) (sym (w.there p below)) c) in omega arith
+        let less = free stamp (rw (w.there p below) c) in omega arith
   ]
 
   -- where the last sector of the slot does not carry a stamp, that stamp's record is not whole
@@ -48,33 +48,20 @@ module _ (L : Layout) (laws : Laws L) (shape : Shape) (some : 1 ≤ shape.slots)
   -- behind the stamps that the log carries no record is whole
   pub none_carried : (image : Image) (end : ℕ) → CarriesBelowIn L shape image end → ¬ HasWholeIn L shape image end
   none_carried image end c =
-      let in_slot : L.slot_sectors - 1 < L.slot_sectors = omega (arith, laws.inside 0 0 (omega arith) (laws.some_parts 0)) in
-      last_free_none L laws shape image end
-      (λ t carries. c (end % shape.slots) (L.slot_sectors - 1) t (mod_below end shape.slots some) in_slot carries)
+      last_free_none L laws shape image end (λ t. c (end % shape.slots) (L.slot_sectors - 1) t (mod_below end shape.slots some)
+      (omega (arith, laws.inside 0 0 (omega arith) (laws.some_parts 0))))
 
   -- an image at rest stands for its array
   pub rests_logged : (image : Image) (head : ℕ) (records : List (List Entry)) (array : Array) → length records ≤ shape.slots
       → RestsIn L shape image head records array → LoggedIn L shape image head records array
-  rests_logged image head records array few r = record {
-    keeps = r.keeps;
-    few = few;
-    ends = λ room. none_carried image (head + length records) r.carries;
-    carries = λ other o t low small c. omega (arith, r.carries other o t low small c);
-  }
+  rests_logged image head records array few r =
+      let none = none_carried image (head + length records) r.carries in search (rules, arith, r.carries)
 
 -- where no sector of the log carries the stamp or a later one, a record may be begun
 pub rests_begun : (L : Layout) → Laws L → (v : View) → 1 ≤ v.shape.slots → length v.under_way ≤ L.most → (image : Image) → Resting L v image
     → Guarded L v 0 0 image
-rests_begun L laws v some few image r = record {
-  keeps = r.keeps;
-  parts = record {
-    carries = λ other o t low small carries. omega (arith, r.carries other o t low small carries);
-    flushed = λ p below small. absurd (omega arith);
-    either = λ p below small. absurd (omega arith);
-    free = λ p more small t carries. r.carries (stamp_of v % v.shape.slots) (L.offset (length v.under_way) p) t
-        (mod_below (stamp_of v) v.shape.slots some) (laws.inside (length v.under_way) p few small) carries;
-  };
-}
+rests_begun L laws v some few image r =
+    let low = mod_below (stamp_of v) v.shape.slots some in search (rules, arith, r.carries, laws.inside)
 
 module _ (L : Layout) (laws : Laws L) (v : View) (slots : HasSlots L v) where
   -- where the last part of the record under way does not carry its stamp, it is not whole
@@ -152,10 +139,7 @@ module _ (L : Layout) (laws : Laws L) (v : View) (slots : HasSlots L v) where
     parts = record {
       carries = g.parts.carries;
       flushed = g.parts.flushed;
-      either = λ p less small. elim (cases_lt p k) [
-        | inl was ↦ g.parts.either p was small
-        | inr now ↦ inr (g.parts.free p now small)
-      ];
+      either = λ p less small. search (rules, arith, cases_lt p k, g.parts.either p, g.parts.free p);
       free = λ p more small. g.parts.free p (omega arith) small;
     };
   }

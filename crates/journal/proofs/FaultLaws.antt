@@ -15,13 +15,6 @@ use Rattle.journal.proofs.SectorNumbers.{super_begins, IsSuper-one}
 use Rattle.journal.proofs.Decided.{same_or_not, head_or_not, super_or_not, count_of}
 use Rattle.journal.proofs.StandingLaws.{count_stands}
 
--- a super has no fault
-no_fault : (fault : SuperFault) {shape : Shape} {bytes : List ℕ} → IsSuperFault fault bytes → IsSuper shape bytes → ⊥
-no_fault Magic f s = f (super_begins s).0
-no_fault Version f s = f.1 (super_begins s).1
-no_fault Rest f s = f.2 (super_begins s).2
-no_fault Sizes {shape} f s = f.3 shape s
-
 -- a version is known or not
 version_or_not : (bytes : List ℕ) → HasVersion bytes ⊎ (¬ HasVersion bytes)
 version_or_not bytes = grind arith
@@ -71,56 +64,11 @@ stands_or_fault size image = elim (cases_lt 0 size) [
   ]
 ]
 
--- the place of a fault in their order
-abbrev rank : ImageFault → ℕ
-rank BadSuper = 0
-rank BadVersion = 1
-rank BadSize = 2
-rank BadHead = 3
-
-rank_one : (a b : ImageFault) → rank a ≡ rank b → a ≡ b
-rank_one BadSuper BadSuper e = refl
-rank_one BadVersion BadVersion e = refl
-rank_one BadSize BadSize e = refl
-rank_one BadHead BadHead e = refl
-rank_one a b e = absurd (omega arith)
-
 module _ (size : ℕ) (image : Image) where
-  -- a medium that is long enough for its super has no bad size
-  size_shape : HasFault size image BadSize → (shape : Shape) → ¬ HasShape size shape image
-  size_shape h shape k = ⊎_elim (λ e. omega (arith, k.fits))
-      (λ q. ⊎_elim (λ z. no_fault Sizes z k.super)
-      (λ short. let one : short.0 ≡ shape = IsSuper-one short.0 shape (image 0) short.1 k.super in
-      let less : size < sectors_of shape = subst (λ (x : Shape). size < sectors_of x) one short.2 in
-      omega (arith, less, k.fits)) q) h
-
-  -- nor has it the faults before that
-  no_super : (a : ImageFault) → rank a < 2 → HasFault size image a → (shape : Shape) → ¬ IsSuper shape (image 0)
-  no_super BadSuper early h shape s = ⊎_elim (λ m. no_fault Magic m s) (λ r. no_fault Rest r s) h.1
-  no_super BadVersion early h shape s = no_fault Version h.1 s
-  no_super a early h shape s = omega arith
-
-  -- two faults are never both there
-  clash : (a b : ImageFault) → rank a < rank b → HasFault size image a → HasFault size image b → ⊥
-  clash BadSuper BadVersion before h k = grind (arith, h, k)
-  clash BadSuper BadSize before h k = grind (arith, h, k, no_super BadSuper (omega arith) h)
-  clash BadVersion BadSize before h k = grind (arith, h, k, no_super BadVersion (omega arith) h)
-  clash BadSuper BadHead before h k = no_super BadSuper (omega arith) h k.0 k.1.super
-  clash BadVersion BadHead before h k = no_super BadVersion (omega arith) h k.0 k.1.super
-  clash BadSize BadHead before h k = size_shape h k.0 k.1
-  clash BadHead BadHead before h k = omega arith
-  clash a b before h k = omega arith
-
   -- an image has at most one fault
   pub HasFault-one : (a b : ImageFault) → HasFault size image a → HasFault size image b → a ≡ b
-  HasFault-one a b h k =
-      let not_before : ¬ (rank a < rank b) = λ before. clash a b before h k in
-      let not_behind : ¬ (rank b < rank a) = λ behind. clash b a behind k h in
-      rank_one a b (grind (arith, not_before, not_behind))
+  HasFault-one a b h k = grind (arith, h, k, IsSuper-one, super_begins)
 
   -- an image that stands for something has none
   pub HasFault-stands : (fault : ImageFault) → HasFault size image fault → ¬ Stands size image
-  HasFault-stands BadSuper h s = no_super BadSuper (omega arith) h s.0 s.3.keeps.super
-  HasFault-stands BadVersion h s = no_super BadVersion (omega arith) h s.0 s.3.keeps.super
-  HasFault-stands BadSize h s = size_shape h s.0 (record { super = s.3.keeps.super; fits = s.3.fits })
-  HasFault-stands BadHead h s = h.2 s.3.head s.3.keeps.head_is
+  HasFault-stands fault h s = grind (arith, h, s, IsSuper-one, super_begins)

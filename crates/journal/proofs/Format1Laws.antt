@@ -37,6 +37,8 @@ pub part_commit : (s : ℕ) (entries : List Entry) (p : ℕ) → length entries 
 unfolding part1
 part_commit s entries p behind = rw (above_is p 1 (omega arith), above_is p (length entries + 1) behind)
 
+pub ruleset parts = (offset_early, offset_commit, part_descriptor, part_place, part_commit)
+
 -- the kinds of parts of a record of n blocks, with so many descriptors, in both formats
 pub data Kind (descriptors n p : ℕ) : Type 0 where
   Described : p < descriptors → Kind descriptors n p
@@ -50,10 +52,10 @@ kind_of descriptors n p = elim (cases_lt p descriptors) [
 ]
 
 pub inside1 : (n p : ℕ) → n ≤ 48 → p < n + 2 → offset1 n p < 50
-inside1 n p few below = grind (arith, offset_early n p, offset_commit n p)
+inside1 n p few below = grind (arith, parts)
 
 pub apart1 : (n p q : ℕ) → n ≤ 48 → p < n + 2 → q < n + 2 → offset1 n p ≡ offset1 n q → p ≡ q
-apart1 n p q few hp hq e = grind (arith, offset_early n p, offset_commit n p, offset_early n q, offset_commit n q)
+apart1 n p q few hp hq e = grind (arith, parts)
 
 module _ {blocks s : ℕ} {entries : List Entry} (r : IsRecordOf format1 blocks s entries) where
   pub descriptor_of : IsDescriptor s (numbers_of entries) (descriptor1 s (numbers_of entries))

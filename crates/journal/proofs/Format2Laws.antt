@@ -42,20 +42,13 @@ unfolding part2
 part_commit s entries p behind =
     rw (above_is p ((length entries + 29) / 30) (omega arith), above_is p ((length entries + 29) / 30 + length entries) behind)
 
+pub ruleset parts = (offset_descriptor, offset_place, offset_commit, part_descriptor, part_place, part_commit)
+
 pub inside2 : (n p : ℕ) → n ≤ 240 → p < (n + 29) / 30 + n + 1 → offset2 n p < 249
-inside2 n p few below = grind (arith, offset_descriptor n p, offset_place n p, offset_commit n p)
+inside2 n p few below = grind (arith, parts)
 
 pub apart2 : (n p q : ℕ) → n ≤ 240 → p < (n + 29) / 30 + n + 1 → q < (n + 29) / 30 + n + 1 → offset2 n p ≡ offset2 n q → p ≡ q
-apart2 n p q few hp hq e =
-    grind (
-      arith,
-      offset_descriptor n p,
-      offset_place n p,
-      offset_commit n p,
-      offset_descriptor n q,
-      offset_place n q,
-      offset_commit n q,
-    )
+apart2 n p q few hp hq e = grind (arith, parts)
 
 pub carries2 : (blocks s : ℕ) (entries : List Entry) (p : ℕ) → IsRecordOf format2 blocks s entries
     → Carries2 (offset2 (length entries) p) s (part2 s entries p)

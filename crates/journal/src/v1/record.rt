@@ -24,7 +24,7 @@ pub(crate) fn early(count: usize) -> usize
 }
 
 /// Part p of a record: its descriptor, then its data places, then its commit.
-#[tactic(auto, using(crate::proofs::BatchEntries::parts_one))]
+#[tactic(auto, using(crate::proofs::Format1Laws::parts, crate::proofs::BatchEntries::batch))]
 pub(crate) fn part(stamp: u64, numbers: &[u64], bytes: &[u8], p: usize) -> Part
     requires { CanWrite format1.parts 48 stamp numbers.now bytes.now p }
     ensures offset { result.offset ≡ format1.offset (length numbers.now) p }
