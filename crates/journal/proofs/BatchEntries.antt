@@ -17,9 +17,8 @@ numbers_from k (b ∷ numbers) bytes = ap (λ (l : List ℕ). b ∷ l) (numbers_
 entry_from : (k i : ℕ) (numbers bytes : List ℕ) (d : Entry) → i < length numbers
     → get_or (entries_from k numbers bytes) i d ≡ (get_or numbers i 0, slice_range bytes (512 * (k + i)) (512 * (k + i) + 512))
 entry_from k i [] bytes d below = absurd (omega arith)
-entry_from k zero (b ∷ numbers) bytes d below = let e : k + 0 ≡ k = omega arith in rw e
-entry_from k (suc i) (b ∷ numbers) bytes d below =
-    let e : k + suc i ≡ k + 1 + i = omega arith in rw e (entry_from (k + 1) i numbers bytes d (omega arith))
+entry_from k zero (b ∷ numbers) bytes d below = grind arith
+entry_from k (suc i) (b ∷ numbers) bytes d below = grind (arith, entry_from (k + 1) i numbers bytes d)
 
 pub numbers_of_batch : (numbers bytes : List ℕ) → numbers_of (entries_of numbers bytes) ≡ numbers
 numbers_of_batch numbers bytes = numbers_from 0 numbers bytes

@@ -7,7 +7,7 @@ use Rattle.std.proofs.lemmas.List.{take_all, take_min, length-take, length-take-
 use Rattle.std.proofs.lemmas.List.{drop-drop, drop-take, get_or-take, get_or-drop, ext_get_or}
 use Rattle.std.proofs.lemmas.List.Elements.{All-take, All-drop, All-from_get_or}
 use Rattle.std.proofs.lemmas.Slice.Zip.{length-zip, get_or-zip}
-use Rattle.std.proofs.lemmas.Grind.{flat_map-append}
+use Rattle.std.proofs.lemmas.Grind.{common_steps, flat_map-append}
 use Rattle.byteorder.specs.Endian.{little_bytes}
 use Rattle.byteorder.specs.Numbers.{little_number-reads_back, little_from-take}
 use Rattle.journal.specs.Entry.{Entry}
@@ -35,7 +35,7 @@ place_rest s block = refl
 -- an entry takes 16 bytes
 length_entry : (e : Entry) → 8 ≤ length e.1 → length (entry_bytes e) ≡ 16
 unfolding entry_bytes
-length_entry e size = omega (arith, length-append (little_bytes 8 e.0) (take 8 e.1), length-take-le 8 e.1 (omega arith))
+length_entry e size = grind (arith, common_steps)
 
 module _ (numbers : List ℕ) (firsts : List (List ℕ)) (each : length firsts ≡ length numbers) where
   -- entry e
@@ -86,23 +86,17 @@ module _ (numbers : List ℕ) (firsts : List (List ℕ)) (each : length firsts �
 
 -- a part of what rises rises
 pub rising_part : (numbers : List ℕ) (from count : ℕ) → IsRising numbers → IsRising (take count (drop from numbers))
-rising_part numbers from count rising i j less below =
-    let inside : from + j < length numbers = omega (arith, length-take count (drop from numbers), length-drop from numbers) in
-    let few : j < count = omega (arith, length-take count (drop from numbers)) in
-    let a = get_or-take count (drop from numbers) i 0 (omega arith) ∙ get_or-drop from numbers i 0 in
-    let b = get_or-take count (drop from numbers) j 0 few ∙ get_or-drop from numbers j 0 in
-    omega (arith, a, b, rising (from + i) (from + j) (omega arith) inside)
+rising_part numbers from count rising i j less below = grind (arith, common_steps, rising (from + i) (from + j))
 
 -- the numbers of a descriptor are 30, or all that are left
 pub items_here : (items numbers : List ℕ) (from here : ℕ) → here ≡ min 30 (length numbers - from)
     → items ≡ take (from + here - from) (drop from numbers) → items ≡ take 30 (drop from numbers)
 items_here items numbers from here is are =
-    let count : from + here - from ≡ min 30 (length (drop from numbers)) = omega (arith, length-drop from numbers) in
-    are ∙ ap (λ (k : ℕ). take k (drop from numbers)) count ∙ take_min 30 (drop from numbers)
+    rw (are, ← (take_min 30 (drop from numbers))) (ap (λ (k : ℕ). take k (drop from numbers)) (grind (arith, common_steps)))
 
 -- a part of bytes is as long as it says
 pub length_range : (bytes : List ℕ) (a b : ℕ) → a ≤ b → b ≤ length bytes → length (slice_range bytes a b) ≡ b - a
-length_range bytes a b le inside = omega (arith, length-take (b - a) (drop a bytes), length-drop a bytes)
+length_range bytes a b le inside = grind (arith, common_steps)
 
 -- first bytes that were cut from bytes are 8 each
 pub sized_from : (firsts : List (List ℕ)) (count : ℕ) (bytes : List ℕ) (at : ℕ → ℕ) → length firsts ≡ count

@@ -70,29 +70,15 @@ module _ {blocks s : ℕ} {entries : List Entry} (r : IsRecordOf format1 blocks 
 
   -- the descriptor and the commit carry the record's stamp
   ends_carry : (p : ℕ) → (1 ≤ p → length entries + 1 ≤ p) → Carries1 (offset1 (length entries) p) s (part1 s entries p)
-  ends_carry p ends =
-      let o = offset_commit (length entries) p in
-      record {
-        descriptor = λ low.
-            (numbers_of entries, rw (part_descriptor s entries p (grind (arith, o, ends))) descriptor_of);
-        place = λ high. grind (arith, o, ends, offset_early (length entries) p);
-        commit = λ high.
-            (length entries, rw (part_commit s entries p (grind (arith, ends, offset_early (length entries) p, r.fit.few))) commit_of);
-      }
+  ends_carry p ends = grind (arith, parts, descriptor_of, commit_of)
 
   pub carries1 : (p : ℕ) → p < length entries + 2
       → (p < length entries + 1) ⊎ Carries1 (offset1 (length entries) p) s (part1 s entries p)
-  carries1 p below = elim (cases_lt p (length entries + 1)) [
-    | inl early ↦ inl early
-    | inr late ↦ inr (ends_carry p (λ some. late))
-  ]
+  carries1 p below = search (rules, arith, cases_lt p (length entries + 1), ends_carry p)
 
 -- a stamp that a sector carries is its second number
 pub carried1 : (o s : ℕ) (bytes : List ℕ) → Carries1 o s bytes → number_in bytes 1 ≡ s
-carried1 o s bytes c = elim (cases_lt o 1) [
-  | inl d ↦ (descriptor_says (c.descriptor d).1).0
-  | inr b ↦ (commit_says (c.commit (c.place b)).1).0
-]
+carried1 o s bytes c = grind (arith, descriptor_says, commit_says, c.descriptor, c.place, c.commit, cases_lt o 1)
 
 pub one_stamp1 : (blocks s t : ℕ) (entries : List Entry) (p : ℕ) → IsRecordOf format1 blocks s entries
     → Carries1 (offset1 (length entries) p) t (part1 s entries p) → t ≡ s

@@ -77,15 +77,7 @@ stamp_place o = if nat_lt o 8 then 1 else (if nat_lt o 248 then 0 else 1)
 
 carried2 : (o s : ℕ) (bytes : List ℕ) → Carries2 o s bytes → number_in bytes (stamp_place o) ≡ s
 unfolding stamp_place
-carried2 o s bytes c = elim (cases_lt o 8) [
-  | inl d ↦ let f = c.descriptor d in rw (below_is o 8 d) (header_says f.3).0
-  | inr b ↦ elim (cases_lt o 248) [
-    | inl p ↦
-        let f = c.place b p in rw (above_is o 8 b, below_is o 248 p, f.1) (place_says s f.0 (omega (arith, c.most)))
-    | inr k ↦
-        let f = c.commit k in rw (above_is o 8 b, above_is o 248 k) (commit_stamp s f.0 bytes f.1)
-  ]
-]
+carried2 o s bytes c = grind (arith, nat_tests, header_says, place_says, commit_stamp, c.descriptor, c.place, c.commit)
 
 pub one_stamp2 : (blocks s t : ℕ) (entries : List Entry) (p : ℕ) → IsRecordOf format2 blocks s entries
     → Carries2 (offset2 (length entries) p) t (part2 s entries p) → t ≡ s

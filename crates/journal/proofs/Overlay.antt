@@ -1,6 +1,6 @@
 -- Arrays with records laid over them.
 use Rattle.std.proofs.Common.{◌≡◌, ◌≢◌, inl, inr, ℕ, zero, suc, ◌<◌, List, [], ◌∷◌, ◌++◌, length, get_or, refl, sym, ◌∙◌, ap, subst}
-use Rattle.std.proofs.Common.{arith}
+use Rattle.std.proofs.Common.{arith, rules}
 use Rattle.std.specs.Prelude.{if◌then◌else◌, ◌==◌, true, false}
 use Rattle.std.proofs.lemmas.Bool.{cases_eq}
 use Rattle.std.proofs.lemmas.Bool.Decides.{nat_tests}
@@ -31,10 +31,8 @@ with_records-append (x ∷ records) entries a b = with_records-append records en
 pub with_blocks-hides : (entries : List Entry) (i : ℕ) (a c : Array) → i < length entries
     → with_blocks entries a (get_or entries i (0, [])).0 ≡ with_blocks entries c (get_or entries i (0, [])).0
 with_blocks-hides [] i a c below = absurd (omega arith)
-with_blocks-hides (e ∷ entries) zero a c below = let yes : (e.0 == e.0) ≡ true = grind (arith, nat_tests) in rw yes
-with_blocks-hides (e ∷ entries) (suc i) a c below =
-    let b = (get_or entries i (0, [])).0 in
-    ap (λ (v : List ℕ). if e.0 == b then e.1 else v) (with_blocks-hides entries i a c (omega arith))
+with_blocks-hides (e ∷ entries) zero a c below = grind (arith, nat_tests)
+with_blocks-hides (e ∷ entries) (suc i) a c below = grind (arith, nat_tests, with_blocks-hides entries i a c)
 
 -- a block that a record names is hidden
 pub records-hide : (records : List (List Entry)) (j i : ℕ) → j < length records
@@ -48,13 +46,10 @@ records-hide (r ∷ records) (suc j) i below inside a c = records-hide records j
 pub with_blocks-home : (entries : List Entry) (a : Array) (b : ℕ) → ((i : ℕ) → i < length entries
     → a (get_or entries i (0, [])).0 ≡ (get_or entries i (0, [])).1) → with_blocks entries a b ≡ a b
 with_blocks-home [] a b home = refl
-with_blocks-home (e ∷ entries) a b home = elim (cases_eq e.0 b) [
-  | inl is ↦
-      let yes : (e.0 == b) ≡ true = grind (arith, nat_tests) in rw yes (sym (home 0 (omega arith)) ∙ ap a is)
-  | inr not ↦
-      let no : (e.0 == b) ≡ false = grind (arith, nat_tests, not) in
-      rw no (with_blocks-home entries a b (λ i below. home (suc i) (omega arith)))
-]
+with_blocks-home (e ∷ entries) a b home =
+    let more = with_blocks-home entries a b (λ i below. home (suc i) (omega arith)) in
+    let one = home 0 (omega arith) in
+    grind (arith, nat_tests, cases_eq e.0 b)
 
 -- once the blocks of a record are copied, and no others changed, home is as if they were laid over it
 pub with_blocks-copied : (entries : List Entry) (old new : Array) → ((i : ℕ) → i < length entries
@@ -66,7 +61,7 @@ with_blocks-copied entries old new copied others b =
     (λ i. (get_or entries i (0, [])).0 ≢ b)
     (λ i. (get_or entries i (0, [])).0 ≡ b)
     (length entries)
-    (λ i below. elim (cases_eq (get_or entries i (0, [])).0 b) [ inl is ↦ inr is | inr not ↦ inl not ])) [
+    (λ i below. search (rules, cases_eq (get_or entries i (0, [])).0 b))) [
       | inl none ↦ with_blocks-same entries new old b (others b none)
       | inr one ↦
           subst (λ x. with_blocks entries new x ≡ with_blocks entries old x) one.3 (with_blocks-hides entries one.0 new old one.1)

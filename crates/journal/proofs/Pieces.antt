@@ -3,6 +3,7 @@ use Rattle.std.proofs.Common.{◌≡◌, ℕ, zero, suc, ◌+◌, ◌*◌, ◌<�
 use Rattle.std.proofs.Common.{length-append}
 use Rattle.std.specs.Prelude.{All}
 use Rattle.std.specs.List.{flat_map}
+use Rattle.std.proofs.lemmas.Grind.{common_steps}
 use Rattle.std.proofs.lemmas.List.{take_at, drop_at, drop-drop, append_assoc}
 
 module _ {X : Type 0} (f : X → List ℕ) (k : ℕ) where
@@ -10,9 +11,7 @@ module _ {X : Type 0} (f : X → List ℕ) (k : ℕ) where
   pub length_pieces : (xs : List X) → All (λ x. length (f x) ≡ k) xs → length (flat_map f xs) ≡ k * length xs
   length_pieces [] long = omega arith
   length_pieces (x ∷ xs) long =
-      let step : k * suc (length xs) ≡ k + k * length xs = omega arith in
-      let more = length_pieces xs (λ i d below. long (suc i) d (omega arith)) in
-      omega (arith, step, more, length-append (f x) (flat_map f xs), long 0 x (omega arith))
+      grind (arith, common_steps, length_pieces xs (λ i d below. long (suc i) d (omega arith)), long 0 x (omega arith))
 
   -- the i-th one
   pub piece_at : (xs : List X) (i : ℕ) (d : X) (rest : List ℕ) → i < length xs → All (λ x. length (f x) ≡ k) xs
@@ -23,10 +22,9 @@ module _ {X : Type 0} (f : X → List ℕ) (k : ℕ) where
       rw (none, append_assoc (f x) (flat_map f xs) rest) (take_at (f x) (flat_map f xs ++ rest) k (long 0 x (omega arith)))
   piece_at (x ∷ xs) (suc i) d rest below long =
       let step : k * suc i ≡ k + k * i = omega arith in
-      let all = flat_map f (x ∷ xs) ++ rest in
-      let behind = ap (λ (l : List ℕ). drop k l) (append_assoc (f x) (flat_map f xs) rest)
-      ∙ drop_at (f x) (flat_map f xs ++ rest) k (long 0 x (omega arith)) in
-      ap (λ (n : ℕ). take k (drop n all)) step
-      ∙ ap (λ (l : List ℕ). take k l) (sym (drop-drop (k * i) k all))
-      ∙ ap (λ (l : List ℕ). take k (drop (k * i) l)) behind
-      ∙ piece_at xs i d rest (omega arith) (λ j e inside. long (suc j) e (omega arith))
+      rw (
+        step,
+        append_assoc (f x) (flat_map f xs) rest,
+        ← (drop-drop (k * i) k (f x ++ (flat_map f xs ++ rest))),
+        drop_at (f x) (flat_map f xs ++ rest) k (long 0 x (omega arith)),
+      ) (piece_at xs i d rest (omega arith) (λ j e inside. long (suc j) e (omega arith)))

@@ -13,7 +13,7 @@ use Rattle.journal.proofs.OneSpelling.{spelling_get, spelling-rest}
 
 -- a number behind three others
 behind_three : (a b c i : ℕ) (ns : List ℕ) → get_or (a ∷ b ∷ c ∷ ns) (3 + i) 0 ≡ get_or ns i 0
-behind_three a b c i ns = let e : 3 + i ≡ suc (suc (suc i)) = omega arith in ap (λ (k : ℕ). get_or (a ∷ b ∷ c ∷ ns) k 0) e
+behind_three a b c i ns = grind arith
 
 module _ {stamp : ℕ} {numbers bytes : List ℕ} (d : IsDescriptor stamp numbers bytes) where
   -- the stamp of a descriptor, and how many block numbers it has

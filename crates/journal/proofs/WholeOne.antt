@@ -2,7 +2,8 @@
 use Rattle.std.proofs.Common.{◌≡◌, ℕ, zero, suc, ◌+◌, ◌-◌, ◌*◌, ◌%◌, ◌^◌, ◌<◌, List, [], ◌∷◌, length, get_or, refl, sym, ◌∙◌}
 use Rattle.std.proofs.Common.{ap, subst, arith}
 use Rattle.std.specs.Prelude.{All}
-use Rattle.std.proofs.lemmas.List.{length-map}
+use Rattle.std.proofs.lemmas.List.{length-map, ext_get_or}
+use Rattle.std.proofs.Math.ListN.{get_or-map}
 use Rattle.std.proofs.lemmas.List.Elements.{All-from_get_or}
 use Rattle.std.proofs.lemmas.List.FromFn.{fill_by_all}
 use Rattle.medium.specs.Medium.{Image}
@@ -17,18 +18,6 @@ use Rattle.journal.proofs.Format1Laws.{offset_early, offset_commit, part_descrip
 use Rattle.journal.proofs.Format1Laws.{Kind, Described, Placed, Committed, kind_of}
 use Rattle.journal.proofs.Wholeness.{record_of}
 
--- entries are the same by their block numbers and their bytes
-pub entries_same : (es fs : List Entry) → numbers_of es ≡ numbers_of fs → ((i : ℕ) → i < length es
-    → (get_or es i (0, [])).1 ≡ (get_or fs i (0, [])).1) → es ≡ fs
-entries_same [] [] same each = refl
-entries_same [] (f ∷ fs) same each = absurd (cc same)
-entries_same (e ∷ es) [] same each = absurd (cc same)
-entries_same (e ∷ es) (f ∷ fs) same each =
-    let number : e.0 ≡ f.0 = cc same in
-    let bytes : e.1 ≡ f.1 = each 0 (omega arith) in
-    let rest : es ≡ fs = entries_same es fs (cc same) (λ i below. each (suc i) (omega arith)) in
-    λ i. (number i, bytes i) ∷ rest i
-
 -- the block numbers of entries that were read under them
 pub numbers_of-entries_in : (image : Image) (place : ℕ) (numbers : List ℕ)
     → numbers_of (entries_in image place numbers) ≡ numbers
@@ -41,14 +30,12 @@ pub length-entries_in : (image : Image) (place : ℕ) (numbers : List ℕ)
 length-entries_in image place numbers = sym (length-map (entries_in image place numbers) (λ (e : Entry). e.0))
     ∙ ap (λ (l : List ℕ). length l) (numbers_of-entries_in image place numbers)
 
--- their bytes
-pub bytes_of-entries_in : (image : Image) (place i : ℕ) (numbers : List ℕ) → i < length numbers
-    → (get_or (entries_in image place numbers) i (0, [])).1 ≡ image (place + i)
-bytes_of-entries_in image place i [] below = absurd (omega arith)
-bytes_of-entries_in image place zero (b ∷ numbers) below = let e : place ≡ place + 0 = omega arith in ap image e
-bytes_of-entries_in image place (suc i) (b ∷ numbers) below =
-    let e : place + 1 + i ≡ place + suc i = omega arith in
-    bytes_of-entries_in image (place + 1) i numbers (omega arith) ∙ ap image e
+-- the i-th of them
+entry_of-entries_in : (image : Image) (place i : ℕ) (numbers : List ℕ) → i < length numbers
+    → get_or (entries_in image place numbers) i (0, []) ≡ (get_or numbers i 0, image (place + i))
+entry_of-entries_in image place i [] below = absurd (omega arith)
+entry_of-entries_in image place zero (b ∷ numbers) below = grind arith
+entry_of-entries_in image place (suc i) (b ∷ numbers) below = grind (arith, entry_of-entries_in image (place + 1) i numbers)
 
 -- the numbers that a descriptor spells are those of its record
 pub numbers_read : (stamp : ℕ) (numbers bytes : List ℕ) → IsDescriptor stamp numbers bytes → numbers ≡ numbers_in bytes
@@ -83,11 +70,14 @@ module _ (shape : Shape) (image : Image) (s : ℕ) (es : List Entry) (w : IsWhol
   pub record_read : es ≡ record_in image (2 + 50 * (s % shape.slots))
   record_read =
       let at : ℕ = 2 + 50 * (s % shape.slots) in
-      let numbers : numbers_of es ≡ numbers_in (image at) = numbers_read s (numbers_of es) (image at) descriptor_there in
-      let f : Entry → ℕ = λ e. e.0 in
-      entries_same es (record_in image at) (numbers ∙ sym (numbers_of-entries_in image (at + 1) (numbers_in (image at))))
-      (λ i below. sym (place_there i below) ∙ sym (bytes_of-entries_in image (at + 1) i (numbers_in (image at))
-      (omega (arith, below, length-map es f, ap length numbers))))
+      let numbers : numbers_in (image at) ≡ numbers_of es = sym (numbers_read s (numbers_of es) (image at) descriptor_there) in
+      let many = length-map es (λ (e : Entry). e.0) in
+      rw numbers (ext_get_or (0, []) es (entries_in image (at + 1) (numbers_of es))
+      (omega (arith, many, length-entries_in image (at + 1) (numbers_of es))) (λ i below. rw (
+        entry_of-entries_in image (at + 1) i (numbers_of es) (omega (arith, below, many)),
+        get_or-map (λ (e : Entry). e.0) es i (0, []),
+        place_there i below,
+      )))
 
 -- a record is whole where its descriptor and its commit are there
 module _ (shape : Shape) (image : Image) (stamp : ℕ) (numbers : List ℕ)
@@ -115,7 +105,7 @@ module _ (shape : Shape) (image : Image) (stamp : ℕ) (numbers : List ℕ)
     inside = subst (λ (l : List ℕ). All (λ b. b < shape.blocks) l) (sym names) below_all;
     small = subst (λ (l : List ℕ). All (λ b. b < 2 ^ 31) l) (sym names) described.block_numbers.fit;
     sized = All-from_get_or (λ e. length e.1 ≡ 512) es (0, []) (λ i below.
-        rw (bytes_of-entries_in image (at + 1) i numbers (omega (arith, many))) (sized i (omega (arith, many))));
+        rw (entry_of-entries_in image (at + 1) i numbers (omega (arith, many))) (sized i (omega (arith, many))));
   }
 
   there : (p : ℕ) → Kind 1 (length es) p → image (at + offset1 (length es) p) ≡ part1 stamp es p
@@ -124,7 +114,7 @@ module _ (shape : Shape) (image : Image) (stamp : ℕ) (numbers : List ℕ)
       cc (first, described.spelled, names, part_descriptor stamp es p d)
   there p (Placed b d) =
       let next : at + offset1 (length es) p ≡ at + 1 + (p - 1) = omega (arith, offset_early (length es) p (omega arith)) in
-      cc (next, bytes_of-entries_in image (at + 1) (p - 1) numbers (omega (arith, many)), part_place stamp es p b (omega arith))
+      cc (next, entry_of-entries_in image (at + 1) (p - 1) numbers (omega (arith, many)), part_place stamp es p b (omega arith))
   there p (Committed c) =
       cc (offset_commit (length es) p (omega arith), committed.spelled, many, part_commit stamp es p (omega arith))
 
