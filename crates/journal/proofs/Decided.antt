@@ -96,8 +96,7 @@ whole_or_not L laws shape image stamp =
 -- each image has a count of whole records from each stamp on
 pub count_of : (shape : Shape) (image : Image) (head : ℕ) → (count : ℕ) × IsCount shape image head count
 count_of shape image head =
-    elim (all_or_first (λ j. HasWhole shape image (head + j)) (λ j. ¬ HasWhole shape image (head + j)) shape.slots
-    (λ j below. whole_or_not (layout_of shape.format) (laws_of shape.format) shape image (head + j))) [
-      | inl all ↦ (shape.slots, record { few = omega arith; whole = all; ends = λ less. absurd (omega arith) })
-      | inr end ↦ (end.0, record { few = omega (arith, end.1); whole = end.2; ends = λ less. end.3 })
-    ]
+    let whole : ℕ → Type 0 = λ j. HasWhole shape image (head + j) in
+    let first = all_or_first whole (λ j. ¬ whole j) shape.slots
+    (λ j below. whole_or_not (layout_of shape.format) (laws_of shape.format) shape image (head + j)) in
+    grind (arith, first)

@@ -30,11 +30,8 @@ module _ (L : Layout) (laws : Laws L) (shape : Shape) where
   -- each part of a whole record that is not flushed early carries its stamp
   pub late_carries : (image : Image) (stamp : ℕ) (es : List Entry) (p : ℕ) → IsWholeIn L shape image stamp es → p < L.parts (length es)
       → L.early (length es) ≤ p → ¬ IsFree L stamp (L.offset (length es) p) (image (part_at L shape stamp (length es) p))
-  late_carries image stamp es p w below late free = elim (laws.carries shape.blocks stamp es p (record_of w) below) [
-    | inl early ↦ omega arith
-    | inr c ↦
-        let less = free stamp (rw (w.there p below) c) in omega arith
-  ]
+  late_carries image stamp es p w below late free =
+      grind (arith, laws.carries shape.blocks stamp es p (record_of w), w.there p below, free)
 
   -- where the last sector of the slot does not carry a stamp, that stamp's record is not whole
   pub last_free_none : (image : Image) (stamp : ℕ)
@@ -119,15 +116,9 @@ module _ (L : Layout) (laws : Laws L) (v : View) (slots : HasSlots L v) where
     keeps = keeps_stays before image (L.offset (length v.under_way) k) (bytes_of L v k) (inside k below) write g.keeps;
     parts = record {
       carries = carries_stays v.under_way slots.under_way before image k below write g.parts.carries;
-      flushed = λ p less small. elim (cases_eq p k) [
-        | inl is ↦ rw is write.here
-        | inr not ↦ part_stays write below small not ∙ g.parts.flushed p less small
-      ];
-      either = λ p less small. elim (cases_eq p k) [
-        | inl is ↦ inl (rw is write.here)
-        | inr not ↦ rw (part_stays write below small not) (g.parts.either p (omega arith) small)
-      ];
-      free = λ p more small. rw (part_stays write below small (λ e. omega arith)) (g.parts.free p (omega arith) small);
+      flushed = λ p less small. grind (arith, cases_eq p k, write.here, part_stays {p = p} write below small, g.parts.flushed p);
+      either = λ p less small. grind (arith, cases_eq p k, write.here, part_stays {p = p} write below small, g.parts.either p);
+      free = λ p more small. grind (arith, part_stays {p = p} write below small, g.parts.free p);
     };
   }
 

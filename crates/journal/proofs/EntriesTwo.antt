@@ -1,6 +1,6 @@
 -- The numbers and the entries in the sectors of format 2.
 use Rattle.std.proofs.Common.{◌≡◌, ℕ, ◌+◌, ◌*◌, ◌-◌, ◌^◌, ◌<◌, ◌≤◌, List, [], ◌∷◌, ◌++◌, length, get_or, take, drop, refl}
-use Rattle.std.proofs.Common.{sym, ◌∙◌, ap, subst, arith, length-append}
+use Rattle.std.proofs.Common.{sym, ◌∙◌, ap, subst, arith, rules, length-append}
 use Rattle.std.specs.Prelude.{All, min, zip, slice_range}
 use Rattle.std.specs.List.{flat_map}
 use Rattle.std.proofs.lemmas.List.{take_all, take_min, length-take, length-take-le, length-drop, append_assoc, append-nil, take_more}
@@ -25,7 +25,7 @@ place_says s block small = little_number-reads_back 8 s [] small
 -- the count in a commit
 pub commit_counts : (s n : ℕ) → n < 2 ^ 64 → number_in (commit_bytes s n) 2 ≡ n
 unfolding number_in commit_bytes padded
-commit_counts s n small = little_number-reads_back 8 n [] small
+commit_counts s n small = search rules
 
 -- the bytes of a block behind its first 8
 pub place_rest : (s : ℕ) (block : List ℕ) → drop 8 (place_bytes s block) ≡ drop 8 block
@@ -56,14 +56,9 @@ module _ (numbers : List ℕ) (firsts : List (List ℕ)) (each : length firsts �
     pub length_so_far : (before : List ℕ) (e : ℕ) → length before ≡ 32 → e ≤ length numbers
         → length (before ++ flat_map entry_bytes (take e (zip numbers firsts))) ≡ 32 + 16 * e
     length_so_far before e count inside =
-        omega (
-          arith,
-          length-append before (flat_map entry_bytes (take e (zip numbers firsts))),
-          length_pieces entry_bytes 16 (take e (zip numbers firsts))
-              (All-take (λ (x : Entry). length (entry_bytes x) ≡ 16) e (zip numbers firsts) zipped_long),
-          length-take e (zip numbers firsts),
-          length_zipped,
-        )
+        let all = All-take (λ (x : Entry). length (entry_bytes x) ≡ 16) e (zip numbers firsts) zipped_long in
+        let long = length_pieces entry_bytes 16 (take e (zip numbers firsts)) all in
+        grind (arith, common_steps, length_zipped)
 
     -- one entry more
     pub entries_more : (before : List ℕ) (e : ℕ) → e < length numbers
@@ -104,8 +99,7 @@ pub sized_from : (firsts : List (List ℕ)) (count : ℕ) (bytes : List ℕ) (at
     → ((i : ℕ) → i < count → get_or firsts i [] ≡ slice_range bytes (at i) (at i + 8))
     → All (λ (first : List ℕ). length first ≡ 8) firsts
 sized_from firsts count bytes at size inside each = All-from_get_or (λ (first : List ℕ). length first ≡ 8) firsts [] (λ i below.
-    let small : i < count = omega arith in
-    ap (λ (l : List ℕ). length l) (each i small) ∙ (length_range bytes (at i) (at i + 8) (omega arith) (inside i small) ∙ (omega arith)))
+    grind (arith, each i, inside i, length_range bytes (at i) (at i + 8)))
 
 -- what a descriptor may hold, cut from the block numbers of a record
 pub entries_cut : (numbers items : List ℕ) (firsts : List (List ℕ)) (j : ℕ) → length numbers ≤ 240 → 30 * j < length numbers
@@ -113,15 +107,10 @@ pub entries_cut : (numbers items : List ℕ) (firsts : List (List ℕ)) (j : ℕ
     → All (λ (first : List ℕ). length first ≡ 8) firsts → AreEntriesTwo (length numbers) j items firsts
 entries_cut numbers items firsts j few used rising small are each sized =
     let fits : ℕ → Type 0 = λ b. b < 2147483648 in
-    record {
-      few = few;
-      used = used;
-      many = omega (arith, ap (λ (l : List ℕ). length l) are, length-take 30 (drop (30 * j) numbers), length-drop (30 * j) numbers);
-      each = each;
-      rising = subst IsRising (sym are) (rising_part numbers (30 * j) 30 rising);
-      small = subst (All fits) (sym are) (All-take fits 30 (drop (30 * j) numbers) (All-drop fits (30 * j) numbers small));
-      sized = sized;
-    }
+    let rises : IsRising items = rw are (rising_part numbers (30 * j) 30 rising) in
+    let smalls : All fits items = rw are (All-take fits 30 (drop (30 * j) numbers) (All-drop fits (30 * j) numbers small)) in
+    let many : length items ≡ entries_here (length numbers) j = rw are (simp (length-take, length-drop)) in
+    search rules
 
 -- the numbers of a commit
 module _ (stamp count : ℕ) (bytes : List ℕ) (c : IsCommitTwo stamp count bytes) where
@@ -174,15 +163,13 @@ module _ {stamp count j : ℕ} {numbers : List ℕ} {firsts : List (List ℕ)} {
   pub numbers_are : (here : ℕ) (list : List ℕ) → here ≡ entries_here count j → length list ≡ here
       → ((i : ℕ) → i < here → get_or list i 0 ≡ number_in bytes (4 + 2 * i)) → list ≡ numbers
   numbers_are here list is size read =
-      let same : length list ≡ length numbers = size ∙ (is ∙ sym d.entries.many) in
-      ext_get_or 0 list numbers same (λ i below. read i (omega (arith, size)) ∙ number_is i (omega (arith, same)))
+      ext_get_or 0 list numbers (omega (arith, d.entries.many)) (λ i below. grind (arith, read i, number_is i, d.entries.many))
 
   -- and so are first bytes
   pub firsts_are : (here : ℕ) (list : List (List ℕ)) → here ≡ entries_here count j → length list ≡ here
       → ((i : ℕ) → i < here → get_or list i [] ≡ slice_range bytes (40 + 16 * i) (40 + 16 * i + 8)) → list ≡ firsts
-  firsts_are here list is size read =
-      let same : length list ≡ length numbers = size ∙ (is ∙ sym d.entries.many) in
-      ext_get_or [] list firsts (same ∙ sym d.entries.each) (λ i below. read i (omega (arith, size)) ∙ first_is i (omega (arith, same)))
+  firsts_are here list is size read = ext_get_or [] list firsts (omega (arith, d.entries.many, d.entries.each))
+      (λ i below. grind (arith, read i, first_is i, d.entries.many))
 
 -- a sector is a descriptor of one value
 pub IsDescriptorTwo-one : (bytes : List ℕ) (a b m n i j : ℕ) (ns ms : List ℕ) (fs gs : List (List ℕ))
@@ -191,12 +178,9 @@ pub IsDescriptorTwo-one : (bytes : List ℕ) (a b m n i j : ℕ) (ns ms : List �
 IsDescriptorTwo-one bytes a b m n i j ns ms fs gs d e =
     let x = header_says d in
     let y = header_says e in
-    let here : length ns ≡ entries_here n j = cc (d.entries.many, x.1, y.1, x.2, y.2) in (
-      sym x.0 ∙ y.0,
-      sym x.1 ∙ y.1,
-      sym x.2 ∙ y.2,
-      numbers_are e (length ns) ns here refl (λ x below. sym (number_is d x below)),
-      firsts_are e (length ns) fs here d.entries.each (λ x below. sym (first_is d x below)),
-    )
+    let here : length ns ≡ entries_here n j = cc (d.entries.many, x.1, y.1, x.2, y.2) in
+    let numbers = numbers_are e (length ns) ns here refl (λ x below. sym (number_is d x below)) in
+    let firsts = firsts_are e (length ns) fs here d.entries.each (λ x below. sym (first_is d x below)) in
+    grind (arith, x, y)
 
 pub ruleset commits = (commit_stamp, commit_count)

@@ -85,9 +85,7 @@ one_stamp2 blocks s t entries p r c = sym (carried2 _ t _ c) ∙ carried2 _ s _ 
 
 zero_at : (k : ℕ) → k < 2 → number_in (replicate 512 0) k ≡ 0
 unfolding number_in
-zero_at zero small = refl
-zero_at (suc zero) small = refl
-zero_at (suc (suc k)) small = absurd (omega arith)
+zero_at k small = grind arith
 
 -- zeros carry no stamp but 0
 pub zeros2 : (o s : ℕ) → Carries2 o s (replicate 512 0) → s ≡ 0

@@ -9,10 +9,8 @@ use Rattle.journal.specs.Format2.{format2}
 use Rattle.journal.specs.Formats.{layout_of}
 use Rattle.journal.proofs.SectorNumbers.{commit_says}
 use Rattle.journal.proofs.EntriesTwo.{commit_counts}
-use Rattle.journal.proofs.Format1Laws.{inside1, apart1, carries1, one_stamp1, zeros1, commit_of}
-use Rattle.journal.proofs.Format1Laws.{part_commit as part_commit1, offset_commit as offset_commit1}
-use Rattle.journal.proofs.Format2Laws.{inside2, apart2, carries2, one_stamp2, zeros2}
-use Rattle.journal.proofs.Format2Laws.{part_commit as part_commit2, offset_commit as offset_commit2}
+use Rattle.journal.proofs.Format1Laws.{parts as parts1, inside1, apart1, carries1, one_stamp1, zeros1, commit_of}
+use Rattle.journal.proofs.Format2Laws.{parts as parts2, inside2, apart2, carries2, one_stamp2, zeros2}
 use Rattle.journal.proofs.WholeOne.{record_read as read1}
 use Rattle.journal.proofs.WholeTwo.{record_read as read2}
 
@@ -21,19 +19,12 @@ format1_laws = record {
   some_parts = λ n. omega arith;
   inside = inside1;
   apart = apart1;
-  last = λ n. offset_commit1 n (n + 2 - 1) (omega arith);
+  last = λ n. grind (arith, parts1);
   carries = λ blocks s entries p r below. carries1 r p below;
   last_is_late = λ n. omega arith;
   one_stamp = λ blocks s t entries p r below c. one_stamp1 blocks s t entries p r c;
-  last_part = λ s a b same.
-      cc (part_commit1 s a (length a + 2 - 1) (omega arith), part_commit1 s b (length b + 2 - 1) (omega arith), same);
-  count = λ blocks s a b ra rb e. cc (
-    (commit_says (commit_of ra)).1,
-    (commit_says (commit_of rb)).1,
-    part_commit1 s a (length a + 2 - 1) (omega arith),
-    part_commit1 s b (length b + 2 - 1) (omega arith),
-    e,
-  );
+  last_part = λ s a b same. grind (arith, parts1);
+  count = λ blocks s a b ra rb e. grind (arith, parts1, commit_says (commit_of ra), commit_says (commit_of rb));
   read = read1;
   zeros = zeros1;
 }
@@ -43,22 +34,13 @@ format2_laws = record {
   some_parts = λ n. omega arith;
   inside = inside2;
   apart = apart2;
-  last = λ n. offset_commit2 n ((n + 29) / 30 + n + 1 - 1) (omega arith);
+  last = λ n. grind (arith, parts2);
   carries = λ blocks s entries p r below. inr (carries2 blocks s entries p r);
   last_is_late = λ n. omega arith;
   one_stamp = λ blocks s t entries p r below c. one_stamp2 blocks s t entries p r c;
-  last_part = λ s a b same. cc (
-    part_commit2 s a ((length a + 29) / 30 + length a + 1 - 1) (omega arith),
-    part_commit2 s b ((length b + 29) / 30 + length b + 1 - 1) (omega arith),
-    same,
-  );
-  count = λ blocks s a b ra rb e. cc (
-    commit_counts s (length a) (omega (arith, ra.fit.few)),
-    commit_counts s (length b) (omega (arith, rb.fit.few)),
-    part_commit2 s a ((length a + 29) / 30 + length a + 1 - 1) (omega arith),
-    part_commit2 s b ((length b + 29) / 30 + length b + 1 - 1) (omega arith),
-    e,
-  );
+  last_part = λ s a b same. grind (arith, parts2);
+  count = λ blocks s a b ra rb e.
+      grind (arith, parts2, commit_counts s (length a) (omega (arith, ra.fit.few)), commit_counts s (length b) (omega (arith, rb.fit.few)));
   read = read2;
   zeros = zeros2;
 }

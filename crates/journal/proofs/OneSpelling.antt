@@ -3,7 +3,7 @@ use Rattle.std.proofs.Common.{◌≡◌, ℕ, ◌+◌, ◌*◌, ◌-◌, ◌^◌
 use Rattle.std.proofs.Common.{◌∙◌, ap, arith, length-append}
 use Rattle.std.proofs.lemmas.List.{take_at, drop_at, take_all, drop_all, drop-replicate, length-drop}
 use Rattle.std.proofs.lemmas.List.{append-nil, append_assoc}
-use Rattle.std.proofs.lemmas.Grind.{flat_map-append}
+use Rattle.std.proofs.lemmas.Grind.{common_steps, flat_map-append}
 use borrow.Rule.Slice.PartMut.{put_mid, mid_of}
 use Rattle.std.specs.Prelude.{replicate}
 use Rattle.std.specs.List.{flat_map}
@@ -75,17 +75,7 @@ pub padded_put : (i k : ℕ) (before sector part new : List ℕ) → length befo
     → sector ≡ padded before → new ≡ part → put_mid i k sector new ≡ padded (before ++ part)
 unfolding padded
 padded_put i k before sector part new count same inside is wrote =
-    let left : ℕ = 512 - length before in
-    let fewer : left - k ≡ 512 - length (before ++ part) = omega (arith, length-append before part) in
-    cc (
-      is,
-      take_at before (replicate left 0) i count,
-      drop_at before (replicate left 0) i count,
-      drop-replicate {X = ℕ} k left 0,
-      fewer,
-      wrote,
-      append_assoc before part (replicate (left - k) 0),
-    )
+    grind (arith, common_steps, drop-replicate {X = ℕ} k (512 - length before) 0)
 
 pub padded-none : replicate 512 0 ≡ padded []
 unfolding padded

@@ -3,6 +3,7 @@ use Rattle.std.proofs.Common.{◌≡◌, ℕ, ◌+◌, ◌*◌, ◌<◌, List, [
 use Rattle.std.proofs.Common.{arith}
 use Rattle.std.specs.Prelude.{zip}
 use Rattle.std.specs.List.{flat_map}
+use Rattle.std.proofs.lemmas.Grind.{common_steps}
 use Rattle.std.proofs.lemmas.List.{take-take, take-map, drop-map, length-map, length-take-le, get_or-take, get_or-drop}
 use Rattle.std.proofs.lemmas.List.Elements.{All-take, All-drop, All-from_get_or}
 use Rattle.std.proofs.Math.ListN.{get_or-map}
@@ -44,7 +45,7 @@ firsts_of_chunk es j =
 -- one of some entries that follow each other
 module _ (es : List Entry) (many from i : ℕ) (few : i < many) where
   part_at : get_or (take many (drop from es)) i (0, []) ≡ get_or es (from + i) (0, [])
-  part_at = get_or-take many (drop from es) i (0, []) few ∙ get_or-drop from es i (0, [])
+  part_at = grind (arith, common_steps)
 
   pub number_at : get_or (numbers_of (take many (drop from es))) i 0 ≡ (get_or es (from + i) (0, [])).0
   number_at = get_or-map (λ (e : Entry). e.0) (take many (drop from es)) i (0, []) ∙ ap (λ (e : Entry). e.0) part_at

@@ -1,6 +1,6 @@
 -- Retiring the oldest record while another is written: what that leaves, for every layout.
 use Rattle.std.proofs.Common.{◌≡◌, inl, inr, ℕ, ◌+◌, ◌*◌, ◌<◌, ◌≤◌, List, [], ◌∷◌, length, get_or, drop, refl, sym, ◌∙◌}
-use Rattle.std.proofs.Common.{subst, arith}
+use Rattle.std.proofs.Common.{subst, arith, rules}
 use Rattle.std.proofs.lemmas.Bool.{cases_eq}
 use Rattle.std.proofs.lemmas.List.{length-drop, get_or-drop}
 use Rattle.medium.specs.Medium.{Image, Holds}
@@ -28,17 +28,12 @@ module _ (L : Layout) (laws : Laws L) (shape : Shape) (some : 1 ≤ shape.slots)
   -- and so does the one that is being written
   pub WrittenSoFar-same : (stamp : ℕ) (entries : List Entry) (k durable : ℕ) → length entries ≤ L.most
       → WrittenSoFar L shape stamp entries k durable before → WrittenSoFar L shape stamp entries k durable image
-  WrittenSoFar-same stamp entries k durable few g = record {
-    carries = CarriesBelow-same (stamp + 1) g.carries;
-    flushed = λ p less small. at p small ∙ g.flushed p less small;
-    either = λ p less small. rw (at p small) (g.either p less small);
-    free = λ p more small. rw (at p small) (g.free p more small);
-  }
-    where
-      at : (p : ℕ) → p < L.parts (length entries)
-          → image (part_at L shape stamp (length entries) p) ≡ before (part_at L shape stamp (length entries) p)
-      at p small = same (part_at L shape stamp (length entries) p) (omega arith)
-          (omega (arith, slot_inside L laws shape stamp some, laws.inside (length entries) p few small))
+  WrittenSoFar-same stamp entries k durable few g =
+      let carries = CarriesBelow-same (stamp + 1) g.carries in
+      let at : (p : ℕ) → p < L.parts (length entries)
+      → image (part_at L shape stamp (length entries) p) ≡ before (part_at L shape stamp (length entries) p) =
+      λ p small. same _ (omega arith) (omega (arith, slot_inside L laws shape stamp some, laws.inside (length entries) p few small)) in
+      grind (arith, at, g.flushed, g.either, g.free)
 
 module _ (L : Layout) (laws : Laws L) (v : View) (some : 1 ≤ v.shape.slots)
     (behind : 2 + L.slot_sectors * v.shape.slots ≤ v.shape.home) {before image : Image} where
@@ -51,8 +46,8 @@ module _ (L : Layout) (laws : Laws L) (v : View) (some : 1 ≤ v.shape.slots)
   KeepsView-home : (b : ℕ) {bytes : List ℕ} → Hides v.records b → Holds (v.shape.home + b) bytes before image
       → KeepsView L v before → KeepsView L v image
   KeepsView-home b hides write g = record {
-    super = subst (IsSuper v.shape) (sym (write.elsewhere 0 (λ e. omega (arith, behind)))) g.super;
-    head_is = subst (IsHead v.head) (sym (write.elsewhere 1 (λ e. omega (arith, behind)))) g.head_is;
+    super = rw (write.elsewhere 0 (λ e. omega (arith, behind))) g.super;
+    head_is = rw (write.elsewhere 1 (λ e. omega (arith, behind))) g.head_is;
     whole = λ j below. IsWholeIn-same L laws v.shape some before image (log_same write (λ low. omega arith)) (v.head + j)
         (get_or v.records j []) (g.whole j below);
     blocks = λ c below. elim (cases_eq c b) [
@@ -68,8 +63,8 @@ module _ (L : Layout) (laws : Laws L) (v : View) (some : 1 ≤ v.shape.slots)
   KeepsView-head : {bytes : List ℕ} → 0 < length v.records → IsHead (v.head + 1) bytes → IsHomed v before
       → Holds 1 bytes before image → KeepsView L v before → KeepsView L (with_less v) image
   KeepsView-head waits h homed write g = record {
-    super = subst (IsSuper v.shape) (sym (write.elsewhere 0 (λ e. omega arith))) g.super;
-    head_is = subst (IsHead (v.head + 1)) (sym write.here) h;
+    super = rw (write.elsewhere 0 (λ e. omega arith)) g.super;
+    head_is = rw write.here h;
     whole = λ j below.
         let next : v.head + 1 + j ≡ v.head + (1 + j) = omega arith in
         IsWholeIn-same L laws v.shape some before image (log_same write (λ low. omega arith))
@@ -86,7 +81,7 @@ module _ (L : Layout) (laws : Laws L) (v : View) (some : 1 ≤ v.shape.slots)
           → a (get_or (get_or records 0 []) i (0, [])).0 ≡ (get_or (get_or records 0 []) i (0, [])).1)
           → with_records records a b ≡ with_records (drop 1 records) a b
       oldest_home [] a b homed = refl
-      oldest_home (r ∷ records) a b homed = with_records-same records (with_blocks r a) a b (with_blocks-home r a b homed)
+      oldest_home (r ∷ records) a b homed = search (rules, with_records-same, with_blocks-home)
 
 -- the stamp of the record under way stays when the oldest is retired
 stamp_stays : (v : View) → 0 < length v.records → stamp_of (with_less v) ≡ stamp_of v
@@ -136,9 +131,4 @@ module _ (L : Layout) (laws : Laws L) (v : View) (slots : HasSlots L v) where
 
   -- one slot more is free then
   pub HasSlots-less : 0 < length v.records → HasSlots L (with_less v)
-  HasSlots-less waits = record {
-    some = slots.some;
-    room = omega (arith, slots.room, length-drop 1 v.records);
-    behind = slots.behind;
-    under_way = rw (stamp_stays v waits) slots.under_way;
-  }
+  HasSlots-less waits = grind (arith, slots.room, length-drop 1 v.records, stamp_stays v waits)

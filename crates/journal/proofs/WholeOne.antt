@@ -14,8 +14,7 @@ use Rattle.journal.specs.Record.{Entry, numbers_of, block_of, entries_in}
 use Rattle.journal.specs.Layout.{AreEntries, IsWholeIn}
 use Rattle.journal.specs.Format1.{format1, offset1, part1, descriptor1, commit1, numbers_in, record_in}
 use Rattle.journal.proofs.SectorNumbers.{descriptor_says, descriptor_number}
-use Rattle.journal.proofs.Format1Laws.{offset_early, offset_commit, part_descriptor, part_place, part_commit, descriptor_of, commit_of}
-use Rattle.journal.proofs.Format1Laws.{Kind, Described, Placed, Committed, kind_of}
+use Rattle.journal.proofs.Format1Laws.{parts, offset_early, offset_commit, part_descriptor, part_place, part_commit, descriptor_of, commit_of}
 use Rattle.journal.proofs.Wholeness.{record_of}
 
 -- the block numbers of entries that were read under them
@@ -31,7 +30,7 @@ length-entries_in image place numbers = sym (length-map (entries_in image place 
     ∙ ap (λ (l : List ℕ). length l) (numbers_of-entries_in image place numbers)
 
 -- the i-th of them
-entry_of-entries_in : (image : Image) (place i : ℕ) (numbers : List ℕ) → i < length numbers
+pub entry_of-entries_in : (image : Image) (place i : ℕ) (numbers : List ℕ) → i < length numbers
     → get_or (entries_in image place numbers) i (0, []) ≡ (get_or numbers i 0, image (place + i))
 entry_of-entries_in image place i [] below = absurd (omega arith)
 entry_of-entries_in image place zero (b ∷ numbers) below = grind arith
@@ -45,26 +44,15 @@ numbers_read stamp numbers bytes d =
 
 module _ (shape : Shape) (image : Image) (s : ℕ) (es : List Entry) (w : IsWholeIn format1 shape image s es) where
   pub descriptor_there : IsDescriptor s (numbers_of es) (image (2 + 50 * (s % shape.slots)))
-  descriptor_there =
-      let at : 2 + 50 * (s % shape.slots) ≡ 2 + 50 * (s % shape.slots) + 0 = omega arith in
-      let there : image (2 + 50 * (s % shape.slots)) ≡ descriptor1 s (numbers_of es) =
-      cc (at, w.there 0 (omega arith), offset_early (length es) 0 (omega arith), part_descriptor s es 0 (omega arith)) in
-      rw there (descriptor_of (record_of w))
+  descriptor_there = grind (arith, parts, w.there 0, descriptor_of (record_of w))
 
   pub place_there : (i : ℕ) → i < length es → image (2 + 50 * (s % shape.slots) + 1 + i) ≡ block_of es i
-  place_there i below =
-      let at : 2 + 50 * (s % shape.slots) + 1 + i ≡ 2 + 50 * (s % shape.slots) + offset1 (length es) (i + 1) =
-      omega (arith, offset_early (length es) (i + 1) (omega arith)) in
-      let back : i + 1 - 1 ≡ i = omega arith in
-      cc (at, w.there (i + 1) (omega arith), part_place s es (i + 1) (omega arith) (omega arith), back)
+  place_there i below = grind (arith, parts, w.there (i + 1))
 
   -- its commit
   pub commit_there : IsCommit s (length (numbers_of es)) (image (2 + 50 * (s % shape.slots) + 49))
   commit_there =
-      let n = length es + 1 in
-      let there : image (2 + 50 * (s % shape.slots) + 49) ≡ commit1 s (length es) =
-      cc (w.there n (omega arith), offset_commit (length es) n (omega arith), part_commit s es n (omega arith)) in
-      rw (there, length-map es (λ (e : Entry). e.0)) (commit_of (record_of w))
+      rw (length-map es (λ (e : Entry). e.0)) (grind (arith, parts, w.there (length es + 1), commit_of (record_of w)))
 
   -- a whole record is the one that its slot spells
   pub record_read : es ≡ record_in image (2 + 50 * (s % shape.slots))
@@ -108,16 +96,13 @@ module _ (shape : Shape) (image : Image) (stamp : ℕ) (numbers : List ℕ)
         rw (entry_of-entries_in image (at + 1) i numbers (omega (arith, many))) (sized i (omega (arith, many))));
   }
 
-  there : (p : ℕ) → Kind 1 (length es) p → image (at + offset1 (length es) p) ≡ part1 stamp es p
-  there p (Described d) =
-      let first : at + offset1 (length es) p ≡ at = omega (arith, offset_early (length es) p (omega arith)) in
-      cc (first, described.spelled, names, part_descriptor stamp es p d)
-  there p (Placed b d) =
-      let next : at + offset1 (length es) p ≡ at + 1 + (p - 1) = omega (arith, offset_early (length es) p (omega arith)) in
-      cc (next, entry_of-entries_in image (at + 1) (p - 1) numbers (omega (arith, many)), part_place stamp es p b (omega arith))
-  there p (Committed c) =
-      cc (offset_commit (length es) p (omega arith), committed.spelled, many, part_commit stamp es p (omega arith))
-
   -- these are the blocks of a whole record
   pub whole_in : IsWholeIn format1 shape image stamp (entries_in image (2 + 50 * (stamp % shape.slots) + 1) numbers)
-  whole_in = record { fit = entries; least = described.least; below = described.most; there = λ p below. there p (kind_of 1 (length es) p) }
+  whole_in = record {
+    fit = entries;
+    least = described.least;
+    below = described.most;
+    there = λ p below.
+        let each = entry_of-entries_in image (at + 1) (p - 1) numbers in
+        grind (arith, parts, described.spelled, committed.spelled, names, many, each);
+  }

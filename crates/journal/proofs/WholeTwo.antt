@@ -21,7 +21,7 @@ use Rattle.journal.specs.SlotTwo.{HasDescriptors, HasPlaces}
 use Rattle.journal.proofs.EntriesTwo.{number_is, first_is, commit_count, place_rest}
 use Rattle.journal.proofs.RecordTwo.{number_at, first_at, numbers_of_chunk, descriptor_two, descriptor_spelled, place_own}
 use Rattle.journal.proofs.Format1Laws.{Kind, Described, Placed, Committed, kind_of}
-use Rattle.journal.proofs.Format2Laws.{offset_descriptor, offset_place, offset_commit, part_descriptor, part_place, part_commit}
+use Rattle.journal.proofs.Format2Laws.{parts, offset_descriptor, offset_place, offset_commit, part_descriptor, part_place, part_commit}
 use Rattle.journal.proofs.Wholeness.{record_of}
 
 -- what is read where a commit of n blocks stands
@@ -54,29 +54,16 @@ pub record SlotSays (image : Image) (slot stamp : ℕ) (numbers : List ℕ) : Ty
 -- what a whole record's sectors are decoded to
 module _ (shape : Shape) (image : Image) (s : ℕ) (es : List Entry) (w : IsWholeIn format2 shape image s es) where
   commit_whole : IsCommitTwo s (length es) (image (2 + 249 * (s % shape.slots) + 248))
-  commit_whole =
-      let p : ℕ = (length es + 29) / 30 + length es in
-      let spelled : image (2 + 249 * (s % shape.slots) + 248) ≡ commit_bytes s (length es) =
-      cc (w.there p (omega arith), offset_commit (length es) p (omega arith), part_commit s es p (omega arith)) in
-      search rules
+  commit_whole = grind (arith, parts, w.there ((length es + 29) / 30 + length es))
 
   pub descriptor_whole : (j : ℕ) → j < (length es + 29) / 30
       → IsDescriptorTwo s (length es) j (numbers_of (chunk_of es j)) (firsts_of (chunk_of es j)) (image (2 + 249 * (s % shape.slots) + j))
   descriptor_whole j below =
-      let there : image (2 + 249 * (s % shape.slots) + j) ≡ descriptor_bytes s es j =
-      cc (w.there j (omega arith), offset_descriptor (length es) j below, part_descriptor s es j below) in
+      let there : image (2 + 249 * (s % shape.slots) + j) ≡ descriptor_bytes s es j = grind (arith, parts, w.there j) in
       rw there (descriptor_two j (record_of w) (omega arith))
 
   pub place_there : (i : ℕ) → i < length es → image (2 + 249 * (s % shape.slots) + (8 + i)) ≡ place_bytes s (block_of es i)
-  place_there i below =
-      let p : ℕ = (length es + 29) / 30 + i in
-      let back : (length es + 29) / 30 + i - (length es + 29) / 30 ≡ i = omega arith in
-      cc (
-        w.there p (omega arith),
-        offset_place (length es) p (omega arith) (omega arith),
-        part_place s es p (omega arith) (omega arith),
-        back,
-      )
+  place_there i below = grind (arith, parts, w.there ((length es + 29) / 30 + i))
 
   -- they say so
   pub says_whole : SlotSays image (s % shape.slots) s (numbers_of es)

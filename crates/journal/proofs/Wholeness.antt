@@ -1,5 +1,5 @@
 -- Whole records of an image: each stamp has at most one, and a slot's bytes decide.
-use Rattle.std.proofs.Common.{◌≡◌, ℕ, ◌+◌, ◌-◌, ◌*◌, ◌%◌, ◌<◌, ◌≤◌, List, [], length, get_or, sym, ◌∙◌, subst, arith}
+use Rattle.std.proofs.Common.{◌≡◌, ℕ, ◌+◌, ◌-◌, ◌*◌, ◌%◌, ◌<◌, ◌≤◌, List, [], length, get_or, sym, ◌∙◌, subst, arith, rules}
 use Rattle.std.proofs.lemmas.Nat.{mod_below}
 use Rattle.medium.specs.Medium.{Image}
 use Rattle.spec.specs.Blocks.{Array}
@@ -38,21 +38,13 @@ module _ (L : Layout) (laws : Laws L) (shape : Shape) where
     pub IsWhole-same : (stamp : ℕ) (entries : List Entry)
         → Agree (slot_at L shape stamp) (slot_at L shape stamp + L.slot_sectors) image before
         → IsWholeIn L shape before stamp entries → IsWholeIn L shape image stamp entries
-    IsWhole-same stamp entries agree w = record {
-      fit = w.fit;
-      least = w.least;
-      below = w.below;
-      there = λ p below. agree (slot_at L shape stamp + L.offset (length entries) p) (omega arith)
-          (omega (arith, laws.inside (length entries) p w.fit.few below))
-          ∙ w.there p below;
-    }
+    IsWhole-same stamp entries agree w = search (rules, arith, agree, laws.inside)
 
     -- the log carries what it carried in an image that agrees on it
     pub CarriesBelow-agree : (end : ℕ) → Agree 2 (2 + L.slot_sectors * shape.slots) image before
         → CarriesBelowIn L shape before end → CarriesBelowIn L shape image end
-    CarriesBelow-agree end agree c slot o t low small carries = c slot o t low small
-        (subst (L.carries o t) (agree (2 + L.slot_sectors * slot + o) (omega arith)
-        (in_log L.slot_sectors slot shape.slots o low small)) carries)
+    CarriesBelow-agree end agree c slot o t low small carries =
+        c slot o t low small (rw (agree _ (omega arith) (in_log L.slot_sectors slot shape.slots o low small)) at carries)
 
     -- an image keeps records if it agrees on the super, the head, their slots and home
     pub Keeps-same : (head : ℕ) (records : List (List Entry)) (array : Array)
@@ -61,20 +53,16 @@ module _ (L : Layout) (laws : Laws L) (shape : Shape) where
         → Agree (slot_at L shape (head + j)) (slot_at L shape (head + j) + L.slot_sectors) image before)
         → Agree shape.home (shape.home + shape.blocks) image before
         → KeepsIn L shape before head records array → KeepsIn L shape image head records array
-    Keeps-same head records array zeroth first slots home k = record {
-      super = subst (IsSuper shape) (sym zeroth) k.super;
-      head_is = subst (IsHead head) (sym first) k.head_is;
-      whole = λ j below. IsWhole-same (head + j) (get_or records j []) (slots j below) (k.whole j below);
-      blocks = λ b below. with_records-same records (home_of shape image) (home_of shape before) b
-          (home (shape.home + b) (omega arith) (omega arith))
-          ∙ k.blocks b below;
-    }
+    Keeps-same head records array zeroth first slots home k =
+        let whole = λ (j : ℕ) (below : j < length records). IsWhole-same (head + j) (get_or records j []) (slots j below) (k.whole j below) in
+        let blocks = λ (b : ℕ) (below : b < shape.blocks).
+        with_records-same records (home_of shape image) (home_of shape before) b (home (shape.home + b) (omega arith) (omega arith))
+        ∙ k.blocks b below in
+        grind (arith, zeroth, first, k)
 
   -- the sectors of a slot stand in the log
   pub slot_inside : (stamp : ℕ) → 1 ≤ shape.slots
       → slot_at L shape stamp + L.slot_sectors ≤ 2 + L.slot_sectors * shape.slots
   slot_inside stamp some =
-      let low : stamp % shape.slots < shape.slots = mod_below stamp shape.slots some in
-      let sectors = laws.inside 0 0 (omega arith) (laws.some_parts 0) in
-      let last = in_log L.slot_sectors (stamp % shape.slots) shape.slots (L.slot_sectors - 1) low (omega (arith, sectors)) in
-      omega (arith, last, sectors)
+      let last = in_log L.slot_sectors (stamp % shape.slots) shape.slots (L.slot_sectors - 1) in
+      grind (arith, last, mod_below stamp shape.slots some)

@@ -20,15 +20,14 @@ module _ (L : Layout) (laws : Laws L) (v : View) (slots : HasSlots L v) where
   -- with all its parts in its slot the record is whole
   whole_now : (image : Image) → ((p : ℕ) → p < L.parts (length v.under_way) → image (at L v p) ≡ bytes_of L v p)
       → IsWholeIn L v.shape image (stamp_of v) v.under_way
-  whole_now image there = let record_is = slots.under_way in search rules
+  whole_now image there = search (rules, slots.under_way)
 
   -- with its last part there, each whole record of its stamp has as many blocks
   same_count : (image : Image) (es : List Entry) → image (at L v (last L v)) ≡ bytes_of L v (last L v)
       → IsWholeIn L v.shape image (stamp_of v) es → length es ≡ length v.under_way
   same_count image es commit w =
-      let there = w.there (L.parts (length es) - 1) (omega (arith, laws.some_parts (length es))) in
-      laws.count v.shape.blocks (stamp_of v) es v.under_way (record_of w) slots.under_way
-      (cc (there, commit, laws.last (length es), laws.last (length v.under_way)))
+      let count = laws.count v.shape.blocks (stamp_of v) es v.under_way (record_of w) slots.under_way in
+      grind (arith, count, w.there (L.parts (length es) - 1), laws.some_parts (length es), laws.last, commit)
 
   -- the record under way is not whole, or it is, with its blocks
   whole_or_not : (image : Image) (k durable : ℕ) → (L.parts (length v.under_way) ≤ k → L.early (length v.under_way) ≤ durable)
@@ -71,12 +70,14 @@ module _ (L : Layout) (laws : Laws L) (v : View) (slots : HasSlots L v) where
   keeps_with image keeps whole = record {
     super = keeps.super;
     head_is = keeps.head_is;
-    whole = λ j below. elim (cases_lt j (length v.records)) [
-      | inl earlier ↦ rw (get_or_append_left v.records (v.under_way ∷ []) [] j earlier) (keeps.whole j earlier)
-      | inr late ↦
-          let is : j ≡ length v.records = omega (arith, longer) in
-          rw (is, get_or-append_seam v.records v.under_way [] []) whole
-    ];
+    whole = λ j below. grind (
+      arith,
+      cases_lt j (length v.records),
+      keeps.whole j,
+      longer,
+      get_or_append_left v.records (v.under_way ∷ []) [] j,
+      get_or-append_seam v.records v.under_way [] [],
+    );
     blocks = λ b below. with_records-append v.records v.under_way (home_of v.shape image) b
         ∙ with_blocks-same v.under_way (with_records v.records (home_of v.shape image)) v.array b (keeps.blocks b below);
   }
@@ -85,13 +86,9 @@ module _ (L : Layout) (laws : Laws L) (v : View) (slots : HasSlots L v) where
   found_with : (image : Image) (k durable : ℕ) → Guarded L v k durable image
       → IsWholeIn L v.shape image (stamp_of v) v.under_way → Found L (with_record v) image
   found_with image k durable g whole =
-      let next : v.head + length (v.records ++ v.under_way ∷ []) ≡ stamp_of v + 1 = omega (arith, longer) in
-      record {
-        keeps = keeps_with image g.keeps whole;
-        few = omega (arith, longer, slots.room);
-        ends = λ room. rw next (none_carried L laws v.shape slots.some image (stamp_of v + 1) g.parts.carries);
-        carries = λ other o t low small c. omega (arith, longer, g.parts.carries other o t low small c);
-      }
+      let keeps = keeps_with image g.keeps whole in
+      let none = none_carried L laws v.shape slots.some image (stamp_of v + 1) g.parts.carries in
+      grind (arith, longer, slots.room, g.parts.carries)
 
   -- so a cut leaves what it may leave
   pub guarded_leaves : (image : Image) (k durable : ℕ) → (L.parts (length v.under_way) ≤ k → L.early (length v.under_way) ≤ durable)
@@ -104,10 +101,10 @@ module _ (L : Layout) (laws : Laws L) (v : View) (slots : HasSlots L v) where
   -- and when all is flushed, the record is whole, and none is under way
   pub durable_rests : (image : Image) (k durable : ℕ) → L.parts (length v.under_way) ≤ durable → Guarded L v k durable image
       → Resting L (with_record v) image
-  durable_rests image k durable all g = record {
-    keeps = keeps_with image g.keeps (whole_now image (λ p below. g.parts.flushed p (omega arith) below));
-    carries = λ other o t low small c. omega (arith, longer, g.parts.carries other o t low small c);
-  }
+  durable_rests image k durable all g =
+      let whole = whole_now image (λ p below. g.parts.flushed p (omega arith) below) in
+      let keeps = keeps_with image g.keeps whole in
+      grind (arith, longer, g.parts.carries)
 
   -- before the last part is written the record is not whole
   pub rest_early : (image : Image) (k durable : ℕ) → k < L.parts (length v.under_way) → Guarded L v k durable image → Found L v image
