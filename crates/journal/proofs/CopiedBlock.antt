@@ -2,6 +2,7 @@
 use Rattle.std.proofs.Common.{◌≡◌, ℕ, ◌+◌, ◌*◌, ◌%◌, ◌<◌, List, [], ◌++◌, length, take, drop, get_or}
 use Rattle.std.proofs.Common.{refl, sym, ◌∙◌, ap, arith}
 use Rattle.std.specs.Prelude.{Option}
+use Rattle.std.proofs.lemmas.Grind.{common_steps}
 use Rattle.std.proofs.lemmas.List.{take-append-drop, length-take-le, length-map}
 use Rattle.std.proofs.Math.ListN.{get_or-map}
 use Rattle.medium.specs.Medium.{Image}
@@ -24,11 +25,9 @@ pub begun_is : (format : LogFormat) (shape : Shape) (image : Image) (stamp : ℕ
     → first ≡ first_of format entries i → (sector : List ℕ)
     → sector ≡ image (slot_at (layout_of format) shape stamp + first_data_of format + i) → begun_with first sector ≡ block_of entries i
 begun_is One shape image stamp entries w i below first is sector there =
-    rw (is, there) (place_there_one shape image stamp entries w i below)
+    grind (arith, place_there_one shape image stamp entries w i below)
 begun_is Two shape image stamp entries w i below first is sector there =
-    let b : List ℕ = block_of entries i in
-    let at : 2 + 249 * (stamp % shape.slots) + 8 + i ≡ 2 + 249 * (stamp % shape.slots) + (8 + i) = omega arith in
-    rw (is, there, at, place_there shape image stamp entries w i below, place_rest stamp b) (take-append-drop 8 b)
+    let it = place_there shape image stamp entries w i below in grind (arith, common_steps, place_rest)
 
 -- what is read of a record, and what its data places have, make its blocks
 module _ (shape : Shape) (image : Image) (stamp : ℕ) (entries : List Entry) (whole : IsWhole shape image stamp entries)
@@ -39,20 +38,12 @@ module _ (shape : Shape) (image : Image) (stamp : ℕ) (entries : List Entry) (w
   -- in format 1 a data place has the whole block
   pub one_read : shape.format ≡ One → firsts ≡ []
       → get_or firsts i [] ++ drop (length (get_or firsts i [])) (image (data_at shape stamp i)) ≡ block_of entries i
-  one_read one none =
-      rw none (ap (λ (f : LogFormat). begun_with (first_of f entries i) (image (data_at shape stamp i))) (sym one) ∙ begun)
+  one_read one none = grind (arith, begun)
 
   -- in format 2 all of it but the first 8 bytes
   pub two_read : shape.format ≡ Two → firsts ≡ firsts_of entries
       → get_or firsts i [] ++ drop (length (get_or firsts i [])) (image (data_at shape stamp i)) ≡ block_of entries i
-  two_read two same =
-      let f : Entry → List ℕ = λ e. take 8 e.1 in
-      let first : get_or firsts i [] ≡ take 8 (block_of entries i) =
-      ap (λ (l : List (List ℕ)). get_or l i []) same ∙ get_or-map f entries i (0, []) in
-      let eight : length (take 8 (block_of entries i)) ≡ 8 =
-      length-take-le 8 (block_of entries i) (omega (arith, whole.fit.sized i (0, []) below)) in
-      rw (first, eight)
-      (ap (λ (f : LogFormat). begun_with (first_of f entries i) (image (data_at shape stamp i))) (sym two) ∙ begun)
+  two_read two same = grind (arith, common_steps, begun, whole.fit.sized i (0, []) below)
 
 -- the data places of a whole record carry its stamp, in each format
 pub stamped_whole : (shape : Shape) (image : Image) (stamp : ℕ) (entries : List Entry) → IsWhole shape image stamp entries

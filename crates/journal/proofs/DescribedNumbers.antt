@@ -10,13 +10,14 @@ use Rattle.journal.specs.SlotReads.{HasDescriptor}
 module _ (j : ℕ) (numbers more : List ℕ) (long : length numbers ≡ 30 * j) where
   -- the numbers that were there
   before : (k : ℕ) → k < j → take 30 (drop (30 * k) (numbers ++ more)) ≡ take 30 (drop (30 * k) numbers)
-  before k below =
-      ap (λ (l : List ℕ). take 30 l) (drop-append-le (30 * k) numbers more (omega (arith, long, below)))
-      ∙ take-append-le 30 (drop (30 * k) numbers) more (omega (arith, long, below, length-drop (30 * k) numbers))
+  before k below = rw (
+    drop-append-le (30 * k) numbers more (omega (arith, long, below)),
+    take-append-le 30 (drop (30 * k) numbers) more (omega (arith, long, below, length-drop (30 * k) numbers)),
+  )
 
   -- and those of one more descriptor
   last : length more ≤ 30 → take 30 (drop (30 * j) (numbers ++ more)) ≡ more
-  last few = ap (λ (l : List ℕ). take 30 l) (drop_at numbers more (30 * j) long) ∙ take_all 30 more few
+  last few = rw (drop_at numbers more (30 * j) long) (take_all 30 more few)
 
   -- are those of one descriptor more
   pub described_more : (image : Image) (at stamp count : ℕ) (firsts : List (List ℕ))
@@ -32,5 +33,4 @@ module _ (j : ℕ) (numbers more : List ℕ) (long : length numbers ≡ 30 * j) 
 -- descriptors that name so many blocks are there
 pub each_there : (image : Image) (at stamp count : ℕ) (numbers : List ℕ) → length numbers ≡ count → HasDescriptors image at stamp numbers
     → (j : ℕ) → j < descriptors_of count → HasDescriptor image at stamp count j
-each_there image at stamp count numbers long has j below =
-    let is = has j (omega (arith, below, long)) in (take 30 (drop (30 * j) numbers), is.0, simp long at is.1)
+each_there image at stamp count numbers long has j below = grind (arith, has j)

@@ -79,9 +79,13 @@ module _ (L : Layout) (laws : Laws L) (v : View) (slots : HasSlots L v) where
       let low = in_log L.slot_sectors (stamp_of v % v.shape.slots) v.shape.slots o slot_below small in
       Keeps-same L laws v.shape before image v.head v.records v.array (write.elsewhere 0 (λ e. omega arith))
       (write.elsewhere 1 (λ e. omega arith))
-      (λ j earlier x from to. write.elsewhere x (λ e. other_sector L.slot_sectors ((v.head + j) % v.shape.slots)
-      (stamp_of v % v.shape.slots) (x - slot_at L v.shape (v.head + j)) o
-      (other_slot (v.head + j) (stamp_of v) v.shape.slots (omega arith) (omega (arith, slots.room))) (omega arith) small (omega arith)))
+      (λ j earlier x from to. grind (
+        arith,
+        write.elsewhere x,
+        other_sector L.slot_sectors ((v.head + j) % v.shape.slots) (stamp_of v % v.shape.slots) (x - slot_at L v.shape (v.head + j)) o,
+        other_slot (v.head + j) (stamp_of v) v.shape.slots,
+        slots.room,
+      ))
       (λ x from to. write.elsewhere x (λ e. omega (arith, slots.behind))) k
 
   -- part k of a record of this stamp is written: no sector carries a later one
@@ -90,18 +94,17 @@ module _ (L : Layout) (laws : Laws L) (v : View) (slots : HasSlots L v) where
       → CarriesBelowIn L v.shape before (stamp_of v + 1) → CarriesBelowIn L v.shape image (stamp_of v + 1)
   carries_stays es is before image k below write c other o t low small carries =
       let here = part_at L v.shape (stamp_of v) (length es) k in
-      elim (cases_eq (2 + L.slot_sectors * other + o) here) [
-        | inr not ↦ c other o t low small (subst (L.carries o t) (write.elsewhere (2 + L.slot_sectors * other + o) not) carries)
-        | inl at_k ↦ elim (cases_eq other (stamp_of v % v.shape.slots)) [
-          | inl same ↦
-              let same_o : o ≡ L.offset (length es) k = omega (arith, at_k, ap (λ (x : ℕ). L.slot_sectors * x) same) in
-              let one = laws.one_stamp v.shape.blocks (stamp_of v) t es k is below (rw (at_k, write.here, same_o) at carries) in
-              omega (arith, one)
-          | inr apart ↦
-              absurd (other_sector L.slot_sectors other (stamp_of v % v.shape.slots) o (L.offset (length es) k) apart small
-              (laws.inside (length es) k is.fit.few below) at_k)
-        ]
-      ]
+      grind (
+        arith,
+        cases_eq (2 + L.slot_sectors * other + o) here,
+        cases_eq other (stamp_of v % v.shape.slots),
+        c other o t low small,
+        write.here,
+        write.elsewhere,
+        laws.one_stamp v.shape.blocks (stamp_of v) t es k is below,
+        other_sector L.slot_sectors other (stamp_of v % v.shape.slots) o (L.offset (length es) k),
+        laws.inside (length es) k is.fit.few below,
+      )
 
   -- a part that was not written now
   part_stays : {before image : Image} {k p : ℕ} {bytes : List ℕ} → Holds (at L v k) bytes before image

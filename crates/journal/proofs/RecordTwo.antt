@@ -19,10 +19,7 @@ use Rattle.journal.proofs.EntriesTwo.{entries_cut}
 entries_same : (es : List Entry) → flat_map entry_bytes (zip (numbers_of es) (firsts_of es)) ≡ flat_map entry_bytes es
 unfolding entry_bytes
 entries_same [] = refl
-entries_same (e ∷ es) =
-    ap (λ (l : List ℕ). (little_bytes 8 e.0 ++ l) ++ flat_map entry_bytes (zip (numbers_of es) (firsts_of es)))
-    (take-take 8 8 e.1 (omega arith))
-    ∙ ap (λ (l : List ℕ). entry_bytes e ++ l) (entries_same es)
+entries_same (e ∷ es) = grind (arith, common_steps, entries_same es)
 
 -- descriptor j of a record spells its entries from 30 j on
 pub descriptor_spelled : (stamp : ℕ) (es : List Entry) (j : ℕ)
@@ -32,15 +29,12 @@ descriptor_spelled stamp es j = rw (entries_same (chunk_of es j))
 
 -- the numbers of these entries
 pub numbers_of_chunk : (es : List Entry) (j : ℕ) → numbers_of (chunk_of es j) ≡ take 30 (drop (30 * j) (numbers_of es))
-numbers_of_chunk es j =
-    let f : Entry → ℕ = λ e. e.0 in
-    sym (take-map f 30 (drop (30 * j) es)) ∙ ap (λ (l : List ℕ). take 30 l) (sym (drop-map f (30 * j) es))
+numbers_of_chunk es j = rw (drop-map (λ (e : Entry). e.0) (30 * j) es, take-map (λ (e : Entry). e.0) 30 (drop (30 * j) es))
 
 -- their first bytes
 pub firsts_of_chunk : (es : List Entry) (j : ℕ) → firsts_of (chunk_of es j) ≡ take 30 (drop (30 * j) (firsts_of es))
 firsts_of_chunk es j =
-    let f : Entry → List ℕ = λ e. take 8 e.1 in
-    sym (take-map f 30 (drop (30 * j) es)) ∙ ap (λ (l : List (List ℕ)). take 30 l) (sym (drop-map f (30 * j) es))
+    rw (drop-map (λ (e : Entry). take 8 e.1) (30 * j) es, take-map (λ (e : Entry). take 8 e.1) 30 (drop (30 * j) es))
 
 -- one of some entries that follow each other
 module _ (es : List Entry) (many from i : ℕ) (few : i < many) where
@@ -73,5 +67,4 @@ descriptor_two {stamp = stamp} {es = es} j r used =
 -- a data place is one for its own bytes
 pub place_own : (stamp : ℕ) (block sector : List ℕ) → sector ≡ place_bytes stamp block → sector ≡ place_bytes stamp sector
 unfolding place_bytes
-place_own stamp block sector is =
-    is ∙ ap (λ (l : List ℕ). little_bytes 8 stamp ++ l) (sym (ap (λ (l : List ℕ). drop 8 l) is))
+place_own stamp block sector is = grind arith

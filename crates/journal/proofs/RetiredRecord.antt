@@ -50,13 +50,14 @@ module _ (L : Layout) (laws : Laws L) (v : View) (some : 1 ≤ v.shape.slots)
     head_is = rw (write.elsewhere 1 (λ e. omega (arith, behind))) g.head_is;
     whole = λ j below. IsWholeIn-same L laws v.shape some before image (log_same write (λ low. omega arith)) (v.head + j)
         (get_or v.records j []) (g.whole j below);
-    blocks = λ c below. elim (cases_eq c b) [
-      | inl is ↦ cc (hides (home_of v.shape image) (home_of v.shape before), g.blocks c below)
-      | inr not ↦
-          with_records-same v.records (home_of v.shape image) (home_of v.shape before) c
-          (write.elsewhere (v.shape.home + c) (λ e. not (omega arith)))
-          ∙ g.blocks c below
-    ];
+    blocks = λ c below. grind (
+      arith,
+      cases_eq c b,
+      hides (home_of v.shape image) (home_of v.shape before),
+      g.blocks c below,
+      with_records-same v.records (home_of v.shape image) (home_of v.shape before) c,
+      write.elsewhere (v.shape.home + c),
+    );
   }
 
   -- with the oldest record at home the head goes past it
@@ -92,32 +93,31 @@ module _ (L : Layout) (laws : Laws L) (v : View) (some : 1 ≤ v.shape.slots)
   -- the same at rest
   pub Resting-home : (before image : Image) (b : ℕ) (bytes : List ℕ) → Hides v.records b → Holds (v.shape.home + b) bytes before image
       → Resting L v before → Resting L v image
-  Resting-home before image b bytes hides write r = record {
-    keeps = KeepsView-home L laws v some behind b hides write r.keeps;
-    carries = CarriesBelow-same L laws v.shape some before image
-        (log_same L laws v some behind write (λ low. omega arith)) (stamp_of v)
-        r.carries;
-  }
+  Resting-home before image b bytes hides write r =
+      let log = log_same L laws v some behind write (λ low. omega arith) in
+      let keeps = KeepsView-home L laws v some behind b hides write r.keeps in
+      let carries = CarriesBelow-same L laws v.shape some before image log (stamp_of v) r.carries in
+      search rules
 
   pub Resting-head : (before image : Image) (bytes : List ℕ) → 0 < length v.records → IsHead (v.head + 1) bytes → IsHomed v before
       → Holds 1 bytes before image → Resting L v before → Resting L (with_less v) image
-  Resting-head before image bytes waits h homed write r = record {
-    keeps = KeepsView-head L laws v some behind waits h homed write r.keeps;
-    carries = CarriesBelow-same L laws v.shape some before image
-        (log_same L laws v some behind write (λ low. omega arith))
-        (stamp_of (with_less v)) (rw (stamp_stays v waits) r.carries);
-  }
+  Resting-head before image bytes waits h homed write r =
+      let log = log_same L laws v some behind write (λ low. omega arith) in
+      let keeps = KeepsView-head L laws v some behind waits h homed write r.keeps in
+      let carries = CarriesBelow-same L laws v.shape some before image log (stamp_of v) r.carries in
+      let same = stamp_stays v waits in
+      grind (arith, carries)
 
 module _ (L : Layout) (laws : Laws L) (v : View) (slots : HasSlots L v) where
   -- while a record is written: a block that the records hide is written home
   pub Guarded-home : (before image : Image) (b : ℕ) (bytes : List ℕ) (k durable : ℕ) → Hides v.records b
       → Holds (v.shape.home + b) bytes before image → Guarded L v k durable before → Guarded L v k durable image
-  Guarded-home before image b bytes k durable hides write g = record {
-    keeps = KeepsView-home L laws v slots.some slots.behind b hides write g.keeps;
-    parts = WrittenSoFar-same L laws v.shape slots.some before image
-        (log_same L laws v slots.some slots.behind write (λ low. omega arith))
-        (stamp_of v) v.under_way k durable slots.under_way.fit.few g.parts;
-  }
+  Guarded-home before image b bytes k durable hides write g =
+      let log = log_same L laws v slots.some slots.behind write (λ low. omega arith) in
+      let keeps = KeepsView-home L laws v slots.some slots.behind b hides write g.keeps in
+      let parts = WrittenSoFar-same L laws v.shape slots.some before image log (stamp_of v) v.under_way k durable
+      slots.under_way.fit.few g.parts in
+      search rules
 
   -- and with the oldest record at home the head goes past it
   pub Guarded-head : (before image : Image) (bytes : List ℕ) (k durable : ℕ) → 0 < length v.records → IsHead (v.head + 1) bytes

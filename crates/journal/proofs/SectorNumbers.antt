@@ -54,8 +54,7 @@ version_known Two = inr refl
 
 -- home is near the log
 home_near : (format : LogFormat) (slots home : ℕ) → IsFirstHome format slots home → home ≤ 2 + 249 * (slots + 1)
-home_near One slots home h = omega (arith, h.1)
-home_near Two slots home h = omega (arith, h.1)
+home_near format slots home h = grind (arith, h)
 
 module _ {shape : Shape} {bytes : List ℕ} (s : IsSuper shape bytes) where
   -- the version of a super, its blocks and slots, and where home begins

@@ -8,11 +8,7 @@ use Rattle.journal.specs.Places.{slot_sectors_of}
 
 module _ (sizes : Super) (stamp slot : ℕ) (is : slot ≡ stamp % sizes.slots) where
   pub within_one : sizes.format ≡ One → 2 + 50 * slot + 50 ≤ sizes.home
-  within_one one =
-      let same = ap (λ (f : LogFormat). slot_sectors_of f * sizes.slots) one in
-      omega (arith, same, sizes.home_is.0, mod_below stamp sizes.slots sizes.some_slots, is)
+  within_one one = grind (arith, sizes.home_is, mod_below stamp sizes.slots sizes.some_slots)
 
   pub within_two : sizes.format ≡ Two → 2 + 249 * slot + 249 ≤ sizes.home
-  within_two two =
-      let same = ap (λ (f : LogFormat). slot_sectors_of f * sizes.slots) two in
-      omega (arith, same, sizes.home_is.0, mod_below stamp sizes.slots sizes.some_slots, is)
+  within_two two = grind (arith, sizes.home_is, mod_below stamp sizes.slots sizes.some_slots)
