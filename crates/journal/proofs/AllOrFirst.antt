@@ -1,5 +1,5 @@
 -- Of so many, all have a property, or there is a first one that has another.
-use Rattle.std.proofs.Common.{◌⊎◌, inl, inr, ℕ, zero, suc, ◌<◌, sym, subst, arith}
+use Rattle.std.proofs.Common.{◌⊎◌, ℕ, zero, suc, ◌<◌, arith}
 use Rattle.std.proofs.lemmas.Bool.{cases_eq}
 
 pub all_or_first : (P Q : ℕ → Type 0) (n : ℕ) → ((p : ℕ) → p < n → P p ⊎ Q p)

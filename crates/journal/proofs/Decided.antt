@@ -1,13 +1,12 @@
 -- Whether bytes spell a value, a record is whole, and how many are: each is so or not.
-use Rattle.std.proofs.Common.{◌≡◌, ◌⊎◌, inl, inr, ⊎_elim, ℕ, ◌+◌, ◌-◌, ◌*◌, ◌^◌, ◌<◌, ◌≤◌, List, [], ◌∷◌, length, get_or}
-use Rattle.std.proofs.Common.{sym, ap, subst, arith, rules}
+use Rattle.std.proofs.Common.{◌≡◌, ◌⊎◌, ℕ, ◌+◌, ◌-◌, ◌^◌, ◌<◌, List, [], ◌∷◌, length, get_or}
+use Rattle.std.proofs.Common.{sym, subst, arith, rules}
 use Rattle.std.specs.Prelude.{All}
 use Rattle.std.proofs.lemmas.Bool.{cases_eq, cases_lt}
 use Rattle.std.proofs.lemmas.List.{ext_get_or}
 use Rattle.std.proofs.lemmas.List.Elements.{All-from_get_or}
 use Rattle.medium.specs.Medium.{Image}
-use Rattle.journal.specs.declared.log_format.LogFormat.{LogFormat}
-use Rattle.journal.specs.Places.{Shape, IsFirstHome, slot_sectors_of, gap_of}
+use Rattle.journal.specs.Places.{Shape}
 use Rattle.journal.specs.Spelling.{spelling, number_in, super_mark, head_mark}
 use Rattle.journal.specs.Sectors.{version_of, IsSuper, IsHead, IsRising}
 use Rattle.journal.specs.Record.{Entry, numbers_of}

@@ -1,5 +1,5 @@
 -- An image stands for something or has one fault.
-use Rattle.std.proofs.Common.{◌≡◌, ◌⊎◌, inl, inr, ⊎_elim, ℕ, ◌+◌, ◌<◌, ◌≤◌, List, refl, subst, arith}
+use Rattle.std.proofs.Common.{◌≡◌, ◌⊎◌, inl, inr, ℕ, ◌+◌, ◌≤◌, List, arith}
 use Rattle.std.specs.Prelude.{drop, replicate}
 use Rattle.std.proofs.lemmas.Bool.{cases_eq, cases_lt}
 use Rattle.medium.specs.Medium.{Image}
@@ -10,7 +10,7 @@ use Rattle.journal.specs.Spelling.{number_in, super_mark}
 use Rattle.journal.specs.Sectors.{IsSuper}
 use Rattle.journal.specs.SuperFaults.{HasVersion, IsSuperFault}
 use Rattle.journal.specs.Standing.{Stands}
-use Rattle.journal.specs.ImageFaults.{HasShape, ImageFault, BadSuper, BadVersion, BadSize, BadHead, HasFault}
+use Rattle.journal.specs.ImageFaults.{ImageFault, BadSuper, BadVersion, BadSize, BadHead, HasFault}
 use Rattle.journal.proofs.SectorNumbers.{super_begins, IsSuper-one}
 use Rattle.journal.proofs.Decided.{same_or_not, head_or_not, super_or_not, count_of}
 use Rattle.journal.proofs.StandingLaws.{count_stands}

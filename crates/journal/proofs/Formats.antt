@@ -1,5 +1,5 @@
 -- Both formats keep the laws of a layout.
-use Rattle.std.proofs.Common.{◌≡◌, inr, ◌+◌, ◌-◌, ◌/◌, length, refl, arith}
+use Rattle.std.proofs.Common.{◌≡◌, inr, length, refl, arith}
 use Rattle.journal.specs.declared.log_format.LogFormat.{LogFormat}
 use Rattle.journal.specs.declared.log_format.LogFormat.TheVariants.{One, Two}
 use Rattle.journal.specs.Places.{limit_of, slot_sectors_of}

@@ -1,13 +1,12 @@
 -- The descriptors of a record of format 2, by its entries.
-use Rattle.std.proofs.Common.{◌≡◌, ℕ, ◌+◌, ◌*◌, ◌<◌, List, [], ◌∷◌, ◌++◌, length, get_or, take, drop, refl, sym, ◌∙◌, ap}
+use Rattle.std.proofs.Common.{◌≡◌, ℕ, ◌+◌, ◌*◌, ◌<◌, List, [], ◌∷◌, length, get_or, take, drop, refl, sym, ◌∙◌, ap}
 use Rattle.std.proofs.Common.{arith}
 use Rattle.std.specs.Prelude.{zip}
 use Rattle.std.specs.List.{flat_map}
 use Rattle.std.proofs.lemmas.Grind.{common_steps}
-use Rattle.std.proofs.lemmas.List.{take-take, take-map, drop-map, length-map, length-take-le, get_or-take, get_or-drop}
+use Rattle.std.proofs.lemmas.List.{take-map, drop-map, length-map, length-take-le}
 use Rattle.std.proofs.lemmas.List.Elements.{All-take, All-drop, All-from_get_or}
 use Rattle.std.proofs.Math.ListN.{get_or-map}
-use Rattle.byteorder.specs.Endian.{little_bytes}
 use Rattle.journal.specs.Entry.{Entry, numbers_of}
 use Rattle.journal.specs.SectorsTwo.{entry_bytes, descriptor_bytes, place_bytes, firsts_of, chunk_of}
 use Rattle.journal.specs.SectorsTwo.{spelled_two, IsDescriptorTwo}

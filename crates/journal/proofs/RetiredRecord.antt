@@ -1,13 +1,13 @@
 -- Retiring the oldest record while another is written: what that leaves, for every layout.
-use Rattle.std.proofs.Common.{◌≡◌, inl, inr, ℕ, ◌+◌, ◌*◌, ◌<◌, ◌≤◌, List, [], ◌∷◌, length, get_or, drop, refl, sym, ◌∙◌}
-use Rattle.std.proofs.Common.{subst, arith, rules}
+use Rattle.std.proofs.Common.{◌≡◌, ℕ, ◌+◌, ◌*◌, ◌<◌, ◌≤◌, List, [], ◌∷◌, length, get_or, drop, refl, sym, ◌∙◌}
+use Rattle.std.proofs.Common.{arith, rules}
 use Rattle.std.proofs.lemmas.Bool.{cases_eq}
 use Rattle.std.proofs.lemmas.List.{length-drop, get_or-drop}
 use Rattle.medium.specs.Medium.{Image, Holds}
 use Rattle.spec.specs.Blocks.{Array}
 use Rattle.journal.specs.Places.{Shape}
-use Rattle.journal.specs.Sectors.{IsSuper, IsHead}
-use Rattle.journal.specs.Record.{Entry, Agree, with_blocks, with_records, home_of, Hides}
+use Rattle.journal.specs.Sectors.{IsHead}
+use Rattle.journal.specs.Record.{Entry, Agree, with_records, home_of, Hides}
 use Rattle.journal.specs.Layout.{Layout, IsWholeIn, CarriesBelowIn, part_at}
 use Rattle.journal.specs.LayoutLaws.{Laws}
 use Rattle.journal.specs.Staged.{View, stamp_of, with_less, IsHomed, KeepsView, WrittenSoFar, Guarded, Resting, HasSlots}

@@ -12,9 +12,9 @@ use Rattle.journal.specs.Spelling.{number_in}
 use Rattle.journal.specs.Sectors.{IsRising, IsDescriptor, IsCommit}
 use Rattle.journal.specs.Record.{Entry, numbers_of, block_of, entries_in}
 use Rattle.journal.specs.Layout.{AreEntries, IsWholeIn}
-use Rattle.journal.specs.Format1.{format1, offset1, part1, descriptor1, commit1, numbers_in, record_in}
+use Rattle.journal.specs.Format1.{format1, numbers_in, record_in}
 use Rattle.journal.proofs.SectorNumbers.{descriptor_says, descriptor_number}
-use Rattle.journal.proofs.Format1Laws.{parts, offset_early, offset_commit, part_descriptor, part_place, part_commit, descriptor_of, commit_of}
+use Rattle.journal.proofs.Format1Laws.{parts, descriptor_of, commit_of}
 use Rattle.journal.proofs.Wholeness.{record_of}
 
 -- the block numbers of entries that were read under them

@@ -5,7 +5,6 @@ use Rattle.medium.specs.Medium.{Image}
 use Rattle.spec.specs.Blocks.{Array}
 use Rattle.journal.specs.declared.log_format.LogFormat.{LogFormat}
 use Rattle.journal.specs.Places.{Shape}
-use Rattle.journal.specs.Sectors.{IsSuper, IsHead}
 use Rattle.journal.specs.Record.{Entry, home_of, Agree}
 use Rattle.journal.specs.Layout.{Layout, IsWholeIn, CarriesBelowIn, KeepsIn, slot_at}
 use Rattle.journal.specs.LayoutLaws.{Laws, IsRecordOf}

@@ -1,10 +1,8 @@
 -- Each slot ends before home.
-use Rattle.std.proofs.Common.{◌≡◌, ℕ, ◌+◌, ◌*◌, ◌%◌, ◌≤◌, ap, arith}
+use Rattle.std.proofs.Common.{◌≡◌, ℕ, ◌+◌, ◌*◌, ◌%◌, ◌≤◌, arith}
 use Rattle.std.proofs.lemmas.Nat.{mod_below}
-use Rattle.journal.specs.declared.log_format.LogFormat.{LogFormat}
 use Rattle.journal.specs.declared.log_format.LogFormat.TheVariants.{One, Two}
 use Rattle.journal.specs.declared.super_sector.Super.{Super}
-use Rattle.journal.specs.Places.{slot_sectors_of}
 
 module _ (sizes : Super) (stamp slot : ℕ) (is : slot ≡ stamp % sizes.slots) where
   pub within_one : sizes.format ≡ One → 2 + 50 * slot + 50 ≤ sizes.home

@@ -1,9 +1,6 @@
-use Rattle.std.proofs.Common.{◌∙◌, arith, rules}
-use Rattle.medium.proofs.Moments.{quiet_call}
-use Rattle.medium.proofs.SectorsRead.{look_below}
+use Rattle.std.proofs.Common.{◌∙◌}
 use Rattle.journal.specs.Values.{shape_of}
 use Rattle.journal.proofs.CopiedBlock.{begun_is}
-use Rattle.journal.proofs.SectorsRead.{place_before}
 use Rattle.journal.proofs.copies.read_copy.Goals as goal
 
 pub returns-clause-ok : goal.returns-clause-ok

@@ -1,8 +1,7 @@
 use Rattle.std.proofs.Common.{◌≡◌, ◌∙◌, ◌+◌, ◌*◌, ◌<◌, ℕ, List, Ok, inl, inr, refl, sym, rules, arith}
 use Rattle.std.specs.Prelude.{length, All}
 use Rattle.std.proofs.lemmas.List.{length-map}
-use Rattle.medium.specs.Medium.{State, LooksOnly}
-use Rattle.medium.proofs.Moments.{quiet_joined}
+use Rattle.medium.specs.Medium.{State}
 use Rattle.medium.proofs.SectorsRead.{looks_joined, looks_below}
 use Rattle.journal.proofs.SectorsRead.{reads}
 use Rattle.journal.specs.Entry.{Entry}

@@ -1,4 +1,4 @@
-use Rattle.std.proofs.Common.{◌≡◌, rules, arith}
+use Rattle.std.proofs.Common.{◌≡◌, rules}
 use Rattle.journal.proofs.EntriesTwo.{commit_stamp, commit_count}
 use Rattle.journal.proofs.v2.commit.Commit.decode.Goals as goal
 
