@@ -45,20 +45,13 @@ module _ (L : Layout) (laws : Laws L) (v : View) (some : 1 ≤ v.shape.slots)
   -- a block that the records hide is written home
   KeepsView-home : (b : ℕ) {bytes : List ℕ} → Hides v.records b → Holds (v.shape.home + b) bytes before image
       → KeepsView L v before → KeepsView L v image
-  KeepsView-home b hides write g = record {
-    super = rw (write.elsewhere 0 (λ e. omega (arith, behind))) g.super;
-    head_is = rw (write.elsewhere 1 (λ e. omega (arith, behind))) g.head_is;
-    whole = λ j below. IsWholeIn-same L laws v.shape some before image (log_same write (λ low. omega arith)) (v.head + j)
-        (get_or v.records j []) (g.whole j below);
-    blocks = λ c below. grind (
-      arith,
-      cases_eq c b,
-      hides (home_of v.shape image) (home_of v.shape before),
-      g.blocks c below,
-      with_records-same v.records (home_of v.shape image) (home_of v.shape before) c,
-      write.elsewhere (v.shape.home + c),
-    );
-  }
+  KeepsView-home b hides write g =
+      let log = log_same write (λ low. omega arith) in
+      let whole = λ (j : ℕ) (below : j < length v.records).
+      IsWholeIn-same L laws v.shape some before image log (v.head + j) (get_or v.records j []) (g.whole j below) in
+      let hidden = hides (home_of v.shape image) (home_of v.shape before) in
+      let others = with_records-same v.records (home_of v.shape image) (home_of v.shape before) in
+      grind (arith, cases_eq, write.elsewhere, g)
 
   -- with the oldest record at home the head goes past it
   KeepsView-head : {bytes : List ℕ} → 0 < length v.records → IsHead (v.head + 1) bytes → IsHomed v before

@@ -9,7 +9,7 @@ use Rattle.spec.specs.Blocks.{Array}
 use Rattle.journal.specs.Places.{Shape, sectors_of}
 use Rattle.journal.specs.Sectors.{IsSuper, IsHead}
 use Rattle.journal.specs.Record.{Entry, with_records, home_of}
-use Rattle.journal.specs.Layout.{slot_at}
+use Rattle.journal.specs.Layout.{slot_at, IsWholeIn}
 use Rattle.journal.specs.Formats.{layout_of}
 use Rattle.journal.specs.Standing.{IsCount, StandsFor}
 use Rattle.journal.specs.ImageFaults.{HasShape}
@@ -70,30 +70,22 @@ count_stands size shape image head count fits s h c =
     let read : ℕ → List Entry = λ j. L.read image (slot_at L shape (head + j)) in
     let records : List (List Entry) = map read (range_with_len 0 count) in
     let long : length records ≡ count = length-map-range_with_len read 0 count in
-    record {
-      array = with_records records (home_of shape image);
-      stands = record {
-        fits = fits;
-        head = head;
-        records = records;
-        keeps = record {
-          super = s;
-          head_is = h;
-          whole = λ j below.
-              let w = c.whole j (omega (arith, below, long)) in
-              rw (
-                get_or-map-range_with_len read 0 count j j [] (omega (arith, below, long)) (omega arith),
-                ← ((laws_of shape.format).read shape image (head + j) w.0 w.1),
-              ) w.1;
-          blocks = λ b below. refl;
-        };
-        few = omega (arith, long, c.few);
-        ends = λ less w. c.ends (omega (arith, long)) (w.0, rw long at w.1);
-        next_is = omega (arith, long);
-      };
-      head_is = refl;
-      count_is = long;
-    }
+    let whole : (j : ℕ) → j < length records → IsWholeIn L shape image (head + j) (get_or records j []) = λ j below.
+    let w = c.whole j (omega (arith, below, long)) in
+    rw (
+      get_or-map-range_with_len read 0 count j j [] (omega (arith, below, long)) (omega arith),
+      ← ((laws_of shape.format).read shape image (head + j) w.0 w.1),
+    ) w.1 in
+    let stands : StandsFor size shape image (with_records records (home_of shape image)) (head + count + 1) = record {
+      fits = fits;
+      head = head;
+      records = records;
+      keeps = record { super = s; head_is = h; whole = whole; blocks = λ b below. refl };
+      few = omega (arith, long, c.few);
+      ends = rw long c.ends;
+      next_is = omega (arith, long);
+    } in
+    record { array = with_records records (home_of shape image); stands = stands; head_is = refl; count_is = long }
 
 -- an image that stands for something has the shape of its super
 pub StandsFor-shape : (size : ℕ) (shape : Shape) (image : Image) (array : Array) (next : ℕ) → StandsFor size shape image array next

@@ -125,22 +125,19 @@ module _ (shape : Shape) (image : Image) (s slot : ℕ) (numbers : List ℕ) (sa
 
   numbers_read : numbers_of read ≡ numbers
   numbers_read =
-      let f : Entry → ℕ = λ e. e.0 in
-      ext_get_or 0 (numbers_of read) numbers (length-map read f ∙ long) (λ i below.
-      get_or-map f read i (0, []) ∙ ap f (entry_there i (omega (arith, below, long, length-map read f))).3)
+      let names = length-map read (λ (e : Entry). e.0) in
+      ext_get_or 0 (numbers_of read) numbers (names ∙ long)
+      (λ i below. grind (arith, entry_there i, names, long, get_or-map (λ (e : Entry). e.0) read i (0, [])))
 
   firsts_read : (j : ℕ) (below : j < (length numbers + 29) / 30) → firsts_of (chunk_of read j) ≡ (says.described j below).0
   firsts_read j below =
       let d = (says.described j below).1 in
       let many = length-map (chunk_of read j) (λ (e : Entry). take 8 e.1) in
-      let left : length (chunk_of read j) ≡ min 30 (length numbers - 30 * j) =
-      omega (arith, length-take 30 (drop (30 * j) read), length-drop (30 * j) read, long) in
+      let left : length (chunk_of read j) ≡ min 30 (length numbers - 30 * j) = simp (length-take, length-drop, long) in
       ext_get_or [] (firsts_of (chunk_of read j)) _ (omega (arith, many, left, d.entries.each, d.entries.many)) (λ e inside.
       let here : e < length (take 30 (drop (30 * j) numbers)) = omega (arith, inside, many, left, d.entries.many) in
-      rw (
-        first_at read 30 (30 * j) e (omega (arith, inside, many, left)),
-        read_entry image (2 + 249 * slot) says.committed j e d here,
-      ) (take_at _ (drop 8 (image (2 + 249 * slot + (8 + (30 * j + e))))) 8 (d.entries.sized e [] (omega (arith, here, d.entries.each)))))
+      rw (first_at read 30 (30 * j) e (omega (arith, inside, many, left)), read_entry image (2 + 249 * slot) says.committed j e d here)
+      (take_at _ (drop 8 (image (2 + 249 * slot + (8 + (30 * j + e))))) 8 (d.entries.sized e [] (omega (arith, here, d.entries.each)))))
 
   part_read : (p : ℕ) → Kind ((length read + 29) / 30) (length read) p
       → image (2 + 249 * slot + offset2 (length read) p) ≡ part2 s read p
@@ -159,15 +156,9 @@ module _ (shape : Shape) (image : Image) (s slot : ℕ) (numbers : List ℕ) (sa
       )
   part_read p (Placed b d) =
       let i = p - (length read + 29) / 30 in
-      let below : i < length numbers = omega (arith, b, d, long) in
-      let e = entry_there i below in
-      cc (
-        offset_place (length read) p b d,
-        part_place s read p b d,
-        says.placed i below,
-        e.3,
-        drop_at e.0 (drop 8 (image (2 + 249 * slot + (8 + i)))) 8 e.1,
-      )
+      let e = entry_there i (omega (arith, b, d, long)) in
+      let rest = drop_at e.0 (drop 8 (image (2 + 249 * slot + (8 + i)))) 8 e.1 in
+      cc (offset_place (length read) p b d, part_place s read p b d, says.placed i (omega (arith, b, d, long)), e.3, rest)
   part_read p (Committed d) =
       cc (offset_commit (length read) p d, part_commit s read p d, long, says.committed.spelled)
 
