@@ -2,8 +2,7 @@
 use Rattle.std.proofs.Common.{◌≡◌, ℕ, zero, suc, ◌+◌, ◌*◌, ◌-◌, ◌<◌, List, [], ◌∷◌, length, get_or, take, drop, refl, sym, ◌∙◌, ap}
 use Rattle.std.proofs.Common.{arith}
 use Rattle.std.specs.Prelude.{slice_range, All}
-use Rattle.std.proofs.lemmas.List.{length-take, length-drop, length-map, take-take, take_all}
-use Rattle.std.proofs.lemmas.List.{ext_get_or}
+use Rattle.std.proofs.lemmas.List.{length-take, length-drop, length-map, take-take, take_all, ext_get_or}
 use Rattle.journal.specs.SectorsTwo.{firsts_of, chunk_of}
 use Rattle.journal.proofs.EntriesTwo.{length_range}
 use Rattle.journal.proofs.RecordTwo.{first_at, numbers_of_chunk, descriptor_spelled}

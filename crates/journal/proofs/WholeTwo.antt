@@ -1,7 +1,6 @@
 -- A whole record of format 2, by what its sectors are decoded to.
 use Rattle.std.proofs.Common.{◌≡◌, ℕ, ◌+◌, ◌*◌, ◌-◌, ◌/◌, ◌%◌, ◌^◌, ◌<◌, List, [], ◌++◌, length, get_or, take, drop}
-use Rattle.std.proofs.Common.{sym, ◌∙◌, ap}
-use Rattle.std.proofs.Common.{arith, length-append}
+use Rattle.std.proofs.Common.{sym, ◌∙◌, ap, arith, length-append}
 use Rattle.std.specs.Prelude.{All, min}
 use Rattle.std.proofs.lemmas.List.{take_at, drop_at, get_or-take, get_or-drop, length-take, length-drop, length-map, ext_get_or}
 use Rattle.std.proofs.lemmas.List.{take-append-drop}
@@ -12,8 +11,7 @@ use Rattle.medium.specs.Medium.{Image}
 use Rattle.journal.specs.Places.{Shape}
 use Rattle.journal.specs.Spelling.{number_in}
 use Rattle.journal.specs.Sectors.{IsRising}
-use Rattle.journal.specs.SectorsTwo.{descriptor_bytes, place_bytes, firsts_of, chunk_of}
-use Rattle.journal.specs.SectorsTwo.{IsDescriptorTwo, IsCommitTwo}
+use Rattle.journal.specs.SectorsTwo.{descriptor_bytes, place_bytes, firsts_of, chunk_of, IsDescriptorTwo, IsCommitTwo}
 use Rattle.journal.specs.Record.{Entry, numbers_of, block_of}
 use Rattle.journal.specs.Layout.{IsWholeIn}
 use Rattle.journal.specs.Format2.{format2, entry_in, record_in, part2, offset2}

@@ -1,8 +1,7 @@
 -- The crash argument, for every layout: what a cut leaves while a record is written, and when all
 -- of it is flushed.
 use Rattle.std.proofs.Common.{◌≡◌, ◌⊎◌, inl, inr, ⊎_elim, ℕ, ◌+◌, ◌-◌, ◌<◌, ◌≤◌, List, [], ◌∷◌, ◌++◌, length, ◌∙◌}
-use Rattle.std.proofs.Common.{arith, rules}
-use Rattle.std.proofs.Common.{length-append}
+use Rattle.std.proofs.Common.{arith, rules, length-append}
 use Rattle.std.proofs.lemmas.Bool.{cases_lt}
 use Rattle.std.proofs.lemmas.List.{get_or_append_left}
 use Rattle.std.proofs.Math.Seq.{get_or-append_seam}

@@ -1,7 +1,6 @@
 -- What is read of a record, and by how many reads.
 use Rattle.std.specs.Prelude.{◌≡◌, ◌⊎◌, ◌↔◌, ℕ, ◌+◌, ◌<◌, List, [], ◌++◌, length, drop, get_or}
-use Rattle.std.specs.Prelude.{Option, Some, None, IfSome, IsSomeAnd, Bool, IsTrue}
-use Rattle.std.specs.Prelude.{if◌then◌else◌}
+use Rattle.std.specs.Prelude.{Option, Some, None, IfSome, IsSomeAnd, Bool, IsTrue, if◌then◌else◌}
 use Rattle.medium.specs.Medium.{State, Image}
 use Rattle.journal.specs.declared.log_format.LogFormat.{LogFormat}
 use Rattle.journal.specs.declared.log_format.LogFormat.TheVariants.{One, Two}

@@ -1,7 +1,6 @@
 -- What the bytes of a descriptor, a data place and a commit of format 2 are.
 use Rattle.std.specs.Prelude.{◌≡◌, ◌≤◌, ◌<◌, ℕ, ◌+◌, ◌*◌, ◌-◌, ◌/◌, ◌^◌, min, List, ◌++◌, length}
-use Rattle.std.specs.Prelude.{take, drop, replicate, codes}
-use Rattle.std.specs.Prelude.{All, map, zip}
+use Rattle.std.specs.Prelude.{take, drop, replicate, codes, All, map, zip}
 use Rattle.std.specs.List.{flat_map}
 use Rattle.byteorder.specs.Endian.{little_bytes}
 use Rattle.journal.specs.Spelling.{mark}

@@ -1,8 +1,7 @@
 use Rattle.std.proofs.Common.{◌+◌, ◌*◌, ◌%◌, ℕ, Option, Some, None, IfSome, sym, rules, arith}
 use Rattle.journal.specs.Values.{shape_of}
 use Rattle.journal.specs.Record.{entries_in, numbers_of}
-use Rattle.journal.proofs.WholeOne.{descriptor_there, commit_there, numbers_of-entries_in}
-use Rattle.journal.proofs.WholeOne.{whole_in}
+use Rattle.journal.proofs.WholeOne.{descriptor_there, commit_there, numbers_of-entries_in, whole_in}
 use Rattle.journal.proofs.Wholeness.{as_format, of_format}
 use Rattle.medium.proofs.SectorsRead.{looks_joined, look_below}
 use Rattle.journal.proofs.Within.{within_one}
