@@ -4,7 +4,7 @@ use Rattle.std.proofs.Common.{arith}
 use Rattle.std.specs.Prelude.{slice_range, All}
 use Rattle.std.proofs.lemmas.List.{length-take, length-drop, length-map, take-take, take_all, ext_get_or}
 use Rattle.journal.specs.SectorsTwo.{firsts_of, chunk_of}
-use Rattle.journal.proofs.EntriesTwo.{length_range}
+use Rattle.std.proofs.lemmas.Grind.{common_steps}
 use Rattle.journal.proofs.RecordTwo.{first_at, numbers_of_chunk, descriptor_spelled}
 use Rattle.journal.specs.Record.{Entry, numbers_of, entries_from, entries_of}
 
@@ -35,8 +35,7 @@ pub sized_batch : (numbers bytes : List ℕ) → length bytes ≡ 512 * length n
     → All (λ (e : Entry). length e.1 ≡ 512) (entries_of numbers bytes)
 sized_batch numbers bytes size i d below =
     let inside : i < length numbers = omega (arith, length_of_batch numbers bytes) in
-    ap (λ (e : Entry). length e.1) (entry_of_batch i numbers bytes d inside)
-    ∙ (length_range bytes (512 * i) (512 * i + 512) (omega arith) (omega arith) ∙ (omega arith))
+    grind (arith, common_steps, entry_of_batch i numbers bytes d inside)
 
 -- the first bytes of some blocks that follow each other
 firsts_of_part : (numbers bytes : List ℕ) (firsts : List (List ℕ)) (many from : ℕ) → length bytes ≡ 512 * length numbers

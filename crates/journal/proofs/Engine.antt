@@ -37,8 +37,7 @@ module _ (L : Layout) (laws : Laws L) (shape : Shape) where
       → IsFree L stamp (L.slot_sectors - 1) (image (slot_at L shape stamp + (L.slot_sectors - 1))) → ¬ HasWholeIn L shape image stamp
   last_free_none image stamp free whole =
       let n = length whole.0 in
-      late_carries image stamp whole.0 (L.parts n - 1) whole.1 (omega (arith, laws.some_parts n)) (omega (arith, laws.last_is_late n))
-      (rw (laws.last (length whole.0)) free)
+      grind (arith, late_carries image stamp whole.0 (L.parts n - 1) whole.1, laws.some_parts n, laws.last_is_late n, laws.last n, free)
 
 module _ (L : Layout) (laws : Laws L) (shape : Shape) (some : 1 ≤ shape.slots) where
   -- behind the stamps that the log carries no record is whole
@@ -114,15 +113,11 @@ module _ (L : Layout) (laws : Laws L) (v : View) (slots : HasSlots L v) where
   -- part k reached the medium
   pub Guarded-write : (before image : Image) (k durable : ℕ) → k < L.parts (length v.under_way)
       → Holds (at L v k) (bytes_of L v k) before image → Guarded L v k durable before → Guarded L v (k + 1) durable image
-  Guarded-write before image k durable below write g = record {
-    keeps = keeps_stays before image (L.offset (length v.under_way) k) (bytes_of L v k) (inside k below) write g.keeps;
-    parts = record {
-      carries = carries_stays v.under_way slots.under_way before image k below write g.parts.carries;
-      flushed = λ p less small. grind (arith, cases_eq p k, write.here, part_stays {p = p} write below small, g.parts.flushed p);
-      either = λ p less small. grind (arith, cases_eq p k, write.here, part_stays {p = p} write below small, g.parts.either p);
-      free = λ p more small. grind (arith, part_stays {p = p} write below small, g.parts.free p);
-    };
-  }
+  Guarded-write before image k durable below write g =
+      let keeps = keeps_stays before image (L.offset (length v.under_way) k) (bytes_of L v k) (inside k below) write g.keeps in
+      let carries = carries_stays v.under_way slots.under_way before image k below write g.parts.carries in
+      let stays = λ (p : ℕ). part_stays {p = p} write below in
+      grind (arith, cases_eq, stays, write.here, g.parts.flushed, g.parts.either, g.parts.free)
 
   -- part k was lost
   pub Guarded-lost : (image : Image) (k durable : ℕ) → k < L.parts (length v.under_way) → Guarded L v k durable image
@@ -150,9 +145,7 @@ module _ (L : Layout) (laws : Laws L) (v : View) (slots : HasSlots L v) where
   other_written before image k durable other is same early write g =
       let below : k < L.parts (length v.under_way) = omega arith in
       let stays = part_stays {p = last L v} write below (omega arith) (λ e. omega arith) in
-      record {
-        keeps = keeps_stays before image (L.offset (length v.under_way) k) (L.part (stamp_of v) other k) (inside k below) write g.keeps;
-        few = omega (arith, slots.room);
-        ends = λ room. last_free image (rw stays (g.parts.free (last L v) (omega arith) (omega arith)));
-        carries = carries_stays other is before image k (rw same below) (rw same write) g.parts.carries;
-      }
+      let none = last_free image (rw stays (g.parts.free (last L v) (omega arith) (omega arith))) in
+      let keeps = keeps_stays before image (L.offset (length v.under_way) k) (L.part (stamp_of v) other k) (inside k below) write g.keeps in
+      let carries = carries_stays other is before image k (rw same below) (rw same write) g.parts.carries in
+      grind (arith, slots.room)

@@ -89,17 +89,13 @@ pub items_here : (items numbers : List ℕ) (from here : ℕ) → here ≡ min 3
 items_here items numbers from here is are =
     rw (are, ← (take_min 30 (drop from numbers))) (ap (λ (k : ℕ). take k (drop from numbers)) (grind (arith, common_steps)))
 
--- a part of bytes is as long as it says
-pub length_range : (bytes : List ℕ) (a b : ℕ) → a ≤ b → b ≤ length bytes → length (slice_range bytes a b) ≡ b - a
-length_range bytes a b le inside = grind (arith, common_steps)
-
 -- first bytes that were cut from bytes are 8 each
 pub sized_from : (firsts : List (List ℕ)) (count : ℕ) (bytes : List ℕ) (at : ℕ → ℕ) → length firsts ≡ count
     → ((i : ℕ) → i < count → at i + 8 ≤ length bytes)
     → ((i : ℕ) → i < count → get_or firsts i [] ≡ slice_range bytes (at i) (at i + 8))
     → All (λ (first : List ℕ). length first ≡ 8) firsts
 sized_from firsts count bytes at size inside each = All-from_get_or (λ (first : List ℕ). length first ≡ 8) firsts [] (λ i below.
-    grind (arith, each i, inside i, length_range bytes (at i) (at i + 8)))
+    grind (arith, common_steps, each i, inside i))
 
 -- what a descriptor may hold, cut from the block numbers of a record
 pub entries_cut : (numbers items : List ℕ) (firsts : List (List ℕ)) (j : ℕ) → length numbers ≤ 240 → 30 * j < length numbers

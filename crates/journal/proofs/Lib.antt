@@ -23,5 +23,4 @@ pub mod StandingLaws
 pub mod WholeTwo
 pub mod SlotTwo
 pub mod DescribedNumbers
-pub mod Within
 pub mod Wholeness

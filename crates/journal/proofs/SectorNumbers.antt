@@ -27,17 +27,14 @@ module _ {stamp : ℕ} {numbers bytes : List ℕ} (d : IsDescriptor stamp number
   pub descriptor_number : (i : ℕ) → i < length numbers → number_in bytes (3 + i) ≡ get_or numbers i 0
   descriptor_number i below =
       let it = behind_three descriptor_mark stamp (length numbers) i numbers in
-      spelling_get (3 + i) (descriptor_mark ∷ stamp ∷ length numbers ∷ numbers) bytes (omega arith)
-      (omega (arith, it, d.block_numbers.fit i 0 below)) d.spelled ∙ it
+      spelling_get (3 + i) _ bytes (omega arith) (omega (arith, it, d.block_numbers.fit i 0 below)) d.spelled ∙ it
 
   -- a list that was read as its block numbers is its block numbers
   pub descriptor_numbers : (count : ℕ) (list : List ℕ) → count ≡ number_in bytes 2
       → length list ≡ count
       → ((i : ℕ) → i < count → get_or list i 0 ≡ number_in bytes (3 + i)) → list ≡ numbers
-  descriptor_numbers count list is size read =
-      let same : count ≡ length numbers = is ∙ descriptor_says.1 in
-      ext_get_or 0 list numbers (size ∙ same)
-      (λ i below. read i (omega (arith, size)) ∙ descriptor_number i (omega (arith, size, same)))
+  descriptor_numbers count list is size read = ext_get_or 0 list numbers (omega (arith, is, descriptor_says.1))
+      (λ i below. grind (arith, read i, descriptor_number i, is, descriptor_says.1))
 
 -- the format of a super with this version
 abbrev pub format_in : ℕ → LogFormat

@@ -66,20 +66,11 @@ module _ (L : Layout) (laws : Laws L) (v : View) (slots : HasSlots L v) where
   -- an image where it is keeps it with the durable ones
   keeps_with : (image : Image) → KeepsView L v image → IsWholeIn L v.shape image (stamp_of v) v.under_way
       → KeepsView L (with_record v) image
-  keeps_with image keeps whole = record {
-    super = keeps.super;
-    head_is = keeps.head_is;
-    whole = λ j below. grind (
-      arith,
-      cases_lt j (length v.records),
-      keeps.whole j,
-      longer,
-      get_or_append_left v.records (v.under_way ∷ []) [] j,
-      get_or-append_seam v.records v.under_way [] [],
-    );
-    blocks = λ b below. with_records-append v.records v.under_way (home_of v.shape image) b
-        ∙ with_blocks-same v.under_way (with_records v.records (home_of v.shape image)) v.array b (keeps.blocks b below);
-  }
+  keeps_with image keeps whole =
+      let more = with_records-append v.records v.under_way (home_of v.shape image) in
+      let laid = with_blocks-same v.under_way (with_records v.records (home_of v.shape image)) v.array in
+      let old = get_or_append_left v.records (v.under_way ∷ []) [] in
+      grind (arith, cases_lt, keeps, longer, get_or-append_seam v.records v.under_way [] [])
 
   -- and stands for it
   found_with : (image : Image) (k durable : ℕ) → Guarded L v k durable image

@@ -4,7 +4,7 @@ use Rattle.journal.specs.Record.{entries_in, numbers_of}
 use Rattle.journal.proofs.WholeOne.{descriptor_there, commit_there, numbers_of-entries_in, whole_in}
 use Rattle.journal.proofs.Wholeness.{as_format, of_format}
 use Rattle.medium.proofs.SectorsRead.{looks_joined, look_below}
-use Rattle.journal.proofs.Within.{within_one}
+use Rattle.journal.proofs.SectorsRead.{within_one}
 use Rattle.journal.proofs.v1.read.read_descriptor.Goals as goal
 use Rattle.journal.proofs.v1.read.read_descriptor.Goals.{After-read-2}
 

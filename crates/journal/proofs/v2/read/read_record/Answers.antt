@@ -3,7 +3,7 @@ use Rattle.std.specs.Prelude.{length, All}
 use Rattle.std.proofs.lemmas.List.{length-map}
 use Rattle.medium.specs.Medium.{State}
 use Rattle.medium.proofs.SectorsRead.{looks_joined, looks_below}
-use Rattle.journal.proofs.SectorsRead.{reads}
+use Rattle.journal.proofs.SectorsRead.{reads, within_two}
 use Rattle.journal.specs.Entry.{Entry}
 use Rattle.journal.specs.Sectors.{IsRising}
 use Rattle.journal.specs.SectorsTwo.{descriptors_of}
@@ -17,7 +17,6 @@ use Rattle.journal.proofs.DescribedNumbers.{each_there}
 use Rattle.journal.proofs.SlotTwo.{untrue, two_whole, two_says}
 use Rattle.journal.proofs.WholeTwo.{descriptor_whole}
 use Rattle.journal.proofs.Wholeness.{as_format}
-use Rattle.journal.proofs.Within.{within_two}
 use Rattle.journal.proofs.v2.read.read_record.Given as given
 use Rattle.journal.proofs.v2.read.read_record.Goals as goal
 use Rattle.journal.proofs.v2.read.read_record.Goals.{After-read_descriptors}

@@ -1,4 +1,4 @@
-use Rattle.std.proofs.Common.{◌≡◌, rules, ◌∙◌, IsTrue}
+use Rattle.std.proofs.Common.{◌≡◌, rules, arith, ◌∙◌, IsTrue}
 use Rattle.journal.proofs.SectorNumbers.{descriptor_says, descriptor_numbers}
 use Rattle.journal.proofs.v1.descriptor.Descriptor.decode.Goals as goal
 
@@ -6,8 +6,7 @@ pub returns-then-not-are_block_numbers-clause-all : goal.returns-then-not-are_bl
 returns-then-not-are_block_numbers-clause-all c stamp numbers d =
     let read = c.numbers_at-numbers.ensures in
     let same = descriptor_numbers d _ c.numbers_at-numbers.result.items c.number_at-count.ensures.is read.count read.each in
-    let good : IsTrue c.are_block_numbers.result = c.are_block_numbers.ensures.1 (rw (c.deref.ensures.0, same) d.block_numbers) in
-    search rules
+    grind (arith, same, d.block_numbers)
 
 pub returns-then-eq-clause-all : goal.returns-then-eq-clause-all
 returns-then-eq-clause-all c stamp numbers d =
@@ -20,6 +19,6 @@ pub returns-else-eq-clause-all : goal.returns-else-eq-clause-all
 returns-else-eq-clause-all c stamp numbers d =
     let read = c.numbers_at-numbers.ensures in
     let same = descriptor_numbers d _ c.numbers_at-numbers.result.items c.number_at-count.ensures.is read.count read.each in
-    let e : c.encode.result ≡ c.args.sector.now =
-    cc (c.encode.ensures.spelled, c.number_at-stamp.ensures.is, (descriptor_says d).0, same, d.spelled) in
+    let says = descriptor_says d in
+    let e : c.encode.result ≡ c.args.sector.now = cc (c.encode.ensures.spelled, c.number_at-stamp.ensures.is, says.0, same, d.spelled) in
     search rules

@@ -27,9 +27,7 @@ returns-then-not-are_small-clause-all c stamp count j numbers firsts d =
     let read = c.numbers_at-numbers.ensures in
     let here = here_is d c.count_here-here.ensures c.number_at-count.ensures.is c.number_at-index.ensures.is in
     let same = numbers_are d c.count_here-here.result c.numbers_at-numbers.result.items here read.count read.each in
-    let small : All (λ b. b < 2 ^ 31) c.numbers_at-numbers.result.items = rw same d.entries.small in
-    let rising : IsRising c.numbers_at-numbers.result.items = rw same d.entries.rising in
-    search rules
+    grind (arith, same, d.entries.small, d.entries.rising)
 
 pub invariant_of-descriptor : goal.invariant_of-descriptor
 invariant_of-descriptor c =
