@@ -8,33 +8,27 @@ use Rattle.journal.specs.declared.super_fault.SuperFault.TheVariants.{Magic, Ver
 use Rattle.journal.specs.Places.{Shape, sectors_of}
 use Rattle.journal.specs.Spelling.{number_in, super_mark}
 use Rattle.journal.specs.Sectors.{IsSuper}
-use Rattle.journal.specs.SuperFaults.{HasVersion, IsSuperFault}
+use Rattle.journal.specs.SuperFaults.{HasMagic, HasVersion, HasZeroRest, IsSuperFault}
 use Rattle.journal.specs.Standing.{Stands}
 use Rattle.journal.specs.ImageFaults.{ImageFault, BadSuper, BadVersion, BadSize, BadHead, HasFault}
 use Rattle.journal.proofs.SectorNumbers.{super_begins, IsSuper-one}
 use Rattle.journal.proofs.Decided.{same_or_not, head_or_not, super_or_not, count_of}
 use Rattle.journal.proofs.StandingLaws.{count_stands}
 
--- a version is known or not
-version_or_not : (bytes : List ℕ) → HasVersion bytes ⊎ (¬ HasVersion bytes)
-version_or_not bytes = grind arith
+-- a sector is a super or has a fault, by what is known of it
+first_fault : (bytes : List ℕ) → HasMagic bytes ⊎ (¬ HasMagic bytes) → HasVersion bytes ⊎ (¬ HasVersion bytes)
+    → HasZeroRest bytes ⊎ (¬ HasZeroRest bytes) → ((shape : Shape) × IsSuper shape bytes) ⊎ (¬ ((shape : Shape) × IsSuper shape bytes))
+    → ((shape : Shape) × IsSuper shape bytes) ⊎ ((fault : SuperFault) × IsSuperFault fault bytes)
+first_fault bytes (inr m) v z s = inr (Magic, m)
+first_fault bytes (inl m) (inr v) z s = inr (Version, (m, v))
+first_fault bytes (inl m) (inl v) (inr z) s = inr (Rest, (m, v, z))
+first_fault bytes (inl m) (inl v) (inl z) (inr s) = inr (Sizes, (m, v, z, λ shape is. s (shape, is)))
+first_fault bytes (inl m) (inl v) (inl z) (inl s) = inl s
 
--- a sector is a super or has a fault
-pub super_or_fault : (bytes : List ℕ) → ((shape : Shape)
-    × IsSuper shape bytes) ⊎ ((fault : SuperFault) × IsSuperFault fault bytes)
-super_or_fault bytes = elim (cases_eq (number_in bytes 0) super_mark) [
-  | inr no_mark ↦ inr (Magic, no_mark)
-  | inl magic ↦ elim (version_or_not bytes) [
-    | inr other ↦ inr (Version, (magic, other))
-    | inl version ↦ elim (same_or_not (drop 48 bytes) (replicate 464 0)) [
-      | inr more ↦ inr (Rest, (magic, version, more))
-      | inl zeros ↦ elim (super_or_not bytes) [
-        | inl s ↦ inl s
-        | inr none ↦ inr (Sizes, (magic, version, zeros, λ shape s. none (shape, s)))
-      ]
-    ]
-  ]
-]
+pub super_or_fault : (bytes : List ℕ) → ((shape : Shape) × IsSuper shape bytes) ⊎ ((fault : SuperFault) × IsSuperFault fault bytes)
+super_or_fault bytes =
+    first_fault bytes (cases_eq (number_in bytes 0) super_mark) (grind arith) (same_or_not (drop 48 bytes) (replicate 464 0))
+    (super_or_not bytes)
 
 -- the faults of a super, as those of an image
 fault_of : (size : ℕ) (image : Image) → 1 ≤ size → (fault : SuperFault)

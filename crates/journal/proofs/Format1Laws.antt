@@ -39,18 +39,6 @@ part_commit s entries p behind = rw (above_is p 1 (omega arith), above_is p (len
 
 pub ruleset parts = (offset_early, offset_commit, part_descriptor, part_place, part_commit)
 
--- the kinds of parts of a record of n blocks, with so many descriptors, in both formats
-pub data Kind (descriptors n p : ℕ) : Type 0 where
-  Described : p < descriptors → Kind descriptors n p
-  Placed : descriptors ≤ p → p < descriptors + n → Kind descriptors n p
-  Committed : descriptors + n ≤ p → Kind descriptors n p
-
-pub kind_of : (descriptors n p : ℕ) → Kind descriptors n p
-kind_of descriptors n p = elim (cases_lt p descriptors) [
-  | inl d ↦ Described d
-  | inr not ↦ elim (cases_lt p (descriptors + n)) [ inl below ↦ Placed not below | inr all ↦ Committed all ]
-]
-
 pub inside1 : (n p : ℕ) → n ≤ 48 → p < n + 2 → offset1 n p < 50
 inside1 n p few below = grind (arith, parts)
 
@@ -83,8 +71,8 @@ carried1 o s bytes c = grind (arith, descriptor_says, commit_says, c.descriptor,
 pub one_stamp1 : (blocks s t : ℕ) (entries : List Entry) (p : ℕ) → IsRecordOf format1 blocks s entries
     → Carries1 (offset1 (length entries) p) t (part1 s entries p) → t ≡ s
 one_stamp1 blocks s t entries p r c =
-    let ends : 1 ≤ p → length entries + 1 ≤ p = λ some. grind (arith, offset_early (length entries) p, c.place, r.fit.few) in
-    sym (carried1 _ t _ c) ∙ carried1 _ s _ (ends_carry r p ends)
+    let ends : 1 ≤ p → length entries + 1 ≤ p = λ some. grind (arith, parts, c.place, r.fit.few) in
+    grind (arith, carried1 _ t _ c, carried1 _ s _ (ends_carry r p ends))
 
 -- zeros carry no stamp
 pub zeros1 : (o s : ℕ) → Carries1 o s (replicate 512 0) → s ≡ 0

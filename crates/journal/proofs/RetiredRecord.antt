@@ -59,11 +59,9 @@ module _ (L : Layout) (laws : Laws L) (v : View) (some : 1 ≤ v.shape.slots)
   KeepsView-head waits h homed write g = record {
     super = rw (write.elsewhere 0 (λ e. omega arith)) g.super;
     head_is = rw write.here h;
-    whole = λ j below.
-        let next : v.head + 1 + j ≡ v.head + (1 + j) = omega arith in
-        IsWholeIn-same L laws v.shape some before image (log_same write (λ low. omega arith))
-        (v.head + 1 + j) (get_or (drop 1 v.records) j [])
-        (rw (next, get_or-drop 1 v.records j []) (g.whole (1 + j) (omega (arith, length-drop 1 v.records))));
+    whole = λ j below. IsWholeIn-same L laws v.shape some before image (log_same write (λ low. omega arith)) (v.head + 1 + j)
+        (get_or (drop 1 v.records) j [])
+        (rw (get_or-drop 1 v.records j []) (grind (arith, g.whole (1 + j), length-drop 1 v.records)));
     blocks = λ b below. with_records-same (drop 1 v.records) (home_of v.shape image) (home_of v.shape before) b
         (write.elsewhere (v.shape.home + b) (λ e. omega (arith, behind)))
         ∙ (sym (oldest_home v.records (home_of v.shape before) b homed) ∙ g.blocks b below);

@@ -26,8 +26,8 @@ numbers_of-entries_in image place (b ∷ numbers) = ap (λ (l : List ℕ). b ∷
 -- how many they are
 pub length-entries_in : (image : Image) (place : ℕ) (numbers : List ℕ)
     → length (entries_in image place numbers) ≡ length numbers
-length-entries_in image place numbers = sym (length-map (entries_in image place numbers) (λ (e : Entry). e.0))
-    ∙ ap (λ (l : List ℕ). length l) (numbers_of-entries_in image place numbers)
+length-entries_in image place [] = refl
+length-entries_in image place (b ∷ numbers) = grind (arith, length-entries_in image (place + 1) numbers)
 
 -- the i-th of them
 pub entry_of-entries_in : (image : Image) (place i : ℕ) (numbers : List ℕ) → i < length numbers
@@ -86,15 +86,10 @@ module _ (shape : Shape) (image : Image) (stamp : ℕ) (numbers : List ℕ)
   many = length-entries_in image (at + 1) numbers
 
   entries : AreEntries 48 shape.blocks es
-  entries = record {
-    some = omega (arith, many, described.block_numbers.some);
-    few = omega (arith, many, described.block_numbers.few);
-    rising = subst IsRising (sym names) described.block_numbers.rising;
-    inside = subst (λ (l : List ℕ). All (λ b. b < shape.blocks) l) (sym names) below_all;
-    small = subst (λ (l : List ℕ). All (λ b. b < 2 ^ 31) l) (sym names) described.block_numbers.fit;
-    sized = All-from_get_or (λ e. length e.1 ≡ 512) es (0, []) (λ i below.
-        rw (entry_of-entries_in image (at + 1) i numbers (omega (arith, many))) (sized i (omega (arith, many))));
-  }
+  entries =
+      let sized = All-from_get_or (λ e. length e.1 ≡ 512) es (0, []) (λ i below.
+      rw (entry_of-entries_in image (at + 1) i numbers (omega (arith, many))) (sized i (omega (arith, many)))) in
+      grind (arith, names, many, described.block_numbers)
 
   -- these are the blocks of a whole record
   pub whole_in : IsWholeIn format1 shape image stamp (entries_in image (2 + 50 * (stamp % shape.slots) + 1) numbers)

@@ -1,5 +1,5 @@
 -- A whole record of format 2, by what its sectors are decoded to.
-use Rattle.std.proofs.Common.{◌≡◌, ℕ, ◌+◌, ◌*◌, ◌-◌, ◌/◌, ◌%◌, ◌^◌, ◌<◌, List, [], ◌++◌, length, get_or, take, drop}
+use Rattle.std.proofs.Common.{inl, inr, ◌≡◌, ℕ, ◌+◌, ◌*◌, ◌-◌, ◌/◌, ◌%◌, ◌^◌, ◌<◌, List, [], ◌++◌, length, get_or, take, drop}
 use Rattle.std.proofs.Common.{sym, ◌∙◌, ap, arith, length-append}
 use Rattle.std.specs.Prelude.{All, min}
 use Rattle.std.proofs.lemmas.List.{take_at, drop_at, get_or-take, get_or-drop, length-take, length-drop, length-map, ext_get_or}
@@ -18,7 +18,7 @@ use Rattle.journal.specs.Format2.{format2, entry_in, record_in, part2, offset2}
 use Rattle.journal.specs.SlotTwo.{HasDescriptors, HasPlaces}
 use Rattle.journal.proofs.EntriesTwo.{number_is, first_is, commit_count, place_rest}
 use Rattle.journal.proofs.RecordTwo.{number_at, first_at, numbers_of_chunk, descriptor_two, descriptor_spelled, place_own}
-use Rattle.journal.proofs.Format1Laws.{Kind, Described, Placed, Committed, kind_of}
+use Rattle.std.proofs.lemmas.Bool.{cases_lt}
 use Rattle.journal.proofs.Format2Laws.{parts, offset_descriptor, offset_place, offset_commit, part_descriptor, part_place, part_commit}
 use Rattle.journal.proofs.Wholeness.{record_of}
 
@@ -137,28 +137,30 @@ module _ (shape : Shape) (image : Image) (s slot : ℕ) (numbers : List ℕ) (sa
       rw (first_at read 30 (30 * j) e (omega (arith, inside, many, left)), read_entry image (2 + 249 * slot) says.committed j e d here)
       (take_at _ (drop 8 (image (2 + 249 * slot + (8 + (30 * j + e))))) 8 (d.entries.sized e [] (omega (arith, here, d.entries.each)))))
 
-  part_read : (p : ℕ) → Kind ((length read + 29) / 30) (length read) p
-      → image (2 + 249 * slot + offset2 (length read) p) ≡ part2 s read p
+  part_read : (p : ℕ) → image (2 + 249 * slot + offset2 (length read) p) ≡ part2 s read p
   unfolding place_bytes
-  part_read p (Described d) =
-      let below : p < (length numbers + 29) / 30 = omega (arith, d, long) in
-      cc (
-        offset_descriptor (length read) p d,
-        part_descriptor s read p d,
-        descriptor_spelled s read p,
-        (says.described p below).1.spelled,
-        long,
-        numbers_of_chunk read p,
-        numbers_read,
-        firsts_read p below,
-      )
-  part_read p (Placed b d) =
-      let i = p - (length read + 29) / 30 in
-      let e = entry_there i (omega (arith, b, d, long)) in
-      let rest = drop_at e.0 (drop 8 (image (2 + 249 * slot + (8 + i)))) 8 e.1 in
-      cc (offset_place (length read) p b d, part_place s read p b d, says.placed i (omega (arith, b, d, long)), e.3, rest)
-  part_read p (Committed d) =
-      cc (offset_commit (length read) p d, part_commit s read p d, long, says.committed.spelled)
+  part_read p = elim (cases_lt p ((length read + 29) / 30)) [
+    | inl d ↦
+        let below : p < (length numbers + 29) / 30 = omega (arith, d, long) in
+        cc (
+          offset_descriptor (length read) p d,
+          part_descriptor s read p d,
+          descriptor_spelled s read p,
+          (says.described p below).1.spelled,
+          long,
+          numbers_of_chunk read p,
+          numbers_read,
+          firsts_read p below,
+        )
+    | inr b ↦ elim (cases_lt p ((length read + 29) / 30 + length read)) [
+      | inl d ↦
+          let i = p - (length read + 29) / 30 in
+          let e = entry_there i (omega (arith, b, d, long)) in
+          let rest = drop_at e.0 (drop 8 (image (2 + 249 * slot + (8 + i)))) 8 e.1 in
+          cc (offset_place (length read) p b d, part_place s read p b d, says.placed i (omega (arith, b, d, long)), e.3, rest)
+      | inr d ↦ cc (offset_commit (length read) p d, part_commit s read p d, long, says.committed.spelled)
+    ]
+  ]
 
   -- of 512 bytes each, it is whole
   pub whole_two : ((i : ℕ) → i < length numbers → length (image (2 + 249 * slot + (8 + i))) ≡ 512)
@@ -178,5 +180,5 @@ module _ (shape : Shape) (image : Image) (s slot : ℕ) (numbers : List ℕ) (sa
     };
     least = says.committed.least;
     below = says.committed.most;
-    there = λ p within. rw (← is) (part_read p (kind_of ((length read + 29) / 30) (length read) p));
+    there = λ p within. rw (← is) (part_read p);
   }

@@ -98,6 +98,7 @@ impl Super {
     /// # Errors
     ///
     /// The first fault that applies, in the order of `SuperFault`.
+    #[tactic(auto, using(crate::proofs::SectorNumbers::super_begins))]
     pub fn decode(sector: &[u8; 512]) -> Result<Super, SuperFault>
         ensures ok { IfOk result (λ sizes. IsSuper (shape_of sizes) sector.now) }
         ensures all { (shape : Shape) → IsSuper shape sector.now

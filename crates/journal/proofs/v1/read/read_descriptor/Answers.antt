@@ -11,8 +11,7 @@ use Rattle.journal.proofs.v1.read.read_descriptor.Goals.{After-read-2}
 -- what follows from three facts of the value in a `Some`
 IfSome_from : {X : Type 0} (found : Option X) {P Q R S : X → Type 0} → IfSome found P → IfSome found Q → IfSome found R
     → ((x : X) → P x → Q x → R x → S x) → IfSome found S
-IfSome_from None p q r f = tt
-IfSome_from (Some x) p q r f = f x p q r
+IfSome_from found p q r f = search (rules, f)
 
 pub returns-clause-reads : goal.returns-clause-reads
 returns-clause-reads g c = record {
