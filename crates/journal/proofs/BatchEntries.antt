@@ -46,12 +46,15 @@ firsts_of_part : (numbers bytes : List ℕ) (firsts : List (List ℕ)) (many fro
 firsts_of_part numbers bytes firsts many from size count each =
     let es : List Entry = entries_of numbers bytes in
     ext_get_or [] firsts (firsts_of (take many (drop from es)))
-    (simp (length-map, length-take, length-drop, length_of_batch) (simp (length-take, length-drop) at count)) (λ i below.
+    (simp (length-map, length-take, length-drop, length_of_batch) (simp (length-take, length-drop) at count))
+    (λ i below.
     let few : i < many = omega (arith, count, length-take many (drop from numbers)) in
-    let inside : from + i < length numbers = omega (arith, count, length-take many (drop from numbers), length-drop from numbers) in
+    let inside : from + i < length numbers =
+    omega (arith, count, length-take many (drop from numbers), length-drop from numbers) in
     let a : 512 * (from + i) + 512 - 512 * (from + i) ≡ 512 = omega arith in
     let b : 512 * (from + i) + 8 - 512 * (from + i) ≡ 8 = omega arith in
-    rw (each i (omega (arith, count)), first_at es many from i few, entry_of_batch (from + i) numbers bytes (0, []) inside, a, b)
+    let entry = entry_of_batch (from + i) numbers bytes (0, []) inside in
+    rw (each i (omega (arith, count)), first_at es many from i few, entry, a, b)
     (sym (take-take 8 512 (drop (512 * (from + i)) bytes) (omega arith))))
 
 -- of all of them
@@ -72,4 +75,5 @@ pub firsts_of_batch : (numbers bytes : List ℕ) (firsts : List (List ℕ)) (j :
     → firsts ≡ firsts_of (chunk_of (entries_of numbers bytes) j)
 firsts_of_batch numbers bytes firsts j = firsts_of_part numbers bytes firsts 30 (30 * j)
 
-pub ruleset batch = (numbers_of_batch, length_of_batch, entry_of_batch, firsts_of_batch, numbers_of_chunk, descriptor_spelled)
+pub ruleset batch =
+    (numbers_of_batch, length_of_batch, entry_of_batch, firsts_of_batch, numbers_of_chunk, descriptor_spelled)

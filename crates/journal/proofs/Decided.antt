@@ -28,7 +28,7 @@ each_or_not P n p = let first = all_or_first P (λ k. ¬ P k) n (λ k below. p k
 -- two lists of numbers are the same or not
 pub same_or_not : (xs ys : List ℕ) → Decided (xs ≡ ys)
 same_or_not xs ys =
-    let each = each_or_not (λ k. get_or xs k 0 ≡ get_or ys k 0) (length xs) (λ k. cases_eq (get_or xs k 0) (get_or ys k 0)) in
+    let each = each_or_not (λ k. get_or xs k 0 ≡ get_or ys k 0) (length xs) (λ k. cases_eq _ _) in
     search (rules, arith, cases_eq (length xs) (length ys), ext_get_or 0 xs ys)
 
 -- all of a list or not
@@ -45,7 +45,7 @@ below_or_not a b = grind (arith, cases_lt a b)
 rising_or_not : (numbers : List ℕ) → Decided (IsRising numbers)
 rising_or_not numbers =
     let all = each_or_not (λ j. (i : ℕ) → i < j → get_or numbers i 0 < get_or numbers j 0) (length numbers)
-    (λ j. each_or_not (λ i. get_or numbers i 0 < get_or numbers j 0) j (λ i. below_or_not (get_or numbers i 0) (get_or numbers j 0))) in
+    (λ j. each_or_not (λ i. get_or numbers i 0 < get_or numbers j 0) j (λ i. below_or_not _ _)) in
     search (rules, arith)
 
 -- a sector is a head or not
@@ -63,7 +63,8 @@ super_or_not bytes =
     let s : Shape = shape_in bytes in
     let spelled = same_or_not bytes (spelling (super_mark ∷ version_of s.format ∷ s.blocks ∷ s.slots ∷ 2 ∷ s.home ∷ [])) in
     let here : Decided (IsSuper s bytes) = search (rules, arith, cases_lt) in
-    let one : ((shape : Shape) × IsSuper shape bytes) → IsSuper s bytes = λ w. subst (λ (x : Shape). IsSuper x bytes) (sym (shape_is w.1)) w.1 in
+    let one : ((shape : Shape) × IsSuper shape bytes) → IsSuper s bytes =
+    λ w. subst (λ (x : Shape). IsSuper x bytes) (sym (shape_is w.1)) w.1 in
     search (rules, one)
 
 -- blocks make a record or not
@@ -78,7 +79,8 @@ entries_or_not most blocks es =
     search (rules, arith)
 
 -- a record is whole or not
-whole_or_not : (L : Layout) (laws : Laws L) (shape : Shape) (image : Image) (stamp : ℕ) → Decided (HasWholeIn L shape image stamp)
+whole_or_not : (L : Layout) (laws : Laws L) (shape : Shape) (image : Image) (stamp : ℕ)
+    → Decided (HasWholeIn L shape image stamp)
 whole_or_not L laws shape image stamp =
     let es : List Entry = L.read image (slot_at L shape stamp) in
     let fit = entries_or_not L.most shape.blocks es in

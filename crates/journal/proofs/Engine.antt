@@ -37,13 +37,15 @@ module _ (L : Layout) (laws : Laws L) (shape : Shape) where
       → IsFree L stamp (L.slot_sectors - 1) (image (slot_at L shape stamp + (L.slot_sectors - 1))) → ¬ HasWholeIn L shape image stamp
   last_free_none image stamp free whole =
       let n = length whole.0 in
-      grind (arith, late_carries image stamp whole.0 (L.parts n - 1) whole.1, laws.some_parts n, laws.last_is_late n, laws.last n, free)
+      let late = late_carries image stamp whole.0 (L.parts n - 1) whole.1 in
+      grind (arith, late, laws.some_parts n, laws.last_is_late n, laws.last n, free)
 
 module _ (L : Layout) (laws : Laws L) (shape : Shape) (some : 1 ≤ shape.slots) where
   -- behind the stamps that the log carries no record is whole
   pub none_carried : (image : Image) (end : ℕ) → CarriesBelowIn L shape image end → ¬ HasWholeIn L shape image end
   none_carried image end c =
-      last_free_none L laws shape image end (λ t. c (end % shape.slots) (L.slot_sectors - 1) t (mod_below end shape.slots some)
+      let low = mod_below end shape.slots some in
+      last_free_none L laws shape image end (λ t. c (end % shape.slots) (L.slot_sectors - 1) t low
       (omega (arith, laws.inside 0 0 (omega arith) (laws.some_parts 0))))
 
   -- an image at rest stands for its array
@@ -74,13 +76,14 @@ module _ (L : Layout) (laws : Laws L) (v : View) (slots : HasSlots L v) where
   keeps_stays : (before image : Image) (o : ℕ) (bytes : List ℕ) → o < L.slot_sectors
       → Holds (slot_at L v.shape (stamp_of v) + o) bytes before image → KeepsView L v before → KeepsView L v image
   keeps_stays before image o bytes small write k =
-      let low = in_log L.slot_sectors (stamp_of v % v.shape.slots) v.shape.slots o slot_below small in
+      let slot = stamp_of v % v.shape.slots in
+      let low = in_log L.slot_sectors slot v.shape.slots o slot_below small in
       Keeps-same L laws v.shape before image v.head v.records v.array (write.elsewhere 0 (λ e. omega arith))
       (write.elsewhere 1 (λ e. omega arith))
       (λ j earlier x from to. grind (
         arith,
         write.elsewhere x,
-        other_sector L.slot_sectors ((v.head + j) % v.shape.slots) (stamp_of v % v.shape.slots) (x - slot_at L v.shape (v.head + j)) o,
+        other_sector L.slot_sectors ((v.head + j) % v.shape.slots) slot (x - slot_at L v.shape (v.head + j)) o,
         other_slot (v.head + j) (stamp_of v) v.shape.slots,
         slots.room,
       ))
@@ -114,7 +117,7 @@ module _ (L : Layout) (laws : Laws L) (v : View) (slots : HasSlots L v) where
   pub Guarded-write : (before image : Image) (k durable : ℕ) → k < L.parts (length v.under_way)
       → Holds (at L v k) (bytes_of L v k) before image → Guarded L v k durable before → Guarded L v (k + 1) durable image
   Guarded-write before image k durable below write g =
-      let keeps = keeps_stays before image (L.offset (length v.under_way) k) (bytes_of L v k) (inside k below) write g.keeps in
+      let keeps = keeps_stays before image _ (bytes_of L v k) (inside k below) write g.keeps in
       let carries = carries_stays v.under_way slots.under_way before image k below write g.parts.carries in
       let stays = λ (p : ℕ). part_stays {p = p} write below in
       grind (arith, cases_eq, stays, write.here, g.parts.flushed, g.parts.either, g.parts.free)
@@ -146,6 +149,6 @@ module _ (L : Layout) (laws : Laws L) (v : View) (slots : HasSlots L v) where
       let below : k < L.parts (length v.under_way) = omega arith in
       let stays = part_stays {p = last L v} write below (omega arith) (λ e. omega arith) in
       let none = last_free image (rw stays (g.parts.free (last L v) (omega arith) (omega arith))) in
-      let keeps = keeps_stays before image (L.offset (length v.under_way) k) (L.part (stamp_of v) other k) (inside k below) write g.keeps in
+      let keeps = keeps_stays before image _ (L.part (stamp_of v) other k) (inside k below) write g.keeps in
       let carries = carries_stays other is before image k (rw same below) (rw same write) g.parts.carries in
       grind (arith, slots.room)

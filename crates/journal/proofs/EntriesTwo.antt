@@ -87,7 +87,8 @@ rising_part numbers from count rising i j less below = grind (arith, common_step
 pub items_here : (items numbers : List ℕ) (from here : ℕ) → here ≡ min 30 (length numbers - from)
     → items ≡ take (from + here - from) (drop from numbers) → items ≡ take 30 (drop from numbers)
 items_here items numbers from here is are =
-    rw (are, ← (take_min 30 (drop from numbers))) (ap (λ (k : ℕ). take k (drop from numbers)) (grind (arith, common_steps)))
+    let few : from + here - from ≡ min 30 (length (drop from numbers)) = grind (arith, common_steps) in
+    rw (are, few) (take_min 30 (drop from numbers))
 
 -- first bytes that were cut from bytes are 8 each
 pub sized_from : (firsts : List (List ℕ)) (count : ℕ) (bytes : List ℕ) (at : ℕ → ℕ) → length firsts ≡ count
@@ -104,7 +105,7 @@ pub entries_cut : (numbers items : List ℕ) (firsts : List (List ℕ)) (j : ℕ
 entries_cut numbers items firsts j few used rising small are each sized =
     let fits : ℕ → Type 0 = λ b. b < 2147483648 in
     let rises : IsRising items = rw are (rising_part numbers (30 * j) 30 rising) in
-    let smalls : All fits items = rw are (All-take fits 30 (drop (30 * j) numbers) (All-drop fits (30 * j) numbers small)) in
+    let smalls : All fits items = rw are (All-take fits 30 _ (All-drop fits (30 * j) numbers small)) in
     let many : length items ≡ entries_here (length numbers) j = rw are (simp (length-take, length-drop)) in
     search rules
 
@@ -159,7 +160,8 @@ module _ {stamp count j : ℕ} {numbers : List ℕ} {firsts : List (List ℕ)} {
   pub numbers_are : (here : ℕ) (list : List ℕ) → here ≡ entries_here count j → length list ≡ here
       → ((i : ℕ) → i < here → get_or list i 0 ≡ number_in bytes (4 + 2 * i)) → list ≡ numbers
   numbers_are here list is size read =
-      ext_get_or 0 list numbers (omega (arith, d.entries.many)) (λ i below. grind (arith, read i, number_is i, d.entries.many))
+      ext_get_or 0 list numbers (omega (arith, d.entries.many))
+      (λ i below. grind (arith, read i, number_is i, d.entries.many))
 
   -- and so are first bytes
   pub firsts_are : (here : ℕ) (list : List (List ℕ)) → here ≡ entries_here count j → length list ≡ here

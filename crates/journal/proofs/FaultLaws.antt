@@ -17,7 +17,8 @@ use Rattle.journal.proofs.StandingLaws.{count_stands}
 
 -- a sector is a super or has a fault, by what is known of it
 first_fault : (bytes : List ℕ) → HasMagic bytes ⊎ (¬ HasMagic bytes) → HasVersion bytes ⊎ (¬ HasVersion bytes)
-    → HasZeroRest bytes ⊎ (¬ HasZeroRest bytes) → ((shape : Shape) × IsSuper shape bytes) ⊎ (¬ ((shape : Shape) × IsSuper shape bytes))
+    → HasZeroRest bytes ⊎ (¬ HasZeroRest bytes)
+    → ((shape : Shape) × IsSuper shape bytes) ⊎ (¬ ((shape : Shape) × IsSuper shape bytes))
     → ((shape : Shape) × IsSuper shape bytes) ⊎ ((fault : SuperFault) × IsSuperFault fault bytes)
 first_fault bytes (inr m) v z s = inr (Magic, m)
 first_fault bytes (inl m) (inr v) z s = inr (Version, (m, v))
@@ -25,10 +26,11 @@ first_fault bytes (inl m) (inl v) (inr z) s = inr (Rest, (m, v, z))
 first_fault bytes (inl m) (inl v) (inl z) (inr s) = inr (Sizes, (m, v, z, λ shape is. s (shape, is)))
 first_fault bytes (inl m) (inl v) (inl z) (inl s) = inl s
 
-pub super_or_fault : (bytes : List ℕ) → ((shape : Shape) × IsSuper shape bytes) ⊎ ((fault : SuperFault) × IsSuperFault fault bytes)
+pub super_or_fault : (bytes : List ℕ)
+    → ((shape : Shape) × IsSuper shape bytes) ⊎ ((fault : SuperFault) × IsSuperFault fault bytes)
 super_or_fault bytes =
-    first_fault bytes (cases_eq (number_in bytes 0) super_mark) (grind arith) (same_or_not (drop 48 bytes) (replicate 464 0))
-    (super_or_not bytes)
+    first_fault bytes (cases_eq (number_in bytes 0) super_mark) (grind arith)
+    (same_or_not (drop 48 bytes) (replicate 464 0)) (super_or_not bytes)
 
 -- the faults of a super, as those of an image
 fault_of : (size : ℕ) (image : Image) → 1 ≤ size → (fault : SuperFault)

@@ -40,7 +40,8 @@ format2_laws = record {
   one_stamp = λ blocks s t entries p r below c. one_stamp2 blocks s t entries p r c;
   last_part = λ s a b same. grind (arith, parts2);
   count = λ blocks s a b ra rb e.
-      grind (arith, parts2, commit_counts s (length a) (omega (arith, ra.fit.few)), commit_counts s (length b) (omega (arith, rb.fit.few)));
+      let many = commit_counts s (length a) (omega (arith, ra.fit.few)) in
+      grind (arith, parts2, many, commit_counts s (length b) (omega (arith, rb.fit.few)));
   read = read2;
   zeros = zeros2;
 }

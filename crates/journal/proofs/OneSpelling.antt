@@ -71,8 +71,8 @@ spelling-rest numbers =
     drop_at (flat_map (little_bytes 8) numbers) (replicate (512 - 8 * length numbers) 0) (8 * length numbers) (length_bytes numbers)
 
 -- bytes written behind those that are there
-pub padded_put : (i k : ℕ) (before sector part new : List ℕ) → length before ≡ i → k ≡ length part → i + length part ≤ 512
-    → sector ≡ padded before → new ≡ part → put_mid i k sector new ≡ padded (before ++ part)
+pub padded_put : (i k : ℕ) (before sector part new : List ℕ) → length before ≡ i → k ≡ length part
+    → i + length part ≤ 512 → sector ≡ padded before → new ≡ part → put_mid i k sector new ≡ padded (before ++ part)
 unfolding padded
 padded_put i k before sector part new count same inside is wrote =
     grind (arith, common_steps, drop-replicate {X = ℕ} k (512 - length before) 0)

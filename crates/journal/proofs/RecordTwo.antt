@@ -28,7 +28,8 @@ descriptor_spelled stamp es j = rw (entries_same (chunk_of es j))
 
 -- the numbers of these entries
 pub numbers_of_chunk : (es : List Entry) (j : ℕ) → numbers_of (chunk_of es j) ≡ take 30 (drop (30 * j) (numbers_of es))
-numbers_of_chunk es j = rw (drop-map (λ (e : Entry). e.0) (30 * j) es, take-map (λ (e : Entry). e.0) 30 (drop (30 * j) es))
+numbers_of_chunk es j =
+    rw (drop-map (λ (e : Entry). e.0) (30 * j) es, take-map (λ (e : Entry). e.0) 30 (drop (30 * j) es))
 
 -- their first bytes
 pub firsts_of_chunk : (es : List Entry) (j : ℕ) → firsts_of (chunk_of es j) ≡ take 30 (drop (30 * j) (firsts_of es))
@@ -44,7 +45,9 @@ module _ (es : List Entry) (many from i : ℕ) (few : i < many) where
   number_at = get_or-map (λ (e : Entry). e.0) (take many (drop from es)) i (0, []) ∙ ap (λ (e : Entry). e.0) part_at
 
   pub first_at : get_or (firsts_of (take many (drop from es))) i [] ≡ take 8 (get_or es (from + i) (0, [])).1
-  first_at = get_or-map (λ (e : Entry). take 8 e.1) (take many (drop from es)) i (0, []) ∙ ap (λ (e : Entry). take 8 e.1) part_at
+  first_at =
+      let first : Entry → List ℕ = λ e. take 8 e.1 in
+      get_or-map first (take many (drop from es)) i (0, []) ∙ ap first part_at
 
 -- in a record in the limits it is a descriptor
 pub descriptor_two : {blocks stamp : ℕ} {es : List Entry} (j : ℕ) → IsRecordOf format2 blocks stamp es → 30 * j < length es

@@ -32,7 +32,8 @@ module _ (L : Layout) (laws : Laws L) (shape : Shape) (some : 1 ≤ shape.slots)
       let carries = CarriesBelow-same (stamp + 1) g.carries in
       let at : (p : ℕ) → p < L.parts (length entries)
       → image (part_at L shape stamp (length entries) p) ≡ before (part_at L shape stamp (length entries) p) =
-      λ p small. same _ (omega arith) (omega (arith, slot_inside L laws shape stamp some, laws.inside (length entries) p few small)) in
+      λ p small. same _ (omega arith)
+      (omega (arith, slot_inside L laws shape stamp some, laws.inside (length entries) p few small)) in
       grind (arith, at, g.flushed, g.either, g.free)
 
 module _ (L : Layout) (laws : Laws L) (v : View) (some : 1 ≤ v.shape.slots)
@@ -59,8 +60,8 @@ module _ (L : Layout) (laws : Laws L) (v : View) (some : 1 ≤ v.shape.slots)
   KeepsView-head waits h homed write g = record {
     super = rw (write.elsewhere 0 (λ e. omega arith)) g.super;
     head_is = rw write.here h;
-    whole = λ j below. IsWholeIn-same L laws v.shape some before image (log_same write (λ low. omega arith)) (v.head + 1 + j)
-        (get_or (drop 1 v.records) j [])
+    whole = λ j below.
+        IsWholeIn-same L laws v.shape some before image (log_same write (λ low. omega arith)) (v.head + 1 + j) _
         (rw (get_or-drop 1 v.records j []) (grind (arith, g.whole (1 + j), length-drop 1 v.records)));
     blocks = λ b below. with_records-same (drop 1 v.records) (home_of v.shape image) (home_of v.shape before) b
         (write.elsewhere (v.shape.home + b) (λ e. omega (arith, behind)))

@@ -24,8 +24,8 @@ module _ (shape : Shape) (image : Image) (stamp slot : ℕ) (two : shape.format 
       → SlotSays image slot stamp numbers → IsRising numbers → All (λ b. b < shape.blocks) numbers → HasWhole shape image stamp
   two_whole numbers sized says rising inside = (
     record_in image (2 + 249 * slot),
-    of_format two (whole_two shape image stamp slot numbers says (λ i below. sized (8 + i) (omega (arith, below, says.committed.few)))
-        is rising inside),
+    of_format two (whole_two shape image stamp slot numbers says
+        (λ i below. sized (8 + i) (omega (arith, below, says.committed.few))) is rising inside),
   )
 
   -- a slot with a whole record says so

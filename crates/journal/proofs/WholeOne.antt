@@ -34,7 +34,8 @@ pub entry_of-entries_in : (image : Image) (place i : ℕ) (numbers : List ℕ) �
     → get_or (entries_in image place numbers) i (0, []) ≡ (get_or numbers i 0, image (place + i))
 entry_of-entries_in image place i [] below = absurd (omega arith)
 entry_of-entries_in image place zero (b ∷ numbers) below = grind arith
-entry_of-entries_in image place (suc i) (b ∷ numbers) below = grind (arith, entry_of-entries_in image (place + 1) i numbers)
+entry_of-entries_in image place (suc i) (b ∷ numbers) below =
+    grind (arith, entry_of-entries_in image (place + 1) i numbers)
 
 -- the numbers that a descriptor spells are those of its record
 pub numbers_read : (stamp : ℕ) (numbers bytes : List ℕ) → IsDescriptor stamp numbers bytes → numbers ≡ numbers_in bytes
@@ -58,7 +59,7 @@ module _ (shape : Shape) (image : Image) (s : ℕ) (es : List Entry) (w : IsWhol
   pub record_read : es ≡ record_in image (2 + 50 * (s % shape.slots))
   record_read =
       let at : ℕ = 2 + 50 * (s % shape.slots) in
-      let numbers : numbers_in (image at) ≡ numbers_of es = sym (numbers_read s (numbers_of es) (image at) descriptor_there) in
+      let numbers : numbers_in (image at) ≡ numbers_of es = sym (numbers_read s _ (image at) descriptor_there) in
       let many = length-map es (λ (e : Entry). e.0) in
       rw numbers (ext_get_or (0, []) es (entries_in image (at + 1) (numbers_of es))
       (omega (arith, many, length-entries_in image (at + 1) (numbers_of es))) (λ i below. rw (

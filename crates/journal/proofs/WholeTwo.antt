@@ -28,15 +28,18 @@ module _ (image : Image) (at : ℕ) {s n : ℕ} (commit : IsCommitTwo s n (image
   read_long = length-map-range_with_len (entry_in image at) 0 _ ∙ commit_count s n _ commit
 
   -- entry e of descriptor j, with the rest of its block
-  read_entry : (j e : ℕ) {numbers : List ℕ} {firsts : List (List ℕ)} → IsDescriptorTwo s n j numbers firsts (image (at + j))
-      → e < length numbers
-      → get_or (record_in image at) (30 * j + e) (0, []) ≡ (get_or numbers e 0, get_or firsts e [] ++ drop 8 (image (at + (8 + (30 * j + e)))))
+  read_entry : (j e : ℕ) {numbers : List ℕ} {firsts : List (List ℕ)}
+      → IsDescriptorTwo s n j numbers firsts (image (at + j)) → e < length numbers
+      → get_or (record_in image at) (30 * j + e) (0, [])
+      ≡ (get_or numbers e 0, get_or firsts e [] ++ drop 8 (image (at + (8 + (30 * j + e)))))
   read_entry j e d below =
       let quotient : (30 * j + e) / 30 ≡ j = omega (arith, d.entries.many) in
       let remainder : (30 * j + e) % 30 ≡ e = omega (arith, d.entries.many) in
-      let inside : 30 * j + e < number_in (image (at + 248)) 2 = omega (arith, d.entries.many, commit_count s n _ commit) in
+      let i = 30 * j + e in
+      let inside : 30 * j + e < number_in (image (at + 248)) 2 =
+      omega (arith, d.entries.many, commit_count s n _ commit) in
       rw (
-        get_or-map-range_with_len (entry_in image at) 0 (number_in (image (at + 248)) 2) (30 * j + e) (30 * j + e) (0, []) inside (omega arith),
+        get_or-map-range_with_len (entry_in image at) 0 _ i i (0, []) inside (omega arith),
         quotient,
         remainder,
         number_is d e below,
@@ -127,15 +130,19 @@ module _ (shape : Shape) (image : Image) (s slot : ℕ) (numbers : List ℕ) (sa
       ext_get_or 0 (numbers_of read) numbers (names ∙ long)
       (λ i below. grind (arith, entry_there i, names, long, get_or-map (λ (e : Entry). e.0) read i (0, [])))
 
-  firsts_read : (j : ℕ) (below : j < (length numbers + 29) / 30) → firsts_of (chunk_of read j) ≡ (says.described j below).0
+  firsts_read : (j : ℕ) (below : j < (length numbers + 29) / 30)
+      → firsts_of (chunk_of read j) ≡ (says.described j below).0
   firsts_read j below =
       let d = (says.described j below).1 in
       let many = length-map (chunk_of read j) (λ (e : Entry). take 8 e.1) in
       let left : length (chunk_of read j) ≡ min 30 (length numbers - 30 * j) = simp (length-take, length-drop, long) in
-      ext_get_or [] (firsts_of (chunk_of read j)) _ (omega (arith, many, left, d.entries.each, d.entries.many)) (λ e inside.
+      ext_get_or [] (firsts_of (chunk_of read j)) _ (omega (arith, many, left, d.entries.each, d.entries.many))
+      (λ e inside.
       let here : e < length (take 30 (drop (30 * j) numbers)) = omega (arith, inside, many, left, d.entries.many) in
-      rw (first_at read 30 (30 * j) e (omega (arith, inside, many, left)), read_entry image (2 + 249 * slot) says.committed j e d here)
-      (take_at _ (drop 8 (image (2 + 249 * slot + (8 + (30 * j + e))))) 8 (d.entries.sized e [] (omega (arith, here, d.entries.each)))))
+      let long = d.entries.sized e [] (omega (arith, here, d.entries.each)) in
+      let entry = read_entry image (2 + 249 * slot) says.committed j e d here in
+      rw (first_at read 30 (30 * j) e (omega (arith, inside, many, left)), entry)
+      (take_at _ (drop 8 (image (2 + 249 * slot + (8 + (30 * j + e))))) 8 long))
 
   part_read : (p : ℕ) → image (2 + 249 * slot + offset2 (length read) p) ≡ part2 s read p
   unfolding place_bytes
@@ -157,7 +164,8 @@ module _ (shape : Shape) (image : Image) (s slot : ℕ) (numbers : List ℕ) (sa
           let i = p - (length read + 29) / 30 in
           let e = entry_there i (omega (arith, b, d, long)) in
           let rest = drop_at e.0 (drop 8 (image (2 + 249 * slot + (8 + i)))) 8 e.1 in
-          cc (offset_place (length read) p b d, part_place s read p b d, says.placed i (omega (arith, b, d, long)), e.3, rest)
+          let placed = says.placed i (omega (arith, b, d, long)) in
+          cc (offset_place (length read) p b d, part_place s read p b d, placed, e.3, rest)
       | inr d ↦ cc (offset_commit (length read) p d, part_commit s read p d, long, says.committed.spelled)
     ]
   ]
@@ -172,11 +180,13 @@ module _ (shape : Shape) (image : Image) (s slot : ℕ) (numbers : List ℕ) (sa
       few = omega (arith, says.committed.few, long);
       rising = rw numbers_read rising;
       inside = rw numbers_read inside;
-      small = rw numbers_read (All-from_get_or (λ (b : ℕ). b < 2147483648) numbers 0 (λ i below. (entry_there i below).2));
+      small = rw numbers_read
+          (All-from_get_or (λ (b : ℕ). b < 2147483648) numbers 0 (λ i below. (entry_there i below).2));
       sized = All-from_get_or (λ (e : Entry). length e.1 ≡ 512) read (0, []) (λ i below.
           let e = entry_there i (omega (arith, below, long)) in
           let rest = image (2 + 249 * slot + (8 + i)) in
-          rw e.3 (omega (arith, length-append e.0 (drop 8 rest), e.1, length-drop 8 rest, sectors i (omega (arith, below, long)))));
+          let size = sectors i (omega (arith, below, long)) in
+          rw e.3 (omega (arith, length-append e.0 (drop 8 rest), e.1, length-drop 8 rest, size)));
     };
     least = says.committed.least;
     below = says.committed.most;

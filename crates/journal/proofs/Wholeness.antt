@@ -43,7 +43,8 @@ module _ (L : Layout) (laws : Laws L) (shape : Shape) where
     pub CarriesBelow-agree : (end : ℕ) → Agree 2 (2 + L.slot_sectors * shape.slots) image before
         → CarriesBelowIn L shape before end → CarriesBelowIn L shape image end
     CarriesBelow-agree end agree c slot o t low small carries =
-        c slot o t low small (rw (agree _ (omega arith) (in_log L.slot_sectors slot shape.slots o low small)) at carries)
+        let inside = in_log L.slot_sectors slot shape.slots o low small in
+        c slot o t low small (rw (agree _ (omega arith) inside) at carries)
 
     -- an image keeps records if it agrees on the super, the head, their slots and home
     pub Keeps-same : (head : ℕ) (records : List (List Entry)) (array : Array)
@@ -53,9 +54,11 @@ module _ (L : Layout) (laws : Laws L) (shape : Shape) where
         → Agree shape.home (shape.home + shape.blocks) image before
         → KeepsIn L shape before head records array → KeepsIn L shape image head records array
     Keeps-same head records array zeroth first slots home k =
-        let whole = λ (j : ℕ) (below : j < length records). IsWhole-same (head + j) (get_or records j []) (slots j below) (k.whole j below) in
+        let whole = λ (j : ℕ) (below : j < length records).
+        IsWhole-same (head + j) (get_or records j []) (slots j below) (k.whole j below) in
         let blocks = λ (b : ℕ) (below : b < shape.blocks).
-        with_records-same records (home_of shape image) (home_of shape before) b (home (shape.home + b) (omega arith) (omega arith))
+        with_records-same records (home_of shape image) (home_of shape before) b
+        (home (shape.home + b) (omega arith) (omega arith))
         ∙ k.blocks b below in
         grind (arith, zeroth, first, k)
 

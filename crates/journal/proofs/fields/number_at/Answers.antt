@@ -7,4 +7,5 @@ use Rattle.journal.proofs.fields.number_at.Goals as goal
 pub returns-clause-spelled : goal.returns-clause-spelled
 unfolding number_in
 returns-clause-spelled c numbers below fit is =
-    let it = spelling_get c.args.i numbers c.args.sector.now below (fit c.args.i 0 below) is in grind (arith, common_steps)
+    let it = spelling_get c.args.i numbers c.args.sector.now below (fit c.args.i 0 below) is in
+    grind (arith, common_steps)

@@ -14,5 +14,6 @@ returns c = record {
   commit = λ bytes a b m n x y. grind (arith, commit_says x, commit_says y);
   descriptor_two = IsDescriptorTwo-one;
   commit_two = λ bytes a b m n x y.
-      grind (arith, commit_stamp a m bytes x, commit_stamp b n bytes y, commit_count a m bytes x, commit_count b n bytes y);
+      let count = commit_count a m bytes x in
+      grind (arith, count, commit_stamp a m bytes x, commit_stamp b n bytes y, commit_count b n bytes y);
 }

@@ -20,5 +20,6 @@ returns-else-eq-clause-all c stamp numbers d =
     let read = c.numbers_at-numbers.ensures in
     let same = descriptor_numbers d _ c.numbers_at-numbers.result.items c.number_at-count.ensures.is read.count read.each in
     let says = descriptor_says d in
-    let e : c.encode.result ≡ c.args.sector.now = cc (c.encode.ensures.spelled, c.number_at-stamp.ensures.is, says.0, same, d.spelled) in
+    let e : c.encode.result ≡ c.args.sector.now =
+    cc (c.encode.ensures.spelled, c.number_at-stamp.ensures.is, says.0, same, d.spelled) in
     search rules
