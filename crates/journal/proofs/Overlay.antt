@@ -57,12 +57,7 @@ pub with_blocks-copied : (entries : List Entry) (old new : Array) → ((i : ℕ)
     → ((b : ℕ) → ((i : ℕ) → i < length entries → (get_or entries i (0, [])).0 ≢ b) → new b ≡ old b)
     → (b : ℕ) → new b ≡ with_blocks entries old b
 with_blocks-copied entries old new copied others b =
-    sym (with_blocks-home entries new b copied) ∙ elim (all_or_first
-    (λ i. (get_or entries i (0, [])).0 ≢ b)
-    (λ i. (get_or entries i (0, [])).0 ≡ b)
-    (length entries)
-    (λ i below. search (rules, cases_eq (get_or entries i (0, [])).0 b))) [
-      | inl none ↦ with_blocks-same entries new old b (others b none)
-      | inr one ↦
-          subst (λ x. with_blocks entries new x ≡ with_blocks entries old x) one.3 (with_blocks-hides entries one.0 new old one.1)
-    ]
+    let home = with_blocks-home entries new b copied in
+    let named = all_or_first (λ i. (get_or entries i (0, [])).0 ≢ b) (λ i. (get_or entries i (0, [])).0 ≡ b) (length entries)
+    (λ i below. search (rules, cases_eq (get_or entries i (0, [])).0 b)) in
+    grind (arith, with_blocks-same entries new old b, others b, with_blocks-hides entries)

@@ -1,6 +1,6 @@
 -- The record that stands in a slot of format 1, read back; and what makes it whole.
-use Rattle.std.proofs.Common.{◌≡◌, ℕ, zero, suc, ◌+◌, ◌-◌, ◌*◌, ◌%◌, ◌^◌, ◌<◌, List, [], ◌∷◌, length, get_or, refl, sym, ◌∙◌}
-use Rattle.std.proofs.Common.{ap, subst, arith}
+use Rattle.std.proofs.Common.{◌≡◌, ℕ, zero, suc, ◌+◌, ◌-◌, ◌*◌, ◌%◌, ◌<◌, List, [], ◌∷◌, length, get_or, refl, sym}
+use Rattle.std.proofs.Common.{ap, arith}
 use Rattle.std.specs.Prelude.{All}
 use Rattle.std.proofs.lemmas.List.{length-map, ext_get_or}
 use Rattle.std.proofs.Math.ListN.{get_or-map}
@@ -9,7 +9,7 @@ use Rattle.std.proofs.lemmas.List.FromFn.{fill_by_all}
 use Rattle.medium.specs.Medium.{Image}
 use Rattle.journal.specs.Places.{Shape}
 use Rattle.journal.specs.Spelling.{number_in}
-use Rattle.journal.specs.Sectors.{IsRising, IsDescriptor, IsCommit}
+use Rattle.journal.specs.Sectors.{IsDescriptor, IsCommit}
 use Rattle.journal.specs.Record.{Entry, numbers_of, block_of, entries_in}
 use Rattle.journal.specs.Layout.{AreEntries, IsWholeIn}
 use Rattle.journal.specs.Format1.{format1, numbers_in, record_in}

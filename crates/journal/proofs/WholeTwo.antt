@@ -1,9 +1,9 @@
 -- A whole record of format 2, by what its sectors are decoded to.
-use Rattle.std.proofs.Common.{inl, inr, ◌≡◌, ℕ, ◌+◌, ◌*◌, ◌-◌, ◌/◌, ◌%◌, ◌^◌, ◌<◌, List, [], ◌++◌, length, get_or, take, drop}
-use Rattle.std.proofs.Common.{sym, ◌∙◌, ap, arith, length-append}
+use Rattle.std.proofs.Common.{inl, inr, ◌≡◌, ℕ, ◌+◌, ◌*◌, ◌-◌, ◌/◌, ◌%◌, ◌^◌, ◌<◌, List, [], ◌++◌, length, get_or, take}
+use Rattle.std.proofs.Common.{drop, sym, ◌∙◌, arith, length-append}
 use Rattle.std.specs.Prelude.{All, min}
-use Rattle.std.proofs.lemmas.List.{take_at, drop_at, get_or-take, get_or-drop, length-take, length-drop, length-map, ext_get_or}
-use Rattle.std.proofs.lemmas.List.{take-append-drop}
+use Rattle.std.proofs.lemmas.List.{take_at, drop_at, get_or-take, get_or-drop, length-take, length-drop, length-map}
+use Rattle.std.proofs.lemmas.List.{ext_get_or, take-append-drop}
 use Rattle.std.proofs.lemmas.List.FromFn.{get_or-map-range_with_len, length-map-range_with_len}
 use Rattle.std.proofs.lemmas.List.Elements.{All-from_get_or}
 use Rattle.std.proofs.Math.ListN.{get_or-map}
@@ -17,9 +17,11 @@ use Rattle.journal.specs.Layout.{IsWholeIn}
 use Rattle.journal.specs.Format2.{format2, entry_in, record_in, part2, offset2}
 use Rattle.journal.specs.SlotTwo.{HasDescriptors, HasPlaces}
 use Rattle.journal.proofs.EntriesTwo.{number_is, first_is, commit_count, place_rest}
-use Rattle.journal.proofs.RecordTwo.{number_at, first_at, numbers_of_chunk, descriptor_two, descriptor_spelled, place_own}
+use Rattle.journal.proofs.RecordTwo.{number_at, first_at, numbers_of_chunk, descriptor_two, descriptor_spelled}
+use Rattle.journal.proofs.RecordTwo.{place_own}
 use Rattle.std.proofs.lemmas.Bool.{cases_lt}
-use Rattle.journal.proofs.Format2Laws.{parts, offset_descriptor, offset_place, offset_commit, part_descriptor, part_place, part_commit}
+use Rattle.journal.proofs.Format2Laws.{parts, offset_descriptor, offset_place, offset_commit, part_descriptor}
+use Rattle.journal.proofs.Format2Laws.{part_place, part_commit}
 use Rattle.journal.proofs.Wholeness.{record_of}
 
 -- what is read where a commit of n blocks stands

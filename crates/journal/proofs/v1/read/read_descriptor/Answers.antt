@@ -1,4 +1,4 @@
-use Rattle.std.proofs.Common.{◌+◌, ◌*◌, ◌%◌, ℕ, Option, Some, None, IfSome, sym, rules, arith}
+use Rattle.std.proofs.Common.{◌+◌, ◌*◌, ◌%◌, ℕ, Option, IfSome, sym, rules, arith}
 use Rattle.journal.specs.Values.{shape_of}
 use Rattle.journal.specs.Record.{entries_in, numbers_of}
 use Rattle.journal.proofs.WholeOne.{descriptor_there, commit_there, numbers_of-entries_in, whole_in}

@@ -1,6 +1,4 @@
-use Rattle.std.proofs.Common.{◌≡◌, ℕ, List, ◌<◌, ◌+◌, ◌*◌, ◌^◌, rules, arith, ◌∙◌}
-use Rattle.std.specs.Prelude.{All}
-use Rattle.journal.specs.Sectors.{IsRising}
+use Rattle.std.proofs.Common.{◌≡◌, ℕ, List, ◌+◌, ◌*◌, rules, arith, ◌∙◌}
 use Rattle.journal.specs.SectorsTwo.{IsDescriptorTwo}
 use Rattle.journal.proofs.EntriesTwo.{header_says, here_is, numbers_are, firsts_are, sized_from}
 use Rattle.journal.proofs.v2.descriptor.Descriptor.decode.Goals as goal
