@@ -81,11 +81,7 @@ pub one_stamp2 : (blocks s t : ℕ) (entries : List Entry) (p : ℕ) → IsRecor
     → Carries2 (offset2 (length entries) p) t (part2 s entries p) → t ≡ s
 one_stamp2 blocks s t entries p r c = sym (carried2 _ t _ c) ∙ carried2 _ s _ (carries2 blocks s entries p r)
 
-zero_at : (k : ℕ) → k < 2 → number_in (replicate 512 0) k ≡ 0
-unfolding number_in
-zero_at k small = grind arith
-
 -- zeros carry no stamp but 0
 pub zeros2 : (o s : ℕ) → Carries2 o s (replicate 512 0) → s ≡ 0
-unfolding stamp_place
-zeros2 o s c = sym (carried2 o s (replicate 512 0) c) ∙ zero_at (stamp_place o) (grind (arith, nat_tests))
+unfolding stamp_place number_in
+zeros2 o s c = grind (arith, nat_tests, carried2 o s (replicate 512 0) c)

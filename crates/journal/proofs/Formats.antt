@@ -1,5 +1,5 @@
 -- Both formats keep the laws of a layout.
-use Rattle.std.proofs.Common.{◌≡◌, inr, length, refl, arith}
+use Rattle.std.proofs.Common.{◌≡◌, inr, length, arith}
 use Rattle.journal.specs.declared.log_format.LogFormat.{LogFormat}
 use Rattle.journal.specs.declared.log_format.LogFormat.TheVariants.{One, Two}
 use Rattle.journal.specs.Places.{limit_of, slot_sectors_of}
@@ -53,10 +53,8 @@ laws_of Two = format2_laws
 
 -- the limit of a format is that of its layout
 pub most_is : (format : LogFormat) → (layout_of format).most ≡ limit_of format
-most_is One = refl
-most_is Two = refl
+most_is format = grind arith
 
 -- and so is the size of a slot
 pub sectors_are : (format : LogFormat) → (layout_of format).slot_sectors ≡ slot_sectors_of format
-sectors_are One = refl
-sectors_are Two = refl
+sectors_are format = grind arith

@@ -1,5 +1,5 @@
 -- What a sector's numbers say of the value that it spells, and that this is one.
-use Rattle.std.proofs.Common.{◌≡◌, ◌⊎◌, inl, inr, refl, ℕ, ◌+◌, ◌<◌, ◌≤◌, ◌*◌, List, [], ◌∷◌, length, drop, get_or}
+use Rattle.std.proofs.Common.{◌≡◌, ◌⊎◌, ℕ, ◌+◌, ◌<◌, ◌≤◌, ◌*◌, List, [], ◌∷◌, length, drop, get_or}
 use Rattle.std.proofs.Common.{ap, sym, ◌∙◌, arith}
 use Rattle.std.specs.Prelude.{if◌then◌else◌, ◌==◌}
 use Rattle.std.proofs.lemmas.List.{ext_get_or}
@@ -41,13 +41,11 @@ abbrev pub format_in : ℕ → LogFormat
 format_in version = if version == 1 then One else Two
 
 format_is : (format : LogFormat) → format_in (version_of format) ≡ format
-format_is One = refl
-format_is Two = refl
+format_is format = grind arith
 
 -- a format has version 1 or 2
 version_known : (format : LogFormat) → (version_of format ≡ 1) ⊎ (version_of format ≡ 2)
-version_known One = inl refl
-version_known Two = inr refl
+version_known format = grind arith
 
 -- home is near the log
 home_near : (format : LogFormat) (slots home : ℕ) → IsFirstHome format slots home → home ≤ 2 + 249 * (slots + 1)

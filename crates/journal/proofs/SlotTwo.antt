@@ -1,6 +1,6 @@
 -- A record of format 2 is whole where the sectors of its slot say what they should, and there alone.
 use Rattle.std.proofs.Common.{◌≡◌, ℕ, ◌+◌, ◌*◌, ◌%◌, ◌<◌, List, length, arith}
-use Rattle.std.specs.Prelude.{true, false, IsTrue, All}
+use Rattle.std.specs.Prelude.{false, IsTrue, All}
 use Rattle.medium.specs.Medium.{Image}
 use Rattle.journal.specs.declared.log_format.LogFormat.TheVariants.{Two}
 use Rattle.journal.specs.Places.{Shape}
@@ -13,10 +13,7 @@ use Rattle.journal.proofs.WholeTwo.{SlotSays, whole_two, says_whole}
 
 -- what is not true is nothing to show
 pub untrue : {P : Type 0} → IsTrue false → P
-untrue e = absurd (no e)
-  where
-    no : false ≡ true → ⊥
-    no e = cc
+untrue e = cc
 
 module _ (shape : Shape) (image : Image) (stamp slot : ℕ) (two : shape.format ≡ Two) (is : slot ≡ stamp % shape.slots) where
   -- a slot that says so has a whole record

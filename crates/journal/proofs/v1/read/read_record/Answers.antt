@@ -1,4 +1,4 @@
-use Rattle.std.proofs.Common.{◌≡◌, ◌∙◌, ◌++◌, ℕ, List, [], refl, ap, rules}
+use Rattle.std.proofs.Common.{◌≡◌, ◌∙◌, [], refl, rules}
 use Rattle.journal.specs.Values.{shape_of}
 use Rattle.journal.proofs.CopiedBlock.{one_read}
 use Rattle.journal.proofs.v1.read.read_record.Goals as goal
@@ -10,9 +10,8 @@ returns g c = record {
       let shape = shape_of c.args.sizes.now in
       let image = (g.M.Medium.state c.args.m.now).content in
       let listed : c.append.new.self.numbers.items ≡ c.in-Some.found.numbers.items =
-      c.append.ensures.numbers ∙ ap (λ (l : List ℕ). l ++ c.deref.result.now) c.clear.ensures.numbers ∙ c.deref.ensures.0 in
-      let none : c.append.new.self.firsts.items ≡ [] =
-      c.append.ensures.firsts ∙ ap (λ (l : List (List ℕ)). l ++ []) c.clear.ensures.firsts in
+      rw (c.append.ensures.numbers, c.clear.ensures.numbers) c.deref.ensures.0 in
+      let none : c.append.new.self.firsts.items ≡ [] = rw (c.append.ensures.firsts, c.clear.ensures.firsts) in
       let w = rw c.in-Some.is at c.in_ok-found.ensures.reads.finds in
       record {
         some = λ stamped. (w.0, w.1);

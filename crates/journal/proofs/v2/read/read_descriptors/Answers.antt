@@ -1,4 +1,4 @@
-use Rattle.std.proofs.Common.{◌≡◌, ◌∙◌, ◌+◌, ◌*◌, ℕ, List, ◌++◌, length, take, drop, refl, ap, rules, arith}
+use Rattle.std.proofs.Common.{◌≡◌, ◌∙◌, ◌+◌, ◌*◌, ℕ, List, ◌++◌, length, take, drop, refl, rules, arith}
 use Rattle.std.proofs.Math.Seq.{take-add}
 use Rattle.std.proofs.lemmas.List.{length-append}
 use Rattle.journal.specs.Entry.{Entry, numbers_of}
@@ -28,11 +28,9 @@ loop-j-preserved g c =
     let d = c.in-Some.found in
     let same = inv.quiet.content_stays (at + j) in
     let is = rw same at (rw c.in-Some.is at c.in_ok-found.ensures.reads.finds).1 in
-    let more : c.append.new.self.numbers.items ≡ ns ++ d.numbers.items =
-    c.append.ensures.numbers ∙ ap (λ (l : List ℕ). ns ++ l) c.deref.ensures.0 in
+    let more : c.append.new.self.numbers.items ≡ ns ++ d.numbers.items = cc in
     let fs = c.loop-j.to.firsts.items in
-    let more_firsts : c.append.new.self.firsts.items ≡ fs ++ d.firsts.items =
-    c.append.ensures.firsts ∙ ap (λ (l : List (List ℕ)). fs ++ l) c.deref-in-loop-j.ensures.0 in
+    let more_firsts : c.append.new.self.firsts.items ≡ fs ++ d.firsts.items = cc in
     let next : 30 * j + 30 ≡ 30 * (j + 1) = omega arith in
     let full : length ns ≡ 30 * j = omega (arith, inv.long, below, c.descriptors-j-end.ensures) in
     record {
