@@ -58,6 +58,7 @@ pub with_blocks-copied : (entries : List Entry) (old new : Array) → ((i : ℕ)
     → (b : ℕ) → new b ≡ with_blocks entries old b
 with_blocks-copied entries old new copied others b =
     let home = with_blocks-home entries new b copied in
-    let named = all_or_first (λ i. (get_or entries i (0, [])).0 ≢ b) (λ i. (get_or entries i (0, [])).0 ≡ b) (length entries)
-    (λ i below. search (rules, cases_eq (get_or entries i (0, [])).0 b)) in
+    let number : ℕ → ℕ = λ i. (get_or entries i (0, [])).0 in
+    let named = all_or_first (λ i. number i ≢ b) (λ i. number i ≡ b) (length entries)
+    (λ i below. search (rules, cases_eq (number i) b)) in
     grind (arith, with_blocks-same entries new old b, others b, with_blocks-hides entries)
