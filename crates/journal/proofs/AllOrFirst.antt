@@ -1,4 +1,4 @@
--- Of so many, all have a property, or there is a first one that has another.
+-- Of n, all have a property, or there is a first one that has another.
 use Rattle.std.proofs.Common.{◌⊎◌, ℕ, zero, suc, ◌<◌, arith}
 use Rattle.std.proofs.lemmas.Bool.{cases_eq}
 

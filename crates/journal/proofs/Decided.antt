@@ -21,7 +21,7 @@ use Rattle.journal.proofs.SectorNumbers.{head_stamp, shape_in, shape_is}
 abbrev Decided : Type 0 → Type 0
 Decided P = P ⊎ (¬ P)
 
--- all of so many or not
+-- all of n or not
 each_or_not : (P : ℕ → Type 0) (n : ℕ) → ((k : ℕ) → Decided (P k)) → Decided ((k : ℕ) → k < n → P k)
 each_or_not P n p = let first = all_or_first P (λ k. ¬ P k) n (λ k below. p k) in search (rules, arith)
 

@@ -30,7 +30,7 @@ module _ (j : ℕ) (numbers more : List ℕ) (long : length numbers ≡ 30 * j) 
     | inr other ↦ let was = all k (omega arith) in (was.0, rw (before k (omega arith)) was.1)
   ]
 
--- descriptors that name so many blocks are there
+-- descriptors that name count blocks are there
 pub each_there : (image : Image) (at stamp count : ℕ) (numbers : List ℕ) → length numbers ≡ count → HasDescriptors image at stamp numbers
     → (j : ℕ) → j < descriptors_of count → HasDescriptor image at stamp count j
 each_there image at stamp count numbers long has j below = grind (arith, has j)

@@ -52,7 +52,7 @@ module _ (numbers : List ℕ) (firsts : List (List ℕ)) (each : length firsts �
         let is = ap (λ (x : Entry). length x.1) (get_or-zip numbers firsts e d inside (omega (arith, inside))) in
         length_entry (get_or (zip numbers firsts) e d) (omega (arith, is, sized e d.1 (omega (arith, inside))))
 
-    -- how many bytes stand behind so many entries
+    -- how many bytes stand behind the first e entries
     pub length_so_far : (before : List ℕ) (e : ℕ) → length before ≡ 32 → e ≤ length numbers
         → length (before ++ flat_map entry_bytes (take e (zip numbers firsts))) ≡ 32 + 16 * e
     length_so_far before e count inside =

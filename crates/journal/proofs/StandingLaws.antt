@@ -53,7 +53,7 @@ StandsFor-one size other s r image a b t u h k =
       λ x below. sym (h.keeps.blocks x below) ∙ rw same (there.keeps.blocks x below),
     )
 
--- an image with a super, a head and so many whole records stands for an array
+-- an image with a super, a head and count whole records stands for an array
 pub record Stood (size : ℕ) (shape : Shape) (image : Image) (head count : ℕ) : Type 0 where
   pub array : Array
   pub stands : StandsFor size shape image array (head + count + 1)

@@ -24,7 +24,7 @@ pub data ImageFault : Type 0 where
 abbrev pub IsTooShort : ℕ → Image → Type 0
 IsTooShort size image = (shape : Shape) × IsSuper shape (image 0) × (size < sectors_of shape)
 
--- the image of a medium of so many sectors has this fault, and none before it
+-- the image of a medium of `size` sectors has this fault, and none before it
 abbrev pub HasFault : ℕ → Image → ImageFault → Type 0
 HasFault size image BadSuper =
     (0 < size) × (IsSuperFault Magic (image 0) ⊎ IsSuperFault Rest (image 0))

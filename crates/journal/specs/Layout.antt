@@ -14,7 +14,7 @@ pub record Layout : Type 1 where
   pub slot_sectors : ℕ
   -- how many blocks a record has at most
   pub most : ℕ
-  -- how many sectors a record of so many blocks writes
+  -- how many sectors a record of this many blocks writes
   pub parts : ℕ → ℕ
   -- how many of them are flushed before its last sector is written
   pub early : ℕ → ℕ

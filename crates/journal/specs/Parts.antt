@@ -3,8 +3,8 @@ use Rattle.std.specs.Prelude.{◌≡◌, ◌≤◌, ◌<◌, ◌-◌, ◌^◌, �
 use Rattle.std.specs.Prelude.{All, get_or, slice_range}
 use Rattle.journal.specs.Sectors.{IsRising}
 
--- part p of a record with this stamp and these blocks can be written, where a record of so
--- many blocks at most has so many parts
+-- part p of a record with this stamp and these blocks can be written, where a record has at
+-- most `limit` blocks, and as many parts as `parts` tells of their number
 pub record CanWrite (parts : ℕ → ℕ) (limit stamp : ℕ) (numbers bytes : List ℕ) (p : ℕ)
     : Type 0 where
   pub least : 1 ≤ stamp

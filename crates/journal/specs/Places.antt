@@ -43,7 +43,7 @@ abbrev pub gap_of : LogFormat → ℕ
 gap_of One = v1.gap
 gap_of Two = v2.gap
 
--- Home begins where a log of so many slots ends. In format 2 less than a slot may lie between them,
+-- Home begins where a log of `slots` slots ends. In format 2 less than a slot may lie between them,
 -- which is what a migration leaves.
 abbrev pub IsFirstHome : LogFormat → ℕ → ℕ → Type 0
 IsFirstHome format slots home =
@@ -58,7 +58,7 @@ first_home shape = shape.home
 abbrev pub sectors_of : Shape → ℕ
 sectors_of shape = first_home shape + shape.blocks
 
--- the shape of a new medium with so many blocks and slots
+-- the shape of a new medium with this many blocks and slots
 abbrev pub new_shape : LogFormat → ℕ → ℕ → Shape
 new_shape format blocks slots = record {
   format = format;

@@ -19,12 +19,12 @@ abbrev pub record_reads_of : LogFormat → ℕ
 record_reads_of One = 2
 record_reads_of Two = 9
 
--- and how many for the stamps of so many data places, which have none in format 1
+-- and how many for the stamps of count data places, which have none in format 1
 abbrev pub stamp_reads_of : LogFormat → ℕ → ℕ
 stamp_reads_of One count = 0
 stamp_reads_of Two count = count
 
--- the data places of so many blocks of the record of this stamp carry it, in format 2
+-- the data places of count blocks of the record of this stamp carry it, in format 2
 abbrev pub AreStamped : LogFormat → Shape → Image → ℕ → ℕ → Type 0
 AreStamped One shape image stamp count = Unit {0}
 AreStamped Two shape image stamp count = HasPlaces image (slot_at format2 shape stamp) stamp count
@@ -65,7 +65,7 @@ IsReadFor Two shape image stamp found reads =
 abbrev pub found_in : Bool → Record → Option Record
 found_in answer read = if answer then Some read else None
 
--- What is found of the record of a stamp, by so many reads. Where it is whole, that is what the
+-- What is found of the record of a stamp, by exactly as many reads as show it. Where it is whole, that is what the
 -- record says before its data places; and where these carry the stamp too, it is whole.
 pub record FindsRecord (shape : Shape) (stamp : ℕ) (old new : State) (found : Option Record)
     : Type 0 where
@@ -77,14 +77,14 @@ pub record FindsRecord (shape : Shape) (stamp : ℕ) (old new : State) (found : 
   pub exact : (reads : ℕ) × IsReadFor shape.format shape old.content stamp found reads
       × (new.calls ≡ old.calls + reads)
 
--- How many data places are read to find whether so many carry the stamp: those up to the first that
+-- How many data places are read to find whether count carry the stamp: those up to the first that
 -- does not; none in format 1.
 abbrev pub IsReadForStamps : LogFormat → Shape → Image → ℕ → ℕ → ℕ → Type 0
 IsReadForStamps One shape image stamp count reads = reads ≡ 0
 IsReadForStamps Two shape image stamp count reads =
     ReadsUpToBad (HasPlace image (slot_at format2 shape stamp) stamp) count reads
 
--- the answer tells whether so many data places carry the stamp, by so many reads
+-- the answer tells whether count data places carry the stamp, by as many reads as show it
 pub record FindsStamps (shape : Shape) (stamp count : ℕ) (old new : State) (good : Bool)
     : Type 0 where
   pub is : IsTrue good ↔ AreStamped shape.format shape old.content stamp count

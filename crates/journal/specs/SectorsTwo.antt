@@ -21,7 +21,7 @@ padded bytes = bytes ++ replicate (512 - length bytes) 0
 unfoldable pub entry_bytes : Entry → List ℕ
 entry_bytes e = little_bytes 8 e.0 ++ take 8 e.1
 
--- how many descriptors a record of so many blocks has
+-- how many descriptors a record of n blocks has
 abbrev pub descriptors_of : ℕ → ℕ
 descriptors_of n = (n + 29) / 30
 
@@ -49,11 +49,11 @@ firsts_of entries = map (λ e. take 8 e.1) entries
 abbrev pub chunk_of : List Entry → ℕ → List Entry
 chunk_of entries j = take 30 (drop (30 * j) entries)
 
--- how many they are in a record of so many blocks
+-- how many entries descriptor j has in a record of count blocks
 abbrev pub entries_here : ℕ → ℕ → ℕ
 entries_here count j = min 30 (count - 30 * j)
 
--- What descriptor j of a record of so many blocks may hold: the numbers of its blocks, which rise,
+-- What descriptor j of a record of count blocks may hold: the numbers of its blocks, which rise,
 -- and the first 8 bytes of each.
 pub record AreEntriesTwo (count j : ℕ) (numbers : List ℕ) (firsts : List (List ℕ)) : Type 0 where
   pub few : count ≤ 240
@@ -70,7 +70,7 @@ spelled_two stamp count j numbers firsts =
     padded (little_bytes 8 descriptor_mark ++ (little_bytes 8 stamp ++ (little_bytes 8 count
     ++ (little_bytes 8 j ++ flat_map entry_bytes (zip numbers firsts)))))
 
--- the bytes of descriptor j of a record of so many blocks, with these block numbers and first bytes
+-- the bytes of descriptor j of a record of count blocks, with these block numbers and first bytes
 pub record IsDescriptorTwo (stamp count j : ℕ) (numbers : List ℕ) (firsts : List (List ℕ))
     (bytes : List ℕ) : Type 0 where
   pub spelled : bytes ≡ spelled_two stamp count j numbers firsts
@@ -78,7 +78,7 @@ pub record IsDescriptorTwo (stamp count j : ℕ) (numbers : List ℕ) (firsts : 
   pub most : stamp < 2 ^ 63 - 1
   pub entries : AreEntriesTwo count j numbers firsts
 
--- the bytes of a commit of a record of so many blocks
+-- the bytes of a commit of a record of count blocks
 pub record IsCommitTwo (stamp count : ℕ) (bytes : List ℕ) : Type 0 where
   pub spelled : bytes ≡ commit_bytes stamp count
   pub least : 1 ≤ stamp

@@ -6,7 +6,7 @@ use Rattle.journal.specs.SectorsTwo.{descriptors_of, place_bytes, IsDescriptorTw
 use Rattle.journal.specs.V2.{first_data, commit_offset}
 use Rattle.journal.specs.SlotTwo.{HasDescriptors}
 
--- one of so many is bad, and as many are read as go up to the first bad one, and with it
+-- one of `many` is bad, and as many are read as go up to the first bad one, and with it
 pub record StopsAtBad (good : ℕ → Type 0) (many reads : ℕ) : Type 0 where
   pub first : ℕ
   pub inside : first < many
@@ -21,11 +21,11 @@ ReadsUpToBad good many reads =
 
 -- of the record of a stamp in the slot of format 2 that begins at this sector
 module _ (image : Image) (at stamp : ℕ) where
-  -- the last sector is a commit of so many blocks
+  -- the last sector is a commit of count blocks
   abbrev pub IsCommitted : ℕ → Type 0
   IsCommitted count = IsCommitTwo stamp count (image (at + commit_offset))
 
-  -- its descriptor j is there, if it has so many blocks
+  -- its descriptor j is there, if it has count blocks
   abbrev pub HasDescriptor : ℕ → ℕ → Type 0
   HasDescriptor count j = (numbers : List ℕ) × (firsts : List (List ℕ))
       × IsDescriptorTwo stamp count j numbers firsts (image (at + j))
@@ -34,13 +34,13 @@ module _ (image : Image) (at stamp : ℕ) where
   abbrev pub HasPlace : ℕ → Type 0
   HasPlace i = image (at + (first_data + i)) ≡ place_bytes stamp (image (at + (first_data + i)))
 
-  -- all descriptors are there, and what they name are so many blocks of an array of this length
+  -- all descriptors are there, and what they name are count blocks of an array of this length
   abbrev pub NamesBlocks : ℕ → ℕ → Type 0
   NamesBlocks blocks count = (numbers : List ℕ) × (length numbers ≡ count)
       × HasDescriptors image at stamp numbers
       × IsRising numbers × All (λ b. b < blocks) numbers
 
-  -- How many sectors are read behind a commit of so many blocks where they are not named:
+  -- How many sectors are read behind a commit of count blocks where they are not named:
   -- descriptors up to the first bad one; or all of them, where they name no such blocks.
   abbrev pub IsReadInVain : ℕ → ℕ → ℕ → Type 0
   IsReadInVain blocks count reads =

@@ -10,7 +10,7 @@ HasDescriptors image at stamp numbers =
     × IsDescriptorTwo stamp (length numbers) j (take 30 (drop (30 * j) numbers)) firsts
     (image (at + j))
 
--- and the data places of a record of so many blocks, for whatever blocks
+-- and the data places of a record of count blocks, for whatever blocks
 abbrev pub HasPlaces : Image → ℕ → ℕ → ℕ → Type 0
 HasPlaces image at stamp count =
     (i : ℕ) → i < count → image (at + (8 + i)) ≡ place_bytes stamp (image (at + (8 + i)))

@@ -28,7 +28,7 @@ descriptor_mark = mark (codes "RDDESCR1")
 abbrev pub commit_mark : ℕ
 commit_mark = mark (codes "RDCOMMIT")
 
--- so many items, of which the i-th is this
+-- `many` items, of which the i-th is this
 pub record AreItems {X : Type 0} (many : ℕ) (item : ℕ → X) (none : X) (items : List X)
     : Type 0 where
   pub count : length items ≡ many

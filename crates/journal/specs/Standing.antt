@@ -13,13 +13,13 @@ abbrev pub Keeps : Shape → Image → ℕ → List (List Entry) → Array → T
 Keeps shape image head records array =
     KeepsIn (layout_of shape.format) shape image head records array
 
--- so many records are whole from the head on, without a gap, and at most as many as there are slots
+-- count records are whole from the head on, without a gap, and at most as many as there are slots
 pub record IsCount (shape : Shape) (image : Image) (head count : ℕ) : Type 0 where
   pub few : count ≤ shape.slots
   pub whole : (j : ℕ) → j < count → HasWhole shape image (head + j)
   pub ends : count < shape.slots → ¬ HasWhole shape image (head + count)
 
--- The image of a medium of so many sectors stands for this array, and this is its next stamp: its
+-- The image of a medium of `size` sectors stands for this array, and this is its next stamp: its
 -- records are as many as follow the head without a gap, and the next stamp is the second behind.
 pub record StandsFor (size : ℕ) (shape : Shape) (image : Image) (array : Array) (next : ℕ)
     : Type 0 where

@@ -34,8 +34,8 @@ pub fn read_record<M: Medium>(
     }
 }
 
-/// Whether so many data places of the record of a stamp carry it. In format 1 they carry none, and
-/// nothing is read.
+/// Whether the first `count` data places of the record of a stamp carry it. In format 1 they carry
+/// none, and nothing is read.
 ///
 /// # Errors
 ///

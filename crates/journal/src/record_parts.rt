@@ -28,7 +28,7 @@ pub fn part(format: LogFormat, stamp: u64, numbers: &[u64], bytes: &[u8], p: usi
     }
 }
 
-/// How many sectors a record of so many blocks writes.
+/// How many sectors a record of `count` blocks writes.
 pub fn parts(format: LogFormat, count: usize) -> usize
     requires { count ≤ 240 }
     ensures { result ≡ (layout_of format).parts count }

@@ -32,7 +32,7 @@ impl Super {
     ghost use Rattle.journal.specs.SuperFaults.{IsSuperFault};
     ghost use Rattle.journal.specs.Values.{shape_of};
 
-    /// The super of a new medium of this format with so many blocks and slots.
+    /// The super of a new medium of this format with `blocks` blocks and `slots` slots.
     pub fn new(format: LogFormat, blocks: u64, slots: u64) -> Super
         requires some_blocks { 1 ≤ blocks }
         requires most_blocks { blocks ≤ 2 ^ 31 }
@@ -145,7 +145,7 @@ fn are_sizes(format: LogFormat, blocks: u64, slots: u64, home: u64) -> bool
         && is_first_home(format, slots, home)
 }
 
-// Whether home begins where a log of so many slots ends, or less than a slot behind that.
+// Whether home begins where a log of `slots` slots ends, or less than a slot behind that.
 fn is_first_home(format: LogFormat, slots: u64, home: u64) -> bool
     requires { slots ≤ 64 }
     ensures { IsTrue result ↔ IsFirstHome format slots home }

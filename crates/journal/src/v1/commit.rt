@@ -18,7 +18,7 @@ pub struct Commit {
 }
 
 impl Commit {
-    /// The commit of a record with this stamp and so many blocks.
+    /// The commit of a record with this stamp and `count` blocks.
     pub fn new(stamp: u64, count: u64) -> Commit
         requires least { 1 ≤ stamp }
         requires most { stamp < 2 ^ 63 - 1 }

@@ -7,7 +7,7 @@ ghost use Rattle.journal.specs.Parts.{CanWrite};
 use crate::Part;
 use crate::v1::{COMMIT, Commit, Descriptor, FIRST_DATA};
 
-/// How many sectors a record of so many blocks writes.
+/// How many sectors a record of `count` blocks writes.
 pub(crate) fn parts(count: usize) -> usize
     requires { count ≤ 240 }
     ensures { result ≡ format1.parts count }

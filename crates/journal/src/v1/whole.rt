@@ -31,7 +31,7 @@ pub fn whole_record(
     }
 }
 
-// Whether these bytes are the commit of a record with this stamp and so many blocks.
+// Whether these bytes are the commit of a record with this stamp and `count` blocks.
 fn is_commit(sector: &[u8; 512], stamp: u64, count: u64) -> bool
     ensures { IsTrue result ↔ IsCommit stamp count sector.now }
 {

@@ -103,7 +103,7 @@ impl Descriptor {
     }
 }
 
-// Whether a record of so many blocks may be, and has a descriptor of this index.
+// Whether a record of `count` blocks may be, and has a descriptor of this index.
 fn has_entries(count: u64, index: u64) -> bool
     ensures { IsTrue result ↔ (count ≤ 240) × (30 * index < count) }
 {
@@ -129,7 +129,7 @@ fn are_small(numbers: &[u64]) -> bool
     numbers.iter().all(|b| *b < 1 << 31)
 }
 
-/// The first 8 bytes of so many blocks from this one on.
+/// The first 8 bytes of `count` blocks from this one on.
 pub(crate) fn firsts_in<const N: usize>(
     bytes: &[u8],
     from: usize,
@@ -162,7 +162,7 @@ fn append_entries(sector: &mut [u8], numbers: &[u64], firsts: &[[u8; 8]])
     }
 }
 
-// The numbers of so many entries.
+// The numbers of `count` entries.
 fn numbers_at(sector: &[u8], count: usize) -> ArrayVec<u64, 30>
     requires size { length sector.now ≡ 512 }
     requires few { count ≤ 30 }
@@ -175,7 +175,7 @@ fn numbers_at(sector: &[u8], count: usize) -> ArrayVec<u64, 30>
     numbers
 }
 
-// The first bytes of so many entries.
+// The first bytes of `count` entries.
 fn firsts_at(sector: &[u8], count: usize) -> ArrayVec<[u8; 8], 30>
     requires size { length sector.now ≡ 512 }
     requires few { count ≤ 30 }

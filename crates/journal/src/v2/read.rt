@@ -49,7 +49,7 @@ fn read_count<M: Medium>(m: &mut M, slot: u64, stamp: u64) -> Result<Option<u64>
     Ok(count_of(&commit, stamp))
 }
 
-// Descriptor j of the record of a stamp with so many blocks, if these bytes are that.
+// Descriptor j of the record of a stamp with `count` blocks, if these bytes are that.
 fn descriptor_of(sector: &[u8; 512], stamp: u64, count: u64, j: u64) -> Option<Descriptor>
     ensures some { IfSome result (λ d. (d.index ≡ j)
         × IsDescriptorTwo stamp count j d.numbers.items d.firsts.items sector.now) }
@@ -65,7 +65,7 @@ fn descriptor_of(sector: &[u8; 512], stamp: u64, count: u64, j: u64) -> Option<D
     }
 }
 
-// Reads descriptor j of the record of a stamp with so many blocks, if it is there.
+// Reads descriptor j of the record of a stamp with `count` blocks, if it is there.
 #[tactic(auto, using(medium::proofs::SectorsRead::look_below))]
 fn read_descriptor<M: Medium>(
     m: &mut M,
@@ -90,7 +90,7 @@ fn read_descriptor<M: Medium>(
     Ok(descriptor_of(&sector, stamp, count, j))
 }
 
-// Reads what the descriptors of a record of so many blocks say. False where they are not there.
+// Reads what the descriptors of a record of `count` blocks say. False where they are not there.
 #[tactic(auto, using(crate::proofs::SectorsRead::reads))]
 fn read_descriptors<M: Medium>(
     m: &mut M,
@@ -180,7 +180,7 @@ fn has_stamp<M: Medium>(m: &mut M, slot: u64, stamp: u64, i: u64) -> Result<bool
     Ok(is_data(stamp, &sector))
 }
 
-// Whether so many data places of a slot begin with the stamp.
+// Whether the first `count` data places of a slot begin with the stamp.
 #[tactic(auto, using(crate::proofs::SectorsRead::reads))]
 fn has_stamps<M: Medium>(m: &mut M, slot: u64, stamp: u64, count: u64) -> Result<bool, MediumFault>
     requires slot { slot < 64 }
@@ -199,7 +199,7 @@ fn has_stamps<M: Medium>(m: &mut M, slot: u64, stamp: u64, count: u64) -> Result
     Ok(true)
 }
 
-/// Whether so many data places of the record of a stamp carry it.
+/// Whether the first `count` data places of the record of a stamp carry it.
 pub(crate) fn are_stamped<M: Medium>(
     m: &mut M,
     sizes: &Super,

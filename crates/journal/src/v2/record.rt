@@ -10,7 +10,7 @@ ghost use Rattle.journal.specs.Parts.{CanWrite};
 use crate::Part;
 use crate::v2::{COMMIT, Commit, Descriptor, ENTRIES, FIRST_DATA, data_sector};
 
-/// How many descriptors a record of so many blocks has.
+/// How many descriptors a record of `count` blocks has.
 pub fn descriptors(count: usize) -> usize
     requires { count ≤ 240 }
     ensures { result ≡ descriptors_of count }
@@ -18,7 +18,7 @@ pub fn descriptors(count: usize) -> usize
     count.div_ceil(ENTRIES)
 }
 
-/// How many sectors a record of so many blocks writes.
+/// How many sectors a record of `count` blocks writes.
 pub(crate) fn parts(count: usize) -> usize
     requires { count ≤ 240 }
     ensures { result ≡ format2.parts count }

@@ -22,7 +22,7 @@ calls_made : (format : LogFormat) (shape : Shape) (image : Image) (stamp : ℕ) 
     → new ≡ mid + 2 * length read.numbers.items → new ≡ old + calls_of format n
 calls_made format shape image stamp read n reads old mid new is long first last = grind arith
 
--- and at most so many
+-- and at most what any record of the format takes
 most_copied : (format : LogFormat) (n : ℕ) → n ≤ limit_of format → record_reads_of format + 2 * n ≤ most_calls_of format
 most_copied format n few = grind arith
 
