@@ -2,7 +2,7 @@
 use Rattle.std.proofs.Common.{◌≡◌, ◌+◌, ◌<◌, ◌≤◌, ℕ, ◌∙◌, sym, ap, refl, inl, inr, arith, true, false, List, [], ◌∷◌, length}
 use Rattle.std.proofs.lemmas.Bool.{cases_lt}
 use Rattle.std.proofs.lemmas.List.{length-map}
-use Rattle.medium.specs.Medium.{State, Image}
+use Rattle.medium.specs.Medium.{State, Image, IsSound}
 use Rattle.medium.specs.Moments.{EachCut}
 use Rattle.spec.specs.Blocks.{Array}
 use Rattle.journal.specs.Record.{Entry, numbers_of, with_records, home_of}
@@ -28,7 +28,8 @@ home_alone : (records : List (List Entry)) (a : Array) (b : ℕ) → records ≡
 home_alone [] a b e = refl
 home_alone (r ∷ records) a b e = absurd (cc e)
 
-module _ (m : State) (s : Cached) (live : is_dead s ≡ false) (none : steps_left s ≡ 0) (empty : s.log.waiting ≡ []) where
+module _ (m : State) (sound : IsSound m) (s : Cached) (live : is_dead s ≡ false) (none : steps_left s ≡ 0)
+    (empty : s.log.waiting ≡ []) where
   -- the array of the log is that of the book
   durable : (book : Book) (f : FitsBook m s book) (b : ℕ) → b < book.blocks → f.view.array b ≡ array_of book b
   durable book f b below =
@@ -62,7 +63,7 @@ module _ (m : State) (s : Cached) (live : is_dead s ≡ false) (none : steps_lef
 
   cut_home : (book : Book) → FitsBook m s book → book.ours ≡ true → EachCut (IsAtHome (layout_of s) book) m
   cut_home book f ours image cut b below =
-      let g = blocks_guarded s.log m f.view f.holds live (f.ours ∙ ours) image cut in
+      let g = blocks_guarded s.log m f.view sound f.holds live (f.ours ∙ ours) image cut in
       let keeps = (g.0.rests (omega (arith, none))).keeps in
       sym (g.1 (s.log.shape.home + b) (λ e. omega (arith, e, keeps.super.home_is.0)))
       ∙ left_home book f b below (put_head m image) keeps
@@ -80,9 +81,10 @@ module _ (m : State) (s : Cached) (live : is_dead s ≡ false) (none : steps_lef
   }
 
 -- a store without steps is at rest: its log owes none, and so no record waits
-pub settled : (m : State) (s : Cached) → Owes s.log → s.log.under_way ≡ [] → is_dead s ≡ false → steps_left s ≡ 0 → IsSettled m s
-settled m s owes under_way live none =
-    at_rest m s live none
+pub settled : (m : State) → IsSound m → (s : Cached) → Owes s.log → s.log.under_way ≡ [] → is_dead s ≡ false → steps_left s ≡ 0
+    → IsSettled m s
+settled m sound s owes under_way live none =
+    at_rest m sound s live none
     (none_of s.log.waiting (elim (cases_lt 0 (length s.log.waiting)) [
       | inl some ↦ absurd (omega (arith, owes.some_wait some, none))
       | inr few ↦ few

@@ -1,5 +1,5 @@
 -- What follows of what a log and its medium hold, and what they hold where only its counts change.
-use Rattle.std.proofs.Common.{◌≡◌, ℕ, ◌+◌, ◌-◌, ◌<◌, ◌≤◌, [], length, get_or, refl, ◌∙◌, ap, arith, rules}
+use Rattle.std.proofs.Common.{◌≡◌, ℕ, ◌+◌, ◌-◌, ◌<◌, ◌≤◌, [], length, get_or, refl, ◌∙◌, ap, ⊎_elim, arith, rules}
 use Rattle.std.specs.Prelude.{Bool, true, false, Result, Ok, Err, OnOk, is_err}
 use Rattle.std.proofs.lemmas.List.{length-map}
 use Rattle.std.proofs.Math.ListN.{get_or-map}
@@ -12,19 +12,15 @@ use Rattle.medium.proofs.SparedSectors.{spared_start}
 use Rattle.journal.specs.Places.{first_home, sectors_of}
 use Rattle.journal.specs.Record.{numbers_of}
 use Rattle.journal.specs.Formats.{layout_of}
-use Rattle.journal.proofs.Engine.{rests_logged}
 use Rattle.journal.proofs.Formats.{laws_of}
 use Rattle.redo_log.specs.Value.{LogValue, Ahead, steps_of, steps_for, died}
-use Rattle.redo_log.specs.Logged.{Logged}
 use Rattle.redo_log.specs.Stages.{IsSized}
-use Rattle.redo_log.specs.Held.{View, made_of, turned_of, needed_of, with_head, HasDurable, MayLeave, Stores, Shields, HoldsView}
+use Rattle.redo_log.specs.Held.{View, made_of, turned_of, needed_of, HasDurable, MayLeave, Stores, Guards, HoldsView}
 use Rattle.redo_log.specs.Steps.{LeavesLog}
 use Rattle.redo_log.proofs.BatchRecord.{count_of, record_entries}
 use Rattle.redo_log.proofs.RecordSteps.{steps_are, one_left}
-use Rattle.redo_log.proofs.Heads.{head_within, older_one, heads_quiet, each_head}
-use Rattle.redo_log.proofs.LoggedImage.{Logged-records}
-use Rattle.redo_log.proofs.GuardedCalls.{Stands}
-use Rattle.redo_log.proofs.GuardedCuts.{guards_leave}
+use Rattle.redo_log.proofs.Heads.{safe_stays, stands_front, logged_leaves, guard_leaves}
+use Rattle.redo_log.proofs.GuardedCalls.{Stands, stands_idle, logged_of}
 use Rattle.redo_log.proofs.StoredLog.{Stores-stays}
 use Rattle.redo_log.proofs.LogRules.{IsLog}
 
@@ -50,8 +46,9 @@ module _ {log : LogValue} {m : State} {view : View} (hv : HoldsView log m view) 
       → (view.ours ≡ true → EachCut (MayLeave m.size (going log left retire ahead dead) view) new)
       → (dead ≡ false → Stores log.shape log.head view left (made_of (going log left retire ahead dead))
       (turned_of (going log left retire ahead dead)) new.content)
-      → (dead ≡ false → view.ours ≡ true → Shields log.shape log.head view left (made_of (going log left retire ahead dead))
-      (needed_of (going log left retire ahead dead)) new) → HoldsView (going log left retire ahead dead) new view
+      → (dead ≡ false → view.ours ≡ true → Guards log.shape log.head view left
+      (made_of (going log left retire ahead dead)) (needed_of (going log left retire ahead dead)) new)
+      → HoldsView (going log left retire ahead dead) new view
   going_held left retire ahead dead new same leaves stores guards =
       let fits : sectors_of log.shape ≤ new.size = omega (arith, same, hv.fits) in
       let leaves_now = λ (ours : view.ours ≡ true). rw (← same) at (leaves ours) in search rules
@@ -68,15 +65,11 @@ module _ {log : LogValue} {m : State} {view : View} (hv : HoldsView log m view) 
 
   -- where nothing is under way a cut leaves the durable records of a live log, whichever head is there
   pub durable_whole : IsSized log.shape → log.dead ≡ false → view.ours ≡ true → log.steps_left ≡ 0 → EachCut (HasDurable m.size log view) m
-  durable_whole sized live ours no_steps =
-      each_head log.shape log.head view m (Logged log.shape log.head view.records view.array) (HasDurable m.size log view)
-      (needed_of log) (hv.guards live ours).heads
-      (λ image cut.
-      rests_logged (layout_of log.shape.format) (laws_of log.shape.format) log.shape sized.some image log.head
-      view.records view.array hv.few
-      (((hv.guards live ours).guards.each image cut).rests no_steps))
-      (λ image rest. Logged-records hv.fits rest)
-      (λ image newer same older rest. older_one log.shape sized log.head view m.size hv.fits image newer same older rest)
+  durable_whole sized live ours none image cut =
+      let g = (hv.guards live ours).each image cut in
+      let stands : Stands log.shape log.head view log.steps_left (made_of log) = rw none (stands_idle sized hv.few) in
+      ⊎_elim (λ rest. rest) (λ both. absurd (omega (arith, both.0, none)))
+      (logged_leaves log hv.fits g (logged_of (stands_front g stands) g.safe))
 
   module _ (is : IsLog log) where
     -- its records stand in slots of their own, also once more steps of the one under way are made
@@ -112,10 +105,11 @@ module _ {log : LogValue} {m : State} {view : View} (hv : HoldsView log m view) 
     pub goes_on : (left retire : ℕ) (ahead : Ahead) (new : State) → left ≤ log.steps_left → new.size ≡ m.size → log.dead ≡ false
         → Stores log.shape log.head view left (made_of (going log left retire ahead log.dead))
         (turned_of (going log left retire ahead log.dead)) new.content
-        → (view.ours ≡ true → Shields log.shape log.head view left (made_of (going log left retire ahead log.dead))
+        → (view.ours ≡ true → Guards log.shape log.head view left (made_of (going log left retire ahead log.dead))
         (needed_of (going log left retire ahead log.dead)) new) → HoldsView (going log left retire ahead log.dead) new view
     goes_on left retire ahead new fewer same live stores guards = going_held left retire ahead log.dead new same
-        (λ ours. guards_leave m.size (going log left retire ahead log.dead) view new (stands_then left fewer) hv.fits (guards ours))
+        (λ ours image cut. guard_leaves (going log left retire ahead log.dead) hv.fits (stands_then left fewer)
+        ((guards ours).each image cut))
         (λ _. stores) (λ _. guards)
 
 -- calls that wrote nothing leave what the log and its medium hold
@@ -125,14 +119,9 @@ quiet_held log view old new quiet holds =
     (λ ours. shrunk (MayLeave old.size log view) old new quiet.sets_shrink (holds.leaves ours))
     (λ live. Stores-stays (holds.stores live) log.steps_left (made_of log) (turned_of log) new.content quiet.content_stays (λ some. some)
     (omega arith) (λ i low high. low))
-    (λ live ours.
-    let s = holds.guards live ours in
-    let within = head_within old new (quiet.content_stays 1) quiet.sets_shrink in record {
-      guards = record {
-        each = shrunk _ (with_head old) (with_head new) within s.guards.each;
-        homed = λ is. shrunk _ (with_head old) (with_head new) within (s.guards.homed is);
-      };
-      heads = heads_quiet s new (needed_of log) (quiet.content_stays 1) (λ not. not) quiet.sets_shrink;
+    (λ live ours. record {
+      here = safe_stays quiet.content_stays (holds.guards live ours).here;
+      each = shrunk _ old new quiet.sets_shrink (holds.guards live ours).each;
     })
 
 -- a call that is good did this

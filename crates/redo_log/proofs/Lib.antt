@@ -12,11 +12,9 @@ pub mod Heads
 pub mod RetireTurns
 pub mod SortedIndex
 pub mod LoggedImage
-pub mod GuardedCuts
 pub mod LaidBlocks
 pub mod MergedIndex
 pub mod Newest
-pub mod PassedHead
 pub mod RingRecords
 pub mod CallsSent
 pub mod RecordTurns

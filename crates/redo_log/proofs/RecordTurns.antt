@@ -3,10 +3,10 @@ use Rattle.std.proofs.Common.{◌≡◌, ◌⊎◌, inl, inr, ⊎_elim, ℕ, ◌
 use Rattle.std.proofs.Common.{◌∙◌, ap, arith, length-append}
 use Rattle.std.specs.Prelude.{true, false}
 use Rattle.std.proofs.lemmas.Bool.{cases_eq, cases_lt}
-use Rattle.std.proofs.lemmas.List.{map-append}
+use Rattle.std.proofs.lemmas.List.{map-append, get_or_append_left}
 use Rattle.medium.specs.Medium.{State, IsSound}
 use Rattle.medium.specs.Moments.{EachCut}
-use Rattle.medium.proofs.Moments.{shrunk}
+use Rattle.medium.proofs.Moments.{shrunk, content_has, each_write}
 use Rattle.journal.specs.Places.{sectors_of}
 use Rattle.journal.specs.Record.{Entry, numbers_of, entries_of}
 use Rattle.journal.specs.Layout.{Layout, part_at}
@@ -19,16 +19,16 @@ use Rattle.redo_log.specs.declared.progress.Progress.{Progress}
 use Rattle.redo_log.specs.declared.progress.Progress.TheVariants.{More, Durable}
 use Rattle.redo_log.specs.Value.{LogValue, steps_of, steps_for, of_oldest, IsStepped}
 use Rattle.redo_log.specs.Stages.{needed_at, flush_of}
-use Rattle.redo_log.specs.Calls.{gaining, Call, Write, Flush, MayAdd, IsDone, IsNextCall, IsFlushDue}
+use Rattle.redo_log.specs.Calls.{Call, Write, Flush, MayAdd, IsDone, IsNextCall, IsFlushDue}
 use Rattle.redo_log.specs.Held.{View, with_record, view_stepped, written_of, flushed_of, made_of, turned_of, needed_of}
 use Rattle.redo_log.specs.Held.{HasDurable, MayLeave}
-use Rattle.redo_log.specs.Held.{Shields, Safe, with_head, HoldsView, image_view}
-use Rattle.redo_log.specs.Logged.{Logged}
+use Rattle.redo_log.specs.Held.{HasHead, Guards, HoldsView, image_view}
 use Rattle.redo_log.proofs.RecordSteps.{steps_are, due_or_not, last_call, not_last, one_left, early_written, part_written}
 use Rattle.redo_log.proofs.CoveredRecord.{needed_one}
-use Rattle.redo_log.proofs.Heads.{head_sound, head_only, head_gains, heads_slot, heads_flush}
-use Rattle.redo_log.proofs.GuardedCalls.{Stands, logged_of, other_each, next_each, part_guards, flush_guards, durable_guards}
-use Rattle.redo_log.proofs.GuardedCuts.{leave_of, guards_leave}
+use Rattle.redo_log.proofs.Heads.{same_head, same_stamp, stands_front, logged_leaves, guard_leaves, flush_guards}
+use Rattle.redo_log.proofs.GuardedCalls.{Stands, stands_idle, other_part, part_lost, part_there}
+use Rattle.redo_log.proofs.GuardedCalls.{early_safe, durable_safe}
+use Rattle.redo_log.proofs.LaidBlocks.{before_home}
 use Rattle.redo_log.proofs.RecordCalls.{flush_is, write_is}
 use Rattle.redo_log.proofs.BatchRecord.{record_batch}
 use Rattle.redo_log.proofs.StoredLog.{Stores-stays, part_stores, durable_stores}
@@ -89,11 +89,9 @@ module _ {log : LogValue} (is : IsLog log) (live : log.dead ≡ false) (some : 0
         (Stores-stays (hv.stores live) (log.steps_left - 1) (made_of more_log) (turned_of log) new.content wrote.0 (λ _. some)
         (omega (arith, after.0)) (λ i low high. low))
         (λ ours.
-        let s = hv.guards live ours in record {
-          guards = flush_guards stands (head_sound old sound) s.guards (with_head new) (head_only old.content new (wrote.0 1) wrote.1)
-              (hv.stores live) (log.steps_left - 1) (made_of more_log) some (omega (arith, more)) after.0 after.1;
-          heads = heads_flush log.shape log.head view old.content new (needed_of log) (wrote.0 1) wrote.1;
-        }))
+        let g = hv.guards live ours in flush_guards wrote.0 wrote.1
+        (early_safe stands some (hv.stores live) g.here (omega (arith, more)) after.0 after.1)
+        (λ one. content_has _ old sound (λ image cut. ((g.each image cut).flushed one).1))))
         (λ (all : L.parts n ≤ k).
         absurd (omega (arith, all, not_last (L.early n) (L.parts n) late (made_of log) (omega (arith, more, all_steps, is.most_left)))))
         due
@@ -123,12 +121,16 @@ module _ {log : LogValue} (is : IsLog log) (live : log.dead ≡ false) (some : 0
                     (λ e. inr (omega (arith, e.0, (waits w).0, count hv 0))) few_left,
               )
         ] in
-        let guards : view.ours ≡ true → Shields log.shape log.head (with_record view) 0 made
-        (needed_of (durable_of log)) new = λ ours. record {
-          guards = durable_guards stands (head_sound old sound) (hv.guards live ours).guards (with_head new)
-              (head_only old.content new (wrote.0 1) wrote.1) (hv.stores live) made (needed_of (durable_of log)) some all one_less;
-          heads = heads_flush log.shape log.head (with_record view) old.content new (needed_of (durable_of log)) (wrote.0 1) wrote.1;
-        } in
+        let guards : view.ours ≡ true
+        → Guards log.shape log.head (with_record view) 0 made (needed_of (durable_of log)) new = λ ours.
+        let g = hv.guards live ours in
+        flush_guards wrote.0 wrote.1 (durable_safe stands some (hv.stores live) g.here all) (λ is.
+        let was = one_less is in
+        rw (get_or_append_left view.records (view.under_way ∷ []) [] 0 was.0) (⊎_elim
+        (λ (one : needed_of log ≡ 1). content_has _ old sound (λ image cut. ((g.each image cut).flushed one).1))
+        (λ (home : length (get_or view.records 0 []) ≤ turned_of log) i inside.
+        (hv.stores live).copied i (omega (arith, inside, home)) inside)
+        was.1)) in
         record {
           fits = fits;
           durable = rw (hv.durable, hv.under_way) (sym (map-append (λ r. numbers_of r) view.records (view.under_way ∷ [])));
@@ -137,12 +139,8 @@ module _ {log : LogValue} (is : IsLog log) (live : log.dead ≡ false) (some : 0
           few = omega (arith, slots.room, longer);
           sized = λ j d none. absurd (omega (arith, none));
           firsts = durable_kept log.shape.format view.records view.under_way log.firsts hv.firsts (omega (arith, slots.under_way.fit.some));
-          leaves = λ ours. guards_leave new.size (durable_of log) (with_record view) new (record {
-            sized = is.sized;
-            slots = λ none. absurd (omega (arith, none));
-            few = omega (arith, slots.room, longer);
-            short = λ _. omega arith;
-          }) fits (guards ours);
+          leaves = λ ours image cut. guard_leaves (durable_of log) fits
+              (stands_idle is.sized (omega (arith, slots.room, longer))) ((guards ours).each image cut);
           stores = λ _. durable_stores
               (Stores-stays (hv.stores live) log.steps_left (made_of log) (turned_of log) new.content wrote.0 (λ some. some) (omega arith)
               (λ i low high. low))
@@ -172,51 +170,55 @@ module _ {log : LogValue} (is : IsLog log) (live : log.dead ≡ false) (some : 0
       after next one = part_written (L.early n) (L.parts n) late (made_of log) next one (⊎_elim
           (λ (some : 0 < L.early n). inr (λ is. not (inl (some, is)))) inl (cases_lt 0 (L.early n)))
 
+      -- with the last part in it the record has this one's
+      part_each : bytes ≡ L.part stamp view.under_way k → MayAdd (Write place bytes) old new → view.ours ≡ true
+          → {less : ℕ} → 0 < less → (next : ℕ) → next ≡ made_of log + 1
+          → EachCut (HasHead log.shape log.head view less next (needed_of log)) new
+      part_each mine adds ours left next one =
+          let now = after next one in
+          each_write _ _ old new place bytes sound adds (hv.guards live ours).each
+          (λ image g. same_head g (part_lost (stands_front g stands) some small left now.0 now.1 g.safe) g.flushed)
+          (λ before image write g. same_head g
+          (part_there (stands_front g stands) some small left now.0 now.1 (sym (same_stamp g)) mine write g.safe)
+          (λ one. let homed = g.flushed one in (
+            homed.0,
+            λ i below. write.elsewhere _
+                (λ e. omega (arith, e, before_home log.shape is.sized stamp (L.offset n k) inside)) ∙ homed.1 i below,
+          )))
+
       part_leaves : MayAdd (Write place bytes) old new → view.ours ≡ true → EachCut (MayLeave old.size log view) new
-      part_leaves adds ours =
-          let gained : State = record old { may_leave = gaining place bytes old.may_leave } in
-          let gains = head_gains old gained place bytes refl (λ s c left. left) in
-          let s = hv.guards live ours in
-          let now = after (made_of log + 1) refl in
-          let heads = heads_slot s gained (needed_of log) refl (λ not. not) is.sized sound (L.offset n k) bytes inside (λ s c left. left) in
-          shrunk (MayLeave old.size log view) gained new adds (elim (cases_lt (k + 1) (L.parts n)) [
-            | inl early ↦
-                leave_of old.size log view gained (needed_of log) hv.fits is.sized (Logged log.shape log.head view.records view.array) heads
-                (other_each stands (head_sound old sound) s.guards (with_head gained) some small bytes gains other
-                other_is other_count refl early)
-                (λ image rest. inl rest)
-            | inr last ↦
-                let stands_now : Stands log.shape log.head view log.steps_left (made_of log + 1) = record {
-                  sized = is.sized;
-                  slots = stands.slots;
-                  few = stands.few;
-                  short = λ all. omega (arith, one_left (L.early n) (L.parts n) late (made_of log + 1) all, all_steps);
-                } in
-                let k_is : L.parts n - 1 ≡ k = omega (arith, small, last) in
-                let last_same = rw (other_count, k_is) at (laws.last_part stamp other view.under_way other_count) in
-                leave_of old.size log view gained (needed_of log) hv.fits is.sized
-                (Safe log.shape log.head view log.steps_left (made_of log + 1))
-                heads
-                (next_each stands (head_sound old sound) s.guards (with_head gained) some small bytes gains last_same log.steps_left
-                (made_of log + 1) now.0 now.1 some)
-                (logged_of stands_now)
-          ])
+      part_leaves adds ours = elim (cases_lt (k + 1) (L.parts n)) [
+        | inl early ↦
+            each_write _ (MayLeave old.size log view) old new place bytes sound adds (hv.guards live ours).each
+            (λ image g. guard_leaves log hv.fits stands g)
+            (λ before image write g. ⊎_elim inl (λ both. inr (inl both)) (logged_leaves log hv.fits g
+            (other_part (stands_front g stands) some small (sym (same_stamp g)) other other_is other_count early write
+            g.safe)))
+        | inr last ↦
+            let stands_now : Stands log.shape log.head view log.steps_left (made_of log + 1) = record {
+              sized = is.sized;
+              slots = stands.slots;
+              few = stands.few;
+              short = λ all. omega (arith, one_left (L.early n) (L.parts n) late (made_of log + 1) all, all_steps);
+            } in
+            let k_is : L.parts n - 1 ≡ k = omega (arith, small, last) in
+            let mine = rw (other_count, k_is) at (laws.last_part stamp other view.under_way other_count) in
+            λ image cut.
+            guard_leaves log hv.fits stands_now (part_each mine adds ours some (made_of log + 1) refl image cut)
+      ]
 
       part_written_now : 1 < log.steps_left → new.size ≡ old.size → view.under_way ≡ other → MayAdd (Write place bytes) old new
           → IsDone (Write place bytes) old new → HoldsView more_log new view
       part_written_now more same_size named adds wrote =
           let mine : bytes ≡ L.part stamp view.under_way k = ap (λ (l : List Entry). L.part stamp l k) (sym named) in
           let now = after (made_of more_log) then_made in
-          let same : new.content 1 ≡ old.content 1 = wrote.elsewhere 1 (λ e. omega (arith, e)) in
+          let left : 0 < log.steps_left - 1 = omega (arith, more) in
           goes_on hv is (log.steps_left - 1) log.retire_steps_left log.ahead new (omega arith) same_size live
           (part_stores (hv.stores live) is.sized new.content bytes (log.steps_left - 1) (made_of more_log) some slots
           small now.0 wrote mine)
-          (λ ours.
-          let s = hv.guards live ours in record {
-            guards = part_guards stands (head_sound old sound) s.guards (with_head new) some small bytes
-                (head_gains old new place bytes same adds)
-                mine (log.steps_left - 1) (made_of more_log) now.0 now.1 (omega (arith, more));
-            heads = heads_slot s new (needed_of log) same (λ not. not) is.sized sound (L.offset n k) bytes inside adds;
+          (λ ours. record {
+            here = part_there stands some small left now.0 now.1 refl mine wrote (hv.guards live ours).here;
+            each = part_each mine adds ours left (made_of more_log) then_made;
           })
 
   -- ---- the next call of a record with these blocks

@@ -1,21 +1,24 @@
 -- Each turn that retires the oldest durable record: what the log and its medium hold after it.
-use Rattle.std.proofs.Common.{◌≡◌, ◌≢◌, inl, inr, ⊎_elim, ℕ, ◌+◌, ◌-◌, ◌<◌, ◌≤◌, List, [], length, get_or, drop, refl, ◌∙◌}
-use Rattle.std.proofs.Common.{ap, subst, arith, length-drop}
+use Rattle.std.proofs.Common.{◌≡◌, ◌≢◌, inl, inr, ℕ, ◌+◌, ◌-◌, ◌<◌, ◌≤◌, List, [], ◌∷◌, length, get_or, drop, refl, ◌∙◌}
+use Rattle.std.proofs.Common.{ap, subst, arith, length-drop, add-zero}
 use Rattle.std.specs.Prelude.{true, false, map, Option, slice_index}
 use Rattle.std.proofs.lemmas.Bool.{cases_eq, cases_lt}
 use Rattle.std.proofs.lemmas.List.{drop-map}
 use Rattle.std.proofs.Math.ListN.{get_or-map}
+use Rattle.std.proofs.Math.Seq.{drop-cons}
 use Rattle.medium.specs.Medium.{State, Holds, Gains, IsSound}
-use Rattle.medium.specs.Moments.{LeavesOnly}
-use Rattle.medium.proofs.Moments.{quiet_leaves, weaker}
+use Rattle.medium.specs.Moments.{EachCut, LeavesOnly}
+use Rattle.medium.proofs.Moments.{each_write, quiet_leaves, weaker}
 use Rattle.journal.specs.declared.head.Head.{Head as HeadOf}
 use Rattle.journal.specs.Places.{sectors_of, first_home, first_data_of}
 use Rattle.journal.specs.Sectors.{IsRising, IsHead}
-use Rattle.journal.specs.Record.{Entry, numbers_of}
+use Rattle.journal.specs.Record.{Entry, Hides, numbers_of}
 use Rattle.journal.specs.Layout.{slot_at}
 use Rattle.journal.specs.Formats.{layout_of, IsWhole}
 use Rattle.journal.specs.Copies.{begun_with}
+use Rattle.journal.specs.Staged.{IsHomed}
 use Rattle.journal.proofs.CopiedBlock.{begun_is}
+use Rattle.journal.proofs.Overlay.{records-hide}
 use Rattle.redo_log.specs.declared.turn.Turn.{Turn}
 use Rattle.redo_log.specs.declared.turn.Turn.TheVariants.{Copy, Flush, Head}
 use Rattle.redo_log.specs.Value.{LogValue, Ahead, IsSentHome, IsRetireStepped, of_oldest, ahead_of}
@@ -23,17 +26,17 @@ use Rattle.redo_log.specs.Stages.{needed_at}
 use Rattle.redo_log.specs.Firsts.{first_kept}
 use Rattle.redo_log.specs.Calls.{gaining, WritesOnly}
 use Rattle.redo_log.specs.Turns.{head_bytes, MayTurn, IsTurned, IsNextTurn}
-use Rattle.redo_log.specs.Held.{View, view_retired, made_of, turned_of, needed_of, with_head, MayLeave, Stores, Safe}
-use Rattle.redo_log.specs.Held.{Guards, Shields, HoldsView}
+use Rattle.redo_log.specs.Held.{View, view_retired, made_of, turned_of, needed_of, image_view, MayLeave, Stores, Safe}
+use Rattle.redo_log.specs.Held.{HasHead, Guards, HoldsView}
 use Rattle.redo_log.proofs.BatchRecord.{count_of}
 use Rattle.redo_log.proofs.OneSector.{moments_have}
 use Rattle.redo_log.proofs.CoveredRecord.{needed_one}
-use Rattle.redo_log.proofs.Heads.{head_sound, head_only, head_gains, heads_home, heads_flush, one_head}
+use Rattle.redo_log.proofs.Heads.{hides_behind, records_before, newest, with_newest, same_head, stands_front}
+use Rattle.redo_log.proofs.Heads.{guard_leaves, flush_guards}
 use Rattle.redo_log.proofs.LoggedImage.{Logged-records}
-use Rattle.redo_log.proofs.PassedHead.{ahead_guards, ahead_heads}
+use Rattle.redo_log.proofs.LaidBlocks.{IsWhole-same}
 use Rattle.redo_log.proofs.StoredLog.{Stores-stays, home_stores, head_stores}
-use Rattle.redo_log.proofs.GuardedCalls.{Stands, stands_less, logged_of, home_each, homed_guards, head_each, head_guards, past_records}
-use Rattle.redo_log.proofs.GuardedCuts.{leave_of, guards_leave, logged_leaves}
+use Rattle.redo_log.proofs.GuardedCalls.{Stands, stands_less, keeps_of, logged_of, home_safe, past_safe}
 use Rattle.redo_log.proofs.KeptFirsts.{kept_is, retired_kept}
 use Rattle.redo_log.proofs.CallsSent.{copy_turn, flush_turn, head_turn}
 use Rattle.redo_log.proofs.LogRules.{IsLog, retired_of, one_waits, nothing_home, not_homed}
@@ -68,7 +71,7 @@ module _ {log : LogValue} (is : IsLog log) (live : log.dead ≡ false) (owed : 0
   stored : Stores log.shape log.head view log.steps_left (made_of log) (turned_of log) old.content
   stored = hv.stores live
 
-  guarded : view.ours ≡ true → Shields log.shape log.head view log.steps_left (made_of log) (needed_of log) old
+  guarded : view.ours ≡ true → Guards log.shape log.head view log.steps_left (made_of log) (needed_of log) old
   guarded ours = hv.guards live ours
 
   -- what it needs where so many retire steps are left of it
@@ -81,42 +84,47 @@ module _ {log : LogValue} (is : IsLog log) (live : log.dead ≡ false) (owed : 0
     inside : turned_of log < length oldest
     inside = omega (arith, below, is.owed_most, count hv 0)
 
+    abbrev block : ℕ
+    block = (get_or oldest (turned_of log) (0, [])).0
+
     abbrev to : ℕ
-    to = first_home log.shape + (get_or oldest (turned_of log) (0, [])).0
+    to = first_home log.shape + block
 
     abbrev bytes : List ℕ
     bytes = begun_with begins (old.content from)
 
+    hides : Hides view.records block
+    hides = records-hide view.records 0 (turned_of log) waits inside
+
+    home_each : view.ours ≡ true → (mid : State) → Gains to bytes old.may_leave mid.may_leave → {left : ℕ} → left ≢ 1
+        → EachCut (HasHead log.shape log.head view log.steps_left (made_of log) left) mid
+    home_each ours mid gains {left} not =
+        each_write _ _ old mid to bytes sound gains (guarded ours).each
+        (λ image g. same_head g g.safe (λ one. absurd (not one)))
+        (λ before image write g. same_head g
+        (home_safe (stands_front g stands) g.safe block (hides_behind g.passed view.records block hides) write)
+        (λ one. absurd (not one)))
+
     home_leaves : MayTurn (Copy from to begins) old new → view.ours ≡ true → LeavesOnly (MayLeave old.size log view) old new
     home_leaves adds ours =
         let gained : State = record old { may_leave = gaining to bytes old.may_leave } in
-        let s = guarded ours in
         moments_have (MayLeave old.size log view) to bytes old new adds
-        (leave_of old.size log view gained (needed_of log) hv.fits is.sized (Safe log.shape log.head view log.steps_left (made_of log))
-        (heads_home s gained (needed_of log) refl (λ not. not) is.sized sound (turned_of log) bytes waits inside (λ s c left. left))
-        (home_each stands (head_sound old sound) s.guards (with_head gained) bytes (turned_of log) waits inside
-        (head_gains old gained to bytes refl (λ s c left. left)))
-        (logged_of stands))
+        (λ image cut. guard_leaves log {retire = 0} hv.fits stands
+        (home_each ours gained (λ s c left. left) (omega arith) image cut))
 
     home_held : (ahead : Ahead) → needed_of (record log { retire_steps_left = log.retire_steps_left - 1; ahead = ahead }) ≢ 1
         → new.size ≡ old.size → MayTurn (Copy from to begins) old new → IsTurned (Copy from to begins) old new
         → HoldsView (record log { retire_steps_left = log.retire_steps_left - 1; ahead = ahead }) new view
     home_held ahead not same_size adds wrote =
         let rising : IsRising (numbers_of oldest) = subst IsRising (named hv 0) (is.each 0 [] (one_waits is owed)).rising in
-        let same : new.content 1 ≡ old.content 1 = wrote.elsewhere 1 (λ e. omega (arith, e, is.sized.behind)) in
         let next = record log { retire_steps_left = log.retire_steps_left - 1; ahead = ahead } in
         goes_on hv is log.steps_left (log.retire_steps_left - 1) ahead new (omega arith) same_size live
         (home_stores stored is.sized new.content bytes (turned_of next)
         (λ some. (stands.slots some).under_way.fit.few) waits rising inside wrote
         brought (omega (arith, below, is.owed_most)))
-        (λ ours.
-        let s = guarded ours in record {
-          guards = record {
-            each = home_each stands (head_sound old sound) s.guards (with_head new) bytes (turned_of log) waits inside
-                (head_gains old new to bytes same adds.sets);
-            homed = λ e. absurd (not e);
-          };
-          heads = heads_home s new (needed_of next) same (λ _. not) is.sized sound (turned_of log) bytes waits inside adds.sets;
+        (λ ours. record {
+          here = home_safe stands (guarded ours).here block hides wrote;
+          each = home_each ours new adds.sets not;
         })
 
   -- ---- the flush of its blocks
@@ -128,20 +136,24 @@ module _ {log : LogValue} (is : IsLog log) (live : log.dead ≡ false) (owed : 0
       goes_on hv is log.steps_left (log.retire_steps_left - 1) log.ahead new (omega arith) same_size live
       (Stores-stays stored log.steps_left (made_of log) (turned_of next) new.content wrote.0 (λ some. some) (omega arith)
       (λ i low high. omega (arith, high, there)))
-      (λ ours. record {
-        guards = homed_guards stands (head_sound old sound) (guarded ours).guards (with_head new)
-            (head_only old.content new (wrote.0 1) wrote.1)
-            stored (needed_of next) there;
-        heads = heads_flush log.shape log.head view old.content new (needed_of next) (wrote.0 1) wrote.1;
-      })
+      (λ ours. flush_guards wrote.0 wrote.1 (guarded ours).here
+      (λ _ i inside. stored.copied i (omega (arith, inside, there)) inside))
 
   -- ---- the head is written past it
   module _ (one : of_oldest log ≡ 1) (h : HeadOf) (stamp_is : h.stamp ≡ log.head + 1) (new : State) where
     head_now : IsHead (log.head + 1) (head_bytes h.stamp)
     head_now = new_head h (log.head + 1) stamp_is
 
-    one_now : view.ours ≡ true → Guards log.shape log.head view log.steps_left (made_of log) (needed_of log) old
-    one_now ours = one_head (guarded ours) (needs_one one)
+    one_now : view.ours ≡ true → EachCut (λ image. Safe log.shape log.head view log.steps_left (made_of log) image
+        × IsHomed (image_view log.shape log.head view) image) old
+    one_now ours image cut =
+        let g = (guarded ours).each image cut in
+        let f = g.flushed (needs_one one) in (newest g f.0, f.1)
+
+    past_now : view.ours ≡ true → Holds 1 (head_bytes h.stamp) old.content new.content
+        → Safe log.shape (log.head + 1) (view_retired 1 view) log.steps_left (made_of log) new.content
+    past_now ours wrote =
+        past_safe stands (guarded ours).here waits head_now (one_now ours old.content sound.holds_content).1 wrote
 
     stands_past : Stands log.shape (log.head + 1) (view_retired 1 view) log.steps_left (made_of log)
     stands_past = stands_less stands waits
@@ -151,17 +163,27 @@ module _ {log : LogValue} (is : IsLog log) (live : log.dead ≡ false) (owed : 0
     head_leaves adds ours =
         let gained : State = record old { may_leave = gaining 1 (head_bytes h.stamp) old.may_leave } in
         moments_have (MayLeave old.size log view) 1 (head_bytes h.stamp) old new adds
-        (λ image cut. ⊎_elim (λ safe. logged_leaves old.size log view image hv.fits (logged_of stands image safe))
-        (λ past. ⊎_elim
-        (λ rest. inr (inr (waits, omega (arith, one), Logged-records hv.fits rest)))
-        (λ both. inr (inl (both.0, both.1, past_records old.size log.shape log.head view image hv.fits waits past.1 both.2)))
-        (logged_of stands_past image past.0))
-        (head_each stands sound (one_now ours) gained (head_bytes h.stamp) waits head_now (needs_one one) (λ s c left. left) image cut))
+        (each_write _ _ old gained 1 (head_bytes h.stamp) sound (λ s c left. left) (one_now ours)
+        (λ image both. guard_leaves log {retire = 0} hv.fits stands
+        (with_newest both.0 (λ none. absurd (omega (arith, none)))))
+        (λ before image write both. elim (logged_of stands_past (past_safe stands both.0 waits head_now both.1 write)) [
+          | inl rest ↦ inr (inr (waits, omega (arith, one), Logged-records hv.fits rest))
+          | inr more ↦
+              let first = IsWhole-same log.shape is.sized before image
+              (λ x low high. write.elsewhere x (λ e. omega (arith, low, e))) log.head oldest
+              (rw add-zero at ((keeps_of both.0).whole 0 waits)) in
+              inr (inl (
+                more.0,
+                more.1,
+                rw (drop-cons view.records 0 [] waits) (records_before oldest first (Logged-records hv.fits more.2)),
+              ))
+        ]))
 
     -- then the log has one record less, where this guards it
     past_held : new.size ≡ old.size → Holds 1 (head_bytes h.stamp) old.content new.content
         → (view.ours ≡ true
-        → Shields log.shape (log.head + 1) (view_retired 1 view) log.steps_left (made_of log) (needed_of (retired_of log)) new)
+        → Guards log.shape (log.head + 1) (view_retired 1 view) log.steps_left (made_of log)
+        (needed_of (retired_of log)) new)
         → HoldsView (retired_of log) new (view_retired 1 view)
     past_held same_size wrote guards =
         let fits : sectors_of log.shape ≤ new.size = omega (arith, same_size, hv.fits) in
@@ -178,7 +200,7 @@ module _ {log : LogValue} (is : IsLog log) (live : log.dead ≡ false) (owed : 0
           few = omega (arith, hv.few, fewer);
           sized = hv.sized;
           firsts = retired_kept log.shape.format view.records view.under_way log.firsts hv.firsts waits;
-          leaves = λ ours. guards_leave new.size (retired_of log) (view_retired 1 view) new stands_past fits (guards ours);
+          leaves = λ ours image cut. guard_leaves (retired_of log) fits stands_past ((guards ours).each image cut);
           stores = λ _. head_stores stored is.sized new.content (head_bytes h.stamp) (turned_of (retired_of log)) waits
               (omega (arith, one, count hv 0)) (λ i low high. nothing_home log i low (omega (arith, high, second))) wrote;
           guards = λ _. guards;
@@ -201,20 +223,25 @@ module _ {log : LogValue} (is : IsLog log) (live : log.dead ≡ false) (owed : 0
 
     -- the head is flushed
     head_held : new.size ≡ old.size → IsTurned (Head h) old new → HoldsView (retired_of log) new (view_retired 1 view)
-    head_held same_size wrote = past_held same_size wrote.0 (λ ours. record {
-      guards = head_guards stands sound (one_now ours) (with_head new) (head_bytes h.stamp) waits head_now (needs_one one)
-          (needed_of (retired_of log)) needs_more wrote.0 (head_only new.content new refl wrote.1);
-      heads = heads_flush log.shape (log.head + 1) (view_retired 1 view) new.content new (needed_of (retired_of log)) refl wrote.1;
-    })
+    head_held same_size wrote = past_held same_size wrote.0
+        (λ ours. flush_guards (λ s. refl) wrote.1 (past_now ours wrote.0) (λ is. absurd (needs_more is)))
 
     -- it is not flushed yet, and a slot is free besides the one that is passed
     pub ahead_held : log.next - log.head < log.shape.slots → new.size ≡ old.size → Gains 1 (head_bytes h.stamp) old.may_leave new.may_leave
         → Holds 1 (head_bytes h.stamp) old.content new.content → HoldsView (retired_of log) new (view_retired 1 view)
     ahead_held besides same_size gains wrote = past_held same_size wrote (λ ours. record {
-      guards = ahead_guards stands sound (one_now ours) (needs_one one) new (head_bytes h.stamp) waits head_now (needed_of (retired_of log))
-          needs_more wrote gains;
-      heads = ahead_heads stands sound (one_now ours) (needs_one one) new (head_bytes h.stamp) waits head_now (needed_of (retired_of log))
-          needs_more wrote gains (omega (arith, besides, hv.next, length-drop 1 view.records, waits));
+      here = past_now ours wrote;
+      each = each_write _ _ old new 1 (head_bytes h.stamp) sound gains (one_now ours)
+          (λ image both. record {
+            stamp = log.head;
+            passed = get_or view.records 0 [] ∷ [];
+            behind = refl;
+            room = λ _. omega (arith, besides, hv.next, length-drop 1 view.records, waits);
+            safe = rw (← drop-cons view.records 0 [] waits) both.0;
+            flushed = λ is. absurd (needs_more is);
+          })
+          (λ before image write both. with_newest (past_safe stands both.0 waits head_now both.1 write)
+          (λ is. absurd (needs_more is)));
     })
 
   -- ---- the next turn of the oldest record

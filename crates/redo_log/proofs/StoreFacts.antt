@@ -1,6 +1,6 @@
 -- What a store on top of a log cites.
 use Rattle.std.proofs.Common.{◌≡◌, ◌≢◌, ◌⊎◌, inl, inr, ⊎_elim, ℕ, ◌+◌, ◌-◌, ◌<◌, ◌≤◌, List, [], ◌∷◌, ◌++◌, length, drop, refl, sym, ◌∙◌}
-use Rattle.std.proofs.Common.{ap, subst, arith, length-append, length-drop}
+use Rattle.std.proofs.Common.{ap, arith, length-append, length-drop}
 use Rattle.std.specs.Prelude.{Bool, true, false}
 use Rattle.std.proofs.lemmas.List.{nil_from_length}
 use Rattle.medium.specs.Medium.{State, Image, CutLeaves, IsSound}
@@ -13,18 +13,19 @@ use Rattle.journal.specs.Record.{Entry, with_blocks, entries_of}
 use Rattle.journal.specs.Formats.{layout_of}
 use Rattle.journal.specs.Standing.{IsOurs}
 use Rattle.journal.proofs.BatchEntries.{numbers_of_batch, length_of_batch, sized_batch}
-use Rattle.journal.proofs.Engine.{rests_logged, rests_begun}
+use Rattle.journal.proofs.Engine.{rests_logged}
 use Rattle.journal.proofs.Formats.{laws_of, most_is}
 use Rattle.redo_log.specs.Value.{LogValue, HasRoom, IsCovered, retire_steps_of, behind_oldest, of_oldest, idle_from}
 use Rattle.redo_log.specs.Value.{begun, died, settled}
 use Rattle.redo_log.specs.Batch.{IsBatch}
 use Rattle.redo_log.specs.Logged.{HasNoRecord}
 use Rattle.redo_log.specs.Stages.{needed_at}
-use Rattle.redo_log.specs.Held.{View, resting_view, with_begun, image_view, made_of, turned_of}
-use Rattle.redo_log.specs.Held.{needed_of, MayLeave, Safe, Shields, stamps_of, HoldsView}
+use Rattle.redo_log.specs.Held.{View, resting_view, with_begun, made_of, turned_of}
+use Rattle.redo_log.specs.Held.{needed_of, MayLeave, Safe, stamps_of, HoldsView}
 use Rattle.redo_log.proofs.RecordSteps.{none_written, steps_some}
 use Rattle.redo_log.proofs.CoveredRecord.{needed_covered}
-use Rattle.redo_log.proofs.Heads.{head_cut, heads_quiet, put_head, put_cut}
+use Rattle.redo_log.proofs.Heads.{with_newest, same_head, put_head, put_safe}
+use Rattle.redo_log.proofs.GuardedCalls.{begun_safe}
 use Rattle.redo_log.proofs.LoggedImage.{Logged-records}
 use Rattle.redo_log.proofs.KeptFirsts.{none_kept, begun_kept}
 use Rattle.redo_log.proofs.StoredLog.{Stores-stays}
@@ -55,17 +56,14 @@ idle_holds shape next array ours m sound fits home fresh = record {
     written = λ none. absurd (omega (arith, none));
     copied = λ i low high. absurd (omega (arith, high));
   };
-  guards = λ live is. record {
-    guards = record {
-      each = λ image cut. record {
-        rests = λ _. fresh is image (head_cut m sound image cut);
-        guarded = λ none. absurd (omega (arith, none));
+  guards = λ live is.
+      let safe : (image : Image) → CutLeaves m.may_leave image
+      → Safe shape next (resting_view array ours) 0 (made_of (idle_from shape next)) image =
+      λ image cut. record { rests = λ _. fresh is image cut; guarded = λ none. absurd (omega (arith, none)) } in
+      record {
+        here = safe m.content sound.holds_content;
+        each = λ image cut. with_newest (safe image cut) (λ none. absurd (omega (arith, none)));
       };
-      homed = λ none. absurd (omega (arith, none));
-    };
-    heads = λ image cut.
-        inl ((fresh is image cut).keeps.head_is.spelled ∙ sym (fresh is m.content sound.holds_content).keeps.head_is.spelled);
-  };
 }
 
 -- a log that is given up holds what a cut may leave
@@ -84,17 +82,15 @@ settled_holds log m view holds covered =
     (holds.leaves ours image cut))
     (λ live. Stores-stays (holds.stores live) log.steps_left (made_of log) (turned_of (settled log)) m.content (λ s. refl) (λ some. some)
     (omega arith) (λ i low high. omega (arith, high, covered.flushes, count holds 0)))
-    (λ live ours. subst (λ (n : ℕ). Shields log.shape log.head view log.steps_left (made_of log) n m) needs (holds.guards live ours))
+    (λ live ours. rw needs at (holds.guards live ours))
 
 -- whichever head an image has, it has the blocks of one that the log's guard speaks of
-pub blocks_guarded : (log : LogValue) (m : State) (view : View) → HoldsView log m view → log.dead ≡ false → view.ours ≡ true
-    → (image : Image) → CutLeaves m.may_leave image
+pub blocks_guarded : (log : LogValue) (m : State) (view : View) → IsSound m → HoldsView log m view → log.dead ≡ false
+    → view.ours ≡ true → (image : Image) → CutLeaves m.may_leave image
     → Safe log.shape log.head view log.steps_left (made_of log) (put_head m image)
     × ((x : ℕ) → x ≢ 1 → put_head m image x ≡ image x)
-blocks_guarded log m view holds live ours image cut = (
-  (holds.guards live ours).guards.each (put_head m image) (put_cut m image cut),
-  λ x not. updated_elsewhere image 1 (m.content 1) x not,
-)
+blocks_guarded log m view sound holds live ours image cut =
+    (put_safe sound (holds.guards live ours) cut, λ x not. updated_elsewhere image 1 (m.content 1) x not)
 
 -- the image is ours and stands for the log's array, or with the record under way
 pub may_leave_ours : (size : ℕ) (log : LogValue) (view : View) (image : Image) → MayLeave size log view image
@@ -127,7 +123,8 @@ begun_holds log m view numbers bytes holds room batch =
     let same : of_oldest log ≡ of_oldest next = omega (arith, behind) in
     let needs : needed_of log ≡ needed_of next = ap (λ (l : ℕ). needed_at log.ahead log.head (log.head + length log.waiting) l) same in
     let turned : turned_of log ≡ turned_of next = omega (arith, same) in
-    let nothing = none_written ((layout_of log.shape.format).early (length (entries_of numbers bytes))) (made_of next) (omega arith) in
+    let none_made : made_of next ≡ 0 = omega arith in
+    let nothing = none_written ((layout_of log.shape.format).early (length E)) (made_of next) none_made in
     let few : length (entries_of numbers bytes) ≤ (layout_of log.shape.format).most =
     omega (arith, many, batch.few, most_is log.shape.format) in
     record {
@@ -148,18 +145,13 @@ begun_holds log m view numbers bytes holds room batch =
         written = λ left p low small. absurd (omega (arith, low, nothing.0));
         copied = λ i low high. (holds.stores live).copied i (omega (arith, low, turned)) high;
       };
-      guards = λ live ours. record {
-        guards = record {
-          each = λ image cut.
-              let rests = ((holds.guards live ours).guards.each image cut).rests room.no_steps in
-              record {
-                rests = λ none. absurd (omega (arith, none, steps_some log.shape.format (length numbers)));
-                guarded = λ _. rw (nothing.0, nothing.1) (rests_begun (layout_of log.shape.format) (laws_of log.shape.format)
-                    (image_view log.shape log.head (with_begun E view))
-                    rests.keeps.super.some_slots few image rests);
-              };
-          homed = λ is. (holds.guards live ours).guards.homed (needs ∙ is);
-        };
-        heads = heads_quiet (holds.guards live ours) m (needed_of next) refl (λ not is. not (needs ∙ is)) (λ s c left. left);
-      };
+      guards = λ live ours.
+          let g = holds.guards live ours in
+          let some = steps_some log.shape.format (length numbers) in
+          record {
+            here = begun_safe room.no_steps few none_made some g.here;
+            each = λ image cut.
+                let h = g.each image cut in
+                same_head h (begun_safe room.no_steps few none_made some h.safe) (λ is. h.flushed (needs ∙ is));
+          };
     }

@@ -1,13 +1,12 @@
 -- What a log and its medium hold together.
-use Rattle.std.specs.Prelude.{◌≡◌, ◌≢◌, ◌⊎◌, ℕ, ◌+◌, ◌-◌, ◌≤◌, ◌<◌, List, [], ◌∷◌, ◌++◌, length}
+use Rattle.std.specs.Prelude.{◌≡◌, ◌⊎◌, ℕ, ◌+◌, ◌-◌, ◌≤◌, ◌<◌, List, [], ◌∷◌, ◌++◌, length}
 use Rattle.std.specs.Prelude.{get_or, drop, map, All, Bool, true, false}
-use Rattle.medium.specs.Medium.{State, Image, Sets, CutLeaves}
+use Rattle.medium.specs.Medium.{State, Image}
 use Rattle.medium.specs.Moments.{EachCut}
 use Rattle.spec.specs.Blocks.{Array}
 use Rattle.journal.specs.declared.log_format.LogFormat.{LogFormat}
 use Rattle.journal.specs.declared.log_format.LogFormat.TheVariants.{One, Two}
 use Rattle.journal.specs.Places.{Shape, sectors_of}
-use Rattle.journal.specs.Sectors.{IsHead}
 use Rattle.journal.specs.SectorsTwo.{firsts_of}
 use Rattle.journal.specs.Record.{Entry, numbers_of, with_blocks}
 use Rattle.journal.specs.Layout.{part_at}
@@ -130,47 +129,30 @@ pub record Safe (shape : Shape) (head : ℕ) (view : View) (steps made : ℕ) (i
   pub guarded : 0 < steps → Guarded (layout_of shape.format) (image_view shape head view)
       (written_of shape view made) (flushed_of shape view made) image
 
+-- these records, which the head went past, stand in front of the others
+abbrev pub with_passed : List (List Entry) → View → View
+with_passed passed view = record view { records = passed ++ view.records }
+
+-- What a cut may leave of the log, where the oldest record needs so many retire steps. The head
+-- there is the newest, or an older one: then the records that the head went past since, without a
+-- flush, are whole in front of the others, and no record takes their slots.
+pub record HasHead (shape : Shape) (head : ℕ) (view : View) (steps made retire : ℕ) (image : Image)
+    : Type 0 where
+  pub stamp : ℕ
+  pub passed : List (List Entry)
+  pub behind : head ≡ stamp + length passed
+  pub room : 0 < length passed → length passed + length view.records < shape.slots
+  pub safe : Safe shape stamp (with_passed passed view) steps made image
+  -- Where one retire step is needed, all was flushed since: no older head is left, and the oldest
+  -- record's blocks are at home.
+  pub flushed : retire ≡ 1 → (passed ≡ []) × IsHomed (image_view shape head view) image
+
 -- what guards a log against a cut
 pub record Guards (shape : Shape) (head : ℕ) (view : View) (steps made retire : ℕ) (m : State)
     : Type 0 where
-  pub each : EachCut (Safe shape head view steps made) m
-  -- the oldest record's blocks are flushed at home
-  pub homed : retire ≡ 1 → EachCut (IsHomed (image_view shape head view)) m
-
--- these sets, but in the sector of the head what this image has there
-abbrev pub head_sets : Image → Sets → Sets
-head_sets content sets s c = (s ≡ 1 → c ≡ content 1) × (s ≢ 1 → sets s c)
-
--- this medium, where a cut leaves in the sector of the head what a read gives
-abbrev pub with_head : State → State
-with_head m = record m {
-  may_leave = head_sets m.content m.may_leave;
-  left_since = λ t image. CutLeaves (head_sets m.content m.may_leave) image;
-}
-
--- The head that was written ahead of its flush is not there, but the one before it: the record that
--- it passed is whole in front of the others, and with it they make the same array. The record that
--- is written next takes another slot.
-pub record IsOlder (shape : Shape) (head : ℕ) (records : List (List Entry)) (array : Array)
-    (image : Image) : Type 0 where
-  pub passed : List Entry
-  pub stamp : ℕ
-  pub behind : head ≡ stamp + 1
-  pub head_is : IsHead stamp (image 1)
-  pub laid : Laid shape stamp (passed ∷ records) array image
-  pub room : length records + 2 ≤ shape.slots
-
--- The image has the head that a read gives, or the one before it. That one is gone once the oldest
--- record's blocks are flushed at home, and one retire step is left of it: that flush came later.
-abbrev pub HasHead : Shape → ℕ → View → ℕ → State → Image → Type 0
-HasHead shape head view retire m image =
-    (image 1 ≡ m.content 1) ⊎ ((retire ≢ 1) × IsOlder shape head view.records view.array image)
-
--- what guards a log against a cut, whichever of its heads that leaves
-pub record Shields (shape : Shape) (head : ℕ) (view : View) (steps made retire : ℕ) (m : State)
-    : Type 0 where
-  pub guards : Guards shape head view steps made retire (with_head m)
-  pub heads : EachCut (HasHead shape head view retire m) m
+  -- a read gives the newest head
+  pub here : Safe shape head view steps made m.content
+  pub each : EachCut (HasHead shape head view steps made retire) m
 
 -- one stamp for a record that has blocks
 abbrev pub stamps_of : List ℕ → ℕ
@@ -214,4 +196,4 @@ pub record HoldsView (log : LogValue) (m : State) (view : View) : Type 0 where
   pub stores : log.dead ≡ false
       → Stores log.shape log.head view log.steps_left (made_of log) (turned_of log) m.content
   pub guards : log.dead ≡ false → view.ours ≡ true
-      → Shields log.shape log.head view log.steps_left (made_of log) (needed_of log) m
+      → Guards log.shape log.head view log.steps_left (made_of log) (needed_of log) m

@@ -15,5 +15,5 @@ returns-clause-settled g c live none =
     let lives = rw (← c.self.view_is) at live in
     let no_steps = rw (← c.self.view_is) at none in
     rw (← c.self.view_is)
-    (settled (g.M.Medium.state c.self.inside.medium) _ c.is_retired.ensures.owes
+    (settled (g.M.Medium.state c.self.inside.medium) (g.met.M.Medium.sound c.self.inside.medium) _ c.is_retired.ensures.owes
     (c.self.invariant.none_under_way lives (omega (arith, no_steps))) lives no_steps)
