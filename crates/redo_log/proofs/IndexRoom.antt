@@ -1,21 +1,24 @@
 -- That an index has room for a record more, and what it is then.
-use Rattle.std.proofs.Common.{◌≡◌, ◌≢◌, ℕ, suc, ◌+◌, ◌-◌, ◌*◌, ◌/◌, ◌%◌, ◌<◌, ◌≤◌, List, [], ◌∷◌, ◌++◌, length, get_or, drop}
-use Rattle.std.proofs.Common.{eqb, Some, None, Option, refl, sym, ◌∙◌, ap, arith}
-use Rattle.std.specs.Prelude.{All, true, map, MatchOption}
+use Rattle.std.proofs.Common.{◌≡◌, ◌≢◌, inl, inr, ℕ, zero, suc, ◌+◌, ◌-◌, ◌*◌, ◌/◌, ◌%◌, ◌<◌, ◌≤◌, List, [], ◌∷◌}
+use Rattle.std.proofs.Common.{◌++◌, length, get_or, drop, eqb, Some, None, Option, refl, sym, ◌∙◌, ap, arith}
+use Rattle.std.specs.Prelude.{All, true, map, slice_index, Contains, MatchOption}
 use Rattle.std.specs.List.{list_any}
-use Rattle.std.proofs.lemmas.Bool.{ne_eqb}
+use Rattle.std.proofs.lemmas.Bool.{cases_eq, eq-eqb, ne_eqb}
 use Rattle.std.proofs.lemmas.Bool.Decides.{nat_tests}
 use Rattle.std.proofs.lemmas.Nat.{mul-add-lt, div-mul-add, mod-mul-add}
-use Rattle.std.proofs.lemmas.List.{length-map, get_or-map}
+use Rattle.std.proofs.lemmas.List.{length-map, get_or-map, get_or_append_left, get_or_default}
 use Rattle.std.proofs.lemmas.Map.Keys.{IsDistinct-from_apart}
 use Rattle.std.proofs.lemmas.Map.Steps.{length-le_from_distinct_below}
 use Rattle.std.proofs.Math.Nat.{mul-le-mul_left}
+use Rattle.std.proofs.Math.Seq.{get_or-append_seam}
+use Rattle.std.proofs.Common.{add-zero, length-append}
+use Rattle.journal.proofs.AllOrFirst.{all_or_first}
+use Rattle.journal.proofs.Slots.{other_slot}
 use Rattle.redo_log.specs.declared.index.Copied.{Copied}
 use Rattle.redo_log.specs.Value.{LogValue, HasNoCopy, IsNewestCopy}
-use Rattle.redo_log.specs.Index.{no_copies, look, with_copies, copies_of, outside, block_at, IsSorted, IsIndex}
+use Rattle.redo_log.specs.Index.{look, outside, block_at, IsSorted, IsNewest, Finds, IsIndex, Enters}
 use Rattle.redo_log.proofs.RingRecords.{age_is}
 use Rattle.redo_log.proofs.SortedIndex.{blank, look_found}
-use Rattle.redo_log.proofs.Newest.{IsNewest, with_copies-same, copies_of-more, copies_of-fewer, newest_is, none_is}
 
 below_all : (xs : List ℕ) (n : ℕ) → All (λ x. x < n) xs → (q : ℕ) → list_any (eqb q) xs ≡ true → q < n
 below_all [] n each q some = cc some
@@ -33,8 +36,7 @@ module _ (slots stamp most : ℕ) (records : List (List ℕ)) (index : List Copi
     (free : length records < slots) (small : (age : ℕ) → age < length records → length (get_or records age []) ≤ most) where
   newest_at : (i : ℕ) → i < length index
       → IsNewest slots stamp records (block_at index i) ((get_or index i blank).slot, (get_or index i blank).place)
-  newest_at i below = newest_is slots stamp records (block_at index i) ((get_or index i blank).slot, (get_or index i blank).place)
-      (sym (is.looks (block_at index i)) ∙ look_found index is.sorted i (block_at index i) below refl)
+  newest_at i below = rw (look_found index is.sorted i (block_at index i) below refl) at (is.finds (block_at index i))
 
   near : (i : ℕ) → i < length index → (get_or index i blank).place < most
   near i below = let n = newest_at i below in omega (arith, n.inside, small n.age n.waits)
@@ -83,22 +85,89 @@ module _ (slots stamp most : ℕ) (records : List (List ℕ)) (index : List Copi
       omega (arith, index_few, few, enough, more)
 
 -- what is found is the newest copy of a log with these records
-pub find_is : (log : LogValue) (block : ℕ) (found : Option (ℕ × ℕ)) → found ≡ copies_of log.shape.slots log.head log.waiting no_copies block
+pub find_is : (log : LogValue) (block : ℕ) (found : Option (ℕ × ℕ))
+    → Finds log.shape.slots log.head log.waiting block found
     → MatchOption found (HasNoCopy log block) (λ copy. IsNewestCopy log block copy.0 copy.1)
-find_is log block None is = none_is log.shape.slots log.head log.waiting block (sym is)
-find_is log block (Some copy) is =
-    let n = newest_is log.shape.slots log.head log.waiting block copy (sym is) in
+find_is log block None none = none
+find_is log block (Some copy) n =
     record { age = n.age; waits = n.waits; slot_is = n.slot_is; inside = n.inside; named = n.named; newest = n.newest }
+
+module _ (records : List (List ℕ)) (numbers : List ℕ) (b : ℕ)
+    (unnamed : (k : ℕ) → k < length numbers → slice_index numbers k ≢ b) where
+  longer : length (records ++ numbers ∷ []) ≡ length records + 1
+  longer = length-append records (numbers ∷ [])
+
+  -- with a record more that does not have the block none from an age on has it
+  none_more : (least : ℕ) → ((age : ℕ) → least ≤ age → age < length records → ¬ Contains (get_or records age []) b)
+      → (age : ℕ) → least ≤ age → age < length (records ++ numbers ∷ [])
+      → ¬ Contains (get_or (records ++ numbers ∷ []) age []) b
+  none_more least none age later below = elim (cases_eq age (length records)) [
+    | inl last ↦
+        rw (last, get_or-append_seam records numbers [] [])
+        (λ there. unnamed there.0 there.1 (get_or_default numbers there.0 0 b there.1 ∙ there.2))
+    | inr not ↦
+        let old : age < length records = omega (arith, below, not, longer) in
+        rw (get_or_append_left records (numbers ∷ []) [] age old) (none age later old)
+  ]
+
+  -- and the newest copy stays it
+  found_more : (slots stamp : ℕ) (found : Option (ℕ × ℕ)) → Finds slots stamp records b found
+      → Finds slots stamp (records ++ numbers ∷ []) b found
+  found_more slots stamp None none = λ age below. none_more 0 (λ age later old. none age old) age (omega arith) below
+  found_more slots stamp (Some copy) n =
+      let stays = get_or_append_left records (numbers ∷ []) [] n.age n.waits in
+      record {
+        age = n.age;
+        waits = omega (arith, n.waits, longer);
+        slot_is = n.slot_is;
+        inside = rw stays n.inside;
+        named = rw stays n.named;
+        newest = none_more (suc n.age) n.newest;
+      }
 
 -- the index with the copies of a record behind the others
 pub index_more : (slots stamp : ℕ) (records : List (List ℕ)) (numbers : List ℕ) (old new : List Copied) → IsIndex slots stamp records old
-    → IsSorted new → ((b : ℕ) → look new b ≡ with_copies ((stamp + length records) % slots) 0 numbers (look old) b)
-    → IsIndex slots stamp (records ++ numbers ∷ []) new
-index_more slots stamp records numbers old new is sorted looks = record {
-  sorted = sorted;
-  looks = λ b. rw (looks b, copies_of-more slots stamp records numbers no_copies b)
-      (with_copies-same ((stamp + length records) % slots) 0 numbers (look old) (copies_of slots stamp records no_copies) b (is.looks b));
+    → Enters ((stamp + length records) % slots) numbers old new → IsIndex slots stamp (records ++ numbers ∷ []) new
+index_more slots stamp records numbers old new is enters = record {
+  sorted = enters.sorted;
+  finds = λ b. elim (all_or_first (λ k. slice_index numbers k ≢ b) (λ k. slice_index numbers k ≡ b) (length numbers)
+      (λ k less. elim (cases_eq (slice_index numbers k) b) [ inl same ↦ inr same | inr not ↦ inl not ])) [
+        | inl none ↦ rw (enters.others b none) (found_more records numbers b none slots stamp (look old b) (is.finds b))
+        | inr one ↦
+            let last = get_or-append_seam records numbers [] [] in
+            rw (← one.3, enters.entered one.0 one.1) (record {
+              age = length records;
+              waits = omega (arith, length-append records (numbers ∷ []));
+              slot_is = refl;
+              inside = rw last one.1;
+              named = rw last refl;
+              newest = λ newer later below. absurd (omega (arith, later, below, length-append records (numbers ∷ [])));
+            })
+      ];
 }
+
+-- without the oldest record
+found_fewer : (slots stamp : ℕ) (numbers : List ℕ) (records : List (List ℕ)) (b : ℕ) (found : Option (ℕ × ℕ))
+    → length (numbers ∷ records) ≤ slots → Finds slots stamp (numbers ∷ records) b found
+    → Finds slots (stamp + 1) records b (outside (stamp % slots) found)
+found_fewer slots stamp numbers records b None few none = λ age below. none (suc age) (omega arith)
+found_fewer slots stamp numbers records b (Some copy) few n = aged n.age refl
+  where
+    aged : (age : ℕ) → n.age ≡ age → Finds slots (stamp + 1) records b (outside (stamp % slots) (Some copy))
+    aged zero is =
+        rw (eq-eqb copy.0 (stamp % slots) (rw (is, add-zero) at n.slot_is))
+        (λ age below. n.newest (suc age) (omega (arith, is)) (omega arith))
+    aged (suc age) is =
+        let next : stamp + n.age ≡ stamp + 1 + age = omega (arith, is) in
+        let apart = other_slot stamp (stamp + n.age) slots (omega (arith, is)) (omega (arith, n.waits, few)) in
+        rw (ne_eqb copy.0 (stamp % slots) (λ same. apart (sym same ∙ n.slot_is))) (record {
+          age = age;
+          waits = omega (arith, n.waits, is);
+          slot_is = rw next at n.slot_is;
+          inside = rw is at n.inside;
+          named = rw is at n.named;
+          newest = λ newer later below. n.newest (suc newer) (omega (arith, later, is)) (omega (arith, below));
+        })
 
 -- the index without the copies of the oldest record
 pub index_fewer : (slots stamp : ℕ) (waiting : List (List ℕ)) (old new : List Copied)
@@ -107,5 +176,5 @@ pub index_fewer : (slots stamp : ℕ) (waiting : List (List ℕ)) (old new : Lis
 index_fewer slots stamp [] old new is some few sorted looks = absurd (omega arith)
 index_fewer slots stamp (numbers ∷ newer) old new is some few sorted looks = record {
   sorted = sorted;
-  looks = λ b. rw (looks b, is.looks b) (copies_of-fewer slots stamp numbers newer b few);
+  finds = λ b. rw (looks b) (found_fewer slots stamp numbers newer b (look old b) few (is.finds b));
 }

@@ -14,7 +14,6 @@ pub mod SortedIndex
 pub mod LoggedImage
 pub mod LaidBlocks
 pub mod MergedIndex
-pub mod Newest
 pub mod RingRecords
 pub mod CallsSent
 pub mod RecordTurns

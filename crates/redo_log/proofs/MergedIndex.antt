@@ -1,6 +1,6 @@
 -- How an index and a record's rising block numbers merge, the greatest block first.
 use Rattle.std.proofs.Common.{◌≡◌, ◌≢◌, inl, inr, ℕ, zero, suc, ◌+◌, ◌-◌, ◌<◌, ◌≤◌, List, [], ◌∷◌, ◌++◌, length, get_or, take, drop, set}
-use Rattle.std.proofs.Common.{Some, refl, sym, ◌∙◌, ap, append_assoc, Option, arith}
+use Rattle.std.proofs.Common.{Some, refl, sym, ◌∙◌, ap, append_assoc, arith}
 use Rattle.std.specs.Prelude.{slice_index}
 use Rattle.std.specs.List.{remove_range}
 use Rattle.std.proofs.lemmas.Bool.{cases_eq}
@@ -9,16 +9,17 @@ use Rattle.std.proofs.lemmas.List.{drop-set, drop_more, get_or-set_other, length
 use Rattle.std.proofs.Math.Seq.{take-suc}
 use Rattle.journal.specs.Sectors.{IsRising}
 use Rattle.redo_log.specs.declared.index.Copied.{Copied}
-use Rattle.redo_log.specs.Index.{look, with_copy, with_copies, block_at, IsSorted}
+use Rattle.redo_log.specs.Index.{look, block_at, IsSorted, Enters}
 use Rattle.redo_log.proofs.SortedIndex.{blank, IsAbove, sorted_cons, above_cons, look_above}
-use Rattle.redo_log.proofs.Newest.{with_here, with_other, with_copies-same, with_copies-none}
 
 -- the old entries from `left` on, merged with the numbers from `place` on: all that is left of both is below
 pub record IsTail (old : List Copied) (slot : ℕ) (numbers : List ℕ) (left place : ℕ) (tail : List Copied) : Type 0 where
   pub sorted : IsSorted tail
   pub over_entries : (i : ℕ) → i < left → IsAbove (block_at old i + 1) tail
   pub over_numbers : (i : ℕ) → i < place → IsAbove (slice_index numbers i + 1) tail
-  pub looks : (b : ℕ) → look tail b ≡ with_copies slot place (drop place numbers) (look (drop left old)) b
+  pub entered : (k : ℕ) → place ≤ k → k < length numbers → look tail (slice_index numbers k) ≡ Some (slot, k)
+  pub others : (b : ℕ) → ((k : ℕ) → place ≤ k → k < length numbers → slice_index numbers k ≢ b)
+      → look tail b ≡ look (drop left old) b
 
 here : (c : Copied) (tail : List Copied) (b : ℕ) → c.block ≡ b → look (c ∷ tail) b ≡ Some (c.slot, c.place)
 here c tail b is = grind (arith, nat_tests, is)
@@ -79,12 +80,6 @@ module _ (old : List Copied) (sorted : IsSorted old) (was left : ℕ) (index : L
       }
 
 module _ {old : List Copied} {slot : ℕ} {numbers : List ℕ} (sorted : IsSorted old) (rising : IsRising numbers) where
-  -- a block below the tail is not named by the numbers in it
-  passes : (left place : ℕ) (tail : List Copied) (b : ℕ) (copies : ℕ → Option (ℕ × ℕ)) → IsTail old slot numbers left place tail
-      → IsAbove (b + 1) tail → with_copies slot place (drop place numbers) copies b ≡ copies b
-  passes left place tail b copies merged above =
-      with_copies-none slot place (drop place numbers) (look (drop left old)) copies b (sym (merged.looks b) ∙ look_above tail b above)
-
   -- the last old entry that is left goes before the tail
   entry_goes : (left place : ℕ) (c : Copied) (tail : List Copied) → left < length old → c ≡ get_or old left blank
       → ((i : ℕ) → i < place → slice_index numbers i < c.block) → IsTail old slot numbers (left + 1) place tail
@@ -94,15 +89,13 @@ module _ {old : List Copied} {slot : ℕ} {numbers : List ℕ} (sorted : IsSorte
     over_entries = λ i less.
         above_cons (block_at old i + 1) c tail (omega (arith, block, sorted i left less inside)) (merged.over_entries i (omega arith));
     over_numbers = λ i less. above_cons (slice_index numbers i + 1) c tail (omega (arith, over i less)) (merged.over_numbers i less);
-    looks = λ b. rw split (elim (cases_eq c.block b) [
-      | inl same ↦
-          here c tail b same
-          ∙ sym (here c (drop (left + 1) old) b same)
-          ∙ sym (passes (left + 1) place tail b (look (c ∷ drop (left + 1) old)) merged (rw same at above))
-      | inr not ↦
-          behind c tail b not
-          ∙ merged.looks b
-          ∙ with_copies-same slot place (drop place numbers) _ (look (c ∷ drop (left + 1) old)) b (sym (behind c _ b not))
+    entered = λ k more less.
+        let there = merged.entered k more less in
+        let n = slice_index numbers k in
+        behind c tail n (λ same. cc (there, look_above tail n (rw same at above))) ∙ there;
+    others = λ b not. rw split (elim (cases_eq c.block b) [
+      | inl same ↦ here c tail b same ∙ sym (here c (drop (left + 1) old) b same)
+      | inr other ↦ behind c tail b other ∙ (merged.others b not ∙ sym (behind c (drop (left + 1) old) b other))
     ]);
   }
     where
@@ -119,26 +112,24 @@ module _ {old : List Copied} {slot : ℕ} {numbers : List ℕ} (sorted : IsSorte
   number_goes : (was left place : ℕ) (tail : List Copied) → place < length numbers → IsLeft old (slice_index numbers place) was left
       → IsTail old slot numbers was (place + 1) tail → IsTail old slot numbers left place (entry_of slot numbers place ∷ tail)
   number_goes was left place tail inside stays merged =
-      let n = slice_index numbers place in
-      let above = merged.over_numbers place (omega arith) in
-      let with_it = with_copy n (slot, place) (look (drop left old)) in
+      let e = entry_of slot numbers place in
       record {
-        sorted = sorted_cons (entry_of slot numbers place) tail above merged.sorted;
-        over_entries = λ i less. above_cons (block_at old i + 1) (entry_of slot numbers place) tail (omega (arith, stays.below i less))
+        sorted = sorted_cons e tail (merged.over_numbers place (omega arith)) merged.sorted;
+        over_entries = λ i less. above_cons (block_at old i + 1) e tail (omega (arith, stays.below i less))
             (merged.over_entries i (omega (arith, less, stays.fewer)));
-        over_numbers = λ i less. above_cons (slice_index numbers i + 1) (entry_of slot numbers place) tail
+        over_numbers = λ i less. above_cons (slice_index numbers i + 1) e tail
             (omega (arith, rising i place less inside)) (merged.over_numbers i (omega arith));
-        looks = λ b. rw (drop_more numbers place 0 inside) (elim (cases_eq n b) [
-          | inl same ↦
-              here (entry_of slot numbers place) tail b same
-              ∙ sym (with_here n (slot, place) (look (drop left old)) b same)
-              ∙ sym (passes was (place + 1) tail b with_it merged (rw same at above))
+        entered = λ k more less. elim (cases_eq k place) [
+          | inl is ↦ rw is (here e tail (slice_index numbers place) refl)
           | inr not ↦
-              behind (entry_of slot numbers place) tail b not
-              ∙ merged.looks b
-              ∙ with_copies-same slot (place + 1) (drop (place + 1) numbers) (look (drop was old)) with_it b
-              (sym (stays.gone b not) ∙ sym (with_other n (slot, place) (look (drop left old)) b not))
-        ]);
+              let later : place < k = omega (arith, more, not) in
+              behind e tail (slice_index numbers k) (λ same. omega (arith, rising place k later less, same))
+              ∙ merged.entered k (omega arith) less
+        ];
+        others = λ b not.
+            let here_not = not place (omega arith) inside in
+            behind e tail b here_not
+            ∙ (merged.others b (λ k more. not k (omega (arith, more))) ∙ sym (stays.gone b here_not));
       }
 
   -- an entry goes to the end of the room
@@ -194,6 +185,12 @@ module _ {old : List Copied} {slot : ℕ} {numbers : List ℕ} (sorted : IsSorte
 
   -- at the end nothing of the record is left
   pub merging_ends : (left to : ℕ) (index : List Copied) → IsMerging old slot numbers left 0 to index
-      → IsTail old slot numbers 0 0 (remove_range index left to)
+      → Enters slot numbers old (remove_range index left to)
   merging_ends left to index merged =
-      rest_goes left index (drop to index) merged.entries (omega (arith, merged.room, merged.inside)) merged.front merged.tail
+      let fits : left ≤ length index = omega (arith, merged.room, merged.inside) in
+      let all = rest_goes left index (drop to index) merged.entries fits merged.front merged.tail in
+      record {
+        sorted = all.sorted;
+        entered = λ k less. all.entered k (omega arith) less;
+        others = λ b not. all.others b (λ k more less. not k less);
+      }

@@ -1,37 +1,15 @@
 -- The index of a log: where the newest logged copy of each block stands.
-use Rattle.std.specs.Prelude.{◌≡◌, ℕ, ◌+◌, ◌%◌, ◌<◌, ◌≤◌, List, [], ◌∷◌, length, get_or, Option}
-use Rattle.std.specs.Prelude.{Some, None, if◌then◌else◌, ◌==◌, ◌^◌, All, Vec, take, vec_capacity}
+use Rattle.std.specs.Prelude.{◌≡◌, ◌≢◌, ℕ, ◌+◌, ◌%◌, ◌<◌, ◌≤◌, List, [], ◌∷◌, length, get_or}
+use Rattle.std.specs.Prelude.{Option, Some, None, MatchOption, if◌then◌else◌, ◌==◌, ◌^◌}
+use Rattle.std.specs.Prelude.{slice_index, Contains, All, Vec, take, vec_capacity}
 use Rattle.std.specs.List.{remove_range}
 use Rattle.journal.specs.Sectors.{IsRising}
 use Rattle.redo_log.specs.declared.index.Copied.{Copied}
 
--- for each block a slot and a place, where there is a copy
-abbrev pub Copies : Type 0
-Copies = ℕ → Option (ℕ × ℕ)
-
-abbrev pub no_copies : Copies
-no_copies block = None
-
--- the copy that the first entry with this block names
-abbrev pub look : List Copied → Copies
+-- the slot and the place that the first entry with this block names
+abbrev pub look : List Copied → ℕ → Option (ℕ × ℕ)
 look [] block = None
 look (c ∷ index) block = if c.block == block then Some (c.slot, c.place) else look index block
-
--- these copies, with that of one block put over
-abbrev pub with_copy : ℕ → ℕ × ℕ → Copies → Copies
-with_copy block copy copies b = if block == b then Some copy else copies b
-
--- these copies, with those of the record in this slot put over: its blocks stand from this place on
-abbrev pub with_copies : ℕ → ℕ → List ℕ → Copies → Copies
-with_copies slot place [] copies block = copies block
-with_copies slot place (n ∷ numbers) copies block =
-    with_copies slot (place + 1) numbers (with_copy n (slot, place) copies) block
-
--- these copies, with those of the records from this stamp on put over
-abbrev pub copies_of : ℕ → ℕ → List (List ℕ) → Copies → Copies
-copies_of slots stamp [] copies block = copies block
-copies_of slots stamp (numbers ∷ records) copies block =
-    copies_of slots (stamp + 1) records (with_copies (stamp % slots) 0 numbers copies) block
 
 -- the copy, unless it stands in this slot
 abbrev pub outside : ℕ → Option (ℕ × ℕ) → Option (ℕ × ℕ)
@@ -52,10 +30,28 @@ pub record IsGapFor (index : List Copied) (block i : ℕ) : Type 0 where
   pub smaller : (j : ℕ) → j < i → block_at index j < block
   pub greater : (j : ℕ) → i ≤ j → j < length index → block < block_at index j
 
--- the index has the newest copies of these records, of which the first has this stamp
+-- The copy is the newest one of a block: it stands in the record of this age, of which the first
+-- has this stamp, and no newer one has the block.
+pub record IsNewest (slots stamp : ℕ) (records : List (List ℕ)) (block : ℕ) (copy : ℕ × ℕ)
+    : Type 0 where
+  pub age : ℕ
+  pub waits : age < length records
+  pub slot_is : copy.0 ≡ (stamp + age) % slots
+  pub inside : copy.1 < length (get_or records age [])
+  pub named : slice_index (get_or records age []) copy.1 ≡ block
+  pub newest : (newer : ℕ) → age < newer → newer < length records
+      → ¬ Contains (get_or records newer []) block
+
+-- the newest copy of a block is found, or no record has the block
+abbrev pub Finds : ℕ → ℕ → List (List ℕ) → ℕ → Option (ℕ × ℕ) → Type 0
+Finds slots stamp records block found = MatchOption found
+    ((age : ℕ) → age < length records → ¬ Contains (get_or records age []) block)
+    (IsNewest slots stamp records block)
+
+-- the index has the newest copies of these records
 pub record IsIndex (slots stamp : ℕ) (records : List (List ℕ)) (index : List Copied) : Type 0 where
   pub sorted : IsSorted index
-  pub looks : (block : ℕ) → look index block ≡ copies_of slots stamp records no_copies block
+  pub finds : (block : ℕ) → Finds slots stamp records block (look index block)
 
 -- a record has as many block numbers as fit one, which rise and fit an entry
 pub record AreEntered (numbers : List ℕ) : Type 0 where
@@ -74,16 +70,29 @@ pub record ComesToHave {Z : Type 0} (entries : List Copied) (old new : Vec Copie
   pub items : new.items ≡ entries
   pub capacity : vec_capacity new ≡ vec_capacity old
 
--- the entries are sorted and name these copies, in the same room
-pub record ComesToName {Z : Type 0} (copies : Copies) (old new : Vec Copied Z) : Type 0 where
-  pub sorted : IsSorted new.items
-  pub looks : (block : ℕ) → look new.items block ≡ copies block
+-- the entries name the copies of the record in this slot, and else those that the old ones named
+pub record Enters (slot : ℕ) (numbers : List ℕ) (old new : List Copied) : Type 0 where
+  pub sorted : IsSorted new
+  pub entered : (k : ℕ) → k < length numbers → look new (slice_index numbers k) ≡ Some (slot, k)
+  pub others : (block : ℕ) → ((k : ℕ) → k < length numbers → slice_index numbers k ≢ block)
+      → look new block ≡ look old block
+
+-- a record is entered, in the same room
+pub record IsEntered {Z : Type 0} (slot : ℕ) (numbers : List ℕ) (old new : Vec Copied Z)
+    : Type 0 where
+  pub enters : Enters slot numbers old.items new.items
   pub capacity : vec_capacity new ≡ vec_capacity old
 
--- outside the gap from one place to another the entries are sorted and name these copies
-pub record IsMerged (copies : Copies) (old new : List Copied) (from to : ℕ) : Type 0 where
+-- the entries of a slot are dropped, in the same room
+pub record IsDropped {Z : Type 0} (slot : ℕ) (old new : Vec Copied Z) : Type 0 where
+  pub sorted : IsSorted new.items
+  pub looks : (block : ℕ) → look new.items block ≡ outside slot (look old.items block)
+  pub capacity : vec_capacity new ≡ vec_capacity old
+
+-- outside the gap from one place to another the first so many entries have the record entered
+pub record IsMerged (slot : ℕ) (numbers : List ℕ) (kept : ℕ) (old new : List Copied) (from to : ℕ)
+    : Type 0 where
   pub same_length : length new ≡ length old
   pub start_le_end : from ≤ to
   pub in_bounds : to ≤ length new
-  pub sorted : IsSorted (remove_range new from to)
-  pub looks : (block : ℕ) → look (remove_range new from to) block ≡ copies block
+  pub enters : Enters slot numbers (take kept old) (remove_range new from to)

@@ -2,9 +2,9 @@
 ghost use Rattle.std.specs.Prelude.{◌≡◌, ◌+◌, ◌<◌, ◌≤◌, length, take, vec_capacity};
 ghost use Rattle.std.specs.Prelude.{IfOk, IfErr};
 ghost use Rattle.std.specs.List.{remove_range};
-ghost use Rattle.redo_log.specs.Index.{look, with_copies, outside, block_at};
+ghost use Rattle.redo_log.specs.Index.{look, block_at};
 ghost use Rattle.redo_log.specs.Index.{IsSorted, IsGapFor, AreEntered, IsWidened, IsMerged};
-ghost use Rattle.redo_log.specs.Index.{ComesToHave, ComesToName};
+ghost use Rattle.redo_log.specs.Index.{ComesToHave, IsEntered, IsDropped};
 
 /// The newest logged copy of a block, in 8 bytes: blocks are below 2^31, slots below 64 and
 /// places below 240.
@@ -57,8 +57,7 @@ fn merge(index: &mut [Copied], kept: usize, slot: u8, numbers: &[u64]) -> (usize
     requires room { length index.old ≡ kept + length numbers.now }
     requires sorted { IsSorted (take kept index.old) }
     requires numbers { AreEntered numbers.now }
-    ensures { IsMerged (with_copies slot 0 numbers.now (look (take kept index.old))) index.old
-        index.new result.0 result.1 }
+    ensures { IsMerged slot numbers.now kept index.old index.new result.0 result.1 }
 {
     let (mut left, mut place, mut to) = (kept, numbers.len(), index.len());
     while place > 0 {
@@ -100,8 +99,7 @@ pub(crate) fn enter_record(index: &mut Vec<Copied>, slot: u64, numbers: &[u64])
     requires slot { slot < 64 }
     requires numbers { AreEntered numbers.now }
     requires fits { length index.old.items + length numbers.now ≤ vec_capacity index.old }
-    ensures { ComesToName (with_copies slot 0 numbers.now (look index.old.items)) index.old
-        index.new }
+    ensures { IsEntered slot numbers.now index.old index.new }
 {
     let kept = index.len();
     widen(index, numbers.len());
@@ -112,8 +110,7 @@ pub(crate) fn enter_record(index: &mut Vec<Copied>, slot: u64, numbers: &[u64])
 /// Drops the copies that stand in a slot.
 pub(crate) fn drop_slot(index: &mut Vec<Copied>, slot: u64)
     requires { IsSorted index.old.items }
-    ensures { ComesToName (λ block. outside slot (look index.old.items block)) index.old
-        index.new }
+    ensures { IsDropped slot index.old index.new }
 {
     index.retain(|copied| copied.slot as u64 != slot);
 }

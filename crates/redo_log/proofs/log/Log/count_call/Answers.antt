@@ -30,7 +30,7 @@ invariant_of-self-2 c =
     let one : begun_at i.made ≡ 1 = ap (λ (w : Option ℕ). begun_at w) c.in-Some.is in
     let ring = ring_durable (shape_of i.sizes) (lists_of i.waiting.items) i.turned i.under_way.items c.in-Some.made
     (rw c.in-Some.is at c.self.invariant.ring) in
-    let looks = rw (numbers, c.slot_of.ensures, stamp) at c.enter_record.ensures.looks in
+    let enters = rw (numbers, c.slot_of.ensures, stamp) at c.enter_record.ensures.enters in
     record {
       least = c.self.invariant.least;
       most = omega (
@@ -47,7 +47,7 @@ invariant_of-self-2 c =
       firsts_few = omega (arith, c.self.invariant.firsts_few, one, c.push_back_reserved.ensures.len);
       index_room = omega (arith, c.self.invariant.index_room, c.enter_record.ensures.capacity);
       index_is = rw waiting (index_more i.sizes.slots i.head (lists_of i.waiting.items) i.under_way.items i.index.items
-          c.enter_record.new.index.items c.self.invariant.index_is c.enter_record.ensures.sorted looks);
+          c.enter_record.new.index.items c.self.invariant.index_is enters);
       ring = rw (c.take.ensures.after, waiting) ring;
       ahead_is = rw waiting
           (ahead_durable (ahead_in i) i.head (lists_of i.waiting.items) i.turned i.under_way.items c.self.invariant.ahead_is);

@@ -6,4 +6,4 @@ pub returns : goal.returns
 returns c =
     let i = c.self.inside in
     rw (← c.self.view_is) (find_is (shown i) c.args.block c.newest.result
-    (rw (c.newest.ensures, c.deref.ensures.value) (c.self.invariant.index_is.looks c.args.block)))
+    (rw (c.newest.ensures, c.deref.ensures.value) (c.self.invariant.index_is.finds c.args.block)))
