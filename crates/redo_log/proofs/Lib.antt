@@ -12,7 +12,6 @@ pub mod Heads
 pub mod RetireTurns
 pub mod SortedIndex
 pub mod LoggedImage
-pub mod LaidBlocks
 pub mod MergedIndex
 pub mod RingRecords
 pub mod CallsSent

@@ -28,10 +28,9 @@ use Rattle.redo_log.proofs.CoveredRecord.{needed_one}
 use Rattle.redo_log.proofs.Heads.{same_head, same_stamp, stands_front, logged_leaves, guard_leaves, flush_guards}
 use Rattle.redo_log.proofs.GuardedCalls.{Stands, stands_idle, other_part, part_lost, part_there}
 use Rattle.redo_log.proofs.GuardedCalls.{early_safe, durable_safe}
-use Rattle.redo_log.proofs.LaidBlocks.{before_home}
 use Rattle.redo_log.proofs.RecordCalls.{flush_is, write_is}
 use Rattle.redo_log.proofs.BatchRecord.{record_batch}
-use Rattle.redo_log.proofs.StoredLog.{Stores-stays, part_stores, durable_stores}
+use Rattle.redo_log.proofs.StoredLog.{before_home, Stores-stays, part_stores, durable_stores}
 use Rattle.redo_log.proofs.KeptFirsts.{durable_kept}
 use Rattle.redo_log.proofs.LogRules.{IsLog, one_stamp, durable_of, durable_alone, durable_more}
 use Rattle.redo_log.proofs.HeldLog.{many, count, under_count, stands_then, goes_on, durable_whole}

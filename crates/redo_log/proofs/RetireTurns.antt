@@ -18,7 +18,9 @@ use Rattle.journal.specs.Formats.{layout_of, IsWhole}
 use Rattle.journal.specs.Copies.{begun_with}
 use Rattle.journal.specs.Staged.{IsHomed}
 use Rattle.journal.proofs.CopiedBlock.{begun_is}
+use Rattle.journal.proofs.Formats.{laws_of}
 use Rattle.journal.proofs.Overlay.{records-hide}
+use Rattle.journal.proofs.RetiredRecord.{IsWholeIn-same}
 use Rattle.redo_log.specs.declared.turn.Turn.{Turn}
 use Rattle.redo_log.specs.declared.turn.Turn.TheVariants.{Copy, Flush, Head}
 use Rattle.redo_log.specs.Value.{LogValue, Ahead, IsSentHome, IsRetireStepped, of_oldest, ahead_of}
@@ -34,7 +36,6 @@ use Rattle.redo_log.proofs.CoveredRecord.{needed_one}
 use Rattle.redo_log.proofs.Heads.{hides_behind, records_before, newest, with_newest, same_head, stands_front}
 use Rattle.redo_log.proofs.Heads.{guard_leaves, flush_guards}
 use Rattle.redo_log.proofs.LoggedImage.{Logged-records}
-use Rattle.redo_log.proofs.LaidBlocks.{IsWhole-same}
 use Rattle.redo_log.proofs.StoredLog.{Stores-stays, home_stores, head_stores}
 use Rattle.redo_log.proofs.GuardedCalls.{Stands, stands_less, keeps_of, logged_of, home_safe, past_safe}
 use Rattle.redo_log.proofs.KeptFirsts.{kept_is, retired_kept}
@@ -169,7 +170,8 @@ module _ {log : LogValue} (is : IsLog log) (live : log.dead ≡ false) (owed : 0
         (λ before image write both. elim (logged_of stands_past (past_safe stands both.0 waits head_now both.1 write)) [
           | inl rest ↦ inr (inr (waits, omega (arith, one), Logged-records hv.fits rest))
           | inr more ↦
-              let first = IsWhole-same log.shape is.sized before image
+              let L = layout_of log.shape.format in
+              let first = IsWholeIn-same L (laws_of log.shape.format) log.shape is.sized.some before image
               (λ x low high. write.elsewhere x (λ e. omega (arith, low, e))) log.head oldest
               (rw add-zero at ((keeps_of both.0).whole 0 waits)) in
               inr (inl (
