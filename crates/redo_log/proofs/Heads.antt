@@ -12,11 +12,29 @@ use Rattle.journal.specs.Formats.{IsWhole}
 use Rattle.journal.specs.Staged.{IsHomed}
 use Rattle.journal.proofs.SectorNumbers.{IsHead-one}
 use Rattle.redo_log.specs.Value.{LogValue}
-use Rattle.redo_log.specs.Logged.{HasRecords}
-use Rattle.redo_log.specs.Held.{View, with_begun, HasDurable, HasUnderWay, MayLeave, image_view, with_passed}
-use Rattle.redo_log.specs.Held.{Safe, HasHead, Guards}
-use Rattle.redo_log.proofs.LoggedImage.{Logged-records}
+use Rattle.redo_log.specs.Logged.{HasRecords, Logged}
+use Rattle.redo_log.specs.Held.{View, with_begun, HasDurable, HasUnderWay, MayLeave, image_view, with_passed, Safe}
+use Rattle.redo_log.specs.Held.{HasHead, Guards}
 use Rattle.redo_log.proofs.GuardedCalls.{Stands, IsLogged, logged_of, keeps_of}
+
+-- such an image is ours and stands for its array
+pub Logged-records : {size : ℕ} {shape : Shape} {head : ℕ} {records : List (List Entry)} {array : Array} {image : Image}
+    → sectors_of shape ≤ size → Logged shape head records array image → HasRecords size shape head records array image
+Logged-records {size} {shape} {head} {records} {array} {image} fits l = record {
+  whole = l.keeps.whole;
+  ours = record {
+    stands = record {
+      fits = fits;
+      head = head;
+      records = records;
+      keeps = l.keeps;
+      few = l.few;
+      ends = l.ends;
+      next_is = refl;
+    };
+    carries = l.carries;
+  };
+}
 
 -- what records hide, others in front of them leave hidden
 pub hides_behind : (passed records : List (List Entry)) (b : ℕ) → Hides records b → Hides (passed ++ records) b

@@ -1,6 +1,7 @@
 -- What follows of what a log and its medium hold, and what they hold where only its counts change.
-use Rattle.std.proofs.Common.{◌≡◌, ℕ, ◌+◌, ◌-◌, ◌<◌, ◌≤◌, [], length, get_or, refl, ◌∙◌, ap, ⊎_elim, arith, rules}
-use Rattle.std.specs.Prelude.{Bool, true, false, Result, Ok, Err, OnOk, is_err}
+use Rattle.std.proofs.Common.{◌≡◌, ℕ, ◌+◌, ◌-◌, ◌<◌, ◌≤◌, [], length, get_or, refl, ◌∙◌, ap, ⊎_elim, arith, rules, ◌*◌}
+use Rattle.std.proofs.Common.{List, sym}
+use Rattle.std.specs.Prelude.{Bool, true, false, Result, Ok, Err, OnOk, is_err, All}
 use Rattle.std.proofs.lemmas.List.{length-map}
 use Rattle.std.proofs.Math.ListN.{get_or-map}
 use Rattle.medium.specs.Medium.{State, IsSound}
@@ -9,20 +10,52 @@ use Rattle.medium.specs.declared.fault.MediumFault.{MediumFault}
 use Rattle.medium.proofs.Moments.{at_exit, shrunk, started}
 use Rattle.medium.proofs.SectorsRead.{no_looks}
 use Rattle.medium.proofs.SparedSectors.{spared_start}
-use Rattle.journal.specs.Places.{first_home, sectors_of}
-use Rattle.journal.specs.Record.{numbers_of}
+use Rattle.journal.specs.Places.{first_home, sectors_of, Shape}
+use Rattle.journal.specs.Record.{numbers_of, Entry, entries_of}
 use Rattle.journal.specs.Formats.{layout_of}
-use Rattle.journal.proofs.Formats.{laws_of}
+use Rattle.journal.proofs.Formats.{laws_of, most_is}
 use Rattle.redo_log.specs.Value.{LogValue, Ahead, steps_of, steps_for, died}
-use Rattle.redo_log.specs.Stages.{IsSized}
+use Rattle.redo_log.specs.Stages.{IsSized, IsRecord}
 use Rattle.redo_log.specs.Held.{View, made_of, turned_of, needed_of, HasDurable, MayLeave, Stores, Guards, HoldsView}
 use Rattle.redo_log.specs.Steps.{LeavesLog}
-use Rattle.redo_log.proofs.BatchRecord.{count_of, record_entries}
 use Rattle.redo_log.proofs.RecordSteps.{steps_are, one_left}
 use Rattle.redo_log.proofs.Heads.{safe_stays, stands_front, logged_leaves, guard_leaves}
 use Rattle.redo_log.proofs.GuardedCalls.{Stands, stands_idle, logged_of}
 use Rattle.redo_log.proofs.StoredLog.{Stores-stays}
 use Rattle.redo_log.proofs.LogRules.{IsLog}
+use Rattle.journal.specs.LayoutLaws.{IsRecordOf}
+use Rattle.journal.proofs.BatchEntries.{numbers_of_batch, sized_batch}
+
+-- as many entries as block numbers
+pub count_of : (numbers : List ℕ) (entries : List Entry) → numbers ≡ numbers_of entries → length numbers ≡ length entries
+count_of numbers entries is = rw is (length-map entries (λ e. e.0))
+
+-- blocks of 512 bytes under these numbers are a record
+pub record_entries : (shape : Shape) (stamp : ℕ) (numbers : List ℕ) (entries : List Entry) → IsSized shape → IsRecord shape stamp numbers
+    → numbers ≡ numbers_of entries → All (λ (e : Entry). length e.1 ≡ 512) entries
+    → IsRecordOf (layout_of shape.format) shape.blocks stamp entries
+record_entries shape stamp numbers entries sized rec is full =
+    let count : length numbers ≡ length entries = count_of numbers entries is in
+    let now = rw is at rec.numbers_are in
+    record {
+      fit = record {
+        some = omega (arith, count, rec.numbers_are.some);
+        few = omega (arith, count, rec.numbers_are.few, most_is shape.format);
+        rising = now.rising;
+        inside = now.inside;
+        small = λ j d below. omega (arith, now.inside j d below, sized.small);
+        sized = full;
+      };
+      least = rec.least;
+      below = rec.most;
+    }
+
+-- and so is a batch
+pub record_batch : (shape : Shape) (stamp : ℕ) (numbers bytes : List ℕ) → IsSized shape → IsRecord shape stamp numbers
+    → length bytes ≡ 512 * length numbers → IsRecordOf (layout_of shape.format) shape.blocks stamp (entries_of numbers bytes)
+record_batch shape stamp numbers bytes sized rec size =
+    record_entries shape stamp numbers (entries_of numbers bytes) sized rec (sym (numbers_of_batch numbers bytes))
+    (sized_batch numbers bytes size)
 
 -- the same records, with other counts
 abbrev pub going : LogValue → ℕ → ℕ → Ahead → Bool → LogValue

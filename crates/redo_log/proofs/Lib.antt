@@ -1,17 +1,13 @@
 pub mod OneSector
-pub mod BatchRecord
 pub mod RecordSteps
-pub mod CoveredRecord
 pub mod IndexRoom
 pub mod KeptFirsts
 pub mod NewestCopy
-pub mod StepFlushes
 pub mod GuardedCalls
 pub mod StoreFacts
 pub mod Heads
 pub mod RetireTurns
 pub mod SortedIndex
-pub mod LoggedImage
 pub mod MergedIndex
 pub mod RingRecords
 pub mod CallsSent

@@ -24,16 +24,15 @@ use Rattle.redo_log.specs.Held.{View, with_record, view_stepped, written_of, flu
 use Rattle.redo_log.specs.Held.{HasDurable, MayLeave}
 use Rattle.redo_log.specs.Held.{HasHead, Guards, HoldsView, image_view}
 use Rattle.redo_log.proofs.RecordSteps.{steps_are, due_or_not, last_call, not_last, one_left, early_written, part_written}
-use Rattle.redo_log.proofs.CoveredRecord.{needed_one}
+use Rattle.redo_log.proofs.RingRecords.{needed_one}
 use Rattle.redo_log.proofs.Heads.{same_head, same_stamp, stands_front, logged_leaves, guard_leaves, flush_guards}
 use Rattle.redo_log.proofs.GuardedCalls.{Stands, stands_idle, other_part, part_lost, part_there}
 use Rattle.redo_log.proofs.GuardedCalls.{early_safe, durable_safe}
 use Rattle.redo_log.proofs.RecordCalls.{flush_is, write_is}
-use Rattle.redo_log.proofs.BatchRecord.{record_batch}
 use Rattle.redo_log.proofs.StoredLog.{before_home, Stores-stays, part_stores, durable_stores}
 use Rattle.redo_log.proofs.KeptFirsts.{durable_kept}
 use Rattle.redo_log.proofs.LogRules.{IsLog, one_stamp, durable_of, durable_alone, durable_more}
-use Rattle.redo_log.proofs.HeldLog.{many, count, under_count, stands_then, goes_on, durable_whole}
+use Rattle.redo_log.proofs.HeldLog.{many, count, under_count, stands_then, goes_on, durable_whole, record_batch}
 
 module _ {log : LogValue} (is : IsLog log) (live : log.dead ≡ false) (some : 0 < log.steps_left) {old : State}
     (sound : IsSound old) {view : View}

@@ -8,7 +8,7 @@ use Rattle.std.proofs.Math.ListN.{get_or-map}
 use Rattle.std.proofs.Math.Seq.{drop-cons}
 use Rattle.medium.specs.Medium.{State, Holds, Gains, IsSound}
 use Rattle.medium.specs.Moments.{EachCut, LeavesOnly}
-use Rattle.medium.proofs.Moments.{each_write, quiet_leaves, weaker}
+use Rattle.medium.proofs.Moments.{each_write, quiet_leaves}
 use Rattle.journal.specs.declared.head.Head.{Head as HeadOf}
 use Rattle.journal.specs.Places.{sectors_of, first_home, first_data_of}
 use Rattle.journal.specs.Sectors.{IsRising, IsHead}
@@ -30,24 +30,17 @@ use Rattle.redo_log.specs.Calls.{gaining, WritesOnly}
 use Rattle.redo_log.specs.Turns.{head_bytes, MayTurn, IsTurned, IsNextTurn}
 use Rattle.redo_log.specs.Held.{View, view_retired, made_of, turned_of, needed_of, image_view, MayLeave, Stores, Safe}
 use Rattle.redo_log.specs.Held.{HasHead, Guards, HoldsView}
-use Rattle.redo_log.proofs.BatchRecord.{count_of}
 use Rattle.redo_log.proofs.OneSector.{moments_have}
-use Rattle.redo_log.proofs.CoveredRecord.{needed_one}
+use Rattle.redo_log.proofs.RingRecords.{needed_one}
 use Rattle.redo_log.proofs.Heads.{hides_behind, records_before, newest, with_newest, same_head, stands_front}
+use Rattle.redo_log.proofs.Heads.{Logged-records}
 use Rattle.redo_log.proofs.Heads.{guard_leaves, flush_guards}
-use Rattle.redo_log.proofs.LoggedImage.{Logged-records}
 use Rattle.redo_log.proofs.StoredLog.{Stores-stays, home_stores, head_stores}
 use Rattle.redo_log.proofs.GuardedCalls.{Stands, stands_less, keeps_of, logged_of, home_safe, past_safe}
 use Rattle.redo_log.proofs.KeptFirsts.{kept_is, retired_kept}
 use Rattle.redo_log.proofs.CallsSent.{copy_turn, flush_turn, head_turn}
 use Rattle.redo_log.proofs.LogRules.{IsLog, retired_of, one_waits, nothing_home, not_homed}
-use Rattle.redo_log.proofs.HeldLog.{many, named, count, stands_then, goes_on}
-
--- no count falls in a turn
-pub turn_moments : (turn : Turn) (old new : State) → IsSound old → MayTurn turn old new → LeavesOnly (λ _. Unit {0}) old new
-turn_moments (Copy from to first) old new sound adds = weaker _ (λ _. Unit {0}) old new (λ image left. tt) adds.moments
-turn_moments Flush old new sound adds = quiet_leaves (λ _. Unit {0}) old new sound (λ image cut. tt) adds
-turn_moments (Head h) old new sound adds = weaker _ (λ _. Unit {0}) old new (λ image left. tt) adds.moments
+use Rattle.redo_log.proofs.HeldLog.{many, named, count, stands_then, goes_on, count_of}
 
 -- the bytes that a head turn writes are those of the new head
 new_head : (h : HeadOf) (next : ℕ) → h.stamp ≡ next → IsHead next (head_bytes h.stamp)

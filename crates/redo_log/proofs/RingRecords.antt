@@ -1,18 +1,48 @@
 -- How the records of a ring come and go.
-use Rattle.std.proofs.Common.{◌≡◌, ◌⊎◌, inl, inr, ℕ, zero, suc, ◌+◌, ◌-◌, ◌*◌, ◌%◌, ◌<◌, ◌≤◌, List, [], ◌∷◌, ◌++◌, length}
-use Rattle.std.proofs.Common.{drop, refl, sym, ◌∙◌, ap, arith}
-use Rattle.std.proofs.Common.{length-append, length-drop}
+use Rattle.std.proofs.Common.{◌≡◌, ◌⊎◌, inl, inr, ℕ, zero, suc, ◌+◌, ◌-◌, ◌*◌, ◌%◌, ◌<◌, ◌≤◌, List, [], ◌∷◌, ◌++◌}
+use Rattle.std.proofs.Common.{length, drop, refl, sym, ◌∙◌, ap, arith, length-append, length-drop, ⊎_elim}
 use Rattle.std.proofs.Math.Nat.{mod-add-mod, add-mod_left, mod-eq_of_lt}
-use Rattle.std.proofs.lemmas.Bool.{cases_lt}
+use Rattle.std.proofs.lemmas.Bool.{cases_lt, cases_eq, eq-eqb, ne_eqb}
 use Rattle.std.proofs.lemmas.Nat.{mod_below}
 use Rattle.std.specs.Prelude.{All, Option, Some, None, sum_by, slice_index_or}
 use Rattle.std.proofs.lemmas.List.Elements.{All-append, All-drop}
 use Rattle.std.proofs.lemmas.List.Sums.{sum_by-cons}
 use Rattle.arrayvec.specs.ArrayVec.{ArrayVec}
 use Rattle.journal.specs.Places.{Shape, limit_of}
-use Rattle.redo_log.specs.Value.{retire_steps_of}
-use Rattle.redo_log.specs.Stages.{AreInside, IsOldest, IsRing}
+use Rattle.redo_log.specs.Value.{retire_steps_of, Ahead}
+use Rattle.redo_log.specs.Stages.{AreInside, IsOldest, IsRing, needed_at, IsAheadOf}
 use Rattle.redo_log.specs.Shown.{lists_of}
+use Rattle.journal.proofs.Format1Laws.{below_is, above_is}
+
+-- where one is needed, one is left, or two whose flush was made
+pub needed_one : (ahead : Ahead) (head behind left : ℕ) → needed_at ahead head behind left ≡ 1
+    → (left ≡ 1) ⊎ ((left ≡ 2) × (ahead.home ≡ head) × (ahead.before < behind))
+needed_one ahead head behind zero e = absurd (omega (arith, e))
+needed_one ahead head behind (suc zero) e = inl refl
+needed_one ahead head behind (suc (suc zero)) e = elim (cases_eq ahead.home head) [
+  | inl same ↦ elim (cases_lt ahead.before behind) [
+    | inl since ↦ inr (refl, same, since)
+    | inr not ↦ absurd (omega (arith, rw (eq-eqb ahead.home head same, above_is ahead.before behind not) at e))
+  ]
+  | inr not ↦ absurd (omega (arith, rw (ne_eqb ahead.home head not) at e))
+]
+needed_one ahead head behind (suc (suc (suc left))) e = absurd (omega (arith, e))
+
+-- two are left, and the flush was made
+pub needed_covered : (ahead : Ahead) (head behind : ℕ) → ahead.home ≡ head → ahead.before < behind → needed_at ahead head behind 2 ≡ 1
+needed_covered ahead head behind same since =
+    rw (eq-eqb ahead.home head same, below_is ahead.before behind since) refl
+
+-- a record becomes durable
+pub ahead_durable : (ahead : Ahead) (head : ℕ) (waiting : List (List ℕ)) (turned : ℕ) (numbers : List ℕ)
+    → IsAheadOf ahead head waiting turned → IsAheadOf ahead head (waiting ++ numbers ∷ []) turned
+ahead_durable ahead head [] turned numbers is = ⊎_elim inl (λ home. absurd (omega (arith, home.1))) is
+ahead_durable ahead head (n ∷ waiting) turned numbers is = ⊎_elim inl (λ home. inr (home.0, omega arith, home.2)) is
+
+-- the oldest record is retired
+pub ahead_retired : (ahead : Ahead) (head : ℕ) (waiting newer : List (List ℕ)) (turned left : ℕ)
+    → IsAheadOf ahead head waiting turned → IsAheadOf ahead (head + 1) newer left
+ahead_retired ahead head waiting newer turned left is = inl (omega (arith, is))
 
 -- the oldest of these records, and the others
 pub front_is : (records : List (ArrayVec ℕ)) (first : ArrayVec ℕ) → 0 < length records → first ≡ slice_index_or records 0 first

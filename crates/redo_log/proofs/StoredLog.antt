@@ -148,7 +148,8 @@ module _ {shape : Shape} {head : ℕ} {view : View} {steps made turned : ℕ} {o
                 let next : head + 1 + j ≡ head + (1 + j) = omega arith in
                 IsWholeIn-same L laws shape sized.some old new
                 (λ x low high. write.elsewhere x (λ e. omega (arith, low, e))) (head + 1 + j)
-                (get_or (drop 1 view.records) j []) (rw (next, get_or-drop 1 view.records j []) (s.laid.whole (1 + j) (omega (arith, below, fewer))));
+                (get_or (drop 1 view.records) j [])
+                (rw (next, get_or-drop 1 view.records j []) (s.laid.whole (1 + j) (omega (arith, below, fewer))));
             blocks = λ b below.
                 with_records-same (drop 1 view.records) (home_of shape new) (with_blocks oldest (home_of shape old)) b
                 (write.elsewhere (first_home shape + b) (λ e. omega (arith, e, sized.behind))

@@ -6,9 +6,8 @@ use Rattle.journal.specs.Values.{shape_of}
 use Rattle.redo_log.specs.Value.{LogValue}
 use Rattle.redo_log.specs.Stages.{begun_at, AreInside}
 use Rattle.redo_log.specs.Shown.{lists_of, ahead_in}
-use Rattle.redo_log.proofs.CoveredRecord.{ahead_durable}
 use Rattle.std.proofs.lemmas.List.{map-append}
-use Rattle.redo_log.proofs.RingRecords.{ring_durable}
+use Rattle.redo_log.proofs.RingRecords.{ring_durable, ahead_durable}
 use Rattle.redo_log.proofs.IndexRoom.{record_room, index_more}
 use Rattle.redo_log.proofs.LogRules.{many_lists, log_is}
 use Rattle.redo_log.proofs.log.Log.count_call.Goals as goal

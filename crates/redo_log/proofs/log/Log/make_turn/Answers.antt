@@ -1,11 +1,12 @@
 use Rattle.std.proofs.Common.{rules}
 use Rattle.std.proofs.lemmas.Result.{on_ok_weaker}
+use Rattle.medium.proofs.Moments.{weaker}
 use Rattle.journal.specs.Places.{first_home, sectors_of}
 use Rattle.redo_log.specs.Held.{View, HoldsView}
 use Rattle.redo_log.proofs.CallsSent.{counts_of}
 use Rattle.redo_log.proofs.LogRules.{log_is}
 use Rattle.redo_log.proofs.HeldLog.{dead_held}
-use Rattle.redo_log.proofs.RetireTurns.{turn_moments, turn_leaves, stepped_held, sent_held}
+use Rattle.redo_log.proofs.RetireTurns.{turn_leaves, stepped_held, sent_held}
 use Rattle.redo_log.proofs.log.Log.make_turn.Goals as goal
 
 pub returns-clause-brings : goal.returns-clause-brings
@@ -23,12 +24,13 @@ returns-clause-brings g c =
     let cuts = λ (view : View) (holds : HoldsView log old view). turn_leaves is live c.requires.owed sound holds turn
     next.next new made.adds in
     let size = c.make.ensures.counts.size in
+    let spares = made.spares (sectors_of log.shape) next.inside in
     record {
       passes = let calls = counts_of is c.requires.owed turn next.next c.make.ensures.counts in search rules;
       leaves = record {
         cuts = cuts;
-        moments = turn_moments turn old new sound made.adds;
-        spares = made.spares (sectors_of log.shape) next.inside;
+        moments = weaker _ (λ _. Unit {0}) old new (λ image left. tt) spares.moments;
+        spares = spares;
         looks = c.make.ensures.follows.1 (first_home log.shape) next.reads;
       };
       dead = λ view holds. dead_held holds new (g.met.M.Medium.sound c.make.new.m) size (cuts view holds);
