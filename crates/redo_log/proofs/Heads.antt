@@ -154,6 +154,11 @@ flush_guards {shape} {head} {view} {steps} {made} {retire} {content} {new} stays
   each = each_flush (HasHead shape head view steps made retire) content new only (with_newest safe homed);
 }
 
+-- where one retire step is needed a read gives the oldest record's blocks at home
+pub homed_here : {shape : Shape} {head : ℕ} {view : View} {steps made retire : ℕ} {m : State} → IsSound m
+    → Guards shape head view steps made retire m → retire ≡ 1 → IsHomed (image_view shape head view) m.content
+homed_here {m = m} sound g one = ((g.each m.content sound.holds_content).flushed one).1
+
 -- ---- the image with the head that a read gives
 
 abbrev pub put_head : State → Image → Image

@@ -1,12 +1,14 @@
 -- Each step of the record under way: what the log and its medium hold after it.
 use Rattle.std.proofs.Common.{◌≡◌, ◌⊎◌, inl, inr, ⊎_elim, ℕ, ◌+◌, ◌*◌, ◌-◌, ◌<◌, ◌≤◌, List, [], ◌∷◌, ◌++◌, length, get_or, refl, sym}
 use Rattle.std.proofs.Common.{◌∙◌, ap, arith, length-append}
-use Rattle.std.specs.Prelude.{true, false}
+use Rattle.std.specs.Prelude.{true, false, Result, OnOk}
+use Rattle.std.proofs.lemmas.Result.{on_ok_weaker}
 use Rattle.std.proofs.lemmas.Bool.{cases_eq, cases_lt}
 use Rattle.std.proofs.lemmas.List.{map-append, get_or_append_left}
 use Rattle.medium.specs.Medium.{State, IsSound}
-use Rattle.medium.specs.Moments.{EachCut}
-use Rattle.medium.proofs.Moments.{shrunk, content_has, each_write}
+use Rattle.medium.specs.Moments.{EachCut, LeavesOnly}
+use Rattle.medium.specs.declared.fault.MediumFault.{MediumFault}
+use Rattle.medium.proofs.Moments.{shrunk, one_call, each_write}
 use Rattle.journal.specs.Places.{sectors_of}
 use Rattle.journal.specs.Record.{Entry, numbers_of, entries_of}
 use Rattle.journal.specs.Layout.{Layout, part_at}
@@ -19,13 +21,13 @@ use Rattle.redo_log.specs.declared.progress.Progress.{Progress}
 use Rattle.redo_log.specs.declared.progress.Progress.TheVariants.{More, Durable}
 use Rattle.redo_log.specs.Value.{LogValue, steps_of, steps_for, of_oldest, IsStepped}
 use Rattle.redo_log.specs.Stages.{needed_at, flush_of}
-use Rattle.redo_log.specs.Calls.{Call, Write, Flush, MayAdd, IsDone, IsNextCall, IsFlushDue}
+use Rattle.redo_log.specs.Calls.{Call, Write, Flush, MayAdd, IsDone, MakesNext, IsFlushDue}
 use Rattle.redo_log.specs.Held.{View, with_record, view_stepped, written_of, flushed_of, made_of, turned_of, needed_of}
 use Rattle.redo_log.specs.Held.{HasDurable, MayLeave}
 use Rattle.redo_log.specs.Held.{HasHead, Guards, HoldsView, image_view}
 use Rattle.redo_log.proofs.RecordSteps.{steps_are, due_or_not, last_call, not_last, one_left, early_written, part_written}
 use Rattle.redo_log.proofs.RingRecords.{needed_one}
-use Rattle.redo_log.proofs.Heads.{same_head, same_stamp, stands_front, logged_leaves, guard_leaves, flush_guards}
+use Rattle.redo_log.proofs.Heads.{homed_here, same_head, same_stamp, stands_front, logged_leaves, guard_leaves, flush_guards}
 use Rattle.redo_log.proofs.GuardedCalls.{Stands, stands_idle, other_part, part_lost, part_there}
 use Rattle.redo_log.proofs.GuardedCalls.{early_safe, durable_safe}
 use Rattle.redo_log.proofs.RecordCalls.{flush_is, write_is}
@@ -89,7 +91,7 @@ module _ {log : LogValue} (is : IsLog log) (live : log.dead ≡ false) (some : 0
         (λ ours.
         let g = hv.guards live ours in flush_guards wrote.0 wrote.1
         (early_safe stands some (hv.stores live) g.here (omega (arith, more)) after.0 after.1)
-        (λ one. content_has _ old sound (λ image cut. ((g.each image cut).flushed one).1))))
+        (homed_here sound g)))
         (λ (all : L.parts n ≤ k).
         absurd (omega (arith, all, not_last (L.early n) (L.parts n) late (made_of log) (omega (arith, more, all_steps, is.most_left)))))
         due
@@ -125,7 +127,7 @@ module _ {log : LogValue} (is : IsLog log) (live : log.dead ≡ false) (some : 0
         flush_guards wrote.0 wrote.1 (durable_safe stands some (hv.stores live) g.here all) (λ is.
         let was = one_less is in
         rw (get_or_append_left view.records (view.under_way ∷ []) [] 0 was.0) (⊎_elim
-        (λ (one : needed_of log ≡ 1). content_has _ old sound (λ image cut. ((g.each image cut).flushed one).1))
+        (homed_here sound g)
         (λ (home : length (get_or view.records 0 []) ≤ turned_of log) i inside.
         (hv.stores live).copied i (omega (arith, inside, home)) inside)
         was.1)) in
@@ -220,56 +222,64 @@ module _ {log : LogValue} (is : IsLog log) (live : log.dead ≡ false) (some : 0
           })
 
   -- ---- the next call of a record with these blocks
-  module _ {numbers : List ℕ} (bytes : List ℕ) (same : numbers ≡ log.under_way) (size : length bytes ≡ 512 * length numbers) (call : Call)
-      (next : IsNextCall (layout_of log.shape.format) log.shape (log.head + length log.waiting)
-      (entries_of numbers bytes) (made_of log) call)
-      (new : State) (adds : MayAdd call old new) where
-    abbrev other : List Entry
-    other = entries_of numbers bytes
+  module _ {numbers : List ℕ} (bytes : List ℕ) (same : numbers ≡ log.under_way) (size : length bytes ≡ 512 * length numbers)
+      {result : Result (Unit {0}) MediumFault} {new : State}
+      (here : MakesNext log.shape (log.head + length log.waiting) (entries_of numbers bytes) (made_of log) result old new)
+    where
+      abbrev call : Call
+      call = here.call
 
-    other_count : length other ≡ n
-    other_count = length_of_batch numbers bytes ∙ ap (λ (l : List ℕ). length l) same ∙ under_count hv
+      abbrev other : List Entry
+      other = entries_of numbers bytes
 
-    other_is : IsRecordOf L log.shape.blocks stamp other
-    other_is = record_batch log.shape stamp numbers bytes is.sized
-        (rw (same, ← many hv) (is.record_is some)) size
+      other_count : length other ≡ n
+      other_count = length_of_batch numbers bytes ∙ ap (λ (l : List ℕ). length l) same ∙ under_count hv
 
-    which : ((call ≡ Flush) × IsFlushDue L n (made_of log))
-        ⊎ ((call ≡ Write (part_at L log.shape stamp n k) (L.part stamp other k)) × (¬ IsFlushDue L n (made_of log)))
-    which =
-        let here = rw (other_count, many hv) at next in
-        elim (due_or_not L n (made_of log)) [
-          | inl due ↦ inl (flush_is call (here.0 due), due)
-          | inr not ↦ inr (write_is (part_at L log.shape stamp n k) (L.part stamp other k) call (here.1 not), not)
-        ]
+      other_is : IsRecordOf L log.shape.blocks stamp other
+      other_is = record_batch log.shape stamp numbers bytes is.sized
+          (rw (same, ← many hv) (is.record_is some)) size
 
-    -- after it a cut leaves what it might leave before, and with the last part the record
-    pub step_leaves : view.ours ≡ true → EachCut (MayLeave old.size log view) new
-    step_leaves ours = elim which [
-      | inl due ↦
-          shrunk (MayLeave old.size log view) old new (rw due.0 at adds) (hv.leaves ours)
-      | inr part ↦ part_leaves new other other_is other_count part.1 (rw part.0 at adds) ours
-    ]
+      which : ((call ≡ Flush) × IsFlushDue L n (made_of log))
+          ⊎ ((call ≡ Write (part_at L log.shape stamp n k) (L.part stamp other k)) × (¬ IsFlushDue L n (made_of log)))
+      which =
+          let next = rw (other_count, many hv) at here.next in
+          elim (due_or_not L n (made_of log)) [
+            | inl due ↦ inl (flush_is call (next.0 due), due)
+            | inr not ↦ inr (write_is (part_at L log.shape stamp n k) (L.part stamp other k) call (next.1 not), not)
+          ]
 
-    module _ (same_size : new.size ≡ old.size) (entries : view.under_way ≡ entries_of numbers bytes) (done : IsDone call old new)
-        (then : LogValue) where
-      -- the log that counts it holds what the medium does
-      pub counted_held : (progress : Progress) → IsStepped progress log then → HoldsView then new (view_stepped progress view)
-      counted_held More stepped = rw stepped.1 (elim which [
-        | inl due ↦ early_flushed new stepped.0 due.1 same_size (rw due.0 at done)
-        | inr part ↦
-            part_written_now new other other_is other_count part.1 stepped.0 same_size entries
-            (rw part.0 at adds) (rw part.0 at done)
+      -- after it a cut leaves what it might leave before, and with the last part the record
+      pub step_leaves : view.ours ≡ true → LeavesOnly (MayLeave old.size log view) old new
+      step_leaves ours = one_call (MayLeave old.size log view) old new sound here.makes.passes (hv.leaves ours) (elim which [
+        | inl due ↦ shrunk (MayLeave old.size log view) old new (rw due.0 at here.makes.adds) (hv.leaves ours)
+        | inr part ↦ part_leaves new other other_is other_count part.1 (rw part.0 at here.makes.adds) ours
       ])
-      counted_held Durable stepped =
-          let all : L.parts n ≤ k = last_call (L.early n) (L.parts n) late (made_of log) (omega (arith, is.most_left, some, all_steps))
-          (omega (arith, is.most_left, stepped.0, all_steps)) in
-          rw stepped.1 (elim which [
-            | inl due ↦ all_flushed new stepped.0 all same_size (rw due.0 at done)
-            | inr part ↦ absurd (part.1 (inr all))
-          ])
 
-      -- with the last one the record is whole in each image
-      pub counted_whole : view.ours ≡ true → IsStepped Durable log then → EachCut (HasDurable new.size then (with_record view)) new
-      counted_whole ours stepped =
-          durable_whole (counted_held Durable stepped) (rw stepped.1 is.sized) (rw stepped.1 live) ours (rw stepped.1 refl)
+      module _ (entries : view.under_way ≡ entries_of numbers bytes) (then : LogValue) where
+        -- the log that counts it holds what the medium does
+        counts : (progress : Progress) → IsStepped progress log then → IsDone call old new
+            → HoldsView then new (view_stepped progress view)
+        counts More stepped done = rw stepped.1 (elim which [
+          | inl due ↦ early_flushed new stepped.0 due.1 here.makes.passes.size_stays (rw due.0 at done)
+          | inr part ↦
+              part_written_now new other other_is other_count part.1 stepped.0 here.makes.passes.size_stays entries
+              (rw part.0 at here.makes.adds) (rw part.0 at done)
+        ])
+        counts Durable stepped done =
+            let all : L.parts n ≤ k = last_call (L.early n) (L.parts n) late (made_of log) (omega (arith, is.most_left, some, all_steps))
+            (omega (arith, is.most_left, stepped.0, all_steps)) in
+            rw stepped.1 (elim which [
+              | inl due ↦ all_flushed new stepped.0 all here.makes.passes.size_stays (rw due.0 at done)
+              | inr part ↦ absurd (part.1 (inr all))
+            ])
+
+        pub counted_held : (progress : Progress) → IsStepped progress log then
+            → OnOk result (HoldsView then new (view_stepped progress view))
+        counted_held progress stepped = on_ok_weaker result (counts progress stepped) here.makes.done
+
+        -- with the last one the record is whole in each image
+        pub counted_whole : view.ours ≡ true → IsStepped Durable log then
+            → OnOk result (EachCut (HasDurable new.size then (with_record view)) new)
+        counted_whole ours stepped = on_ok_weaker result (λ done.
+            durable_whole (counts Durable stepped done) (rw stepped.1 is.sized) (rw stepped.1 live) ours (rw stepped.1 refl))
+            here.makes.done

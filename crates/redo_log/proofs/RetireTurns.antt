@@ -1,5 +1,5 @@
 -- Each turn that retires the oldest durable record: what the log and its medium hold after it.
-use Rattle.std.proofs.Common.{◌≡◌, ◌≢◌, inl, inr, ℕ, ◌+◌, ◌-◌, ◌<◌, ◌≤◌, List, [], ◌∷◌, length, get_or, drop, refl, ◌∙◌}
+use Rattle.std.proofs.Common.{◌≡◌, ◌≢◌, ◌⊎◌, inl, inr, ℕ, ◌+◌, ◌-◌, ◌<◌, ◌≤◌, List, [], ◌∷◌, length, get_or, drop, refl, ◌∙◌}
 use Rattle.std.proofs.Common.{ap, subst, arith, length-drop, add-zero}
 use Rattle.std.specs.Prelude.{true, false, map, Option, slice_index}
 use Rattle.std.proofs.lemmas.Bool.{cases_eq, cases_lt}
@@ -28,13 +28,13 @@ use Rattle.redo_log.specs.Stages.{needed_at}
 use Rattle.redo_log.specs.Firsts.{first_kept}
 use Rattle.redo_log.specs.Calls.{gaining, WritesOnly}
 use Rattle.redo_log.specs.Turns.{head_bytes, MayTurn, IsTurned, IsNextTurn}
-use Rattle.redo_log.specs.Held.{View, view_retired, made_of, turned_of, needed_of, image_view, MayLeave, Stores, Safe}
+use Rattle.redo_log.specs.Held.{View, view_retired, made_of, turned_of, needed_of, image_view, MayLeave, Safe}
 use Rattle.redo_log.specs.Held.{HasHead, Guards, HoldsView}
 use Rattle.redo_log.proofs.OneSector.{moments_have}
 use Rattle.redo_log.proofs.RingRecords.{needed_one}
 use Rattle.redo_log.proofs.Heads.{hides_behind, records_before, newest, with_newest, same_head, stands_front}
 use Rattle.redo_log.proofs.Heads.{Logged-records}
-use Rattle.redo_log.proofs.Heads.{guard_leaves, flush_guards}
+use Rattle.redo_log.proofs.Heads.{homed_here, guard_leaves, flush_guards}
 use Rattle.redo_log.proofs.StoredLog.{Stores-stays, home_stores, head_stores}
 use Rattle.redo_log.proofs.GuardedCalls.{Stands, stands_less, keeps_of, logged_of, home_safe, past_safe}
 use Rattle.redo_log.proofs.KeptFirsts.{kept_is, retired_kept}
@@ -62,12 +62,6 @@ module _ {log : LogValue} (is : IsLog log) (live : log.dead ≡ false) (owed : 0
   stands : Stands log.shape log.head view log.steps_left (made_of log)
   stands = stands_then hv is log.steps_left (omega arith)
 
-  stored : Stores log.shape log.head view log.steps_left (made_of log) (turned_of log) old.content
-  stored = hv.stores live
-
-  guarded : view.ours ≡ true → Guards log.shape log.head view log.steps_left (made_of log) (needed_of log) old
-  guarded ours = hv.guards live ours
-
   -- what it needs where so many retire steps are left of it
   needs_one : of_oldest log ≡ 1 → needed_of log ≡ 1
   needs_one one = ap (λ (l : ℕ). needed_at log.ahead log.head (log.head + length log.waiting) l) one
@@ -93,7 +87,7 @@ module _ {log : LogValue} (is : IsLog log) (live : log.dead ≡ false) (owed : 0
     home_each : view.ours ≡ true → (mid : State) → Gains to bytes old.may_leave mid.may_leave → {left : ℕ} → left ≢ 1
         → EachCut (HasHead log.shape log.head view log.steps_left (made_of log) left) mid
     home_each ours mid gains {left} not =
-        each_write _ _ old mid to bytes sound gains (guarded ours).each
+        each_write _ _ old mid to bytes sound gains (hv.guards live ours).each
         (λ image g. same_head g g.safe (λ one. absurd (not one)))
         (λ before image write g. same_head g
         (home_safe (stands_front g stands) g.safe block (hides_behind g.passed view.records block hides) write)
@@ -113,11 +107,11 @@ module _ {log : LogValue} (is : IsLog log) (live : log.dead ≡ false) (owed : 0
         let rising : IsRising (numbers_of oldest) = subst IsRising (named hv 0) (is.each 0 [] (one_waits is owed)).rising in
         let next = record log { retire_steps_left = log.retire_steps_left - 1; ahead = ahead } in
         goes_on hv is log.steps_left (log.retire_steps_left - 1) ahead new (omega arith) same_size live
-        (home_stores stored is.sized new.content bytes (turned_of next)
+        (home_stores (hv.stores live) is.sized new.content bytes (turned_of next)
         (λ some. (stands.slots some).under_way.fit.few) waits rising inside wrote
         brought (omega (arith, below, is.owed_most)))
         (λ ours. record {
-          here = home_safe stands (guarded ours).here block hides wrote;
+          here = home_safe stands (hv.guards live ours).here block hides wrote;
           each = home_each ours new adds.sets not;
         })
 
@@ -128,10 +122,10 @@ module _ {log : LogValue} (is : IsLog log) (live : log.dead ≡ false) (owed : 0
       let next = record log { retire_steps_left = log.retire_steps_left - 1 } in
       let there : length oldest ≤ turned_of log = omega (arith, two, count hv 0) in
       goes_on hv is log.steps_left (log.retire_steps_left - 1) log.ahead new (omega arith) same_size live
-      (Stores-stays stored log.steps_left (made_of log) (turned_of next) new.content wrote.0 (λ some. some) (omega arith)
-      (λ i low high. omega (arith, high, there)))
-      (λ ours. flush_guards wrote.0 wrote.1 (guarded ours).here
-      (λ _ i inside. stored.copied i (omega (arith, inside, there)) inside))
+      (Stores-stays (hv.stores live) log.steps_left (made_of log) (turned_of next) new.content wrote.0 (λ some. some)
+      (omega arith) (λ i low high. omega (arith, high, there)))
+      (λ ours. flush_guards wrote.0 wrote.1 (hv.guards live ours).here
+      (λ _ i inside. (hv.stores live).copied i (omega (arith, inside, there)) inside))
 
   -- ---- the head is written past it
   module _ (one : of_oldest log ≡ 1) (h : HeadOf) (stamp_is : h.stamp ≡ log.head + 1) (new : State) where
@@ -141,13 +135,13 @@ module _ {log : LogValue} (is : IsLog log) (live : log.dead ≡ false) (owed : 0
     one_now : view.ours ≡ true → EachCut (λ image. Safe log.shape log.head view log.steps_left (made_of log) image
         × IsHomed (image_view log.shape log.head view) image) old
     one_now ours image cut =
-        let g = (guarded ours).each image cut in
+        let g = (hv.guards live ours).each image cut in
         let f = g.flushed (needs_one one) in (newest g f.0, f.1)
 
     past_now : view.ours ≡ true → Holds 1 (head_bytes h.stamp) old.content new.content
         → Safe log.shape (log.head + 1) (view_retired 1 view) log.steps_left (made_of log) new.content
     past_now ours wrote =
-        past_safe stands (guarded ours).here waits head_now (one_now ours old.content sound.holds_content).1 wrote
+        let g = hv.guards live ours in past_safe stands g.here waits head_now (homed_here sound g (needs_one one)) wrote
 
     stands_past : Stands log.shape (log.head + 1) (view_retired 1 view) log.steps_left (made_of log)
     stands_past = stands_less stands waits
@@ -196,8 +190,9 @@ module _ {log : LogValue} (is : IsLog log) (live : log.dead ≡ false) (owed : 0
           sized = hv.sized;
           firsts = retired_kept log.shape.format view.records view.under_way log.firsts hv.firsts waits;
           leaves = λ ours image cut. guard_leaves (retired_of log) fits stands_past ((guards ours).each image cut);
-          stores = λ _. head_stores stored is.sized new.content (head_bytes h.stamp) (turned_of (retired_of log)) waits
-              (omega (arith, one, count hv 0)) (λ i low high. nothing_home log i low (omega (arith, high, second))) wrote;
+          stores = λ _. head_stores (hv.stores live) is.sized new.content (head_bytes h.stamp)
+              (turned_of (retired_of log)) waits (omega (arith, one, count hv 0))
+              (λ i low high. nothing_home log i low (omega (arith, high, second))) wrote;
           guards = λ _. guards;
         }
 
@@ -243,90 +238,87 @@ module _ {log : LogValue} (is : IsLog log) (live : log.dead ≡ false) (owed : 0
   module _ (turn : Turn) (next : IsNextTurn log.shape log.head (get_or log.waiting 0 []) log.firsts (turned_of log) turn) (new : State)
       (adds : MayTurn turn old new) where
     -- it brings a block home
-    abbrev Copies : Option (List ℕ) → ℕ → Type 0
-    Copies begins from = (turn ≡ Copy from (first_home log.shape + (get_or oldest (turned_of log) (0, [])).0) begins)
+    abbrev Homes : Type 0
+    Homes = (begins : Option (List ℕ)) × (from : ℕ) × (2 < of_oldest log)
+        × (turn ≡ Copy from (first_home log.shape + (get_or oldest (turned_of log) (0, [])).0) begins)
         × (begun_with begins (old.content from) ≡ (get_or oldest (turned_of log) (0, [])).1)
 
-    copies : 2 < of_oldest log → (begins : Option (List ℕ)) × (from : ℕ) × Copies begins from
-    copies below =
+    homes : 2 < of_oldest log → Homes
+    homes below =
         let t = turned_of log in
         let inside : t < length oldest = omega (arith, below, is.owed_most, count hv 0) in
         let f : Entry → ℕ = λ e. e.0 in
         let number : slice_index (get_or log.waiting 0 []) t ≡ (get_or oldest t (0, [])).0 =
         ap (λ (l : List ℕ). slice_index l t) (named hv 0) ∙ get_or-map f oldest t (0, []) in
         let whole : IsWhole log.shape old.content log.head oldest =
-        subst (λ (s : ℕ). IsWhole log.shape old.content s oldest) (omega arith) (stored.laid.whole 0 waits) in
+        subst (λ (s : ℕ). IsWhole log.shape old.content s oldest) (omega arith) ((hv.stores live).laid.whole 0 waits) in
         let from : ℕ = slot_at (layout_of log.shape.format) log.shape log.head + first_data_of log.shape.format + t in
         let begins = first_kept log.firsts 0 t in (
           begins,
           from,
-          (
-            rw number at (copy_turn from _ begins turn (next.home (omega (arith, below, is.owed_most)))),
-            begun_is log.shape.format log.shape old.content log.head oldest whole t inside begins
-                (kept_is log.shape.format view.records view.under_way log.firsts hv.firsts 0 t waits inside) (old.content from) refl,
-          ),
+          below,
+          rw number at (copy_turn from _ begins turn (next.home (omega (arith, below, is.owed_most)))),
+          begun_is log.shape.format log.shape old.content log.head oldest whole t inside begins
+              (kept_is log.shape.format view.records view.under_way log.firsts hv.firsts 0 t waits inside)
+              (old.content from) refl,
         )
 
-    flushes : of_oldest log ≡ 2 → turn ≡ Flush
-    flushes two = flush_turn turn (next.flush (omega (arith, two)))
-
-    leads : of_oldest log ≡ 1 → (h : HeadOf) × (turn ≡ Head h) × (h.stamp ≡ log.head + 1)
-    leads one = head_turn (log.head + 1) turn (next.head (omega (arith, one)))
+    -- a block goes home, the blocks are flushed, or the head goes past the record
+    which : Homes ⊎ ((of_oldest log ≡ 2) × (turn ≡ Flush))
+        ⊎ ((of_oldest log ≡ 1) × ((h : HeadOf) × (turn ≡ Head h) × (h.stamp ≡ log.head + 1)))
+    which = elim (cases_lt 2 (of_oldest log)) [
+      | inl below ↦ inl (homes below)
+      | inr few ↦ elim (cases_eq (of_oldest log) 2) [
+        | inl two ↦ inr (inl (two, flush_turn turn (next.flush (omega (arith, two)))))
+        | inr not ↦
+            let one : of_oldest log ≡ 1 = omega (arith, not, few, owed) in
+            inr (inr (one, head_turn (log.head + 1) turn (next.head (omega (arith, one)))))
+      ]
+    ]
 
     -- at each moment a cut leaves what it might leave before
     pub turn_leaves : view.ours ≡ true → LeavesOnly (MayLeave old.size log view) old new
-    turn_leaves ours = elim (cases_lt 2 (of_oldest log)) [
-      | inl below ↦
-          let c = copies below in
-          home_leaves below c.1 c.0 new c.2.1 (rw c.2.0 at adds) ours
-      | inr few ↦ elim (cases_eq (of_oldest log) 2) [
-        | inl two ↦
-            quiet_leaves (MayLeave old.size log view) old new sound (hv.leaves ours)
-            (rw (flushes two) at adds)
-        | inr not ↦
-            let one : of_oldest log ≡ 1 = omega (arith, not, few, owed) in
-            let l = leads one in
-            head_leaves one l.0 l.2 new (rw l.1 at adds) ours
+    turn_leaves ours = elim which [
+      | inl h ↦ home_leaves h.2 h.1 h.0 new h.4 (rw h.3 at adds) ours
+      | inr later ↦ elim later [
+        | inl flush ↦ quiet_leaves (MayLeave old.size log view) old new sound (hv.leaves ours) (rw flush.1 at adds)
+        | inr last ↦ let l = last.1 in head_leaves last.0 l.0 l.2 new (rw l.1 at adds) ours
       ]
     ]
 
     -- the log that counts the turn holds what the medium does
     module _ (same_size : new.size ≡ old.size) (done : IsTurned turn old new) (then : LogValue) where
-      at_home : (below : 2 < of_oldest log) (ahead : Ahead)
+      at_home : Homes → (ahead : Ahead)
           → needed_of (record log { retire_steps_left = log.retire_steps_left - 1; ahead = ahead }) ≢ 1
           → HoldsView (record log { retire_steps_left = log.retire_steps_left - 1; ahead = ahead }) new view
-      at_home below ahead not =
-          let c = copies below in
-          home_held below c.1 c.0 new c.2.1 ahead not same_size (rw c.2.0 at adds)
-          (rw c.2.0 at done)
+      at_home h ahead not = home_held h.2 h.1 h.0 new h.4 ahead not same_size (rw h.3 at adds) (rw h.3 at done)
 
       -- a record whose blocks go home by retire steps needs its flush
-      goes_home : 2 < of_oldest log → HoldsView (record log { retire_steps_left = log.retire_steps_left - 1 }) new view
-      goes_home below = at_home below log.ahead
-          (λ one. omega (arith, needed_one log.ahead log.head (log.head + length log.waiting) _ one, below, is.away below))
+      goes_home : Homes → HoldsView (record log { retire_steps_left = log.retire_steps_left - 1 }) new view
+      goes_home h = at_home h log.ahead
+          (λ one. omega (arith, needed_one log.ahead log.head (log.head + length log.waiting) _ one, h.2, is.away h.2))
 
       pub stepped_held : IsRetireStepped log then → HoldsView then new (view_retired (then.head - log.head) view)
-      stepped_held stepped = elim (cases_eq (of_oldest log) 1) [
-        | inl one ↦
-            let l = leads one in
-            retired_held one l.0 l.2 new then stepped
-            (head_held one l.0 l.2 new same_size (rw l.1 at done))
-        | inr not ↦
-            let here : log.head - log.head ≡ 0 = omega arith in
-            rw (stepped.more (omega (arith, not, owed, stepped.some)), here) (elim (cases_lt 2 (of_oldest log)) [
-              | inl below ↦ goes_home below
-              | inr few ↦
-                  let two : of_oldest log ≡ 2 = omega (arith, few, not, owed) in
-                  flush_held two new same_size (rw (flushes two) at done)
-            ])
-      ]
+      stepped_held stepped =
+          let here : log.head - log.head ≡ 0 = omega arith in
+          elim which [
+            | inl h ↦ rw (stepped.more (omega (arith, h.2, stepped.some)), here) (goes_home h)
+            | inr later ↦ elim later [
+              | inl flush ↦
+                  rw (stepped.more (omega (arith, flush.0, stepped.some)), here)
+                  (flush_held flush.0 new same_size (rw flush.1 at done))
+              | inr last ↦
+                  let l = last.1 in
+                  retired_held last.0 l.0 l.2 new then stepped (head_held last.0 l.0 l.2 new same_size (rw l.1 at done))
+            ]
+          ]
 
       -- so it does ahead
       pub sent_held : 2 < of_oldest log → IsSentHome log then → HoldsView then new view
-      sent_held away home = elim (cases_lt 3 (of_oldest log)) [
-        | inl more ↦ rw (home.more more) (goes_home away)
+      sent_held below home = elim (cases_lt 3 (of_oldest log)) [
+        | inl more ↦ rw (home.more more) (goes_home (homes below))
         | inr few ↦
-            let last : of_oldest log ≡ 3 = omega (arith, few, away) in
-            rw (home.last last) (at_home away (ahead_of log)
+            let last : of_oldest log ≡ 3 = omega (arith, few, below) in
+            rw (home.last last) (at_home (homes below) (ahead_of log)
             (λ one. omega (arith, needed_one (ahead_of log) log.head (log.head + length log.waiting) _ one, last)))
       ]

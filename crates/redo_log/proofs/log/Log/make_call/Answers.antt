@@ -1,12 +1,11 @@
-use Rattle.std.proofs.Common.{◌≡◌, ◌≢◌, ◌+◌, ◌<◌, true, arith, rules}
-use Rattle.std.proofs.lemmas.Result.{on_ok_weaker}
+use Rattle.std.proofs.Common.{◌≢◌, ◌+◌, ◌<◌, arith, rules}
 use Rattle.medium.specs.declared.fault.MediumFault.TheVariants as fault
 use Rattle.medium.proofs.Moments.{one_call}
 use Rattle.medium.proofs.SectorsRead.{no_looks}
 use Rattle.medium.proofs.SparedSectors.{spared_behind}
 use Rattle.journal.specs.Places.{first_home, sectors_of}
 use Rattle.redo_log.specs.Calls.{Call, Write, Flush, fault_of}
-use Rattle.redo_log.specs.Held.{View, MayLeave, HoldsView}
+use Rattle.redo_log.specs.Held.{View, HoldsView}
 use Rattle.redo_log.proofs.CallsSent.{step_flushed}
 use Rattle.redo_log.proofs.LogRules.{log_is, call_of}
 use Rattle.redo_log.proofs.HeldLog.{dead_held}
@@ -30,12 +29,12 @@ returns g c =
     let made = here.makes in
     let live = c.requires.on.live in
     let some = c.requires.under_way in
-    let cuts = λ (view : View) (holds : HoldsView log old view) (ours : view.ours ≡ true).
-    one_call (MayLeave old.size log view) old new sound made.passes (holds.leaves ours)
-    (step_leaves is live some sound holds c.args.bytes.now c.requires.numbers c.requires.bytes here.call here.next new made.adds ours) in
+    let bytes = c.args.bytes.now in
+    let cuts = λ (view : View) (holds : HoldsView log old view).
+    step_leaves is live some sound holds bytes c.requires.numbers c.requires.bytes here in
     record {
       passes =
-          let flushed = step_flushed is some c.args.bytes.now c.requires.numbers c.requires.bytes here.call here.next made.passes in
+          let flushed = step_flushed is some bytes c.requires.numbers c.requires.bytes here.call here.next made.passes in
           search rules;
       leaves = record {
         cuts = cuts;
@@ -46,15 +45,7 @@ returns g c =
       };
       dead = λ view holds. dead_held holds new (g.met.M.Medium.sound c.make_next.new.m) made.passes.size_stays (cuts view holds);
       counted = λ view holds entries progress then stepped.
-          on_ok_weaker c.make_next.result
-          (λ done. counted_held is live some sound holds c.args.bytes.now c.requires.numbers c.requires.bytes
-          here.call here.next new made.adds
-          made.passes.size_stays entries done then progress stepped)
-          made.done;
+          counted_held is live some sound holds bytes c.requires.numbers c.requires.bytes here entries then progress stepped;
       durable = λ view holds entries ours then stepped.
-          on_ok_weaker c.make_next.result
-          (λ done. counted_whole is live some sound holds c.args.bytes.now c.requires.numbers c.requires.bytes
-          here.call here.next new made.adds
-          made.passes.size_stays entries done then ours stepped)
-          made.done;
+          counted_whole is live some sound holds bytes c.requires.numbers c.requires.bytes here entries then ours stepped;
     }
