@@ -65,7 +65,7 @@ module _ (slots stamp most : ℕ) (records : List (List ℕ)) (index : List Copi
       let b = newest_at j at.0 in
       let both = one_sum most a.age b.age (get_or index i blank).place (get_or index j blank).place (near i first.0) (near j at.0)
       (sym first.1 ∙ same ∙ at.1) in
-      omega (arith, is.sorted i j less at.0, rw (both.0, both.1) at a.named, b.named)
+      omega (arith, is.sorted i j blank less at.0, rw (both.0, both.1) at a.named, b.named)
 
   -- so there are no more entries than blocks in the records
   index_few : length index ≤ most * length records

@@ -1,22 +1,24 @@
 -- How an index and a record's rising block numbers merge, the greatest block first.
 use Rattle.std.proofs.Common.{◌≡◌, ◌≢◌, inl, inr, ℕ, zero, suc, ◌+◌, ◌-◌, ◌<◌, ◌≤◌, List, [], ◌∷◌, ◌++◌, length, get_or, take, drop, set}
 use Rattle.std.proofs.Common.{Some, refl, sym, ◌∙◌, ap, append_assoc, arith}
-use Rattle.std.specs.Prelude.{slice_index}
+use Rattle.std.specs.Prelude.{slice_index, All}
 use Rattle.std.specs.List.{remove_range}
 use Rattle.std.proofs.lemmas.Bool.{cases_eq}
 use Rattle.std.proofs.lemmas.Bool.Decides.{nat_tests}
 use Rattle.std.proofs.lemmas.List.{drop-set, drop_more, get_or-set_other, length-set}
+use Rattle.std.proofs.lemmas.List.Elements.{All-cons}
+use Rattle.std.proofs.lemmas.List.Kept.{AllPairs-cons}
 use Rattle.std.proofs.Math.Seq.{take-suc}
 use Rattle.journal.specs.Sectors.{IsRising}
 use Rattle.redo_log.specs.declared.index.Copied.{Copied}
 use Rattle.redo_log.specs.Index.{look, block_at, IsSorted, Enters}
-use Rattle.redo_log.proofs.SortedIndex.{blank, IsAbove, sorted_cons, above_cons, look_above}
+use Rattle.redo_log.proofs.SortedIndex.{blank, Above, look_above}
 
 -- the old entries from `left` on, merged with the numbers from `place` on: all that is left of both is below
 pub record IsTail (old : List Copied) (slot : ℕ) (numbers : List ℕ) (left place : ℕ) (tail : List Copied) : Type 0 where
   pub sorted : IsSorted tail
-  pub over_entries : (i : ℕ) → i < left → IsAbove (block_at old i + 1) tail
-  pub over_numbers : (i : ℕ) → i < place → IsAbove (slice_index numbers i + 1) tail
+  pub over_entries : (i : ℕ) → i < left → All (Above (block_at old i)) tail
+  pub over_numbers : (i : ℕ) → i < place → All (Above (slice_index numbers i)) tail
   pub entered : (k : ℕ) → place ≤ k → k < length numbers → look tail (slice_index numbers k) ≡ Some (slot, k)
   pub others : (b : ℕ) → ((k : ℕ) → place ≤ k → k < length numbers → slice_index numbers k ≢ b)
       → look tail b ≡ look (drop left old) b
@@ -63,7 +65,7 @@ module _ (old : List Copied) (sorted : IsSorted old) (was left : ℕ) (index : L
   pub left_all : left ≡ was → (0 < was → block_at index (was - 1) < block) → IsLeft old block was left
   left_all same last = record {
     fewer = omega arith;
-    below = λ i less. below_last (block_at old) was block (λ i j less below. sorted i j less (omega (arith, below, fits)))
+    below = λ i less. below_last (block_at old) was block (λ i j less below. sorted i j blank less (omega (arith, below, fits)))
         (λ some. rw (block_is (was - 1) (omega (arith, some))) at (last some)) i (omega (arith, less, same));
     gone = λ b not. rw same refl;
   }
@@ -74,7 +76,7 @@ module _ (old : List Copied) (sorted : IsSorted old) (was left : ℕ) (index : L
       let block_now : block_at old left ≡ block = sym (block_is left (omega (arith, one_more))) ∙ is in
       record {
         fewer = omega arith;
-        below = λ i less. omega (arith, sorted i left less (omega arith), block_now);
+        below = λ i less. omega (arith, sorted i left blank less (omega arith), block_now);
         gone = λ b not. rw (drop_more old left blank (omega arith), one_more)
             (behind (get_or old left blank) (drop (left + 1) old) b (λ same. not (sym block_now ∙ same)));
       }
@@ -85,10 +87,12 @@ module _ {old : List Copied} {slot : ℕ} {numbers : List ℕ} (sorted : IsSorte
       → ((i : ℕ) → i < place → slice_index numbers i < c.block) → IsTail old slot numbers (left + 1) place tail
       → IsTail old slot numbers left place (c ∷ tail)
   entry_goes left place c tail inside is over merged = record {
-    sorted = sorted_cons c tail above merged.sorted;
+    sorted = AllPairs-cons (λ x. Above x.block) c tail above merged.sorted;
     over_entries = λ i less.
-        above_cons (block_at old i + 1) c tail (omega (arith, block, sorted i left less inside)) (merged.over_entries i (omega arith));
-    over_numbers = λ i less. above_cons (slice_index numbers i + 1) c tail (omega (arith, over i less)) (merged.over_numbers i less);
+        let up = sorted i left blank less inside in
+        All-cons (Above (block_at old i)) c tail (omega (arith, block, up)) (merged.over_entries i (omega arith));
+    over_numbers = λ i less.
+        All-cons (Above (slice_index numbers i)) c tail (omega (arith, over i less)) (merged.over_numbers i less);
     entered = λ k more less.
         let there = merged.entered k more less in
         let n = slice_index numbers k in
@@ -102,7 +106,7 @@ module _ {old : List Copied} {slot : ℕ} {numbers : List ℕ} (sorted : IsSorte
       block : c.block ≡ block_at old left
       block = ap (λ (x : Copied). x.block) is
 
-      above : IsAbove (c.block + 1) tail
+      above : All (Above c.block) tail
       above = rw block (merged.over_entries left (omega arith))
 
       split : drop left old ≡ c ∷ drop (left + 1) old
@@ -114,10 +118,10 @@ module _ {old : List Copied} {slot : ℕ} {numbers : List ℕ} (sorted : IsSorte
   number_goes was left place tail inside stays merged =
       let e = entry_of slot numbers place in
       record {
-        sorted = sorted_cons e tail (merged.over_numbers place (omega arith)) merged.sorted;
-        over_entries = λ i less. above_cons (block_at old i + 1) e tail (omega (arith, stays.below i less))
+        sorted = AllPairs-cons (λ x. Above x.block) e tail (merged.over_numbers place (omega arith)) merged.sorted;
+        over_entries = λ i less. All-cons (Above (block_at old i)) e tail (omega (arith, stays.below i less))
             (merged.over_entries i (omega (arith, less, stays.fewer)));
-        over_numbers = λ i less. above_cons (slice_index numbers i + 1) e tail
+        over_numbers = λ i less. All-cons (Above (slice_index numbers i)) e tail
             (omega (arith, rising i place less inside)) (merged.over_numbers i (omega arith));
         entered = λ k more less. elim (cases_eq k place) [
           | inl is ↦ rw is (here e tail (slice_index numbers place) refl)

@@ -2,7 +2,7 @@
 use Rattle.std.specs.Prelude.{◌≡◌, ◌≢◌, ℕ, ◌+◌, ◌%◌, ◌<◌, ◌≤◌, List, [], ◌∷◌, length, get_or}
 use Rattle.std.specs.Prelude.{Option, Some, None, MatchOption, if◌then◌else◌, ◌==◌, ◌^◌}
 use Rattle.std.specs.Prelude.{slice_index, Contains, All, Vec, take, vec_capacity}
-use Rattle.std.specs.List.{remove_range}
+use Rattle.std.specs.List.{AllPairs, remove_range}
 use Rattle.journal.specs.Sectors.{IsRising}
 use Rattle.redo_log.specs.declared.index.Copied.{Copied}
 
@@ -22,7 +22,7 @@ block_at index i = (get_or index i (record { block = 0; slot = 0; place = 0 })).
 
 -- the blocks rise
 abbrev pub IsSorted : List Copied → Type 0
-IsSorted index = (i j : ℕ) → i < j → j < length index → block_at index i < block_at index j
+IsSorted = AllPairs (λ c d. c.block < d.block)
 
 -- the block would go at place i: smaller ones before it, and greater ones from it on
 pub record IsGapFor (index : List Copied) (block i : ℕ) : Type 0 where
