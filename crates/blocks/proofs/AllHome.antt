@@ -8,8 +8,7 @@ use Rattle.spec.specs.Blocks.{Array}
 use Rattle.journal.specs.Record.{Entry, numbers_of, with_records, home_of}
 use Rattle.redo_log.specs.Value.{LogValue, Owes, retire_steps_of}
 use Rattle.journal.specs.Standing.{Keeps}
-use Rattle.redo_log.proofs.StoreFacts.{home_is, blocks_guarded}
-use Rattle.redo_log.proofs.Heads.{put_head}
+use Rattle.redo_log.proofs.StoreFacts.{home_is, blocks_guarded, put_head}
 use Rattle.cache.specs.Blocks.{over}
 use Rattle.cache.specs.Entries.{map_of}
 use Rattle.spec.specs.Book.{Book, array_of}

@@ -26,8 +26,7 @@ use Rattle.journal.specs.Formats.{layout_of}
 use Rattle.journal.proofs.BatchEntries.{length_of_batch}
 use Rattle.journal.proofs.Formats.{laws_of}
 use Rattle.redo_log.specs.Stages.{written_at}
-use Rattle.redo_log.proofs.RecordSteps.{due_or_not, steps_are, last_call, one_left}
-use Rattle.redo_log.proofs.RecordCalls.{flush_is, write_is}
+use Rattle.redo_log.proofs.RecordSteps.{due_or_not, steps_are, last_call, one_left, flush_is, write_is}
 
 -- whether a call of a record is a flush
 abbrev pub flushes_in : Call → ℕ

@@ -19,8 +19,8 @@ use Rattle.redo_log.specs.Stages.{IsSized, IsRecord}
 use Rattle.redo_log.specs.Held.{View, made_of, turned_of, needed_of, HasDurable, MayLeave, Stores, Guards, HoldsView}
 use Rattle.redo_log.specs.Steps.{LeavesLog}
 use Rattle.redo_log.proofs.RecordSteps.{steps_are, one_left}
-use Rattle.redo_log.proofs.Heads.{safe_stays, stands_front, logged_leaves, guard_leaves}
 use Rattle.redo_log.proofs.GuardedCalls.{Stands, stands_idle, logged_of}
+use Rattle.redo_log.proofs.GuardedCalls.{safe_stays, stands_front, logged_leaves, guard_leaves}
 use Rattle.redo_log.proofs.StoredLog.{Stores-stays}
 use Rattle.redo_log.proofs.LogRules.{IsLog}
 use Rattle.journal.specs.LayoutLaws.{IsRecordOf}

@@ -5,7 +5,6 @@ pub mod KeptFirsts
 pub mod NewestCopy
 pub mod GuardedCalls
 pub mod StoreFacts
-pub mod Heads
 pub mod RetireTurns
 pub mod SortedIndex
 pub mod MergedIndex
@@ -13,6 +12,5 @@ pub mod RingRecords
 pub mod CallsSent
 pub mod RecordTurns
 pub mod StoredLog
-pub mod RecordCalls
 pub mod LogRules
 pub mod HeldLog

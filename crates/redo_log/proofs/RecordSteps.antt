@@ -1,15 +1,113 @@
--- How many calls and turns a record takes, and how far it is after so many.
-use Rattle.std.proofs.Common.{◌≡◌, ◌≢◌, ◌⊎◌, inl, inr, ℕ, ◌+◌, ◌-◌, ◌<◌, ◌≤◌, refl, arith}
+-- The calls that write a record: what they write, how many they are, and how far it is after so many.
+use Rattle.std.proofs.Common.{◌≡◌, ◌≢◌, ◌⊎◌, inl, inr, ℕ, ◌+◌, ◌-◌, ◌<◌, ◌≤◌, refl, arith, ◌*◌, ◌/◌, ◌%◌, List, []}
+use Rattle.std.proofs.Common.{length, sym, ap, subst}
 use Rattle.std.proofs.lemmas.Bool.{cases_eq, cases_lt}
 use Rattle.journal.specs.declared.log_format.LogFormat.{LogFormat}
 use Rattle.journal.specs.declared.log_format.LogFormat.TheVariants.{One, Two}
-use Rattle.journal.specs.Places.{limit_of}
-use Rattle.journal.specs.Layout.{Layout}
+use Rattle.journal.specs.Places.{limit_of, Shape, first_data_of}
+use Rattle.journal.specs.Layout.{Layout, part_at}
 use Rattle.journal.specs.Formats.{layout_of}
 use Rattle.journal.proofs.Format1Laws.{below_is, above_is}
 use Rattle.redo_log.specs.Value.{steps_for, most_steps}
 use Rattle.redo_log.specs.Stages.{flush_of, written_at, flushed_at}
-use Rattle.redo_log.specs.Calls.{IsFlushDue}
+use Rattle.redo_log.specs.Calls.{IsFlushDue, Call, Write, Flush, placed, IsFlush, IsWriteOf, MakesCall}
+use Rattle.std.specs.Prelude.{slice_range, Result, Ok, Err, OnOk, OnErr}
+use Rattle.std.proofs.lemmas.Result.{on_ok_weaker}
+use Rattle.medium.specs.Medium.{State, Stays, Holds, Within, Gains, Only, Passes, IsSound}
+use Rattle.medium.specs.declared.fault.MediumFault.{MediumFault}
+use Rattle.medium.specs.declared.fault.MediumFault.TheVariants as fault
+use Rattle.medium.proofs.SparedSectors.{spared_write, spared_silent}
+use Rattle.journal.specs.Record.{Entry, block_of, entries_of}
+use Rattle.journal.proofs.BatchEntries.{length_of_batch, entry_of_batch}
+use Rattle.journal.proofs.Format1Laws as one
+use Rattle.journal.proofs.Format2Laws as two
+
+-- a flush, and a write of these bytes
+pub flush_is : (call : Call) → IsFlush call → call ≡ Flush
+flush_is (Write place bytes) is = absurd is
+flush_is Flush is = refl
+
+pub write_is : (place : ℕ) (bytes : List ℕ) (call : Call) → IsWriteOf place bytes call → call ≡ Write place bytes
+write_is place bytes (Write sector written) is = cc (is.0, is.1)
+write_is place bytes Flush is = absurd is
+
+-- a good write holds the bytes, and a refused one may
+pub either_way : {P Q : Type 0} (result : Result (Unit {0}) MediumFault) → OnOk result P → OnErr result (Q ⊎ P) → Q ⊎ P
+either_way (Ok done) ok err = inr ok
+either_way (Err fault) ok err = err
+
+-- a write, good or refused
+pub write_makes : (place : ℕ) (bytes written : List ℕ) (old new : State) (result : Result (Unit {0}) MediumFault) → IsSound old
+    → written ≡ bytes → OnOk result (Holds place written old.content new.content)
+    → OnErr result (Stays old.content new.content ⊎ Holds place written old.content new.content)
+    → Gains place written old.may_leave new.may_leave → Passes fault.Write result old new → MakesCall (Write place bytes) result old new
+write_makes place bytes written old new result sound same ok err sets passes =
+    subst (λ (b : List ℕ). MakesCall (Write place b) result old new) same (record {
+      done = ok;
+      adds = sets;
+      passes = passes;
+      spares = λ first below. spared_write first old new place written sound below passes sets (either_way result ok err);
+    })
+
+-- a flush, good or refused
+pub flush_makes : (old new : State) (result : Result (Unit {0}) MediumFault) → IsSound old → OnOk result (Only old.content new.may_leave)
+    → Stays old.content new.content → Within new.may_leave old.may_leave → Passes fault.Flush result old new
+    → MakesCall Flush result old new
+flush_makes old new result sound ok content sets passes = record {
+  done = on_ok_weaker result (λ only. (content, only)) ok;
+  adds = sets;
+  passes = passes;
+  spares = λ first below. spared_silent first old new sound passes content sets;
+}
+
+-- there is a commit behind the blocks
+pub parts_more : (format : LogFormat) (n : ℕ) → n + 1 ≤ (layout_of format).parts n
+parts_more One n = omega arith
+parts_more Two n = omega arith
+
+-- the data places stand behind the descriptors, and before the commit
+module _ (numbers bytes : List ℕ) (i p : ℕ) (below : i < length numbers) where
+  block_is : block_of (entries_of numbers bytes) i ≡ slice_range bytes (512 * i) (512 * i + 512)
+  block_is = ap (λ (e : Entry). e.1) (entry_of_batch i numbers bytes (0, []) below)
+
+  many : length (entries_of numbers bytes) ≡ length numbers
+  many = length_of_batch numbers bytes
+
+  pub data_offset : (format : LogFormat) → p + 1 + length numbers ≡ (layout_of format).parts (length numbers) + i
+      → (layout_of format).offset (length numbers) p ≡ first_data_of format + i
+  data_offset One is = omega (arith, is, one.offset_early (length numbers) p (omega (arith, is, below)))
+  data_offset Two is =
+      omega (arith, is, two.offset_place (length numbers) p (omega (arith, is)) (omega (arith, is, below)))
+
+  pub data_part : (format : LogFormat) (stamp : ℕ) → p + 1 + length numbers ≡ (layout_of format).parts (length numbers) + i
+      → placed format stamp (slice_range bytes (512 * i) (512 * i + 512)) ≡ (layout_of format).part stamp (entries_of numbers bytes) p
+  data_part One stamp is =
+      let i_is : p - 1 ≡ i = omega (arith, is) in
+      rw (one.part_place stamp (entries_of numbers bytes) p (omega (arith, is)) (omega (arith, is, below, many)), i_is) (sym block_is)
+  data_part Two stamp is =
+      let i_is : p - (length (entries_of numbers bytes) + 29) / 30 ≡ i = omega (arith, is, many) in
+      rw (
+        two.part_place stamp (entries_of numbers bytes) p (omega (arith, is, many)) (omega (arith, is, below, many)),
+        i_is,
+        block_is,
+      ) refl
+
+-- so the write of a block to its data place is that of the part
+pub block_makes : (shape : Shape) (stamp : ℕ) (numbers bytes : List ℕ) (i p slot place : ℕ) (old new : State)
+    (result : Result (Unit {0}) MediumFault) → i < length numbers
+    → p + 1 + length numbers ≡ (layout_of shape.format).parts (length numbers) + i → slot ≡ stamp % shape.slots
+    → place ≡ 2 + (layout_of shape.format).slot_sectors * slot + first_data_of shape.format + i
+    → MakesCall (Write place (placed shape.format stamp (slice_range bytes (512 * i) (512 * i + 512)))) result old new
+    → MakesCall
+    (Write (part_at (layout_of shape.format) shape stamp (length numbers) p)
+    ((layout_of shape.format).part stamp (entries_of numbers bytes) p))
+    result old new
+block_makes shape stamp numbers bytes i p slot place old new result below is slot_is at makes =
+    let L : Layout = layout_of shape.format in
+    let f : 2 + L.slot_sectors * slot ≡ 2 + L.slot_sectors * (stamp % shape.slots) = ap (λ (x : ℕ). 2 + L.slot_sectors * x) slot_is in
+    let place_is : place ≡ 2 + L.slot_sectors * (stamp % shape.slots) + L.offset (length numbers) p =
+    omega (arith, at, f, data_offset numbers bytes i p below shape.format is) in
+    rw (← place_is, ← data_part numbers bytes i p below shape.format stamp is) makes
 
 -- the early parts have a flush, where there are any
 pub flush_of_is : (e : ℕ) → ((e ≡ 0) × (flush_of e ≡ 0)) ⊎ ((0 < e) × (flush_of e ≡ 1))

@@ -32,11 +32,10 @@ use Rattle.redo_log.specs.Held.{View, view_retired, made_of, turned_of, needed_o
 use Rattle.redo_log.specs.Held.{HasHead, Guards, HoldsView}
 use Rattle.redo_log.proofs.OneSector.{moments_have}
 use Rattle.redo_log.proofs.RingRecords.{needed_one}
-use Rattle.redo_log.proofs.Heads.{hides_behind, records_before, newest, with_newest, same_head, stands_front}
-use Rattle.redo_log.proofs.Heads.{Logged-records}
-use Rattle.redo_log.proofs.Heads.{homed_here, guard_leaves, flush_guards}
 use Rattle.redo_log.proofs.StoredLog.{Stores-stays, home_stores, head_stores}
-use Rattle.redo_log.proofs.GuardedCalls.{Stands, stands_less, keeps_of, logged_of, home_safe, past_safe}
+use Rattle.redo_log.proofs.GuardedCalls.{Stands, stands_less, keeps_of, logged_of, home_safe, past_safe, hides_behind}
+use Rattle.redo_log.proofs.GuardedCalls.{records_before, newest, with_newest, same_head, stands_front, Logged-records}
+use Rattle.redo_log.proofs.GuardedCalls.{homed_here, guard_leaves, flush_guards}
 use Rattle.redo_log.proofs.KeptFirsts.{kept_is, retired_kept}
 use Rattle.redo_log.proofs.CallsSent.{copy_turn, flush_turn, head_turn}
 use Rattle.redo_log.proofs.LogRules.{IsLog, retired_of, one_waits, nothing_home, not_homed}

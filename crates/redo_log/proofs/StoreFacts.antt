@@ -24,14 +24,14 @@ use Rattle.redo_log.specs.Held.{View, resting_view, with_begun, made_of, turned_
 use Rattle.redo_log.specs.Held.{needed_of, MayLeave, Safe, stamps_of, HoldsView}
 use Rattle.redo_log.proofs.RecordSteps.{none_written, steps_some}
 use Rattle.redo_log.proofs.RingRecords.{needed_covered}
-use Rattle.redo_log.proofs.Heads.{with_newest, same_head, put_head, put_safe, Logged-records}
-use Rattle.redo_log.proofs.GuardedCalls.{begun_safe}
+use Rattle.redo_log.proofs.GuardedCalls.{begun_safe, with_newest, same_head, put_head, put_safe, Logged-records}
 use Rattle.redo_log.proofs.KeptFirsts.{none_kept, begun_kept}
 use Rattle.redo_log.proofs.StoredLog.{Stores-stays}
 use Rattle.redo_log.proofs.LogRules.{one_stamp}
 use Rattle.redo_log.proofs.HeldLog.{count, under_count, going_held, died_held}
 pub use Rattle.redo_log.proofs.HeldLog.{quiet_held}
 pub use Rattle.redo_log.proofs.NewestCopy.{home_is}
+pub use Rattle.redo_log.proofs.GuardedCalls.{put_head}
 
 -- a new log holds a medium whose blocks are at home and whose log is fresh
 pub idle_holds : (shape : Shape) (next : ℕ) (array : Array) (ours : Bool) (m : State) → IsSound m → sectors_of shape ≤ m.size

@@ -1,8 +1,7 @@
 -- What a call of a log answers, and what it leaves of its medium.
-use Rattle.std.specs.Prelude.{◌≡◌, ℕ, ◌+◌, ◌-◌, ◌*◌, ◌^◌, ◌<◌, ◌≤◌, ◌↔◌, Bool, true, false}
-use Rattle.std.specs.Prelude.{List, [], IsTrue}
-use Rattle.std.specs.Prelude.{if◌then◌else◌, Result, Ok, is_ok}
-use Rattle.std.specs.Prelude.{IsOk, IfOk, IfErr, OnOk, OnErr, MatchResult}
+use Rattle.std.specs.Prelude.{◌≡◌, ℕ, ◌+◌, ◌-◌, ◌*◌, ◌^◌, ◌<◌, ◌≤◌, ◌↔◌, Bool, true, false, List}
+use Rattle.std.specs.Prelude.{[], IsTrue, if◌then◌else◌, Result, Ok, is_ok, IsOk, IfOk, IfErr, OnOk}
+use Rattle.std.specs.Prelude.{OnErr, MatchResult}
 use Rattle.medium.specs.Medium.{State, LooksOnly}
 use Rattle.medium.specs.Moments.{EachCut, LeavesOnly, SparesFrom, IsQuiet}
 use Rattle.medium.specs.Sent.{SendsUpTo}

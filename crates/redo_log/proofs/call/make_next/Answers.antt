@@ -11,7 +11,7 @@ use Rattle.redo_log.specs.Stages.{written_at}
 use Rattle.redo_log.specs.Calls.{Write, Flush}
 use Rattle.redo_log.proofs.StoredLog.{before_home}
 use Rattle.redo_log.proofs.LogRules.{sizes_sized}
-use Rattle.redo_log.proofs.RecordCalls.{flush_makes}
+use Rattle.redo_log.proofs.RecordSteps.{flush_makes}
 use Rattle.redo_log.proofs.call.make_next.Goals as goal
 
 -- no flush is due, so some part is left

@@ -1,4 +1,4 @@
-use Rattle.redo_log.proofs.RecordCalls.{write_makes}
+use Rattle.redo_log.proofs.RecordSteps.{write_makes}
 use Rattle.redo_log.proofs.call.write_block.Goals as goal
 
 pub returns-in-Ok : goal.returns-in-Ok

@@ -7,7 +7,7 @@ use Rattle.journal.specs.Places.{first_home, sectors_of}
 use Rattle.redo_log.specs.Value.{LogValue, of_oldest}
 use Rattle.redo_log.specs.Held.{View, HoldsView}
 use Rattle.redo_log.proofs.OneSector.{one_write}
-use Rattle.redo_log.proofs.RecordCalls.{either_way}
+use Rattle.redo_log.proofs.RecordSteps.{either_way}
 use Rattle.redo_log.proofs.LogRules.{log_is}
 use Rattle.redo_log.proofs.HeldLog.{dead_held}
 use Rattle.redo_log.proofs.RetireTurns.{head_leaves, retired_held, ahead_held}
