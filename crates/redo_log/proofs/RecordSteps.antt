@@ -1,7 +1,7 @@
 -- The calls that write a record: what they write, how many they are, and how far it is after so many.
-use Rattle.std.proofs.Common.{◌≡◌, ◌≢◌, ◌⊎◌, inl, inr, ℕ, ◌+◌, ◌-◌, ◌<◌, ◌≤◌, refl, arith, ◌*◌, ◌/◌, ◌%◌, List, []}
+use Rattle.std.proofs.Common.{◌≡◌, ◌≢◌, ◌⊎◌, inr, ℕ, ◌+◌, ◌-◌, ◌<◌, ◌≤◌, refl, arith, ◌*◌, ◌/◌, ◌%◌, List, []}
 use Rattle.std.proofs.Common.{length, sym, ap, subst}
-use Rattle.std.proofs.lemmas.Bool.{cases_eq, cases_lt}
+use Rattle.std.proofs.lemmas.Bool.Decides.{nat_tests}
 use Rattle.journal.specs.declared.log_format.LogFormat.{LogFormat}
 use Rattle.journal.specs.declared.log_format.LogFormat.TheVariants.{One, Two}
 use Rattle.journal.specs.Places.{limit_of, Shape, first_data_of}
@@ -112,19 +112,13 @@ block_makes shape stamp numbers bytes i p slot place old new result below is slo
 -- the early parts have a flush, where there are any
 pub flush_of_is : (e : ℕ) → ((e ≡ 0) × (flush_of e ≡ 0)) ⊎ ((0 < e) × (flush_of e ≡ 1))
 unfolding flush_of
-flush_of_is e = elim (cases_lt 0 e) [
-  | inl some ↦ inr (some, rw (below_is 0 e some) refl)
-  | inr none ↦ inl (omega (arith, none), rw (above_is 0 e none) refl)
-]
+flush_of_is e = grind (arith, nat_tests)
 
 -- they come first, and then it
 pub written_is : (e made : ℕ) → ((made ≤ e) × (written_at e made ≡ made) × (flushed_at e made ≡ 0))
     ⊎ ((e < made) × (written_at e made ≡ made - flush_of e) × (flushed_at e made ≡ e))
 unfolding written_at flushed_at
-written_is e made = elim (cases_lt e made) [
-  | inl late ↦ inr (late, rw (below_is e made late) refl, rw (below_is e made late) refl)
-  | inr soon ↦ inl (soon, rw (above_is e made soon) refl, rw (above_is e made soon) refl)
-]
+written_is e made = grind (arith, nat_tests)
 
 -- the steps are a call for each part, a flush, and one for the early parts where there are any
 pub steps_are : (format : LogFormat) (n : ℕ) → steps_for format n ≡ (layout_of format).parts n + 1 + flush_of ((layout_of format).early n)
@@ -169,16 +163,7 @@ none_written e made none = (omega (arith, written_is e made, none), omega (arith
 
 -- a flush is due, or it is not
 pub due_or_not : (L : Layout) (n made : ℕ) → IsFlushDue L n made ⊎ (¬ IsFlushDue L n made)
-due_or_not L n made = elim (cases_lt (written_at (L.early n) made) (L.parts n)) [
-  | inr all ↦ inl (inr all)
-  | inl some ↦ elim (cases_eq made (L.early n)) [
-    | inr not ↦ inr (λ due. omega (arith, due, some, not))
-    | inl is ↦ elim (cases_lt 0 (L.early n)) [
-      | inl more ↦ inl (inl (more, is))
-      | inr none ↦ inr (λ due. omega (arith, due, some, none))
-    ]
-  ]
-]
+due_or_not L n made = grind arith
 
 -- the limit of steps
 pub few_steps_for : (format : LogFormat) (n : ℕ) → n ≤ limit_of format → steps_for format n ≤ most_steps format

@@ -2,36 +2,29 @@
 use Rattle.std.proofs.Common.{◌≡◌, ◌⊎◌, inl, inr, ℕ, zero, suc, ◌+◌, ◌-◌, ◌*◌, ◌%◌, ◌<◌, ◌≤◌, List, [], ◌∷◌, ◌++◌}
 use Rattle.std.proofs.Common.{length, drop, refl, sym, ◌∙◌, ap, arith, length-append, length-drop, ⊎_elim}
 use Rattle.std.proofs.Math.Nat.{mod-add-mod, add-mod_left, mod-eq_of_lt}
-use Rattle.std.proofs.lemmas.Bool.{cases_lt, cases_eq, eq-eqb, ne_eqb}
+use Rattle.std.proofs.lemmas.Bool.{cases_lt}
+use Rattle.std.proofs.lemmas.Bool.Decides.{nat_tests}
 use Rattle.std.proofs.lemmas.Nat.{mod_below}
 use Rattle.std.specs.Prelude.{All, Option, Some, None, sum_by, slice_index_or}
-use Rattle.std.proofs.lemmas.List.Elements.{All-append, All-drop}
+use Rattle.std.proofs.lemmas.List.Elements.{All-drop, All-push}
 use Rattle.std.proofs.lemmas.List.Sums.{sum_by-cons}
 use Rattle.arrayvec.specs.ArrayVec.{ArrayVec}
 use Rattle.journal.specs.Places.{Shape, limit_of}
 use Rattle.redo_log.specs.Value.{retire_steps_of, Ahead}
 use Rattle.redo_log.specs.Stages.{AreInside, IsOldest, IsRing, needed_at, IsAheadOf}
 use Rattle.redo_log.specs.Shown.{lists_of}
-use Rattle.journal.proofs.Format1Laws.{below_is, above_is}
 
 -- where one is needed, one is left, or two whose flush was made
 pub needed_one : (ahead : Ahead) (head behind left : ℕ) → needed_at ahead head behind left ≡ 1
     → (left ≡ 1) ⊎ ((left ≡ 2) × (ahead.home ≡ head) × (ahead.before < behind))
 needed_one ahead head behind zero e = absurd (omega (arith, e))
 needed_one ahead head behind (suc zero) e = inl refl
-needed_one ahead head behind (suc (suc zero)) e = elim (cases_eq ahead.home head) [
-  | inl same ↦ elim (cases_lt ahead.before behind) [
-    | inl since ↦ inr (refl, same, since)
-    | inr not ↦ absurd (omega (arith, rw (eq-eqb ahead.home head same, above_is ahead.before behind not) at e))
-  ]
-  | inr not ↦ absurd (omega (arith, rw (ne_eqb ahead.home head not) at e))
-]
+needed_one ahead head behind (suc (suc zero)) e = inr (refl, grind (arith, nat_tests), grind (arith, nat_tests))
 needed_one ahead head behind (suc (suc (suc left))) e = absurd (omega (arith, e))
 
 -- two are left, and the flush was made
 pub needed_covered : (ahead : Ahead) (head behind : ℕ) → ahead.home ≡ head → ahead.before < behind → needed_at ahead head behind 2 ≡ 1
-needed_covered ahead head behind same since =
-    rw (eq-eqb ahead.home head same, below_is ahead.before behind since) refl
+needed_covered ahead head behind same since = grind (arith, nat_tests)
 
 -- a record becomes durable
 pub ahead_durable : (ahead : Ahead) (head : ℕ) (waiting : List (List ℕ)) (turned : ℕ) (numbers : List ℕ)
@@ -59,15 +52,11 @@ oldest_more (n ∷ waiting) turned numbers is = is
 pub ring_durable : (shape : Shape) (waiting : List (List ℕ)) (turned : ℕ) (numbers : List ℕ) (made : ℕ)
     → IsRing shape waiting turned numbers (Some made) → IsRing shape (waiting ++ numbers ∷ []) turned [] None
 ring_durable shape waiting turned numbers made ring = record {
-  each = All-append (AreInside shape) waiting (numbers ∷ []) ring.each (one ring.record_under_way.0);
+  each = All-push (AreInside shape) waiting numbers ring.each ring.record_under_way.0;
   fits = omega (arith, ring.fits, length-append waiting (numbers ∷ []));
   oldest = oldest_more waiting turned numbers ring.oldest;
   record_under_way = refl;
 }
-  where
-    one : AreInside shape numbers → All (AreInside shape) (numbers ∷ [])
-    one is zero d below = is
-    one is (suc k) d below = absurd (omega arith)
 
 -- the oldest record is retired
 pub ring_retired : (shape : Shape) (waiting : List (List ℕ)) (turned : ℕ) (under_way : List ℕ) (made : Option ℕ)

@@ -6,11 +6,11 @@ use Rattle.std.specs.List.{filter}
 use Rattle.std.specs.List.Sorted.{IsSearchInRange, IsBinarySearchResult, IsNonDecreasingBy}
 use Rattle.std.specs.Ordering.{nat_cmp, ordering_index}
 use Rattle.std.proofs.lemmas.Cmp.{ranked}
-use Rattle.std.proofs.lemmas.Bool.{cases_eq, eq-eqb, ne_eqb}
+use Rattle.std.proofs.lemmas.Bool.{cases_eq, cases_lt, eq-eqb, ne_eqb}
 use Rattle.std.proofs.lemmas.Bool.Decides.{nat_tests}
 use Rattle.std.proofs.lemmas.List.Elements.{All-filter}
 use Rattle.redo_log.specs.declared.index.Copied.{Copied}
-use Rattle.redo_log.specs.Index.{look, outside, block_at, IsSorted, IsGapFor}
+use Rattle.redo_log.specs.Index.{look, outside, block_at, IsSorted}
 
 -- no entry
 abbrev pub blank : Copied
@@ -41,17 +41,19 @@ module _ (index : List Copied) (sorted : IsSorted index) (block : ℕ) where
       let rise : block_of i ≤ block_of j = grind (arith, sorted i j d, λ (same : i ≡ j). ap block_of same) in
       grind (arith, nat_tests)
 
-  -- a binary search ends at the block, or at the gap for it
+  -- a binary search ends at the block, or it is not found
   pub searched : (r : Result ℕ ℕ) → IsSearchInRange r (length index) → IsBinarySearchResult (λ c. nat_cmp c.block block) index r
-      → record { found : IfOk r (λ at. (at < length index) × (block_at index at ≡ block)); absent : IfErr r (IsGapFor index block) }
+      → record {
+        found : IfOk r (λ at. (at < length index) × (block_at index at ≡ block));
+        absent : IfErr r (λ _. look index block ≡ None);
+      }
   searched (Ok at) in_range equal = record { found = (in_range, ranked _ block _ (sym (equal blank))); absent = tt }
   searched (Err at) in_range parted = record {
     found = tt;
-    absent = record {
-      in_range = in_range;
-      smaller = λ j lt. ranked _ block _ (sym ((parted comparisons_rise).0 j blank (omega arith) lt));
-      greater = λ j le lt. ranked _ block _ (sym ((parted comparisons_rise).1 j blank le lt));
-    };
+    absent = look-absent index block (λ j lt same. elim (cases_lt j at) [
+      | inl before ↦ omega (arith, same, ranked _ block _ (sym ((parted comparisons_rise).0 j blank (omega arith) before)))
+      | inr behind ↦ omega (arith, same, ranked _ block _ (sym ((parted comparisons_rise).1 j blank behind lt)))
+    ]);
   }
 
 -- the block is found at its place
@@ -59,10 +61,6 @@ pub look_found : (index : List Copied) → IsSorted index → (at block : ℕ) �
     → look index block ≡ Some ((get_or index at blank).slot, (get_or index at blank).place)
 look_found index sorted at block below is =
     look-present index block at below is (λ j lt same. omega (arith, sorted j at blank lt below, is))
-
--- and not where there is a gap
-pub look_gap : (index : List Copied) (at block : ℕ) → IsGapFor index block at → look index block ≡ None
-look_gap index at block gap = look-absent index block (λ j lt same. grind (arith, gap.smaller j, gap.greater j))
 
 -- the entry's block is above this one
 abbrev pub Above : ℕ → Copied → Type 0

@@ -24,12 +24,6 @@ block_at index i = (get_or index i (record { block = 0; slot = 0; place = 0 })).
 abbrev pub IsSorted : List Copied → Type 0
 IsSorted = AllPairs (λ c d. c.block < d.block)
 
--- the block would go at place i: smaller ones before it, and greater ones from it on
-pub record IsGapFor (index : List Copied) (block i : ℕ) : Type 0 where
-  pub in_range : i ≤ length index
-  pub smaller : (j : ℕ) → j < i → block_at index j < block
-  pub greater : (j : ℕ) → i ≤ j → j < length index → block < block_at index j
-
 -- The copy is the newest one of a block: it stands in the record of this age, of which the first
 -- has this stamp, and no newer one has the block.
 pub record IsNewest (slots stamp : ℕ) (records : List (List ℕ)) (block : ℕ) (copy : ℕ × ℕ)

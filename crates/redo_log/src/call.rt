@@ -14,6 +14,7 @@ use journal::{
 use medium::{Medium, MediumFault};
 
 // How many parts of a record are written after so many calls. One of them may be the early flush.
+#[tactic(auto, unfolding(crate::specs::Stages::written_at, crate::specs::Stages::flush_of))]
 fn written_at(early: usize, made: usize) -> usize
     ensures { result ≡ written_at early made }
 {

@@ -1,9 +1,9 @@
 //! Where the newest logged copy of each block stands: entries that are sorted by block.
 ghost use Rattle.std.specs.Prelude.{◌≡◌, ◌+◌, ◌<◌, ◌≤◌, length, take, vec_capacity};
-ghost use Rattle.std.specs.Prelude.{IfOk, IfErr};
+ghost use Rattle.std.specs.Prelude.{IfOk, IfErr, None};
 ghost use Rattle.std.specs.List.{remove_range};
 ghost use Rattle.redo_log.specs.Index.{look, block_at};
-ghost use Rattle.redo_log.specs.Index.{IsSorted, IsGapFor, AreEntered, IsWidened, IsMerged};
+ghost use Rattle.redo_log.specs.Index.{IsSorted, AreEntered, IsWidened, IsMerged};
 ghost use Rattle.redo_log.specs.Index.{ComesToHave, IsEntered, IsDropped};
 
 /// The newest logged copy of a block, in 8 bytes: blocks are below 2^31, slots below 64 and
@@ -19,12 +19,13 @@ pub(crate) struct Copied {
 fn search(index: &[Copied], block: u64) -> Result<usize, usize>
     requires { IsSorted index.now }
     ensures found { IfOk result (λ at. (at < length index.now) × (block_at index.now at ≡ block)) }
-    ensures absent { IfErr result (IsGapFor index.now block) }
+    ensures absent { IfErr result (λ _. look index.now block ≡ None) }
 {
     index.binary_search_by_key(&block, |copied| copied.block as u64)
 }
 
 /// The slot and the place of a block's copy.
+#[tactic(auto, using(crate::proofs::SortedIndex::look_found))]
 pub(crate) fn newest(index: &[Copied], block: u64) -> Option<(u64, usize)>
     requires { IsSorted index.now }
     ensures { result ≡ look index.now block }
