@@ -14,8 +14,8 @@ use Rattle.journal.specs.Places.{first_home, sectors_of, Shape}
 use Rattle.journal.specs.Record.{numbers_of, Entry, entries_of}
 use Rattle.journal.specs.Formats.{layout_of}
 use Rattle.journal.proofs.Formats.{laws_of, most_is}
-use Rattle.redo_log.specs.Value.{LogValue, Ahead, steps_of, steps_for, died}
-use Rattle.redo_log.specs.Stages.{IsSized, IsRecord}
+use Rattle.redo_log.specs.Value.{LogValue, Ahead, of_oldest, steps_of, steps_for, died}
+use Rattle.redo_log.specs.Stages.{needed_at, IsSized, IsRecord}
 use Rattle.redo_log.specs.Held.{View, made_of, turned_of, needed_of, HasDurable, MayLeave, Stores, Guards, HoldsView}
 use Rattle.redo_log.specs.Steps.{LeavesLog}
 use Rattle.redo_log.proofs.RecordSteps.{steps_are, one_left}
@@ -56,6 +56,10 @@ pub record_batch : (shape : Shape) (stamp : ℕ) (numbers bytes : List ℕ) → 
 record_batch shape stamp numbers bytes sized rec size =
     record_entries shape stamp numbers (entries_of numbers bytes) sized rec (sym (numbers_of_batch numbers bytes))
     (sized_batch numbers bytes size)
+
+-- where one retire step is left of the oldest record it needs one
+pub needs_one : (log : LogValue) → of_oldest log ≡ 1 → needed_of log ≡ 1
+needs_one log one = ap (λ (l : ℕ). needed_at log.ahead log.head (log.head + length log.waiting) l) one
 
 -- the same records, with other counts
 abbrev pub going : LogValue → ℕ → ℕ → Ahead → Bool → LogValue

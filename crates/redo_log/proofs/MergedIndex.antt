@@ -1,9 +1,8 @@
 -- How an index and a record's rising block numbers merge, the greatest block first.
-use Rattle.std.proofs.Common.{◌≡◌, ◌≢◌, inl, inr, ℕ, zero, suc, ◌+◌, ◌-◌, ◌<◌, ◌≤◌, List, [], ◌∷◌, ◌++◌, length, get_or, take, drop, set}
+use Rattle.std.proofs.Common.{◌≡◌, ◌≢◌, ℕ, zero, suc, ◌+◌, ◌-◌, ◌<◌, ◌≤◌, List, [], ◌∷◌, ◌++◌, length, get_or, take, drop, set}
 use Rattle.std.proofs.Common.{Some, refl, sym, ◌∙◌, ap, append_assoc, arith}
 use Rattle.std.specs.Prelude.{slice_index, All}
 use Rattle.std.specs.List.{remove_range}
-use Rattle.std.proofs.lemmas.Bool.{cases_eq}
 use Rattle.std.proofs.lemmas.Bool.Decides.{nat_tests}
 use Rattle.std.proofs.lemmas.List.{drop-set, drop_more, get_or-set_other, length-set}
 use Rattle.std.proofs.lemmas.List.Elements.{All-cons}
@@ -23,12 +22,6 @@ pub record IsTail (old : List Copied) (slot : ℕ) (numbers : List ℕ) (left pl
   pub others : (b : ℕ) → ((k : ℕ) → place ≤ k → k < length numbers → slice_index numbers k ≢ b)
       → look tail b ≡ look (drop left old) b
 
-here : (c : Copied) (tail : List Copied) (b : ℕ) → c.block ≡ b → look (c ∷ tail) b ≡ Some (c.slot, c.place)
-here c tail b is = grind (arith, nat_tests, is)
-
-behind : (c : Copied) (tail : List Copied) (b : ℕ) → c.block ≢ b → look (c ∷ tail) b ≡ look tail b
-behind c tail b not = grind (arith, nat_tests, not)
-
 -- of `was` entries `left` are left where this block enters: they are below it, and only an older entry with it goes
 pub record IsLeft (old : List Copied) (block was left : ℕ) : Type 0 where
   pub fewer : left ≤ was
@@ -47,10 +40,7 @@ pub record IsMerging (old : List Copied) (slot : ℕ) (numbers : List ℕ) (left
 -- what is above the last of some that rise is above all
 below_last : (f : ℕ → ℕ) (n block : ℕ) → ((i j : ℕ) → i < j → j < n → f i < f j) → (0 < n → f (n - 1) < block) → (i : ℕ) → i < n
     → f i < block
-below_last f n block rises last i less = elim (cases_eq i (n - 1)) [
-  | inl same ↦ rw same (last (omega arith))
-  | inr not ↦ omega (arith, rises i (n - 1) (omega (arith, not)) (omega arith), last (omega arith))
-]
+below_last f n block rises last i less = grind (arith, rises i (n - 1))
 
 -- the entry of a number of the record
 abbrev pub entry_of : ℕ → List ℕ → ℕ → Copied
@@ -77,8 +67,7 @@ module _ (old : List Copied) (sorted : IsSorted old) (was left : ℕ) (index : L
       record {
         fewer = omega arith;
         below = λ i less. omega (arith, sorted i left blank less (omega arith), block_now);
-        gone = λ b not. rw (drop_more old left blank (omega arith), one_more)
-            (behind (get_or old left blank) (drop (left + 1) old) b (λ same. not (sym block_now ∙ same)));
+        gone = λ b not. rw (drop_more old left blank (omega arith), one_more) (grind (arith, nat_tests, not, block_now));
       }
 
 module _ {old : List Copied} {slot : ℕ} {numbers : List ℕ} (sorted : IsSorted old) (rising : IsRising numbers) where
@@ -96,11 +85,9 @@ module _ {old : List Copied} {slot : ℕ} {numbers : List ℕ} (sorted : IsSorte
     entered = λ k more less.
         let there = merged.entered k more less in
         let n = slice_index numbers k in
-        behind c tail n (λ same. cc (there, look_above tail n (rw same at above))) ∙ there;
-    others = λ b not. rw split (elim (cases_eq c.block b) [
-      | inl same ↦ here c tail b same ∙ sym (here c (drop (left + 1) old) b same)
-      | inr other ↦ behind c tail b other ∙ (merged.others b not ∙ sym (behind c (drop (left + 1) old) b other))
-    ]);
+        let not : c.block ≢ n = λ same. cc (there, look_above tail n (rw same at above)) in
+        grind (arith, nat_tests, not, there);
+    others = λ b not. rw split (grind (arith, nat_tests, merged.others b not));
   }
     where
       block : c.block ≡ block_at old left
@@ -123,17 +110,10 @@ module _ {old : List Copied} {slot : ℕ} {numbers : List ℕ} (sorted : IsSorte
             (merged.over_entries i (omega (arith, less, stays.fewer)));
         over_numbers = λ i less. All-cons (Above (slice_index numbers i)) e tail
             (omega (arith, rising i place less inside)) (merged.over_numbers i (omega arith));
-        entered = λ k more less. elim (cases_eq k place) [
-          | inl is ↦ rw is (here e tail (slice_index numbers place) refl)
-          | inr not ↦
-              let later : place < k = omega (arith, more, not) in
-              behind e tail (slice_index numbers k) (λ same. omega (arith, rising place k later less, same))
-              ∙ merged.entered k (omega arith) less
-        ];
+        entered = λ k more less. grind (arith, nat_tests, rising place k, merged.entered k);
         others = λ b not.
-            let here_not = not place (omega arith) inside in
-            behind e tail b here_not
-            ∙ (merged.others b (λ k more. not k (omega (arith, more))) ∙ sym (stays.gone b here_not));
+            let other = not place (omega arith) inside in
+            grind (arith, nat_tests, other, merged.others b (λ k more. not k (omega (arith, more))), stays.gone b other);
       }
 
   -- an entry goes to the end of the room

@@ -3,7 +3,7 @@ use Rattle.std.proofs.Common.{◌≡◌, ◌⊎◌, inl, inr, ⊎_elim, ℕ, ◌
 use Rattle.std.proofs.Common.{◌∙◌, ap, arith, length-append}
 use Rattle.std.specs.Prelude.{true, false, Result, OnOk}
 use Rattle.std.proofs.lemmas.Result.{on_ok_weaker}
-use Rattle.std.proofs.lemmas.Bool.{cases_eq, cases_lt}
+use Rattle.std.proofs.lemmas.Bool.{cases_lt}
 use Rattle.std.proofs.lemmas.List.{map-append, get_or_append_left}
 use Rattle.medium.specs.Medium.{State, IsSound}
 use Rattle.medium.specs.Moments.{EachCut, LeavesOnly}
@@ -20,7 +20,7 @@ use Rattle.journal.proofs.BatchEntries.{length_of_batch}
 use Rattle.redo_log.specs.declared.progress.Progress.{Progress}
 use Rattle.redo_log.specs.declared.progress.Progress.TheVariants.{More, Durable}
 use Rattle.redo_log.specs.Value.{LogValue, steps_of, steps_for, of_oldest, IsStepped}
-use Rattle.redo_log.specs.Stages.{needed_at, flush_of}
+use Rattle.redo_log.specs.Stages.{flush_of}
 use Rattle.redo_log.specs.Calls.{Call, Write, Flush, MayAdd, IsDone, MakesNext, IsFlushDue}
 use Rattle.redo_log.specs.Held.{View, with_record, view_stepped, written_of, flushed_of, made_of, turned_of, needed_of}
 use Rattle.redo_log.specs.Held.{HasDurable, MayLeave, HasHead, Guards, HoldsView, image_view}
@@ -33,7 +33,7 @@ use Rattle.redo_log.proofs.GuardedCalls.{early_safe, durable_safe}
 use Rattle.redo_log.proofs.StoredLog.{before_home, Stores-stays, part_stores, durable_stores}
 use Rattle.redo_log.proofs.KeptFirsts.{durable_kept}
 use Rattle.redo_log.proofs.LogRules.{IsLog, one_stamp, durable_of, durable_alone, durable_more}
-use Rattle.redo_log.proofs.HeldLog.{many, count, under_count, stands_then, goes_on, durable_whole, record_batch}
+use Rattle.redo_log.proofs.HeldLog.{needs_one, many, count, under_count, stands_then, goes_on, durable_whole, record_batch}
 
 module _ {log : LogValue} (is : IsLog log) (live : log.dead ≡ false) (some : 0 < log.steps_left) {old : State}
     (sound : IsSound old) {view : View}
@@ -81,19 +81,16 @@ module _ {log : LogValue} (is : IsLog log) (live : log.dead ≡ false) (some : 0
     -- ---- a flush of the early parts
     early_flushed : 1 < log.steps_left → IsFlushDue L n (made_of log) → new.size ≡ old.size → IsDone Flush old new
         → HoldsView more_log new view
-    early_flushed more due same_size wrote = ⊎_elim
-        (λ early.
+    early_flushed more due same_size wrote =
+        let few = not_last (L.early n) (L.parts n) late (made_of log) (omega (arith, more, all_steps, is.most_left)) in
+        let early : (0 < L.early n) × (made_of log ≡ L.early n) = grind (arith, due, few) in
         let after = early_written (L.early n) (L.parts n) late (made_of log) (made_of more_log) then_made early.0 early.1 in
         goes_on hv is (log.steps_left - 1) log.retire_steps_left log.ahead new (omega arith) same_size live
         (Stores-stays (hv.stores live) (log.steps_left - 1) (made_of more_log) (turned_of log) new.content wrote.0 (λ _. some)
         (omega (arith, after.0)) (λ i low high. low))
         (λ ours.
         let g = hv.guards live ours in flush_guards wrote.0 wrote.1
-        (early_safe stands some (hv.stores live) g.here (omega (arith, more)) after.0 after.1)
-        (homed_here sound g)))
-        (λ (all : L.parts n ≤ k).
-        absurd (omega (arith, all, not_last (L.early n) (L.parts n) late (made_of log) (omega (arith, more, all_steps, is.most_left)))))
-        due
+        (early_safe stands some (hv.stores live) g.here (omega (arith, more)) after.0 after.1) (homed_here sound g))
 
     -- ---- a flush of all parts: the record is durable
     all_flushed : log.steps_left ≡ 1 → L.parts n ≤ k → new.size ≡ old.size → IsDone Flush old new
@@ -107,26 +104,17 @@ module _ {log : LogValue} (is : IsLog log) (live : log.dead ≡ false) (some : 0
         let made : ℕ = made_of (durable_of log) in
         let turned : ℕ = turned_of (durable_of log) in
         let one_less : needed_of (durable_of log) ≡ 1
-        → (0 < length view.records) × ((needed_of log ≡ 1) ⊎ (length (get_or view.records 0 []) ≤ turned_of log)) =
-        λ one.
+        → (0 < length view.records) × ((of_oldest log ≡ 1) ⊎ (length (get_or view.records 0 []) ≤ turned_of log)) = λ one.
         let few_left = needed_one log.ahead log.head (log.head + length (log.waiting ++ log.under_way ∷ []))
         (of_oldest (durable_of log)) one in
-        elim (cases_eq (length view.records) 0) [
-          | inl none ↦ absurd (omega (arith, few_left, (alone none).0))
-          | inr more ↦
-              let w : 0 < length view.records = omega (arith, more) in (
-                w,
-                ⊎_elim (λ e. inl (ap (λ (l : ℕ). needed_at log.ahead log.head (log.head + length log.waiting) l) (sym (waits w).0 ∙ e)))
-                    (λ e. inr (omega (arith, e.0, (waits w).0, count hv 0))) few_left,
-              )
-        ] in
+        grind (arith, few_left, alone, waits, count hv 0) in
         let guards : view.ours ≡ true
         → Guards log.shape log.head (with_record view) 0 made (needed_of (durable_of log)) new = λ ours.
         let g = hv.guards live ours in
         flush_guards wrote.0 wrote.1 (durable_safe stands some (hv.stores live) g.here all) (λ is.
         let was = one_less is in
         rw (get_or_append_left view.records (view.under_way ∷ []) [] 0 was.0) (⊎_elim
-        (homed_here sound g)
+        (λ one. homed_here sound g (needs_one log one))
         (λ (home : length (get_or view.records 0 []) ≤ turned_of log) i inside.
         (hv.stores live).copied i (omega (arith, inside, home)) inside)
         was.1)) in
@@ -153,7 +141,7 @@ module _ {log : LogValue} (is : IsLog log) (live : log.dead ≡ false) (some : 0
         (other_count : length other ≡ length view.under_way)
         (not : ¬ IsFlushDue (layout_of log.shape.format) (length view.under_way) (made_of log)) where
       small : k < L.parts n
-      small = ⊎_elim (λ (less : k < L.parts n). less) (λ (all : L.parts n ≤ k). absurd (not (inr all))) (cases_lt k (L.parts n))
+      small = grind (arith, not)
 
       abbrev place : ℕ
       place = part_at L log.shape stamp n k
@@ -166,8 +154,7 @@ module _ {log : LogValue} (is : IsLog log) (live : log.dead ≡ false) (some : 0
 
       after : (next : ℕ) → next ≡ made_of log + 1 → (written_of log.shape view next ≡ k + 1)
           × (flushed_of log.shape view next ≡ flushed_of log.shape view (made_of log))
-      after next one = part_written (L.early n) (L.parts n) late (made_of log) next one (⊎_elim
-          (λ (some : 0 < L.early n). inr (λ is. not (inl (some, is)))) inl (cases_lt 0 (L.early n)))
+      after next one = part_written (L.early n) (L.parts n) late (made_of log) next one (grind (arith, not))
 
       -- with the last part in it the record has this one's
       part_each : bytes ≡ L.part stamp view.under_way k → MayAdd (Write place bytes) old new → view.ours ≡ true

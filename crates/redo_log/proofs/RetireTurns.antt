@@ -24,7 +24,6 @@ use Rattle.journal.proofs.RetiredRecord.{IsWholeIn-same}
 use Rattle.redo_log.specs.declared.turn.Turn.{Turn}
 use Rattle.redo_log.specs.declared.turn.Turn.TheVariants.{Copy, Flush, Head}
 use Rattle.redo_log.specs.Value.{LogValue, Ahead, IsSentHome, IsRetireStepped, of_oldest, ahead_of}
-use Rattle.redo_log.specs.Stages.{needed_at}
 use Rattle.redo_log.specs.Firsts.{first_kept}
 use Rattle.redo_log.specs.Calls.{gaining, WritesOnly}
 use Rattle.redo_log.specs.Turns.{head_bytes, MayTurn, IsTurned, IsNextTurn}
@@ -39,7 +38,7 @@ use Rattle.redo_log.proofs.GuardedCalls.{homed_here, guard_leaves, flush_guards}
 use Rattle.redo_log.proofs.KeptFirsts.{kept_is, retired_kept}
 use Rattle.redo_log.proofs.CallsSent.{copy_turn, flush_turn, head_turn}
 use Rattle.redo_log.proofs.LogRules.{IsLog, retired_of, one_waits, nothing_home, not_homed}
-use Rattle.redo_log.proofs.HeldLog.{many, named, count, stands_then, goes_on, count_of}
+use Rattle.redo_log.proofs.HeldLog.{needs_one, many, named, count, stands_then, goes_on, count_of}
 
 -- the bytes that a head turn writes are those of the new head
 new_head : (h : HeadOf) (next : ℕ) → h.stamp ≡ next → IsHead next (head_bytes h.stamp)
@@ -60,10 +59,6 @@ module _ {log : LogValue} (is : IsLog log) (live : log.dead ≡ false) (owed : 0
 
   stands : Stands log.shape log.head view log.steps_left (made_of log)
   stands = stands_then hv is log.steps_left (omega arith)
-
-  -- what it needs where so many retire steps are left of it
-  needs_one : of_oldest log ≡ 1 → needed_of log ≡ 1
-  needs_one one = ap (λ (l : ℕ). needed_at log.ahead log.head (log.head + length log.waiting) l) one
 
   -- ---- a turn that brings the next block home
   module _ (below : 2 < of_oldest log) (from : ℕ) (begins : Option (List ℕ)) (new : State)
@@ -135,12 +130,12 @@ module _ {log : LogValue} (is : IsLog log) (live : log.dead ≡ false) (owed : 0
         × IsHomed (image_view log.shape log.head view) image) old
     one_now ours image cut =
         let g = (hv.guards live ours).each image cut in
-        let f = g.flushed (needs_one one) in (newest g f.0, f.1)
+        let f = g.flushed (needs_one log one) in (newest g f.0, f.1)
 
     past_now : view.ours ≡ true → Holds 1 (head_bytes h.stamp) old.content new.content
         → Safe log.shape (log.head + 1) (view_retired 1 view) log.steps_left (made_of log) new.content
     past_now ours wrote =
-        let g = hv.guards live ours in past_safe stands g.here waits head_now (homed_here sound g (needs_one one)) wrote
+        let g = hv.guards live ours in past_safe stands g.here waits head_now (homed_here sound g (needs_one log one)) wrote
 
     stands_past : Stands log.shape (log.head + 1) (view_retired 1 view) log.steps_left (made_of log)
     stands_past = stands_less stands waits

@@ -1,12 +1,12 @@
 -- What a search finds among entries that are sorted by block, and what is left of them without a slot.
 use Rattle.std.proofs.Common.{◌≡◌, ◌≢◌, inl, inr, ℕ, zero, suc, ◌<◌, ◌≤◌, List, [], ◌∷◌, length, get_or, if◌then◌else◌, Some}
-use Rattle.std.proofs.Common.{None, Result, Ok, Err, IfOk, IfErr, refl, sym, ◌∙◌, ap, arith}
+use Rattle.std.proofs.Common.{None, Result, Ok, Err, IfOk, IfErr, refl, sym, ap, arith}
 use Rattle.std.specs.Prelude.{◌==◌, Bool, true, false, All}
 use Rattle.std.specs.List.{filter}
 use Rattle.std.specs.List.Sorted.{IsSearchInRange, IsBinarySearchResult, IsNonDecreasingBy}
 use Rattle.std.specs.Ordering.{nat_cmp, ordering_index}
 use Rattle.std.proofs.lemmas.Cmp.{ranked}
-use Rattle.std.proofs.lemmas.Bool.{cases_eq, cases_lt, eq-eqb, ne_eqb}
+use Rattle.std.proofs.lemmas.Bool.{cases_lt}
 use Rattle.std.proofs.lemmas.Bool.Decides.{nat_tests}
 use Rattle.std.proofs.lemmas.List.Elements.{All-filter}
 use Rattle.redo_log.specs.declared.index.Copied.{Copied}
@@ -51,7 +51,7 @@ module _ (index : List Copied) (sorted : IsSorted index) (block : ℕ) where
   searched (Err at) in_range parted = record {
     found = tt;
     absent = look-absent index block (λ j lt same. elim (cases_lt j at) [
-      | inl before ↦ omega (arith, same, ranked _ block _ (sym ((parted comparisons_rise).0 j blank (omega arith) before)))
+      | inl less ↦ omega (arith, same, ranked _ block _ (sym ((parted comparisons_rise).0 j blank (omega arith) less)))
       | inr behind ↦ omega (arith, same, ranked _ block _ (sym ((parted comparisons_rise).1 j blank behind lt)))
     ]);
   }
@@ -82,12 +82,5 @@ look_filter slot (c ∷ index) sorted b =
     let rest = look_filter slot index (λ i j d less below. sorted (suc i) (suc j) d (omega arith) (omega arith)) b in
     let above = All-filter (is_outside slot) (Above c.block) index
     (λ i d below. sorted 0 (suc i) d (omega arith) (omega arith)) in
-    elim (cases_eq c.slot slot) [
-      | inr there ↦ rw (ne_eqb c.slot slot there) (grind (arith, nat_tests, there, rest))
-      | inl here ↦ rw (eq-eqb c.slot slot here) (elim (cases_eq c.block b) [
-        | inl same ↦
-            look_above (filter (is_outside slot) index) b (rw same at above)
-            ∙ grind (arith, nat_tests, same, here)
-        | inr not ↦ rest ∙ grind (arith, nat_tests, not)
-      ])
-    ]
+    let none = λ (same : c.block ≡ b). look_above (filter (is_outside slot) index) b (rw same at above) in
+    grind (arith, nat_tests, rest, none)

@@ -1,6 +1,5 @@
-use Rattle.std.proofs.Common.{◌≡◌, inr, ⊎_elim, ℕ, ◌<◌, ◌≤◌, length, refl, ◌∙◌, ap, arith}
+use Rattle.std.proofs.Common.{◌≡◌, inr, ℕ, ◌<◌, ◌≤◌, length, refl, ◌∙◌, ap, arith}
 use Rattle.std.specs.Prelude.{Bool, false, IsTrue}
-use Rattle.std.proofs.lemmas.Bool.{cases_lt}
 use Rattle.journal.specs.Values.{shape_of}
 use Rattle.journal.specs.Record.{entries_of}
 use Rattle.journal.specs.Layout.{part_at}
@@ -16,8 +15,7 @@ use Rattle.redo_log.proofs.call.make_next.Goals as goal
 
 -- no flush is due, so some part is left
 some_left : (due : Bool) (written parts : ℕ) → due ≡ false → (parts ≤ written → IsTrue due) → written < parts
-some_left due written parts not said = ⊎_elim (λ (less : written < parts). less)
-    (λ (past : parts ≤ written). absurd (cc (not, said past))) (cases_lt written parts)
+some_left due written parts not said = grind (arith, said)
 
 pub write_part-requires-clause-inside : goal.write_part-requires-clause-inside
 write_part-requires-clause-inside g c = omega (

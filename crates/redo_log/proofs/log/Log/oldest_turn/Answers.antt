@@ -16,8 +16,7 @@ next_turn-requires-clause-record c =
 pub returns-clause-next : goal.returns-clause-next
 returns-clause-next c =
     let i = c.self.inside in
-    let some : 0 < length i.waiting.items = search rules in
-    next_of i c.self.view_is c.in-Some.oldest.now some c.in-Some.ensures.lookup c.requires c.next_turn.result
+    next_of i c.self.view_is c.in-Some.oldest.now (search rules) c.in-Some.ensures.lookup c.requires c.next_turn.result
     (rw c.as_slice-numbers.ensures.value at c.next_turn.ensures)
 
 pub returns-clause-fields : goal.returns-clause-fields
