@@ -1,6 +1,6 @@
 -- What guards a log against a cut: the images that are safe after each call of a record's life, by whichever head.
 use Rattle.std.proofs.Common.{◌≡◌, ◌⊎◌, inl, inr, ⊎_elim, ℕ, ◌+◌, ◌<◌, ◌≤◌, List, [], ◌∷◌, ◌++◌, length, arith}
-use Rattle.std.proofs.Common.{length-drop, zero, suc, get_or, refl, ap, length-append, append_assoc, add-zero}
+use Rattle.std.proofs.Common.{rules, length-drop, zero, suc, get_or, refl, ap, length-append, append_assoc, add-zero}
 use Rattle.std.proofs.lemmas.Bool.{cases_lt, cases_eq}
 use Rattle.medium.specs.Medium.{Image, Holds, State, CutLeaves, Stays, Only, IsSound}
 use Rattle.journal.specs.Places.{Shape, first_home, sectors_of}
@@ -43,12 +43,7 @@ IsLogged shape head view steps image = Logged shape head view.records view.array
 -- they do where none is under way
 pub stands_idle : {shape : Shape} {head : ℕ} {view : View} {made : ℕ} → IsSized shape
     → length view.records ≤ shape.slots → Stands shape head view 0 made
-stands_idle sized few = record {
-  sized = sized;
-  slots = λ none. absurd (omega (arith, none));
-  few = few;
-  short = λ _. omega arith;
-}
+stands_idle sized few = search (rules, arith)
 
 -- in a safe image the durable records and the blocks at home make the array
 pub keeps_of : {shape : Shape} {head : ℕ} {view : View} {steps made : ℕ} {image : Image}

@@ -1,6 +1,6 @@
 -- What is true of every log, as a caller sees it, whatever its fields are.
 use Rattle.std.proofs.Common.{◌≡◌, ◌≢◌, ℕ, suc, ◌+◌, ◌-◌, ◌*◌, ◌<◌, ◌≤◌, List, [], ◌∷◌, ◌++◌, length, get_or, drop}
-use Rattle.std.proofs.Common.{refl, sym, ◌∙◌, ap, subst, arith}
+use Rattle.std.proofs.Common.{refl, sym, ◌∙◌, ap, subst, arith, rules}
 use Rattle.std.specs.Prelude.{All, Bool, Option, Some, None, Result, sum_by, slice_index_or}
 use Rattle.std.proofs.Math.Nat.{mul-le-mul_left}
 use Rattle.std.proofs.lemmas.List.{length-map}
@@ -89,23 +89,12 @@ module _ (i : Inside) {log : LogValue} (is : shown i ≡ log) where
   log_is inv =
       let under_way = under (shape_of i.sizes) i.under_way.items i.made inv.ring.record_under_way in
       let at = oldest (lists_of i.waiting.items) i.turned inv.ring.oldest in
-      rw (← is) (record {
-        sized = sizes_sized i.sizes;
-        record_is = λ some. record {
-          least = omega (arith, inv.least);
-          most = omega (arith, inv.most, many_lists i.waiting.items, (under_way.1 some).1);
-          numbers_are = (under_way.1 some).0;
-        };
-        room = λ some. omega (arith, inv.ring.fits, (under_way.1 some).1);
-        most_left = under_way.0;
-        each = inv.ring.each;
-        taken = omega arith;
-        alone = λ none. omega (arith, at.0 none);
-        owed = λ some. omega (arith, at.1 some);
-        owed_most = omega (arith, at.2);
-        past = omega (arith, inv.ahead_is);
-        away = λ more same. omega (arith, more, same, inv.ahead_is, at.2);
-      })
+      let sized = sizes_sized i.sizes in
+      let many = many_lists i.waiting.items in
+      let record_is : 0 < (shown i).steps_left
+      → IsRecord (shown i).shape (i.head + length (shown i).waiting) i.under_way.items =
+      λ some. let begun = under_way.1 some in search (rules, arith) in
+      rw (← is) (search (rules, arith))
 
   -- a record stands in front
   module _ (first : ArrayVec ℕ) (some : 0 < length i.waiting.items) (there : first ≡ slice_index_or i.waiting.items 0 first) where

@@ -1,6 +1,6 @@
 -- Each turn that retires the oldest durable record: what the log and its medium hold after it.
 use Rattle.std.proofs.Common.{◌≡◌, ◌≢◌, ◌⊎◌, inl, inr, ℕ, ◌+◌, ◌-◌, ◌<◌, ◌≤◌, List, [], ◌∷◌, length, get_or, drop, refl, ◌∙◌}
-use Rattle.std.proofs.Common.{ap, subst, arith, length-drop, add-zero}
+use Rattle.std.proofs.Common.{ap, subst, arith, rules, length-drop, add-zero}
 use Rattle.std.specs.Prelude.{true, false, map, Option, slice_index}
 use Rattle.std.proofs.lemmas.Bool.{cases_eq, cases_lt}
 use Rattle.std.proofs.lemmas.List.{drop-map}
@@ -175,20 +175,13 @@ module _ {log : LogValue} (is : IsLog log) (live : log.dead ≡ false) (owed : 0
         let durable : drop 1 log.waiting ≡ map f (drop 1 view.records) = rw hv.durable (drop-map f 1 view.records) in
         let second : length (get_or (drop 1 log.waiting) 0 []) ≡ length (get_or (drop 1 view.records) 0 []) =
         count_of _ _ (rw durable (get_or-map f (drop 1 view.records) 0 [])) in
-        record {
-          fits = fits;
-          durable = durable;
-          under_way = hv.under_way;
-          next = omega (arith, hv.next, fewer, waits);
-          few = omega (arith, hv.few, fewer);
-          sized = hv.sized;
-          firsts = retired_kept log.shape.format view.records view.under_way log.firsts hv.firsts waits;
-          leaves = λ ours image cut. guard_leaves (retired_of log) fits stands_past ((guards ours).each image cut);
-          stores = λ _. head_stores (hv.stores live) is.sized new.content (head_bytes h.stamp)
-              (turned_of (retired_of log)) waits (omega (arith, one, count hv 0))
-              (λ i low high. nothing_home log i low (omega (arith, high, second))) wrote;
-          guards = λ _. guards;
-        }
+        let firsts = retired_kept log.shape.format view.records view.under_way log.firsts hv.firsts waits in
+        let leaves : view.ours ≡ true → EachCut (MayLeave new.size (retired_of log) (view_retired 1 view)) new =
+        λ ours image cut. guard_leaves (retired_of log) fits stands_past ((guards ours).each image cut) in
+        let stores = head_stores (hv.stores live) is.sized new.content (head_bytes h.stamp)
+        (turned_of (retired_of log)) waits (omega (arith, one, count hv 0))
+        (λ i low high. nothing_home log i low (omega (arith, high, second))) wrote in
+        search (rules, arith)
 
     -- nothing of the next one is flushed at home yet
     needs_more : needed_of (retired_of log) ≢ 1

@@ -30,27 +30,15 @@ invariant_of-self-2 c =
     let ring = ring_durable (shape_of i.sizes) (lists_of i.waiting.items) i.turned i.under_way.items c.in-Some.made
     (rw c.in-Some.is at c.self.invariant.ring) in
     let enters = rw (numbers, c.slot_of.ensures, stamp) at c.enter_record.ensures.enters in
-    record {
-      least = c.self.invariant.least;
-      most = omega (
-        arith,
-        c.self.invariant.most,
-        one,
-        many_lists i.waiting.items,
-        many_lists c.push_back_reserved.new.self.items,
-        ap (λ (l : List (List ℕ)). length l) waiting,
-        length-append (lists_of i.waiting.items) (i.under_way.items ∷ []),
-      );
-      room = omega (arith, c.self.invariant.room, c.push_back_reserved.ensures.capacity);
-      firsts_room = c.self.invariant.firsts_room;
-      firsts_few = omega (arith, c.self.invariant.firsts_few, one, c.push_back_reserved.ensures.len);
-      index_room = omega (arith, c.self.invariant.index_room, c.enter_record.ensures.capacity);
-      index_is = rw waiting (index_more i.sizes.slots i.head (lists_of i.waiting.items) i.under_way.items i.index.items
-          c.enter_record.new.index.items c.self.invariant.index_is enters);
-      ring = rw (c.take.ensures.after, waiting) ring;
-      ahead_is = rw waiting
-          (ahead_durable (ahead_in i) i.head (lists_of i.waiting.items) i.turned i.under_way.items c.self.invariant.ahead_is);
-    }
+    let longer = length-append (lists_of i.waiting.items) (i.under_way.items ∷ []) in
+    let many = many_lists i.waiting.items in
+    let more = many_lists c.push_back_reserved.new.self.items in
+    let index = rw (← waiting) at (index_more i.sizes.slots i.head (lists_of i.waiting.items) i.under_way.items i.index.items
+    c.enter_record.new.index.items c.self.invariant.index_is enters) in
+    let ring_now = rw (← waiting, ← c.take.ensures.after) at ring in
+    let ahead = rw (← waiting) at
+    (ahead_durable (ahead_in i) i.head (lists_of i.waiting.items) i.turned i.under_way.items c.self.invariant.ahead_is) in
+    search (rules, arith)
 
 pub enter_record-requires-clause-numbers : goal.enter_record-requires-clause-numbers
 enter_record-requires-clause-numbers c =

@@ -1,4 +1,4 @@
-use Rattle.std.proofs.Common.{◌≡◌, ℕ, ◌+◌, ◌-◌, ◌<◌, List, length, drop, sym, ◌∙◌, ap, arith, length-drop}
+use Rattle.std.proofs.Common.{◌≡◌, ℕ, ◌+◌, ◌<◌, List, length, drop, sym, ◌∙◌, ap, arith, rules, length-drop}
 use Rattle.std.specs.Prelude.{map}
 use Rattle.std.proofs.lemmas.List.{drop-map}
 use Rattle.arrayvec.specs.ArrayVec.{ArrayVec}
@@ -24,29 +24,17 @@ invariant_of-self c =
     let is = log_is i c.self.view_is c.self.invariant in
     let some : 0 < length waiting =
     omega (arith, one_waits is (omega (arith, c.requires)), ap (λ (v : LogValue). length v.waiting) c.self.view_is) in
-    let fewer : length c.pop_front.new.self.items ≡ length i.waiting.items - 1 =
-    ap (λ (l : List (ArrayVec ℕ)). length l) c.pop_front.ensures.rest ∙ length-drop 1 i.waiting.items in
-    record {
-      least = omega arith;
-      most = omega (arith, c.self.invariant.most, fewer, some, many_lists i.waiting.items);
-      room = omega (arith, c.self.invariant.room, c.pop_front.ensures.capacity);
-      firsts_room = λ two. omega (arith, c.self.invariant.firsts_room two, c.pop_front-2.ensures.capacity);
-      firsts_few = omega (
-        arith,
-        c.self.invariant.firsts_few,
-        fewer,
-        some,
-        many_lists i.waiting.items,
-        ap (λ (l : List (ArrayVec (List ℕ))). length l) c.pop_front-2.ensures.rest,
-        length-drop 1 i.firsts.items,
-      );
-      index_room = omega (arith, c.self.invariant.index_room, c.drop_slot.ensures.capacity);
-      index_is = rw less (index_fewer i.sizes.slots i.head waiting i.index.items c.drop_slot.new.index.items c.self.invariant.index_is some
-          (omega (arith, c.self.invariant.ring.fits)) c.drop_slot.ensures.sorted
-          (λ b. c.drop_slot.ensures.looks b ∙ ap (λ (n : ℕ). outside n (look i.index.items b)) c.slot_of.ensures));
-      ring = rw less (ring_retired (shape_of i.sizes) waiting i.turned i.under_way.items i.made c.self.invariant.ring);
-      ahead_is = ahead_retired (ahead_in i) i.head waiting (lists_of c.pop_front.new.self.items) i.turned 0 c.self.invariant.ahead_is;
-    }
+    let many = many_lists i.waiting.items in
+    let fewer = ap (λ (l : List (ArrayVec ℕ)). length l) c.pop_front.ensures.rest ∙ length-drop 1 i.waiting.items in
+    let firsts = ap (λ (l : List (ArrayVec (List ℕ))). length l) c.pop_front-2.ensures.rest ∙ length-drop 1 i.firsts.items in
+    let index = rw (← less) at (index_fewer i.sizes.slots i.head waiting i.index.items c.drop_slot.new.index.items
+    c.self.invariant.index_is some (omega (arith, c.self.invariant.ring.fits)) c.drop_slot.ensures.sorted
+    (λ b. c.drop_slot.ensures.looks b ∙ ap (λ (n : ℕ). outside n (look i.index.items b)) c.slot_of.ensures)) in
+    let ring = rw (← less) at
+    (ring_retired (shape_of i.sizes) waiting i.turned i.under_way.items i.made c.self.invariant.ring) in
+    let ahead =
+    ahead_retired (ahead_in i) i.head waiting (lists_of c.pop_front.new.self.items) i.turned 0 c.self.invariant.ahead_is in
+    search (rules, arith)
 
 pub returns : goal.returns
 returns c =
