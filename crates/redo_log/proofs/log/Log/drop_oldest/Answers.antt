@@ -39,19 +39,14 @@ invariant_of-self c =
 pub returns : goal.returns
 returns c =
     let i = c.self.inside in
-    let log = c.args.self.now in
     let waiting = lists_of i.waiting.items in
     let some = one_waits (log_is i c.self.view_is c.self.invariant) (omega (arith, c.requires)) in
     let is = retired_value (ahead_in i) (shape_of i.sizes) i.head waiting i.turned (kept_in i) i.under_way.items i.made i.dead
     c.self.invariant.ring.each (omega (arith, some, ap (λ (v : LogValue). length v.waiting) c.self.view_is))
-    ∙ ap (λ (v : LogValue). retired_of v) c.self.view_is in (
-      ap (λ (v : LogValue). v.head + 1) c.self.view_is,
-      record {
-        some = omega (arith, c.requires);
-        more = λ more. absurd (omega (arith, c.requires, more));
-        last = λ _. rw (
-          lists_less i.waiting.items c.pop_front.new.self.items c.pop_front.ensures.rest,
-          lists_less i.firsts.items c.pop_front-2.new.self.items c.pop_front-2.ensures.rest,
-        ) is;
-      },
-    )
+    ∙ ap (λ (v : LogValue). retired_of v) c.self.view_is in
+    let last = rw (
+      ← lists_less i.waiting.items c.pop_front.new.self.items c.pop_front.ensures.rest,
+      ← lists_less i.firsts.items c.pop_front-2.new.self.items c.pop_front-2.ensures.rest,
+    ) at is in
+    let head = ap (λ (v : LogValue). v.head + 1) c.self.view_is in
+    search (rules, arith)
