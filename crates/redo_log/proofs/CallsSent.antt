@@ -107,7 +107,7 @@ head_turn stamp (Copy from to first) is = absurd is
 head_turn stamp Flush is = absurd is
 head_turn stamp (Head h) is = (h, refl, is)
 
--- as many as the next retire step, of which so many are left
+-- as many as the next retire step, where `left` are left
 turn_counts : (shape : Shape) (stamp : ℕ) (numbers : List ℕ) (kept : AllFirsts) (turned left : ℕ) (turn : Turn)
     → IsNextTurn shape stamp numbers kept turned turn → turned + left ≡ length numbers + 2 → 0 < left
     → (calls_of turn ≡ turn_calls left) × (sends_of turn ≡ turn_sends left) × (flushes_of turn ≡ turn_flushes left)

@@ -145,7 +145,7 @@ pub oldest_few : (shape : Shape) (waiting : List (List ℕ)) → All (AreInside 
 oldest_few shape [] each = omega arith
 oldest_few shape (n ∷ newer) each = (each 0 [] (omega arith)).few
 
--- records of which so many steps are left of the oldest need no more than this
+-- records of which `left` steps are left of the oldest need no more than this
 few_owed : (shape : Shape) (most : ℕ) → limit_of shape.format + 2 ≤ most → (waiting : List (List ℕ)) → All (AreInside shape) waiting
     → (left : ℕ) → (length waiting ≡ 0 → left ≡ 0) → left ≤ length (get_or waiting 0 []) + 2
     → left + sum_by retire_steps_of (drop 1 waiting) ≤ most * length waiting

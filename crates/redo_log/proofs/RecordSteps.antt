@@ -1,4 +1,4 @@
--- The calls that write a record: what they write, how many they are, and how far it is after so many.
+-- The calls that write a record: what they write, how many they are, and how far it is after each.
 use Rattle.std.proofs.Common.{◌≡◌, ◌≢◌, ◌⊎◌, inr, ℕ, ◌+◌, ◌-◌, ◌<◌, ◌≤◌, refl, arith, ◌*◌, ◌/◌, ◌%◌, List, []}
 use Rattle.std.proofs.Common.{length, sym, ap, subst}
 use Rattle.std.proofs.lemmas.Bool.Decides.{nat_tests}

@@ -56,7 +56,7 @@ abbrev pub IsFlushDue : Layout → ℕ → ℕ → Type 0
 IsFlushDue L count made = ((0 < L.early count) × (made ≡ L.early count))
     ⊎ (L.parts count ≤ written_at (L.early count) made)
 
--- The next call of a record of which so many calls are made: a flush where one is due, or the next
+-- The next call of a record of which `made` calls are made: a flush where one is due, or the next
 -- part.
 abbrev pub IsNextCall : Layout → Shape → ℕ → List Entry → ℕ → Call → Type 0
 IsNextCall L shape stamp entries made call =
@@ -73,7 +73,7 @@ pub record MakesCall (call : Call) (result : Result (Unit {0}) MediumFault) (old
   pub passes : Passes (fault_of call) result old new
   pub spares : (first : ℕ) → IsWithin first call → SparesFrom first old new
 
--- the next call of a record of which so many calls are made: it is made, or refused
+-- the next call of a record of which `made` calls are made: it is made, or refused
 pub record MakesNext (shape : Shape) (stamp : ℕ) (entries : List Entry) (made : ℕ)
     (result : Result (Unit {0}) MediumFault) (old new : State) : Type 0 where
   pub call : Call
@@ -95,8 +95,8 @@ pub record WritesOnly (place : ℕ) (bytes : List ℕ) (old new : State) : Type 
   pub moments : StaysWithin (gaining place bytes old.may_leave) old new
   pub sets : Gains place bytes old.may_leave new.may_leave
 
--- Calls of a medium, so many where they are good and else no more, and so many writes and flushes
--- among them at most, and so many flushes: none is refused but the last one, which they answer.
+-- Calls of a medium, count where they are good and else no more, at most `sends` of them writes and
+-- flushes, and `flushes` of them flushes: none is refused but the last one, which they answer.
 pub record CallsUpTo {X E : Type 0} (count sends flushes : ℕ) (result : Result X E)
     (old new : State) : Type 0 where
   pub calls : new.calls ≤ old.calls + count

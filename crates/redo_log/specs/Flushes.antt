@@ -6,13 +6,13 @@ use Rattle.journal.specs.declared.log_format.LogFormat.{LogFormat}
 use Rattle.journal.specs.declared.log_format.LogFormat.TheVariants.{One, Two}
 use Rattle.redo_log.specs.Value.{LogValue, of_oldest}
 
--- How many flushes the next step of a record is, of which so many are left: the last one is a
+-- How many flushes the next step of a record is, by how many are left: the last one is a
 -- flush, and in format 1 the one before the commit is another.
 abbrev pub step_flushes : LogFormat → ℕ → ℕ
 step_flushes One left = if left == 1 then 1 else (if left == 3 then 1 else 0)
 step_flushes Two left = if left == 1 then 1 else 0
 
--- How many the next retire step of a record makes, of which so many are left: the last one flushes
+-- How many the next retire step of a record makes, by how many are left: the last one flushes
 -- the head, and the one before it is a flush.
 abbrev pub turn_flushes : ℕ → ℕ
 turn_flushes zero = 0
@@ -38,7 +38,7 @@ next_step_flushes log = step_flushes log.shape.format log.steps_left
 abbrev pub next_turn_flushes : LogValue → ℕ
 next_turn_flushes log = turn_flushes (of_oldest log)
 
--- so many flushes are made where the call is good, and no more where it is refused
+-- count flushes are made where the call is good, and no more where it is refused
 pub record FlushesUpTo {X E : Type 0} (count : ℕ) (result : Result X E) (old new : State)
     : Type 0 where
   pub later : old.made Flush ≤ new.made Flush

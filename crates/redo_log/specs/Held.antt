@@ -48,7 +48,7 @@ abbrev pub view_stepped : Progress → View → View
 view_stepped More view = view
 view_stepped Durable view = with_record view
 
--- so many of the oldest durable records are retired
+-- the oldest count durable records are retired
 abbrev pub view_retired : ℕ → View → View
 view_retired count view = record view { records = drop count view.records }
 
@@ -97,7 +97,7 @@ image_view shape head view = record {
   array = view.array;
 }
 
--- how many parts of the record under way are written after so many calls, and how many are flushed
+-- how many parts of the record under way are written after `made` calls, and how many are flushed
 abbrev pub written_of : Shape → View → ℕ → ℕ
 written_of shape view made =
     written_at ((layout_of shape.format).early (length view.under_way)) made
@@ -106,8 +106,8 @@ abbrev pub flushed_of : Shape → View → ℕ → ℕ
 flushed_of shape view made =
     flushed_at ((layout_of shape.format).early (length view.under_way)) made
 
--- What a medium stores of a log, where so many steps are left, so many calls of the record under
--- way are made, and so many turns of the oldest.
+-- What a medium stores of a log with `steps` steps left, where `made` calls of the record under
+-- way are made, and `turned` turns of the oldest.
 pub record Stores (shape : Shape) (head : ℕ) (view : View) (steps made turned : ℕ)
     (content : Image) : Type 0 where
   pub laid : Laid shape head view.records view.array content
@@ -120,7 +120,7 @@ pub record Stores (shape : Shape) (head : ℕ) (view : View) (steps made turned 
   -- the oldest record as far as it is copied home
   pub copied : AreHome shape (oldest_of view) turned content
 
--- what a cut may leave of the log, where so many steps are left
+-- what a cut may leave of the log, where `steps` steps are left
 pub record Safe (shape : Shape) (head : ℕ) (view : View) (steps made : ℕ) (image : Image)
     : Type 0 where
   -- without a record under way it rests
@@ -133,7 +133,7 @@ pub record Safe (shape : Shape) (head : ℕ) (view : View) (steps made : ℕ) (i
 abbrev pub with_passed : List (List Entry) → View → View
 with_passed passed view = record view { records = passed ++ view.records }
 
--- What a cut may leave of the log, where the oldest record needs so many retire steps. The head
+-- What a cut may leave of the log, where the oldest record needs `retire` retire steps. The head
 -- there is the newest, or an older one: then the records that the head went past since, without a
 -- flush, are whole in front of the others, and no record takes their slots.
 pub record HasHead (shape : Shape) (head : ℕ) (view : View) (steps made retire : ℕ) (image : Image)

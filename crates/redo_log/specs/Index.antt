@@ -53,7 +53,7 @@ pub record AreEntered (numbers : List ℕ) : Type 0 where
   pub rising : IsRising numbers
   pub below : All (λ b. b < 2 ^ 31) numbers
 
--- so many entries are there behind the others, in the same room
+-- count entries are there behind the others, in the same room
 pub record IsWidened {Z : Type 0} (count : ℕ) (old new : Vec Copied Z) : Type 0 where
   pub kept : take (length old.items) new.items ≡ old.items
   pub longer : length new.items ≡ length old.items + count
@@ -83,7 +83,7 @@ pub record IsDropped {Z : Type 0} (slot : ℕ) (old new : Vec Copied Z) : Type 0
   pub looks : (block : ℕ) → look new.items block ≡ outside slot (look old.items block)
   pub capacity : vec_capacity new ≡ vec_capacity old
 
--- outside the gap from one place to another the first so many entries have the record entered
+-- outside the gap from one place to another the first `kept` entries have the record entered
 pub record IsMerged (slot : ℕ) (numbers : List ℕ) (kept : ℕ) (old new : List Copied) (from to : ℕ)
     : Type 0 where
   pub same_length : length new ≡ length old

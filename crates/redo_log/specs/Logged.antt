@@ -26,7 +26,7 @@ Logged shape head records array image =
 abbrev pub HasNoRecord : Shape → ℕ → Array → Image → Type 0
 HasNoRecord shape head array image = RestsIn (layout_of shape.format) shape image head [] array
 
--- the first so many of these blocks stand at home
+-- the first count of these blocks stand at home
 abbrev pub AreHome : Shape → List Entry → ℕ → Image → Type 0
 AreHome shape entries count image = (i : ℕ) → i < count → i < length entries
     → image (first_home shape + (get_or entries i (0, [])).0) ≡ (get_or entries i (0, [])).1

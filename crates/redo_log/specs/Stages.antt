@@ -12,7 +12,7 @@ use Rattle.redo_log.specs.Value.{AllFirsts, LogValue, Ahead, steps_for, retire_s
 unfoldable pub flush_of : ℕ → ℕ
 flush_of early = if nat_lt 0 early then 1 else 0
 
--- How many parts of a record are written after so many calls. One of the calls flushes the early
+-- How many parts of a record are written after `made` calls. One of the calls flushes the early
 -- parts, where there are any.
 unfoldable pub written_at : ℕ → ℕ → ℕ
 written_at early made = if nat_lt early made then made - flush_of early else made
@@ -26,7 +26,7 @@ abbrev pub steps_at : LogFormat → ℕ → Option ℕ → ℕ
 steps_at format count None = 0
 steps_at format count (Some made) = steps_for format count - made
 
--- how many retire steps the oldest of the durable records needs after so many turns
+-- how many retire steps the oldest of the durable records needs after `turned` turns
 abbrev pub oldest_at : List (List ℕ) → ℕ → ℕ
 oldest_at [] turned = 0
 oldest_at (numbers ∷ newer) turned = length numbers + 2 - turned
@@ -36,8 +36,8 @@ abbrev pub begun_at : Option ℕ → ℕ
 begun_at None = 0
 begun_at (Some made) = 1
 
--- A log with these durable records, of which so many turns of the oldest are made, and perhaps this
--- one under way, of which so many calls are made. These first bytes of their blocks are kept.
+-- A log with these durable records, where `turned` turns of the oldest are made, and perhaps this
+-- one under way, of which `writing` calls are made. These first bytes of their blocks are kept.
 abbrev pub value_at : Ahead → Shape → ℕ → List (List ℕ) → ℕ → AllFirsts → List ℕ
     → Option ℕ → Bool → LogValue
 value_at ahead shape head waiting turned kept under_way writing dead = record {
@@ -54,7 +54,7 @@ value_at ahead shape head waiting turned kept under_way writing dead = record {
   dead = dead;
 }
 
--- How many retire steps the oldest record needs, where so many are left: one where two are left and
+-- How many retire steps the oldest record needs, by how many are left: one where two are left and
 -- a flush covers its blocks.
 abbrev pub needed_at : Ahead → ℕ → ℕ → ℕ → ℕ
 needed_at ahead head behind zero = zero
@@ -98,7 +98,7 @@ abbrev pub IsAheadOf : Ahead → ℕ → List (List ℕ) → ℕ → Type 0
 IsAheadOf ahead head waiting turned = (ahead.home < head)
     ⊎ ((ahead.home ≡ head) × (0 < length waiting) × (length (get_or waiting 0 []) ≤ turned))
 
--- the records of a log with so many slots
+-- the records of a log of this shape
 pub record IsRing (shape : Shape) (waiting : List (List ℕ)) (turned : ℕ) (under_way : List ℕ)
     (writing : Option ℕ) : Type 0 where
   pub each : All (AreInside shape) waiting

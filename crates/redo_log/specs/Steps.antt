@@ -27,7 +27,7 @@ pub record AnswersStep {X : Type 0} (Done : X → Type 0) (result : Result X Log
   pub err : OnErr result (new ≡ died old)
   pub fault : IfErr result (λ fault. fault ≡ Medium)
 
--- A step makes so many calls of the medium, of which none is refused but the last one, which it
+-- A step makes calls of the medium that are counted, of which none is refused but the last one, which it
 -- answers. The medium comes after what it was, by calls alone.
 pub record PassesStep {M X E : Type 0} (state : M → State) (Follows : M → M → Type 0)
     (Counted : Type 0) (result : Result X E) (old new : M) : Type 0 where
@@ -37,14 +37,14 @@ pub record PassesStep {M X E : Type 0} (state : M → State) (Follows : M → M 
   pub size : (state new).size ≡ (state old).size
   pub follows : Follows old new
 
--- A step makes one call, which is a write or a flush. It makes so many flushes.
+-- A step makes one call, which is a write or a flush. It makes this many flushes.
 pub record CountsOne (flushes : ℕ) (old new : State) : Type 0 where
   pub one : new.calls ≡ old.calls + 1
   pub sent : SendsUpTo 1 old new
   pub flushed : new.made Flush ≡ old.made Flush + flushes
 
--- A retire step makes so many calls where it is good, and no more where it is refused. They are
--- never more than two. So many of them are writes and flushes at most, and so many flushes.
+-- A retire step makes count calls where it is good, and no more where it is refused. They are never
+-- more than two. At most `sends` of them are writes and flushes, and `flushes` are flushes.
 pub record CountsStep {X E : Type 0} (count sends flushes : ℕ) (result : Result X E)
     (old new : State) : Type 0 where
   pub two : new.calls ≤ old.calls + 2

@@ -69,7 +69,7 @@ pub record HasRoom (log : LogValue) : Type 0 where
 abbrev pub died : LogValue → LogValue
 died log = record log { dead = true }
 
--- how many steps a record of so many blocks needs: each makes one call
+-- how many steps a record of count blocks needs: each makes one call
 abbrev pub steps_for : LogFormat → ℕ → ℕ
 steps_for One count = count + 4
 steps_for Two count = descriptors_of count + count + 2
@@ -128,7 +128,7 @@ behind_oldest log = sum_by retire_steps_of (drop 1 log.waiting)
 abbrev pub of_oldest : LogValue → ℕ
 of_oldest log = log.retire_steps_left - behind_oldest log
 
--- How many calls the next retire step of a record makes of which so many are left: the last one
+-- How many calls the next retire step of a record makes, by how many are left: the last one
 -- writes the head and flushes it, the one before it flushes, and each other reads a block and
 -- writes it home.
 abbrev pub turn_calls : ℕ → ℕ

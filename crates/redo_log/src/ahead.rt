@@ -78,7 +78,7 @@ impl Log {
         self.turned == oldest.len() + 1 && self.waiting.len() as u64 + begun < self.sizes.slots
     }
 
-    /// Whether so many slots are free: the records from the head's on and the one under way have
+    /// Whether `count` slots are free: the records from the head's on and the one under way have
     /// the others.
     pub fn has_slots(&self, count: u64) -> bool
         ensures { IsTrue result

@@ -13,7 +13,7 @@ use journal::{
 };
 use medium::{Medium, MediumFault};
 
-// How many parts of a record are written after so many calls. One of them may be the early flush.
+// How many parts of a record are written after `made` calls. One of them may be the early flush.
 #[tactic(auto, unfolding(crate::specs::Stages::written_at, crate::specs::Stages::flush_of))]
 fn written_at(early: usize, made: usize) -> usize
     ensures { result ≡ written_at early made }
@@ -39,7 +39,7 @@ fn is_flush_due(early: usize, parts: usize, made: usize, written: usize) -> bool
     is_early_due(early, made) || parts <= written
 }
 
-/// Makes the next call of a record of which so many calls are made.
+/// Makes the next call of a record of which `made` calls are made.
 pub(crate) fn make_next<M: Medium>(
     m: &mut M,
     sizes: &Super,

@@ -36,7 +36,7 @@ pub(crate) fn newest(index: &[Copied], block: u64) -> Option<(u64, usize)>
     }
 }
 
-// Makes room for so many entries behind the others.
+// Makes room for `count` entries behind the others.
 fn widen(index: &mut Vec<Copied>, count: usize)
     requires { length index.old.items + count ≤ vec_capacity index.old }
     ensures { IsWidened count index.old index.new }

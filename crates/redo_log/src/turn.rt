@@ -100,7 +100,7 @@ pub(crate) fn next_turn(
     last_turn(sizes, stamp, numbers.len(), turned)
 }
 
-// One of the last two turns of a record of so many blocks: a flush, and then the head.
+// One of the last two turns of a record of `home` blocks: a flush, and then the head.
 fn last_turn(sizes: &Super, stamp: u64, home: usize, turned: usize) -> Turn
     requires stamp { stamp < 2 ^ 63 - 1 }
     requires turned { turned < home + 2 }
