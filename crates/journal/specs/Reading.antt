@@ -65,8 +65,8 @@ IsReadFor Two shape image stamp found reads =
 abbrev pub found_in : Bool → Record → Option Record
 found_in answer read = if answer then Some read else None
 
--- What is found of the record of a stamp, by exactly as many reads as show it. Where it is whole, that is what the
--- record says before its data places; and where these carry the stamp too, it is whole.
+-- What is found of the record of a stamp, by as many reads as show it. Where it is whole, that is
+-- what the record says before its data places; and where these carry the stamp too, it is whole.
 pub record FindsRecord (shape : Shape) (stamp : ℕ) (old new : State) (found : Option Record)
     : Type 0 where
   pub some : IfSome found (λ read.

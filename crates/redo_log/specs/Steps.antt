@@ -27,7 +27,7 @@ pub record AnswersStep {X : Type 0} (Done : X → Type 0) (result : Result X Log
   pub err : OnErr result (new ≡ died old)
   pub fault : IfErr result (λ fault. fault ≡ Medium)
 
--- A step makes calls of the medium that are counted, of which none is refused but the last one, which it
+-- A step makes calls of the medium that are counted: none is refused but the last one, which it
 -- answers. The medium comes after what it was, by calls alone.
 pub record PassesStep {M X E : Type 0} (state : M → State) (Follows : M → M → Type 0)
     (Counted : Type 0) (result : Result X E) (old new : M) : Type 0 where
