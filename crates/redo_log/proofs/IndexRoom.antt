@@ -1,99 +1,56 @@
 -- That an index has room for a record more, and what it is then.
-use Rattle.std.proofs.Common.{◌≡◌, ◌≢◌, inl, inr, ℕ, zero, suc, ◌+◌, ◌-◌, ◌*◌, ◌/◌, ◌%◌, ◌<◌, ◌≤◌, List, [], ◌∷◌}
-use Rattle.std.proofs.Common.{◌++◌, length, get_or, drop, eqb, Some, None, Option, refl, sym, ◌∙◌, ap, arith}
-use Rattle.std.specs.Prelude.{All, true, map, slice_index, Contains, MatchOption}
-use Rattle.std.specs.List.{list_any}
-use Rattle.std.proofs.lemmas.Bool.{cases_eq, eq-eqb, ne_eqb}
-use Rattle.std.proofs.lemmas.Bool.Decides.{nat_tests}
-use Rattle.std.proofs.lemmas.Nat.{mul-add-lt, div-mul-add, mod-mul-add}
+use Rattle.std.proofs.Common.{◌≡◌, ◌≢◌, inl, inr, ℕ, zero, suc, ◌+◌, ◌*◌, ◌%◌, ◌<◌, ◌≤◌, List, [], ◌∷◌, ◌++◌, length, get_or, drop}
+use Rattle.std.proofs.Common.{Some, None, Option, refl, sym, ◌∙◌, arith, add-zero, eqb, length-append}
+use Rattle.std.specs.Prelude.{All, map, slice_index, Contains}
+use Rattle.std.specs.Cmp.{nat_eq_equiv}
+use Rattle.std.specs.List.{flat_map}
+use Rattle.std.proofs.lemmas.Bool.{cases_lt, eq-eqb, ne_eqb, eqb-true}
 use Rattle.std.proofs.lemmas.List.{length-map, get_or-map, get_or_append_left, get_or_default}
+use Rattle.std.proofs.lemmas.List.Concat.{length-flat_map}
+use Rattle.std.proofs.lemmas.List.Elements.{All-contains, All-from_get_or, All-map, Contains-append_left, Contains-append_right, Contains-get_or}
+use Rattle.std.proofs.lemmas.List.Sums.{sum_by-le}
 use Rattle.std.proofs.lemmas.Map.Keys.{IsDistinct-from_apart}
-use Rattle.std.proofs.lemmas.Map.Steps.{length-le_from_distinct_below}
+use Rattle.std.proofs.lemmas.Map.Made.{length-le_from_is_member}
+use Rattle.std.proofs.lemmas.Map.Views.{Contains-from_any, list_any-from_Contains}
 use Rattle.std.proofs.Math.Nat.{mul-le-mul_left}
 use Rattle.std.proofs.Math.Seq.{get_or-append_seam}
-use Rattle.std.proofs.Common.{add-zero, length-append}
-use Rattle.journal.proofs.AllOrFirst.{all_or_first}
 use Rattle.journal.proofs.Slots.{other_slot}
 use Rattle.redo_log.specs.declared.index.Copied.{Copied}
-use Rattle.redo_log.specs.Value.{LogValue, HasNoCopy, IsNewestCopy}
-use Rattle.redo_log.specs.Index.{look, outside, block_at, IsSorted, IsNewest, Finds, IsIndex, Enters}
-use Rattle.redo_log.proofs.RingRecords.{age_is}
+use Rattle.redo_log.specs.Index.{look, outside, block_at, IsSorted, Finds, IsIndex, Enters}
 use Rattle.redo_log.proofs.SortedIndex.{blank, look_found}
 
-below_all : (xs : List ℕ) (n : ℕ) → All (λ x. x < n) xs → (q : ℕ) → list_any (eqb q) xs ≡ true → q < n
-below_all [] n each q some = cc some
-below_all (x ∷ xs) n each q some =
-    grind (arith, nat_tests, some, each 0 0 (omega arith), below_all xs n (λ i d below. each (suc i) d (omega arith)) q)
+-- the block numbers of all records
+abbrev all_of : List (List ℕ) → List ℕ
+all_of records = flat_map (λ r. r) records
 
--- a number below `most` and one times `most` are those of their sum
-one_sum : (most a b i j : ℕ) → i < most → j < most → a * most + i ≡ b * most + j → (a ≡ b) × (i ≡ j)
-one_sum most a b i j low high same = (
-  sym (div-mul-add a most i low) ∙ (ap (λ (n : ℕ). n / most) same ∙ div-mul-add b most j high),
-  sym (mod-mul-add a most i low) ∙ (ap (λ (n : ℕ). n % most) same ∙ mod-mul-add b most j high),
-)
+in_all : (records : List (List ℕ)) (age b : ℕ) → age < length records → Contains (get_or records age []) b → Contains (all_of records) b
+in_all [] age b below there = absurd (omega (arith, below))
+in_all (r ∷ records) zero b below there = Contains-append_left r (all_of records) b there
+in_all (r ∷ records) (suc age) b below there = Contains-append_right r (all_of records) b (in_all records age b (omega arith) there)
 
-module _ (slots stamp most : ℕ) (records : List (List ℕ)) (index : List Copied) (is : IsIndex slots stamp records index)
-    (free : length records < slots) (small : (age : ℕ) → age < length records → length (get_or records age []) ≤ most) where
-  newest_at : (i : ℕ) → i < length index
-      → IsNewest slots stamp records (block_at index i) ((get_or index i blank).slot, (get_or index i blank).place)
-  newest_at i below = rw (look_found index is.sorted i (block_at index i) below refl) at (is.finds (block_at index i))
-
-  near : (i : ℕ) → i < length index → (get_or index i blank).place < most
-  near i below = let n = newest_at i below in omega (arith, n.inside, small n.age n.waits)
-
-  -- the age of an entry's record, and its place there
-  abbrev code : Copied → ℕ
-  code c = (c.slot + slots - stamp % slots) % slots * most + c.place
-
-  code_is : (i d : ℕ) → i < length (map code index) → (below : i < length index)
-      × (get_or (map code index) i d ≡ (newest_at i below).age * most + (get_or index i blank).place)
-  code_is i d inside =
-      let below : i < length index = omega (arith, inside, length-map index code) in
-      let n = newest_at i below in (
-        below,
-        rw (
-          get_or-map code index i blank d below,
-          age_is slots stamp n.age (get_or index i blank).slot (omega (arith, n.waits, free)) n.slot_is,
-        ) refl,
-      )
-
-  codes_apart : (i j d : ℕ) → i < j → j < length (map code index) → get_or (map code index) i d ≢ get_or (map code index) j d
-  codes_apart i j d less inside same =
-      let first = code_is i d (omega (arith, less, inside)) in
-      let at = code_is j d inside in
-      let a = newest_at i first.0 in
-      let b = newest_at j at.0 in
-      let both = one_sum most a.age b.age (get_or index i blank).place (get_or index j blank).place (near i first.0) (near j at.0)
-      (sym first.1 ∙ same ∙ at.1) in
-      omega (arith, is.sorted i j blank less at.0, rw (both.0, both.1) at a.named, b.named)
-
-  -- so there are no more entries than blocks in the records
-  index_few : length index ≤ most * length records
-  index_few =
-      let few = length-le_from_distinct_below (map code index) (most * length records)
-      (IsDistinct-from_apart eqb (map code index) (λ i j d less inside. ne_eqb _ _ (codes_apart i j d less inside)))
-      (below_all (map code index) (most * length records) (λ i d inside.
-      let at = code_is i d inside in
-      let n = newest_at i at.0 in
-      omega (arith, at.1, mul-add-lt n.age most (get_or index i blank).place (length records) n.waits (near i at.0)))) in
-      omega (arith, few, length-map index code)
-
-  -- there is room for as many entries more as a record may have blocks
-  pub record_room : (room count : ℕ) → count ≤ most → most * slots ≤ room → length index + count ≤ room
-  record_room room count few enough =
-      let more : most * (length records + 1) ≤ most * slots = mul-le-mul_left most (omega (arith, free)) in
-      omega (arith, index_few, few, enough, more)
-
--- what is found is the newest copy of a log with these records
-pub find_is : (log : LogValue) (block : ℕ) (found : Option (ℕ × ℕ))
-    → Finds log.shape.slots log.head log.waiting block found
-    → MatchOption found (HasNoCopy log block) (λ copy. IsNewestCopy log block copy.0 copy.1)
-find_is log block None none = none
-find_is log block (Some copy) n =
-    record { age = n.age; waits = n.waits; slot_is = n.slot_is; inside = n.inside; named = n.named; newest = n.newest }
+-- there is room for as many entries more as a record may have blocks: each entry has a block of its own, which the records have
+pub record_room : (slots stamp most : ℕ) (records : List (List ℕ)) (index : List Copied) → IsIndex slots stamp records index
+    → length records < slots → All (λ r. length r ≤ most) records → (room count : ℕ) → count ≤ most → most * slots ≤ room
+    → length index + count ≤ room
+record_room slots stamp most records index is free small room count few enough =
+    let f : Copied → ℕ = λ c. c.block in
+    let each = All-map (Contains (all_of records)) f index
+    (All-from_get_or (λ c. Contains (all_of records) c.block) index blank (λ i below.
+    let n = rw (look_found index is.sorted i (block_at index i) below refl) at (is.finds (block_at index i)) in
+    in_all records n.age (block_at index i) n.waits
+    (rw n.named at (Contains-get_or (get_or records n.age []) (get_or index i blank).place 0 n.inside)))) in
+    let apart = IsDistinct-from_apart eqb (map f index) (λ i j d less inside.
+    let below : j < length index = omega (arith, inside, length-map index f) in
+    rw (get_or-map f index i blank d (omega (arith, less, below)), get_or-map f index j blank d below)
+    (ne_eqb (block_at index i) (block_at index j) (λ same. omega (arith, is.sorted i j blank less below, same)))) in
+    let all = length-le_from_is_member nat_eq_equiv (map f index) (all_of records) apart
+    (λ q some. list_any-from_Contains nat_eq_equiv q (all_of records)
+    (All-contains (Contains (all_of records)) (map f index) q each (Contains-from_any eqb-true q (map f index) some))) in
+    let more : most * (length records + 1) ≤ most * slots = mul-le-mul_left most (omega (arith, free)) in
+    omega (arith, all, length-map index f, length-flat_map (λ r. r) records, sum_by-le (λ r. length r) most records small, few, enough, more)
 
 module _ (records : List (List ℕ)) (numbers : List ℕ) (b : ℕ)
-    (unnamed : (k : ℕ) → k < length numbers → slice_index numbers k ≢ b) where
+    (unnamed : (k : ℕ) → 0 ≤ k → k < length numbers → slice_index numbers k ≢ b) where
   longer : length (records ++ numbers ∷ []) ≡ length records + 1
   longer = length-append records (numbers ∷ [])
 
@@ -101,13 +58,12 @@ module _ (records : List (List ℕ)) (numbers : List ℕ) (b : ℕ)
   none_more : (least : ℕ) → ((age : ℕ) → least ≤ age → age < length records → ¬ Contains (get_or records age []) b)
       → (age : ℕ) → least ≤ age → age < length (records ++ numbers ∷ [])
       → ¬ Contains (get_or (records ++ numbers ∷ []) age []) b
-  none_more least none age later below = elim (cases_eq age (length records)) [
-    | inl last ↦
-        rw (last, get_or-append_seam records numbers [] [])
-        (λ there. unnamed there.0 there.1 (get_or_default numbers there.0 0 b there.1 ∙ there.2))
-    | inr not ↦
-        let old : age < length records = omega (arith, below, not, longer) in
-        rw (get_or_append_left records (numbers ∷ []) [] age old) (none age later old)
+  none_more least none age later below = elim (cases_lt age (length records)) [
+    | inl old ↦ rw (get_or_append_left records (numbers ∷ []) [] age old) (none age later old)
+    | inr last ↦
+        let same : age ≡ length records = omega (arith, below, last, longer) in
+        rw (same, get_or-append_seam records numbers [] [])
+        (λ there. unnamed there.0 (omega arith) there.1 (get_or_default numbers there.0 0 b there.1 ∙ there.2))
   ]
 
   -- and the newest copy stays it
@@ -127,23 +83,22 @@ module _ (records : List (List ℕ)) (numbers : List ℕ) (b : ℕ)
 
 -- the index with the copies of a record behind the others
 pub index_more : (slots stamp : ℕ) (records : List (List ℕ)) (numbers : List ℕ) (old new : List Copied) → IsIndex slots stamp records old
-    → Enters ((stamp + length records) % slots) numbers old new → IsIndex slots stamp (records ++ numbers ∷ []) new
+    → Enters ((stamp + length records) % slots) numbers 0 old new → IsIndex slots stamp (records ++ numbers ∷ []) new
 index_more slots stamp records numbers old new is enters = record {
   sorted = enters.sorted;
-  finds = λ b. elim (all_or_first (λ k. slice_index numbers k ≢ b) (λ k. slice_index numbers k ≡ b) (length numbers)
-      (λ k less. elim (cases_eq (slice_index numbers k) b) [ inl same ↦ inr same | inr not ↦ inl not ])) [
-        | inl none ↦ rw (enters.others b none) (found_more records numbers b none slots stamp (look old b) (is.finds b))
-        | inr one ↦
-            let last = get_or-append_seam records numbers [] [] in
-            rw (← one.3, enters.entered one.0 one.1) (record {
-              age = length records;
-              waits = omega (arith, length-append records (numbers ∷ []));
-              slot_is = refl;
-              inside = rw last one.1;
-              named = rw last refl;
-              newest = λ newer later below. absurd (omega (arith, later, below, length-append records (numbers ∷ [])));
-            })
-      ];
+  finds = λ b. elim (enters.finds b) [
+    | inr none ↦ rw none.1 (found_more records numbers b none.0 slots stamp (look old b) (is.finds b))
+    | inl one ↦
+        let last = get_or-append_seam records numbers [] [] in
+        rw one.4 (record {
+          age = length records;
+          waits = omega (arith, length-append records (numbers ∷ []));
+          slot_is = refl;
+          inside = rw last one.2;
+          named = rw last one.3;
+          newest = λ newer later below. absurd (omega (arith, later, below, length-append records (numbers ∷ [])));
+        })
+  ];
 }
 
 -- without the oldest record

@@ -1,137 +1,121 @@
 -- How an index and a record's rising block numbers merge, the greatest block first.
-use Rattle.std.proofs.Common.{◌≡◌, ◌≢◌, ℕ, zero, suc, ◌+◌, ◌-◌, ◌<◌, ◌≤◌, List, [], ◌∷◌, ◌++◌, length, get_or, take, drop, set}
-use Rattle.std.proofs.Common.{Some, refl, sym, ◌∙◌, ap, append_assoc, arith}
+use Rattle.std.proofs.Common.{◌≡◌, ◌≢◌, ◌⊎◌, inl, inr, ℕ, suc, ◌+◌, ◌-◌, ◌<◌, ◌≤◌, List, [], ◌∷◌, ◌++◌, length, get_or, take, drop}
+use Rattle.std.proofs.Common.{set, refl, sym, ◌∙◌, ap, append_assoc, arith, Some}
 use Rattle.std.specs.Prelude.{slice_index, All}
-use Rattle.std.specs.List.{remove_range}
+use Rattle.std.specs.List.{AllPairs, remove_range}
+use Rattle.std.proofs.lemmas.Bool.{cases_eq}
 use Rattle.std.proofs.lemmas.Bool.Decides.{nat_tests}
-use Rattle.std.proofs.lemmas.List.{drop-set, drop_more, get_or-set_other, length-set}
-use Rattle.std.proofs.lemmas.List.Elements.{All-cons}
+use Rattle.std.proofs.lemmas.List.{drop-set, take_more, take-set-le, get_or_append_left, get_or-append-add, get_or-take, get_or_at}
+use Rattle.std.proofs.lemmas.List.{length-set, length-take-le}
+use Rattle.std.proofs.lemmas.List.Elements.{All-cons, All-append, All-from_get_or}
 use Rattle.std.proofs.lemmas.List.Kept.{AllPairs-cons}
-use Rattle.std.proofs.Math.Seq.{take-suc}
+use Rattle.std.proofs.Common.{length-append}
 use Rattle.journal.specs.Sectors.{IsRising}
 use Rattle.redo_log.specs.declared.index.Copied.{Copied}
 use Rattle.redo_log.specs.Index.{look, block_at, IsSorted, Enters}
-use Rattle.redo_log.proofs.SortedIndex.{blank, Above, look_above}
+use Rattle.redo_log.proofs.SortedIndex.{blank, Above, look_found}
 
--- the old entries from `left` on, merged with the numbers from `place` on: all that is left of both is below
-pub record IsTail (old : List Copied) (slot : ℕ) (numbers : List ℕ) (left place : ℕ) (tail : List Copied) : Type 0 where
-  pub sorted : IsSorted tail
-  pub over_entries : (i : ℕ) → i < left → All (Above (block_at old i)) tail
-  pub over_numbers : (i : ℕ) → i < place → All (Above (slice_index numbers i)) tail
-  pub entered : (k : ℕ) → place ≤ k → k < length numbers → look tail (slice_index numbers k) ≡ Some (slot, k)
-  pub others : (b : ℕ) → ((k : ℕ) → place ≤ k → k < length numbers → slice_index numbers k ≢ b)
-      → look tail b ≡ look (drop left old) b
-
--- of `was` entries `left` are left where this block enters: they are below it, and only an older entry with it goes
-pub record IsLeft (old : List Copied) (block was left : ℕ) : Type 0 where
-  pub fewer : left ≤ was
-  pub below : (i : ℕ) → i < left → block_at old i < block
-  pub gone : (b : ℕ) → block ≢ b → look (drop left old) b ≡ look (drop was old) b
-
--- the entries of an index from `to` on are such a tail, and its first `left` ones are the old ones
+-- Outside the gap from `left` to `to` an index has the old entries with the numbers from `place` on entered. Behind the gap all are above
+-- the numbers that are left.
 pub record IsMerging (old : List Copied) (slot : ℕ) (numbers : List ℕ) (left place to : ℕ) (index : List Copied) : Type 0 where
-  pub entries : left ≤ length old
   pub places : place ≤ length numbers
   pub room : left + place ≤ to
   pub inside : to ≤ length index
-  pub front : (i : ℕ) → i < left → get_or index i blank ≡ get_or old i blank
-  pub tail : IsTail old slot numbers left place (drop to index)
+  pub over : (i : ℕ) → i < place → All (Above (slice_index numbers i)) (drop to index)
+  pub enters : Enters slot numbers place old (remove_range index left to)
 
--- what is above the last of some that rise is above all
-below_last : (f : ℕ → ℕ) (n block : ℕ) → ((i j : ℕ) → i < j → j < n → f i < f j) → (0 < n → f (n - 1) < block) → (i : ℕ) → i < n
-    → f i < block
-below_last f n block rises last i less = grind (arith, rises i (n - 1))
+-- some pairs, and then some more that each of them goes with
+pairs_append : {X : Type 0} (R : X → X → Type 0) (front back : List X) → AllPairs R front → AllPairs R back
+    → All (λ x. All (R x) back) front → AllPairs R (front ++ back)
+pairs_append R [] back of_front of_back across = of_back
+pairs_append R (x ∷ front) back of_front of_back across = AllPairs-cons R x (front ++ back)
+    (All-append (R x) front back (λ i d less. of_front 0 (suc i) d (omega arith) (omega arith)) (across 0 x (omega arith)))
+    (pairs_append R front back (λ i j d less below. of_front (suc i) (suc j) d (omega arith) (omega arith)) of_back
+    (λ i d less. across (suc i) d (omega arith)))
+
+-- an entry between others is found for its own block alone
+look_other : (front back : List Copied) (e : Copied) (b : ℕ) → e.block ≢ b → look (front ++ e ∷ back) b ≡ look (front ++ back) b
+look_other [] back e b not = grind (arith, nat_tests, not)
+look_other (c ∷ front) back e b not = grind (arith, nat_tests, look_other front back e b not)
+
+-- of the first `was` entries `left` are left where this block enters: they are below it, and only an older entry with it goes
+pub record IsLeft (index back : List Copied) (block was left : ℕ) : Type 0 where
+  pub fewer : left ≤ was
+  pub below : (i : ℕ) → i < left → block_at index i < block
+  pub gone : (b : ℕ) → block ≢ b → look (take left index ++ back) b ≡ look (take was index ++ back) b
+
+module _ (index back : List Copied) (was : ℕ) (fits : was ≤ length index) (sorted : IsSorted (take was index ++ back)) where
+  -- those in front rise
+  front_rises : (i j : ℕ) (d : Copied) → i < j → j < was → (get_or index i d).block < (get_or index j d).block
+  front_rises i j d less below =
+      let long = length-take-le was index fits in
+      let front = λ (k : ℕ) (inside : k < was).
+      get_or_append_left (take was index) back d k (omega (arith, inside, long)) ∙ get_or-take was index k d inside in
+      rw (front i (omega arith), front j below) at
+      (sorted i j d less (omega (arith, length-append (take was index) back, long)))
+
+  -- all entries that are left have smaller blocks, or the last one has this block
+  pub is_left : (block left : ℕ) → ((left ≡ was) × (0 < was → block_at index (was - 1) < block))
+      ⊎ ((was ≡ left + 1) × (block_at index left ≡ block)) → IsLeft index back block was left
+  is_left block left (inl all) = record {
+    fewer = omega arith;
+    below = λ i less. grind (arith, front_rises i (was - 1) blank, all);
+    gone = λ b not. rw all.0 refl;
+  }
+  is_left block left (inr one) = record {
+    fewer = omega arith;
+    below = λ i less. omega (arith, front_rises i left blank less (omega arith), one.1);
+    gone = λ b not. rw (one.0, take_more index left blank (omega arith), append_assoc (take left index) (get_or index left blank ∷ []) back)
+        (sym (look_other (take left index) back (get_or index left blank) b (λ same. not (sym one.1 ∙ same))));
+  }
+
+  -- an entry goes behind those that are left
+  module _ (e : Copied) (left : ℕ) (stays : IsLeft index back e.block was left) (above : All (Above e.block) back) where
+    long : length (take left index) ≡ left
+    long = length-take-le left index (omega (arith, stays.fewer, fits))
+
+    pub put_sorted : IsSorted (take left index ++ e ∷ back)
+    put_sorted =
+        let low = All-from_get_or (λ x. x.block < e.block) (take left index) blank (λ i less.
+        rw (get_or-take left index i blank (omega (arith, less, long))) (stays.below i (omega (arith, less, long)))) in
+        pairs_append (λ x. Above x.block) (take left index) (e ∷ back)
+        (λ i j d less below. rw (get_or-take left index i d (omega (arith, less, below, long)), get_or-take left index j d (omega (arith, below, long)))
+            (front_rises i j d less (omega (arith, below, long, stays.fewer))))
+        (AllPairs-cons (λ x. Above x.block) e back above (λ i j d less below.
+            let front = take was index in
+            rw (get_or-append-add front back i d, get_or-append-add front back j d) at
+            (sorted (length front + i) (length front + j) d (omega (arith, less)) (omega (arith, length-append front back, below)))))
+        (λ i d less. All-cons (Above (get_or (take left index) i d).block) e back (low i d less)
+            (λ j f inside. omega (arith, low i d less, above j f inside)))
+
+    pub put_found : look (take left index ++ e ∷ back) e.block ≡ Some (e.slot, e.place)
+    put_found =
+        let at = get_or_at (take left index) e back blank left long in
+        rw at at (look_found (take left index ++ e ∷ back) put_sorted left e.block
+        (omega (arith, length-append (take left index) (e ∷ back), long)) (ap (λ (x : Copied). x.block) at))
+
+    pub put_other : (b : ℕ) → e.block ≢ b → look (take left index ++ e ∷ back) b ≡ look (take was index ++ back) b
+    put_other b not = look_other (take left index) back e b not ∙ stays.gone b not
 
 -- the entry of a number of the record
 abbrev pub entry_of : ℕ → List ℕ → ℕ → Copied
 entry_of slot numbers place = record { block = slice_index numbers place; slot = slot; place = place }
 
-module _ (old : List Copied) (sorted : IsSorted old) (was left : ℕ) (index : List Copied) (block : ℕ) (fits : was ≤ length old)
-    (front : (i : ℕ) → i < was → get_or index i blank ≡ get_or old i blank) where
-  block_is : (i : ℕ) → i < was → block_at index i ≡ block_at old i
-  block_is i less = ap (λ (x : Copied). x.block) (front i less)
-
-  -- all entries that are left have smaller blocks
-  pub left_all : left ≡ was → (0 < was → block_at index (was - 1) < block) → IsLeft old block was left
-  left_all same last = record {
-    fewer = omega arith;
-    below = λ i less. below_last (block_at old) was block (λ i j less below. sorted i j blank less (omega (arith, below, fits)))
-        (λ some. rw (block_is (was - 1) (omega (arith, some))) at (last some)) i (omega (arith, less, same));
-    gone = λ b not. rw same refl;
-  }
-
-  -- the last entry has this block
-  pub left_less : was ≡ left + 1 → block_at index left ≡ block → IsLeft old block was left
-  left_less one_more is =
-      let block_now : block_at old left ≡ block = sym (block_is left (omega (arith, one_more))) ∙ is in
+module _ {old : List Copied} {slot : ℕ} {numbers : List ℕ} (rising : IsRising numbers) where
+  -- an entry goes to the end of the room, above all numbers that are left
+  goes : (was before left place till to : ℕ) (index : List Copied) (c : Copied) → till ≡ to + 1 → left ≤ was → place ≤ before
+      → left + place ≤ to → (0 < place → slice_index numbers (place - 1) < c.block) → IsMerging old slot numbers was before till index
+      → Enters slot numbers place old (take left index ++ c ∷ drop till index) → IsMerging old slot numbers left place to (set index to c)
+  goes was before left place till to index c room fewer less enough last merged enters =
+      let below : to < length index = omega (arith, room, merged.inside) in
       record {
-        fewer = omega arith;
-        below = λ i less. omega (arith, sorted i left blank less (omega arith), block_now);
-        gone = λ b not. rw (drop_more old left blank (omega arith), one_more) (grind (arith, nat_tests, not, block_now));
+        places = omega (arith, less, merged.places);
+        room = enough;
+        inside = omega (arith, below, length-set index to c);
+        over = λ i low. rw (drop-set index to c below, ← room) (All-cons (Above (slice_index numbers i)) c (drop till index)
+            (grind (arith, rising i (place - 1), last)) (merged.over i (omega (arith, low, less))));
+        enters = rw (take-set-le left index to c (omega (arith, enough)), drop-set index to c below, ← room) enters;
       }
-
-module _ {old : List Copied} {slot : ℕ} {numbers : List ℕ} (sorted : IsSorted old) (rising : IsRising numbers) where
-  -- the last old entry that is left goes before the tail
-  entry_goes : (left place : ℕ) (c : Copied) (tail : List Copied) → left < length old → c ≡ get_or old left blank
-      → ((i : ℕ) → i < place → slice_index numbers i < c.block) → IsTail old slot numbers (left + 1) place tail
-      → IsTail old slot numbers left place (c ∷ tail)
-  entry_goes left place c tail inside is over merged = record {
-    sorted = AllPairs-cons (λ x. Above x.block) c tail above merged.sorted;
-    over_entries = λ i less.
-        let up = sorted i left blank less inside in
-        All-cons (Above (block_at old i)) c tail (omega (arith, block, up)) (merged.over_entries i (omega arith));
-    over_numbers = λ i less.
-        All-cons (Above (slice_index numbers i)) c tail (omega (arith, over i less)) (merged.over_numbers i less);
-    entered = λ k more less.
-        let there = merged.entered k more less in
-        let n = slice_index numbers k in
-        let not : c.block ≢ n = λ same. cc (there, look_above tail n (rw same at above)) in
-        grind (arith, nat_tests, not, there);
-    others = λ b not. rw split (grind (arith, nat_tests, merged.others b not));
-  }
-    where
-      block : c.block ≡ block_at old left
-      block = ap (λ (x : Copied). x.block) is
-
-      above : All (Above c.block) tail
-      above = rw block (merged.over_entries left (omega arith))
-
-      split : drop left old ≡ c ∷ drop (left + 1) old
-      split = rw is (drop_more old left blank inside)
-
-  -- the last number that is left goes before the tail
-  number_goes : (was left place : ℕ) (tail : List Copied) → place < length numbers → IsLeft old (slice_index numbers place) was left
-      → IsTail old slot numbers was (place + 1) tail → IsTail old slot numbers left place (entry_of slot numbers place ∷ tail)
-  number_goes was left place tail inside stays merged =
-      let e = entry_of slot numbers place in
-      record {
-        sorted = AllPairs-cons (λ x. Above x.block) e tail (merged.over_numbers place (omega arith)) merged.sorted;
-        over_entries = λ i less. All-cons (Above (block_at old i)) e tail (omega (arith, stays.below i less))
-            (merged.over_entries i (omega (arith, less, stays.fewer)));
-        over_numbers = λ i less. All-cons (Above (slice_index numbers i)) e tail
-            (omega (arith, rising i place less inside)) (merged.over_numbers i (omega arith));
-        entered = λ k more less. grind (arith, nat_tests, rising place k, merged.entered k);
-        others = λ b not.
-            let other = not place (omega arith) inside in
-            grind (arith, nat_tests, other, merged.others b (λ k more. not k (omega (arith, more))), stays.gone b other);
-      }
-
-  -- an entry goes to the end of the room
-  module _ (was left before place till to : ℕ) (index : List Copied) (c : Copied) (room : till ≡ to + 1)
-      (merged : IsMerging old slot numbers was before till index) where
-    goes : left ≤ was → place ≤ before → left + place ≤ to → IsTail old slot numbers left place (c ∷ drop till index)
-        → IsMerging old slot numbers left place to (set index to c)
-    goes fewer less enough tail =
-        let below : to < length index = omega (arith, room, merged.inside) in
-        record {
-          entries = omega (arith, merged.entries, fewer);
-          places = omega (arith, merged.places, less);
-          room = enough;
-          inside = omega (arith, below, length-set index to c);
-          front = λ i inside. get_or-set_other index to i c blank (λ e. omega (arith, e, inside, enough))
-              ∙ merged.front i (omega (arith, inside, fewer));
-          tail = rw (drop-set index to c below, ← room) tail;
-        }
 
   -- the last entry that is left, above all numbers that are left
   pub entry_moves : (was left place till to : ℕ) (index : List Copied) → was ≡ left + 1 → till ≡ to + 1
@@ -139,42 +123,33 @@ module _ {old : List Copied} {slot : ℕ} {numbers : List ℕ} (sorted : IsSorte
       → IsMerging old slot numbers left place to (set index to (get_or index left blank))
   entry_moves was left place till to index one_less room over merged =
       let c = get_or index left blank in
-      goes was left place place till to index c room merged (omega arith) (omega arith) (omega (arith, merged.room, one_less, room))
-      (entry_goes left place c (drop till index) (omega (arith, merged.entries, one_less)) (merged.front left (omega (arith, one_less)))
-      (below_last (slice_index numbers) place c.block (λ i j less below. rising i j less (omega (arith, below, merged.places))) over)
-      (rw one_less at merged.tail))
+      let moved : remove_range index was till ≡ take left index ++ c ∷ drop till index =
+      rw (one_less, take_more index left blank (omega (arith, merged.room, merged.inside, one_less)),
+      append_assoc (take left index) (c ∷ []) (drop till index)) refl in
+      goes was place left place till to index c room (omega arith) (omega arith) (omega (arith, merged.room, one_less, room)) over merged
+      (rw moved at merged.enters)
 
   -- the last number that is left, above all entries that are left then
   pub number_enters : (was left before place till to : ℕ) (index : List Copied) → before ≡ place + 1 → till ≡ to + 1
-      → IsLeft old (slice_index numbers place) was left → IsMerging old slot numbers was before till index
+      → IsLeft index (drop till index) (slice_index numbers place) was left → IsMerging old slot numbers was before till index
       → IsMerging old slot numbers left place to (set index to (entry_of slot numbers place))
   number_enters was left before place till to index one_less room stays merged =
-      goes was left before place till to index (entry_of slot numbers place) room merged stays.fewer (omega (arith, one_less))
-      (omega (arith, merged.room, one_less, room, stays.fewer))
-      (number_goes was left place (drop till index) (omega (arith, merged.places, one_less)) stays
-      (rw one_less at merged.tail))
-
-  -- all that is left goes before the tail as it is
-  rest_goes : (left : ℕ) (index tail : List Copied) → left ≤ length old → left ≤ length index
-      → ((i : ℕ) → i < left → get_or index i blank ≡ get_or old i blank) → IsTail old slot numbers left 0 tail
-      → IsTail old slot numbers 0 0 (take left index ++ tail)
-  rest_goes zero index tail fits inside front merged = merged
-  rest_goes (suc left) index tail fits inside front merged =
-      let one : suc left ≡ left + 1 = omega arith in
-      let c = get_or index left blank in
-      rw (take-suc index left blank (omega arith), append_assoc (take left index) (c ∷ []) tail)
-      (rest_goes left index (c ∷ tail) (omega arith) (omega arith) (λ i less. front i (omega arith))
-      (entry_goes left 0 c tail (omega arith) (front left (omega arith)) (λ i less. absurd (omega arith))
-      (rw one at merged)))
-
-  -- at the end nothing of the record is left
-  pub merging_ends : (left to : ℕ) (index : List Copied) → IsMerging old slot numbers left 0 to index
-      → Enters slot numbers old (remove_range index left to)
-  merging_ends left to index merged =
-      let fits : left ≤ length index = omega (arith, merged.room, merged.inside) in
-      let all = rest_goes left index (drop to index) merged.entries fits merged.front merged.tail in
-      record {
-        sorted = all.sorted;
-        entered = λ k less. all.entered k (omega arith) less;
-        others = λ b not. all.others b (λ k more less. not k less);
-      }
+      let e = entry_of slot numbers place in
+      let back = drop till index in
+      let fits : was ≤ length index = omega (arith, merged.room, merged.inside) in
+      let above = merged.over place (omega arith) in
+      let sorted = put_sorted index back was fits merged.enters.sorted e left stays above in
+      let found = put_found index back was fits merged.enters.sorted e left stays above in
+      let inside : place < length numbers = omega (arith, merged.places, one_less) in
+      goes was before left place till to index e room stays.fewer (omega arith) (omega (arith, merged.room, one_less, room, stays.fewer))
+      (λ some. rising (place - 1) place (omega arith) inside) merged (record {
+        sorted = sorted;
+        finds = λ b. elim (cases_eq (slice_index numbers place) b) [
+          | inl same ↦ inl (place, omega arith, inside, same, rw (← same) found)
+          | inr not ↦ rw (put_other index back was fits merged.enters.sorted e left stays above b not)
+              (elim (merged.enters.finds b) [
+                | inl later ↦ inl (later.0, omega (arith, later.1), later.2, later.3, later.4)
+                | inr none ↦ inr (λ k low less. grind (arith, none.0 k, not), none.1)
+              ])
+        ];
+      })

@@ -238,16 +238,21 @@ pass_calls log =
 abbrev pub settled : LogValue → LogValue
 settled log = record log { retire_steps_left = log.retire_steps_left - 1 }
 
--- the slot and the place hold the newest logged copy of this block: its number stands there in a
--- durable record, and in no newer one
-pub record IsNewestCopy (log : LogValue) (block slot place : ℕ) : Type 0 where
+-- The slot and the place hold the newest copy of a block in these records, of which the oldest has
+-- this stamp: its number stands there in a record, and in no newer one.
+pub record IsNewest (slots stamp : ℕ) (records : List (List ℕ)) (block slot place : ℕ)
+    : Type 0 where
   pub age : ℕ
-  pub waits : age < length log.waiting
-  pub slot_is : slot ≡ (log.head + age) % log.shape.slots
-  pub inside : place < length (get_or log.waiting age [])
-  pub named : slice_index (get_or log.waiting age []) place ≡ block
-  pub newest : (newer : ℕ) → age < newer → newer < length log.waiting
-      → ¬ Contains (get_or log.waiting newer []) block
+  pub waits : age < length records
+  pub slot_is : slot ≡ (stamp + age) % slots
+  pub inside : place < length (get_or records age [])
+  pub named : slice_index (get_or records age []) place ≡ block
+  pub newest : (newer : ℕ) → age < newer → newer < length records
+      → ¬ Contains (get_or records newer []) block
+
+-- they hold the newest logged copy of this block, in the durable records
+abbrev pub IsNewestCopy : LogValue → ℕ → ℕ → ℕ → Type 0
+IsNewestCopy log = IsNewest log.shape.slots log.head log.waiting
 
 -- no durable record that is not retired has this block
 abbrev pub HasNoCopy : LogValue → ℕ → Type 0

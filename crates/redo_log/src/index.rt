@@ -1,10 +1,7 @@
 //! Where the newest logged copy of each block stands: entries that are sorted by block.
-ghost use Rattle.std.specs.Prelude.{◌≡◌, ◌+◌, ◌<◌, ◌≤◌, length, take, vec_capacity};
-ghost use Rattle.std.specs.Prelude.{IfOk, IfErr, None};
+ghost use Rattle.std.specs.Prelude.{◌≡◌, ℕ, ◌+◌, ◌<◌, ◌≤◌, length, take, vec_capacity};
 ghost use Rattle.std.specs.List.{remove_range};
-ghost use Rattle.redo_log.specs.Index.{look, block_at};
-ghost use Rattle.redo_log.specs.Index.{IsSorted, AreEntered, IsWidened, IsMerged};
-ghost use Rattle.redo_log.specs.Index.{ComesToHave, IsEntered, IsDropped};
+ghost use Rattle.redo_log.specs.Index.{look, outside, IsSorted, AreEntered, Enters};
 
 /// The newest logged copy of a block, in 8 bytes: blocks are below 2^31, slots below 64 and
 /// places below 240.
@@ -15,22 +12,12 @@ pub(crate) struct Copied {
     place: u8,
 }
 
-// Where the entry of a block is, or where it would go.
-fn search(index: &[Copied], block: u64) -> Result<usize, usize>
-    requires { IsSorted index.now }
-    ensures found { IfOk result (λ at. (at < length index.now) × (block_at index.now at ≡ block)) }
-    ensures absent { IfErr result (λ _. look index.now block ≡ None) }
-{
-    index.binary_search_by_key(&block, |copied| copied.block as u64)
-}
-
 /// The slot and the place of a block's copy.
-#[tactic(auto, using(crate::proofs::SortedIndex::look_found))]
 pub(crate) fn newest(index: &[Copied], block: u64) -> Option<(u64, usize)>
     requires { IsSorted index.now }
     ensures { result ≡ look index.now block }
 {
-    match search(index, block) {
+    match index.binary_search_by_key(&block, |copied| copied.block as u64) {
         Ok(at) => Some((index[at].slot as u64, index[at].place as usize)),
         Err(_) => None,
     }
@@ -39,7 +26,9 @@ pub(crate) fn newest(index: &[Copied], block: u64) -> Option<(u64, usize)>
 // Makes room for `count` entries behind the others.
 fn widen(index: &mut Vec<Copied>, count: usize)
     requires { length index.old.items + count ≤ vec_capacity index.old }
-    ensures { IsWidened count index.old index.new }
+    ensures kept { take (length index.old.items) index.new.items ≡ index.old.items }
+    ensures longer { length index.new.items ≡ length index.old.items + count }
+    ensures capacity { vec_capacity index.new ≡ vec_capacity index.old }
 {
     for _ in 0..count {
         index.push_reserved(Copied {
@@ -58,7 +47,11 @@ fn merge(index: &mut [Copied], kept: usize, slot: u8, numbers: &[u64]) -> (usize
     requires room { length index.old ≡ kept + length numbers.now }
     requires sorted { IsSorted (take kept index.old) }
     requires numbers { AreEntered numbers.now }
-    ensures { IsMerged slot numbers.now kept index.old index.new result.0 result.1 }
+    ensures same_length { length index.new ≡ length index.old }
+    ensures start_le_end { result.0 ≤ result.1 }
+    ensures in_bounds { result.1 ≤ length index.new }
+    ensures enters { Enters slot numbers.now 0 (take kept index.old)
+        (remove_range index.new result.0 result.1) }
 {
     let (mut left, mut place, mut to) = (kept, numbers.len(), index.len());
     while place > 0 {
@@ -84,7 +77,8 @@ fn merge(index: &mut [Copied], kept: usize, slot: u8, numbers: &[u64]) -> (usize
 fn close(index: &mut Vec<Copied>, from: usize, to: usize)
     requires start_le_end { from ≤ to }
     requires in_bounds { to ≤ length index.old.items }
-    ensures { ComesToHave (remove_range index.old.items from to) index.old index.new }
+    ensures items { index.new.items ≡ remove_range index.old.items from to }
+    ensures capacity { vec_capacity index.new ≡ vec_capacity index.old }
 {
     if from < to {
         let left = index.len() - (to - from);
@@ -100,7 +94,8 @@ pub(crate) fn enter_record(index: &mut Vec<Copied>, slot: u64, numbers: &[u64])
     requires slot { slot < 64 }
     requires numbers { AreEntered numbers.now }
     requires fits { length index.old.items + length numbers.now ≤ vec_capacity index.old }
-    ensures { IsEntered slot numbers.now index.old index.new }
+    ensures enters { Enters slot numbers.now 0 index.old.items index.new.items }
+    ensures capacity { vec_capacity index.new ≡ vec_capacity index.old }
 {
     let kept = index.len();
     widen(index, numbers.len());
@@ -111,7 +106,10 @@ pub(crate) fn enter_record(index: &mut Vec<Copied>, slot: u64, numbers: &[u64])
 /// Drops the copies that stand in a slot.
 pub(crate) fn drop_slot(index: &mut Vec<Copied>, slot: u64)
     requires { IsSorted index.old.items }
-    ensures { IsDropped slot index.old index.new }
+    ensures sorted { IsSorted index.new.items }
+    ensures looks { (block : ℕ)
+        → look index.new.items block ≡ outside slot (look index.old.items block) }
+    ensures capacity { vec_capacity index.new ≡ vec_capacity index.old }
 {
     index.retain(|copied| copied.slot as u64 != slot);
 }

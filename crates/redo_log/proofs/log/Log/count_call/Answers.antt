@@ -53,5 +53,5 @@ enter_record-requires-clause-fits c =
     let limit = ap (λ (v : LogValue). limit_of v.shape.format) c.self.view_is in
     let one : begun_at i.made ≡ 1 = ap (λ (w : Option ℕ). begun_at w) c.in-Some.is in
     record_room i.sizes.slots i.head (limit_of i.sizes.format) (lists_of i.waiting.items) i.index.items c.self.invariant.index_is
-    (omega (arith, c.self.invariant.ring.fits, one)) (λ age below. (c.self.invariant.ring.each age [] below).few) (vec_capacity i.index)
+    (omega (arith, c.self.invariant.ring.fits, one)) (λ age d below. (c.self.invariant.ring.each age d below).few) (vec_capacity i.index)
     (length c.args.numbers.now) (omega (arith, few, limit, ap (λ (l : List ℕ). length l) c.requires.1)) c.self.invariant.index_room
