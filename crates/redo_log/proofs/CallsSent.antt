@@ -1,7 +1,7 @@
 -- How many calls, writes and flushes the steps of a log make.
-use Rattle.std.proofs.Common.{◌≡◌, ℕ, zero, suc, ◌+◌, ◌<◌, ◌≤◌, List, [], length, get_or, refl, arith, rules, inl, inr}
+use Rattle.std.proofs.Common.{◌≡◌, ℕ, zero, suc, ◌+◌, ◌<◌, ◌≤◌, List, [], length, get_or, refl, arith, rules, inl, inr, ◌⊎◌}
 use Rattle.std.proofs.Common.{◌*◌, sym, ◌∙◌, ap, Result}
-use Rattle.std.specs.Prelude.{Option, Result}
+use Rattle.std.specs.Prelude.{Result}
 use Rattle.medium.specs.Medium.{State, Passes}
 use Rattle.medium.specs.declared.fault.MediumFault.{MediumFault}
 use Rattle.journal.specs.declared.head.Head.{Head as HeadOf}
@@ -15,18 +15,15 @@ use Rattle.redo_log.specs.Flushes.{turn_flushes, next_turn_flushes, step_flushes
 use Rattle.redo_log.specs.Calls.{CallsUpTo, Call, Write, Flush, fault_of, IsFlushDue, IsNextCall}
 use Rattle.redo_log.specs.Steps.{CountsStep}
 use Rattle.redo_log.specs.Held.{turned_of, made_of}
-use Rattle.redo_log.specs.Turns.{calls_of, sends_of, flushes_of, IsCopyOf, IsFlushTurn, IsHeadTurn, IsNextTurn}
+use Rattle.redo_log.specs.Turns.{calls_of, sends_of, flushes_of, IsHeadTurn, IsNextTurn}
 use Rattle.redo_log.proofs.LogRules.{IsLog, oldest_few}
-use Rattle.std.proofs.lemmas.Bool.{ne_eqb}
+use Rattle.std.proofs.lemmas.Bool.Decides.{nat_tests}
 use Rattle.medium.specs.declared.fault.MediumFault.TheVariants as fault
 use Rattle.journal.specs.declared.log_format.LogFormat.TheVariants.{One, Two}
 use Rattle.journal.specs.Record.{entries_of}
-use Rattle.journal.specs.Layout.{Layout}
 use Rattle.journal.specs.Formats.{layout_of}
 use Rattle.journal.proofs.BatchEntries.{length_of_batch}
-use Rattle.journal.proofs.Formats.{laws_of}
-use Rattle.redo_log.specs.Stages.{written_at}
-use Rattle.redo_log.proofs.RecordSteps.{due_or_not, steps_are, last_call, one_left, flush_is, write_is}
+use Rattle.redo_log.proofs.RecordSteps.{flush_of_is, written_is}
 
 -- whether a call of a record is a flush
 abbrev pub flushes_in : Call → ℕ
@@ -40,39 +37,19 @@ call_flushes (Write place bytes) old new {result} passes = omega (arith, passes.
 call_flushes Flush old new {result} passes = passes.made_is
 
 -- a flush is due with the last step, and in format 1 before the commit
-module _ (format : LogFormat) (n made left : ℕ) (sum : made + left ≡ steps_for format n) (some : 0 < left) where
-  abbrev L : Layout
-  L = layout_of format
-
-  late : L.early n < L.parts n
-  late = (laws_of format).last_is_late n
-
-  all_due : left ≡ 1 → L.parts n ≤ written_at (L.early n) made
-  all_due one = last_call (L.early n) (L.parts n) late made (omega (arith, sum, some, steps_are format n))
-      (omega (arith, sum, one, steps_are format n))
-
-  last_due : L.parts n ≤ written_at (L.early n) made → left ≡ 1
-  last_due all = omega (arith, one_left (L.early n) (L.parts n) late made all, steps_are format n, sum, some)
-
-one_flush : (format : LogFormat) → step_flushes format 1 ≡ 1
-one_flush One = refl
-one_flush Two = refl
-
-due_is : (format : LogFormat) (n made left : ℕ) → made + left ≡ steps_for format n → 0 < left → IsFlushDue (layout_of format) n made
-    → step_flushes format left ≡ 1
-due_is format n made left sum some (inr all) = rw (last_due format n made left sum some all) (one_flush format)
-due_is One n made left sum some (inl early) =
-    let third : left ≡ 3 = omega (arith, sum, early.1) in rw third refl
-due_is Two n made left sum some (inl early) = absurd (omega (arith, early.0))
-
--- with no other step
-not_due : (format : LogFormat) (n made left : ℕ) → made + left ≡ steps_for format n → 0 < left
-    → (¬ IsFlushDue (layout_of format) n made) → step_flushes format left ≡ 0
-not_due One n made left sum some not = rw (
-  ne_eqb left 1 (λ one. not (inr (all_due One n made left sum some one))),
-  ne_eqb left 3 (λ three. not (inl (omega arith, omega (arith, sum, three)))),
-) refl
-not_due Two n made left sum some not = rw (ne_eqb left 1 (λ one. not (inr (all_due Two n made left sum some one)))) refl
+flushes_due : (format : LogFormat) (n made left : ℕ) → made + left ≡ steps_for format n → 0 < left
+    → (IsFlushDue (layout_of format) n made × (step_flushes format left ≡ 1))
+    ⊎ ((¬ IsFlushDue (layout_of format) n made) × (step_flushes format left ≡ 0))
+flushes_due format n made zero sum some = absurd (omega (arith, some))
+flushes_due One n made (suc zero) sum some = inl (inr (omega (arith, written_is (n + 1) made, flush_of_is (n + 1), sum)), refl)
+flushes_due One n made (suc (suc zero)) sum some =
+    inr (λ due. omega (arith, due, written_is (n + 1) made, flush_of_is (n + 1), sum), refl)
+flushes_due One n made (suc (suc (suc zero))) sum some = inl (inl (omega arith, omega (arith, sum)), refl)
+flushes_due One n made (suc (suc (suc (suc left)))) sum some =
+    inr (λ due. omega (arith, due, written_is (n + 1) made, flush_of_is (n + 1), sum), grind (arith, nat_tests))
+flushes_due Two n made (suc zero) sum some = inl (inr (omega (arith, written_is 0 made, flush_of_is 0, sum)), refl)
+flushes_due Two n made (suc (suc left)) sum some =
+    inr (λ due. omega (arith, due, written_is 0 made, flush_of_is 0, sum), grind (arith, nat_tests))
 
 -- the next call of a record makes the flushes of the step
 pub step_flushed : {log : LogValue} → IsLog log → 0 < log.steps_left → {numbers : List ℕ} (bytes : List ℕ) → numbers ≡ log.under_way
@@ -85,22 +62,11 @@ step_flushed {log} is some {numbers} bytes same size call next {result} {old} {n
     let many : length log.under_way ≡ n = sym (length_of_batch numbers bytes ∙ ap (λ (l : List ℕ). length l) same) in
     let sum : made_of log + log.steps_left ≡ steps_for log.shape.format n =
     omega (arith, is.most_left, ap (λ (k : ℕ). steps_for log.shape.format k) many) in
-    let flushes : flushes_in call ≡ next_step_flushes log = elim (due_or_not (layout_of log.shape.format) n (made_of log)) [
-      | inl due ↦ rw (flush_is call (next.0 due)) (sym (due_is log.shape.format n (made_of log) log.steps_left sum some due))
-      | inr not ↦ rw (write_is _ _ call (next.1 not)) (sym (not_due log.shape.format n (made_of log) log.steps_left sum some not))
+    let flushes : flushes_in call ≡ next_step_flushes log = elim (flushes_due log.shape.format n (made_of log) log.steps_left sum some) [
+      | inl due ↦ rw (next.0 due.0) (sym due.1)
+      | inr not ↦ rw (next.1 not.0) (sym not.1)
     ] in
     omega (arith, call_flushes call old new passes, flushes)
-
-pub copy_turn : (source target : ℕ) (begins : Option (List ℕ)) (turn : Turn) → IsCopyOf source target begins turn
-    → turn ≡ Copy source target begins
-copy_turn source target begins (Copy from to first) is = cc (is.0, is.1, is.2)
-copy_turn source target begins Flush is = absurd is
-copy_turn source target begins (Head h) is = absurd is
-
-pub flush_turn : (turn : Turn) → IsFlushTurn turn → turn ≡ Flush
-flush_turn (Copy from to first) is = absurd is
-flush_turn Flush is = refl
-flush_turn (Head h) is = absurd is
 
 pub head_turn : (stamp : ℕ) (turn : Turn) → IsHeadTurn stamp turn → (h : HeadOf) × (turn ≡ Head h) × (h.stamp ≡ stamp)
 head_turn stamp (Copy from to first) is = absurd is
@@ -115,9 +81,9 @@ turn_counts shape stamp numbers kept turned zero turn next sum some = absurd (om
 turn_counts shape stamp numbers kept turned (suc zero) turn next sum some =
     rw ((head_turn (stamp + 1) turn (next.head (omega (arith, sum)))).1) (refl, refl, refl)
 turn_counts shape stamp numbers kept turned (suc (suc zero)) turn next sum some =
-    rw (flush_turn turn (next.flush (omega (arith, sum)))) (refl, refl, refl)
+    rw (next.flush (omega (arith, sum))) (refl, refl, refl)
 turn_counts shape stamp numbers kept turned (suc (suc (suc left))) turn next sum some =
-    rw (copy_turn _ _ _ turn (next.home (omega (arith, sum)))) (refl, refl, refl)
+    rw (next.home (omega (arith, sum))) (refl, refl, refl)
 
 -- no step makes more than two calls, or writes and flushes
 two_at_most : (left : ℕ) → (turn_calls left ≤ 2) × (turn_sends left ≤ 2)

@@ -10,7 +10,7 @@ use Rattle.journal.specs.Formats.{layout_of}
 use Rattle.journal.proofs.Format1Laws.{below_is, above_is}
 use Rattle.redo_log.specs.Value.{steps_for, most_steps}
 use Rattle.redo_log.specs.Stages.{flush_of, written_at, flushed_at}
-use Rattle.redo_log.specs.Calls.{IsFlushDue, Call, Write, Flush, placed, IsFlush, IsWriteOf, MakesCall}
+use Rattle.redo_log.specs.Calls.{IsFlushDue, Write, Flush, placed, MakesCall}
 use Rattle.std.specs.Prelude.{slice_range, Result, Ok, Err, OnOk, OnErr}
 use Rattle.std.proofs.lemmas.Result.{on_ok_weaker}
 use Rattle.medium.specs.Medium.{State, Stays, Holds, Within, Gains, Only, Passes, IsSound}
@@ -21,15 +21,6 @@ use Rattle.journal.specs.Record.{Entry, block_of, entries_of}
 use Rattle.journal.proofs.BatchEntries.{length_of_batch, entry_of_batch}
 use Rattle.journal.proofs.Format1Laws as one
 use Rattle.journal.proofs.Format2Laws as two
-
--- a flush, and a write of these bytes
-pub flush_is : (call : Call) → IsFlush call → call ≡ Flush
-flush_is (Write place bytes) is = absurd is
-flush_is Flush is = refl
-
-pub write_is : (place : ℕ) (bytes : List ℕ) (call : Call) → IsWriteOf place bytes call → call ≡ Write place bytes
-write_is place bytes (Write sector written) is = cc (is.0, is.1)
-write_is place bytes Flush is = absurd is
 
 -- a good write holds the bytes, and a refused one may
 pub either_way : {P Q : Type 0} (result : Result (Unit {0}) MediumFault) → OnOk result P → OnErr result (Q ⊎ P) → Q ⊎ P

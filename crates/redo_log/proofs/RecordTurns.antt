@@ -25,7 +25,6 @@ use Rattle.redo_log.specs.Calls.{Call, Write, Flush, MayAdd, IsDone, MakesNext, 
 use Rattle.redo_log.specs.Held.{View, with_record, view_stepped, written_of, flushed_of, made_of, turned_of, needed_of}
 use Rattle.redo_log.specs.Held.{HasDurable, MayLeave, HasHead, Guards, HoldsView, image_view}
 use Rattle.redo_log.proofs.RecordSteps.{steps_are, due_or_not, last_call, not_last, one_left, early_written, part_written}
-use Rattle.redo_log.proofs.RecordSteps.{flush_is, write_is}
 use Rattle.redo_log.proofs.RingRecords.{needed_one}
 use Rattle.redo_log.proofs.GuardedCalls.{Stands, stands_idle, other_part, part_lost, part_there}
 use Rattle.redo_log.proofs.GuardedCalls.{homed_here, same_head, same_stamp, stands_front, logged_leaves, guard_leaves, flush_guards}
@@ -230,8 +229,8 @@ module _ {log : LogValue} (is : IsLog log) (live : log.dead ≡ false) (some : 0
       which =
           let next = rw (other_count, many hv) at here.next in
           elim (due_or_not L n (made_of log)) [
-            | inl due ↦ inl (flush_is call (next.0 due), due)
-            | inr not ↦ inr (write_is (part_at L log.shape stamp n k) (L.part stamp other k) call (next.1 not), not)
+            | inl due ↦ inl (next.0 due, due)
+            | inr not ↦ inr (next.1 not, not)
           ]
 
       -- after it a cut leaves what it might leave before, and with the last part the record

@@ -36,7 +36,7 @@ use Rattle.redo_log.proofs.GuardedCalls.{Stands, stands_less, keeps_of, logged_o
 use Rattle.redo_log.proofs.GuardedCalls.{records_before, newest, with_newest, same_head, stands_front, Logged-records}
 use Rattle.redo_log.proofs.GuardedCalls.{homed_here, guard_leaves, flush_guards}
 use Rattle.redo_log.proofs.KeptFirsts.{kept_is, retired_kept}
-use Rattle.redo_log.proofs.CallsSent.{copy_turn, flush_turn, head_turn}
+use Rattle.redo_log.proofs.CallsSent.{head_turn}
 use Rattle.redo_log.proofs.LogRules.{IsLog, retired_of, one_waits, nothing_home, not_homed}
 use Rattle.redo_log.proofs.HeldLog.{needs_one, many, named, count, stands_then, goes_on, count_of}
 
@@ -244,7 +244,7 @@ module _ {log : LogValue} (is : IsLog log) (live : log.dead ≡ false) (owed : 0
           begins,
           from,
           below,
-          rw number at (copy_turn from _ begins turn (next.home (omega (arith, below, is.owed_most)))),
+          rw number at (next.home (omega (arith, below, is.owed_most))),
           begun_is log.shape.format log.shape old.content log.head oldest whole t inside begins
               (kept_is log.shape.format view.records view.under_way log.firsts hv.firsts 0 t waits inside)
               (old.content from) refl,
@@ -256,7 +256,7 @@ module _ {log : LogValue} (is : IsLog log) (live : log.dead ≡ false) (owed : 0
     which = elim (cases_lt 2 (of_oldest log)) [
       | inl below ↦ inl (homes below)
       | inr few ↦ elim (cases_eq (of_oldest log) 2) [
-        | inl two ↦ inr (inl (two, flush_turn turn (next.flush (omega (arith, two)))))
+        | inl two ↦ inr (inl (two, next.flush (omega (arith, two))))
         | inr not ↦
             let one : of_oldest log ≡ 1 = omega (arith, not, few, owed) in
             inr (inr (one, head_turn (log.head + 1) turn (next.head (omega (arith, one)))))

@@ -42,15 +42,6 @@ abbrev pub IsDone : Call → State → State → Type 0
 IsDone (Write place bytes) old new = Holds place bytes old.content new.content
 IsDone Flush old new = Stays old.content new.content × Only old.content new.may_leave
 
--- the call writes these bytes to this sector
-abbrev pub IsWriteOf : ℕ → List ℕ → Call → Type 0
-IsWriteOf place bytes (Write sector written) = (sector ≡ place) × (written ≡ bytes)
-IsWriteOf place bytes Flush = ⊥
-
-abbrev pub IsFlush : Call → Type 0
-IsFlush (Write place bytes) = ⊥
-IsFlush Flush = Unit {0}
-
 -- a flush comes next: the early parts are written, or all
 abbrev pub IsFlushDue : Layout → ℕ → ℕ → Type 0
 IsFlushDue L count made = ((0 < L.early count) × (made ≡ L.early count))
@@ -60,10 +51,10 @@ IsFlushDue L count made = ((0 < L.early count) × (made ≡ L.early count))
 -- part.
 abbrev pub IsNextCall : Layout → Shape → ℕ → List Entry → ℕ → Call → Type 0
 IsNextCall L shape stamp entries made call =
-    (IsFlushDue L (length entries) made → IsFlush call)
+    (IsFlushDue L (length entries) made → call ≡ Flush)
     × (¬ IsFlushDue L (length entries) made
     → let written = written_at (L.early (length entries)) made in
-    IsWriteOf (part_at L shape stamp (length entries) written) (L.part stamp entries written) call)
+    call ≡ Write (part_at L shape stamp (length entries) written) (L.part stamp entries written))
 
 -- The call is made, or refused. A write goes to its own sector alone.
 pub record MakesCall (call : Call) (result : Result (Unit {0}) MediumFault) (old new : State)

@@ -77,18 +77,6 @@ flushes_of (Copy from to first) = 0
 flushes_of Flush = 1
 flushes_of (Head head) = 1
 
--- the turn copies the first sector to the second, with these bytes in front
-abbrev pub IsCopyOf : ℕ → ℕ → Option (List ℕ) → Turn → Type 0
-IsCopyOf source target begins (Copy from to first) =
-    (from ≡ source) × (to ≡ target) × (first ≡ begins)
-IsCopyOf source target begins Flush = ⊥
-IsCopyOf source target begins (Head head) = ⊥
-
-abbrev pub IsFlushTurn : Turn → Type 0
-IsFlushTurn (Copy from to first) = ⊥
-IsFlushTurn Flush = Unit {0}
-IsFlushTurn (Head head) = ⊥
-
 -- the turn writes the head with this stamp
 abbrev pub IsHeadTurn : ℕ → Turn → Type 0
 IsHeadTurn stamp (Copy from to first) = ⊥
@@ -99,9 +87,8 @@ IsHeadTurn stamp (Head head) = head.stamp ≡ stamp
 -- are any.
 abbrev pub IsHomeTurn : Shape → ℕ → List ℕ → Option (List ℕ) → ℕ → Turn → Type 0
 IsHomeTurn shape stamp numbers first turned turn =
-    IsCopyOf
-    (slot_at (layout_of shape.format) shape stamp + first_data_of shape.format + turned)
-    (first_home shape + slice_index numbers turned) first turn
+    turn ≡ Copy (slot_at (layout_of shape.format) shape stamp + first_data_of shape.format + turned)
+    (first_home shape + slice_index numbers turned) first
 
 -- The next turn of a record with this stamp: its blocks go home, a flush, the head with the next
 -- stamp. It is the oldest of those of which these first bytes are kept.
@@ -109,7 +96,7 @@ pub record IsNextTurn (shape : Shape) (stamp : ℕ) (numbers : List ℕ) (kept :
     (turned : ℕ) (turn : Turn) : Type 0 where
   pub home : turned < length numbers
       → IsHomeTurn shape stamp numbers (first_kept kept 0 turned) turned turn
-  pub flush : turned ≡ length numbers → IsFlushTurn turn
+  pub flush : turned ≡ length numbers → turn ≡ Flush
   pub head : turned ≡ length numbers + 1 → IsHeadTurn (stamp + 1) turn
 
 -- The turn is the one that this says. It reads and writes no sector behind the image, and reads

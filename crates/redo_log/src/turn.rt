@@ -8,7 +8,7 @@ ghost use Rattle.redo_log.specs.Shown.{firsts_in};
 ghost use Rattle.redo_log.specs.Turns.{begun_with, calls_of, sends_of, flushes_of};
 ghost use Rattle.redo_log.specs.Turns.{IsInside, MakesTurn, ReadsBefore, WritesSector};
 ghost use Rattle.redo_log.specs.Firsts.{first_kept};
-ghost use Rattle.redo_log.specs.Turns.{StaysInImage, IsHomeTurn, IsFlushTurn, IsHeadTurn};
+ghost use Rattle.redo_log.specs.Turns.{StaysInImage, IsHomeTurn, IsHeadTurn};
 ghost use Rattle.redo_log.specs.Turns.{IsNextTurn};
 
 use crate::firsts::first_kept;
@@ -104,7 +104,7 @@ pub(crate) fn next_turn(
 fn last_turn(sizes: &Super, stamp: u64, home: usize, turned: usize) -> Turn
     requires stamp { stamp < 2 ^ 63 - 1 }
     requires turned { turned < home + 2 }
-    ensures { StaysInImage ((turned ≡ home → IsFlushTurn result)
+    ensures { StaysInImage ((turned ≡ home → result ≡ Turn.Flush)
         × (turned ≡ home + 1 → IsHeadTurn (stamp + 1) result)) (shape_of sizes.now) result }
 {
     if turned == home {

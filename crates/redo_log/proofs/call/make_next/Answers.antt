@@ -31,7 +31,7 @@ returns-then-is_flush_due g c =
     record {
       makes = record {
         call = Flush;
-        next = rw (length_of_batch c.args.numbers.now c.args.bytes.now) (λ _. tt, λ not. absurd (not (due.0 c.if-is_flush_due.true)));
+        next = rw (length_of_batch c.args.numbers.now c.args.bytes.now) (λ _. refl, λ not. absurd (not (due.0 c.if-is_flush_due.true)));
         inside = tt;
         makes = flush_makes (g.M.Medium.state c.args.m.now) (g.M.Medium.state c.flush.new.self) c.flush.result
             (g.met.M.Medium.sound c.args.m.now) c.flush.ensures.ok c.flush.ensures.content c.flush.ensures.sets c.flush.ensures.passes;
@@ -58,7 +58,7 @@ returns g c =
         call = Write (part_at L shape c.args.stamp n w) (L.part c.args.stamp E w);
         next = rw (length_of_batch c.args.numbers.now c.args.bytes.now) (
           λ now. cc (c.if-is_flush_due.false, due.1 now),
-          λ not. rw w_is (refl, refl),
+          λ not. rw w_is refl,
         );
         inside = before_home shape (sizes_sized c.args.sizes.now) c.args.stamp (L.offset n w)
             ((laws_of format).inside n w (omega (arith, c.requires.record.numbers_are.few, most_is format)) small);
