@@ -3,8 +3,8 @@ use Rattle.std.proofs.Common.{◌≡◌, ◌≢◌, ℕ, suc, ◌+◌, ◌-◌, 
 use Rattle.std.proofs.Common.{refl, sym, ◌∙◌, ap, subst, arith, rules}
 use Rattle.std.specs.Prelude.{All, Bool, Option, Some, None, Result, sum_by, slice_index_or}
 use Rattle.std.proofs.Math.Nat.{mul-le-mul_left}
-use Rattle.std.proofs.lemmas.List.{length-map}
-use Rattle.std.proofs.lemmas.List.Sums.{sum_by-cons, sum_by-append}
+use Rattle.std.proofs.lemmas.List.{length-map, nil_from_length, drop_more}
+use Rattle.std.proofs.lemmas.List.Sums.{sum_by-cons, sum_by-append, sum_by-le}
 use Rattle.arrayvec.specs.ArrayVec.{ArrayVec}
 use Rattle.medium.specs.Medium.{State}
 use Rattle.medium.specs.declared.fault.MediumFault.{MediumFault}
@@ -23,7 +23,7 @@ use Rattle.redo_log.specs.Shown.{lists_of, kept_in, shown, Invariant}
 use Rattle.redo_log.specs.Calls.{MakesNext}
 use Rattle.redo_log.specs.Turns.{IsNextTurn, StaysInImage}
 use Rattle.redo_log.specs.Held.{made_of, turned_of, stamps_of}
-use Rattle.redo_log.proofs.RingRecords.{front_is, steps_of_one, few_steps}
+use Rattle.redo_log.proofs.RingRecords.{front_is, steps_of_one}
 
 -- the record under way is durable
 abbrev pub durable_of : LogValue → LogValue
@@ -134,6 +134,7 @@ pub one_stamp : (numbers : List ℕ) → 1 ≤ length numbers → stamps_of numb
 one_stamp [] some = absurd (omega arith)
 one_stamp (n ∷ numbers) some = refl
 
+-- those of the oldest record and of the others
 steps_of_all : (waiting : List (List ℕ))
     → sum_by retire_steps_of waiting ≡ retire_steps_of (get_or waiting 0 []) + sum_by retire_steps_of (drop 1 waiting)
 steps_of_all [] = refl
@@ -151,9 +152,9 @@ few_owed : (shape : Shape) (most : ℕ) → limit_of shape.format + 2 ≤ most �
     → left + sum_by retire_steps_of (drop 1 waiting) ≤ most * length waiting
 few_owed shape most few [] each left none within = omega arith
 few_owed shape most few (n ∷ newer) each left none within =
-    let rest = few_steps shape most few newer (λ j d below. each (suc j) d (omega arith)) in
-    let one : most * (length newer + 1) ≡ most * length newer + most = omega arith in
-    omega (arith, rest, one, (each 0 [] (omega arith)).few, few, within)
+    let rest = sum_by-le retire_steps_of most newer
+    (λ i d below. omega (arith, (each (suc i) d (omega arith)).few, steps_of_one (get_or newer i d), few)) in
+    omega (arith, rest, (each 0 [] (omega arith)).few, few, within)
 
 -- with one more a log with room owes no more than its slots may need
 pub few_begun : {log : LogValue} → IsLog log → HasRoom log → (numbers : List ℕ) → length numbers ≤ limit_of log.shape.format
@@ -164,42 +165,28 @@ few_begun {log} is room numbers few = from (limit_of log.shape.format + 2) (omeg
     from most enough =
         let none = ap (λ (l : List ℕ). retire_steps_of l) room.none_under_way in
         let all : most * (length log.waiting + 1) ≤ most * log.shape.slots = mul-le-mul_left most (omega (arith, is.taken, room.free)) in
-        let more : most * (length log.waiting + 1) ≡ most * length log.waiting + most = omega arith in
         let owed = few_owed log.shape most enough log.waiting is.each (of_oldest log) (λ none. omega (arith, is.alone none)) is.owed_most in
-        omega (arith, owed, none, all, more, steps_of_one numbers, few, enough)
-
--- one record more
-one_more : (waiting : List (List ℕ)) (numbers : List ℕ)
-    → (length waiting ≡ 0 → (get_or (waiting ++ numbers ∷ []) 0 [] ≡ numbers)
-    × (sum_by retire_steps_of (drop 1 waiting) ≡ 0)
-    × (sum_by retire_steps_of (drop 1 (waiting ++ numbers ∷ [])) ≡ 0))
-    × (0 < length waiting → (get_or (waiting ++ numbers ∷ []) 0 [] ≡ get_or waiting 0 [])
-    × (sum_by retire_steps_of (drop 1 (waiting ++ numbers ∷ [])) ≡ sum_by retire_steps_of (drop 1 waiting) + retire_steps_of numbers))
-one_more [] numbers = (λ none. (refl, refl, refl), λ some. absurd (omega arith))
-one_more (n ∷ newer) numbers = (
-  λ none. absurd (omega arith),
-  λ some. (refl, sum_by-append retire_steps_of newer (numbers ∷ []) ∙ omega (arith, sum_by-cons retire_steps_of numbers [])),
-)
+        omega (arith, owed, none, all, steps_of_one numbers, few, enough)
 
 module _ (log : LogValue) where
   -- the record that is durable now is the oldest one, and no turn of it is made
   pub durable_alone : IsLog log → 0 < log.steps_left → length log.waiting ≡ 0
       → (2 < of_oldest (durable_of log)) × (turned_of (durable_of log) ≡ 0)
   durable_alone is left none =
-      let one = (one_more log.waiting log.under_way).0 none in
-      let long = ap (λ (l : List ℕ). length l) one.0 in
-      let steps = steps_of_one log.under_way in
+      let empty = nil_from_length log.waiting none in
+      let owed = rw empty at (is.alone none) in
       let some = (is.record_is left).numbers_are.some in
-      (omega (arith, one.1, one.2, is.alone none, some, steps), omega (arith, one.1, one.2, is.alone none, some, steps, long))
+      rw empty (omega (arith, owed, steps_of_one log.under_way, some), omega (arith, owed, steps_of_one log.under_way, some))
 
   -- or the oldest one stays it
   pub durable_more : 0 < length log.waiting
       → (of_oldest (durable_of log) ≡ of_oldest log) × (turned_of (durable_of log) ≡ turned_of log)
   durable_more some =
-      let more = (one_more log.waiting log.under_way).1 some in
-      let long = ap (λ (l : List ℕ). length l) more.0 in (omega (arith, more.1), omega (arith, more.1, long))
+      let more = sum_by-append retire_steps_of (drop 1 log.waiting) (log.under_way ∷ []) in
+      let one = sum_by-cons retire_steps_of log.under_way [] in
+      rw (drop_more log.waiting 0 [] some) (omega (arith, more, one), omega (arith, more, one))
 
-  -- of the record behind the oldest no block is home, and it is not flushed there
+-- of the record behind the oldest no block is home, and it is not flushed there
   pub nothing_home : (i : ℕ) → i < turned_of (retired_of log) → ¬ (i < length (get_or (drop 1 log.waiting) 0 []))
   nothing_home i low high = omega (arith, steps_of_all (drop 1 log.waiting), steps_of_one (get_or (drop 1 log.waiting) 0 []), low, high)
 
@@ -219,9 +206,8 @@ pub retired_value : (ahead : Ahead) (shape : Shape) (head : ℕ) (waiting : List
     ≡ retired_of (value_at ahead shape head waiting turned kept items writing dead)
 retired_value ahead shape head [] turned kept items writing dead each some = absurd (omega arith)
 retired_value ahead shape head (n ∷ newer) turned kept items writing dead each some =
-    let old = value_at ahead shape head (n ∷ newer) turned kept items writing dead in
-    let new = value_at ahead shape (head + 1) newer 0 (drop 1 kept) items writing dead in
-    let next : new.next ≡ old.next = omega arith in
-    let left : new.retire_steps_left ≡ behind_oldest old = omega
+    let next : head + 1 + length newer + begun_at writing ≡ head + suc (length newer) + begun_at writing = omega arith in
+    let left : oldest_at newer 0 + (sum_by retire_steps_of (drop 1 newer) + retire_steps_of items)
+    ≡ sum_by retire_steps_of newer + retire_steps_of items = omega
     (arith, next_left shape newer (λ j d below. each (suc j) d (omega arith))) in
-    ap (λ (m : ℕ). record new { next = m }) next ∙ ap (λ (m : ℕ). record new { next = old.next; retire_steps_left = m }) left
+    cc (next, left)

@@ -1,15 +1,14 @@
 -- How the records of a ring come and go.
-use Rattle.std.proofs.Common.{◌≡◌, ◌⊎◌, inl, inr, ℕ, zero, suc, ◌+◌, ◌-◌, ◌*◌, ◌%◌, ◌<◌, ◌≤◌, List, [], ◌∷◌, ◌++◌}
+use Rattle.std.proofs.Common.{◌≡◌, ◌⊎◌, inl, inr, ℕ, zero, suc, ◌+◌, ◌-◌, ◌%◌, ◌<◌, List, [], ◌∷◌, ◌++◌}
 use Rattle.std.proofs.Common.{length, drop, refl, sym, ◌∙◌, ap, arith, length-append, length-drop, ⊎_elim}
 use Rattle.std.proofs.Math.Nat.{mod-add-mod, add-mod_left, mod-eq_of_lt}
 use Rattle.std.proofs.lemmas.Bool.{cases_lt}
 use Rattle.std.proofs.lemmas.Bool.Decides.{nat_tests}
 use Rattle.std.proofs.lemmas.Nat.{mod_below}
-use Rattle.std.specs.Prelude.{All, Option, Some, None, sum_by, slice_index_or}
+use Rattle.std.specs.Prelude.{Option, Some, None, slice_index_or}
 use Rattle.std.proofs.lemmas.List.Elements.{All-drop, All-push}
-use Rattle.std.proofs.lemmas.List.Sums.{sum_by-cons}
 use Rattle.arrayvec.specs.ArrayVec.{ArrayVec}
-use Rattle.journal.specs.Places.{Shape, limit_of}
+use Rattle.journal.specs.Places.{Shape}
 use Rattle.redo_log.specs.Value.{retire_steps_of, Ahead}
 use Rattle.redo_log.specs.Stages.{AreInside, IsOldest, IsRing, needed_at, IsAheadOf}
 use Rattle.redo_log.specs.Shown.{lists_of}
@@ -77,15 +76,6 @@ pub steps_of_one : (numbers : List ℕ)
     → ((length numbers ≡ 0) × (retire_steps_of numbers ≡ 0)) ⊎ (retire_steps_of numbers ≡ length numbers + 2)
 steps_of_one [] = inl (refl, refl)
 steps_of_one (n ∷ numbers) = inr refl
-
--- how many some records need at most
-pub few_steps : (shape : Shape) (most : ℕ) → limit_of shape.format + 2 ≤ most → (records : List (List ℕ)) → All (AreInside shape) records
-    → sum_by retire_steps_of records ≤ most * length records
-few_steps shape most few [] each = omega arith
-few_steps shape most few (n ∷ newer) each =
-    let rest = few_steps shape most few newer (λ j d below. each (suc j) d (omega arith)) in
-    let one : most * (length newer + 1) ≡ most * length newer + most = omega arith in
-    omega (arith, sum_by-cons retire_steps_of n newer, rest, steps_of_one n, (each zero [] (omega arith)).few, few, one)
 
 -- how old the record in a slot is
 pub age_is : (slots head age slot : ℕ) → age < slots → slot ≡ (head + age) % slots → (slot + slots - head % slots) % slots ≡ age
