@@ -175,10 +175,10 @@ impl Log {
         ensures { MakesStep M.state M.follows (entries_of numbers.now bytes.now) result
             self.old self.new m.old m.new }
     {
-        if self.make_call(m, numbers, bytes).is_err() {
+        let Ok(()) = self.make_call(m, numbers, bytes) else {
             self.stop();
             return Err(LogFault::Medium);
-        }
+        };
         Ok(self.count_call(numbers))
     }
 
@@ -200,10 +200,10 @@ impl Log {
         if self.waiting.is_empty() {
             return Ok(());
         }
-        if self.make_turn(m).is_err() {
+        let Ok(()) = self.make_turn(m) else {
             self.stop();
             return Err(LogFault::Medium);
-        }
+        };
         self.count_turn();
         Ok(())
     }

@@ -1,7 +1,6 @@
 use Rattle.std.proofs.Common.{arith, rules}
 use Rattle.redo_log.specs.Value.{IsAway}
-use Rattle.redo_log.proofs.HeldLog.{on_ok_here, leaves_none}
-use Rattle.std.proofs.lemmas.Grind.{common_steps}
+use Rattle.redo_log.proofs.HeldLog.{leaves_none}
 use Rattle.redo_log.proofs.log.Log.home_ahead.Goals as goal
 
 pub returns-then-not-is_away : goal.returns-then-not-is_away
@@ -13,10 +12,8 @@ returns g c =
     let away : IsAway c.args.self.now = search rules in
     record {
       none = λ home. absurd (home away);
-      answers = grind (arith, common_steps);
-      passes = grind (arith, common_steps);
-      holds = λ view holds.
-          on_ok_here c.make_turn.result c.is_err.ensures.value c.if-is_err.false
-          (c.make_turn.ensures.sent away view holds c.count_home.new.self c.count_home.ensures);
+      answers = search rules;
+      passes = search (rules, arith);
+      holds = λ view holds. c.in-Ok.ensures.sent away view holds c.count_home.new.self c.count_home.ensures;
       leaves = c.make_turn.ensures.brings.leaves;
     }

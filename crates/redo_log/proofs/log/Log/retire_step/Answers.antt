@@ -1,18 +1,11 @@
 use Rattle.std.proofs.Common.{◌<◌, length, ap, arith, rules}
 use Rattle.redo_log.specs.Value.{LogValue}
-use Rattle.redo_log.proofs.HeldLog.{on_ok_here, leaves_none}
+use Rattle.std.proofs.lemmas.Grind.{common_steps}
+use Rattle.redo_log.proofs.HeldLog.{leaves_none}
 use Rattle.redo_log.proofs.LogRules.{log_is, many_lists}
 use Rattle.std.proofs.lemmas.Grind.{common_steps}
 use Rattle.redo_log.proofs.log.Log.retire_step.Goals as goal
 
-pub returns-then-is_empty : goal.returns-then-is_empty
-returns-then-is_empty g c = record {
-  none = search rules;
-  answers = grind (arith, common_steps);
-  passes = grind (arith, common_steps);
-  holds = search rules;
-  leaves = leaves_none c.args.self.now (g.M.Medium.state c.args.m.now) (g.met.M.Medium.sound c.args.m.now);
-}
 
 pub make_turn-requires-clause-owed : goal.make_turn-requires-clause-owed
 make_turn-requires-clause-owed g c =
@@ -21,13 +14,11 @@ make_turn-requires-clause-owed g c =
     (log_is i c.self.view_is c.self.invariant).owed
     (omega (arith, waits, many_lists i.waiting.items, ap (λ (v : LogValue). length v.waiting) c.self.view_is))
 
-pub returns : goal.returns
-returns g c = record {
+pub returns-then-is_empty : goal.returns-then-is_empty
+returns-then-is_empty g c = record {
   none = search rules;
   answers = grind (arith, common_steps);
   passes = grind (arith, common_steps);
-  holds = λ view holds.
-      on_ok_here c.make_turn.result c.is_err.ensures.value c.if-is_err.false
-      (c.make_turn.ensures.brings.counted view holds c.count_turn.new.self c.count_turn.ensures);
-  leaves = c.make_turn.ensures.brings.leaves;
+  holds = search rules;
+  leaves = leaves_none c.args.self.now (g.M.Medium.state c.args.m.now) (g.met.M.Medium.sound c.args.m.now);
 }
