@@ -1,6 +1,6 @@
 -- What is true of every log, as a caller sees it, whatever its fields are.
 use Rattle.std.proofs.Common.{◌≡◌, ◌≢◌, ℕ, suc, ◌+◌, ◌-◌, ◌*◌, ◌<◌, ◌≤◌, List, [], ◌∷◌, ◌++◌, length, get_or, drop}
-use Rattle.std.proofs.Common.{refl, sym, ◌∙◌, ap, subst, arith, rules}
+use Rattle.std.proofs.Common.{refl, sym, ap, subst, arith, rules}
 use Rattle.std.specs.Prelude.{All, Bool, Option, Some, None, Result, sum_by, slice_index_or}
 use Rattle.std.proofs.Math.Nat.{mul-le-mul_left}
 use Rattle.std.proofs.lemmas.List.{length-map, nil_from_length, drop_more}
@@ -102,26 +102,22 @@ module _ (i : Inside) {log : LogValue} (is : shown i ≡ log) where
     front = front_is i.waiting.items first some there
 
     pub left_of : of_oldest log ≡ length first.items + 2 - i.turned
-    left_of =
-        let left : of_oldest (shown i) ≡ oldest_at (lists_of i.waiting.items) i.turned = omega arith in
-        sym (ap (λ (v : LogValue). of_oldest v) is) ∙ left ∙ ap (λ (l : List (List ℕ)). oldest_at l i.turned) front
+    left_of = rw (← is, front) (omega arith)
 
     -- its next turn, as a caller sees the log
     pub next_of : 0 < of_oldest log → (turn : Turn)
         → StaysInImage (IsNextTurn (shape_of i.sizes) i.head first.items (kept_in i) i.turned turn) (shape_of i.sizes) turn
         → StaysInImage (IsNextTurn log.shape log.head (get_or log.waiting 0 []) log.firsts (turned_of log) turn) log.shape turn
     next_of owed turn next =
-        let numbers : first.items ≡ get_or (lists_of i.waiting.items) 0 [] = sym (ap (λ (l : List (List ℕ)). get_or l 0 []) front) in
-        let same : of_oldest (shown i) ≡ of_oldest log = ap (λ (v : LogValue). of_oldest v) is in
-        let turned : i.turned ≡ turned_of (shown i) = omega (arith, left_of, same, owed, ap (λ (l : List ℕ). length l) numbers) in
-        rw (← is, ← turned, ← numbers) next
+        let turned : i.turned ≡ turned_of (shown i) = rw front (omega (arith, rw (← is, front) at owed)) in
+        rw (← is, ← turned, front) next
 
   -- the next call of the record under way too
   pub call_of : Invariant i → (made stamp : ℕ) → i.made ≡ Some made → stamp ≡ i.head + length i.waiting.items → {entries : List Entry}
       → {result : Result (Unit {0}) MediumFault} → {old new : State} → MakesNext (shape_of i.sizes) stamp entries made result old new
       → MakesNext log.shape (log.head + length log.waiting) entries (made_of log) result old new
   call_of inv made stamp at stamp_is {entries} {result} {old} {new} makes =
-      let ring = subst (IsUnderWay (shape_of i.sizes) i.under_way.items) at inv.ring.record_under_way in
+      let ring = rw at at inv.ring.record_under_way in
       let left = ap (λ (w : Option ℕ). steps_at i.sizes.format (length i.under_way.items) w) at in
       let made_is : made ≡ made_of (shown i) = omega (arith, left, ring.1) in
       let here : stamp ≡ i.head + length (lists_of i.waiting.items) = omega (arith, stamp_is, many_lists i.waiting.items) in

@@ -1,5 +1,4 @@
-use Rattle.std.proofs.Common.{◌<◌, length, ap, arith, rules}
-use Rattle.redo_log.specs.Value.{LogValue}
+use Rattle.std.proofs.Common.{◌<◌, length, arith, rules}
 use Rattle.std.proofs.lemmas.Grind.{common_steps}
 use Rattle.redo_log.proofs.HeldLog.{leaves_none}
 use Rattle.redo_log.proofs.LogRules.{log_is, many_lists}
@@ -12,7 +11,7 @@ make_turn-requires-clause-owed g c =
     let i = c.self.inside in
     let waits : 0 < length i.waiting.items = search rules in
     (log_is i c.self.view_is c.self.invariant).owed
-    (omega (arith, waits, many_lists i.waiting.items, ap (λ (v : LogValue). length v.waiting) c.self.view_is))
+    (rw (← c.self.view_is) (omega (arith, waits, many_lists i.waiting.items)))
 
 pub returns-then-is_empty : goal.returns-then-is_empty
 returns-then-is_empty g c = record {

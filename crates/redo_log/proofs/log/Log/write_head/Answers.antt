@@ -1,10 +1,10 @@
-use Rattle.std.proofs.Common.{◌≡◌, ◌+◌, ◌<◌, ◌∙◌, ap, arith}
+use Rattle.std.proofs.Common.{◌≡◌, ◌+◌, ◌<◌, arith}
 use Rattle.std.proofs.lemmas.Result.{on_ok_weaker}
 use Rattle.medium.proofs.Moments.{one_call}
 use Rattle.medium.proofs.SectorsRead.{no_looks}
 use Rattle.medium.proofs.SparedSectors.{spared_write}
 use Rattle.journal.specs.Places.{first_home, sectors_of}
-use Rattle.redo_log.specs.Value.{LogValue, of_oldest}
+use Rattle.redo_log.specs.Value.{of_oldest}
 use Rattle.redo_log.specs.Held.{View, HoldsView}
 use Rattle.redo_log.proofs.OneSector.{one_write}
 use Rattle.redo_log.proofs.RecordSteps.{either_way}
@@ -26,7 +26,7 @@ returns g c =
     let one = c.requires.can.flushed in
     let owed : 0 < of_oldest log = omega (arith, one) in
     let h = c.new.result in
-    let stamp : h.stamp ≡ log.head + 1 = c.new.ensures ∙ ap (λ (v : LogValue). v.head + 1) c.self.view_is in
+    let stamp : h.stamp ≡ log.head + 1 = rw (← c.self.view_is) c.new.ensures in
     let passes = c.write.ensures.passes in
     let adds = rw c.encode.ensures.spelled at (one_write 1 c.encode.result old sound new passes c.write.ensures.sets) in
     let cuts = λ (view : View) (holds : HoldsView log old view). head_leaves is live owed sound holds one h stamp new adds in
