@@ -1,6 +1,6 @@
 -- The crash argument, for every layout: what the writing of a record leaves.
-use Rattle.std.proofs.Common.{◌≡◌, ◌≢◌, ℕ, ◌+◌, ◌*◌, ◌-◌, ◌%◌, ◌<◌, ◌≤◌, List, length, arith, rules}
-use Rattle.std.proofs.lemmas.Bool.{cases_eq, cases_lt}
+use Rattle.std.proofs.Common.{◌≡◌, ◌≢◌, ◌⊎◌, inl, inr, ⊎_elim, ℕ, ◌+◌, ◌*◌, ◌-◌, ◌%◌, ◌<◌, ◌≤◌, List, length, refl, arith, rules}
+use Rattle.std.proofs.lemmas.Bool.{cases_eq}
 use Rattle.std.proofs.lemmas.Nat.{mod_below}
 use Rattle.medium.specs.Medium.{Image, Holds}
 use Rattle.spec.specs.Blocks.{Array}
@@ -8,7 +8,7 @@ use Rattle.journal.specs.Places.{Shape}
 use Rattle.journal.specs.Record.{Entry}
 use Rattle.journal.specs.Layout.{Layout, IsWholeIn, HasWholeIn, CarriesBelowIn, LoggedIn, RestsIn, IsFree, slot_at, part_at}
 use Rattle.journal.specs.LayoutLaws.{Laws, IsRecordOf}
-use Rattle.journal.specs.Staged.{View, stamp_of, KeepsView, Found, Guarded, HasSlots, Resting}
+use Rattle.journal.specs.Staged.{View, stamp_of, KeepsView, Found, Stored, Guarded, HasSlots, Resting}
 use Rattle.journal.proofs.Apart.{in_log, other_sector}
 use Rattle.journal.proofs.Slots.{other_slot}
 use Rattle.journal.proofs.Wholeness.{record_of, Keeps-same}
@@ -55,10 +55,19 @@ module _ (L : Layout) (laws : Laws L) (shape : Shape) (some : 1 ≤ shape.slots)
       let none = none_carried image (head + length records) r.carries in search (rules, arith, r.carries)
 
 -- where no sector of the log carries the stamp or a later one, a record may be begun
-pub rests_begun : (L : Layout) → Laws L → (v : View) → 1 ≤ v.shape.slots → length v.under_way ≤ L.most → (image : Image) → Resting L v image
-    → Guarded L v 0 0 image
-rests_begun L laws v some few image r =
-    let low = mod_below (stamp_of v) v.shape.slots some in search (rules, arith, r.carries, laws.inside)
+pub rests_begun : {L : Layout} {v : View} {image : Image} → Resting L v image → Guarded L v 0 0 image
+rests_begun r = record {
+  stored = record { keeps = r.keeps; parts = λ p none. absurd (omega arith) };
+  carries = λ slot o low small. inr (λ t. r.carries slot o t low small);
+}
+
+-- and with no part of it written none does
+pub begun_rests : {L : Layout} {v : View} {so_far durable : ℕ} {image : Image} → so_far ≡ 0 → Guarded L v so_far durable image
+    → Resting L v image
+begun_rests none g = record {
+  keeps = g.stored.keeps;
+  carries = λ slot o t low small c. ⊎_elim (λ h. absurd (omega (arith, h.early))) (λ free. free t c) (g.carries slot o low small);
+}
 
 module _ (L : Layout) (laws : Laws L) (v : View) (slots : HasSlots L v) where
   -- where the last part of the record under way does not carry its stamp, it is not whole
@@ -89,23 +98,34 @@ module _ (L : Layout) (laws : Laws L) (v : View) (slots : HasSlots L v) where
       ))
       (λ x from to. write.elsewhere x (λ e. omega (arith, slots.behind))) k
 
-  -- part k of a record of this stamp is written: no sector carries a later one
-  carries_stays : (es : List Entry) → IsRecordOf L v.shape.blocks (stamp_of v) es → (before image : Image) (k : ℕ)
-      → k < L.parts (length es) → Holds (part_at L v.shape (stamp_of v) (length es) k) (L.part (stamp_of v) es k) before image
-      → CarriesBelowIn L v.shape before (stamp_of v + 1) → CarriesBelowIn L v.shape image (stamp_of v + 1)
-  carries_stays es is before image k below write c other o t low small carries =
-      let here = part_at L v.shape (stamp_of v) (length es) k in
-      grind (
-        arith,
-        cases_eq (2 + L.slot_sectors * other + o) here,
-        cases_eq other (stamp_of v % v.shape.slots),
-        c other o t low small,
-        write.here,
-        write.elsewhere,
-        laws.one_stamp v.shape.blocks (stamp_of v) t es k is below,
-        other_sector L.slot_sectors other (stamp_of v % v.shape.slots) o (L.offset (length es) k),
-        laws.inside (length es) k is.fit.few below,
-      )
+  -- a part of a record of this stamp carries no other one
+  one_part : (es : List Entry) → IsRecordOf L v.shape.blocks (stamp_of v) es → (slot o t p : ℕ) (bytes : List ℕ)
+      → o < L.slot_sectors → p < L.parts (length es)
+      → 2 + L.slot_sectors * slot + o ≡ part_at L v.shape (stamp_of v) (length es) p → bytes ≡ L.part (stamp_of v) es p
+      → L.carries o t bytes → t ≡ stamp_of v
+  one_part es is slot o t p bytes small below place there carries =
+      let low = laws.inside (length es) p is.fit.few below in
+      let apart = other_sector L.slot_sectors slot (stamp_of v % v.shape.slots) o (L.offset (length es) p) in
+      grind (arith, cases_eq slot (stamp_of v % v.shape.slots), apart, laws.one_stamp v.shape.blocks (stamp_of v) t es p is below)
+
+  -- no sector of the log carries a later stamp
+  pub carries_below : (image : Image) (so_far durable : ℕ) → Guarded L v so_far durable image
+      → CarriesBelowIn L v.shape image (stamp_of v + 1)
+  carries_below image so_far durable g slot o t low small carries = ⊎_elim
+      (λ h. omega (arith, one_part v.under_way slots.under_way slot o t h.part _ small h.inside h.place_is h.there carries))
+      (λ free. omega (arith, free t carries))
+      (g.carries slot o low small)
+
+  -- a part is there, of those that are written, or its sector does not carry the stamp
+  pub part_or_free : (image : Image) (so_far durable p : ℕ) → Guarded L v so_far durable image → p < L.parts (length v.under_way)
+      → ((p < so_far) × (image (at L v p) ≡ bytes_of L v p))
+      ⊎ IsFree L (stamp_of v) (L.offset (length v.under_way) p) (image (at L v p))
+  part_or_free image so_far durable p g below = ⊎_elim
+      (λ h.
+      let same : h.part ≡ p = laws.apart (length v.under_way) h.part p slots.under_way.fit.few h.inside below (omega (arith, h.place_is)) in
+      inl (omega (arith, h.early, same), rw same at h.there))
+      inr
+      (g.carries (stamp_of v % v.shape.slots) (L.offset (length v.under_way) p) slot_below (inside p below))
 
   -- a part that was not written now
   part_stays : {before image : Image} {k p : ℕ} {bytes : List ℕ} → Holds (at L v k) bytes before image
@@ -113,42 +133,54 @@ module _ (L : Layout) (laws : Laws L) (v : View) (slots : HasSlots L v) where
   part_stays {k = k} {p = p} write below small not = write.elsewhere (at L v p)
       (λ e. not (laws.apart (length v.under_way) p k slots.under_way.fit.few small below (omega (arith, e))))
 
-  -- part k reached the medium
-  pub Guarded-write : (before image : Image) (k durable : ℕ) → k < L.parts (length v.under_way)
-      → Holds (at L v k) (bytes_of L v k) before image → Guarded L v k durable before → Guarded L v (k + 1) durable image
-  Guarded-write before image k durable below write g =
-      let keeps = keeps_stays before image _ (bytes_of L v k) (inside k below) write g.keeps in
-      let carries = carries_stays v.under_way slots.under_way before image k below write g.parts.carries in
-      let stays = λ (p : ℕ). part_stays {p = p} write below in
-      grind (arith, cases_eq, stays, write.here, g.parts.flushed, g.parts.either, g.parts.free)
+  -- part k is written: of those that count it alone was not there
+  pub Stored-write : {before image : Image} (k : ℕ) {count next : ℕ} → k < L.parts (length v.under_way)
+      → ((p : ℕ) → p < next → p ≢ k → p < count) → Holds (at L v k) (bytes_of L v k) before image
+      → Stored L v count before → Stored L v next image
+  Stored-write {before} {image} k below others write s =
+      let keeps = keeps_stays before image _ (bytes_of L v k) (inside k below) write s.keeps in
+      record {
+        keeps = keeps;
+        parts = λ p low small. elim (cases_eq p k) [
+          | inl same ↦ rw (same, write.here) refl
+          | inr other ↦ rw (part_stays write below small other) (s.parts p (others p low other) small)
+        ];
+      }
 
-  -- part k was lost
-  pub Guarded-lost : (image : Image) (k durable : ℕ) → k < L.parts (length v.under_way) → Guarded L v k durable image
-      → Guarded L v (k + 1) durable image
-  Guarded-lost image k durable below g = record {
-    keeps = g.keeps;
-    parts = record {
-      carries = g.parts.carries;
-      flushed = g.parts.flushed;
-      either = λ p less small. search (rules, arith, cases_lt p k, g.parts.either p, g.parts.free p);
-      free = λ p more small. g.parts.free p (omega arith) small;
-    };
+  -- part k may be there
+  pub Guarded-lost : {image : Image} (k : ℕ) {durable : ℕ} → Guarded L v k durable image → Guarded L v (k + 1) durable image
+  Guarded-lost k g = record {
+    stored = g.stored;
+    carries = λ slot o low small. ⊎_elim (λ h. inl (search (rules, arith))) inr (g.carries slot o low small);
   }
 
-  -- all that is written is flushed
-  pub Guarded-flush : (image : Image) (k durable : ℕ)
-      → ((p : ℕ) → p < k → p < L.parts (length v.under_way) → image (at L v p) ≡ bytes_of L v p)
-      → Guarded L v k durable image → Guarded L v k k image
-  Guarded-flush image k durable there g = search rules
+  -- part k reached the medium
+  pub Guarded-write : {before image : Image} (k : ℕ) {durable : ℕ} → k < L.parts (length v.under_way)
+      → Holds (at L v k) (bytes_of L v k) before image → Guarded L v k durable before → Guarded L v (k + 1) durable image
+  Guarded-write {before} {image} k below write g = record {
+    stored = Stored-write k below (λ p low not. low) write g.stored;
+    carries = λ slot o low small.
+        let place : ℕ = 2 + L.slot_sectors * slot + o in
+        elim (cases_eq place (at L v k)) [
+          | inl here ↦ inl (record { part = k; early = omega arith; inside = below; place_is = here; there = rw (here, write.here) refl })
+          | inr other ↦ rw (write.elsewhere place other) ((Guarded-lost k g).carries slot o low small)
+        ];
+  }
 
   -- Where a part but the last one was written with other blocks in it, the record under way is not whole.
-  pub other_written : (before image : Image) (k durable : ℕ) (other : List Entry)
+  pub other_written : {before image : Image} (k : ℕ) {durable : ℕ} (other : List Entry)
       → IsRecordOf L v.shape.blocks (stamp_of v) other → length other ≡ length v.under_way → k + 1 < L.parts (length v.under_way)
       → Holds (at L v k) (L.part (stamp_of v) other k) before image → Guarded L v k durable before → Found L v image
-  other_written before image k durable other is same early write g =
+  other_written {before} {image} k {durable} other is same early write g =
       let below : k < L.parts (length v.under_way) = omega arith in
       let stays = part_stays {p = last L v} write below (omega arith) (λ e. omega arith) in
-      let none = last_free image (rw stays (g.parts.free (last L v) (omega arith) (omega arith))) in
-      let keeps = keeps_stays before image _ (L.part (stamp_of v) other k) (inside k below) write g.keeps in
-      let carries = carries_stays other is before image k (rw same below) (rw same write) g.parts.carries in
+      let free = part_or_free before k durable (last L v) g (omega arith) in
+      let none = last_free image (rw stays (grind (arith, free))) in
+      let keeps = keeps_stays before image _ (L.part (stamp_of v) other k) (inside k below) write g.stored.keeps in
+      let carries : CarriesBelowIn L v.shape image (stamp_of v + 1) = λ slot o t low small carries.
+      let place : ℕ = 2 + L.slot_sectors * slot + o in
+      elim (cases_eq place (at L v k)) [
+        | inl here ↦ omega (arith, one_part other is slot o t k (image place) small (rw same below) (rw same here) (rw (here, write.here) refl) carries)
+        | inr not ↦ carries_below before k durable g slot o t low small (rw (write.elsewhere place not) at carries)
+      ] in
       grind (arith, slots.room)

@@ -8,11 +8,12 @@ use Rattle.spec.specs.Blocks.{Array}
 use Rattle.journal.specs.Places.{Shape}
 use Rattle.journal.specs.Sectors.{IsHead}
 use Rattle.journal.specs.Record.{Entry, Agree, with_records, home_of, Hides}
-use Rattle.journal.specs.Layout.{Layout, IsWholeIn, CarriesBelowIn, part_at}
+use Rattle.journal.specs.Layout.{Layout, IsWholeIn, part_at}
 use Rattle.journal.specs.LayoutLaws.{Laws}
-use Rattle.journal.specs.Staged.{View, stamp_of, with_less, IsHomed, KeepsView, WrittenSoFar, Guarded, Resting, HasSlots}
+use Rattle.journal.specs.Staged.{View, stamp_of, with_less, IsHomed, HasParts, CarriesSoFar, KeepsView, Stored, Guarded, HasSlots}
 use Rattle.journal.proofs.Overlay.{with_records-same, with_blocks-home}
-use Rattle.journal.proofs.Wholeness.{IsWhole-same, CarriesBelow-agree, slot_inside}
+use Rattle.journal.proofs.Apart.{in_log}
+use Rattle.journal.proofs.Wholeness.{IsWhole-same, slot_inside}
 
 module _ (L : Layout) (laws : Laws L) (shape : Shape) (some : 1 ≤ shape.slots) (before image : Image)
     (same : (x : ℕ) → 2 ≤ x → x < 2 + L.slot_sectors * shape.slots → image x ≡ before x) where
@@ -21,23 +22,26 @@ module _ (L : Layout) (laws : Laws L) (shape : Shape) (some : 1 ≤ shape.slots)
   IsWholeIn-same stamp entries w = IsWhole-same L laws shape before image stamp entries
       (λ x from to. same x (omega arith) (omega (arith, slot_inside L laws shape stamp some))) w
 
-  -- the log carries what it carried
-  pub CarriesBelow-same : (end : ℕ) → CarriesBelowIn L shape before end → CarriesBelowIn L shape image end
-  CarriesBelow-same end c = CarriesBelow-agree L laws shape before image end same c
-
-  -- and so does the one that is being written
-  pub WrittenSoFar-same : (stamp : ℕ) (entries : List Entry) (k durable : ℕ) → length entries ≤ L.most
-      → WrittenSoFar L shape stamp entries k durable before → WrittenSoFar L shape stamp entries k durable image
-  WrittenSoFar-same stamp entries k durable few g =
-      let carries = CarriesBelow-same (stamp + 1) g.carries in
-      let at : (p : ℕ) → p < L.parts (length entries)
-      → image (part_at L shape stamp (length entries) p) ≡ before (part_at L shape stamp (length entries) p) =
-      λ p small. same _ (omega arith)
+  -- what is there of a record stays
+  HasParts-same : (stamp : ℕ) (entries : List Entry) (count : ℕ) → length entries ≤ L.most
+      → HasParts L shape stamp entries count before → HasParts L shape stamp entries count image
+  HasParts-same stamp entries count few there p low small =
+      let at = same (part_at L shape stamp (length entries) p) (omega arith)
       (omega (arith, slot_inside L laws shape stamp some, laws.inside (length entries) p few small)) in
-      grind (arith, at, g.flushed, g.either, g.free)
+      rw at (there p low small)
+
+  -- and no sector carries more
+  CarriesSoFar-same : (stamp : ℕ) (entries : List Entry) (so_far : ℕ) → CarriesSoFar L shape stamp entries so_far before
+      → CarriesSoFar L shape stamp entries so_far image
+  CarriesSoFar-same stamp entries so_far c slot o low small =
+      rw (same (2 + L.slot_sectors * slot + o) (omega arith) (in_log L.slot_sectors slot shape.slots o low small)) (c slot o low small)
+
+-- the stamp of the record under way stays when the oldest is retired
+stamp_stays : (v : View) → 0 < length v.records → stamp_of (with_less v) ≡ stamp_of v
+stamp_stays v waits = omega (arith, length-drop 1 v.records)
 
 module _ (L : Layout) (laws : Laws L) (v : View) (some : 1 ≤ v.shape.slots)
-    (behind : 2 + L.slot_sectors * v.shape.slots ≤ v.shape.home) {before image : Image} where
+    (behind : 2 + L.slot_sectors * v.shape.slots ≤ v.shape.home) (few : length v.under_way ≤ L.most) {before image : Image} where
   -- a write before or behind the log leaves the log
   log_same : {s : ℕ} {bytes : List ℕ} → Holds s bytes before image → (2 ≤ s → v.shape.home ≤ s)
       → Agree 2 (2 + L.slot_sectors * v.shape.slots) image before
@@ -53,6 +57,23 @@ module _ (L : Layout) (laws : Laws L) (v : View) (some : 1 ≤ v.shape.slots)
       let hidden = hides (home_of v.shape image) (home_of v.shape before) in
       let others = with_records-same v.records (home_of v.shape image) (home_of v.shape before) in
       grind (arith, cases_eq, write.elsewhere, g)
+
+  -- a block that the records hide is written home, perhaps while a record is written
+  module _ (b : ℕ) {bytes : List ℕ} (hides : Hides v.records b) (write : Holds (v.shape.home + b) bytes before image) where
+    log : Agree 2 (2 + L.slot_sectors * v.shape.slots) image before
+    log = log_same write (λ low. omega arith)
+
+    pub Stored-home : {count : ℕ} → Stored L v count before → Stored L v count image
+    Stored-home {count} s =
+        let keeps = KeepsView-home b hides write s.keeps in
+        let parts = HasParts-same L laws v.shape some before image log (stamp_of v) v.under_way count few s.parts in
+        search rules
+
+    pub Guarded-home : {k durable : ℕ} → Guarded L v k durable before → Guarded L v k durable image
+    Guarded-home {k} g =
+        let stored = Stored-home g.stored in
+        let carries = CarriesSoFar-same L laws v.shape some before image log (stamp_of v) v.under_way k g.carries in
+        search rules
 
   -- with the oldest record at home the head goes past it
   KeepsView-head : {bytes : List ℕ} → 0 < length v.records → IsHead (v.head + 1) bytes → IsHomed v before
@@ -76,51 +97,27 @@ module _ (L : Layout) (laws : Laws L) (v : View) (some : 1 ≤ v.shape.slots)
       oldest_home [] a b homed = refl
       oldest_home (r ∷ records) a b homed = search (rules, with_records-same, with_blocks-home)
 
--- the stamp of the record under way stays when the oldest is retired
-stamp_stays : (v : View) → 0 < length v.records → stamp_of (with_less v) ≡ stamp_of v
-stamp_stays v waits = omega (arith, length-drop 1 v.records)
+  -- with the oldest record at home the head goes past it, perhaps while a record is written
+  module _ {bytes : List ℕ} (waits : 0 < length v.records) (h : IsHead (v.head + 1) bytes) (homed : IsHomed v before)
+      (write : Holds 1 bytes before image) where
+    past : Agree 2 (2 + L.slot_sectors * v.shape.slots) image before
+    past = log_same write (λ low. omega arith)
 
-module _ (L : Layout) (laws : Laws L) (v : View) (some : 1 ≤ v.shape.slots)
-    (behind : 2 + L.slot_sectors * v.shape.slots ≤ v.shape.home) where
-  -- the same at rest
-  pub Resting-home : (before image : Image) (b : ℕ) (bytes : List ℕ) → Hides v.records b → Holds (v.shape.home + b) bytes before image
-      → Resting L v before → Resting L v image
-  Resting-home before image b bytes hides write r =
-      let log = log_same L laws v some behind write (λ low. omega arith) in
-      let keeps = KeepsView-home L laws v some behind b hides write r.keeps in
-      let carries = CarriesBelow-same L laws v.shape some before image log (stamp_of v) r.carries in
-      search rules
+    pub Stored-head : {count : ℕ} → Stored L v count before → Stored L (with_less v) count image
+    Stored-head {count} s =
+        let keeps = KeepsView-head waits h homed write s.keeps in
+        let parts = HasParts-same L laws v.shape some before image past (stamp_of (with_less v)) v.under_way count few
+        (rw (stamp_stays v waits) s.parts) in
+        search rules
 
-  pub Resting-head : (before image : Image) (bytes : List ℕ) → 0 < length v.records → IsHead (v.head + 1) bytes → IsHomed v before
-      → Holds 1 bytes before image → Resting L v before → Resting L (with_less v) image
-  Resting-head before image bytes waits h homed write r =
-      let log = log_same L laws v some behind write (λ low. omega arith) in
-      let keeps = KeepsView-head L laws v some behind waits h homed write r.keeps in
-      let carries = CarriesBelow-same L laws v.shape some before image log (stamp_of v) r.carries in
-      let same = stamp_stays v waits in
-      grind (arith, carries)
+    pub Guarded-head : {k durable : ℕ} → Guarded L v k durable before → Guarded L (with_less v) k durable image
+    Guarded-head {k} g =
+        let stored = Stored-head g.stored in
+        let carries = CarriesSoFar-same L laws v.shape some before image past (stamp_of (with_less v)) v.under_way k
+        (rw (stamp_stays v waits) g.carries) in
+        search rules
 
 module _ (L : Layout) (laws : Laws L) (v : View) (slots : HasSlots L v) where
-  -- while a record is written: a block that the records hide is written home
-  pub Guarded-home : (before image : Image) (b : ℕ) (bytes : List ℕ) (k durable : ℕ) → Hides v.records b
-      → Holds (v.shape.home + b) bytes before image → Guarded L v k durable before → Guarded L v k durable image
-  Guarded-home before image b bytes k durable hides write g =
-      let log = log_same L laws v slots.some slots.behind write (λ low. omega arith) in
-      let keeps = KeepsView-home L laws v slots.some slots.behind b hides write g.keeps in
-      let parts = WrittenSoFar-same L laws v.shape slots.some before image log (stamp_of v) v.under_way k durable
-      slots.under_way.fit.few g.parts in
-      search rules
-
-  -- and with the oldest record at home the head goes past it
-  pub Guarded-head : (before image : Image) (bytes : List ℕ) (k durable : ℕ) → 0 < length v.records → IsHead (v.head + 1) bytes
-      → IsHomed v before → Holds 1 bytes before image → Guarded L v k durable before → Guarded L (with_less v) k durable image
-  Guarded-head before image bytes k durable waits h homed write g = record {
-    keeps = KeepsView-head L laws v slots.some slots.behind waits h homed write g.keeps;
-    parts = WrittenSoFar-same L laws v.shape slots.some before image
-        (log_same L laws v slots.some slots.behind write (λ low. omega arith))
-        (stamp_of (with_less v)) v.under_way k durable slots.under_way.fit.few (rw (stamp_stays v waits) g.parts);
-  }
-
   -- one slot more is free then
   pub HasSlots-less : 0 < length v.records → HasSlots L (with_less v)
   HasSlots-less waits = grind (arith, slots.room, length-drop 1 v.records, stamp_stays v waits)

@@ -9,9 +9,9 @@ use Rattle.medium.specs.Medium.{Image}
 use Rattle.journal.specs.Record.{Entry, with_records, home_of}
 use Rattle.journal.specs.Layout.{Layout, IsWholeIn, HasWholeIn, IsFree}
 use Rattle.journal.specs.LayoutLaws.{Laws}
-use Rattle.journal.specs.Staged.{View, stamp_of, with_record, KeepsView, Found, MayLeave, Guarded, HasSlots, Resting}
+use Rattle.journal.specs.Staged.{View, stamp_of, with_record, KeepsView, Found, MayLeave, Stored, Guarded, HasSlots, Resting}
 use Rattle.journal.proofs.AllOrFirst.{all_or_first}
-use Rattle.journal.proofs.Engine.{at, bytes_of, last, last_free, late_carries, none_carried}
+use Rattle.journal.proofs.Engine.{at, bytes_of, last, last_free, late_carries, none_carried, part_or_free, carries_below}
 use Rattle.journal.proofs.Overlay.{with_blocks-same, with_records-append}
 use Rattle.journal.proofs.Wholeness.{record_of}
 
@@ -28,42 +28,34 @@ module _ (L : Layout) (laws : Laws L) (v : View) (slots : HasSlots L v) where
       let count = laws.count v.shape.blocks (stamp_of v) es v.under_way (record_of w) slots.under_way in
       grind (arith, count, w.there (L.parts (length es) - 1), laws.some_parts (length es), laws.last, commit)
 
-  -- the record under way is not whole, or it is, with its blocks
+  -- the record under way is not whole, or all its parts are written, and it is, with its blocks
   whole_or_not : (image : Image) (k durable : ℕ) → (L.parts (length v.under_way) ≤ k → L.early (length v.under_way) ≤ durable)
-      → Guarded L v k durable image
-      → (¬ HasWholeIn L v.shape image (stamp_of v)) ⊎ IsWholeIn L v.shape image (stamp_of v) v.under_way
+      → Guarded L v k durable image → (¬ HasWholeIn L v.shape image (stamp_of v))
+      ⊎ ((L.parts (length v.under_way) ≤ k) × IsWholeIn L v.shape image (stamp_of v) v.under_way)
   whole_or_not image k durable early g =
-      let below : last L v < L.parts (length v.under_way) = omega (arith, laws.some_parts (length v.under_way)) in
-      elim (cases_lt (last L v) k) [
-        | inr not ↦ inl (last_free L laws v slots image (g.parts.free (last L v) not below))
-        | inl written ↦ elim (g.parts.either (last L v) written below) [
-          | inr free ↦ inl (last_free L laws v slots image free)
-          | inl commit ↦
-              elim (all_or_first
-              (λ p. image (at L v p) ≡ bytes_of L v p)
-              (λ p. (durable ≤ p) × IsFree L (stamp_of v) (L.offset (length v.under_way) p) (image (at L v p)))
-              (L.parts (length v.under_way))
-              (λ p small. search (rules, arith, cases_lt p durable, g.parts.flushed p, g.parts.either p (omega arith) small))) [
-                | inl all ↦ inr (whole_now image all)
-                | inr one ↦
-                    inl (λ whole.
-                    let same = same_count image whole.0 commit whole.1 in
-                    late_carries L laws v.shape image (stamp_of v) whole.0 one.0 whole.1 (rw same one.1)
-                    (rw same (omega (arith, early (omega arith), one.3.0))) (rw same one.3.1))
-              ]
-        ]
+      let or_free = λ (p : ℕ). part_or_free L laws v slots image k durable p g in
+      elim (or_free (last L v) (omega (arith, laws.some_parts (length v.under_way)))) [
+        | inr free ↦ inl (last_free L laws v slots image free)
+        | inl commit ↦
+            let all : L.parts (length v.under_way) ≤ k = omega (arith, commit.0) in
+            elim (all_or_first
+            (λ p. image (at L v p) ≡ bytes_of L v p)
+            (λ p. (durable ≤ p) × IsFree L (stamp_of v) (L.offset (length v.under_way) p) (image (at L v p)))
+            (L.parts (length v.under_way))
+            (λ p small. grind (arith, cases_lt p durable, g.stored.parts p, or_free p small))) [
+              | inl there ↦ inr (all, whole_now image there)
+              | inr one ↦
+                  inl (λ whole.
+                  let same = same_count image whole.0 commit.1 whole.1 in
+                  late_carries L laws v.shape image (stamp_of v) whole.0 one.0 whole.1 (rw same one.1)
+                  (rw same (omega (arith, early all, one.3.0))) (rw same one.3.1))
+            ]
       ]
-
-  -- an image where the record under way is not whole
-  found_without : (image : Image) (k durable : ℕ) → Guarded L v k durable image → ¬ HasWholeIn L v.shape image (stamp_of v)
-      → Found L v image
-  found_without image k durable g not =
-      record { keeps = g.keeps; few = omega (arith, slots.room); ends = λ room. not; carries = g.parts.carries }
 
   longer : length (v.records ++ v.under_way ∷ []) ≡ length v.records + 1
   longer = length-append v.records (v.under_way ∷ [])
 
-  -- an image where it is keeps it with the durable ones
+  -- an image where it is whole keeps it with the durable ones
   keeps_with : (image : Image) → KeepsView L v image → IsWholeIn L v.shape image (stamp_of v) v.under_way
       → KeepsView L (with_record v) image
   keeps_with image keeps whole =
@@ -72,31 +64,29 @@ module _ (L : Layout) (laws : Laws L) (v : View) (slots : HasSlots L v) where
       let old = get_or_append_left v.records (v.under_way ∷ []) [] in
       grind (arith, cases_lt, keeps, longer, get_or-append_seam v.records v.under_way [] [])
 
-  -- and stands for it
-  found_with : (image : Image) (k durable : ℕ) → Guarded L v k durable image
-      → IsWholeIn L v.shape image (stamp_of v) v.under_way → Found L (with_record v) image
-  found_with image k durable g whole =
-      let keeps = keeps_with image g.keeps whole in
-      let none = none_carried L laws v.shape slots.some image (stamp_of v + 1) g.parts.carries in
-      grind (arith, longer, slots.room, g.parts.carries)
-
   -- so a cut leaves what it may leave
   pub guarded_leaves : (image : Image) (k durable : ℕ) → (L.parts (length v.under_way) ≤ k → L.early (length v.under_way) ≤ durable)
-      → Guarded L v k durable image → MayLeave L v image
-  guarded_leaves image k durable early g = ⊎_elim
-      (λ not. inl (found_without image k durable g not))
-      (λ whole. inr (found_with image k durable g whole))
+      → Guarded L v k durable image → MayLeave L v k image
+  guarded_leaves image k durable early g =
+      let carries = carries_below L laws v slots image k durable g in
+      ⊎_elim
+      (λ not. inl (record { keeps = g.stored.keeps; few = omega (arith, slots.room); ends = λ room. not; carries = carries }))
+      (λ whole.
+      let keeps = keeps_with image g.stored.keeps whole.1 in
+      let none = none_carried L laws v.shape slots.some image (stamp_of v + 1) carries in
+      let found : Found L (with_record v) image = grind (arith, longer, slots.room, carries) in
+      inr (whole.0, found))
       (whole_or_not image k durable early g)
 
-  -- and when all is flushed, the record is whole, and none is under way
-  pub durable_rests : (image : Image) (k durable : ℕ) → L.parts (length v.under_way) ≤ durable → Guarded L v k durable image
-      → Resting L (with_record v) image
-  durable_rests image k durable all g =
-      let whole = whole_now image (λ p below. g.parts.flushed p (omega arith) below) in
-      let keeps = keeps_with image g.keeps whole in
-      grind (arith, longer, g.parts.carries)
+  -- with all its parts there the record is durable
+  pub Stored-durable : {image : Image} {count : ℕ} → L.parts (length v.under_way) ≤ count → Stored L v count image
+      → KeepsView L (with_record v) image
+  Stored-durable {image} all s = keeps_with image s.keeps (whole_now image (λ p below. s.parts p (omega arith) below))
 
-  -- before the last part is written the record is not whole
-  pub rest_early : (image : Image) (k durable : ℕ) → k < L.parts (length v.under_way) → Guarded L v k durable image → Found L v image
-  rest_early image k durable early g =
-      found_without image k durable g (last_free L laws v slots image (g.parts.free (last L v) (omega arith) (omega arith)))
+  -- and none is under way
+  pub durable_rests : {image : Image} {k durable count : ℕ} → L.parts (length v.under_way) ≤ count → Stored L v count image
+      → Guarded L v k durable image → Resting L (with_record v) image
+  durable_rests {image} {k} {durable} all s g =
+      let keeps = Stored-durable all s in
+      let carries = carries_below L laws v slots image k durable g in
+      grind (arith, longer, carries)

@@ -16,7 +16,7 @@ use Rattle.redo_log.specs.Calls.{CallsUpTo, Call, Write, Flush, fault_of, IsFlus
 use Rattle.redo_log.specs.Steps.{CountsStep}
 use Rattle.redo_log.specs.Held.{turned_of, made_of}
 use Rattle.redo_log.specs.Turns.{calls_of, sends_of, flushes_of, IsCopyOf, IsFlushTurn, IsHeadTurn, IsNextTurn}
-use Rattle.redo_log.proofs.LogRules.{IsLog, oldest_few}
+use Rattle.redo_log.proofs.LogRules.{IsLog, made_is, oldest_few}
 use Rattle.std.proofs.lemmas.Bool.{ne_eqb}
 use Rattle.medium.specs.declared.fault.MediumFault.TheVariants as fault
 use Rattle.journal.specs.declared.log_format.LogFormat.TheVariants.{One, Two}
@@ -84,7 +84,7 @@ step_flushed {log} is some {numbers} bytes same size call next {result} {old} {n
     let n : ℕ = length (entries_of numbers bytes) in
     let many : length log.under_way ≡ n = sym (length_of_batch numbers bytes ∙ ap (λ (l : List ℕ). length l) same) in
     let sum : made_of log + log.steps_left ≡ steps_for log.shape.format n =
-    omega (arith, is.most_left, ap (λ (k : ℕ). steps_for log.shape.format k) many) in
+    omega (arith, made_is log some, is.most_left, ap (λ (k : ℕ). steps_for log.shape.format k) many) in
     let flushes : flushes_in call ≡ next_step_flushes log = elim (due_or_not (layout_of log.shape.format) n (made_of log)) [
       | inl due ↦ rw (flush_is call (next.0 due)) (sym (due_is log.shape.format n (made_of log) log.steps_left sum some due))
       | inr not ↦ rw (write_is _ _ call (next.1 not)) (sym (not_due log.shape.format n (made_of log) log.steps_left sum some not))

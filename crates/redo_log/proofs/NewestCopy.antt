@@ -71,7 +71,7 @@ module _ (log : LogValue) (m : State) (view : View) (holds : HoldsView log m vie
   home_is b below none =
       sym (with_records-none view.records (home_of log.shape m.content) b
       (λ j waits. unnamed (get_or view.records j []) (get_or log.waiting j []) b (named holds j) (none j (omega (arith, many holds)))))
-      ∙ (holds.stores live).laid.blocks b below
+      ∙ (holds.stores live).stored.keeps.blocks b below
 
   -- the newest copy of a block is in a whole record, and has its bytes, with the first ones that are kept
   pub copy_is : IsLog log → (b slot place : ℕ) → (copy : IsNewestCopy log b slot place) → (place < length (get_or view.records copy.age []))
@@ -90,11 +90,11 @@ module _ (log : LogValue) (m : State) (view : View) (holds : HoldsView log m vie
       let first : (j : ℕ) → j < place → (get_or entries j (0, [])).0 ≢ b = λ j less e.
       omega (arith, each.rising j place less copy.inside, number j, e, copy.named) in (
         inside,
-        (holds.stores live).laid.whole copy.age waits,
+        (holds.stores live).stored.keeps.whole copy.age waits,
         sym (with_records-at view.records (home_of log.shape m.content) b copy.age place waits inside (sym (number place) ∙ copy.named)
             first
             (λ j later waiting. unnamed (get_or view.records j []) (get_or log.waiting j []) b (named holds j)
             (copy.newest j later (omega (arith, many holds)))))
-            ∙ (holds.stores live).laid.blocks b below,
+            ∙ (holds.stores live).stored.keeps.blocks b below,
         kept_is log.shape.format view.records view.under_way log.firsts holds.firsts copy.age place waits inside,
       )

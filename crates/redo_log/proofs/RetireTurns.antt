@@ -8,7 +8,7 @@ use Rattle.std.proofs.Math.ListN.{get_or-map}
 use Rattle.std.proofs.Math.Seq.{drop-cons}
 use Rattle.medium.specs.Medium.{State, Holds, Gains, IsSound}
 use Rattle.medium.specs.Moments.{EachCut, LeavesOnly}
-use Rattle.medium.proofs.Moments.{each_write, quiet_leaves}
+use Rattle.medium.proofs.Moments.{each_write, each_flush, quiet_leaves}
 use Rattle.journal.specs.declared.head.Head.{Head as HeadOf}
 use Rattle.journal.specs.Places.{sectors_of, first_home, first_data_of}
 use Rattle.journal.specs.Sectors.{IsRising, IsHead}
@@ -28,16 +28,16 @@ use Rattle.redo_log.specs.Firsts.{first_kept}
 use Rattle.redo_log.specs.Calls.{gaining, WritesOnly}
 use Rattle.redo_log.specs.Turns.{head_bytes, MayTurn, IsTurned, IsNextTurn}
 use Rattle.redo_log.specs.Held.{View, view_retired, made_of, turned_of, needed_of, image_view, MayLeave, Safe}
-use Rattle.redo_log.specs.Held.{HasHead, Guards, HoldsView}
+use Rattle.redo_log.specs.Held.{HasHead, HoldsView}
 use Rattle.redo_log.proofs.OneSector.{moments_have}
 use Rattle.redo_log.proofs.RingRecords.{needed_one}
 use Rattle.redo_log.proofs.StoredLog.{Stores-stays, home_stores, head_stores}
-use Rattle.redo_log.proofs.GuardedCalls.{Stands, stands_less, keeps_of, logged_of, home_safe, past_safe, hides_behind}
+use Rattle.redo_log.proofs.GuardedCalls.{Stands, stands_less, logged_of, home_safe, past_safe, hides_behind}
 use Rattle.redo_log.proofs.GuardedCalls.{records_before, newest, with_newest, same_head, stands_front, Logged-records}
-use Rattle.redo_log.proofs.GuardedCalls.{homed_here, guard_leaves, flush_guards}
+use Rattle.redo_log.proofs.GuardedCalls.{safe_here, homed_here, guard_leaves}
 use Rattle.redo_log.proofs.KeptFirsts.{kept_is, retired_kept}
 use Rattle.redo_log.proofs.CallsSent.{copy_turn, flush_turn, head_turn}
-use Rattle.redo_log.proofs.LogRules.{IsLog, retired_of, one_waits, nothing_home, not_homed}
+use Rattle.redo_log.proofs.LogRules.{IsLog, made_is, none_made, retired_of, one_waits, nothing_home, not_homed}
 use Rattle.redo_log.proofs.HeldLog.{needs_one, many, named, count, stands_then, goes_on, count_of}
 
 -- the bytes that a head turn writes are those of the new head
@@ -58,7 +58,7 @@ module _ {log : LogValue} (is : IsLog log) (live : log.dead ≡ false) (owed : 0
   waits = omega (arith, many hv, one_waits is owed)
 
   stands : Stands log.shape log.head view log.steps_left (made_of log)
-  stands = stands_then hv is log.steps_left (omega arith)
+  stands = stands_then hv is log.steps_left (made_of log) (omega arith) (none_made log) (made_is log)
 
   -- ---- a turn that brings the next block home
   module _ (below : 2 < of_oldest log) (from : ℕ) (begins : Option (List ℕ)) (new : State)
@@ -79,12 +79,12 @@ module _ {log : LogValue} (is : IsLog log) (live : log.dead ≡ false) (owed : 0
     hides = records-hide view.records 0 (turned_of log) waits inside
 
     home_each : view.ours ≡ true → (mid : State) → Gains to bytes old.may_leave mid.may_leave → {left : ℕ} → left ≢ 1
-        → EachCut (HasHead log.shape log.head view log.steps_left (made_of log) left) mid
+        → EachCut (HasHead log.shape log.head view (made_of log) left) mid
     home_each ours mid gains {left} not =
-        each_write _ _ old mid to bytes sound gains (hv.guards live ours).each
+        each_write _ _ old mid to bytes sound gains (hv.guards live ours)
         (λ image g. same_head g g.safe (λ one. absurd (not one)))
         (λ before image write g. same_head g
-        (home_safe (stands_front g stands) g.safe block (hides_behind g.passed view.records block hides) write)
+        (home_safe (stands_front g stands) block (hides_behind g.passed view.records block hides) write g.safe)
         (λ one. absurd (not one)))
 
     home_leaves : MayTurn (Copy from to begins) old new → view.ours ≡ true → LeavesOnly (MayLeave old.size log view) old new
@@ -101,13 +101,9 @@ module _ {log : LogValue} (is : IsLog log) (live : log.dead ≡ false) (owed : 0
         let rising : IsRising (numbers_of oldest) = subst IsRising (named hv 0) (is.each 0 [] (one_waits is owed)).rising in
         let next = record log { retire_steps_left = log.retire_steps_left - 1; ahead = ahead } in
         goes_on hv is log.steps_left (log.retire_steps_left - 1) ahead new (omega arith) same_size live
-        (home_stores (hv.stores live) is.sized new.content bytes (turned_of next)
-        (λ some. (stands.slots some).under_way.fit.few) waits rising inside wrote
-        brought (omega (arith, below, is.owed_most)))
-        (λ ours. record {
-          here = home_safe stands (hv.guards live ours).here block hides wrote;
-          each = home_each ours new adds.sets not;
-        })
+        (home_stores (hv.stores live) is.sized stands.fit new.content (turned_of next) waits rising inside (rw brought at wrote)
+        (omega (arith, below, is.owed_most)))
+        (λ ours. home_each ours new adds.sets not)
 
   -- ---- the flush of its blocks
   flush_held : of_oldest log ≡ 2 → (new : State) → new.size ≡ old.size → IsTurned Flush old new
@@ -116,26 +112,20 @@ module _ {log : LogValue} (is : IsLog log) (live : log.dead ≡ false) (owed : 0
       let next = record log { retire_steps_left = log.retire_steps_left - 1 } in
       let there : length oldest ≤ turned_of log = omega (arith, two, count hv 0) in
       goes_on hv is log.steps_left (log.retire_steps_left - 1) log.ahead new (omega arith) same_size live
-      (Stores-stays (hv.stores live) log.steps_left (made_of log) (turned_of next) new.content wrote.0 (λ some. some)
-      (omega arith) (λ i low high. omega (arith, high, there)))
-      (λ ours. flush_guards wrote.0 wrote.1 (hv.guards live ours).here
-      (λ _ i inside. (hv.stores live).copied i (omega (arith, inside, there)) inside))
+      (Stores-stays (hv.stores live) (made_of log) (turned_of next) new.content wrote.0 (omega arith) (λ i low high. omega (arith, high, there)))
+      (λ ours. each_flush _ old.content new wrote.1 (with_newest (safe_here sound (hv.stores live) (hv.guards live ours))
+      (λ _ i inside. (hv.stores live).copied i (omega (arith, inside, there)) inside)))
 
   -- ---- the head is written past it
   module _ (one : of_oldest log ≡ 1) (h : HeadOf) (stamp_is : h.stamp ≡ log.head + 1) (new : State) where
     head_now : IsHead (log.head + 1) (head_bytes h.stamp)
     head_now = new_head h (log.head + 1) stamp_is
 
-    one_now : view.ours ≡ true → EachCut (λ image. Safe log.shape log.head view log.steps_left (made_of log) image
+    one_now : view.ours ≡ true → EachCut (λ image. Safe log.shape log.head view (made_of log) image
         × IsHomed (image_view log.shape log.head view) image) old
     one_now ours image cut =
-        let g = (hv.guards live ours).each image cut in
+        let g = hv.guards live ours image cut in
         let f = g.flushed (needs_one log one) in (newest g f.0, f.1)
-
-    past_now : view.ours ≡ true → Holds 1 (head_bytes h.stamp) old.content new.content
-        → Safe log.shape (log.head + 1) (view_retired 1 view) log.steps_left (made_of log) new.content
-    past_now ours wrote =
-        let g = hv.guards live ours in past_safe stands g.here waits head_now (homed_here sound g (needs_one log one)) wrote
 
     stands_past : Stands log.shape (log.head + 1) (view_retired 1 view) log.steps_left (made_of log)
     stands_past = stands_less stands waits
@@ -148,13 +138,13 @@ module _ {log : LogValue} (is : IsLog log) (live : log.dead ≡ false) (owed : 0
         (each_write _ _ old gained 1 (head_bytes h.stamp) sound (λ s c left. left) (one_now ours)
         (λ image both. guard_leaves log {retire = 0} hv.fits stands
         (with_newest both.0 (λ none. absurd (omega (arith, none)))))
-        (λ before image write both. elim (logged_of stands_past (past_safe stands both.0 waits head_now both.1 write)) [
+        (λ before image write both. elim (logged_of stands_past (past_safe stands waits head_now both.1 write both.0)) [
           | inl rest ↦ inr (inr (waits, omega (arith, one), Logged-records hv.fits rest))
           | inr more ↦
               let L = layout_of log.shape.format in
               let first = IsWholeIn-same L (laws_of log.shape.format) log.shape is.sized.some before image
               (λ x low high. write.elsewhere x (λ e. omega (arith, low, e))) log.head oldest
-              (rw add-zero at ((keeps_of both.0).whole 0 waits)) in
+              (rw add-zero at (both.0.stored.keeps.whole 0 waits)) in
               inr (inl (
                 more.0,
                 more.1,
@@ -164,9 +154,7 @@ module _ {log : LogValue} (is : IsLog log) (live : log.dead ≡ false) (owed : 0
 
     -- then the log has one record less, where this guards it
     past_held : new.size ≡ old.size → Holds 1 (head_bytes h.stamp) old.content new.content
-        → (view.ours ≡ true
-        → Guards log.shape (log.head + 1) (view_retired 1 view) log.steps_left (made_of log)
-        (needed_of (retired_of log)) new)
+        → (view.ours ≡ true → EachCut (HasHead log.shape (log.head + 1) (view_retired 1 view) (made_of log) (needed_of (retired_of log))) new)
         → HoldsView (retired_of log) new (view_retired 1 view)
     past_held same_size wrote guards =
         let fits : sectors_of log.shape ≤ new.size = omega (arith, same_size, hv.fits) in
@@ -177,10 +165,9 @@ module _ {log : LogValue} (is : IsLog log) (live : log.dead ≡ false) (owed : 0
         count_of _ _ (rw durable (get_or-map f (drop 1 view.records) 0 [])) in
         let firsts = retired_kept log.shape.format view.records view.under_way log.firsts hv.firsts waits in
         let leaves : view.ours ≡ true → EachCut (MayLeave new.size (retired_of log) (view_retired 1 view)) new =
-        λ ours image cut. guard_leaves (retired_of log) fits stands_past ((guards ours).each image cut) in
-        let stores = head_stores (hv.stores live) is.sized new.content (head_bytes h.stamp)
-        (turned_of (retired_of log)) waits (omega (arith, one, count hv 0))
-        (λ i low high. nothing_home log i low (omega (arith, high, second))) wrote in
+        λ ours image cut. guard_leaves (retired_of log) fits stands_past (guards ours image cut) in
+        let stores = head_stores (hv.stores live) is.sized stands.fit new.content (turned_of (retired_of log)) waits
+        (omega (arith, one, count hv 0)) (λ i low high. nothing_home log i low (omega (arith, high, second))) head_now wrote in
         search (rules, arith)
 
     -- nothing of the next one is flushed at home yet
@@ -201,25 +188,27 @@ module _ {log : LogValue} (is : IsLog log) (live : log.dead ≡ false) (owed : 0
     -- the head is flushed
     head_held : new.size ≡ old.size → IsTurned (Head h) old new → HoldsView (retired_of log) new (view_retired 1 view)
     head_held same_size wrote = past_held same_size wrote.0
-        (λ ours. flush_guards (λ s. refl) wrote.1 (past_now ours wrote.0) (λ is. absurd (needs_more is)))
+        (λ ours.
+        let s = hv.stores live in
+        let g = hv.guards live ours in
+        each_flush _ new.content new wrote.1 (with_newest (past_safe stands waits head_now (homed_here sound s g (needs_one log one)) wrote.0
+        (safe_here sound s g)) (λ is. absurd (needs_more is))))
 
     -- it is not flushed yet, and a slot is free besides the one that is passed
     pub ahead_held : log.next - log.head < log.shape.slots → new.size ≡ old.size → Gains 1 (head_bytes h.stamp) old.may_leave new.may_leave
         → Holds 1 (head_bytes h.stamp) old.content new.content → HoldsView (retired_of log) new (view_retired 1 view)
-    ahead_held besides same_size gains wrote = past_held same_size wrote (λ ours. record {
-      here = past_now ours wrote;
-      each = each_write _ _ old new 1 (head_bytes h.stamp) sound gains (one_now ours)
-          (λ image both. record {
-            stamp = log.head;
-            passed = get_or view.records 0 [] ∷ [];
-            behind = refl;
-            room = λ _. omega (arith, besides, hv.next, length-drop 1 view.records, waits);
-            safe = rw (← drop-cons view.records 0 [] waits) both.0;
-            flushed = λ is. absurd (needs_more is);
-          })
-          (λ before image write both. with_newest (past_safe stands both.0 waits head_now both.1 write)
-          (λ is. absurd (needs_more is)));
-    })
+    ahead_held besides same_size gains wrote = past_held same_size wrote (λ ours.
+        each_write _ _ old new 1 (head_bytes h.stamp) sound gains (one_now ours)
+        (λ image both. record {
+          stamp = log.head;
+          passed = get_or view.records 0 [] ∷ [];
+          behind = refl;
+          room = λ _. omega (arith, besides, hv.next, length-drop 1 view.records, waits);
+          safe = rw (← drop-cons view.records 0 [] waits) both.0;
+          flushed = λ is. absurd (needs_more is);
+        })
+        (λ before image write both. with_newest (past_safe stands waits head_now both.1 write both.0)
+        (λ is. absurd (needs_more is))))
 
   -- ---- the next turn of the oldest record
   module _ (turn : Turn) (next : IsNextTurn log.shape log.head (get_or log.waiting 0 []) log.firsts (turned_of log) turn) (new : State)
@@ -238,7 +227,7 @@ module _ {log : LogValue} (is : IsLog log) (live : log.dead ≡ false) (owed : 0
         let number : slice_index (get_or log.waiting 0 []) t ≡ (get_or oldest t (0, [])).0 =
         ap (λ (l : List ℕ). slice_index l t) (named hv 0) ∙ get_or-map f oldest t (0, []) in
         let whole : IsWhole log.shape old.content log.head oldest =
-        subst (λ (s : ℕ). IsWhole log.shape old.content s oldest) (omega arith) ((hv.stores live).laid.whole 0 waits) in
+        subst (λ (s : ℕ). IsWhole log.shape old.content s oldest) (omega arith) ((hv.stores live).stored.keeps.whole 0 waits) in
         let from : ℕ = slot_at (layout_of log.shape.format) log.shape log.head + first_data_of log.shape.format + t in
         let begins = first_kept log.firsts 0 t in (
           begins,

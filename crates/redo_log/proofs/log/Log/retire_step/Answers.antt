@@ -1,4 +1,4 @@
-use Rattle.std.proofs.Common.{◌<◌, length, ap, arith, rules}
+use Rattle.std.proofs.Common.{◌≡◌, ◌-◌, ◌<◌, length, ap, arith, rules}
 use Rattle.redo_log.specs.Value.{LogValue}
 use Rattle.redo_log.proofs.HeldLog.{on_ok_here, leaves_none}
 use Rattle.redo_log.proofs.LogRules.{log_is, many_lists}
@@ -10,7 +10,7 @@ returns-then-is_empty g c = record {
   none = search rules;
   answers = grind (arith, common_steps);
   passes = grind (arith, common_steps);
-  holds = search rules;
+  holds = λ view holds. let none : c.args.self.now.head - c.args.self.now.head ≡ 0 = omega arith in rw none holds;
   leaves = leaves_none c.args.self.now (g.M.Medium.state c.args.m.now) (g.met.M.Medium.sound c.args.m.now);
 }
 
