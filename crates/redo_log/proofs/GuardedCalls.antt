@@ -3,7 +3,7 @@ use Rattle.std.proofs.Common.{◌≡◌, ◌⊎◌, inl, inr, ⊎_elim, ℕ, ◌
 use Rattle.std.proofs.Common.{rules, length-drop, zero, suc, get_or, refl, ap, length-append, append_assoc, add-zero}
 use Rattle.std.proofs.lemmas.Bool.{cases_lt, cases_eq}
 use Rattle.std.proofs.lemmas.List.{nil_from_length, get_or-append-add}
-use Rattle.medium.specs.Medium.{Image, State, Holds, CutLeaves, IsSound}
+use Rattle.medium.specs.Medium.{Image, State, Holds, Stays, CutLeaves, IsSound}
 use Rattle.medium.specs.Moments.{EachCut}
 use Rattle.medium.proofs.Moments.{content_has, updated, updated_here, updated_elsewhere}
 use Rattle.spec.specs.Blocks.{Array}
@@ -234,6 +234,17 @@ guard_leaves log fits stands g =
     ⊎_elim inl (λ both. inr (inl both)) (logged_leaves log fits g (logged_of (stands_front g stands) g.safe))
 
 -- ---- what a read gives, and an image with the head that it gives
+
+-- the same content stores a log, where no more of the record under way is written, and of the oldest record at home
+pub Stores-stays : {shape : Shape} {head : ℕ} {view : View} {made turned : ℕ} {old : Image} → Stores shape head view made turned old
+    → (next then : ℕ) (new : Image) → Stays old new → written_of shape view next ≤ written_of shape view made
+    → ((i : ℕ) → i < then → i < length (get_or view.records 0 []) → i < turned) → Stores shape head view next then new
+Stores-stays {old = old} s next then new stays no_more no_home =
+    let same : new ≡ old = λ i s. stays s i in
+    rw same (record {
+      stored = record { keeps = s.stored.keeps; parts = λ p low small. s.stored.parts p (omega (arith, low, no_more)) small };
+      copied = λ i low high. s.copied i (no_home i low high) high;
+    })
 
 abbrev pub put_head : State → Image → Image
 put_head m image = updated image 1 (m.content 1)

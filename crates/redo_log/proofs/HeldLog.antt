@@ -21,7 +21,7 @@ use Rattle.redo_log.specs.Steps.{LeavesLog}
 use Rattle.redo_log.proofs.RecordSteps.{steps_are, one_left}
 use Rattle.redo_log.proofs.GuardedCalls.{Stands, stands_idle, logged_of}
 use Rattle.redo_log.proofs.GuardedCalls.{stands_front, logged_leaves, guard_leaves}
-use Rattle.redo_log.proofs.StoredLog.{Stores-stays}
+use Rattle.redo_log.proofs.GuardedCalls.{Stores-stays}
 use Rattle.redo_log.proofs.LogRules.{IsLog, made_is, none_made}
 use Rattle.journal.specs.LayoutLaws.{IsRecordOf}
 use Rattle.journal.proofs.BatchEntries.{numbers_of_batch, sized_batch}

@@ -3,7 +3,7 @@ use Rattle.std.proofs.Common.{◌≡◌, ◌⊎◌, inl, inr, ⊎_elim, ℕ, ◌
 use Rattle.std.proofs.Common.{◌∙◌, ap, arith, length-append}
 use Rattle.std.specs.Prelude.{true, false, Result, OnOk}
 use Rattle.std.proofs.lemmas.Result.{on_ok_weaker}
-use Rattle.std.proofs.lemmas.Bool.{cases_lt}
+use Rattle.std.proofs.lemmas.Bool.{cases_eq, cases_lt}
 use Rattle.std.proofs.lemmas.List.{map-append, get_or_append_left}
 use Rattle.medium.specs.Medium.{State, Holds, IsSound}
 use Rattle.medium.specs.Moments.{EachCut, LeavesOnly}
@@ -16,8 +16,8 @@ use Rattle.journal.specs.LayoutLaws.{Laws, IsRecordOf}
 use Rattle.journal.specs.Formats.{layout_of}
 use Rattle.journal.specs.Staged.{HasSlots}
 use Rattle.journal.proofs.Formats.{laws_of}
-use Rattle.journal.proofs.Engine.{Guarded-lost, Guarded-write, other_written}
-use Rattle.journal.proofs.WrittenRecord.{durable_rests}
+use Rattle.journal.proofs.Engine.{Guarded-lost, Guarded-write, Stored-write, other_written}
+use Rattle.journal.proofs.WrittenRecord.{Stored-durable, durable_rests}
 use Rattle.journal.proofs.BatchEntries.{length_of_batch}
 use Rattle.redo_log.specs.declared.progress.Progress.{Progress}
 use Rattle.redo_log.specs.declared.progress.Progress.TheVariants.{More, Durable}
@@ -27,11 +27,11 @@ use Rattle.redo_log.specs.Calls.{Call, Write, Flush, MayAdd, IsDone, MakesNext, 
 use Rattle.redo_log.specs.Held.{View, with_record, view_stepped, written_of, flushed_of, made_of, turned_of, needed_of}
 use Rattle.redo_log.specs.Held.{HasDurable, MayLeave, HasHead, HoldsView, image_view, with_passed}
 use Rattle.redo_log.proofs.RecordSteps.{steps_are, due_or_not, last_call, not_last, one_left, early_written, part_written}
-use Rattle.redo_log.proofs.RecordSteps.{flush_is, write_is}
+use Rattle.redo_log.proofs.RecordSteps.{flush_is, write_is, none_written}
 use Rattle.redo_log.proofs.RingRecords.{needed_one}
 use Rattle.redo_log.proofs.GuardedCalls.{Stands, stands_idle, rests_safe, with_newest, same_head, same_stamp, stands_front}
-use Rattle.redo_log.proofs.GuardedCalls.{logged_leaves, guard_leaves, safe_here, homed_here}
-use Rattle.redo_log.proofs.StoredLog.{before_home, Stores-stays, part_stores, durable_stores}
+use Rattle.redo_log.proofs.GuardedCalls.{logged_leaves, guard_leaves, safe_here, homed_here, Stores-stays}
+use Rattle.redo_log.proofs.OneSector.{before_home}
 use Rattle.redo_log.proofs.KeptFirsts.{durable_kept}
 use Rattle.redo_log.proofs.LogRules.{IsLog, made_is, none_made, one_stamp, durable_of, durable_alone, durable_more}
 use Rattle.redo_log.proofs.HeldLog.{needs_one, many, count, under_count, stands_then, goes_on, durable_whole, record_batch}
@@ -105,6 +105,7 @@ module _ {log : LogValue} (is : IsLog log) (live : log.dead ≡ false) (some : 0
         let longer : length (view.records ++ view.under_way ∷ []) ≡ length view.records + 1 =
         length-append view.records (view.under_way ∷ []) in
         let fits : sectors_of log.shape ≤ new.size = omega (arith, same_size, hv.fits) in
+        let still : new.content ≡ old.content = λ i s. wrote.0 s i in
         let alone = λ (none : length view.records ≡ 0). durable_alone log is some (many hv ∙ none) in
         let waits = λ (more : 0 < length view.records). durable_more log (omega (arith, many hv, more)) in
         let one_less : needed_of (durable_of log) ≡ 1
@@ -134,9 +135,19 @@ module _ {log : LogValue} (is : IsLog log) (live : log.dead ≡ false) (some : 0
           firsts = durable_kept log.shape.format view.records view.under_way log.firsts hv.firsts (omega (arith, slots.under_way.fit.some));
           leaves = λ ours image cut. guard_leaves (durable_of log) fits
               (stands_idle is.sized (omega (arith, slots.room, longer)) (omega arith) refl refl) (guards ours image cut);
-          stores = λ _. durable_stores
-              (Stores-stays (hv.stores live) (made_of log) (turned_of log) new.content wrote.0 (omega arith) (λ i low high. low))
-              (made_of (durable_of log)) (turned_of (durable_of log)) refl slots all (λ none. (alone none).1) (λ more. (waits more).1);
+          stores = λ _. record {
+            stored = record {
+              keeps = rw still (Stored-durable L laws (image_view log.shape log.head view) slots all (hv.stores live).stored);
+              parts = λ p low small. absurd (omega (arith, low, none_written (L.early 0) 0 refl));
+            };
+            copied = elim (cases_eq (length view.records) 0) [
+              | inl none ↦ λ i low high. absurd (omega (arith, low, alone none))
+              | inr other ↦
+                  let some : 0 < length view.records = omega (arith, other) in
+                  rw (still, get_or_append_left view.records (view.under_way ∷ []) [] 0 some)
+                  (λ i low high. (hv.stores live).copied i (omega (arith, low, waits some)) high)
+            ];
+          };
           guards = λ _. guards;
         }
 
@@ -207,11 +218,17 @@ module _ {log : LogValue} (is : IsLog log) (live : log.dead ≡ false) (some : 0
 
       part_written_now : 1 < log.steps_left → new.size ≡ old.size → view.under_way ≡ other → MayAdd (Write place bytes) old new
           → IsDone (Write place bytes) old new → HoldsView more_log new view
-      part_written_now more same_size named adds wrote =
+      part_written_now more same_size named adds write =
+          let s = hv.stores live in
           let mine : bytes ≡ L.part stamp view.under_way k = ap (λ (l : List Entry). L.part stamp l k) (sym named) in
           let now = after (made_of more_log) (then_made more) in
           goes_on hv is (log.steps_left - 1) log.retire_steps_left log.ahead new (omega arith) same_size live
-          (part_stores (hv.stores live) (made_of more_log) slots small now.0 is.sized new.content (rw mine at wrote))
+          (record {
+            stored = Stored-write L laws (image_view log.shape log.head view) slots k small (λ p low not. omega (arith, low, now.0, not))
+                (rw mine at write) s.stored;
+            copied = λ i low high.
+                write.elsewhere _ (λ e. omega (arith, e, before_home log.shape is.sized stamp (L.offset n k) inside)) ∙ s.copied i low high;
+          })
           (λ ours. part_each mine adds ours (made_of more_log) (then_made more))
 
   -- ---- the next call of a record with these blocks

@@ -26,7 +26,7 @@ use Rattle.redo_log.proofs.RecordSteps.{none_written, steps_some}
 use Rattle.redo_log.proofs.RingRecords.{needed_covered}
 use Rattle.redo_log.proofs.GuardedCalls.{rests_safe, safe_rests, with_newest, same_head, put_head, put_safe, Logged-records}
 use Rattle.redo_log.proofs.KeptFirsts.{none_kept, begun_kept}
-use Rattle.redo_log.proofs.StoredLog.{Stores-stays}
+use Rattle.redo_log.proofs.GuardedCalls.{Stores-stays}
 use Rattle.redo_log.proofs.LogRules.{one_stamp, made_is, none_made}
 use Rattle.redo_log.proofs.HeldLog.{count, under_count, going_held, died_held}
 pub use Rattle.redo_log.proofs.HeldLog.{quiet_held}
