@@ -1,17 +1,24 @@
--- The crash argument, for every layout: what the writing of a record leaves.
-use Rattle.std.proofs.Common.{◌≡◌, ◌≢◌, ◌⊎◌, inl, inr, ⊎_elim, ℕ, ◌+◌, ◌*◌, ◌-◌, ◌%◌, ◌<◌, ◌≤◌, List, length, refl, arith, rules}
-use Rattle.std.proofs.lemmas.Bool.{cases_eq}
+-- The crash argument, for every layout: what the writing of a record leaves, and its retiring while another is written.
+use Rattle.std.proofs.Common.{◌≡◌, ◌≢◌, ◌⊎◌, inl, inr, ⊎_elim, ℕ, ◌+◌, ◌*◌, ◌-◌, ◌%◌, ◌<◌, ◌≤◌, List, length, refl, arith, rules, [], ◌∷◌}
+use Rattle.std.proofs.Common.{◌++◌, length-append, get_or, drop, sym, ◌∙◌}
+use Rattle.std.proofs.lemmas.Bool.{cases_eq, cases_lt}
 use Rattle.std.proofs.lemmas.Nat.{mod_below}
+use Rattle.std.proofs.lemmas.List.{get_or_append_left, length-drop, get_or-drop}
+use Rattle.std.proofs.Math.Seq.{get_or-append_seam}
 use Rattle.medium.specs.Medium.{Image, Holds}
 use Rattle.spec.specs.Blocks.{Array}
 use Rattle.journal.specs.Places.{Shape}
-use Rattle.journal.specs.Record.{Entry}
+use Rattle.journal.specs.Record.{Entry, with_records, home_of, Agree, Hides}
 use Rattle.journal.specs.Layout.{Layout, IsWholeIn, HasWholeIn, CarriesBelowIn, LoggedIn, RestsIn, IsFree, slot_at, part_at}
 use Rattle.journal.specs.LayoutLaws.{Laws, IsRecordOf}
-use Rattle.journal.specs.Staged.{View, stamp_of, KeepsView, Found, Stored, Guarded, HasSlots, Resting}
+use Rattle.journal.specs.Staged.{View, stamp_of, KeepsView, Found, Stored, Guarded, HasSlots, Resting, with_record, MayLeave, with_less}
+use Rattle.journal.specs.Staged.{IsHomed}
+use Rattle.journal.specs.Sectors.{IsHead}
 use Rattle.journal.proofs.Apart.{in_log, other_sector}
 use Rattle.journal.proofs.Slots.{other_slot}
-use Rattle.journal.proofs.Wholeness.{record_of, Keeps-same}
+use Rattle.journal.proofs.Wholeness.{record_of, Keeps-same, IsWhole-same, slot_inside}
+use Rattle.journal.proofs.AllOrFirst.{all_or_first}
+use Rattle.journal.proofs.Overlay.{with_blocks-same, with_records-append, with_records-same, with_blocks-home}
 
 -- where part p of the record under way stands
 abbrev pub at : Layout → View → ℕ → ℕ
@@ -184,3 +191,153 @@ module _ (L : Layout) (laws : Laws L) (v : View) (slots : HasSlots L v) where
         | inr not ↦ carries_below before k durable g slot o t low small (rw (write.elsewhere place not) at carries)
       ] in
       grind (arith, slots.room)
+
+  -- with all its parts in its slot the record is whole
+  whole_now : (image : Image) → ((p : ℕ) → p < L.parts (length v.under_way) → image (at L v p) ≡ bytes_of L v p)
+      → IsWholeIn L v.shape image (stamp_of v) v.under_way
+  whole_now image there = search (rules, slots.under_way)
+
+  -- with its last part there, each whole record of its stamp has as many blocks
+  same_count : (image : Image) (es : List Entry) → image (at L v (last L v)) ≡ bytes_of L v (last L v)
+      → IsWholeIn L v.shape image (stamp_of v) es → length es ≡ length v.under_way
+  same_count image es commit w =
+      let count = laws.count v.shape.blocks (stamp_of v) es v.under_way (record_of w) slots.under_way in
+      grind (arith, count, w.there (L.parts (length es) - 1), laws.some_parts (length es), laws.last, commit)
+
+  -- the record under way is not whole, or all its parts are written, and it is, with its blocks
+  whole_or_not : (image : Image) (k durable : ℕ) → (L.parts (length v.under_way) ≤ k → L.early (length v.under_way) ≤ durable)
+      → Guarded L v k durable image → (¬ HasWholeIn L v.shape image (stamp_of v))
+      ⊎ ((L.parts (length v.under_way) ≤ k) × IsWholeIn L v.shape image (stamp_of v) v.under_way)
+  whole_or_not image k durable early g =
+      let or_free = λ (p : ℕ). part_or_free image k durable p g in
+      elim (or_free (last L v) (omega (arith, laws.some_parts (length v.under_way)))) [
+        | inr free ↦ inl (last_free image free)
+        | inl commit ↦
+            let all : L.parts (length v.under_way) ≤ k = omega (arith, commit.0) in
+            elim (all_or_first
+            (λ p. image (at L v p) ≡ bytes_of L v p)
+            (λ p. (durable ≤ p) × IsFree L (stamp_of v) (L.offset (length v.under_way) p) (image (at L v p)))
+            (L.parts (length v.under_way))
+            (λ p small. grind (arith, cases_lt p durable, g.stored.parts p, or_free p small))) [
+              | inl there ↦ inr (all, whole_now image there)
+              | inr one ↦
+                  inl (λ whole.
+                  let same = same_count image whole.0 commit.1 whole.1 in
+                  late_carries L laws v.shape image (stamp_of v) whole.0 one.0 whole.1 (rw same one.1)
+                  (rw same (omega (arith, early all, one.3.0))) (rw same one.3.1))
+            ]
+      ]
+
+  longer : length (v.records ++ v.under_way ∷ []) ≡ length v.records + 1
+  longer = length-append v.records (v.under_way ∷ [])
+
+  -- an image where it is whole keeps it with the durable ones
+  keeps_with : (image : Image) → KeepsView L v image → IsWholeIn L v.shape image (stamp_of v) v.under_way
+      → KeepsView L (with_record v) image
+  keeps_with image keeps whole =
+      let more = with_records-append v.records v.under_way (home_of v.shape image) in
+      let laid = with_blocks-same v.under_way (with_records v.records (home_of v.shape image)) v.array in
+      let old = get_or_append_left v.records (v.under_way ∷ []) [] in
+      grind (arith, cases_lt, keeps, longer, get_or-append_seam v.records v.under_way [] [])
+
+  -- so a cut leaves what it may leave
+  pub guarded_leaves : (image : Image) (k durable : ℕ) → (L.parts (length v.under_way) ≤ k → L.early (length v.under_way) ≤ durable)
+      → Guarded L v k durable image → MayLeave L v k image
+  guarded_leaves image k durable early g =
+      let carries = carries_below image k durable g in
+      ⊎_elim
+      (λ not. inl (record { keeps = g.stored.keeps; few = omega (arith, slots.room); ends = λ room. not; carries = carries }))
+      (λ whole.
+      let keeps = keeps_with image g.stored.keeps whole.1 in
+      let none = none_carried L laws v.shape slots.some image (stamp_of v + 1) carries in
+      let found : Found L (with_record v) image = grind (arith, longer, slots.room, carries) in
+      inr (whole.0, found))
+      (whole_or_not image k durable early g)
+
+  -- with all its parts there the record is durable
+  pub Stored-durable : {image : Image} {count : ℕ} → L.parts (length v.under_way) ≤ count → Stored L v count image
+      → KeepsView L (with_record v) image
+  Stored-durable {image} all s = keeps_with image s.keeps (whole_now image (λ p below. s.parts p (omega arith) below))
+
+  -- and none is under way
+  pub durable_rests : {image : Image} {k durable count : ℕ} → L.parts (length v.under_way) ≤ count → Stored L v count image
+      → Guarded L v k durable image → Resting L (with_record v) image
+  durable_rests {image} {k} {durable} all s g =
+      let keeps = Stored-durable all s in
+      let carries = carries_below image k durable g in
+      grind (arith, longer, carries)
+
+module _ (L : Layout) (laws : Laws L) (shape : Shape) (some : 1 ≤ shape.slots) (before image : Image)
+    (same : (x : ℕ) → 2 ≤ x → x < 2 + L.slot_sectors * shape.slots → image x ≡ before x) where
+  -- where the log stays, whole records stay
+  pub IsWholeIn-same : (stamp : ℕ) (entries : List Entry) → IsWholeIn L shape before stamp entries → IsWholeIn L shape image stamp entries
+  IsWholeIn-same stamp entries w = IsWhole-same L laws shape before image stamp entries
+      (λ x from to. same x (omega arith) (omega (arith, slot_inside L laws shape stamp some))) w
+
+module _ (L : Layout) (laws : Laws L) (v : View) (some : 1 ≤ v.shape.slots)
+    (behind : 2 + L.slot_sectors * v.shape.slots ≤ v.shape.home) (few : length v.under_way ≤ L.most) {before image : Image} where
+  -- a write before or behind the log leaves the log
+  log_same : {s : ℕ} {bytes : List ℕ} → Holds s bytes before image → (2 ≤ s → v.shape.home ≤ s)
+      → Agree 2 (2 + L.slot_sectors * v.shape.slots) image before
+  log_same write apart x low high = write.elsewhere x (λ e. grind (arith, behind, apart))
+
+  -- a block that the records hide is written home
+  pub KeepsView-home : (b : ℕ) {bytes : List ℕ} → Hides v.records b → Holds (v.shape.home + b) bytes before image
+      → KeepsView L v before → KeepsView L v image
+  KeepsView-home b hides write g =
+      let log = log_same write (λ low. omega arith) in
+      let whole = λ (j : ℕ) (below : j < length v.records).
+      IsWholeIn-same L laws v.shape some before image log (v.head + j) (get_or v.records j []) (g.whole j below) in
+      let hidden = hides (home_of v.shape image) (home_of v.shape before) in
+      let others = with_records-same v.records (home_of v.shape image) (home_of v.shape before) in
+      grind (arith, cases_eq, write.elsewhere, g)
+
+  -- with the oldest record at home the head goes past it
+  pub KeepsView-head : {bytes : List ℕ} → 0 < length v.records → IsHead (v.head + 1) bytes → IsHomed v before
+      → Holds 1 bytes before image → KeepsView L v before → KeepsView L (with_less v) image
+  KeepsView-head waits h homed write g = record {
+    super = rw (write.elsewhere 0 (λ e. omega arith)) g.super;
+    head_is = rw write.here h;
+    whole = λ j below.
+        IsWholeIn-same L laws v.shape some before image (log_same write (λ low. omega arith)) (v.head + 1 + j) _
+        (rw (get_or-drop 1 v.records j []) (grind (arith, g.whole (1 + j), length-drop 1 v.records)));
+    blocks = λ b below. with_records-same (drop 1 v.records) (home_of v.shape image) (home_of v.shape before) b
+        (write.elsewhere (v.shape.home + b) (λ e. omega (arith, behind)))
+        ∙ (sym (oldest_home v.records (home_of v.shape before) b homed) ∙ g.blocks b below);
+  }
+    where
+      -- the oldest record changes nothing where its blocks are at home
+      oldest_home : (records : List (List Entry)) (a : Array) (b : ℕ)
+          → ((i : ℕ) → i < length (get_or records 0 [])
+          → a (get_or (get_or records 0 []) i (0, [])).0 ≡ (get_or (get_or records 0 []) i (0, [])).1)
+          → with_records records a b ≡ with_records (drop 1 records) a b
+      oldest_home [] a b homed = refl
+      oldest_home (r ∷ records) a b homed = search (rules, with_records-same, with_blocks-home)
+
+  -- While the log stays, the record under way stays as far as it is written, whichever records are in front of it.
+  module _ {s : ℕ} {bytes : List ℕ} (write : Holds s bytes before image) (apart : 2 ≤ s → v.shape.home ≤ s) (head : ℕ)
+      (records : List (List Entry)) (next : head + length records ≡ stamp_of v)
+      (keeps : KeepsView L v before → KeepsView L (record v { head = head; records = records }) image) where
+    pub Stored-kept : {count : ℕ} → Stored L v count before → Stored L (record v { head = head; records = records }) count image
+    Stored-kept s = record {
+      keeps = keeps s.keeps;
+      parts = λ p low small.
+          let inside = laws.inside (length v.under_way) p few small in
+          rw (next, log_same write apart (at L v p) (omega arith) (omega (arith, slot_inside L laws v.shape (stamp_of v) some, inside)))
+          (s.parts p low small);
+    }
+
+    pub Guarded-kept : {k durable : ℕ} → Guarded L v k durable before
+        → Guarded L (record v { head = head; records = records }) k durable image
+    Guarded-kept g = record {
+      stored = Stored-kept g.stored;
+      carries = λ slot o low small.
+          rw (next, log_same write apart (2 + L.slot_sectors * slot + o) (omega arith) (in_log L.slot_sectors slot v.shape.slots o low small))
+          (g.carries slot o low small);
+    }
+
+-- with the oldest record retired one slot more is free
+pub HasSlots-less : (L : Layout) (v : View) → HasSlots L v → 0 < length v.records → HasSlots L (with_less v)
+HasSlots-less L v slots waits =
+    let fewer = length-drop 1 v.records in
+    let same : stamp_of (with_less v) ≡ stamp_of v = omega (arith, fewer, waits) in grind (arith, slots.room, fewer, same)

@@ -17,9 +17,8 @@ use Rattle.journal.specs.Staged as staged
 use Rattle.journal.specs.Staged.{HasSlots, Resting, IsHomed}
 use Rattle.journal.proofs.Formats.{laws_of}
 use Rattle.journal.proofs.SectorNumbers.{IsHead-one}
-use Rattle.journal.proofs.Engine.{rests_logged, rests_begun, begun_rests}
-use Rattle.journal.proofs.WrittenRecord.{guarded_leaves}
-use Rattle.journal.proofs.RetiredRecord.{Guarded-home, Guarded-head, HasSlots-less}
+use Rattle.journal.proofs.Engine.{rests_logged, rests_begun, begun_rests, guarded_leaves, KeepsView-home, KeepsView-head, Guarded-kept}
+use Rattle.journal.proofs.Engine.{HasSlots-less}
 use Rattle.redo_log.specs.Logged.{Logged, HasRecords}
 use Rattle.redo_log.specs.Value.{LogValue}
 use Rattle.redo_log.specs.Stages.{IsSized}
@@ -84,12 +83,17 @@ module _ {shape : Shape} {head : ℕ} {view : View} {steps made : ℕ} (stands :
   -- a block that the records hide is written home
   pub home_safe : {before image : Image} (b : ℕ) {bytes : List ℕ} → Hides view.records b → Holds (first_home shape + b) bytes before image
       → Safe shape head view made before → Safe shape head view made image
-  home_safe b hides write safe = Guarded-home L laws v stands.sized.some stands.sized.behind stands.fit b hides write safe
+  home_safe b hides write safe =
+      Guarded-kept L laws v stands.sized.some stands.sized.behind stands.fit write (λ low. omega arith) head view.records refl
+      (KeepsView-home L laws v stands.sized.some stands.sized.behind stands.fit b hides write) safe
 
   -- the head is written past the oldest record
   pub past_safe : {before image : Image} {bytes : List ℕ} → 0 < length view.records → IsHead (head + 1) bytes → IsHomed v before
       → Holds 1 bytes before image → Safe shape head view made before → Safe shape (head + 1) (view_retired 1 view) made image
-  past_safe waits h homed write safe = Guarded-head L laws v stands.sized.some stands.sized.behind stands.fit waits h homed write safe
+  past_safe waits h homed write safe =
+      Guarded-kept L laws v stands.sized.some stands.sized.behind stands.fit write (λ low. omega arith) (head + 1) _
+      (omega (arith, waits, length-drop 1 view.records))
+      (KeepsView-head L laws v stands.sized.some stands.sized.behind stands.fit waits h homed write) safe
 
   -- without the oldest they stand too
   pub stands_less : 0 < length view.records → Stands shape (head + 1) (view_retired 1 view) steps made
@@ -97,7 +101,7 @@ module _ {shape : Shape} {head : ℕ} {view : View} {steps made : ℕ} (stands :
     sized = stands.sized;
     few = omega (arith, stands.few, length-drop 1 view.records, waits);
     fit = stands.fit;
-    slots = λ some. HasSlots-less L laws v (stands.slots some) waits;
+    slots = λ some. HasSlots-less L v (stands.slots some) waits;
     none = stands.none;
     short = stands.short;
   }

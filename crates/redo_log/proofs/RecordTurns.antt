@@ -16,8 +16,7 @@ use Rattle.journal.specs.LayoutLaws.{Laws, IsRecordOf}
 use Rattle.journal.specs.Formats.{layout_of}
 use Rattle.journal.specs.Staged.{HasSlots}
 use Rattle.journal.proofs.Formats.{laws_of}
-use Rattle.journal.proofs.Engine.{Guarded-lost, Guarded-write, Stored-write, other_written}
-use Rattle.journal.proofs.WrittenRecord.{Stored-durable, durable_rests}
+use Rattle.journal.proofs.Engine.{Guarded-lost, Guarded-write, Stored-write, other_written, Stored-durable, durable_rests}
 use Rattle.journal.proofs.BatchEntries.{length_of_batch}
 use Rattle.redo_log.specs.declared.progress.Progress.{Progress}
 use Rattle.redo_log.specs.declared.progress.Progress.TheVariants.{More, Durable}

@@ -21,7 +21,7 @@ use Rattle.journal.specs.Staged.{IsHomed}
 use Rattle.journal.proofs.CopiedBlock.{begun_is}
 use Rattle.journal.proofs.Formats.{laws_of}
 use Rattle.journal.proofs.Overlay.{records-hide}
-use Rattle.journal.proofs.RetiredRecord.{IsWholeIn-same, Stored-home, Stored-head}
+use Rattle.journal.proofs.Engine.{IsWholeIn-same, KeepsView-home, KeepsView-head, Stored-kept}
 use Rattle.redo_log.specs.declared.turn.Turn.{Turn}
 use Rattle.redo_log.specs.declared.turn.Turn.TheVariants.{Flush, Head}
 use Rattle.redo_log.specs.Value.{LogValue, Ahead, IsSentHome, IsRetireStepped, of_oldest, ahead_of}
@@ -109,7 +109,8 @@ module _ {log : LogValue} (is : IsLog log) (live : log.dead ≡ false) (owed : 0
         let s = hv.stores live in
         goes_on hv is log.steps_left (log.retire_steps_left - 1) ahead new (omega arith) same_size live
         (record {
-          stored = Stored-home L laws v is.sized.some is.sized.behind stands.fit block hides write s.stored;
+          stored = Stored-kept L laws v is.sized.some is.sized.behind stands.fit write (λ low. omega arith) log.head view.records refl
+              (KeepsView-home L laws v is.sized.some is.sized.behind stands.fit block hides write) s.stored;
           copied = λ j low high. elim (cases_eq j (turned_of log)) [
             | inl same ↦ rw (same, write.here) refl
             | inr other ↦
@@ -186,7 +187,9 @@ module _ {log : LogValue} (is : IsLog log) (live : log.dead ≡ false) (owed : 0
         λ ours image cut. guard_leaves (retired_of log) fits stands_past (guards ours image cut) in
         let s = hv.stores live in
         let homed : IsHomed v old.content = λ i inside. s.copied i (omega (arith, inside, one, count hv 0)) inside in
-        let stored = Stored-head L laws v is.sized.some is.sized.behind stands.fit waits head_now homed wrote s.stored in
+        let stored = Stored-kept L laws v is.sized.some is.sized.behind stands.fit wrote (λ low. omega arith) (log.head + 1)
+        (drop 1 view.records) (omega (arith, waits, fewer))
+        (KeepsView-head L laws v is.sized.some is.sized.behind stands.fit waits head_now homed wrote) s.stored in
         let copied : AreHome log.shape (get_or (drop 1 view.records) 0 []) (turned_of (retired_of log)) new.content =
         λ i low high. absurd (nothing_home log i low (omega (arith, high, second))) in
         search (rules, arith)
