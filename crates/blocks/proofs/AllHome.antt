@@ -63,7 +63,7 @@ module _ (m : State) (sound : IsSound m) (s : Cached) (live : is_dead s ≡ fals
   cut_home : (book : Book) → FitsBook m s book → book.ours ≡ true → EachCut (IsAtHome (layout_of s) book) m
   cut_home book f ours image cut b below =
       let g = blocks_guarded s.log m f.view sound f.holds live (f.ours ∙ ours) image cut in
-      let keeps = (g.0.rests (omega (arith, none))).keeps in
+      let keeps = g.0.stored.keeps in
       sym (g.1 (s.log.shape.home + b) (λ e. omega (arith, e, keeps.super.home_is.0)))
       ∙ left_home book f b below (put_head m image) keeps
 

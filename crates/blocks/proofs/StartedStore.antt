@@ -1,5 +1,5 @@
 -- The store that a recovery starts.
-use Rattle.std.proofs.Common.{◌≡◌, ◌≤◌, ℕ, [], false, refl, sym, subst, arith}
+use Rattle.std.proofs.Common.{◌≡◌, ◌≤◌, ℕ, [], false, inl, refl, sym, subst, arith}
 use Rattle.std.specs.Prelude.{Bool, true}
 use Rattle.medium.specs.Medium.{State, Image, IsSound}
 use Rattle.medium.specs.Moments.{EachCut}
@@ -10,7 +10,8 @@ use Rattle.journal.specs.declared.super_sector.Super.{Super}
 use Rattle.journal.specs.declared.log_format.LogFormat.{LogFormat}
 use Rattle.journal.specs.Values.{shape_of}
 use Rattle.journal.specs.Formats.{CarriesBelow}
-use Rattle.journal.specs.Standing.{IsOurs}
+use Rattle.journal.specs.Sectors.{IsSuper}
+use Rattle.journal.specs.Standing.{Keeps, IsOurs}
 use Rattle.journal.proofs.StandingLaws.{StandsFor-one}
 use Rattle.recovery.specs.Recovered as recovered
 use Rattle.recovery.specs.Recovered.{IsRecoveredFrom, IsOursForSome}
@@ -32,6 +33,17 @@ fresh_log : (shape : Shape) (array : Array) (next : ℕ) (image : Image) → rec
 fresh_log shape array next image f = record {
   keeps = record { super = f.super; head_is = f.head; whole = λ j below. absurd (omega arith); blocks = f.home };
   carries = λ slot o stamp low small c. omega (arith, f.carries slot o stamp low small c);
+}
+
+-- what was recovered is at home, with the head and no record
+found_home : (before after : State) (answer : Recovered) (from : IsRecoveredFrom before after answer)
+    → Keeps (shape_of answer.sizes) after.content answer.next [] from.array
+found_home before after answer from = record {
+  super = subst (IsSuper (shape_of answer.sizes)) (sym (from.elsewhere 0 (λ e. omega arith)
+      (inl (omega (arith, from.stood.keeps.super.home_is.0))))) from.stood.keeps.super;
+  head_is = from.head;
+  whole = λ j below. absurd (omega arith);
+  blocks = from.home;
 }
 
 -- an empty batch with room for as many blocks as a record of this format
@@ -110,8 +122,8 @@ module _ (before after : State) (answer : Recovered) (from : IsRecoveredFrom bef
   rests : (ours : Bool) → (ours ≡ true → EachCut (IsOursForSome before.size) before)
       → HoldsView (idle_from (shape_of answer.sizes) answer.next) after (resting_view from.array ours)
   rests ours premise =
-      idle_holds (shape_of answer.sizes) answer.next from.array ours after sound_then (omega (arith, from.stood.fits, size_stays)) from.home
-      (λ is image cut. fresh_log (shape_of answer.sizes) from.array answer.next image
+      idle_holds (shape_of answer.sizes) answer.next from.array ours after (omega (arith, from.stood.fits, size_stays))
+      (found_home before after answer from) (λ is image cut. fresh_log (shape_of answer.sizes) from.array answer.next image
       (fresh (shape_of answer.sizes) from.array answer.next (was_ours (premise is)) image cut))
 
   abbrev fits : (ours : Bool) → (ours ≡ true → EachCut (IsOursForSome before.size) before)

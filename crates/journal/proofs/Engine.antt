@@ -1,17 +1,24 @@
--- The crash argument, for every layout: what the writing of a record leaves.
-use Rattle.std.proofs.Common.{◌≡◌, ◌≢◌, ℕ, ◌+◌, ◌*◌, ◌-◌, ◌%◌, ◌<◌, ◌≤◌, List, length, arith, rules}
+-- The crash argument, for every layout: what the writing of a record leaves, and its retiring while another is written.
+use Rattle.std.proofs.Common.{◌≡◌, ◌≢◌, ◌⊎◌, inl, inr, ⊎_elim, ℕ, ◌+◌, ◌*◌, ◌-◌, ◌%◌, ◌<◌, ◌≤◌, List, length, refl, arith, rules, [], ◌∷◌}
+use Rattle.std.proofs.Common.{◌++◌, length-append, get_or, drop, sym, ◌∙◌}
 use Rattle.std.proofs.lemmas.Bool.{cases_eq, cases_lt}
 use Rattle.std.proofs.lemmas.Nat.{mod_below}
+use Rattle.std.proofs.lemmas.List.{get_or_append_left, length-drop, get_or-drop}
+use Rattle.std.proofs.Math.Seq.{get_or-append_seam}
 use Rattle.medium.specs.Medium.{Image, Holds}
 use Rattle.spec.specs.Blocks.{Array}
 use Rattle.journal.specs.Places.{Shape}
-use Rattle.journal.specs.Record.{Entry}
+use Rattle.journal.specs.Record.{Entry, with_records, home_of, Agree, Hides}
 use Rattle.journal.specs.Layout.{Layout, IsWholeIn, HasWholeIn, CarriesBelowIn, LoggedIn, RestsIn, IsFree, slot_at, part_at}
 use Rattle.journal.specs.LayoutLaws.{Laws, IsRecordOf}
-use Rattle.journal.specs.Staged.{View, stamp_of, KeepsView, Found, Guarded, HasSlots, Resting}
+use Rattle.journal.specs.Staged.{View, stamp_of, KeepsView, Found, Stored, Guarded, HasSlots, Resting, with_record, MayLeave, with_less}
+use Rattle.journal.specs.Staged.{IsHomed}
+use Rattle.journal.specs.Sectors.{IsHead}
 use Rattle.journal.proofs.Apart.{in_log, other_sector}
 use Rattle.journal.proofs.Slots.{other_slot}
-use Rattle.journal.proofs.Wholeness.{record_of, Keeps-same}
+use Rattle.journal.proofs.Wholeness.{record_of, Keeps-same, IsWhole-same, slot_inside}
+use Rattle.journal.proofs.AllOrFirst.{all_or_first}
+use Rattle.journal.proofs.Overlay.{with_blocks-same, with_records-append, with_records-same, with_blocks-home}
 
 -- where part p of the record under way stands
 abbrev pub at : Layout → View → ℕ → ℕ
@@ -55,10 +62,19 @@ module _ (L : Layout) (laws : Laws L) (shape : Shape) (some : 1 ≤ shape.slots)
       let none = none_carried image (head + length records) r.carries in search (rules, arith, r.carries)
 
 -- where no sector of the log carries the stamp or a later one, a record may be begun
-pub rests_begun : (L : Layout) → Laws L → (v : View) → 1 ≤ v.shape.slots → length v.under_way ≤ L.most → (image : Image) → Resting L v image
-    → Guarded L v 0 0 image
-rests_begun L laws v some few image r =
-    let low = mod_below (stamp_of v) v.shape.slots some in search (rules, arith, r.carries, laws.inside)
+pub rests_begun : {L : Layout} {v : View} {image : Image} → Resting L v image → Guarded L v 0 0 image
+rests_begun r = record {
+  stored = record { keeps = r.keeps; parts = λ p none. absurd (omega arith) };
+  carries = λ slot o low small. inr (λ t. r.carries slot o t low small);
+}
+
+-- and with no part of it written none does
+pub begun_rests : {L : Layout} {v : View} {so_far durable : ℕ} {image : Image} → so_far ≡ 0 → Guarded L v so_far durable image
+    → Resting L v image
+begun_rests none g = record {
+  keeps = g.stored.keeps;
+  carries = λ slot o t low small c. ⊎_elim (λ h. absurd (omega (arith, h.early))) (λ free. free t c) (g.carries slot o low small);
+}
 
 module _ (L : Layout) (laws : Laws L) (v : View) (slots : HasSlots L v) where
   -- where the last part of the record under way does not carry its stamp, it is not whole
@@ -89,23 +105,34 @@ module _ (L : Layout) (laws : Laws L) (v : View) (slots : HasSlots L v) where
       ))
       (λ x from to. write.elsewhere x (λ e. omega (arith, slots.behind))) k
 
-  -- part k of a record of this stamp is written: no sector carries a later one
-  carries_stays : (es : List Entry) → IsRecordOf L v.shape.blocks (stamp_of v) es → (before image : Image) (k : ℕ)
-      → k < L.parts (length es) → Holds (part_at L v.shape (stamp_of v) (length es) k) (L.part (stamp_of v) es k) before image
-      → CarriesBelowIn L v.shape before (stamp_of v + 1) → CarriesBelowIn L v.shape image (stamp_of v + 1)
-  carries_stays es is before image k below write c other o t low small carries =
-      let here = part_at L v.shape (stamp_of v) (length es) k in
-      grind (
-        arith,
-        cases_eq (2 + L.slot_sectors * other + o) here,
-        cases_eq other (stamp_of v % v.shape.slots),
-        c other o t low small,
-        write.here,
-        write.elsewhere,
-        laws.one_stamp v.shape.blocks (stamp_of v) t es k is below,
-        other_sector L.slot_sectors other (stamp_of v % v.shape.slots) o (L.offset (length es) k),
-        laws.inside (length es) k is.fit.few below,
-      )
+  -- a part of a record of this stamp carries no other one
+  one_part : (es : List Entry) → IsRecordOf L v.shape.blocks (stamp_of v) es → (slot o t p : ℕ) (bytes : List ℕ)
+      → o < L.slot_sectors → p < L.parts (length es)
+      → 2 + L.slot_sectors * slot + o ≡ part_at L v.shape (stamp_of v) (length es) p → bytes ≡ L.part (stamp_of v) es p
+      → L.carries o t bytes → t ≡ stamp_of v
+  one_part es is slot o t p bytes small below place there carries =
+      let low = laws.inside (length es) p is.fit.few below in
+      let apart = other_sector L.slot_sectors slot (stamp_of v % v.shape.slots) o (L.offset (length es) p) in
+      grind (arith, cases_eq slot (stamp_of v % v.shape.slots), apart, laws.one_stamp v.shape.blocks (stamp_of v) t es p is below)
+
+  -- no sector of the log carries a later stamp
+  pub carries_below : (image : Image) (so_far durable : ℕ) → Guarded L v so_far durable image
+      → CarriesBelowIn L v.shape image (stamp_of v + 1)
+  carries_below image so_far durable g slot o t low small carries = ⊎_elim
+      (λ h. omega (arith, one_part v.under_way slots.under_way slot o t h.part _ small h.inside h.place_is h.there carries))
+      (λ free. omega (arith, free t carries))
+      (g.carries slot o low small)
+
+  -- a part is there, of those that are written, or its sector does not carry the stamp
+  pub part_or_free : (image : Image) (so_far durable p : ℕ) → Guarded L v so_far durable image → p < L.parts (length v.under_way)
+      → ((p < so_far) × (image (at L v p) ≡ bytes_of L v p))
+      ⊎ IsFree L (stamp_of v) (L.offset (length v.under_way) p) (image (at L v p))
+  part_or_free image so_far durable p g below = ⊎_elim
+      (λ h.
+      let same : h.part ≡ p = laws.apart (length v.under_way) h.part p slots.under_way.fit.few h.inside below (omega (arith, h.place_is)) in
+      inl (omega (arith, h.early, same), rw same at h.there))
+      inr
+      (g.carries (stamp_of v % v.shape.slots) (L.offset (length v.under_way) p) slot_below (inside p below))
 
   -- a part that was not written now
   part_stays : {before image : Image} {k p : ℕ} {bytes : List ℕ} → Holds (at L v k) bytes before image
@@ -113,42 +140,204 @@ module _ (L : Layout) (laws : Laws L) (v : View) (slots : HasSlots L v) where
   part_stays {k = k} {p = p} write below small not = write.elsewhere (at L v p)
       (λ e. not (laws.apart (length v.under_way) p k slots.under_way.fit.few small below (omega (arith, e))))
 
-  -- part k reached the medium
-  pub Guarded-write : (before image : Image) (k durable : ℕ) → k < L.parts (length v.under_way)
-      → Holds (at L v k) (bytes_of L v k) before image → Guarded L v k durable before → Guarded L v (k + 1) durable image
-  Guarded-write before image k durable below write g =
-      let keeps = keeps_stays before image _ (bytes_of L v k) (inside k below) write g.keeps in
-      let carries = carries_stays v.under_way slots.under_way before image k below write g.parts.carries in
-      let stays = λ (p : ℕ). part_stays {p = p} write below in
-      grind (arith, cases_eq, stays, write.here, g.parts.flushed, g.parts.either, g.parts.free)
+  -- part k is written: of those that count it alone was not there
+  pub Stored-write : {before image : Image} (k : ℕ) {count next : ℕ} → k < L.parts (length v.under_way)
+      → ((p : ℕ) → p < next → p ≢ k → p < count) → Holds (at L v k) (bytes_of L v k) before image
+      → Stored L v count before → Stored L v next image
+  Stored-write {before} {image} k below others write s =
+      let keeps = keeps_stays before image _ (bytes_of L v k) (inside k below) write s.keeps in
+      record {
+        keeps = keeps;
+        parts = λ p low small. elim (cases_eq p k) [
+          | inl same ↦ rw (same, write.here) refl
+          | inr other ↦ rw (part_stays write below small other) (s.parts p (others p low other) small)
+        ];
+      }
 
-  -- part k was lost
-  pub Guarded-lost : (image : Image) (k durable : ℕ) → k < L.parts (length v.under_way) → Guarded L v k durable image
-      → Guarded L v (k + 1) durable image
-  Guarded-lost image k durable below g = record {
-    keeps = g.keeps;
-    parts = record {
-      carries = g.parts.carries;
-      flushed = g.parts.flushed;
-      either = λ p less small. search (rules, arith, cases_lt p k, g.parts.either p, g.parts.free p);
-      free = λ p more small. g.parts.free p (omega arith) small;
-    };
+  -- part k may be there
+  pub Guarded-lost : {image : Image} (k : ℕ) {durable : ℕ} → Guarded L v k durable image → Guarded L v (k + 1) durable image
+  Guarded-lost k g = record {
+    stored = g.stored;
+    carries = λ slot o low small. ⊎_elim (λ h. inl (search (rules, arith))) inr (g.carries slot o low small);
   }
 
-  -- all that is written is flushed
-  pub Guarded-flush : (image : Image) (k durable : ℕ)
-      → ((p : ℕ) → p < k → p < L.parts (length v.under_way) → image (at L v p) ≡ bytes_of L v p)
-      → Guarded L v k durable image → Guarded L v k k image
-  Guarded-flush image k durable there g = search rules
+  -- part k reached the medium
+  pub Guarded-write : {before image : Image} (k : ℕ) {durable : ℕ} → k < L.parts (length v.under_way)
+      → Holds (at L v k) (bytes_of L v k) before image → Guarded L v k durable before → Guarded L v (k + 1) durable image
+  Guarded-write {before} {image} k below write g = record {
+    stored = Stored-write k below (λ p low not. low) write g.stored;
+    carries = λ slot o low small.
+        let place : ℕ = 2 + L.slot_sectors * slot + o in
+        elim (cases_eq place (at L v k)) [
+          | inl here ↦ inl (record { part = k; early = omega arith; inside = below; place_is = here; there = rw (here, write.here) refl })
+          | inr other ↦ rw (write.elsewhere place other) ((Guarded-lost k g).carries slot o low small)
+        ];
+  }
 
   -- Where a part but the last one was written with other blocks in it, the record under way is not whole.
-  pub other_written : (before image : Image) (k durable : ℕ) (other : List Entry)
+  pub other_written : {before image : Image} (k : ℕ) {durable : ℕ} (other : List Entry)
       → IsRecordOf L v.shape.blocks (stamp_of v) other → length other ≡ length v.under_way → k + 1 < L.parts (length v.under_way)
       → Holds (at L v k) (L.part (stamp_of v) other k) before image → Guarded L v k durable before → Found L v image
-  other_written before image k durable other is same early write g =
+  other_written {before} {image} k {durable} other is same early write g =
       let below : k < L.parts (length v.under_way) = omega arith in
       let stays = part_stays {p = last L v} write below (omega arith) (λ e. omega arith) in
-      let none = last_free image (rw stays (g.parts.free (last L v) (omega arith) (omega arith))) in
-      let keeps = keeps_stays before image _ (L.part (stamp_of v) other k) (inside k below) write g.keeps in
-      let carries = carries_stays other is before image k (rw same below) (rw same write) g.parts.carries in
+      let free = part_or_free before k durable (last L v) g (omega arith) in
+      let none = last_free image (rw stays (grind (arith, free))) in
+      let keeps = keeps_stays before image _ (L.part (stamp_of v) other k) (inside k below) write g.stored.keeps in
+      let carries : CarriesBelowIn L v.shape image (stamp_of v + 1) = λ slot o t low small carries.
+      let place : ℕ = 2 + L.slot_sectors * slot + o in
+      elim (cases_eq place (at L v k)) [
+        | inl here ↦ omega (arith, one_part other is slot o t k (image place) small (rw same below) (rw same here) (rw (here, write.here) refl) carries)
+        | inr not ↦ carries_below before k durable g slot o t low small (rw (write.elsewhere place not) at carries)
+      ] in
       grind (arith, slots.room)
+
+  -- with all its parts in its slot the record is whole
+  whole_now : (image : Image) → ((p : ℕ) → p < L.parts (length v.under_way) → image (at L v p) ≡ bytes_of L v p)
+      → IsWholeIn L v.shape image (stamp_of v) v.under_way
+  whole_now image there = search (rules, slots.under_way)
+
+  -- with its last part there, each whole record of its stamp has as many blocks
+  same_count : (image : Image) (es : List Entry) → image (at L v (last L v)) ≡ bytes_of L v (last L v)
+      → IsWholeIn L v.shape image (stamp_of v) es → length es ≡ length v.under_way
+  same_count image es commit w =
+      let count = laws.count v.shape.blocks (stamp_of v) es v.under_way (record_of w) slots.under_way in
+      grind (arith, count, w.there (L.parts (length es) - 1), laws.some_parts (length es), laws.last, commit)
+
+  -- the record under way is not whole, or all its parts are written, and it is, with its blocks
+  whole_or_not : (image : Image) (k durable : ℕ) → (L.parts (length v.under_way) ≤ k → L.early (length v.under_way) ≤ durable)
+      → Guarded L v k durable image → (¬ HasWholeIn L v.shape image (stamp_of v))
+      ⊎ ((L.parts (length v.under_way) ≤ k) × IsWholeIn L v.shape image (stamp_of v) v.under_way)
+  whole_or_not image k durable early g =
+      let or_free = λ (p : ℕ). part_or_free image k durable p g in
+      elim (or_free (last L v) (omega (arith, laws.some_parts (length v.under_way)))) [
+        | inr free ↦ inl (last_free image free)
+        | inl commit ↦
+            let all : L.parts (length v.under_way) ≤ k = omega (arith, commit.0) in
+            elim (all_or_first
+            (λ p. image (at L v p) ≡ bytes_of L v p)
+            (λ p. (durable ≤ p) × IsFree L (stamp_of v) (L.offset (length v.under_way) p) (image (at L v p)))
+            (L.parts (length v.under_way))
+            (λ p small. grind (arith, cases_lt p durable, g.stored.parts p, or_free p small))) [
+              | inl there ↦ inr (all, whole_now image there)
+              | inr one ↦
+                  inl (λ whole.
+                  let same = same_count image whole.0 commit.1 whole.1 in
+                  late_carries L laws v.shape image (stamp_of v) whole.0 one.0 whole.1 (rw same one.1)
+                  (rw same (omega (arith, early all, one.3.0))) (rw same one.3.1))
+            ]
+      ]
+
+  longer : length (v.records ++ v.under_way ∷ []) ≡ length v.records + 1
+  longer = length-append v.records (v.under_way ∷ [])
+
+  -- an image where it is whole keeps it with the durable ones
+  keeps_with : (image : Image) → KeepsView L v image → IsWholeIn L v.shape image (stamp_of v) v.under_way
+      → KeepsView L (with_record v) image
+  keeps_with image keeps whole =
+      let more = with_records-append v.records v.under_way (home_of v.shape image) in
+      let laid = with_blocks-same v.under_way (with_records v.records (home_of v.shape image)) v.array in
+      let old = get_or_append_left v.records (v.under_way ∷ []) [] in
+      grind (arith, cases_lt, keeps, longer, get_or-append_seam v.records v.under_way [] [])
+
+  -- so a cut leaves what it may leave
+  pub guarded_leaves : (image : Image) (k durable : ℕ) → (L.parts (length v.under_way) ≤ k → L.early (length v.under_way) ≤ durable)
+      → Guarded L v k durable image → MayLeave L v k image
+  guarded_leaves image k durable early g =
+      let carries = carries_below image k durable g in
+      ⊎_elim
+      (λ not. inl (record { keeps = g.stored.keeps; few = omega (arith, slots.room); ends = λ room. not; carries = carries }))
+      (λ whole.
+      let keeps = keeps_with image g.stored.keeps whole.1 in
+      let none = none_carried L laws v.shape slots.some image (stamp_of v + 1) carries in
+      let found : Found L (with_record v) image = grind (arith, longer, slots.room, carries) in
+      inr (whole.0, found))
+      (whole_or_not image k durable early g)
+
+  -- with all its parts there the record is durable
+  pub Stored-durable : {image : Image} {count : ℕ} → L.parts (length v.under_way) ≤ count → Stored L v count image
+      → KeepsView L (with_record v) image
+  Stored-durable {image} all s = keeps_with image s.keeps (whole_now image (λ p below. s.parts p (omega arith) below))
+
+  -- and none is under way
+  pub durable_rests : {image : Image} {k durable count : ℕ} → L.parts (length v.under_way) ≤ count → Stored L v count image
+      → Guarded L v k durable image → Resting L (with_record v) image
+  durable_rests {image} {k} {durable} all s g =
+      let keeps = Stored-durable all s in
+      let carries = carries_below image k durable g in
+      grind (arith, longer, carries)
+
+module _ (L : Layout) (laws : Laws L) (shape : Shape) (some : 1 ≤ shape.slots) (before image : Image)
+    (same : (x : ℕ) → 2 ≤ x → x < 2 + L.slot_sectors * shape.slots → image x ≡ before x) where
+  -- where the log stays, whole records stay
+  pub IsWholeIn-same : (stamp : ℕ) (entries : List Entry) → IsWholeIn L shape before stamp entries → IsWholeIn L shape image stamp entries
+  IsWholeIn-same stamp entries w = IsWhole-same L laws shape before image stamp entries
+      (λ x from to. same x (omega arith) (omega (arith, slot_inside L laws shape stamp some))) w
+
+module _ (L : Layout) (laws : Laws L) (v : View) (some : 1 ≤ v.shape.slots)
+    (behind : 2 + L.slot_sectors * v.shape.slots ≤ v.shape.home) (few : length v.under_way ≤ L.most) {before image : Image} where
+  -- a write before or behind the log leaves the log
+  log_same : {s : ℕ} {bytes : List ℕ} → Holds s bytes before image → (2 ≤ s → v.shape.home ≤ s)
+      → Agree 2 (2 + L.slot_sectors * v.shape.slots) image before
+  log_same write apart x low high = write.elsewhere x (λ e. grind (arith, behind, apart))
+
+  -- a block that the records hide is written home
+  pub KeepsView-home : (b : ℕ) {bytes : List ℕ} → Hides v.records b → Holds (v.shape.home + b) bytes before image
+      → KeepsView L v before → KeepsView L v image
+  KeepsView-home b hides write g =
+      let log = log_same write (λ low. omega arith) in
+      let whole = λ (j : ℕ) (below : j < length v.records).
+      IsWholeIn-same L laws v.shape some before image log (v.head + j) (get_or v.records j []) (g.whole j below) in
+      let hidden = hides (home_of v.shape image) (home_of v.shape before) in
+      let others = with_records-same v.records (home_of v.shape image) (home_of v.shape before) in
+      grind (arith, cases_eq, write.elsewhere, g)
+
+  -- with the oldest record at home the head goes past it
+  pub KeepsView-head : {bytes : List ℕ} → 0 < length v.records → IsHead (v.head + 1) bytes → IsHomed v before
+      → Holds 1 bytes before image → KeepsView L v before → KeepsView L (with_less v) image
+  KeepsView-head waits h homed write g = record {
+    super = rw (write.elsewhere 0 (λ e. omega arith)) g.super;
+    head_is = rw write.here h;
+    whole = λ j below.
+        IsWholeIn-same L laws v.shape some before image (log_same write (λ low. omega arith)) (v.head + 1 + j) _
+        (rw (get_or-drop 1 v.records j []) (grind (arith, g.whole (1 + j), length-drop 1 v.records)));
+    blocks = λ b below. with_records-same (drop 1 v.records) (home_of v.shape image) (home_of v.shape before) b
+        (write.elsewhere (v.shape.home + b) (λ e. omega (arith, behind)))
+        ∙ (sym (oldest_home v.records (home_of v.shape before) b homed) ∙ g.blocks b below);
+  }
+    where
+      -- the oldest record changes nothing where its blocks are at home
+      oldest_home : (records : List (List Entry)) (a : Array) (b : ℕ)
+          → ((i : ℕ) → i < length (get_or records 0 [])
+          → a (get_or (get_or records 0 []) i (0, [])).0 ≡ (get_or (get_or records 0 []) i (0, [])).1)
+          → with_records records a b ≡ with_records (drop 1 records) a b
+      oldest_home [] a b homed = refl
+      oldest_home (r ∷ records) a b homed = search (rules, with_records-same, with_blocks-home)
+
+  -- While the log stays, the record under way stays as far as it is written, whichever records are in front of it.
+  module _ {s : ℕ} {bytes : List ℕ} (write : Holds s bytes before image) (apart : 2 ≤ s → v.shape.home ≤ s) (head : ℕ)
+      (records : List (List Entry)) (next : head + length records ≡ stamp_of v)
+      (keeps : KeepsView L v before → KeepsView L (record v { head = head; records = records }) image) where
+    pub Stored-kept : {count : ℕ} → Stored L v count before → Stored L (record v { head = head; records = records }) count image
+    Stored-kept s = record {
+      keeps = keeps s.keeps;
+      parts = λ p low small.
+          let inside = laws.inside (length v.under_way) p few small in
+          rw (next, log_same write apart (at L v p) (omega arith) (omega (arith, slot_inside L laws v.shape (stamp_of v) some, inside)))
+          (s.parts p low small);
+    }
+
+    pub Guarded-kept : {k durable : ℕ} → Guarded L v k durable before
+        → Guarded L (record v { head = head; records = records }) k durable image
+    Guarded-kept g = record {
+      stored = Stored-kept g.stored;
+      carries = λ slot o low small.
+          rw (next, log_same write apart (2 + L.slot_sectors * slot + o) (omega arith) (in_log L.slot_sectors slot v.shape.slots o low small))
+          (g.carries slot o low small);
+    }
+
+-- with the oldest record retired one slot more is free
+pub HasSlots-less : (L : Layout) (v : View) → HasSlots L v → 0 < length v.records → HasSlots L (with_less v)
+HasSlots-less L v slots waits =
+    let fewer = length-drop 1 v.records in
+    let same : stamp_of (with_less v) ≡ stamp_of v = omega (arith, fewer, waits) in grind (arith, slots.room, fewer, same)

@@ -8,7 +8,6 @@ pub mod RecordTwo
 pub mod Apart
 pub mod BatchEntries
 pub mod CopiedBlock
-pub mod WrittenRecord
 pub mod Engine
 pub mod FaultLaws
 pub mod Format1Laws
@@ -16,7 +15,6 @@ pub mod Format2Laws
 pub mod Formats
 pub mod Overlay
 pub mod WholeOne
-pub mod RetiredRecord
 pub mod SectorsRead
 pub mod Slots
 pub mod StandingLaws

@@ -5,8 +5,7 @@ use Rattle.medium.specs.Medium.{Image}
 use Rattle.spec.specs.Blocks.{Array}
 use Rattle.journal.specs.Places.{Shape}
 use Rattle.journal.specs.Record.{Entry, with_blocks}
-use Rattle.journal.specs.Layout.{Layout, CarriesBelowIn, KeepsIn, LoggedIn, RestsIn, IsFree}
-use Rattle.journal.specs.Layout.{part_at}
+use Rattle.journal.specs.Layout.{Layout, KeepsIn, LoggedIn, RestsIn, IsFree, part_at}
 use Rattle.journal.specs.LayoutLaws.{IsRecordOf}
 
 -- what a log has
@@ -52,30 +51,42 @@ Found L v image = LoggedIn L v.shape image v.head v.records v.array
 abbrev pub Resting : Layout → View → Image → Type 0
 Resting L v image = RestsIn L v.shape image v.head v.records v.array
 
--- what a cut may leave while a record is under way: that it is not whole, or that it is, with its
--- blocks
-abbrev pub MayLeave : Layout → View → Image → Type 0
-MayLeave L v image = Found L v image ⊎ Found L (with_record v) image
+-- What a cut may leave while so many parts of a record are written: that it is not whole, or, where
+-- all are, that it is, with its blocks.
+abbrev pub MayLeave : Layout → View → ℕ → Image → Type 0
+MayLeave L v so_far image = Found L v image
+    ⊎ ((L.parts (length v.under_way) ≤ so_far) × Found L (with_record v) image)
 
--- Of a record with this stamp, parts below `durable` are there, those below `so_far` are there or
--- do not carry its stamp, and the others do not. No sector of the log carries a later stamp.
-pub record WrittenSoFar (L : Layout) (shape : Shape) (stamp : ℕ) (entries : List Entry)
-    (so_far durable : ℕ) (image : Image) : Type 0 where
-  pub carries : CarriesBelowIn L shape image (stamp + 1)
-  pub flushed : (p : ℕ) → p < durable → p < L.parts (length entries)
+module _ (L : Layout) (shape : Shape) (stamp : ℕ) (entries : List Entry) where
+  -- the first `count` parts of this record are there
+  abbrev pub HasParts : ℕ → Image → Type 0
+  HasParts count image = (p : ℕ) → p < count → p < L.parts (length entries)
       → image (part_at L shape stamp (length entries) p) ≡ L.part stamp entries p
-  pub either : (p : ℕ) → p < so_far → p < L.parts (length entries)
-      → (image (part_at L shape stamp (length entries) p) ≡ L.part stamp entries p)
-      ⊎ IsFree L stamp (L.offset (length entries) p)
-      (image (part_at L shape stamp (length entries) p))
-  pub free : (p : ℕ) → so_far ≤ p → p < L.parts (length entries)
-      → IsFree L stamp (L.offset (length entries) p)
-      (image (part_at L shape stamp (length entries) p))
 
--- the durable records are there, and the record under way so far
-pub record Guarded (L : Layout) (v : View) (so_far durable : ℕ) (image : Image) : Type 0 where
+  -- this sector is of a part of this record, one below `so_far`, and has its bytes
+  pub record IsPart (so_far sector : ℕ) (bytes : List ℕ) : Type 0 where
+    pub part : ℕ
+    pub early : part < so_far
+    pub inside : part < L.parts (length entries)
+    pub place_is : sector ≡ part_at L shape stamp (length entries) part
+    pub there : bytes ≡ L.part stamp entries part
+
+  -- each sector of the log is such a part, or it carries stamps below this one alone
+  abbrev pub CarriesSoFar : ℕ → Image → Type 0
+  CarriesSoFar so_far image = (slot o : ℕ) → slot < shape.slots → o < L.slot_sectors
+      → IsPart so_far (2 + L.slot_sectors * slot + o) (image (2 + L.slot_sectors * slot + o))
+      ⊎ IsFree L stamp o (image (2 + L.slot_sectors * slot + o))
+
+-- the durable records are there, and the first `count` parts of the record under way
+pub record Stored (L : Layout) (v : View) (count : ℕ) (image : Image) : Type 0 where
   pub keeps : KeepsView L v image
-  pub parts : WrittenSoFar L v.shape (stamp_of v) v.under_way so_far durable image
+  pub parts : HasParts L v.shape (stamp_of v) v.under_way count image
+
+-- Parts of the record under way below `durable` are there, and others below `so_far` may be. No
+-- other sector of the log carries its stamp or a later one.
+pub record Guarded (L : Layout) (v : View) (so_far durable : ℕ) (image : Image) : Type 0 where
+  pub stored : Stored L v durable image
+  pub carries : CarriesSoFar L v.shape (stamp_of v) v.under_way so_far image
 
 -- a log of this view has room for one record more, the one under way
 pub record HasSlots (L : Layout) (v : View) : Type 0 where

@@ -16,7 +16,7 @@ use Rattle.redo_log.specs.Calls.{CallsUpTo, Call, Write, Flush, fault_of, IsFlus
 use Rattle.redo_log.specs.Steps.{CountsStep}
 use Rattle.redo_log.specs.Held.{turned_of, made_of}
 use Rattle.redo_log.specs.Turns.{calls_of, sends_of, flushes_of, IsHeadTurn, IsNextTurn}
-use Rattle.redo_log.proofs.LogRules.{IsLog, oldest_few}
+use Rattle.redo_log.proofs.LogRules.{IsLog, made_is, oldest_few}
 use Rattle.std.proofs.lemmas.Bool.Decides.{nat_tests}
 use Rattle.medium.specs.declared.fault.MediumFault.TheVariants as fault
 use Rattle.journal.specs.declared.log_format.LogFormat.TheVariants.{One, Two}
@@ -61,7 +61,7 @@ step_flushed {log} is some {numbers} bytes same size call next {result} {old} {n
     let n : ℕ = length (entries_of numbers bytes) in
     let many : length log.under_way ≡ n = sym (length_of_batch numbers bytes ∙ ap (λ (l : List ℕ). length l) same) in
     let sum : made_of log + log.steps_left ≡ steps_for log.shape.format n =
-    omega (arith, is.most_left, ap (λ (k : ℕ). steps_for log.shape.format k) many) in
+    omega (arith, made_is log some, is.most_left, ap (λ (k : ℕ). steps_for log.shape.format k) many) in
     let flushes : flushes_in call ≡ next_step_flushes log = elim (flushes_due log.shape.format n (made_of log) log.steps_left sum some) [
       | inl due ↦ rw (next.0 due.0) (sym due.1)
       | inr not ↦ rw (next.1 not.0) (sym not.1)

@@ -16,13 +16,13 @@ use Rattle.journal.specs.Formats.{layout_of}
 use Rattle.journal.proofs.Formats.{laws_of, most_is}
 use Rattle.redo_log.specs.Value.{LogValue, Ahead, of_oldest, steps_of, steps_for, died}
 use Rattle.redo_log.specs.Stages.{needed_at, IsSized, IsRecord}
-use Rattle.redo_log.specs.Held.{View, made_of, turned_of, needed_of, HasDurable, MayLeave, Stores, Guards, HoldsView}
+use Rattle.redo_log.specs.Held.{View, made_of, turned_of, needed_of, HasDurable, MayLeave, Stores, HasHead, HoldsView}
 use Rattle.redo_log.specs.Steps.{LeavesLog}
 use Rattle.redo_log.proofs.RecordSteps.{steps_are, one_left}
 use Rattle.redo_log.proofs.GuardedCalls.{Stands, stands_idle, logged_of}
-use Rattle.redo_log.proofs.GuardedCalls.{safe_stays, stands_front, logged_leaves, guard_leaves}
-use Rattle.redo_log.proofs.StoredLog.{Stores-stays}
-use Rattle.redo_log.proofs.LogRules.{IsLog}
+use Rattle.redo_log.proofs.GuardedCalls.{stands_front, logged_leaves, guard_leaves}
+use Rattle.redo_log.proofs.GuardedCalls.{Stores-stays}
+use Rattle.redo_log.proofs.LogRules.{IsLog, made_is, none_made}
 use Rattle.journal.specs.LayoutLaws.{IsRecordOf}
 use Rattle.journal.proofs.BatchEntries.{numbers_of_batch, sized_batch}
 
@@ -81,10 +81,10 @@ module _ {log : LogValue} {m : State} {view : View} (hv : HoldsView log m view) 
 
   pub going_held : (left retire : ℕ) (ahead : Ahead) (dead : Bool) (new : State) → new.size ≡ m.size
       → (view.ours ≡ true → EachCut (MayLeave m.size (going log left retire ahead dead) view) new)
-      → (dead ≡ false → Stores log.shape log.head view left (made_of (going log left retire ahead dead))
+      → (dead ≡ false → Stores log.shape log.head view (made_of (going log left retire ahead dead))
       (turned_of (going log left retire ahead dead)) new.content)
-      → (dead ≡ false → view.ours ≡ true → Guards log.shape log.head view left
-      (made_of (going log left retire ahead dead)) (needed_of (going log left retire ahead dead)) new)
+      → (dead ≡ false → view.ours ≡ true → EachCut (HasHead log.shape log.head view
+      (made_of (going log left retire ahead dead)) (needed_of (going log left retire ahead dead))) new)
       → HoldsView (going log left retire ahead dead) new view
   going_held left retire ahead dead new same leaves stores guards =
       let fits : sectors_of log.shape ≤ new.size = omega (arith, same, hv.fits) in
@@ -101,52 +101,53 @@ module _ {log : LogValue} {m : State} {view : View} (hv : HoldsView log m view) 
   dead_held new sound same cuts = died_held new same (λ ours. at_exit (MayLeave m.size log view) m new sound (cuts ours))
 
   -- where nothing is under way a cut leaves the durable records of a live log, whichever head is there
-  pub durable_whole : IsSized log.shape → log.dead ≡ false → view.ours ≡ true → log.steps_left ≡ 0 → EachCut (HasDurable m.size log view) m
-  durable_whole sized live ours none image cut =
-      let g = (hv.guards live ours).each image cut in
-      let stands : Stands log.shape log.head view log.steps_left (made_of log) = rw none (stands_idle sized hv.few) in
+  pub durable_whole : IsSized log.shape → log.dead ≡ false → view.ours ≡ true → log.steps_left ≡ 0
+      → length view.under_way ≤ (layout_of log.shape.format).most → EachCut (HasDurable m.size log view) m
+  durable_whole sized live ours none fit image cut =
+      let g = hv.guards live ours image cut in
+      let stands : Stands log.shape log.head view log.steps_left (made_of log) = stands_idle sized hv.few fit none (none_made log none) in
       ⊎_elim (λ rest. rest) (λ both. absurd (omega (arith, both.0, none)))
       (logged_leaves log hv.fits g (logged_of (stands_front g stands) g.safe))
 
   module _ (is : IsLog log) where
     -- its records stand in slots of their own, also once more steps of the one under way are made
-    pub stands_then : (left : ℕ) → left ≤ log.steps_left
-        → Stands log.shape log.head view left (steps_of log.shape.format log.under_way - left)
-    stands_then left fewer = record {
-      sized = is.sized;
-      slots = λ some.
-          let left_now : 0 < log.steps_left = omega (arith, some, fewer) in
-          record {
-            some = is.sized.some;
-            room = omega (arith, many, is.room left_now);
-            behind = is.sized.behind;
-            under_way = record_entries log.shape (log.head + length view.records) log.under_way view.under_way is.sized
-                (rw many at (is.record_is left_now)) hv.under_way hv.sized;
-          };
-      few = hv.few;
-      short = λ all.
-          let L = layout_of log.shape.format in
-          let n = length view.under_way in
-          let steps = ap (λ (k : ℕ). steps_for log.shape.format k) under_count ∙ steps_are log.shape.format n in
-          omega (
-            arith,
-            is.most_left,
-            fewer,
-            steps,
-            one_left (L.early n) (L.parts n) ((laws_of log.shape.format).last_is_late n)
-                (steps_of log.shape.format log.under_way - left) all,
-          );
-    }
+    pub stands_then : (left made : ℕ) → left ≤ log.steps_left → (left ≡ 0 → made ≡ 0)
+        → (0 < left → made ≡ steps_of log.shape.format log.under_way - left)
+        → Stands log.shape log.head view left made
+    stands_then left made fewer none some_made =
+        let L = layout_of log.shape.format in
+        let n = length view.under_way in
+        record {
+          sized = is.sized;
+          few = hv.few;
+          fit = omega (arith, is.few, under_count, most_is log.shape.format);
+          slots = λ some.
+              let left_now : 0 < log.steps_left = omega (arith, some, fewer) in
+              record {
+                some = is.sized.some;
+                room = omega (arith, many, is.room left_now);
+                behind = is.sized.behind;
+                under_way = record_entries log.shape (log.head + length view.records) log.under_way view.under_way is.sized
+                    (rw many at (is.record_is left_now)) hv.under_way hv.sized;
+              };
+          none = none;
+          short = λ all.
+              let steps = ap (λ (k : ℕ). steps_for log.shape.format k) under_count ∙ steps_are log.shape.format n in
+              let left_one = one_left (L.early n) (L.parts n) ((laws_of log.shape.format).last_is_late n) made all in
+              grind (arith, is.most_left, fewer, steps, left_one, some_made);
+        }
 
     -- the view stays, where this is stored and guards it
     pub goes_on : (left retire : ℕ) (ahead : Ahead) (new : State) → left ≤ log.steps_left → new.size ≡ m.size → log.dead ≡ false
-        → Stores log.shape log.head view left (made_of (going log left retire ahead log.dead))
+        → Stores log.shape log.head view (made_of (going log left retire ahead log.dead))
         (turned_of (going log left retire ahead log.dead)) new.content
-        → (view.ours ≡ true → Guards log.shape log.head view left (made_of (going log left retire ahead log.dead))
-        (needed_of (going log left retire ahead log.dead)) new) → HoldsView (going log left retire ahead log.dead) new view
-    goes_on left retire ahead new fewer same live stores guards = going_held left retire ahead log.dead new same
-        (λ ours image cut. guard_leaves (going log left retire ahead log.dead) hv.fits (stands_then left fewer)
-        ((guards ours).each image cut))
+        → (view.ours ≡ true → EachCut (HasHead log.shape log.head view (made_of (going log left retire ahead log.dead))
+        (needed_of (going log left retire ahead log.dead))) new) → HoldsView (going log left retire ahead log.dead) new view
+    goes_on left retire ahead new fewer same live stores guards =
+        let then = going log left retire ahead log.dead in
+        going_held left retire ahead log.dead new same
+        (λ ours image cut. guard_leaves then hv.fits
+        (stands_then left (made_of then) fewer (none_made then) (made_is then)) (guards ours image cut))
         (λ _. stores) (λ _. guards)
 
 -- calls that wrote nothing leave what the log and its medium hold
@@ -154,12 +155,8 @@ pub quiet_held : (log : LogValue) (view : View) (old new : State) → IsQuiet ol
 quiet_held log view old new quiet holds =
     going_held holds log.steps_left log.retire_steps_left log.ahead log.dead new quiet.size_stays
     (λ ours. shrunk (MayLeave old.size log view) old new quiet.sets_shrink (holds.leaves ours))
-    (λ live. Stores-stays (holds.stores live) log.steps_left (made_of log) (turned_of log) new.content quiet.content_stays (λ some. some)
-    (omega arith) (λ i low high. low))
-    (λ live ours. record {
-      here = safe_stays quiet.content_stays (holds.guards live ours).here;
-      each = shrunk _ old new quiet.sets_shrink (holds.guards live ours).each;
-    })
+    (λ live. Stores-stays (holds.stores live) (made_of log) (turned_of log) new.content quiet.content_stays (omega arith) (λ i low high. low))
+    (λ live ours. shrunk _ old new quiet.sets_shrink (holds.guards live ours))
 
 -- a call that is good did this
 pub on_ok_here : {P : Type 0} (r : Result (Unit {0}) MediumFault) {refused : Bool} → refused ≡ is_err r → refused ≡ false → OnOk r P → P

@@ -11,6 +11,5 @@ pub mod MergedIndex
 pub mod RingRecords
 pub mod CallsSent
 pub mod RecordTurns
-pub mod StoredLog
 pub mod LogRules
 pub mod HeldLog

@@ -3,6 +3,7 @@ use Rattle.std.proofs.Common.{◌≡◌, ◌≢◌, ℕ, suc, ◌+◌, ◌-◌, 
 use Rattle.std.proofs.Common.{refl, sym, ap, subst, arith, rules}
 use Rattle.std.specs.Prelude.{All, Bool, Option, Some, None, Result, sum_by, slice_index_or}
 use Rattle.std.proofs.Math.Nat.{mul-le-mul_left}
+use Rattle.std.proofs.lemmas.Bool.Decides.{nat_tests}
 use Rattle.std.proofs.lemmas.List.{length-map, nil_from_length, drop_more}
 use Rattle.std.proofs.lemmas.List.Sums.{sum_by-cons, sum_by-append, sum_by-le}
 use Rattle.arrayvec.specs.ArrayVec.{ArrayVec}
@@ -44,6 +45,7 @@ pub record IsLog (log : LogValue) : Type 0 where
   -- a record under way has a stamp and a slot of its own
   pub record_is : 0 < log.steps_left → IsRecord log.shape (log.head + length log.waiting) log.under_way
   pub room : 0 < log.steps_left → length log.waiting < log.shape.slots
+  pub few : length log.under_way ≤ limit_of log.shape.format
   pub most_left : log.steps_left ≤ steps_of log.shape.format log.under_way
   pub each : All (AreInside log.shape) log.waiting
   pub taken : length log.waiting ≤ log.next - log.head
@@ -54,6 +56,13 @@ pub record IsLog (log : LogValue) : Type 0 where
   -- what went home ahead is retired, or its blocks are at home
   pub past : log.ahead.home ≤ log.head
   pub away : 2 < of_oldest log → log.ahead.home ≢ log.head
+
+-- where a record is under way, its steps that are not left are made
+pub made_is : (log : LogValue) → 0 < log.steps_left → made_of log ≡ steps_of log.shape.format log.under_way - log.steps_left
+made_is log some = grind (arith, nat_tests)
+
+pub none_made : (log : LogValue) → log.steps_left ≡ 0 → made_of log ≡ 0
+none_made log none = grind (arith, nat_tests)
 
 -- where retire steps are owed to the oldest record, one waits
 pub one_waits : {log : LogValue} → IsLog log → 0 < of_oldest log → 0 < length log.waiting
@@ -75,8 +84,9 @@ many_lists records = let f : ArrayVec ℕ → List ℕ = λ r. r.items in length
 under : (shape : Shape) (items : List ℕ) (writing : Option ℕ) → IsUnderWay shape items writing
     → (steps_at shape.format (length items) writing ≤ steps_of shape.format items)
     × (0 < steps_at shape.format (length items) writing → AreInside shape items × (begun_at writing ≡ 1))
-under shape items None is = (omega arith, λ some. absurd (omega (arith, some)))
-under shape items (Some made) is = (omega arith, λ some. (is.0, refl))
+    × (length items ≤ limit_of shape.format)
+under shape items None is = (omega arith, λ some. absurd (omega (arith, some)), omega (arith, ap (λ (l : List ℕ). length l) is))
+under shape items (Some made) is = (omega arith, λ some. (is.0, refl), is.0.few)
 
 oldest : (waiting : List (List ℕ)) (turned : ℕ) → IsOldest waiting turned → (length waiting ≡ 0 → oldest_at waiting turned ≡ 0)
     × (0 < length waiting → 0 < oldest_at waiting turned)
@@ -119,7 +129,7 @@ module _ (i : Inside) {log : LogValue} (is : shown i ≡ log) where
   call_of inv made stamp at stamp_is {entries} {result} {old} {new} makes =
       let ring = rw at at inv.ring.record_under_way in
       let left = ap (λ (w : Option ℕ). steps_at i.sizes.format (length i.under_way.items) w) at in
-      let made_is : made ≡ made_of (shown i) = omega (arith, left, ring.1) in
+      let made_is : made ≡ made_of (shown i) = grind (arith, nat_tests, left, ring.1) in
       let here : stamp ≡ i.head + length (lists_of i.waiting.items) = omega (arith, stamp_is, many_lists i.waiting.items) in
       rw (← is, ← made_is, ← here) makes
 

@@ -60,7 +60,7 @@ module _ (log : LogValue) (m : State) (view : View) (holds : HoldsView log m vie
   -- a block without a logged copy is read at home
   pub home_is : (b : ℕ) → b < log.shape.blocks → HasNoCopy log b → m.content (first_home log.shape + b) ≡ view.array b
   home_is b below none =
-      sym (with_records-none view.records (home_of log.shape m.content) b (rw holds.durable at none)) ∙ (holds.stores live).laid.blocks b below
+      sym (with_records-none view.records (home_of log.shape m.content) b (rw holds.durable at none)) ∙ (holds.stores live).stored.keeps.blocks b below
 
   -- the newest copy of a block is in a whole record, and has its bytes, with the first ones that are kept
   pub copy_is : IsLog log → (b slot place : ℕ) → (copy : IsNewestCopy log b slot place) → (place < length (get_or view.records copy.age []))
@@ -72,10 +72,10 @@ module _ (log : LogValue) (m : State) (view : View) (holds : HoldsView log m vie
       let waits : copy.age < length view.records = omega (arith, copy.waits, many holds) in
       let inside : place < length (get_or view.records copy.age []) = omega (arith, copy.inside, count holds copy.age) in (
         inside,
-        (holds.stores live).laid.whole copy.age waits,
+        (holds.stores live).stored.keeps.whole copy.age waits,
         sym (with_records-at view.records (home_of log.shape m.content) b copy.age place (rw holds.durable at copy.waits)
             (rw holds.durable at each.rising) (rw holds.durable at copy.inside) (rw holds.durable at copy.named)
             (rw holds.durable at copy.newest))
-            ∙ (holds.stores live).laid.blocks b (omega (arith, each.inside place 0 copy.inside, copy.named)),
+            ∙ (holds.stores live).stored.keeps.blocks b (omega (arith, each.inside place 0 copy.inside, copy.named)),
         kept_is log.shape.format view.records view.under_way log.firsts holds.firsts copy.age place waits inside,
       )

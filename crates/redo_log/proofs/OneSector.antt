@@ -1,10 +1,23 @@
 -- What calls that write one sector at most add to what a cut leaves.
-use Rattle.std.proofs.Common.{◌≡◌, inl, inr, ⊎_elim, ℕ, List, Result, ◌∙◌}
+use Rattle.std.proofs.Common.{◌≡◌, inl, inr, ⊎_elim, ℕ, ◌+◌, ◌*◌, ◌%◌, ◌<◌, List, Result, ◌∙◌, arith}
+use Rattle.std.proofs.lemmas.Nat.{mod_below}
 use Rattle.medium.specs.Medium.{State, Image, Sets, CutLeaves, Within, Gains, Passes, IsSound}
 use Rattle.medium.specs.Moments.{EachCut, LeavesOnly, StaysWithin}
 use Rattle.medium.specs.declared.fault.MediumFault.{MediumFault}
 use Rattle.medium.proofs.Moments.{started_within, goes_on_within, weaker}
+use Rattle.journal.specs.Places.{Shape}
+use Rattle.journal.specs.Formats.{layout_of}
+use Rattle.journal.proofs.Apart.{in_log}
+use Rattle.redo_log.specs.Stages.{IsSized}
 use Rattle.redo_log.specs.Calls.{gaining, WritesOnly}
+
+-- a sector of a slot stands before home
+pub before_home : (shape : Shape) → IsSized shape → (stamp o : ℕ) → o < (layout_of shape.format).slot_sectors
+    → 2 + (layout_of shape.format).slot_sectors * (stamp % shape.slots) + o < shape.home
+before_home shape sized stamp o small =
+    let sectors = (layout_of shape.format).slot_sectors in
+    let low = in_log sectors (stamp % shape.slots) shape.slots o (mod_below stamp shape.slots sized.some) small in
+    omega (arith, low, sized.behind)
 
 module _ (place : ℕ) (bytes : List ℕ) (old : State) (sound : IsSound old) where
   abbrev bound : Sets

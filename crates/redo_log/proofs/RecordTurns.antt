@@ -3,12 +3,12 @@ use Rattle.std.proofs.Common.{◌≡◌, ◌⊎◌, inl, inr, ⊎_elim, ℕ, ◌
 use Rattle.std.proofs.Common.{◌∙◌, ap, arith, length-append}
 use Rattle.std.specs.Prelude.{true, false, Result, OnOk}
 use Rattle.std.proofs.lemmas.Result.{on_ok_weaker}
-use Rattle.std.proofs.lemmas.Bool.{cases_lt}
+use Rattle.std.proofs.lemmas.Bool.{cases_eq, cases_lt}
 use Rattle.std.proofs.lemmas.List.{map-append, get_or_append_left}
-use Rattle.medium.specs.Medium.{State, IsSound}
+use Rattle.medium.specs.Medium.{State, Holds, IsSound}
 use Rattle.medium.specs.Moments.{EachCut, LeavesOnly}
 use Rattle.medium.specs.declared.fault.MediumFault.{MediumFault}
-use Rattle.medium.proofs.Moments.{shrunk, one_call, each_write}
+use Rattle.medium.proofs.Moments.{shrunk, one_call, each_write, each_flush}
 use Rattle.journal.specs.Places.{sectors_of}
 use Rattle.journal.specs.Record.{Entry, numbers_of, entries_of}
 use Rattle.journal.specs.Layout.{Layout, part_at}
@@ -16,6 +16,7 @@ use Rattle.journal.specs.LayoutLaws.{Laws, IsRecordOf}
 use Rattle.journal.specs.Formats.{layout_of}
 use Rattle.journal.specs.Staged.{HasSlots}
 use Rattle.journal.proofs.Formats.{laws_of}
+use Rattle.journal.proofs.Engine.{Guarded-lost, Guarded-write, Stored-write, other_written, Stored-durable, durable_rests}
 use Rattle.journal.proofs.BatchEntries.{length_of_batch}
 use Rattle.redo_log.specs.declared.progress.Progress.{Progress}
 use Rattle.redo_log.specs.declared.progress.Progress.TheVariants.{More, Durable}
@@ -23,15 +24,15 @@ use Rattle.redo_log.specs.Value.{LogValue, steps_of, steps_for, of_oldest, IsSte
 use Rattle.redo_log.specs.Stages.{flush_of}
 use Rattle.redo_log.specs.Calls.{Call, Write, Flush, MayAdd, IsDone, MakesNext, IsFlushDue}
 use Rattle.redo_log.specs.Held.{View, with_record, view_stepped, written_of, flushed_of, made_of, turned_of, needed_of}
-use Rattle.redo_log.specs.Held.{HasDurable, MayLeave, HasHead, Guards, HoldsView, image_view}
+use Rattle.redo_log.specs.Held.{HasDurable, MayLeave, HasHead, HoldsView, image_view, with_passed}
 use Rattle.redo_log.proofs.RecordSteps.{steps_are, due_or_not, last_call, not_last, one_left, early_written, part_written}
+use Rattle.redo_log.proofs.RecordSteps.{none_written}
 use Rattle.redo_log.proofs.RingRecords.{needed_one}
-use Rattle.redo_log.proofs.GuardedCalls.{Stands, stands_idle, other_part, part_lost, part_there}
-use Rattle.redo_log.proofs.GuardedCalls.{homed_here, same_head, same_stamp, stands_front, logged_leaves, guard_leaves, flush_guards}
-use Rattle.redo_log.proofs.GuardedCalls.{early_safe, durable_safe}
-use Rattle.redo_log.proofs.StoredLog.{before_home, Stores-stays, part_stores, durable_stores}
+use Rattle.redo_log.proofs.GuardedCalls.{Stands, stands_idle, rests_safe, with_newest, same_head, same_stamp, stands_front}
+use Rattle.redo_log.proofs.GuardedCalls.{logged_leaves, guard_leaves, safe_here, homed_here, Stores-stays}
+use Rattle.redo_log.proofs.OneSector.{before_home}
 use Rattle.redo_log.proofs.KeptFirsts.{durable_kept}
-use Rattle.redo_log.proofs.LogRules.{IsLog, one_stamp, durable_of, durable_alone, durable_more}
+use Rattle.redo_log.proofs.LogRules.{IsLog, made_is, none_made, one_stamp, durable_of, durable_alone, durable_more}
 use Rattle.redo_log.proofs.HeldLog.{needs_one, many, count, under_count, stands_then, goes_on, durable_whole, record_batch}
 
 module _ {log : LogValue} (is : IsLog log) (live : log.dead ≡ false) (some : 0 < log.steps_left) {old : State}
@@ -65,13 +66,17 @@ module _ {log : LogValue} (is : IsLog log) (live : log.dead ≡ false) (some : 0
 
   -- its records stand, also after one call more
   stands : Stands log.shape log.head view log.steps_left (made_of log)
-  stands = stands_then hv is log.steps_left (omega arith)
+  stands = stands_then hv is log.steps_left (made_of log) (omega arith) (none_made log) (made_is log)
 
   slots : HasSlots (layout_of log.shape.format) (image_view log.shape log.head view)
   slots = stands.slots some
 
-  then_made : made_of (record log { steps_left = log.steps_left - 1 }) ≡ made_of log + 1
-  then_made = omega (arith, is.most_left, some)
+  made : made_of log ≡ steps_of log.shape.format log.under_way - log.steps_left
+  made = made_is log some
+
+  then_made : 1 < log.steps_left → made_of (record log { steps_left = log.steps_left - 1 }) ≡ made_of log + 1
+  then_made more =
+      omega (arith, made, made_is (record log { steps_left = log.steps_left - 1 }) (omega (arith, more)), is.most_left, more)
 
   module _ (new : State) where
     abbrev more_log : LogValue
@@ -81,15 +86,16 @@ module _ {log : LogValue} (is : IsLog log) (live : log.dead ≡ false) (some : 0
     early_flushed : 1 < log.steps_left → IsFlushDue L n (made_of log) → new.size ≡ old.size → IsDone Flush old new
         → HoldsView more_log new view
     early_flushed more due same_size wrote =
-        let few = not_last (L.early n) (L.parts n) late (made_of log) (omega (arith, more, all_steps, is.most_left)) in
+        let few = not_last (L.early n) (L.parts n) late (made_of log) (omega (arith, made, more, all_steps, is.most_left)) in
         let early : (0 < L.early n) × (made_of log ≡ L.early n) = grind (arith, due, few) in
-        let after = early_written (L.early n) (L.parts n) late (made_of log) (made_of more_log) then_made early.0 early.1 in
+        let after = early_written (L.early n) (L.parts n) late (made_of log) (made_of more_log) (then_made more) early.0 early.1 in
+        let s = hv.stores live in
         goes_on hv is (log.steps_left - 1) log.retire_steps_left log.ahead new (omega arith) same_size live
-        (Stores-stays (hv.stores live) (log.steps_left - 1) (made_of more_log) (turned_of log) new.content wrote.0 (λ _. some)
-        (omega (arith, after.0)) (λ i low high. low))
+        (Stores-stays s (made_of more_log) (turned_of log) new.content wrote.0 (omega (arith, after.0)) (λ i low high. low))
         (λ ours.
-        let g = hv.guards live ours in flush_guards wrote.0 wrote.1
-        (early_safe stands some (hv.stores live) g.here (omega (arith, more)) after.0 after.1) (homed_here sound g))
+        let g = hv.guards live ours in
+        each_flush _ old.content new wrote.1 (with_newest
+        (rw (after.0, after.1) (record { stored = s.stored; carries = (safe_here sound s g).carries })) (homed_here sound s g)))
 
     -- ---- a flush of all parts: the record is durable
     all_flushed : log.steps_left ≡ 1 → L.parts n ≤ k → new.size ≡ old.size → IsDone Flush old new
@@ -98,25 +104,26 @@ module _ {log : LogValue} (is : IsLog log) (live : log.dead ≡ false) (some : 0
         let longer : length (view.records ++ view.under_way ∷ []) ≡ length view.records + 1 =
         length-append view.records (view.under_way ∷ []) in
         let fits : sectors_of log.shape ≤ new.size = omega (arith, same_size, hv.fits) in
+        let still : new.content ≡ old.content = λ i s. wrote.0 s i in
         let alone = λ (none : length view.records ≡ 0). durable_alone log is some (many hv ∙ none) in
         let waits = λ (more : 0 < length view.records). durable_more log (omega (arith, many hv, more)) in
-        let made : ℕ = made_of (durable_of log) in
-        let turned : ℕ = turned_of (durable_of log) in
         let one_less : needed_of (durable_of log) ≡ 1
         → (0 < length view.records) × ((of_oldest log ≡ 1) ⊎ (length (get_or view.records 0 []) ≤ turned_of log)) = λ one.
         let few_left = needed_one log.ahead log.head (log.head + length (log.waiting ++ log.under_way ∷ []))
         (of_oldest (durable_of log)) one in
         grind (arith, few_left, alone, waits, count hv 0) in
         let guards : view.ours ≡ true
-        → Guards log.shape log.head (with_record view) 0 made (needed_of (durable_of log)) new = λ ours.
+        → EachCut (HasHead log.shape log.head (with_record view) (made_of (durable_of log)) (needed_of (durable_of log))) new = λ ours.
+        let s = hv.stores live in
         let g = hv.guards live ours in
-        flush_guards wrote.0 wrote.1 (durable_safe stands some (hv.stores live) g.here all) (λ is.
+        each_flush _ old.content new wrote.1 (with_newest
+        (rests_safe (with_record view) refl (durable_rests L laws (image_view log.shape log.head view) slots all s.stored (safe_here sound s g)))
+        (λ is.
         let was = one_less is in
         rw (get_or_append_left view.records (view.under_way ∷ []) [] 0 was.0) (⊎_elim
-        (λ one. homed_here sound g (needs_one log one))
-        (λ (home : length (get_or view.records 0 []) ≤ turned_of log) i inside.
-        (hv.stores live).copied i (omega (arith, inside, home)) inside)
-        was.1)) in
+        (λ one. homed_here sound s g (needs_one log one))
+        (λ (home : length (get_or view.records 0 []) ≤ turned_of log) i inside. s.copied i (omega (arith, inside, home)) inside)
+        was.1))) in
         record {
           fits = fits;
           durable = rw (hv.durable, hv.under_way) (sym (map-append (λ r. numbers_of r) view.records (view.under_way ∷ [])));
@@ -126,11 +133,20 @@ module _ {log : LogValue} (is : IsLog log) (live : log.dead ≡ false) (some : 0
           sized = λ j d none. absurd (omega (arith, none));
           firsts = durable_kept log.shape.format view.records view.under_way log.firsts hv.firsts (omega (arith, slots.under_way.fit.some));
           leaves = λ ours image cut. guard_leaves (durable_of log) fits
-              (stands_idle is.sized (omega (arith, slots.room, longer))) ((guards ours).each image cut);
-          stores = λ _. durable_stores
-              (Stores-stays (hv.stores live) log.steps_left (made_of log) (turned_of log) new.content wrote.0 (λ some. some) (omega arith)
-              (λ i low high. low))
-              made turned some slots all (λ none. (alone none).1) (λ more. (waits more).1);
+              (stands_idle is.sized (omega (arith, slots.room, longer)) (omega arith) refl refl) (guards ours image cut);
+          stores = λ _. record {
+            stored = record {
+              keeps = rw still (Stored-durable L laws (image_view log.shape log.head view) slots all (hv.stores live).stored);
+              parts = λ p low small. absurd (omega (arith, low, none_written (L.early 0) 0 refl));
+            };
+            copied = elim (cases_eq (length view.records) 0) [
+              | inl none ↦ λ i low high. absurd (omega (arith, low, alone none))
+              | inr other ↦
+                  let some : 0 < length view.records = omega (arith, other) in
+                  rw (still, get_or_append_left view.records (view.under_way ∷ []) [] 0 some)
+                  (λ i low high. (hv.stores live).copied i (omega (arith, low, waits some)) high)
+            ];
+          };
           guards = λ _. guards;
         }
 
@@ -157,14 +173,16 @@ module _ {log : LogValue} (is : IsLog log) (live : log.dead ≡ false) (some : 0
 
       -- with the last part in it the record has this one's
       part_each : bytes ≡ L.part stamp view.under_way k → MayAdd (Write place bytes) old new → view.ours ≡ true
-          → {less : ℕ} → 0 < less → (next : ℕ) → next ≡ made_of log + 1
-          → EachCut (HasHead log.shape log.head view less next (needed_of log)) new
-      part_each mine adds ours left next one =
+          → (next : ℕ) → next ≡ made_of log + 1
+          → EachCut (HasHead log.shape log.head view next (needed_of log)) new
+      part_each mine adds ours next one =
           let now = after next one in
-          each_write _ _ old new place bytes sound adds (hv.guards live ours).each
-          (λ image g. same_head g (part_lost (stands_front g stands) some small left now.0 now.1 g.safe) g.flushed)
+          let v = λ (stamp : ℕ) (passed : List (List Entry)). image_view log.shape stamp (with_passed passed view) in
+          each_write _ _ old new place bytes sound adds (hv.guards live ours)
+          (λ image g. same_head g (rw (now.0, now.1) (Guarded-lost L laws (v g.stamp g.passed) ((stands_front g stands).slots some) k g.safe)) g.flushed)
           (λ before image write g. same_head g
-          (part_there (stands_front g stands) some small left now.0 now.1 (sym (same_stamp g)) mine write g.safe)
+          (rw (now.0, now.1) (Guarded-write L laws (v g.stamp g.passed) ((stands_front g stands).slots some) k small
+          (rw (mine, same_stamp g) at write) g.safe))
           (λ one. let homed = g.flushed one in (
             homed.0,
             λ i below. write.elsewhere _
@@ -174,37 +192,43 @@ module _ {log : LogValue} (is : IsLog log) (live : log.dead ≡ false) (some : 0
       part_leaves : MayAdd (Write place bytes) old new → view.ours ≡ true → EachCut (MayLeave old.size log view) new
       part_leaves adds ours = elim (cases_lt (k + 1) (L.parts n)) [
         | inl early ↦
-            each_write _ (MayLeave old.size log view) old new place bytes sound adds (hv.guards live ours).each
+            each_write _ (MayLeave old.size log view) old new place bytes sound adds (hv.guards live ours)
             (λ image g. guard_leaves log hv.fits stands g)
-            (λ before image write g. ⊎_elim inl (λ both. inr (inl both)) (logged_leaves log hv.fits g
-            (other_part (stands_front g stands) some small (sym (same_stamp g)) other other_is other_count early write
-            g.safe)))
+            (λ before image write g.
+            let here : Holds (part_at L log.shape (log.head + length view.records) n k) (L.part (log.head + length view.records) other k)
+            before image = write in
+            ⊎_elim inl (λ both. inr (inl both)) (logged_leaves log hv.fits g
+            (inl (other_written L laws (image_view log.shape g.stamp (with_passed g.passed view)) ((stands_front g stands).slots some) k other
+            (rw (same_stamp g) at other_is) other_count early (rw (same_stamp g) at here) g.safe))))
         | inr last ↦
             let stands_now : Stands log.shape log.head view log.steps_left (made_of log + 1) = record {
               sized = is.sized;
-              slots = stands.slots;
               few = stands.few;
-              short = λ all. omega (arith, one_left (L.early n) (L.parts n) late (made_of log + 1) all, all_steps);
+              fit = stands.fit;
+              slots = stands.slots;
+              none = λ none. absurd (omega (arith, none, some));
+              short = λ all. omega (arith, made, one_left (L.early n) (L.parts n) late (made_of log + 1) all, all_steps);
             } in
             let k_is : L.parts n - 1 ≡ k = omega (arith, small, last) in
             let mine = rw (other_count, k_is) at (laws.last_part stamp other view.under_way other_count) in
             λ image cut.
-            guard_leaves log hv.fits stands_now (part_each mine adds ours some (made_of log + 1) refl image cut)
+            guard_leaves log hv.fits stands_now (part_each mine adds ours (made_of log + 1) refl image cut)
       ]
 
       part_written_now : 1 < log.steps_left → new.size ≡ old.size → view.under_way ≡ other → MayAdd (Write place bytes) old new
           → IsDone (Write place bytes) old new → HoldsView more_log new view
-      part_written_now more same_size named adds wrote =
+      part_written_now more same_size named adds write =
+          let s = hv.stores live in
           let mine : bytes ≡ L.part stamp view.under_way k = ap (λ (l : List Entry). L.part stamp l k) (sym named) in
-          let now = after (made_of more_log) then_made in
-          let left : 0 < log.steps_left - 1 = omega (arith, more) in
+          let now = after (made_of more_log) (then_made more) in
           goes_on hv is (log.steps_left - 1) log.retire_steps_left log.ahead new (omega arith) same_size live
-          (part_stores (hv.stores live) is.sized new.content bytes (log.steps_left - 1) (made_of more_log) some slots
-          small now.0 wrote mine)
-          (λ ours. record {
-            here = part_there stands some small left now.0 now.1 refl mine wrote (hv.guards live ours).here;
-            each = part_each mine adds ours left (made_of more_log) then_made;
+          (record {
+            stored = Stored-write L laws (image_view log.shape log.head view) slots k small (λ p low not. omega (arith, low, now.0, not))
+                (rw mine at write) s.stored;
+            copied = λ i low high.
+                write.elsewhere _ (λ e. omega (arith, e, before_home log.shape is.sized stamp (L.offset n k) inside)) ∙ s.copied i low high;
           })
+          (λ ours. part_each mine adds ours (made_of more_log) (then_made more))
 
   -- ---- the next call of a record with these blocks
   module _ {numbers : List ℕ} (bytes : List ℕ) (same : numbers ≡ log.under_way) (size : length bytes ≡ 512 * length numbers)
@@ -251,8 +275,8 @@ module _ {log : LogValue} (is : IsLog log) (live : log.dead ≡ false) (some : 0
               (rw part.0 at here.makes.adds) (rw part.0 at done)
         ])
         counts Durable stepped done =
-            let all : L.parts n ≤ k = last_call (L.early n) (L.parts n) late (made_of log) (omega (arith, is.most_left, some, all_steps))
-            (omega (arith, is.most_left, stepped.0, all_steps)) in
+            let all : L.parts n ≤ k = last_call (L.early n) (L.parts n) late (made_of log) (omega (arith, made, is.most_left, some, all_steps))
+            (omega (arith, made, is.most_left, stepped.0, all_steps)) in
             rw stepped.1 (elim which [
               | inl due ↦ all_flushed new stepped.0 all here.makes.passes.size_stays (rw due.0 at done)
               | inr part ↦ absurd (part.1 (inr all))
@@ -266,5 +290,5 @@ module _ {log : LogValue} (is : IsLog log) (live : log.dead ≡ false) (some : 0
         pub counted_whole : view.ours ≡ true → IsStepped Durable log then
             → OnOk result (EachCut (HasDurable new.size then (with_record view)) new)
         counted_whole ours stepped = on_ok_weaker result (λ done.
-            durable_whole (counts Durable stepped done) (rw stepped.1 is.sized) (rw stepped.1 live) ours (rw stepped.1 refl))
+            durable_whole (counts Durable stepped done) (rw stepped.1 is.sized) (rw stepped.1 live) ours (rw stepped.1 refl) (omega arith))
             here.makes.done

@@ -1,43 +1,44 @@
 -- Each turn that retires the oldest durable record: what the log and its medium hold after it.
-use Rattle.std.proofs.Common.{◌≡◌, ◌≢◌, ◌⊎◌, inl, inr, ℕ, ◌+◌, ◌-◌, ◌<◌, ◌≤◌, List, [], ◌∷◌, length, get_or, drop, refl, ◌∙◌}
+use Rattle.std.proofs.Common.{◌≡◌, ◌≢◌, inl, inr, ℕ, ◌+◌, ◌-◌, ◌<◌, ◌≤◌, List, [], ◌∷◌, length, get_or, drop, refl, ◌∙◌}
 use Rattle.std.proofs.Common.{ap, subst, arith, rules, length-drop, add-zero}
-use Rattle.std.specs.Prelude.{true, false, map, Option, slice_index}
+use Rattle.std.specs.Prelude.{true, false, map, slice_index}
 use Rattle.std.proofs.lemmas.Bool.{cases_eq, cases_lt}
-use Rattle.std.proofs.lemmas.List.{drop-map}
+use Rattle.std.proofs.lemmas.List.{drop-map, length-map}
 use Rattle.std.proofs.Math.ListN.{get_or-map}
 use Rattle.std.proofs.Math.Seq.{drop-cons}
 use Rattle.medium.specs.Medium.{State, Holds, Gains, IsSound}
 use Rattle.medium.specs.Moments.{EachCut, LeavesOnly}
-use Rattle.medium.proofs.Moments.{each_write, quiet_leaves}
+use Rattle.medium.proofs.Moments.{each_write, each_flush, quiet_leaves, content_has}
 use Rattle.journal.specs.declared.head.Head.{Head as HeadOf}
 use Rattle.journal.specs.Places.{sectors_of, first_home, first_data_of}
 use Rattle.journal.specs.Sectors.{IsRising, IsHead}
 use Rattle.journal.specs.Record.{Entry, Hides, numbers_of}
-use Rattle.journal.specs.Layout.{slot_at}
+use Rattle.journal.specs.Layout.{Layout, slot_at}
+use Rattle.journal.specs.LayoutLaws.{Laws}
 use Rattle.journal.specs.Formats.{layout_of, IsWhole}
-use Rattle.journal.specs.Copies.{begun_with}
+use Rattle.journal.specs.Staged as staged
 use Rattle.journal.specs.Staged.{IsHomed}
 use Rattle.journal.proofs.CopiedBlock.{begun_is}
 use Rattle.journal.proofs.Formats.{laws_of}
 use Rattle.journal.proofs.Overlay.{records-hide}
-use Rattle.journal.proofs.RetiredRecord.{IsWholeIn-same}
+use Rattle.journal.proofs.Engine.{IsWholeIn-same, KeepsView-home, KeepsView-head, Stored-kept}
 use Rattle.redo_log.specs.declared.turn.Turn.{Turn}
-use Rattle.redo_log.specs.declared.turn.Turn.TheVariants.{Copy, Flush, Head}
+use Rattle.redo_log.specs.declared.turn.Turn.TheVariants.{Flush, Head}
 use Rattle.redo_log.specs.Value.{LogValue, Ahead, IsSentHome, IsRetireStepped, of_oldest, ahead_of}
 use Rattle.redo_log.specs.Firsts.{first_kept}
+use Rattle.redo_log.specs.Logged.{AreHome}
 use Rattle.redo_log.specs.Calls.{gaining, WritesOnly}
 use Rattle.redo_log.specs.Turns.{head_bytes, MayTurn, IsTurned, IsNextTurn}
 use Rattle.redo_log.specs.Held.{View, view_retired, made_of, turned_of, needed_of, image_view, MayLeave, Safe}
-use Rattle.redo_log.specs.Held.{HasHead, Guards, HoldsView}
+use Rattle.redo_log.specs.Held.{HasHead, HoldsView}
 use Rattle.redo_log.proofs.OneSector.{moments_have}
 use Rattle.redo_log.proofs.RingRecords.{needed_one}
-use Rattle.redo_log.proofs.StoredLog.{Stores-stays, home_stores, head_stores}
-use Rattle.redo_log.proofs.GuardedCalls.{Stands, stands_less, keeps_of, logged_of, home_safe, past_safe, hides_behind}
+use Rattle.redo_log.proofs.GuardedCalls.{Stands, stands_less, logged_of, home_safe, past_safe, hides_behind}
 use Rattle.redo_log.proofs.GuardedCalls.{records_before, newest, with_newest, same_head, stands_front, Logged-records}
-use Rattle.redo_log.proofs.GuardedCalls.{homed_here, guard_leaves, flush_guards}
+use Rattle.redo_log.proofs.GuardedCalls.{safe_here, guard_leaves, Stores-stays}
 use Rattle.redo_log.proofs.KeptFirsts.{kept_is, retired_kept}
 use Rattle.redo_log.proofs.CallsSent.{head_turn}
-use Rattle.redo_log.proofs.LogRules.{IsLog, retired_of, one_waits, nothing_home, not_homed}
+use Rattle.redo_log.proofs.LogRules.{IsLog, made_is, none_made, retired_of, one_waits, nothing_home, not_homed}
 use Rattle.redo_log.proofs.HeldLog.{needs_one, many, named, count, stands_then, goes_on, count_of}
 
 -- the bytes that a head turn writes are those of the new head
@@ -54,15 +55,23 @@ module _ {log : LogValue} (is : IsLog log) (live : log.dead ≡ false) (owed : 0
   abbrev oldest : List Entry
   oldest = get_or view.records 0 []
 
+  abbrev L : Layout
+  L = layout_of log.shape.format
+
+  abbrev laws : Laws (layout_of log.shape.format)
+  laws = laws_of log.shape.format
+
+  abbrev v : staged.View
+  v = image_view log.shape log.head view
+
   waits : 0 < length view.records
   waits = omega (arith, many hv, one_waits is owed)
 
   stands : Stands log.shape log.head view log.steps_left (made_of log)
-  stands = stands_then hv is log.steps_left (omega arith)
+  stands = stands_then hv is log.steps_left (made_of log) (omega arith) (none_made log) (made_is log)
 
   -- ---- a turn that brings the next block home
-  module _ (below : 2 < of_oldest log) (from : ℕ) (begins : Option (List ℕ)) (new : State)
-      (brought : begun_with begins (old.content from) ≡ (get_or (get_or view.records 0 []) (turned_of log) (0, [])).1) where
+  module _ (below : 2 < of_oldest log) (new : State) where
     inside : turned_of log < length oldest
     inside = omega (arith, below, is.owed_most, count hv 0)
 
@@ -73,21 +82,20 @@ module _ {log : LogValue} (is : IsLog log) (live : log.dead ≡ false) (owed : 0
     to = first_home log.shape + block
 
     abbrev bytes : List ℕ
-    bytes = begun_with begins (old.content from)
+    bytes = (get_or oldest (turned_of log) (0, [])).1
 
     hides : Hides view.records block
     hides = records-hide view.records 0 (turned_of log) waits inside
 
     home_each : view.ours ≡ true → (mid : State) → Gains to bytes old.may_leave mid.may_leave → {left : ℕ} → left ≢ 1
-        → EachCut (HasHead log.shape log.head view log.steps_left (made_of log) left) mid
-    home_each ours mid gains {left} not =
-        each_write _ _ old mid to bytes sound gains (hv.guards live ours).each
+        → EachCut (HasHead log.shape log.head view (made_of log) left) mid
+    home_each ours mid gains not = each_write _ _ old mid to bytes sound gains (hv.guards live ours)
         (λ image g. same_head g g.safe (λ one. absurd (not one)))
         (λ before image write g. same_head g
-        (home_safe (stands_front g stands) g.safe block (hides_behind g.passed view.records block hides) write)
+        (home_safe (stands_front g stands) block (hides_behind g.passed view.records block hides) write g.safe)
         (λ one. absurd (not one)))
 
-    home_leaves : MayTurn (Copy from to begins) old new → view.ours ≡ true → LeavesOnly (MayLeave old.size log view) old new
+    home_leaves : WritesOnly to bytes old new → view.ours ≡ true → LeavesOnly (MayLeave old.size log view) old new
     home_leaves adds ours =
         let gained : State = record old { may_leave = gaining to bytes old.may_leave } in
         moments_have (MayLeave old.size log view) to bytes old new adds
@@ -95,19 +103,26 @@ module _ {log : LogValue} (is : IsLog log) (live : log.dead ≡ false) (owed : 0
         (home_each ours gained (λ s c left. left) (omega arith) image cut))
 
     home_held : (ahead : Ahead) → needed_of (record log { retire_steps_left = log.retire_steps_left - 1; ahead = ahead }) ≢ 1
-        → new.size ≡ old.size → MayTurn (Copy from to begins) old new → IsTurned (Copy from to begins) old new
+        → new.size ≡ old.size → Gains to bytes old.may_leave new.may_leave → Holds to bytes old.content new.content
         → HoldsView (record log { retire_steps_left = log.retire_steps_left - 1; ahead = ahead }) new view
-    home_held ahead not same_size adds wrote =
-        let rising : IsRising (numbers_of oldest) = subst IsRising (named hv 0) (is.each 0 [] (one_waits is owed)).rising in
-        let next = record log { retire_steps_left = log.retire_steps_left - 1; ahead = ahead } in
+    home_held ahead not same_size gains write =
+        let s = hv.stores live in
         goes_on hv is log.steps_left (log.retire_steps_left - 1) ahead new (omega arith) same_size live
-        (home_stores (hv.stores live) is.sized new.content bytes (turned_of next)
-        (λ some. (stands.slots some).under_way.fit.few) waits rising inside wrote
-        brought (omega (arith, below, is.owed_most)))
-        (λ ours. record {
-          here = home_safe stands (hv.guards live ours).here block hides wrote;
-          each = home_each ours new adds.sets not;
+        (record {
+          stored = Stored-kept L laws v is.sized.some is.sized.behind stands.fit write (λ low. omega arith) log.head view.records refl
+              (KeepsView-home L laws v is.sized.some is.sized.behind stands.fit block hides write) s.stored;
+          copied = λ j low high. elim (cases_eq j (turned_of log)) [
+            | inl same ↦ rw (same, write.here) refl
+            | inr other ↦
+                let f : Entry → ℕ = λ e. e.0 in
+                let rising : IsRising (numbers_of oldest) = subst IsRising (named hv 0) (is.each 0 [] (one_waits is owed)).rising in
+                let less : j < turned_of log = omega (arith, low, below, is.owed_most, other) in
+                let up = rising j (turned_of log) less (omega (arith, inside, length-map oldest f)) in
+                let number = λ (i : ℕ). get_or-map f oldest i (0, []) in
+                write.elsewhere _ (λ e. omega (arith, e, up, number j, number (turned_of log))) ∙ s.copied j less high
+          ];
         })
+        (λ ours. home_each ours new gains not)
 
   -- ---- the flush of its blocks
   flush_held : of_oldest log ≡ 2 → (new : State) → new.size ≡ old.size → IsTurned Flush old new
@@ -115,27 +130,22 @@ module _ {log : LogValue} (is : IsLog log) (live : log.dead ≡ false) (owed : 0
   flush_held two new same_size wrote =
       let next = record log { retire_steps_left = log.retire_steps_left - 1 } in
       let there : length oldest ≤ turned_of log = omega (arith, two, count hv 0) in
+      let s = hv.stores live in
       goes_on hv is log.steps_left (log.retire_steps_left - 1) log.ahead new (omega arith) same_size live
-      (Stores-stays (hv.stores live) log.steps_left (made_of log) (turned_of next) new.content wrote.0 (λ some. some)
-      (omega arith) (λ i low high. omega (arith, high, there)))
-      (λ ours. flush_guards wrote.0 wrote.1 (hv.guards live ours).here
-      (λ _ i inside. (hv.stores live).copied i (omega (arith, inside, there)) inside))
+      (Stores-stays s (made_of log) (turned_of next) new.content wrote.0 (omega arith) (λ i low high. omega (arith, high, there)))
+      (λ ours. each_flush _ old.content new wrote.1 (with_newest (safe_here sound s (hv.guards live ours))
+      (λ _ i inside. s.copied i (omega (arith, inside, there)) inside)))
 
   -- ---- the head is written past it
   module _ (one : of_oldest log ≡ 1) (h : HeadOf) (stamp_is : h.stamp ≡ log.head + 1) (new : State) where
     head_now : IsHead (log.head + 1) (head_bytes h.stamp)
     head_now = new_head h (log.head + 1) stamp_is
 
-    one_now : view.ours ≡ true → EachCut (λ image. Safe log.shape log.head view log.steps_left (made_of log) image
+    one_now : view.ours ≡ true → EachCut (λ image. Safe log.shape log.head view (made_of log) image
         × IsHomed (image_view log.shape log.head view) image) old
     one_now ours image cut =
-        let g = (hv.guards live ours).each image cut in
+        let g = hv.guards live ours image cut in
         let f = g.flushed (needs_one log one) in (newest g f.0, f.1)
-
-    past_now : view.ours ≡ true → Holds 1 (head_bytes h.stamp) old.content new.content
-        → Safe log.shape (log.head + 1) (view_retired 1 view) log.steps_left (made_of log) new.content
-    past_now ours wrote =
-        let g = hv.guards live ours in past_safe stands g.here waits head_now (homed_here sound g (needs_one log one)) wrote
 
     stands_past : Stands log.shape (log.head + 1) (view_retired 1 view) log.steps_left (made_of log)
     stands_past = stands_less stands waits
@@ -148,13 +158,12 @@ module _ {log : LogValue} (is : IsLog log) (live : log.dead ≡ false) (owed : 0
         (each_write _ _ old gained 1 (head_bytes h.stamp) sound (λ s c left. left) (one_now ours)
         (λ image both. guard_leaves log {retire = 0} hv.fits stands
         (with_newest both.0 (λ none. absurd (omega (arith, none)))))
-        (λ before image write both. elim (logged_of stands_past (past_safe stands both.0 waits head_now both.1 write)) [
+        (λ before image write both. elim (logged_of stands_past (past_safe stands waits head_now both.1 write both.0)) [
           | inl rest ↦ inr (inr (waits, omega (arith, one), Logged-records hv.fits rest))
           | inr more ↦
-              let L = layout_of log.shape.format in
-              let first = IsWholeIn-same L (laws_of log.shape.format) log.shape is.sized.some before image
+              let first = IsWholeIn-same L laws log.shape is.sized.some before image
               (λ x low high. write.elsewhere x (λ e. omega (arith, low, e))) log.head oldest
-              (rw add-zero at ((keeps_of both.0).whole 0 waits)) in
+              (rw add-zero at (both.0.stored.keeps.whole 0 waits)) in
               inr (inl (
                 more.0,
                 more.1,
@@ -164,9 +173,7 @@ module _ {log : LogValue} (is : IsLog log) (live : log.dead ≡ false) (owed : 0
 
     -- then the log has one record less, where this guards it
     past_held : new.size ≡ old.size → Holds 1 (head_bytes h.stamp) old.content new.content
-        → (view.ours ≡ true
-        → Guards log.shape (log.head + 1) (view_retired 1 view) log.steps_left (made_of log)
-        (needed_of (retired_of log)) new)
+        → (view.ours ≡ true → EachCut (HasHead log.shape (log.head + 1) (view_retired 1 view) (made_of log) (needed_of (retired_of log))) new)
         → HoldsView (retired_of log) new (view_retired 1 view)
     past_held same_size wrote guards =
         let fits : sectors_of log.shape ≤ new.size = omega (arith, same_size, hv.fits) in
@@ -177,10 +184,14 @@ module _ {log : LogValue} (is : IsLog log) (live : log.dead ≡ false) (owed : 0
         count_of _ _ (rw durable (get_or-map f (drop 1 view.records) 0 [])) in
         let firsts = retired_kept log.shape.format view.records view.under_way log.firsts hv.firsts waits in
         let leaves : view.ours ≡ true → EachCut (MayLeave new.size (retired_of log) (view_retired 1 view)) new =
-        λ ours image cut. guard_leaves (retired_of log) fits stands_past ((guards ours).each image cut) in
-        let stores = head_stores (hv.stores live) is.sized new.content (head_bytes h.stamp)
-        (turned_of (retired_of log)) waits (omega (arith, one, count hv 0))
-        (λ i low high. nothing_home log i low (omega (arith, high, second))) wrote in
+        λ ours image cut. guard_leaves (retired_of log) fits stands_past (guards ours image cut) in
+        let s = hv.stores live in
+        let homed : IsHomed v old.content = λ i inside. s.copied i (omega (arith, inside, one, count hv 0)) inside in
+        let stored = Stored-kept L laws v is.sized.some is.sized.behind stands.fit wrote (λ low. omega arith) (log.head + 1)
+        (drop 1 view.records) (omega (arith, waits, fewer))
+        (KeepsView-head L laws v is.sized.some is.sized.behind stands.fit waits head_now homed wrote) s.stored in
+        let copied : AreHome log.shape (get_or (drop 1 view.records) 0 []) (turned_of (retired_of log)) new.content =
+        λ i low high. absurd (nothing_home log i low (omega (arith, high, second))) in
         search (rules, arith)
 
     -- nothing of the next one is flushed at home yet
@@ -201,111 +212,93 @@ module _ {log : LogValue} (is : IsLog log) (live : log.dead ≡ false) (owed : 0
     -- the head is flushed
     head_held : new.size ≡ old.size → IsTurned (Head h) old new → HoldsView (retired_of log) new (view_retired 1 view)
     head_held same_size wrote = past_held same_size wrote.0
-        (λ ours. flush_guards (λ s. refl) wrote.1 (past_now ours wrote.0) (λ is. absurd (needs_more is)))
+        (λ ours.
+        let both = content_has _ old sound (one_now ours) in
+        each_flush _ new.content new wrote.1 (with_newest (past_safe stands waits head_now both.1 wrote.0 both.0)
+        (λ is. absurd (needs_more is))))
 
     -- it is not flushed yet, and a slot is free besides the one that is passed
     pub ahead_held : log.next - log.head < log.shape.slots → new.size ≡ old.size → Gains 1 (head_bytes h.stamp) old.may_leave new.may_leave
         → Holds 1 (head_bytes h.stamp) old.content new.content → HoldsView (retired_of log) new (view_retired 1 view)
-    ahead_held besides same_size gains wrote = past_held same_size wrote (λ ours. record {
-      here = past_now ours wrote;
-      each = each_write _ _ old new 1 (head_bytes h.stamp) sound gains (one_now ours)
-          (λ image both. record {
-            stamp = log.head;
-            passed = get_or view.records 0 [] ∷ [];
-            behind = refl;
-            room = λ _. omega (arith, besides, hv.next, length-drop 1 view.records, waits);
-            safe = rw (← drop-cons view.records 0 [] waits) both.0;
-            flushed = λ is. absurd (needs_more is);
-          })
-          (λ before image write both. with_newest (past_safe stands both.0 waits head_now both.1 write)
-          (λ is. absurd (needs_more is)));
-    })
+    ahead_held besides same_size gains wrote = past_held same_size wrote (λ ours.
+        each_write _ _ old new 1 (head_bytes h.stamp) sound gains (one_now ours)
+        (λ image both. record {
+          stamp = log.head;
+          passed = get_or view.records 0 [] ∷ [];
+          behind = refl;
+          room = λ _. omega (arith, besides, hv.next, length-drop 1 view.records, waits);
+          safe = rw (← drop-cons view.records 0 [] waits) both.0;
+          flushed = λ is. absurd (needs_more is);
+        })
+        (λ before image write both. with_newest (past_safe stands waits head_now both.1 write both.0)
+        (λ is. absurd (needs_more is))))
 
   -- ---- the next turn of the oldest record
   module _ (turn : Turn) (next : IsNextTurn log.shape log.head (get_or log.waiting 0 []) log.firsts (turned_of log) turn) (new : State)
       (adds : MayTurn turn old new) where
     -- it brings a block home
-    abbrev Homes : Type 0
-    Homes = (begins : Option (List ℕ)) × (from : ℕ) × (2 < of_oldest log)
-        × (turn ≡ Copy from (first_home log.shape + (get_or oldest (turned_of log) (0, [])).0) begins)
-        × (begun_with begins (old.content from) ≡ (get_or oldest (turned_of log) (0, [])).1)
-
-    homes : 2 < of_oldest log → Homes
-    homes below =
+    brings : (below : 2 < of_oldest log) → WritesOnly (to below new) (bytes below new) old new
+        × (IsTurned turn old new → Holds (to below new) (bytes below new) old.content new.content)
+    brings below =
         let t = turned_of log in
-        let inside : t < length oldest = omega (arith, below, is.owed_most, count hv 0) in
+        let inside = inside below new in
         let f : Entry → ℕ = λ e. e.0 in
         let number : slice_index (get_or log.waiting 0 []) t ≡ (get_or oldest t (0, [])).0 =
         ap (λ (l : List ℕ). slice_index l t) (named hv 0) ∙ get_or-map f oldest t (0, []) in
-        let whole : IsWhole log.shape old.content log.head oldest =
-        subst (λ (s : ℕ). IsWhole log.shape old.content s oldest) (omega arith) ((hv.stores live).laid.whole 0 waits) in
-        let from : ℕ = slot_at (layout_of log.shape.format) log.shape log.head + first_data_of log.shape.format + t in
-        let begins = first_kept log.firsts 0 t in (
-          begins,
-          from,
-          below,
-          rw number at (next.home (omega (arith, below, is.owed_most))),
-          begun_is log.shape.format log.shape old.content log.head oldest whole t inside begins
-              (kept_is log.shape.format view.records view.under_way log.firsts hv.firsts 0 t waits inside)
-              (old.content from) refl,
-        )
+        let whole : IsWhole log.shape old.content log.head oldest = rw add-zero at ((hv.stores live).stored.keeps.whole 0 waits) in
+        let from : ℕ = slot_at L log.shape log.head + first_data_of log.shape.format + t in
+        let begins = first_kept log.firsts 0 t in
+        let copies = rw number at (next.home (omega (arith, below, is.owed_most))) in
+        let brought = begun_is log.shape.format log.shape old.content log.head oldest whole t inside begins
+        (kept_is log.shape.format view.records view.under_way log.firsts hv.firsts 0 t waits inside) (old.content from) refl in
+        (rw brought at (rw copies at adds), λ done. rw brought at (rw copies at done))
 
-    -- a block goes home, the blocks are flushed, or the head goes past the record
-    which : Homes ⊎ ((of_oldest log ≡ 2) × (turn ≡ Flush))
-        ⊎ ((of_oldest log ≡ 1) × ((h : HeadOf) × (turn ≡ Head h) × (h.stamp ≡ log.head + 1)))
-    which = elim (cases_lt 2 (of_oldest log)) [
-      | inl below ↦ inl (homes below)
+    -- so a block goes home, the blocks are flushed, or the head goes past the record
+    by_turn : {P : Type 0} → (2 < of_oldest log → P) → (of_oldest log ≡ 2 → turn ≡ Flush → P)
+        → (of_oldest log ≡ 1 → (h : HeadOf) → turn ≡ Head h → h.stamp ≡ log.head + 1 → P) → P
+    by_turn home flush head = elim (cases_lt 2 (of_oldest log)) [
+      | inl below ↦ home below
       | inr few ↦ elim (cases_eq (of_oldest log) 2) [
-        | inl two ↦ inr (inl (two, next.flush (omega (arith, two))))
+        | inl two ↦ flush two (next.flush (omega (arith, two)))
         | inr not ↦
             let one : of_oldest log ≡ 1 = omega (arith, not, few, owed) in
-            inr (inr (one, head_turn (log.head + 1) turn (next.head (omega (arith, one)))))
+            let h = head_turn (log.head + 1) turn (next.head (omega (arith, one))) in
+            head one h.0 h.1 h.2
       ]
     ]
 
     -- at each moment a cut leaves what it might leave before
     pub turn_leaves : view.ours ≡ true → LeavesOnly (MayLeave old.size log view) old new
-    turn_leaves ours = elim which [
-      | inl h ↦ home_leaves h.2 h.1 h.0 new h.4 (rw h.3 at adds) ours
-      | inr later ↦ elim later [
-        | inl flush ↦ quiet_leaves (MayLeave old.size log view) old new sound (hv.leaves ours) (rw flush.1 at adds)
-        | inr last ↦ let l = last.1 in head_leaves last.0 l.0 l.2 new (rw l.1 at adds) ours
-      ]
-    ]
+    turn_leaves ours = by_turn
+        (λ below. home_leaves below new (brings below).0 ours)
+        (λ two flush. quiet_leaves (MayLeave old.size log view) old new sound (hv.leaves ours) (rw flush at adds))
+        (λ one h head stamp. head_leaves one h stamp new (rw head at adds) ours)
 
     -- the log that counts the turn holds what the medium does
     module _ (same_size : new.size ≡ old.size) (done : IsTurned turn old new) (then : LogValue) where
-      at_home : Homes → (ahead : Ahead)
+      at_home : (below : 2 < of_oldest log) → (ahead : Ahead)
           → needed_of (record log { retire_steps_left = log.retire_steps_left - 1; ahead = ahead }) ≢ 1
           → HoldsView (record log { retire_steps_left = log.retire_steps_left - 1; ahead = ahead }) new view
-      at_home h ahead not = home_held h.2 h.1 h.0 new h.4 ahead not same_size (rw h.3 at adds) (rw h.3 at done)
+      at_home below ahead not = home_held below new ahead not same_size (brings below).0.sets ((brings below).1 done)
 
       -- a record whose blocks go home by retire steps needs its flush
-      goes_home : Homes → HoldsView (record log { retire_steps_left = log.retire_steps_left - 1 }) new view
-      goes_home h = at_home h log.ahead
-          (λ one. omega (arith, needed_one log.ahead log.head (log.head + length log.waiting) _ one, h.2, is.away h.2))
+      goes_home : 2 < of_oldest log → HoldsView (record log { retire_steps_left = log.retire_steps_left - 1 }) new view
+      goes_home below = at_home below log.ahead
+          (λ one. omega (arith, needed_one log.ahead log.head (log.head + length log.waiting) _ one, below, is.away below))
 
       pub stepped_held : IsRetireStepped log then → HoldsView then new (view_retired (then.head - log.head) view)
       stepped_held stepped =
-          let here : log.head - log.head ≡ 0 = omega arith in
-          elim which [
-            | inl h ↦ rw (stepped.more (omega (arith, h.2, stepped.some)), here) (goes_home h)
-            | inr later ↦ elim later [
-              | inl flush ↦
-                  rw (stepped.more (omega (arith, flush.0, stepped.some)), here)
-                  (flush_held flush.0 new same_size (rw flush.1 at done))
-              | inr last ↦
-                  let l = last.1 in
-                  retired_held last.0 l.0 l.2 new then stepped (head_held last.0 l.0 l.2 new same_size (rw l.1 at done))
-            ]
-          ]
+          let here : log.head - log.head ≡ 0 = omega arith in by_turn
+          (λ below. rw (stepped.more (omega (arith, below, stepped.some)), here) (goes_home below))
+          (λ two flush. rw (stepped.more (omega (arith, two, stepped.some)), here) (flush_held two new same_size (rw flush at done)))
+          (λ one h head stamp. retired_held one h stamp new then stepped (head_held one h stamp new same_size (rw head at done)))
 
       -- so it does ahead
       pub sent_held : 2 < of_oldest log → IsSentHome log then → HoldsView then new view
       sent_held below home = elim (cases_lt 3 (of_oldest log)) [
-        | inl more ↦ rw (home.more more) (goes_home (homes below))
+        | inl more ↦ rw (home.more more) (goes_home below)
         | inr few ↦
             let last : of_oldest log ≡ 3 = omega (arith, few, below) in
-            rw (home.last last) (at_home (homes below) (ahead_of log)
+            rw (home.last last) (at_home below (ahead_of log)
             (λ one. omega (arith, needed_one (ahead_of log) log.head (log.head + length log.waiting) _ one, last)))
       ]

@@ -7,37 +7,37 @@ use Rattle.medium.specs.Medium.{State, Image, CutLeaves, IsSound}
 use Rattle.medium.specs.Moments.{EachCut}
 use Rattle.spec.specs.Blocks.{Array}
 use Rattle.medium.proofs.Moments.{updated_elsewhere}
-use Rattle.journal.specs.Places.{Shape, first_home, sectors_of}
+use Rattle.journal.specs.Places.{Shape, sectors_of}
 use Rattle.journal.specs.SectorsTwo.{firsts_of}
 use Rattle.journal.specs.Record.{Entry, with_blocks, entries_of}
 use Rattle.journal.specs.Formats.{layout_of}
-use Rattle.journal.specs.Standing.{IsOurs}
+use Rattle.journal.specs.Standing.{Keeps, IsOurs}
 use Rattle.journal.proofs.BatchEntries.{numbers_of_batch, length_of_batch, sized_batch}
 use Rattle.journal.proofs.Engine.{rests_logged}
-use Rattle.journal.proofs.Formats.{laws_of, most_is}
+use Rattle.journal.proofs.Formats.{laws_of}
 use Rattle.redo_log.specs.Value.{LogValue, HasRoom, IsCovered, retire_steps_of, behind_oldest, of_oldest, idle_from}
 use Rattle.redo_log.specs.Value.{begun, died, settled}
 use Rattle.redo_log.specs.Batch.{IsBatch}
 use Rattle.redo_log.specs.Logged.{HasNoRecord}
 use Rattle.redo_log.specs.Stages.{needed_at}
 use Rattle.redo_log.specs.Held.{View, resting_view, with_begun, made_of, turned_of}
-use Rattle.redo_log.specs.Held.{needed_of, MayLeave, Safe, stamps_of, HoldsView}
+use Rattle.redo_log.specs.Held.{needed_of, MayLeave, Safe, stamps_of, with_passed, HoldsView}
 use Rattle.redo_log.proofs.RecordSteps.{none_written, steps_some}
 use Rattle.redo_log.proofs.RingRecords.{needed_covered}
-use Rattle.redo_log.proofs.GuardedCalls.{begun_safe, with_newest, same_head, put_head, put_safe, Logged-records}
+use Rattle.redo_log.proofs.GuardedCalls.{rests_safe, safe_rests, with_newest, same_head, put_head, put_safe, Logged-records}
 use Rattle.redo_log.proofs.KeptFirsts.{none_kept, begun_kept}
-use Rattle.redo_log.proofs.StoredLog.{Stores-stays}
-use Rattle.redo_log.proofs.LogRules.{one_stamp}
+use Rattle.redo_log.proofs.GuardedCalls.{Stores-stays}
+use Rattle.redo_log.proofs.LogRules.{one_stamp, made_is, none_made}
 use Rattle.redo_log.proofs.HeldLog.{count, under_count, going_held, died_held}
 pub use Rattle.redo_log.proofs.HeldLog.{quiet_held}
 pub use Rattle.redo_log.proofs.NewestCopy.{home_is}
 pub use Rattle.redo_log.proofs.GuardedCalls.{put_head}
 
--- a new log holds a medium whose blocks are at home and whose log is fresh
-pub idle_holds : (shape : Shape) (next : ℕ) (array : Array) (ours : Bool) (m : State) → IsSound m → sectors_of shape ≤ m.size
-    → ((b : ℕ) → b < shape.blocks → m.content (first_home shape + b) ≡ array b) → (ours ≡ true → EachCut (HasNoRecord shape next array) m)
+-- a new log holds a medium that has its head and its blocks at home, and whose log is fresh
+pub idle_holds : (shape : Shape) (next : ℕ) (array : Array) (ours : Bool) (m : State) → sectors_of shape ≤ m.size
+    → Keeps shape m.content next [] array → (ours ≡ true → EachCut (HasNoRecord shape next array) m)
     → HoldsView (idle_from shape next) m (resting_view array ours)
-idle_holds shape next array ours m sound fits home fresh = record {
+idle_holds shape next array ours m fits keeps fresh = record {
   fits = fits;
   durable = refl;
   under_way = refl;
@@ -45,24 +45,17 @@ idle_holds shape next array ours m sound fits home fresh = record {
   few = omega arith;
   sized = λ j d below. absurd (omega (arith, below));
   firsts = none_kept shape.format;
-  leaves = λ is image cut.
-      let rests = fresh is image cut in
-      inl (Logged-records fits
-      (rests_logged (layout_of shape.format) (laws_of shape.format) shape rests.keeps.super.some_slots image next [] array (omega arith)
-      rests));
+  leaves = λ is image cut. inl (Logged-records fits
+      (rests_logged (layout_of shape.format) (laws_of shape.format) shape keeps.super.some_slots image next [] array (omega arith)
+      (fresh is image cut)));
   stores = λ live. record {
-    laid = record { whole = λ j below. absurd (omega arith); blocks = home };
-    written = λ none. absurd (omega (arith, none));
+    stored = record {
+      keeps = keeps;
+      parts = λ p low small. absurd (omega (arith, low, none_written ((layout_of shape.format).early 0) 0 refl));
+    };
     copied = λ i low high. absurd (omega (arith, high));
   };
-  guards = λ live is.
-      let safe : (image : Image) → CutLeaves m.may_leave image
-      → Safe shape next (resting_view array ours) 0 (made_of (idle_from shape next)) image =
-      λ image cut. record { rests = λ _. fresh is image cut; guarded = λ none. absurd (omega (arith, none)) } in
-      record {
-        here = safe m.content sound.holds_content;
-        each = λ image cut. with_newest (safe image cut) (λ none. absurd (omega (arith, none)));
-      };
+  guards = λ live is image cut. with_newest (rests_safe (resting_view array ours) refl (fresh is image cut)) (λ none. absurd (omega (arith, none)));
 }
 
 -- a log that is given up holds what a cut may leave
@@ -79,17 +72,17 @@ settled_holds log m view holds covered =
     (λ ours image cut. ⊎_elim (λ rest. inl rest)
     (λ other. ⊎_elim (λ both. inr (inl both)) (λ less. absurd (omega (arith, less.1, covered.flushes))) other)
     (holds.leaves ours image cut))
-    (λ live. Stores-stays (holds.stores live) log.steps_left (made_of log) (turned_of (settled log)) m.content (λ s. refl) (λ some. some)
-    (omega arith) (λ i low high. omega (arith, high, covered.flushes, count holds 0)))
+    (λ live. Stores-stays (holds.stores live) (made_of log) (turned_of (settled log)) m.content (λ s. refl) (omega arith)
+    (λ i low high. omega (arith, high, covered.flushes, count holds 0)))
     (λ live ours. rw needs at (holds.guards live ours))
 
 -- whichever head an image has, it has the blocks of one that the log's guard speaks of
 pub blocks_guarded : (log : LogValue) (m : State) (view : View) → IsSound m → HoldsView log m view → log.dead ≡ false
     → view.ours ≡ true → (image : Image) → CutLeaves m.may_leave image
-    → Safe log.shape log.head view log.steps_left (made_of log) (put_head m image)
+    → Safe log.shape log.head view (made_of log) (put_head m image)
     × ((x : ℕ) → x ≢ 1 → put_head m image x ≡ image x)
 blocks_guarded log m view sound holds live ours image cut =
-    (put_safe sound (holds.guards live ours) cut, λ x not. updated_elsewhere image 1 (m.content 1) x not)
+    (put_safe sound (holds.stores live) (holds.guards live ours) cut, λ x not. updated_elsewhere image 1 (m.content 1) x not)
 
 -- the image is ours and stands for the log's array, or with the record under way
 pub may_leave_ours : (size : ℕ) (log : LogValue) (view : View) (image : Image) → MayLeave size log view image
@@ -122,10 +115,8 @@ begun_holds log m view numbers bytes holds room batch =
     let same : of_oldest log ≡ of_oldest next = omega (arith, behind) in
     let needs : needed_of log ≡ needed_of next = ap (λ (l : ℕ). needed_at log.ahead log.head (log.head + length log.waiting) l) same in
     let turned : turned_of log ≡ turned_of next = omega (arith, same) in
-    let none_made : made_of next ≡ 0 = omega arith in
-    let nothing = none_written ((layout_of log.shape.format).early (length E)) (made_of next) none_made in
-    let few : length (entries_of numbers bytes) ≤ (layout_of log.shape.format).most =
-    omega (arith, many, batch.few, most_is log.shape.format) in
+    let made : made_of next ≡ 0 = omega (arith, made_is next (steps_some log.shape.format (length numbers))) in
+    let nothing = none_written ((layout_of log.shape.format).early (length E)) (made_of next) made in
     record {
       fits = holds.fits;
       durable = holds.durable;
@@ -140,17 +131,14 @@ begun_holds log m view numbers bytes holds room batch =
           (λ less. inr (inr (less.0, omega (arith, less.1, behind), less.2))) other)
           (holds.leaves ours image cut);
       stores = λ live. record {
-        laid = (holds.stores live).laid;
-        written = λ left p low small. absurd (omega (arith, low, nothing.0));
+        stored = record {
+          keeps = (holds.stores live).stored.keeps;
+          parts = λ p low small. absurd (omega (arith, low, nothing.0));
+        };
         copied = λ i low high. (holds.stores live).copied i (omega (arith, low, turned)) high;
       };
-      guards = λ live ours.
-          let g = holds.guards live ours in
-          let some = steps_some log.shape.format (length numbers) in
-          record {
-            here = begun_safe room.no_steps few none_made some g.here;
-            each = λ image cut.
-                let h = g.each image cut in
-                same_head h (begun_safe room.no_steps few none_made some h.safe) (λ is. h.flushed (needs ∙ is));
-          };
+      guards = λ live ours image cut.
+          let g = holds.guards live ours image cut in
+          let idle = safe_rests (with_passed g.passed view) (none_made log room.no_steps) g.safe in
+          same_head g (rests_safe (with_passed g.passed (with_begun E view)) made idle) (λ is. g.flushed (needs ∙ is));
     }

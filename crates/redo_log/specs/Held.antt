@@ -1,6 +1,7 @@
 -- What a log and its medium hold together.
 use Rattle.std.specs.Prelude.{◌≡◌, ◌⊎◌, ℕ, ◌+◌, ◌-◌, ◌≤◌, ◌<◌, List, [], ◌∷◌, ◌++◌, length}
 use Rattle.std.specs.Prelude.{get_or, drop, map, All, Bool, true, false}
+use Rattle.std.specs.Prelude.{if◌then◌else◌, ◌==◌}
 use Rattle.medium.specs.Medium.{State, Image}
 use Rattle.medium.specs.Moments.{EachCut}
 use Rattle.spec.specs.Blocks.{Array}
@@ -9,14 +10,13 @@ use Rattle.journal.specs.declared.log_format.LogFormat.TheVariants.{One, Two}
 use Rattle.journal.specs.Places.{Shape, sectors_of}
 use Rattle.journal.specs.SectorsTwo.{firsts_of}
 use Rattle.journal.specs.Record.{Entry, numbers_of, with_blocks}
-use Rattle.journal.specs.Layout.{part_at}
 use Rattle.journal.specs.Formats.{layout_of}
 use Rattle.journal.specs.Staged as staged
-use Rattle.journal.specs.Staged.{Resting, Guarded, IsHomed}
+use Rattle.journal.specs.Staged.{Stored, Guarded, IsHomed}
 use Rattle.redo_log.specs.declared.progress.Progress.{Progress}
 use Rattle.redo_log.specs.declared.progress.Progress.TheVariants.{More, Durable}
 use Rattle.redo_log.specs.Value.{AllFirsts, LogValue, steps_of, behind_oldest, of_oldest}
-use Rattle.redo_log.specs.Logged.{HasRecords, AreHome, Laid}
+use Rattle.redo_log.specs.Logged.{HasRecords, AreHome}
 use Rattle.redo_log.specs.Stages.{written_at, flushed_at, needed_at}
 
 -- what a log has
@@ -106,28 +106,20 @@ abbrev pub flushed_of : Shape → View → ℕ → ℕ
 flushed_of shape view made =
     flushed_at ((layout_of shape.format).early (length view.under_way)) made
 
--- What a medium stores of a log with `steps` steps left, where `made` calls of the record under
--- way are made, and `turned` turns of the oldest.
-pub record Stores (shape : Shape) (head : ℕ) (view : View) (steps made turned : ℕ)
-    (content : Image) : Type 0 where
-  pub laid : Laid shape head view.records view.array content
-  -- the record under way as far as it is written
-  pub written : 0 < steps → (p : ℕ) → p < written_of shape view made
-      → p < (layout_of shape.format).parts (length view.under_way)
-      → content (part_at (layout_of shape.format) shape (stamp_behind head view)
-      (length view.under_way) p)
-      ≡ (layout_of shape.format).part (stamp_behind head view) view.under_way p
+-- What a medium stores of a log, where `made` calls of the record under way are made, and `turned`
+-- turns of the oldest.
+pub record Stores (shape : Shape) (head : ℕ) (view : View) (made turned : ℕ) (content : Image)
+    : Type 0 where
+  -- the durable records, and the record under way as far as it is written
+  pub stored : Stored (layout_of shape.format) (image_view shape head view)
+      (written_of shape view made) content
   -- the oldest record as far as it is copied home
   pub copied : AreHome shape (oldest_of view) turned content
 
--- what a cut may leave of the log, where `steps` steps are left
-pub record Safe (shape : Shape) (head : ℕ) (view : View) (steps made : ℕ) (image : Image)
-    : Type 0 where
-  -- without a record under way it rests
-  pub rests : steps ≡ 0 → Resting (layout_of shape.format) (image_view shape head view) image
-  -- with one each part of it is there or not
-  pub guarded : 0 < steps → Guarded (layout_of shape.format) (image_view shape head view)
-      (written_of shape view made) (flushed_of shape view made) image
+-- what a cut may leave of the log, with this head: each part of a record under way is there or not
+abbrev pub Safe : Shape → ℕ → View → ℕ → Image → Type 0
+Safe shape head view made image = Guarded (layout_of shape.format) (image_view shape head view)
+    (written_of shape view made) (flushed_of shape view made) image
 
 -- these records, which the head went past, stand in front of the others
 abbrev pub with_passed : List (List Entry) → View → View
@@ -136,32 +128,26 @@ with_passed passed view = record view { records = passed ++ view.records }
 -- What a cut may leave of the log, where the oldest record needs `retire` retire steps. The head
 -- there is the newest, or an older one: then the records that the head went past since, without a
 -- flush, are whole in front of the others, and no record takes their slots.
-pub record HasHead (shape : Shape) (head : ℕ) (view : View) (steps made retire : ℕ) (image : Image)
+pub record HasHead (shape : Shape) (head : ℕ) (view : View) (made retire : ℕ) (image : Image)
     : Type 0 where
   pub stamp : ℕ
   pub passed : List (List Entry)
   pub behind : head ≡ stamp + length passed
   pub room : 0 < length passed → length passed + length view.records < shape.slots
-  pub safe : Safe shape stamp (with_passed passed view) steps made image
+  pub safe : Safe shape stamp (with_passed passed view) made image
   -- Where one retire step is needed, all was flushed since: no older head is left, and the oldest
   -- record's blocks are at home.
   pub flushed : retire ≡ 1 → (passed ≡ []) × IsHomed (image_view shape head view) image
-
--- what guards a log against a cut
-pub record Guards (shape : Shape) (head : ℕ) (view : View) (steps made retire : ℕ) (m : State)
-    : Type 0 where
-  -- a read gives the newest head
-  pub here : Safe shape head view steps made m.content
-  pub each : EachCut (HasHead shape head view steps made retire) m
 
 -- one stamp for a record that has blocks
 abbrev pub stamps_of : List ℕ → ℕ
 stamps_of [] = 0
 stamps_of (n ∷ numbers) = 1
 
--- how many calls of the record under way are made
+-- how many calls of the record under way are made: none where none is
 abbrev pub made_of : LogValue → ℕ
-made_of log = steps_of log.shape.format log.under_way - log.steps_left
+made_of log = if log.steps_left == 0 then 0
+    else steps_of log.shape.format log.under_way - log.steps_left
 
 -- how many turns of the oldest record are made
 abbrev pub turned_of : LogValue → ℕ
@@ -194,6 +180,6 @@ pub record HoldsView (log : LogValue) (m : State) (view : View) : Type 0 where
   pub firsts : log.firsts ≡ kept_firsts log.shape.format view.records view.under_way
   pub leaves : view.ours ≡ true → EachCut (MayLeave m.size log view) m
   pub stores : log.dead ≡ false
-      → Stores log.shape log.head view log.steps_left (made_of log) (turned_of log) m.content
+      → Stores log.shape log.head view (made_of log) (turned_of log) m.content
   pub guards : log.dead ≡ false → view.ours ≡ true
-      → Guards log.shape log.head view log.steps_left (made_of log) (needed_of log) m
+      → EachCut (HasHead log.shape log.head view (made_of log) (needed_of log)) m

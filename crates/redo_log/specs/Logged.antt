@@ -3,7 +3,7 @@ use Rattle.std.specs.Prelude.{◌≡◌, ◌<◌, ℕ, ◌+◌, List, [], length
 use Rattle.medium.specs.Medium.{Image}
 use Rattle.spec.specs.Blocks.{Array}
 use Rattle.journal.specs.Places.{Shape, first_home}
-use Rattle.journal.specs.Record.{Entry, with_records, home_of}
+use Rattle.journal.specs.Record.{Entry}
 use Rattle.journal.specs.Layout.{LoggedIn, RestsIn}
 use Rattle.journal.specs.Formats.{layout_of, IsWhole}
 use Rattle.journal.specs.Standing.{IsOurs}
@@ -30,10 +30,3 @@ HasNoRecord shape head array image = RestsIn (layout_of shape.format) shape imag
 abbrev pub AreHome : Shape → List Entry → ℕ → Image → Type 0
 AreHome shape entries count image = (i : ℕ) → i < count → i < length entries
     → image (first_home shape + (get_or entries i (0, [])).0) ≡ (get_or entries i (0, [])).1
-
--- these records are whole in their slots, and laid over the blocks at home they make this array
-pub record Laid (shape : Shape) (head : ℕ) (records : List (List Entry)) (array : Array)
-    (image : Image)
-    : Type 0 where
-  pub whole : (j : ℕ) → j < length records → IsWhole shape image (head + j) (get_or records j [])
-  pub blocks : (b : ℕ) → b < shape.blocks → with_records records (home_of shape image) b ≡ array b

@@ -6,7 +6,7 @@ use Rattle.journal.specs.Places.{limit_of, IsFirstHome}
 use Rattle.journal.specs.Values.{shape_of}
 use Rattle.journal.specs.Formats.{layout_of}
 use Rattle.journal.proofs.Formats.{laws_of, most_is}
-use Rattle.redo_log.proofs.StoredLog.{before_home}
+use Rattle.redo_log.proofs.OneSector.{before_home}
 use Rattle.redo_log.proofs.LogRules.{sizes_sized}
 use Rattle.redo_log.proofs.RecordSteps.{parts_more, block_makes}
 use Rattle.redo_log.proofs.call.write_part.Goals as goal

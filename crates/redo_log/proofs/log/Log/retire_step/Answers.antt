@@ -1,10 +1,8 @@
-use Rattle.std.proofs.Common.{◌<◌, length, arith, rules}
-use Rattle.std.proofs.lemmas.Grind.{common_steps}
+use Rattle.std.proofs.Common.{◌≡◌, ◌-◌, ◌<◌, length, arith, rules}
 use Rattle.redo_log.proofs.HeldLog.{leaves_none}
 use Rattle.redo_log.proofs.LogRules.{log_is, many_lists}
 use Rattle.std.proofs.lemmas.Grind.{common_steps}
 use Rattle.redo_log.proofs.log.Log.retire_step.Goals as goal
-
 
 pub make_turn-requires-clause-owed : goal.make_turn-requires-clause-owed
 make_turn-requires-clause-owed g c =
@@ -18,6 +16,6 @@ returns-then-is_empty g c = record {
   none = search rules;
   answers = grind (arith, common_steps);
   passes = grind (arith, common_steps);
-  holds = search rules;
+  holds = λ view holds. let none : c.args.self.now.head - c.args.self.now.head ≡ 0 = omega arith in rw none holds;
   leaves = leaves_none c.args.self.now (g.M.Medium.state c.args.m.now) (g.met.M.Medium.sound c.args.m.now);
 }
