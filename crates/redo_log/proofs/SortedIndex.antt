@@ -1,5 +1,5 @@
 -- What a search finds among entries that are sorted by block, and what is left of them without a slot.
-use Rattle.std.proofs.Common.{◌≡◌, ◌≢◌, inl, inr, ℕ, zero, suc, ◌<◌, ◌≤◌, List, [], ◌∷◌, length, get_or, if◌then◌else◌, Some}
+use Rattle.std.proofs.Common.{◌≡◌, ◌≢◌, inl, inr, ℕ, suc, ◌-◌, ◌<◌, ◌≤◌, List, [], ◌∷◌, length, get_or, if◌then◌else◌, Some}
 use Rattle.std.proofs.Common.{None, Less, Greater, refl, sym, ap, arith}
 use Rattle.std.specs.Prelude.{Bool, true, false, ◌==◌}
 use Rattle.std.specs.List.{filter}
@@ -29,10 +29,9 @@ look-absent (c ∷ index) block none =
 pub look_found : (index : List Copied) → IsSorted index → (at block : ℕ) → at < length index → block_at index at ≡ block
     → look index block ≡ Some ((get_or index at blank).slot, (get_or index at blank).place)
 look_found [] sorted at block below is = absurd (omega (arith, below))
-look_found (c ∷ index) sorted zero block below is = grind (arith, nat_tests, is)
-look_found (c ∷ index) sorted (suc at) block below is =
-    let rest = look_found index (λ i j d less inside. sorted (suc i) (suc j) d (omega arith) (omega arith)) at block (omega arith) is in
-    grind (arith, nat_tests, sorted 0 (suc at) blank, rest)
+look_found (c ∷ index) sorted at block below is =
+    let rest = look_found index (λ i j d less inside. sorted (suc i) (suc j) d (omega arith) (omega arith)) (at - 1) block in
+    grind (arith, nat_tests, sorted 0 at blank, rest, is)
 
 -- or a binary search ends between those below it and those above it
 pub look_parted : (index : List Copied) → IsSorted index → (block at : ℕ)
