@@ -57,27 +57,21 @@ module _ {old : List Copied} {slot : ℕ} {numbers : List ℕ} (index back : Lis
   front_rises : (i j : ℕ) (d : Copied) → i < j → j < was → (get_or index i d).block < (get_or index j d).block
   front_rises i j d less below =
       let long = length-take-le was index fits in
-      let front = λ (k : ℕ) (inside : k < was).
-      get_or_append_left (take was index) back d k (omega (arith, inside, long)) ∙ get_or-take was index k d inside in
-      rw (front i (omega arith), front j below) at
-      (entered.sorted i j d less (omega (arith, length-append (take was index) back, long)))
+      grind (arith, entered.sorted i j d, get_or_append_left (take was index) back d, get_or-take was index, length-append (take was index) back, long)
 
   long : length (take left index) ≡ left
   long = length-take-le left index (omega (arith, ends, fits))
 
   low : All (λ x. x.block < e.block) (take left index)
   low = All-from_get_or (λ x. x.block < e.block) (take left index) blank (λ i less.
-      rw (get_or-take left index i blank (omega (arith, less, long)))
-      (grind (arith, less, long, ends, front_rises i left blank, front_rises i (was - 1) blank)))
+      grind (arith, get_or-take left index i blank, long, ends, front_rises i left blank, front_rises i (was - 1) blank))
 
   put_sorted : IsSorted (take left index ++ e ∷ back)
   put_sorted = pairs_append (λ x. Above x.block) (take left index) (e ∷ back)
-      (λ i j d less below. rw (get_or-take left index i d (omega (arith, less, below, long)), get_or-take left index j d (omega (arith, below, long)))
-          (front_rises i j d less (omega (arith, below, long, ends))))
+      (λ i j d less below. grind (arith, get_or-take left index i d, get_or-take left index j d, front_rises i j d, below, long, ends))
       (AllPairs-cons (λ x. Above x.block) e back above (λ i j d less below.
           let front = take was index in
-          rw (get_or-append-add front back i d, get_or-append-add front back j d) at
-          (entered.sorted (length front + i) (length front + j) d (omega (arith, less)) (omega (arith, length-append front back, below)))))
+          grind (arith, get_or-append-add front back, entered.sorted (length front + i) (length front + j) d, length-append front back, below)))
       (λ i d less. All-cons (Above (get_or (take left index) i d).block) e back (low i d less)
           (λ j f inside. omega (arith, low i d less, above j f inside)))
 
