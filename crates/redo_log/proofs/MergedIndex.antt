@@ -1,6 +1,6 @@
 -- How an index and a record's rising block numbers merge, the greatest block first.
 use Rattle.std.proofs.Common.{◌≡◌, ◌≢◌, ◌⊎◌, inl, inr, ℕ, suc, ◌+◌, ◌-◌, ◌<◌, ◌≤◌, List, [], ◌∷◌, ◌++◌, length, get_or, take, drop}
-use Rattle.std.proofs.Common.{set, refl, sym, ◌∙◌, ap, append_assoc, arith, Some}
+use Rattle.std.proofs.Common.{set, refl, sym, ◌∙◌, append_assoc, arith, rules, Some}
 use Rattle.std.specs.Prelude.{slice_index, All}
 use Rattle.std.specs.List.{AllPairs, remove_range}
 use Rattle.std.proofs.lemmas.Bool.{cases_eq}
@@ -77,9 +77,9 @@ module _ {old : List Copied} {slot : ℕ} {numbers : List ℕ} (index back : Lis
 
   put_found : look (take left index ++ e ∷ back) e.block ≡ Some (slot, place)
   put_found =
-      let at = get_or_at (take left index) e back blank left long in
-      rw at at (look_found (take left index ++ e ∷ back) put_sorted left e.block
-      (omega (arith, length-append (take left index) (e ∷ back), long)) (ap (λ (x : Copied). x.block) at))
+      let all = take left index ++ e ∷ back in
+      grind (arith, look_found all put_sorted left e.block, get_or_at (take left index) e back blank left,
+      length-append (take left index) (e ∷ back), long)
 
   -- only an older entry with its block goes
   put_other : (b : ℕ) → e.block ≢ b → look (take left index ++ e ∷ back) b ≡ look (take was index ++ back) b
@@ -97,7 +97,7 @@ module _ {old : List Copied} {slot : ℕ} {numbers : List ℕ} (index back : Lis
     finds = λ b. elim (cases_eq e.block b) [
       | inl same ↦ inl (place, omega arith, inside, same, rw (← same) put_found)
       | inr not ↦ rw (put_other b not) (elim (entered.finds b) [
-        | inl later ↦ inl (later.0, omega (arith, later.1), later.2, later.3, later.4)
+        | inl later ↦ search (rules, arith)
         | inr none ↦ inr (λ k low less. grind (arith, none.0 k, not), none.1)
       ])
     ];

@@ -121,22 +121,16 @@ module _ (e parts : ℕ) (late : e < parts) where
   -- the early flush
   pub early_written : (made next : ℕ) → next ≡ made + 1 → 0 < e → made ≡ e
       → (written_at e next ≡ written_at e made) × (flushed_at e next ≡ written_at e made)
-  early_written made next one some is = (
-    omega (arith, written_is e made, written_is e next, flush_of_is e, one, some, is),
-    omega (arith, written_is e made, written_is e next, one, is),
-  )
+  early_written made next one some is = grind (arith, written_is e made, written_is e next, flush_of_is e)
 
   -- a part is written
   pub part_written : (made next : ℕ) → next ≡ made + 1 → (e ≤ 0) ⊎ (made ≢ e)
       → (written_at e next ≡ written_at e made + 1) × (flushed_at e next ≡ flushed_at e made)
-  part_written made next one not = (
-    omega (arith, written_is e made, written_is e next, flush_of_is e, one, not),
-    omega (arith, written_is e made, written_is e next, one, not),
-  )
+  part_written made next one not = grind (arith, written_is e made, written_is e next, flush_of_is e, not)
 
 -- nothing is written at first
 pub none_written : (e made : ℕ) → made ≡ 0 → (written_at e made ≡ 0) × (flushed_at e made ≡ 0)
-none_written e made none = (omega (arith, written_is e made, none), omega (arith, written_is e made, none))
+none_written e made none = grind (arith, written_is e made)
 
 -- a flush is due, or it is not
 pub due_or_not : (L : Layout) (n made : ℕ) → IsFlushDue L n made ⊎ (¬ IsFlushDue L n made)
