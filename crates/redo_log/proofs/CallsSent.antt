@@ -33,23 +33,14 @@ flushes_in Flush = 1
 -- a call makes as many flushes as it is
 pub call_flushes : (call : Call) (old new : State) {result : Result (Unit {0}) MediumFault} → Passes (fault_of call) result old new
     → new.made fault.Flush ≡ old.made fault.Flush + flushes_in call
-call_flushes (Write place bytes) old new {result} passes = omega (arith, passes.others_made fault.Flush (λ e. absurd (cc e)))
-call_flushes Flush old new {result} passes = passes.made_is
+call_flushes call old new {result} passes = grind (arith, passes.others_made fault.Flush, passes.made_is)
 
 -- a flush is due with the last step, and in format 1 before the commit
 flushes_due : (format : LogFormat) (n made left : ℕ) → made + left ≡ steps_for format n → 0 < left
     → (IsFlushDue (layout_of format) n made × (step_flushes format left ≡ 1))
     ⊎ ((¬ IsFlushDue (layout_of format) n made) × (step_flushes format left ≡ 0))
-flushes_due format n made zero sum some = absurd (omega (arith, some))
-flushes_due One n made (suc zero) sum some = inl (inr (omega (arith, written_is (n + 1) made, flush_of_is (n + 1), sum)), refl)
-flushes_due One n made (suc (suc zero)) sum some =
-    inr (λ due. omega (arith, due, written_is (n + 1) made, flush_of_is (n + 1), sum), refl)
-flushes_due One n made (suc (suc (suc zero))) sum some = inl (inl (omega arith, omega (arith, sum)), refl)
-flushes_due One n made (suc (suc (suc (suc left)))) sum some =
-    inr (λ due. omega (arith, due, written_is (n + 1) made, flush_of_is (n + 1), sum), grind (arith, nat_tests))
-flushes_due Two n made (suc zero) sum some = inl (inr (omega (arith, written_is 0 made, flush_of_is 0, sum)), refl)
-flushes_due Two n made (suc (suc left)) sum some =
-    inr (λ due. omega (arith, due, written_is 0 made, flush_of_is 0, sum), grind (arith, nat_tests))
+flushes_due One n made left sum some = grind (arith, nat_tests, written_is (n + 1) made, flush_of_is (n + 1), sum)
+flushes_due Two n made left sum some = grind (arith, nat_tests, written_is 0 made, flush_of_is 0, sum)
 
 -- the next call of a record makes the flushes of the step
 pub step_flushed : {log : LogValue} → IsLog log → 0 < log.steps_left → {numbers : List ℕ} (bytes : List ℕ) → numbers ≡ log.under_way
@@ -77,20 +68,11 @@ head_turn stamp (Head h) is = (h, refl, is)
 turn_counts : (shape : Shape) (stamp : ℕ) (numbers : List ℕ) (kept : AllFirsts) (turned left : ℕ) (turn : Turn)
     → IsNextTurn shape stamp numbers kept turned turn → turned + left ≡ length numbers + 2 → 0 < left
     → (calls_of turn ≡ turn_calls left) × (sends_of turn ≡ turn_sends left) × (flushes_of turn ≡ turn_flushes left)
-turn_counts shape stamp numbers kept turned zero turn next sum some = absurd (omega (arith, some))
-turn_counts shape stamp numbers kept turned (suc zero) turn next sum some =
-    rw ((head_turn (stamp + 1) turn (next.head (omega (arith, sum)))).1) (refl, refl, refl)
-turn_counts shape stamp numbers kept turned (suc (suc zero)) turn next sum some =
-    rw (next.flush (omega (arith, sum))) (refl, refl, refl)
-turn_counts shape stamp numbers kept turned (suc (suc (suc left))) turn next sum some =
-    rw (next.home (omega (arith, sum))) (refl, refl, refl)
+turn_counts shape stamp numbers kept turned left turn next sum some = grind (arith, next.head, next.flush, next.home, sum)
 
 -- no step makes more than two calls, or writes and flushes
 two_at_most : (left : ℕ) → (turn_calls left ≤ 2) × (turn_sends left ≤ 2)
-two_at_most zero = (omega arith, omega arith)
-two_at_most (suc zero) = (omega arith, omega arith)
-two_at_most (suc (suc zero)) = (omega arith, omega arith)
-two_at_most (suc (suc (suc left))) = (omega arith, omega arith)
+two_at_most left = grind arith
 
 pub few_next : (log : LogValue) → next_sends log ≤ 2
 few_next log = (two_at_most (of_oldest log)).1

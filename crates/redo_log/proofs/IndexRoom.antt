@@ -5,7 +5,7 @@ use Rattle.std.specs.Prelude.{All, map, slice_index, Contains}
 use Rattle.std.specs.Cmp.{nat_eq_equiv}
 use Rattle.std.specs.List.{flat_map}
 use Rattle.std.proofs.lemmas.Bool.{cases_lt, eq-eqb, ne_eqb, eqb-true}
-use Rattle.std.proofs.lemmas.List.{length-map, get_or-map, get_or_append_left, get_or_default}
+use Rattle.std.proofs.lemmas.List.{length-map, get_or-map, get_or_append_left, get_or_at, get_or_default}
 use Rattle.std.proofs.lemmas.List.Concat.{length-flat_map}
 use Rattle.std.proofs.lemmas.List.Elements.{All-contains, All-from_get_or, All-map, Contains-append_left, Contains-append_right, Contains-get_or}
 use Rattle.std.proofs.lemmas.List.Sums.{sum_by-le}
@@ -61,8 +61,7 @@ module _ (records : List (List ℕ)) (numbers : List ℕ) (b : ℕ)
   none_more least none age later below = elim (cases_lt age (length records)) [
     | inl old ↦ rw (get_or_append_left records (numbers ∷ []) [] age old) (none age later old)
     | inr last ↦
-        let same : age ≡ length records = omega (arith, below, last, longer) in
-        rw (same, get_or-append_seam records numbers [] [])
+        rw (get_or_at records numbers [] [] age (omega (arith, below, last, longer)))
         (λ there. unnamed there.0 (omega arith) there.1 (get_or_default numbers there.0 0 b there.1 ∙ there.2))
   ]
 

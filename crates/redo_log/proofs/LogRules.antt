@@ -1,10 +1,10 @@
 -- What is true of every log, as a caller sees it, whatever its fields are.
 use Rattle.std.proofs.Common.{◌≡◌, ◌≢◌, ℕ, suc, ◌+◌, ◌-◌, ◌*◌, ◌<◌, ◌≤◌, List, [], ◌∷◌, ◌++◌, length, get_or, drop}
-use Rattle.std.proofs.Common.{refl, sym, ap, subst, arith, rules}
-use Rattle.std.specs.Prelude.{All, Bool, Option, Some, None, Result, sum_by, slice_index_or}
+use Rattle.std.proofs.Common.{refl, sym, ap, subst, arith}
+use Rattle.std.specs.Prelude.{All, Bool, Option, Some, Result, sum_by, slice_index_or}
 use Rattle.std.proofs.Math.Nat.{mul-le-mul_left}
 use Rattle.std.proofs.lemmas.Bool.Decides.{nat_tests}
-use Rattle.std.proofs.lemmas.List.{length-map, nil_from_length, drop_more}
+use Rattle.std.proofs.lemmas.List.{length-map}
 use Rattle.std.proofs.lemmas.List.Sums.{sum_by-cons, sum_by-append, sum_by-le}
 use Rattle.arrayvec.specs.ArrayVec.{ArrayVec}
 use Rattle.medium.specs.Medium.{State}
@@ -18,7 +18,7 @@ use Rattle.redo_log.specs.declared.turn.Turn.{Turn}
 use Rattle.redo_log.specs.declared.log.Log.TheInside.{Inside}
 use Rattle.redo_log.specs.Value.{AllFirsts, LogValue, Ahead, HasRoom, most_retire_steps, steps_of, retire_steps_of}
 use Rattle.redo_log.specs.Value.{behind_oldest, of_oldest}
-use Rattle.redo_log.specs.Stages.{value_at, steps_at, oldest_at, begun_at, AreInside, IsRecord, IsOldest, IsUnderWay}
+use Rattle.redo_log.specs.Stages.{value_at, steps_at, AreInside, IsRecord}
 use Rattle.redo_log.specs.Stages.{IsSized}
 use Rattle.redo_log.specs.Shown.{lists_of, kept_in, shown, Invariant}
 use Rattle.redo_log.specs.Calls.{MakesNext}
@@ -81,30 +81,13 @@ sizes_sized sizes = record {
 pub many_lists : (records : List (ArrayVec ℕ)) → length (lists_of records) ≡ length records
 many_lists records = let f : ArrayVec ℕ → List ℕ = λ r. r.items in length-map records f
 
-under : (shape : Shape) (items : List ℕ) (writing : Option ℕ) → IsUnderWay shape items writing
-    → (steps_at shape.format (length items) writing ≤ steps_of shape.format items)
-    × (0 < steps_at shape.format (length items) writing → AreInside shape items × (begun_at writing ≡ 1))
-    × (length items ≤ limit_of shape.format)
-under shape items None is = (omega arith, λ some. absurd (omega (arith, some)), omega (arith, ap (λ (l : List ℕ). length l) is))
-under shape items (Some made) is = (omega arith, λ some. (is.0, refl), is.0.few)
-
-oldest : (waiting : List (List ℕ)) (turned : ℕ) → IsOldest waiting turned → (length waiting ≡ 0 → oldest_at waiting turned ≡ 0)
-    × (0 < length waiting → 0 < oldest_at waiting turned)
-    × (oldest_at waiting turned ≤ length (get_or waiting 0 []) + 2 - turned)
-oldest [] turned is = (λ none. refl, λ some. absurd (omega arith), omega arith)
-oldest (n ∷ newer) turned is = (λ none. absurd (omega arith), λ some. omega (arith, is), omega arith)
-
 module _ (i : Inside) {log : LogValue} (is : shown i ≡ log) where
   pub log_is : Invariant i → IsLog log
   log_is inv =
-      let under_way = under (shape_of i.sizes) i.under_way.items i.made inv.ring.record_under_way in
-      let at = oldest (lists_of i.waiting.items) i.turned inv.ring.oldest in
-      let sized = sizes_sized i.sizes in
-      let many = many_lists i.waiting.items in
       let record_is : 0 < (shown i).steps_left
       → IsRecord (shown i).shape (i.head + length (shown i).waiting) i.under_way.items =
-      λ some. let begun = under_way.1 some in search (rules, arith) in
-      rw (← is) (search (rules, arith))
+      λ some. grind (arith, inv.ring.each, many_lists i.waiting.items) in
+      rw (← is) (grind (arith, inv.ring.each, many_lists i.waiting.items, record_is, sizes_sized i.sizes))
 
   -- a record stands in front
   module _ (first : ArrayVec ℕ) (some : 0 < length i.waiting.items) (there : first ≡ slice_index_or i.waiting.items 0 first) where
@@ -137,8 +120,7 @@ module _ (i : Inside) {log : LogValue} (is : shown i ≡ log) where
 
 -- a record takes a stamp
 pub one_stamp : (numbers : List ℕ) → 1 ≤ length numbers → stamps_of numbers ≡ 1
-one_stamp [] some = absurd (omega arith)
-one_stamp (n ∷ numbers) some = refl
+one_stamp numbers some = grind arith
 
 -- those of the oldest record and of the others
 steps_of_all : (waiting : List (List ℕ))
@@ -158,52 +140,34 @@ few_owed : (shape : Shape) (most : ℕ) → limit_of shape.format + 2 ≤ most �
     → left + sum_by retire_steps_of (drop 1 waiting) ≤ most * length waiting
 few_owed shape most few [] each left none within = omega arith
 few_owed shape most few (n ∷ newer) each left none within =
-    let rest = sum_by-le retire_steps_of most newer
-    (λ i d below. omega (arith, (each (suc i) d (omega arith)).few, steps_of_one (get_or newer i d), few)) in
-    omega (arith, rest, (each 0 [] (omega arith)).few, few, within)
+    grind (arith, sum_by-le retire_steps_of most newer (λ i d below. grind (arith, each (suc i) d)), each 0 [])
 
 -- with one more a log with room owes no more than its slots may need
 pub few_begun : {log : LogValue} → IsLog log → HasRoom log → (numbers : List ℕ) → length numbers ≤ limit_of log.shape.format
     → log.retire_steps_left + retire_steps_of numbers ≤ most_retire_steps log.shape.format * log.shape.slots
-few_begun {log} is room numbers few = from (limit_of log.shape.format + 2) (omega arith)
-  where
-    from : (most : ℕ) → limit_of log.shape.format + 2 ≤ most → log.retire_steps_left + retire_steps_of numbers ≤ most * log.shape.slots
-    from most enough =
-        let none = ap (λ (l : List ℕ). retire_steps_of l) room.none_under_way in
-        let all : most * (length log.waiting + 1) ≤ most * log.shape.slots = mul-le-mul_left most (omega (arith, is.taken, room.free)) in
-        let owed = few_owed log.shape most enough log.waiting is.each (of_oldest log) (λ none. omega (arith, is.alone none)) is.owed_most in
-        omega (arith, owed, none, all, steps_of_one numbers, few, enough)
+few_begun {log} is room numbers few =
+    let most = limit_of log.shape.format + 2 in
+    let all : most * (length log.waiting + 1) ≤ most * log.shape.slots = mul-le-mul_left most (omega (arith, is.taken, room.free)) in
+    let owed = few_owed log.shape most (omega arith) log.waiting is.each (of_oldest log) (λ none. omega (arith, is.alone none)) is.owed_most in
+    grind (arith, owed, all, few, room.none_under_way)
 
 module _ (log : LogValue) where
   -- the record that is durable now is the oldest one, and no turn of it is made
   pub durable_alone : IsLog log → 0 < log.steps_left → length log.waiting ≡ 0
       → (2 < of_oldest (durable_of log)) × (turned_of (durable_of log) ≡ 0)
-  durable_alone is left none =
-      let empty = nil_from_length log.waiting none in
-      let owed = rw empty at (is.alone none) in
-      let some = (is.record_is left).numbers_are.some in
-      rw empty (omega (arith, owed, steps_of_one log.under_way, some), omega (arith, owed, steps_of_one log.under_way, some))
+  durable_alone is left none = grind (arith, is.alone, is.record_is)
 
   -- or the oldest one stays it
   pub durable_more : 0 < length log.waiting
       → (of_oldest (durable_of log) ≡ of_oldest log) × (turned_of (durable_of log) ≡ turned_of log)
-  durable_more some =
-      let more = sum_by-append retire_steps_of (drop 1 log.waiting) (log.under_way ∷ []) in
-      let one = sum_by-cons retire_steps_of log.under_way [] in
-      rw (drop_more log.waiting 0 [] some) (omega (arith, more, one), omega (arith, more, one))
+  durable_more some = grind (arith, sum_by-append, sum_by-cons)
 
--- of the record behind the oldest no block is home, and it is not flushed there
+  -- of the record behind the oldest no block is home, and it is not flushed there
   pub nothing_home : (i : ℕ) → i < turned_of (retired_of log) → ¬ (i < length (get_or (drop 1 log.waiting) 0 []))
   nothing_home i low high = omega (arith, steps_of_all (drop 1 log.waiting), steps_of_one (get_or (drop 1 log.waiting) 0 []), low, high)
 
   pub not_homed : of_oldest (retired_of log) ≢ 1
   not_homed one = omega (arith, steps_of_all (drop 1 log.waiting), steps_of_one (get_or (drop 1 log.waiting) 0 []), one)
-
--- the next record needs all its retire steps
-next_left : (shape : Shape) (newer : List (List ℕ)) → All (AreInside shape) newer
-    → oldest_at newer 0 + sum_by retire_steps_of (drop 1 newer) ≡ sum_by retire_steps_of newer
-next_left shape [] each = refl
-next_left shape (n ∷ newer) each = omega (arith, steps_of_all (n ∷ newer), steps_of_one n, (each 0 [] (omega arith)).some)
 
 -- as fields have it, the log with the oldest record retired
 pub retired_value : (ahead : Ahead) (shape : Shape) (head : ℕ) (waiting : List (List ℕ)) (turned : ℕ) (kept : AllFirsts) (items : List ℕ)
@@ -211,9 +175,6 @@ pub retired_value : (ahead : Ahead) (shape : Shape) (head : ℕ) (waiting : List
     → value_at ahead shape (head + 1) (drop 1 waiting) 0 (drop 1 kept) items writing dead
     ≡ retired_of (value_at ahead shape head waiting turned kept items writing dead)
 retired_value ahead shape head [] turned kept items writing dead each some = absurd (omega arith)
-retired_value ahead shape head (n ∷ newer) turned kept items writing dead each some =
-    let next : head + 1 + length newer + begun_at writing ≡ head + suc (length newer) + begun_at writing = omega arith in
-    let left : oldest_at newer 0 + (sum_by retire_steps_of (drop 1 newer) + retire_steps_of items)
-    ≡ sum_by retire_steps_of newer + retire_steps_of items = omega
-    (arith, next_left shape newer (λ j d below. each (suc j) d (omega arith))) in
-    cc (next, left)
+retired_value ahead shape head (n ∷ []) turned kept items writing dead each some = grind arith
+retired_value ahead shape head (n ∷ next ∷ newer) turned kept items writing dead each some =
+    grind (arith, each 1 [], steps_of_one next, sum_by-cons retire_steps_of next newer)

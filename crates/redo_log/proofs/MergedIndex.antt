@@ -1,6 +1,6 @@
 -- How an index and a record's rising block numbers merge, the greatest block first.
 use Rattle.std.proofs.Common.{◌≡◌, ◌≢◌, ◌⊎◌, inl, inr, ℕ, suc, ◌+◌, ◌-◌, ◌<◌, ◌≤◌, List, [], ◌∷◌, ◌++◌, length, get_or, take, drop}
-use Rattle.std.proofs.Common.{set, refl, sym, ◌∙◌, ap, append_assoc, arith, Some}
+use Rattle.std.proofs.Common.{set, refl, sym, ◌∙◌, append_assoc, arith, rules, Some}
 use Rattle.std.specs.Prelude.{slice_index, All}
 use Rattle.std.specs.List.{AllPairs, remove_range}
 use Rattle.std.proofs.lemmas.Bool.{cases_eq}
@@ -38,68 +38,70 @@ look_other : (front back : List Copied) (e : Copied) (b : ℕ) → e.block ≢ b
 look_other [] back e b not = grind (arith, nat_tests, not)
 look_other (c ∷ front) back e b not = grind (arith, nat_tests, look_other front back e b not)
 
--- of the first `was` entries `left` are left where this block enters: they are below it, and only an older entry with it goes
-pub record IsLeft (index back : List Copied) (block was left : ℕ) : Type 0 where
-  pub fewer : left ≤ was
-  pub below : (i : ℕ) → i < left → block_at index i < block
-  pub gone : (b : ℕ) → block ≢ b → look (take left index ++ back) b ≡ look (take was index ++ back) b
-
-module _ (index back : List Copied) (was : ℕ) (fits : was ≤ length index) (sorted : IsSorted (take was index ++ back)) where
-  -- those in front rise
-  front_rises : (i j : ℕ) (d : Copied) → i < j → j < was → (get_or index i d).block < (get_or index j d).block
-  front_rises i j d less below =
-      let long = length-take-le was index fits in
-      let front = λ (k : ℕ) (inside : k < was).
-      get_or_append_left (take was index) back d k (omega (arith, inside, long)) ∙ get_or-take was index k d inside in
-      rw (front i (omega arith), front j below) at
-      (sorted i j d less (omega (arith, length-append (take was index) back, long)))
-
-  -- all entries that are left have smaller blocks, or the last one has this block
-  pub is_left : (block left : ℕ) → ((left ≡ was) × (0 < was → block_at index (was - 1) < block))
-      ⊎ ((was ≡ left + 1) × (block_at index left ≡ block)) → IsLeft index back block was left
-  is_left block left (inl all) = record {
-    fewer = omega arith;
-    below = λ i less. grind (arith, front_rises i (was - 1) blank, all);
-    gone = λ b not. rw all.0 refl;
-  }
-  is_left block left (inr one) = record {
-    fewer = omega arith;
-    below = λ i less. omega (arith, front_rises i left blank less (omega arith), one.1);
-    gone = λ b not. rw (one.0, take_more index left blank (omega arith), append_assoc (take left index) (get_or index left blank ∷ []) back)
-        (sym (look_other (take left index) back (get_or index left blank) b (λ same. not (sym one.1 ∙ same))));
-  }
-
-  -- an entry goes behind those that are left
-  module _ (e : Copied) (left : ℕ) (stays : IsLeft index back e.block was left) (above : All (Above e.block) back) where
-    long : length (take left index) ≡ left
-    long = length-take-le left index (omega (arith, stays.fewer, fits))
-
-    pub put_sorted : IsSorted (take left index ++ e ∷ back)
-    put_sorted =
-        let low = All-from_get_or (λ x. x.block < e.block) (take left index) blank (λ i less.
-        rw (get_or-take left index i blank (omega (arith, less, long))) (stays.below i (omega (arith, less, long)))) in
-        pairs_append (λ x. Above x.block) (take left index) (e ∷ back)
-        (λ i j d less below. rw (get_or-take left index i d (omega (arith, less, below, long)), get_or-take left index j d (omega (arith, below, long)))
-            (front_rises i j d less (omega (arith, below, long, stays.fewer))))
-        (AllPairs-cons (λ x. Above x.block) e back above (λ i j d less below.
-            let front = take was index in
-            rw (get_or-append-add front back i d, get_or-append-add front back j d) at
-            (sorted (length front + i) (length front + j) d (omega (arith, less)) (omega (arith, length-append front back, below)))))
-        (λ i d less. All-cons (Above (get_or (take left index) i d).block) e back (low i d less)
-            (λ j f inside. omega (arith, low i d less, above j f inside)))
-
-    pub put_found : look (take left index ++ e ∷ back) e.block ≡ Some (e.slot, e.place)
-    put_found =
-        let at = get_or_at (take left index) e back blank left long in
-        rw at at (look_found (take left index ++ e ∷ back) put_sorted left e.block
-        (omega (arith, length-append (take left index) (e ∷ back), long)) (ap (λ (x : Copied). x.block) at))
-
-    pub put_other : (b : ℕ) → e.block ≢ b → look (take left index ++ e ∷ back) b ≡ look (take was index ++ back) b
-    put_other b not = look_other (take left index) back e b not ∙ stays.gone b not
-
 -- the entry of a number of the record
 abbrev pub entry_of : ℕ → List ℕ → ℕ → Copied
 entry_of slot numbers place = record { block = slice_index numbers place; slot = slot; place = place }
+
+-- of the first `was` entries `left` are left where this block enters: all, which have smaller blocks, or the last one has this block
+abbrev AreLeft : List Copied → ℕ → ℕ → ℕ → Type 0
+AreLeft index block was left = ((left ≡ was) × (0 < was → block_at index (was - 1) < block))
+    ⊎ ((was ≡ left + 1) × (block_at index left ≡ block))
+
+-- a number of the record goes behind those that are left, and before others
+module _ {old : List Copied} {slot : ℕ} {numbers : List ℕ} (index back : List Copied) (was left place : ℕ) (fits : was ≤ length index)
+    (inside : place < length numbers) (entered : Enters slot numbers (place + 1) old (take was index ++ back))
+    (ends : AreLeft index (slice_index numbers place) was left) (above : All (Above (slice_index numbers place)) back) where
+  abbrev e : Copied
+  e = entry_of slot numbers place
+
+  front_rises : (i j : ℕ) (d : Copied) → i < j → j < was → (get_or index i d).block < (get_or index j d).block
+  front_rises i j d less below =
+      let long = length-take-le was index fits in
+      grind (arith, entered.sorted i j d, get_or_append_left (take was index) back d, get_or-take was index, length-append (take was index) back, long)
+
+  long : length (take left index) ≡ left
+  long = length-take-le left index (omega (arith, ends, fits))
+
+  low : All (λ x. x.block < e.block) (take left index)
+  low = All-from_get_or (λ x. x.block < e.block) (take left index) blank (λ i less.
+      grind (arith, get_or-take left index i blank, long, ends, front_rises i left blank, front_rises i (was - 1) blank))
+
+  put_sorted : IsSorted (take left index ++ e ∷ back)
+  put_sorted = pairs_append (λ x. Above x.block) (take left index) (e ∷ back)
+      (λ i j d less below. grind (arith, get_or-take left index i d, get_or-take left index j d, front_rises i j d, below, long, ends))
+      (AllPairs-cons (λ x. Above x.block) e back above (λ i j d less below.
+          let front = take was index in
+          grind (arith, get_or-append-add front back, entered.sorted (length front + i) (length front + j) d, length-append front back, below)))
+      (λ i d less. All-cons (Above (get_or (take left index) i d).block) e back (low i d less)
+          (λ j f inside. omega (arith, low i d less, above j f inside)))
+
+  put_found : look (take left index ++ e ∷ back) e.block ≡ Some (slot, place)
+  put_found =
+      let all = take left index ++ e ∷ back in
+      grind (arith, look_found all put_sorted left e.block, get_or_at (take left index) e back blank left,
+      length-append (take left index) (e ∷ back), long)
+
+  -- only an older entry with its block goes
+  put_other : (b : ℕ) → e.block ≢ b → look (take left index ++ e ∷ back) b ≡ look (take was index ++ back) b
+  put_other b not = look_other (take left index) back e b not ∙ elim ends [
+    | inl all ↦ rw all.0 refl
+    | inr one ↦
+        let c = get_or index left blank in
+        rw (one.0, take_more index left blank (omega arith), append_assoc (take left index) (c ∷ []) back)
+        (sym (look_other (take left index) back c b (λ same. not (sym one.1 ∙ same))))
+  ]
+
+  pub put_enters : Enters slot numbers place old (take left index ++ e ∷ back)
+  put_enters = record {
+    sorted = put_sorted;
+    finds = λ b. elim (cases_eq e.block b) [
+      | inl same ↦ inl (place, omega arith, inside, same, rw (← same) put_found)
+      | inr not ↦ rw (put_other b not) (elim (entered.finds b) [
+        | inl later ↦ search (rules, arith)
+        | inr none ↦ inr (λ k low less. grind (arith, none.0 k, not), none.1)
+      ])
+    ];
+  }
 
 module _ {old : List Copied} {slot : ℕ} {numbers : List ℕ} (rising : IsRising numbers) where
   -- an entry goes to the end of the room, above all numbers that are left
@@ -131,25 +133,11 @@ module _ {old : List Copied} {slot : ℕ} {numbers : List ℕ} (rising : IsRisin
 
   -- the last number that is left, above all entries that are left then
   pub number_enters : (was left before place till to : ℕ) (index : List Copied) → before ≡ place + 1 → till ≡ to + 1
-      → IsLeft index (drop till index) (slice_index numbers place) was left → IsMerging old slot numbers was before till index
+      → AreLeft index (slice_index numbers place) was left → IsMerging old slot numbers was before till index
       → IsMerging old slot numbers left place to (set index to (entry_of slot numbers place))
-  number_enters was left before place till to index one_less room stays merged =
-      let e = entry_of slot numbers place in
-      let back = drop till index in
+  number_enters was left before place till to index one_less room ends merged =
       let fits : was ≤ length index = omega (arith, merged.room, merged.inside) in
-      let above = merged.over place (omega arith) in
-      let sorted = put_sorted index back was fits merged.enters.sorted e left stays above in
-      let found = put_found index back was fits merged.enters.sorted e left stays above in
       let inside : place < length numbers = omega (arith, merged.places, one_less) in
-      goes was before left place till to index e room stays.fewer (omega arith) (omega (arith, merged.room, one_less, room, stays.fewer))
-      (λ some. rising (place - 1) place (omega arith) inside) merged (record {
-        sorted = sorted;
-        finds = λ b. elim (cases_eq (slice_index numbers place) b) [
-          | inl same ↦ inl (place, omega arith, inside, same, rw (← same) found)
-          | inr not ↦ rw (put_other index back was fits merged.enters.sorted e left stays above b not)
-              (elim (merged.enters.finds b) [
-                | inl later ↦ inl (later.0, omega (arith, later.1), later.2, later.3, later.4)
-                | inr none ↦ inr (λ k low less. grind (arith, none.0 k, not), none.1)
-              ])
-        ];
-      })
+      goes was before left place till to index (entry_of slot numbers place) room (omega (arith, ends)) (omega arith)
+      (omega (arith, merged.room, one_less, room, ends)) (λ some. rising (place - 1) place (omega arith) inside) merged
+      (put_enters index (drop till index) was left place fits inside (rw one_less at merged.enters) ends (merged.over place (omega arith)))

@@ -1,6 +1,6 @@
 -- The calls that write a record: what they write, how many they are, and how far it is after each.
-use Rattle.std.proofs.Common.{◌≡◌, ◌≢◌, ◌⊎◌, inr, ℕ, ◌+◌, ◌-◌, ◌<◌, ◌≤◌, refl, arith, ◌*◌, ◌/◌, ◌%◌, List, []}
-use Rattle.std.proofs.Common.{length, sym, ap, subst}
+use Rattle.std.proofs.Common.{◌≡◌, ◌≢◌, ◌⊎◌, ℕ, ◌+◌, ◌-◌, ◌<◌, ◌≤◌, arith, rules, ◌*◌, ◌/◌, ◌%◌, List, []}
+use Rattle.std.proofs.Common.{length, ap}
 use Rattle.std.proofs.lemmas.Bool.Decides.{nat_tests}
 use Rattle.journal.specs.declared.log_format.LogFormat.{LogFormat}
 use Rattle.journal.specs.declared.log_format.LogFormat.TheVariants.{One, Two}
@@ -11,7 +11,7 @@ use Rattle.journal.proofs.Format1Laws.{below_is, above_is}
 use Rattle.redo_log.specs.Value.{steps_for, most_steps}
 use Rattle.redo_log.specs.Stages.{flush_of, written_at, flushed_at}
 use Rattle.redo_log.specs.Calls.{IsFlushDue, Write, Flush, placed, MakesCall}
-use Rattle.std.specs.Prelude.{slice_range, Result, Ok, Err, OnOk, OnErr}
+use Rattle.std.specs.Prelude.{slice_range, Result, OnOk, OnErr}
 use Rattle.std.proofs.lemmas.Result.{on_ok_weaker}
 use Rattle.medium.specs.Medium.{State, Stays, Holds, Within, Gains, Only, Passes, IsSound}
 use Rattle.medium.specs.declared.fault.MediumFault.{MediumFault}
@@ -24,8 +24,7 @@ use Rattle.journal.proofs.Format2Laws as two
 
 -- a good write holds the bytes, and a refused one may
 pub either_way : {P Q : Type 0} (result : Result (Unit {0}) MediumFault) → OnOk result P → OnErr result (Q ⊎ P) → Q ⊎ P
-either_way (Ok done) ok err = inr ok
-either_way (Err fault) ok err = err
+either_way result ok err = grind (arith, ok, err)
 
 -- a write, good or refused
 pub write_makes : (place : ℕ) (bytes written : List ℕ) (old new : State) (result : Result (Unit {0}) MediumFault) → IsSound old
@@ -33,12 +32,9 @@ pub write_makes : (place : ℕ) (bytes written : List ℕ) (old new : State) (re
     → OnErr result (Stays old.content new.content ⊎ Holds place written old.content new.content)
     → Gains place written old.may_leave new.may_leave → Passes fault.Write result old new → MakesCall (Write place bytes) result old new
 write_makes place bytes written old new result sound same ok err sets passes =
-    subst (λ (b : List ℕ). MakesCall (Write place b) result old new) same (record {
-      done = ok;
-      adds = sets;
-      passes = passes;
-      spares = λ first below. spared_write first old new place written sound below passes sets (either_way result ok err);
-    })
+    let spares = λ (first : ℕ) (below : place < first).
+    spared_write first old new place written sound below passes sets (either_way result ok err) in
+    rw (← same) (search rules)
 
 -- a flush, good or refused
 pub flush_makes : (old new : State) (result : Result (Unit {0}) MediumFault) → IsSound old → OnOk result (Only old.content new.may_leave)
@@ -53,8 +49,7 @@ flush_makes old new result sound ok content sets passes = record {
 
 -- there is a commit behind the blocks
 pub parts_more : (format : LogFormat) (n : ℕ) → n + 1 ≤ (layout_of format).parts n
-parts_more One n = omega arith
-parts_more Two n = omega arith
+parts_more format n = grind arith
 
 -- the data places stand behind the descriptors, and before the commit
 module _ (numbers bytes : List ℕ) (i p : ℕ) (below : i < length numbers) where
@@ -66,22 +61,14 @@ module _ (numbers bytes : List ℕ) (i p : ℕ) (below : i < length numbers) whe
 
   pub data_offset : (format : LogFormat) → p + 1 + length numbers ≡ (layout_of format).parts (length numbers) + i
       → (layout_of format).offset (length numbers) p ≡ first_data_of format + i
-  data_offset One is = omega (arith, is, one.offset_early (length numbers) p (omega (arith, is, below)))
-  data_offset Two is =
-      omega (arith, is, two.offset_place (length numbers) p (omega (arith, is)) (omega (arith, is, below)))
+  data_offset One is = grind (arith, one.parts)
+  data_offset Two is = grind (arith, two.parts)
 
   pub data_part : (format : LogFormat) (stamp : ℕ) → p + 1 + length numbers ≡ (layout_of format).parts (length numbers) + i
       → placed format stamp (slice_range bytes (512 * i) (512 * i + 512)) ≡ (layout_of format).part stamp (entries_of numbers bytes) p
-  data_part One stamp is =
-      let i_is : p - 1 ≡ i = omega (arith, is) in
-      rw (one.part_place stamp (entries_of numbers bytes) p (omega (arith, is)) (omega (arith, is, below, many)), i_is) (sym block_is)
+  data_part One stamp is = let i_is : p - 1 ≡ i = omega (arith, is) in grind (arith, one.parts, block_is, many)
   data_part Two stamp is =
-      let i_is : p - (length (entries_of numbers bytes) + 29) / 30 ≡ i = omega (arith, is, many) in
-      rw (
-        two.part_place stamp (entries_of numbers bytes) p (omega (arith, is, many)) (omega (arith, is, below, many)),
-        i_is,
-        block_is,
-      ) refl
+      let i_is : p - (length (entries_of numbers bytes) + 29) / 30 ≡ i = omega (arith, is, many) in grind (arith, two.parts, block_is, many)
 
 -- so the write of a block to its data place is that of the part
 pub block_makes : (shape : Shape) (stamp : ℕ) (numbers bytes : List ℕ) (i p slot place : ℕ) (old new : State)
@@ -113,8 +100,7 @@ written_is e made = grind (arith, nat_tests)
 
 -- the steps are a call for each part, a flush, and one for the early parts where there are any
 pub steps_are : (format : LogFormat) (n : ℕ) → steps_for format n ≡ (layout_of format).parts n + 1 + flush_of ((layout_of format).early n)
-steps_are One n = omega (arith, flush_of_is (n + 1))
-steps_are Two n = omega (arith, flush_of_is 0)
+steps_are format n = grind (arith, flush_of_is)
 
 module _ (e parts : ℕ) (late : e < parts) where
   -- once all are written the early ones are flushed
@@ -135,22 +121,16 @@ module _ (e parts : ℕ) (late : e < parts) where
   -- the early flush
   pub early_written : (made next : ℕ) → next ≡ made + 1 → 0 < e → made ≡ e
       → (written_at e next ≡ written_at e made) × (flushed_at e next ≡ written_at e made)
-  early_written made next one some is = (
-    omega (arith, written_is e made, written_is e next, flush_of_is e, one, some, is),
-    omega (arith, written_is e made, written_is e next, one, is),
-  )
+  early_written made next one some is = grind (arith, written_is e made, written_is e next, flush_of_is e)
 
   -- a part is written
   pub part_written : (made next : ℕ) → next ≡ made + 1 → (e ≤ 0) ⊎ (made ≢ e)
       → (written_at e next ≡ written_at e made + 1) × (flushed_at e next ≡ flushed_at e made)
-  part_written made next one not = (
-    omega (arith, written_is e made, written_is e next, flush_of_is e, one, not),
-    omega (arith, written_is e made, written_is e next, one, not),
-  )
+  part_written made next one not = grind (arith, written_is e made, written_is e next, flush_of_is e, not)
 
 -- nothing is written at first
 pub none_written : (e made : ℕ) → made ≡ 0 → (written_at e made ≡ 0) × (flushed_at e made ≡ 0)
-none_written e made none = (omega (arith, written_is e made, none), omega (arith, written_is e made, none))
+none_written e made none = grind (arith, written_is e made)
 
 -- a flush is due, or it is not
 pub due_or_not : (L : Layout) (n made : ℕ) → IsFlushDue L n made ⊎ (¬ IsFlushDue L n made)
@@ -158,10 +138,8 @@ due_or_not L n made = grind arith
 
 -- the limit of steps
 pub few_steps_for : (format : LogFormat) (n : ℕ) → n ≤ limit_of format → steps_for format n ≤ most_steps format
-few_steps_for One n few = omega (arith, few)
-few_steps_for Two n few = omega (arith, few)
+few_steps_for format n few = grind (arith, few)
 
 -- a record needs steps
 pub steps_some : (format : LogFormat) (n : ℕ) → 0 < steps_for format n
-steps_some One n = omega arith
-steps_some Two n = omega arith
+steps_some format n = grind arith

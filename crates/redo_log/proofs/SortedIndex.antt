@@ -1,12 +1,10 @@
 -- What a search finds among entries that are sorted by block, and what is left of them without a slot.
-use Rattle.std.proofs.Common.{◌≡◌, ◌≢◌, inl, inr, ℕ, zero, suc, ◌<◌, ◌≤◌, List, [], ◌∷◌, length, get_or, if◌then◌else◌, Some}
-use Rattle.std.proofs.Common.{None, Less, Greater, refl, sym, ap, arith}
+use Rattle.std.proofs.Common.{◌≡◌, ◌≢◌, ℕ, suc, ◌-◌, ◌<◌, ◌≤◌, List, [], ◌∷◌, length, get_or, if◌then◌else◌, Some}
+use Rattle.std.proofs.Common.{None, Less, Greater, refl, ap, arith}
 use Rattle.std.specs.Prelude.{Bool, true, false, ◌==◌}
 use Rattle.std.specs.List.{filter}
 use Rattle.std.specs.List.Sorted.{IsNonDecreasingBy, IsPartitionPoint}
 use Rattle.std.specs.Ordering.{nat_cmp, ordering_index}
-use Rattle.std.proofs.lemmas.Cmp.{ranked}
-use Rattle.std.proofs.lemmas.Bool.{cases_lt}
 use Rattle.std.proofs.lemmas.Bool.Decides.{nat_tests}
 use Rattle.std.proofs.lemmas.List.Elements.{All-filter}
 use Rattle.redo_log.specs.declared.index.Copied.{Copied}
@@ -29,10 +27,9 @@ look-absent (c ∷ index) block none =
 pub look_found : (index : List Copied) → IsSorted index → (at block : ℕ) → at < length index → block_at index at ≡ block
     → look index block ≡ Some ((get_or index at blank).slot, (get_or index at blank).place)
 look_found [] sorted at block below is = absurd (omega (arith, below))
-look_found (c ∷ index) sorted zero block below is = grind (arith, nat_tests, is)
-look_found (c ∷ index) sorted (suc at) block below is =
-    let rest = look_found index (λ i j d less inside. sorted (suc i) (suc j) d (omega arith) (omega arith)) at block (omega arith) is in
-    grind (arith, nat_tests, sorted 0 (suc at) blank, rest)
+look_found (c ∷ index) sorted at block below is =
+    let rest = look_found index (λ i j d less inside. sorted (suc i) (suc j) d (omega arith) (omega arith)) (at - 1) block in
+    grind (arith, nat_tests, sorted 0 at blank, rest, is)
 
 -- or a binary search ends between those below it and those above it
 pub look_parted : (index : List Copied) → IsSorted index → (block at : ℕ)
@@ -44,10 +41,7 @@ look_parted index sorted block at parted =
     let block_of = λ (k : ℕ). (get_or index k d).block in
     let rise : block_of i ≤ block_of j = grind (arith, sorted i j d, λ (same : i ≡ j). ap block_of same) in
     grind (arith, nat_tests) in
-    look-absent index block (λ j less same. elim (cases_lt j at) [
-      | inl before ↦ omega (arith, same, ranked _ block _ (sym ((parted rising).0 j blank (omega arith) before)))
-      | inr behind ↦ omega (arith, same, ranked _ block _ (sym ((parted rising).1 j blank behind less)))
-    ])
+    look-absent index block (λ j less same. grind (arith, nat_tests, (parted rising).0 j blank, (parted rising).1 j blank, same))
 
 -- the entry's block is above this one
 abbrev pub Above : ℕ → Copied → Type 0

@@ -96,9 +96,3 @@ pub record CallsUpTo {X E : Type 0} (count sends flushes : ℕ) (result : Result
   pub exact : OnOk result (new.calls ≡ old.calls + count)
   pub failures : new.failures ≡ (if is_ok result then old.failures else old.failures + 1)
   pub size : new.size ≡ old.size
-
--- A medium comes after what it was, by calls alone, and they do what this says.
-pub record Makes {M : Type 0} (Follows : M → M → Type 0) (Done : Type 0) (old new : M)
-    : Type 0 where
-  pub makes : Done
-  pub follows : Follows old new

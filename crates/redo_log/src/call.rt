@@ -6,7 +6,7 @@ ghost use Rattle.journal.specs.Layout.{part_at};
 ghost use Rattle.journal.specs.Record.{entries_of};
 ghost use Rattle.journal.specs.Formats.{layout_of};
 ghost use Rattle.redo_log.specs.Stages.{IsRecord, written_at};
-ghost use Rattle.redo_log.specs.Calls.{Write, placed, Makes, MakesCall, MakesNext};
+ghost use Rattle.redo_log.specs.Calls.{Write, placed, MakesCall, MakesNext};
 
 use journal::{
     LogFormat, Super, copy_place, data_sector2, early, part, parts, slot_of, slot_place,
@@ -51,9 +51,9 @@ pub(crate) fn make_next<M: Medium>(
     requires record { IsRecord (shape_of sizes.now) stamp numbers.now }
     requires size { length bytes.now ≡ 512 * length numbers.now }
     requires fits { sectors_of (shape_of sizes.now) ≤ (M.state m.old).size }
-    ensures { Makes M.follows (MakesNext (shape_of sizes.now) stamp
-        (entries_of numbers.now bytes.now) made result (M.state m.old) (M.state m.new))
-        m.old m.new }
+    ensures makes { MakesNext (shape_of sizes.now) stamp (entries_of numbers.now bytes.now) made
+        result (M.state m.old) (M.state m.new) }
+    ensures follows { M.follows m.old m.new }
 {
     let count = numbers.len();
     let early = early(sizes.format, count);
@@ -77,10 +77,10 @@ fn write_part<M: Medium>(
     requires size { length bytes.now ≡ 512 * length numbers.now }
     requires inside { p < (layout_of sizes.now.format).parts (length numbers.now) }
     requires fits { sectors_of (shape_of sizes.now) ≤ (M.state m.old).size }
-    ensures { Makes M.follows (MakesCall (Write (part_at (layout_of sizes.now.format)
-        (shape_of sizes.now) stamp (length numbers.now) p) ((layout_of sizes.now.format).part stamp
-        (entries_of numbers.now bytes.now) p)) result (M.state m.old) (M.state m.new))
-        m.old m.new }
+    ensures makes { MakesCall (Write (part_at (layout_of sizes.now.format) (shape_of sizes.now)
+        stamp (length numbers.now) p) ((layout_of sizes.now.format).part stamp
+        (entries_of numbers.now bytes.now) p)) result (M.state m.old) (M.state m.new) }
+    ensures follows { M.follows m.old m.new }
 {
     let slot = slot_of(stamp, sizes.slots);
     let first = parts(sizes.format, numbers.len()) - 1 - numbers.len();
@@ -109,8 +109,9 @@ fn write_block<M: Medium>(
 ) -> Result<(), MediumFault>
     requires size { length block.now ≡ 512 }
     requires inside { place < (M.state m.old).size }
-    ensures { Makes M.follows (MakesCall (Write place (placed format stamp block.now)) result
-        (M.state m.old) (M.state m.new)) m.old m.new }
+    ensures makes { MakesCall (Write place (placed format stamp block.now)) result
+        (M.state m.old) (M.state m.new) }
+    ensures follows { M.follows m.old m.new }
 {
     match format {
         LogFormat::One => {

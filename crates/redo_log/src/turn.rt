@@ -32,8 +32,9 @@ impl Turn {
         ensures makes { MakesTurn self.now result (M.state m.old) (M.state m.new) }
         ensures counts { CallsUpTo (calls_of self.now) (sends_of self.now) (flushes_of self.now)
             result (M.state m.old) (M.state m.new) }
-        ensures follows { M.follows m.old m.new × ((end : ℕ) → ReadsBefore end self.now
-            → LooksOnly (λ s. s < end) (M.state m.old) (M.state m.new)) }
+        ensures follows { M.follows m.old m.new }
+        ensures looks { (end : ℕ) → ReadsBefore end self.now
+            → LooksOnly (λ s. s < end) (M.state m.old) (M.state m.new) }
     {
         match self {
             Turn::Copy(from, to, first) => copy_sector(m, *from, *to, first),
@@ -56,8 +57,8 @@ fn copy_sector<M: Medium>(
         WritesSector to bytes (Holds to bytes (M.state m.old).content (M.state m.new).content)
         result (M.state m.old) (M.state m.new) }
     ensures counts { CallsUpTo 2 1 0 result (M.state m.old) (M.state m.new) }
-    ensures follows { M.follows m.old m.new
-        × LooksOnly (λ s. s ≡ from) (M.state m.old) (M.state m.new) }
+    ensures follows { M.follows m.old m.new }
+    ensures looks { LooksOnly (λ s. s ≡ from) (M.state m.old) (M.state m.new) }
 {
     let mut sector = [0; 512];
     m.read(from, &mut sector)?;
@@ -73,8 +74,8 @@ fn write_through<M: Medium>(m: &mut M, place: u64, sector: &[u8; 512]) -> Result
         × Only (M.state m.new).content (M.state m.new).may_leave)
         result (M.state m.old) (M.state m.new) }
     ensures counts { CallsUpTo 2 2 1 result (M.state m.old) (M.state m.new) }
-    ensures follows { M.follows m.old m.new
-        × ((M.state m.new).looked ≡ (M.state m.old).looked) }
+    ensures follows { M.follows m.old m.new }
+    ensures looks { (M.state m.new).looked ≡ (M.state m.old).looked }
 {
     m.write(place, sector)?;
     m.flush()

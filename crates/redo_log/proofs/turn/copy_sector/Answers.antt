@@ -14,12 +14,10 @@ returns-clause-writes g c =
     (rw c.in_ok-read.ensures.ok at c.put_first.ensures) c.read.ensures.sets c.write.ensures.sets in
     search rules
 
-pub returns-clause-follows : goal.returns-clause-follows
-returns-clause-follows g c =
+pub returns-clause-looks : goal.returns-clause-looks
+returns-clause-looks g c =
     let old = g.M.Medium.state c.args.m.now in
     let mid = g.M.Medium.state c.read.new.self in
-    let new = g.M.Medium.state c.write.new.self in (
-      g.met.M.Medium.follows_through c.args.m.now c.read.new.self c.write.new.self c.read.ensures.follows.0 c.write.ensures.follows,
-      looks_joined (λ s. s ≡ c.args.from) old mid new c.read.ensures.follows.1
-          (write_looks (λ s. s ≡ c.args.from) mid new c.write.ensures.passes),
-    )
+    let new = g.M.Medium.state c.write.new.self in
+    looks_joined (λ s. s ≡ c.args.from) old mid new c.read.ensures.follows.1
+    (write_looks (λ s. s ≡ c.args.from) mid new c.write.ensures.passes)

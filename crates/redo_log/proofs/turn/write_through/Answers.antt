@@ -11,11 +11,8 @@ returns-clause-writes g c =
     c.flush.ensures.passes c.write.ensures.sets c.flush.ensures.sets in
     search rules
 
-pub returns-in_err-write-clause-follows : goal.returns-in_err-write-clause-follows
-returns-in_err-write-clause-follows g c = (c.write.ensures.follows, c.write.ensures.passes.looked_stays (λ e. cc e))
+pub returns-in_err-write-clause-looks : goal.returns-in_err-write-clause-looks
+returns-in_err-write-clause-looks g c = c.write.ensures.passes.looked_stays (λ e. cc e)
 
-pub returns-clause-follows : goal.returns-clause-follows
-returns-clause-follows g c = (
-  g.met.M.Medium.follows_through c.args.m.now c.write.new.self c.flush.new.self c.write.ensures.follows c.flush.ensures.follows,
-  c.flush.ensures.passes.looked_stays (λ e. cc e) ∙ c.write.ensures.passes.looked_stays (λ e. cc e),
-)
+pub returns-clause-looks : goal.returns-clause-looks
+returns-clause-looks g c = c.flush.ensures.passes.looked_stays (λ e. cc e) ∙ c.write.ensures.passes.looked_stays (λ e. cc e)

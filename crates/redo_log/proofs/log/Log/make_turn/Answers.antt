@@ -31,7 +31,7 @@ returns-clause-brings g c =
         cuts = cuts;
         moments = weaker _ (λ _. Unit {0}) old new (λ image left. tt) spares.moments;
         spares = spares;
-        looks = c.make.ensures.follows.1 (first_home log.shape) next.reads;
+        looks = c.make.ensures.looks (first_home log.shape) next.reads;
       };
       dead = λ view holds. dead_held holds new (g.met.M.Medium.sound c.make.new.m) size (cuts view holds);
       counted = λ view holds then stepped.
