@@ -1,6 +1,8 @@
 //! The caching mode page, and the mode data that has it.
 ghost use Rattle.std.specs.Prelude.{◌≡◌, ℕ, Bool, ◌++◌, IfOk, OnOk, OnErr};
-ghost use Rattle.spec.specs.ModePage.{mode_header, caching_page, mode_data, mode_sense_answer};
+ghost use Rattle.spec.specs.Judging.{judged};
+ghost use Rattle.spec.specs.Commands.{mode_sense_tests};
+ghost use Rattle.spec.specs.ModePage.{mode_header, caching_page, mode_data};
 ghost use Rattle.spec.specs.ModePage.{mode_select_answer, selected_bit};
 ghost use Rattle.pages.specs.Mode.{CountsItself, Selects};
 
@@ -63,7 +65,7 @@ pub fn mode_sense(
     wce: bool,
     to: &mut [u8; 24],
 ) -> Result<usize, Sense>
-    ensures answer { result ≡ mode_sense_answer control page subpage }
+    ensures answer { result ≡ judged (mode_sense_tests control page subpage) 24 }
     ensures data { OnOk result (to.new ≡ mode_data control wce) }
     ensures counted { IfOk result (CountsItself to.new) }
     ensures refused { OnErr result (to.new ≡ to.old) }

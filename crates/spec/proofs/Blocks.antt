@@ -1,9 +1,7 @@
 -- What a write makes of an array, block by block.
-use Rattle.std.proofs.Common.{◌≡◌, ◌≤◌, ◌<◌, ℕ, ◌+◌, ◌-◌, true, false, List, [], ◌∷◌, ◌++◌, length, get_or, arith, refl, ◌∙◌, ap}
+use Rattle.std.proofs.Common.{◌≡◌, ◌≤◌, ◌<◌, ℕ, true, false, arith}
 use Rattle.std.specs.Prelude.{nat_le}
 use Rattle.std.proofs.lemmas.Bool.Decides.{nat_tests}
-use Rattle.std.proofs.lemmas.List.{get_or_past, get_or_default}
-use Rattle.spec.specs.Blocks.{Array, Write, apply, after}
 
 is_in : (a b : ℕ) → a ≤ b → nat_le a b ≡ true
 is_in a b le = grind (arith, nat_tests, le)

@@ -5,8 +5,8 @@ use Rattle.std.specs.Prelude.{None, Result, Ok, Err}
 use Rattle.spec.specs.declared.wrapper.Cbw.{Cbw}
 use Rattle.spec.specs.declared.way.Way.{Way}
 use Rattle.spec.specs.declared.case.Case.{Case}
-use Rattle.spec.specs.declared.case.Case.TheVariants.{C1, C2, C3, C4, C5, C6, C7, C8, C9, C10, C11}
-use Rattle.spec.specs.declared.case.Case.TheVariants.{C12, C13}
+use Rattle.spec.specs.declared.case.Case.TheVariants.{C1, C4, C5, C6, C9, C11}
+use Rattle.spec.specs.declared.case.Case.TheVariants.{C12}
 use Rattle.spec.specs.declared.case.Endpoint.{Endpoint}
 use Rattle.spec.specs.declared.case.Outcome.{Outcome}
 use Rattle.spec.specs.declared.status.Status.{Status}

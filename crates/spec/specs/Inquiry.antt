@@ -1,6 +1,6 @@
 -- INQUIRY data: standard data and vital product data pages (SPC-4, 6.6 and 7.8; SBC-3, block limits
 -- page).
-use Rattle.std.specs.Prelude.{ℕ, ◌+◌, ◌==◌, List, [], ◌∷◌, ◌++◌, replicate, Option, Some, None}
+use Rattle.std.specs.Prelude.{ℕ, ◌==◌, List, [], ◌∷◌, ◌++◌, replicate, Option, Some, None}
 use Rattle.std.specs.Prelude.{if◌then◌else◌}
 use Rattle.byteorder.specs.Endian.{big_bytes}
 use Rattle.spec.specs.Identification.{Identification}

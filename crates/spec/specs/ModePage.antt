@@ -1,10 +1,9 @@
 -- Mode parameters (SPC-4, 7.5) with the caching mode page (SBC-3).
-use Rattle.std.specs.Prelude.{◌+◌, ◌==◌, ◌||◌, ◌&&◌, nat_lt, ℕ, Bool, true, false, List, [], ◌∷◌}
+use Rattle.std.specs.Prelude.{◌==◌, ◌&&◌, ℕ, Bool, true, false, List, [], ◌∷◌}
 use Rattle.std.specs.Prelude.{◌++◌, replicate, bytes_eq, Result, Ok, Err, Option, Some, None}
 use Rattle.std.specs.Prelude.{unwrap_or, if◌then◌else◌}
 use Rattle.spec.specs.Sense.{Sense}
-use Rattle.spec.specs.SenseCodes.{invalid_field_in_cdb, invalid_field_in_parameter_list}
-use Rattle.spec.specs.SenseCodes.{saving_parameters_not_supported}
+use Rattle.spec.specs.SenseCodes.{invalid_field_in_parameter_list}
 
 -- a mode parameter header: mode data length, medium type, device-specific parameter, block
 -- descriptor length
@@ -30,14 +29,6 @@ wce_of control wce = if control == 0 then wce else true
 -- what MODE SENSE sends, 24 bytes; the device-specific parameter is the bit DPOFUA
 abbrev pub mode_data : ℕ → Bool → List ℕ
 mode_data control wce = mode_header 0x17 0x10 ++ caching_page (wce_of control wce)
-
--- the number of bytes that MODE SENSE sends: of the caching page, or of all pages, which are that
--- one; no other page or subpage is there, and page control 3, saved values, is not supported
-abbrev pub mode_sense_answer : ℕ → ℕ → ℕ → Result ℕ Sense
-mode_sense_answer control page subpage =
-    if ((page == 0x08) || (page == 0x3f)) && (subpage == 0x00)
-    then (if nat_lt control 3 then Ok 24 else Err saving_parameters_not_supported)
-    else Err invalid_field_in_cdb
 
 -- the bit WCE that the bytes behind a good header carry: none, or that of a caching page
 abbrev pub page_bit : List ℕ → Result (Option Bool) Sense

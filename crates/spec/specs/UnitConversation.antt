@@ -1,13 +1,13 @@
 -- The conversation of a host and a unit, by the rules of the unit, and the write that is in
 -- progress in an event of it.
-use Rattle.std.specs.Prelude.{◌≡◌, ℕ, List, ◌+◌, Bool, true, Option, None, ◌==◌, ◌&&◌, nat_le}
+use Rattle.std.specs.Prelude.{◌≡◌, ℕ, List, Bool, Option, None, ◌==◌, ◌&&◌, nat_le}
 use Rattle.std.specs.Prelude.{false, if◌then◌else◌, ◌++◌, length, take}
 use Rattle.spec.specs.declared.way.Way.{Way}
 use Rattle.spec.specs.Rules.{Intention, UnitState, intention, CarriesOut, Ticks, write_in_progress}
 use Rattle.spec.specs.Blocks.{Write}
 use Rattle.spec.specs.declared.event.Event.{Event}
 use Rattle.spec.specs.declared.event.Answer.{Answer}
-use Rattle.spec.specs.Exchange.{Line, finished, sending, Script, taking}
+use Rattle.spec.specs.Exchange.{Line, Script, taking}
 use Rattle.spec.specs.Conversation.{Conversation, Step, Run}
 use Rattle.spec.specs.Cases.{size_of_way}
 use Rattle.spec.specs.declared.way.Way.TheVariants as ways
