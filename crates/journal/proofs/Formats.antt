@@ -12,7 +12,7 @@ use Rattle.journal.proofs.EntriesTwo.{commit_counts}
 use Rattle.journal.proofs.Format1Laws.{parts as parts1, inside1, apart1, carries1, one_stamp1, zeros1, commit_of}
 use Rattle.journal.proofs.Format2Laws.{parts as parts2, inside2, apart2, carries2, one_stamp2, zeros2}
 use Rattle.journal.proofs.WholeOne.{record_read as read1}
-use Rattle.journal.proofs.WholeTwo.{record_read as read2}
+use Rattle.journal.proofs.SlotTwo.{record_read as read2}
 
 pub format1_laws : Laws format1
 format1_laws = record {

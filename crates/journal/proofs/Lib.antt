@@ -20,7 +20,6 @@ pub mod RetiredRecord
 pub mod SectorsRead
 pub mod Slots
 pub mod StandingLaws
-pub mod WholeTwo
 pub mod SlotTwo
 pub mod DescribedNumbers
 pub mod Wholeness

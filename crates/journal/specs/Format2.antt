@@ -38,10 +38,13 @@ entry_in image at i = (
       ++ drop 8 (image (at + (8 + i))),
 )
 
+-- count entries of it
+abbrev pub entries_at : Image → ℕ → ℕ → List Entry
+entries_at image at count = map (entry_in image at) (range_with_len 0 count)
+
 -- the only record that may be whole there
 abbrev pub record_in : Image → ℕ → List Entry
-record_in image at =
-    map (entry_in image at) (range_with_len 0 (number_in (image (at + 248)) 2))
+record_in image at = entries_at image at (number_in (image (at + 248)) 2)
 
 abbrev pub format2 : Layout
 format2 = record {

@@ -13,7 +13,6 @@ pub mod Layout
 pub mod LayoutLaws
 pub mod Format1
 pub mod Format2
-pub mod SlotTwo
 pub mod SlotReads
 pub mod Reads
 pub mod Formats
