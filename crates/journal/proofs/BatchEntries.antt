@@ -5,7 +5,7 @@ use Rattle.std.specs.Prelude.{slice_range, All}
 use Rattle.std.proofs.lemmas.List.{length-take, length-drop, length-map, take-take, take_all, ext_get_or}
 use Rattle.journal.specs.SectorsTwo.{firsts_of, chunk_of}
 use Rattle.std.proofs.lemmas.Grind.{common_steps}
-use Rattle.journal.proofs.RecordTwo.{first_at, numbers_of_chunk, descriptor_spelled}
+use Rattle.journal.proofs.RecordTwo.{first_at, numbers_of_chunk}
 use Rattle.journal.specs.Record.{Entry, numbers_of, entries_from, entries_of}
 
 numbers_from : (k : ℕ) (numbers bytes : List ℕ) → numbers_of (entries_from k numbers bytes) ≡ numbers
@@ -76,4 +76,4 @@ pub firsts_of_batch : (numbers bytes : List ℕ) (firsts : List (List ℕ)) (j :
 firsts_of_batch numbers bytes firsts j = firsts_of_part numbers bytes firsts 30 (30 * j)
 
 pub ruleset batch =
-    (numbers_of_batch, length_of_batch, entry_of_batch, firsts_of_batch, numbers_of_chunk, descriptor_spelled)
+    (numbers_of_batch, length_of_batch, entry_of_batch, firsts_of_batch, numbers_of_chunk)

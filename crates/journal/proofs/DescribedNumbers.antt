@@ -43,8 +43,11 @@ module _ (image : Image) (at n : ℕ) where
 
   -- entry e of descriptor j
   entry_of : (j e : ℕ) → e < 30 → 30 * j + e < n → get_or (entries_at image at n) (30 * j + e) (0, [])
-      ≡ (number_in (image (at + j)) (4 + 2 * e), slice_range (image (at + j)) (40 + 16 * e) (40 + 16 * e + 8)
-      ++ drop 8 (image (at + (8 + (30 * j + e)))))
+      ≡ (
+        number_in (image (at + j)) (4 + 2 * e),
+        slice_range (image (at + j)) (40 + 16 * e) (40 + 16 * e + 8)
+            ++ drop 8 (image (at + (8 + (30 * j + e)))),
+      )
   entry_of j e few inside =
       let quotient : (30 * j + e) / 30 ≡ j = omega arith in
       let remainder : (30 * j + e) % 30 ≡ e = omega arith in

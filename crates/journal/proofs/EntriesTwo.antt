@@ -11,21 +11,17 @@ use Rattle.std.proofs.lemmas.Grind.{common_steps, flat_map-append}
 use Rattle.byteorder.specs.Endian.{little_bytes}
 use Rattle.byteorder.specs.Numbers.{little_number-reads_back, little_from-take}
 use Rattle.journal.specs.Entry.{Entry}
+use Rattle.journal.proofs.SectorNumbers.{commit_says}
 use Rattle.journal.proofs.Pieces.{length_pieces, piece_at}
-use Rattle.journal.specs.Spelling.{number_in}
+use Rattle.journal.specs.Spelling.{padded, number_in}
 use Rattle.journal.specs.Sectors.{IsRising}
-use Rattle.journal.specs.SectorsTwo.{padded, entry_bytes, place_bytes, commit_bytes, entries_here, AreEntriesTwo}
+use Rattle.journal.specs.SectorsTwo.{entry_bytes, place_bytes, entries_here, AreEntriesTwo}
 use Rattle.journal.specs.SectorsTwo.{IsDescriptorTwo, IsCommitTwo}
 
 -- the stamp in a data place, which begins with it
 pub place_says : (s : ℕ) (block : List ℕ) → s < 2 ^ 64 → number_in (place_bytes s block) 0 ≡ s
 unfolding number_in place_bytes
 place_says s block small = little_number-reads_back 8 s [] small
-
--- the count in a commit
-pub commit_counts : (s n : ℕ) → n < 2 ^ 64 → number_in (commit_bytes s n) 2 ≡ n
-unfolding number_in commit_bytes padded
-commit_counts s n small = search rules
 
 -- the bytes of a block behind its first 8
 pub place_rest : (s : ℕ) (block : List ℕ) → drop 8 (place_bytes s block) ≡ drop 8 block
@@ -110,13 +106,8 @@ entries_cut numbers items firsts j few used rising small are each sized =
     search rules
 
 -- the numbers of a commit
-module _ (stamp count : ℕ) (bytes : List ℕ) (c : IsCommitTwo stamp count bytes) where
-  pub commit_stamp : number_in bytes 1 ≡ stamp
-  unfolding number_in commit_bytes padded
-  commit_stamp = rw c.spelled (little_number-reads_back 8 stamp [] (omega (arith, c.most)))
-
-  pub commit_count : number_in bytes 2 ≡ count
-  commit_count = rw c.spelled (commit_counts stamp count (omega (arith, c.few)))
+pub commit_count : (stamp count : ℕ) (bytes : List ℕ) → IsCommitTwo stamp count bytes → number_in bytes 2 ≡ count
+commit_count stamp count bytes c = (commit_says c).1 (omega arith)
 
 -- what the bytes of a descriptor say
 module _ {stamp count j : ℕ} {numbers : List ℕ} {firsts : List (List ℕ)} {bytes : List ℕ}
@@ -180,5 +171,3 @@ IsDescriptorTwo-one bytes a b m n i j ns ms fs gs d e =
     let numbers = numbers_are e (length ns) ns here refl (λ x below. sym (number_is d x below)) in
     let firsts = firsts_are e (length ns) fs here d.entries.each (λ x below. sym (first_is d x below)) in
     grind (arith, x, y)
-
-pub ruleset commits = (commit_stamp, commit_count)

@@ -7,6 +7,7 @@ use Rattle.std.proofs.lemmas.List.{length-map}
 use Rattle.journal.specs.Spelling.{number_in}
 use Rattle.journal.specs.Sectors.{IsDescriptor, IsCommit}
 use Rattle.journal.specs.Record.{Entry, numbers_of, block_of}
+use Rattle.journal.specs.Layout.{by_part}
 use Rattle.journal.specs.LayoutLaws.{IsRecordOf}
 use Rattle.journal.specs.Format1.{format1, offset1, part1, Carries1, commit1, descriptor1}
 use Rattle.journal.proofs.SectorNumbers.{descriptor_says, commit_says}
@@ -17,33 +18,27 @@ below_is a b lt = grind (arith, nat_tests, lt)
 pub above_is : (a b : ℕ) → b ≤ a → nat_lt a b ≡ false
 above_is a b le = grind (arith, nat_tests, le)
 
+-- the parts of a record
+module _ {X : Type 0} (descriptor place : ℕ → X) (commit : X) (d n p : ℕ) where
+  pub by_descriptor : p < d → by_part descriptor place commit d n p ≡ descriptor p
+  unfolding by_part
+  by_descriptor below = rw (below_is p d below)
+
+  pub by_place : d ≤ p → p < d + n → by_part descriptor place commit d n p ≡ place (p - d)
+  unfolding by_part
+  by_place behind below = rw (above_is p d behind, below_is p (d + n) below)
+
+  pub by_commit : d + n ≤ p → by_part descriptor place commit d n p ≡ commit
+  unfolding by_part
+  by_commit behind = rw (above_is p d (omega arith), above_is p (d + n) behind)
+
+pub ruleset parts = (by_descriptor, by_place, by_commit)
+
 pub offset_early : (n p : ℕ) → p < n + 1 → offset1 n p ≡ p
-unfolding offset1
-offset_early n p below = rw (below_is p (n + 1) below)
-
-pub offset_commit : (n p : ℕ) → n + 1 ≤ p → offset1 n p ≡ 49
-unfolding offset1
-offset_commit n p behind = rw (above_is p (n + 1) behind)
-
-pub part_descriptor : (s : ℕ) (entries : List Entry) (p : ℕ) → p < 1 → part1 s entries p ≡ descriptor1 s (numbers_of entries)
-unfolding part1
-part_descriptor s entries p below = rw (below_is p 1 below)
+offset_early n p below = grind (arith, parts)
 
 pub part_place : (s : ℕ) (entries : List Entry) (p : ℕ) → 1 ≤ p → p < length entries + 1 → part1 s entries p ≡ block_of entries (p - 1)
-unfolding part1
-part_place s entries p behind below = rw (above_is p 1 behind, below_is p (length entries + 1) below)
-
-pub part_commit : (s : ℕ) (entries : List Entry) (p : ℕ) → length entries + 1 ≤ p → part1 s entries p ≡ commit1 s (length entries)
-unfolding part1
-part_commit s entries p behind = rw (above_is p 1 (omega arith), above_is p (length entries + 1) behind)
-
-pub ruleset parts = (offset_early, offset_commit, part_descriptor, part_place, part_commit)
-
-pub inside1 : (n p : ℕ) → n ≤ 48 → p < n + 2 → offset1 n p < 50
-inside1 n p few below = grind (arith, parts)
-
-pub apart1 : (n p q : ℕ) → n ≤ 48 → p < n + 2 → q < n + 2 → offset1 n p ≡ offset1 n q → p ≡ q
-apart1 n p q few hp hq e = grind (arith, parts)
+part_place s entries p behind below = grind (arith, parts)
 
 module _ {blocks s : ℕ} {entries : List Entry} (r : IsRecordOf format1 blocks s entries) where
   pub descriptor_of : IsDescriptor s (numbers_of entries) (descriptor1 s (numbers_of entries))
@@ -66,7 +61,9 @@ module _ {blocks s : ℕ} {entries : List Entry} (r : IsRecordOf format1 blocks 
 
 -- a stamp that a sector carries is its second number
 pub carried1 : (o s : ℕ) (bytes : List ℕ) → Carries1 o s bytes → number_in bytes 1 ≡ s
-carried1 o s bytes c = grind (arith, descriptor_says, commit_says, c.descriptor, c.place, c.commit, cases_lt o 1)
+carried1 o s bytes c =
+    let commit = λ (high : 49 ≤ o). (commit_says (c.commit high).1).0 in
+    grind (arith, descriptor_says, commit, c.descriptor, c.place, cases_lt o 1)
 
 pub one_stamp1 : (blocks s t : ℕ) (entries : List Entry) (p : ℕ) → IsRecordOf format1 blocks s entries
     → Carries1 (offset1 (length entries) p) t (part1 s entries p) → t ≡ s

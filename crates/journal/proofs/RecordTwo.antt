@@ -1,30 +1,16 @@
 -- The descriptors of a record of format 2, by its entries.
-use Rattle.std.proofs.Common.{◌≡◌, ℕ, ◌+◌, ◌*◌, ◌<◌, List, [], ◌∷◌, length, get_or, take, drop, refl, sym, ◌∙◌, ap}
+use Rattle.std.proofs.Common.{◌≡◌, ℕ, ◌+◌, ◌*◌, ◌<◌, List, [], length, get_or, take, drop, refl, sym, ◌∙◌, ap}
 use Rattle.std.proofs.Common.{arith}
-use Rattle.std.specs.Prelude.{zip}
-use Rattle.std.specs.List.{flat_map}
 use Rattle.std.proofs.lemmas.Grind.{common_steps}
 use Rattle.std.proofs.lemmas.List.{take-map, drop-map, length-map, length-take-le}
 use Rattle.std.proofs.lemmas.List.Elements.{All-take, All-drop, All-from_get_or}
 use Rattle.std.proofs.Math.ListN.{get_or-map}
 use Rattle.journal.specs.Entry.{Entry, numbers_of}
-use Rattle.journal.specs.SectorsTwo.{entry_bytes, descriptor_bytes, place_bytes, firsts_of, chunk_of}
-use Rattle.journal.specs.SectorsTwo.{spelled_two, IsDescriptorTwo}
+use Rattle.journal.specs.SectorsTwo.{descriptor_bytes, place_bytes, firsts_of, chunk_of}
+use Rattle.journal.specs.SectorsTwo.{IsDescriptorTwo}
 use Rattle.journal.specs.LayoutLaws.{IsRecordOf}
 use Rattle.journal.specs.Format2.{format2}
 use Rattle.journal.proofs.EntriesTwo.{entries_cut}
-
--- the bytes of entries are those of their numbers and first bytes
-entries_same : (es : List Entry) → flat_map entry_bytes (zip (numbers_of es) (firsts_of es)) ≡ flat_map entry_bytes es
-unfolding entry_bytes
-entries_same [] = refl
-entries_same (e ∷ es) = grind (arith, common_steps, entries_same es)
-
--- descriptor j of a record spells its entries from 30 j on
-pub descriptor_spelled : (stamp : ℕ) (es : List Entry) (j : ℕ)
-    → descriptor_bytes stamp es j ≡ spelled_two stamp (length es) j (numbers_of (chunk_of es j)) (firsts_of (chunk_of es j))
-unfolding descriptor_bytes
-descriptor_spelled stamp es j = rw (entries_same (chunk_of es j))
 
 -- the numbers of these entries
 pub numbers_of_chunk : (es : List Entry) (j : ℕ) → numbers_of (chunk_of es j) ≡ take 30 (drop (30 * j) (numbers_of es))
@@ -64,7 +50,7 @@ descriptor_two {stamp = stamp} {es = es} j r used =
     (All-from_get_or (λ (l : List ℕ). length l ≡ 8) (firsts_of chunk) [] (λ i below.
     rw (get_or-map first chunk i (0, []))
     (length-take-le 8 (get_or chunk i (0, [])).1 (omega (arith, sized i (0, []) (omega (arith, below, each))))))) in
-    record { spelled = descriptor_spelled stamp es j; least = r.least; most = r.below; entries = rw long at entries }
+    record { spelled = refl; least = r.least; most = r.below; entries = rw long at entries }
 
 -- a data place is one for its own bytes
 pub place_own : (stamp : ℕ) (block sector : List ℕ) → sector ≡ place_bytes stamp block → sector ≡ place_bytes stamp sector

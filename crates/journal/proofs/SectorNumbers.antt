@@ -7,7 +7,7 @@ use Rattle.journal.specs.Places.{Shape, IsFirstHome}
 use Rattle.journal.specs.declared.log_format.LogFormat.{LogFormat}
 use Rattle.journal.specs.declared.log_format.LogFormat.TheVariants.{One, Two}
 use Rattle.journal.specs.Spelling.{number_in, super_mark, descriptor_mark}
-use Rattle.journal.specs.Sectors.{version_of, IsSuper, IsHead, IsDescriptor, IsCommit}
+use Rattle.journal.specs.Sectors.{version_of, IsSuper, IsHead, IsDescriptor, IsCommitOf}
 use Rattle.journal.specs.SuperFaults.{HasMagic, HasVersion, HasZeroRest}
 use Rattle.journal.proofs.OneSpelling.{spelling_get, spelling-rest}
 
@@ -102,9 +102,9 @@ pub IsHead-one : (a b : ℕ) (bytes : List ℕ) → IsHead a bytes → IsHead b 
 IsHead-one a b bytes h k = sym (head_stamp h) ∙ head_stamp k
 
 -- the stamp of a commit, and its count
-pub commit_says : {stamp count : ℕ} {bytes : List ℕ} → IsCommit stamp count bytes
-    → (number_in bytes 1 ≡ stamp) × (number_in bytes 2 ≡ count)
+pub commit_says : {mark limit stamp count : ℕ} {bytes : List ℕ} → IsCommitOf mark limit stamp count bytes
+    → (number_in bytes 1 ≡ stamp) × (limit ≤ 240 → number_in bytes 2 ≡ count)
 commit_says c = (
   spelling_get 1 _ _ (omega arith) (omega (arith, c.most)) c.spelled,
-  spelling_get 2 _ _ (omega arith) (omega (arith, c.few)) c.spelled,
+  λ low. spelling_get 2 _ _ (omega arith) (omega (arith, c.few, low)) c.spelled,
 )

@@ -16,10 +16,9 @@ use Rattle.journal.specs.Layout.{IsWholeIn}
 use Rattle.journal.specs.Format2.{format2, entry_in, entries_at, record_in, part2, offset2}
 use Rattle.journal.specs.SlotReads.{HasDescriptor, HasPlaces}
 use Rattle.journal.proofs.EntriesTwo.{number_is, first_is, commit_count, place_rest}
-use Rattle.journal.proofs.RecordTwo.{number_at, first_at, descriptor_two, descriptor_spelled, place_own}
+use Rattle.journal.proofs.RecordTwo.{number_at, first_at, descriptor_two, place_own}
 use Rattle.journal.proofs.DescribedNumbers.{read_long, read_entry, chunk_numbers, chunk_firsts}
-use Rattle.journal.proofs.Format2Laws.{parts, offset_descriptor, offset_place, offset_commit, part_descriptor}
-use Rattle.journal.proofs.Format2Laws.{part_place, part_commit}
+use Rattle.journal.proofs.Format1Laws.{parts}
 use Rattle.journal.proofs.Wholeness.{record_of}
 
 -- what is not true is nothing to show
@@ -114,20 +113,12 @@ module _ (shape : Shape) (image : Image) (s n : ℕ) (committed : IsCommitTwo s 
   part_read p = elim (cases_lt p ((length read + 29) / 30)) [
     | inl d ↦
         let it = (described p (omega (arith, long))).2 in
-        cc (
-          offset_descriptor (length read) p d,
-          part_descriptor s read p d,
-          descriptor_spelled s read p,
-          it.spelled,
-          long,
-          chunk_numbers image at n it,
-          chunk_firsts image at n it,
-        )
+        grind (arith, parts, it.spelled, long, chunk_numbers image at n it, chunk_firsts image at n it)
     | inr b ↦ elim (cases_lt p ((length read + 29) / 30 + length read)) [
       | inl d ↦
           let i = p - (length read + 29) / 30 in
-          cc (offset_place (length read) p b d, part_place s read p b d, placed i (omega (arith, long)), rest_of i (omega arith))
-      | inr d ↦ cc (offset_commit (length read) p d, part_commit s read p d, long, committed.spelled)
+          grind (arith, parts, placed i (omega (arith, long)), rest_of i (omega arith))
+      | inr d ↦ grind (arith, parts, long, committed.spelled)
     ]
   ]
 

@@ -1,12 +1,11 @@
 -- Format 1, as a layout: a descriptor and n data places, a flush, a commit, a flush.
-use Rattle.std.specs.Prelude.{◌<◌, ◌≤◌, ℕ, ◌+◌, ◌-◌, List, [], ◌∷◌, length, map, if◌then◌else◌}
-use Rattle.std.specs.Prelude.{nat_lt}
+use Rattle.std.specs.Prelude.{◌<◌, ◌≤◌, ℕ, ◌+◌, List, [], ◌∷◌, length, map}
 use Rattle.std.specs.List.{range_with_len}
 use Rattle.medium.specs.Medium.{Image}
 use Rattle.journal.specs.Spelling.{spelling, number_in, descriptor_mark, commit_mark}
 use Rattle.journal.specs.Sectors.{IsDescriptor, IsCommit}
 use Rattle.journal.specs.Record.{Entry, numbers_of, block_of, entries_in}
-use Rattle.journal.specs.Layout.{Layout}
+use Rattle.journal.specs.Layout.{Layout, by_part}
 
 -- at this offset of a slot these bytes carry this stamp: data places carry none
 pub record Carries1 (o stamp : ℕ) (bytes : List ℕ) : Type 0 where
@@ -14,8 +13,8 @@ pub record Carries1 (o stamp : ℕ) (bytes : List ℕ) : Type 0 where
   pub place : 1 ≤ o → 49 ≤ o
   pub commit : 49 ≤ o → (count : ℕ) × IsCommit stamp count bytes
 
-unfoldable pub offset1 : ℕ → ℕ → ℕ
-offset1 n p = if nat_lt p (n + 1) then p else 49
+abbrev pub offset1 : ℕ → ℕ → ℕ
+offset1 n p = by_part (λ i. i) (λ i. 1 + i) 49 1 n p
 
 abbrev pub commit1 : ℕ → ℕ → List ℕ
 commit1 stamp n = spelling (commit_mark ∷ stamp ∷ n ∷ [])
@@ -23,11 +22,10 @@ commit1 stamp n = spelling (commit_mark ∷ stamp ∷ n ∷ [])
 abbrev pub descriptor1 : ℕ → List ℕ → List ℕ
 descriptor1 stamp numbers = spelling (descriptor_mark ∷ stamp ∷ length numbers ∷ numbers)
 
-unfoldable pub part1 : ℕ → List Entry → ℕ → List ℕ
+abbrev pub part1 : ℕ → List Entry → ℕ → List ℕ
 part1 stamp entries p =
-    if nat_lt p 1 then descriptor1 stamp (numbers_of entries)
-    else (if nat_lt p (length entries + 1) then block_of entries (p - 1)
-    else commit1 stamp (length entries))
+    by_part (λ i. descriptor1 stamp (numbers_of entries)) (block_of entries)
+    (commit1 stamp (length entries)) 1 (length entries) p
 
 -- the block numbers that a descriptor spells
 abbrev pub numbers_in : List ℕ → List ℕ

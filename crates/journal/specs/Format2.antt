@@ -1,13 +1,13 @@
 -- Format 2: ceil(n / 30) descriptors, n data places and a commit, and one flush behind them.
-use Rattle.std.specs.Prelude.{◌≡◌, ◌<◌, ◌≤◌, ℕ, ◌+◌, ◌*◌, ◌-◌, ◌/◌, ◌%◌, ◌^◌, List, ◌++◌, length}
-use Rattle.std.specs.Prelude.{drop, map, slice_range, if◌then◌else◌, nat_lt}
+use Rattle.std.specs.Prelude.{◌≡◌, ◌<◌, ◌≤◌, ℕ, ◌+◌, ◌*◌, ◌/◌, ◌%◌, ◌^◌, List, ◌++◌, length}
+use Rattle.std.specs.Prelude.{drop, map, slice_range}
 use Rattle.std.specs.List.{range_with_len}
 use Rattle.medium.specs.Medium.{Image}
 use Rattle.journal.specs.Spelling.{number_in}
 use Rattle.journal.specs.SectorsTwo.{descriptors_of, descriptor_bytes, place_bytes, commit_bytes}
 use Rattle.journal.specs.SectorsTwo.{IsDescriptorTwo, IsCommitTwo}
 use Rattle.journal.specs.Record.{Entry, block_of}
-use Rattle.journal.specs.Layout.{Layout}
+use Rattle.journal.specs.Layout.{Layout, by_part}
 
 -- At this offset of a slot these bytes carry this stamp: they spell a descriptor or a commit, or
 -- are those of a data place, which carries whatever number it begins with.
@@ -19,16 +19,13 @@ pub record Carries2 (o stamp : ℕ) (bytes : List ℕ) : Type 0 where
   pub commit : 248 ≤ o → (count : ℕ) × IsCommitTwo stamp count bytes
 
 -- where the parts stand, in the order in which they are written: descriptors, data places, commit
-unfoldable pub offset2 : ℕ → ℕ → ℕ
-offset2 n p = if nat_lt p (descriptors_of n) then p
-    else (if nat_lt p (descriptors_of n + n) then 8 + (p - descriptors_of n) else 248)
+abbrev pub offset2 : ℕ → ℕ → ℕ
+offset2 n p = by_part (λ i. i) (λ i. 8 + i) 248 (descriptors_of n) n p
 
-unfoldable pub part2 : ℕ → List Entry → ℕ → List ℕ
+abbrev pub part2 : ℕ → List Entry → ℕ → List ℕ
 part2 stamp entries p =
-    if nat_lt p (descriptors_of (length entries)) then descriptor_bytes stamp entries p
-    else (if nat_lt p (descriptors_of (length entries) + length entries)
-    then place_bytes stamp (block_of entries (p - descriptors_of (length entries)))
-    else commit_bytes stamp (length entries))
+    by_part (descriptor_bytes stamp entries) (λ i. place_bytes stamp (block_of entries i))
+    (commit_bytes stamp (length entries)) (descriptors_of (length entries)) (length entries) p
 
 -- the i-th entry of the record that may stand in the slot from this sector on
 abbrev pub entry_in : Image → ℕ → ℕ → Entry

@@ -122,8 +122,18 @@ returns-else-are_blocks g c =
           untrue (not (rw is at whole.fit.rising, rw is at whole.fit.inside));
       exact = (
         1 + descriptors_of n,
-        rw two (inr (n, commit.1, descriptors_of n, inr (named_by.0.there, λ fit.
-            let one = named_alone image at n s fit.0 fit.1 fit.2 in untrue (not (rw one at fit.3, rw one at fit.4)), refl), refl)),
+        rw two (inr (
+          n,
+          commit.1,
+          descriptors_of n,
+          inr (
+            named_by.0.there,
+            λ fit.
+                let one = named_alone image at n s fit.0 fit.1 fit.2 in untrue (not (rw one at fit.3, rw one at fit.4)),
+            refl,
+          ),
+          refl,
+        )),
         omega (arith, named_by.1, commit.0),
       );
     })
