@@ -63,17 +63,10 @@ module _ (numbers : List ℕ) (firsts : List (List ℕ)) (each : length firsts �
     unfolding entry_bytes
     entries_more before e below =
         let es : List Entry = zip numbers firsts in
-        let fm : List ℕ = flat_map entry_bytes (take e es) in
         let x : Entry = (get_or numbers e 0, get_or firsts e []) in
-        cc (
-          take_all 8 (get_or firsts e []) (omega (arith, sized e [] (omega arith))),
-          take_more es e (0, []) (omega (arith, length_zipped)),
-          zipped e below,
-          append_assoc (before ++ fm) (little_bytes 8 (get_or numbers e 0)) (get_or firsts e []),
-          append_assoc before fm (little_bytes 8 (get_or numbers e 0) ++ get_or firsts e []),
-          append-nil (entry_bytes x),
-          flat_map-append entry_bytes (take e es) (x ∷ []),
-        )
+        let first = take_all 8 (get_or firsts e []) (omega (arith, sized e [] (omega arith))) in
+        let more = take_more es e (0, []) (omega (arith, length_zipped)) in
+        rw (more, zipped e below, flat_map-append entry_bytes (take e es) (x ∷ [])) (simp (append_assoc, first) (rw (append-nil (get_or firsts e []))))
 
 -- a part of what rises rises
 pub rising_part : (numbers : List ℕ) (from count : ℕ) → IsRising numbers → IsRising (take count (drop from numbers))

@@ -17,11 +17,6 @@ pub numbers_of_chunk : (es : List Entry) (j : ℕ) → numbers_of (chunk_of es j
 numbers_of_chunk es j =
     rw (drop-map (λ (e : Entry). e.0) (30 * j) es, take-map (λ (e : Entry). e.0) 30 (drop (30 * j) es))
 
--- their first bytes
-pub firsts_of_chunk : (es : List Entry) (j : ℕ) → firsts_of (chunk_of es j) ≡ take 30 (drop (30 * j) (firsts_of es))
-firsts_of_chunk es j =
-    rw (drop-map (λ (e : Entry). take 8 e.1) (30 * j) es, take-map (λ (e : Entry). take 8 e.1) 30 (drop (30 * j) es))
-
 -- one of some entries that follow each other
 module _ (es : List Entry) (many from i : ℕ) (few : i < many) where
   part_at : get_or (take many (drop from es)) i (0, []) ≡ get_or es (from + i) (0, [])

@@ -1,9 +1,9 @@
 -- What a sector's numbers say of the value that it spells, and that this is one.
-use Rattle.std.proofs.Common.{◌≡◌, ◌⊎◌, ℕ, ◌+◌, ◌<◌, ◌≤◌, ◌*◌, List, [], ◌∷◌, length, drop, get_or}
+use Rattle.std.proofs.Common.{◌≡◌, ℕ, ◌+◌, ◌<◌, ◌≤◌, List, [], ◌∷◌, length, drop, get_or}
 use Rattle.std.proofs.Common.{ap, sym, ◌∙◌, arith}
 use Rattle.std.specs.Prelude.{if◌then◌else◌, ◌==◌}
 use Rattle.std.proofs.lemmas.List.{ext_get_or}
-use Rattle.journal.specs.Places.{Shape, IsFirstHome}
+use Rattle.journal.specs.Places.{Shape}
 use Rattle.journal.specs.declared.log_format.LogFormat.{LogFormat}
 use Rattle.journal.specs.declared.log_format.LogFormat.TheVariants.{One, Two}
 use Rattle.journal.specs.Spelling.{number_in, super_mark, descriptor_mark}
@@ -43,31 +43,22 @@ format_in version = if version == 1 then One else Two
 format_is : (format : LogFormat) → format_in (version_of format) ≡ format
 format_is format = grind arith
 
--- a format has version 1 or 2
-version_known : (format : LogFormat) → (version_of format ≡ 1) ⊎ (version_of format ≡ 2)
-version_known format = grind arith
-
--- home is near the log
-home_near : (format : LogFormat) (slots home : ℕ) → IsFirstHome format slots home → home ≤ 2 + 249 * (slots + 1)
-home_near format slots home h = grind (arith, h)
-
 module _ {shape : Shape} {bytes : List ℕ} (s : IsSuper shape bytes) where
   -- the version of a super, its blocks and slots, and where home begins
   super_says : (number_in bytes 1 ≡ version_of shape.format) × (number_in bytes 2 ≡ shape.blocks)
       × (number_in bytes 3 ≡ shape.slots) × (number_in bytes 5 ≡ shape.home)
-  super_says =
-      let near = home_near shape.format shape.slots shape.home s.home_is in (
-        spelling_get 1 _ bytes (omega arith) (grind (arith, version_known shape.format)) s.spelled,
-        spelling_get 2 _ bytes (omega arith) (omega (arith, s.most_blocks)) s.spelled,
-        spelling_get 3 _ bytes (omega arith) (omega (arith, s.most_slots)) s.spelled,
-        spelling_get 5 _ bytes (omega arith) (omega (arith, s.most_slots, near)) s.spelled,
-      )
+  super_says = (
+    spelling_get 1 _ bytes (omega arith) (grind arith) s.spelled,
+    spelling_get 2 _ bytes (omega arith) (omega (arith, s.most_blocks)) s.spelled,
+    spelling_get 3 _ bytes (omega arith) (omega (arith, s.most_slots)) s.spelled,
+    spelling_get 5 _ bytes (omega arith) (grind (arith, s.most_slots, s.home_is)) s.spelled,
+  )
 
   -- a super has no fault
   pub super_begins : HasMagic bytes × HasVersion bytes × HasZeroRest bytes
   super_begins = (
     spelling_get 0 _ bytes (omega arith) (omega arith) s.spelled,
-    rw super_says.0 (version_known shape.format),
+    grind (arith, super_says),
     ap (λ (l : List ℕ). drop 48 l) s.spelled
         ∙ spelling-rest (super_mark ∷ version_of shape.format ∷ shape.blocks ∷ shape.slots ∷ 2 ∷ shape.home ∷ []),
   )

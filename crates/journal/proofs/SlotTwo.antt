@@ -94,19 +94,13 @@ module _ (shape : Shape) (image : Image) (s n : ℕ) (committed : IsCommitTwo s 
       rw (get_or-map (λ (e : Entry). e.0) read i (0, []), read_entry image at n i inside, number_is d (i % 30) few)
       (d.entries.small (i % 30) 0 few)
 
-  -- a block that is read has all its bytes
-  whole_block : (i : ℕ) → i < length read → length (get_or read i (0, [])).1 ≡ 512
-  whole_block i below =
-      let inside : i < n = omega (arith, long) in
+  -- a block that is read has all its bytes, and the rest of its data place
+  block_read : (i : ℕ) → i < n → (length (get_or read i (0, [])).1 ≡ 512)
+      × (drop 8 (get_or read i (0, [])).1 ≡ drop 8 (image (2 + 249 * (s % shape.slots) + (8 + i))))
+  block_read i below =
       let described_at = sized (i / 30) (omega (arith, committed.few)) in
       let placed_at = sized (8 + i) (omega (arith, committed.few)) in
-      rw (read_entry image at n i inside) (grind (arith, common_steps))
-
-  rest_of : (i : ℕ) → i < length read → drop 8 (get_or read i (0, [])).1 ≡ drop 8 (image (2 + 249 * (s % shape.slots) + (8 + i)))
-  rest_of i below =
-      let inside : i < n = omega (arith, long) in
-      let described_at = sized (i / 30) (omega (arith, committed.few)) in
-      rw (read_entry image at n i inside) (grind (arith, common_steps))
+      rw (read_entry image at n i below) (grind (arith, common_steps), grind (arith, common_steps))
 
   part_read : (p : ℕ) → image (2 + 249 * (s % shape.slots) + offset2 (length read) p) ≡ part2 s read p
   unfolding place_bytes
@@ -117,7 +111,7 @@ module _ (shape : Shape) (image : Image) (s n : ℕ) (committed : IsCommitTwo s 
     | inr b ↦ elim (cases_lt p ((length read + 29) / 30 + length read)) [
       | inl d ↦
           let i = p - (length read + 29) / 30 in
-          grind (arith, parts, placed i (omega (arith, long)), rest_of i (omega arith))
+          grind (arith, parts, placed i (omega (arith, long)), (block_read i (omega (arith, long))).1)
       | inr d ↦ grind (arith, parts, long, committed.spelled)
     ]
   ]
@@ -132,7 +126,7 @@ module _ (shape : Shape) (image : Image) (s n : ℕ) (committed : IsCommitTwo s 
       rising = rising;
       inside = inside;
       small = All-from_get_or (λ (b : ℕ). b < 2147483648) (numbers_of read) 0 small;
-      sized = All-from_get_or (λ (e : Entry). length e.1 ≡ 512) read (0, []) whole_block;
+      sized = All-from_get_or (λ (e : Entry). length e.1 ≡ 512) read (0, []) (λ i below. (block_read i (omega (arith, below, long))).0);
     };
     least = committed.least;
     below = committed.most;

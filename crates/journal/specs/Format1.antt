@@ -4,7 +4,7 @@ use Rattle.std.specs.List.{range_with_len}
 use Rattle.medium.specs.Medium.{Image}
 use Rattle.journal.specs.Spelling.{spelling, number_in, descriptor_mark, commit_mark}
 use Rattle.journal.specs.Sectors.{IsDescriptor, IsCommit}
-use Rattle.journal.specs.Record.{Entry, numbers_of, block_of, entries_in}
+use Rattle.journal.specs.Record.{Entry, numbers_of, block_of}
 use Rattle.journal.specs.Layout.{Layout, by_part}
 
 -- at this offset of a slot these bytes carry this stamp: data places carry none
@@ -27,13 +27,13 @@ part1 stamp entries p =
     by_part (λ i. descriptor1 stamp (numbers_of entries)) (block_of entries)
     (commit1 stamp (length entries)) 1 (length entries) p
 
--- the block numbers that a descriptor spells
-abbrev pub numbers_in : List ℕ → List ℕ
-numbers_in bytes = map (λ i. number_in bytes (3 + i)) (range_with_len 0 (number_in bytes 2))
+-- the i-th entry of the record that may stand in the slot from this sector on
+abbrev pub entry_in : Image → ℕ → ℕ → Entry
+entry_in image at i = (number_in (image at) (3 + i), image (at + 1 + i))
 
--- the only record that may be whole in the slot from this sector on
+-- the only record that may be whole there
 abbrev pub record_in : Image → ℕ → List Entry
-record_in image at = entries_in image (at + 1) (numbers_in (image at))
+record_in image at = map (entry_in image at) (range_with_len 0 (number_in (image at) 2))
 
 abbrev pub format1 : Layout
 format1 = record {

@@ -1,11 +1,11 @@
 use Rattle.std.proofs.Common.{◌≡◌, ◌∙◌, ◌<◌, ◌+◌, ◌*◌, ◌%◌, ℕ, Ok, [], refl, sym, rules, arith}
 use Rattle.medium.specs.Medium.{State}
 use Rattle.journal.specs.Values.{shape_of}
-use Rattle.journal.specs.Record.{entries_in, numbers_of}
+use Rattle.journal.specs.Record.{numbers_of}
 use Rattle.journal.specs.Reads.{LooksUp}
-use Rattle.journal.specs.Format1.{numbers_in}
+use Rattle.journal.specs.Format1.{record_in}
 use Rattle.journal.proofs.CopiedBlock.{read_is}
-use Rattle.journal.proofs.WholeOne.{descriptor_there, commit_there, numbers_of-entries_in, numbers_read, whole_in}
+use Rattle.journal.proofs.WholeOne.{descriptor_there, commit_there, numbers_read, whole_in}
 use Rattle.journal.proofs.Wholeness.{as_format, of_format}
 use Rattle.medium.proofs.SectorsRead.{looks_joined, look_below}
 use Rattle.journal.proofs.SectorsRead.{within_one}
@@ -58,19 +58,18 @@ returns g c =
     let ended = rw (c.in_ok-read-2.ensures.ok, c.commit_place.ensures, c.read.ensures.content _, slot) at c.in-Some.ensures.ended in
     let listed : c.append.new.self.numbers.items ≡ found = rw (c.append.ensures.numbers, c.clear.ensures.numbers) c.deref.ensures.0 in
     let none : c.append.new.self.firsts.items ≡ [] = rw (c.append.ensures.firsts, c.clear.ensures.firsts) in
-    let names = numbers_of-entries_in image (at + 1) (numbers_in (image at)) in
     let sound = g.met.M.Medium.sound c.args.m.now in
     let ends = within_one c.args.sizes.now c.args.stamp _ refl c.requires.format in
     let few = described.block_numbers.few in
     joined g after _ (record {
       some = λ stamped. (
-        entries_in image (at + 1) found,
+        record_in image at,
         of_format c.requires.format (whole_in shape image c.args.stamp found described ended c.in-Some.ensures.inside
             (λ i below. sound.sized (at + 1 + i) (image (at + 1 + i)) (omega (arith, ends, c.requires.fits, few, below))
             (sound.holds_content (at + 1 + i)))),
       );
       all = λ entries whole. read_is shape image c.args.stamp entries whole c.append.new.self
-          (rw c.requires.format (listed ∙ numbers_read c.args.stamp found (image at) described ∙ sym names))
+          (rw c.requires.format (listed ∙ sym (numbers_read image at described)))
           (rw c.requires.format none);
       exact = (2, rw c.requires.format refl, omega arith);
     })
