@@ -15,7 +15,7 @@ use Rattle.journal.specs.SectorsTwo.{firsts_of}
 use Rattle.journal.specs.Copies.{begun_with, first_of}
 use Rattle.journal.proofs.EntriesTwo.{place_rest}
 use Rattle.journal.proofs.Formats.{laws_of}
-use Rattle.journal.proofs.WholeOne.{place_there as place_there_one}
+use Rattle.journal.proofs.Format1Laws.{place_there as place_there_one}
 use Rattle.journal.proofs.SlotTwo.{place_there, placed}
 
 -- its first bytes, where its data place does not have them, and the rest of that make the block

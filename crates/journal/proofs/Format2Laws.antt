@@ -1,30 +1,30 @@
 -- Format 2 keeps the laws of a layout.
-use Rattle.std.proofs.Common.{◌≡◌, ℕ, ◌+◌, ◌-◌, ◌/◌, ◌<◌, ◌≤◌, List, length, sym, ◌∙◌, arith, rules}
+use Rattle.std.proofs.Common.{◌≡◌, ℕ, ◌+◌, ◌-◌, ◌/◌, ◌<◌, ◌≤◌, List, [], ◌∷◌, length, sym, ◌∙◌, arith, rules}
 use Rattle.std.specs.Prelude.{if◌then◌else◌, nat_lt, replicate}
 use Rattle.std.proofs.lemmas.Bool.Decides.{nat_tests}
-use Rattle.journal.specs.Spelling.{number_in}
+use Rattle.journal.specs.Spelling.{spelling, number_in}
 use Rattle.journal.specs.Record.{Entry, block_of, numbers_of}
 use Rattle.journal.specs.LayoutLaws.{IsRecordOf}
-use Rattle.journal.specs.SectorsTwo.{place_bytes, commit_bytes, chunk_of, firsts_of, IsCommitTwo}
-use Rattle.journal.specs.Format2.{format2, offset2, part2, Carries2}
+use Rattle.journal.specs.SectorsTwo.{place_bytes, commit_mark, chunk_of, firsts_of, IsCommitTwo}
+use Rattle.journal.specs.Format2.{format2, Carries2}
 use Rattle.journal.proofs.EntriesTwo.{header_says, place_says}
 use Rattle.journal.proofs.SectorNumbers.{commit_says}
-use Rattle.journal.proofs.RecordTwo.{descriptor_two}
+use Rattle.journal.proofs.EntriesTwo.{descriptor_two}
 use Rattle.journal.proofs.Format1Laws.{parts}
 
-pub offset_place : (n p : ℕ) → (n + 29) / 30 ≤ p → p < (n + 29) / 30 + n → offset2 n p ≡ 8 + (p - (n + 29) / 30)
+pub offset_place : (n p : ℕ) → (n + 29) / 30 ≤ p → p < (n + 29) / 30 + n → format2.offset n p ≡ 8 + (p - (n + 29) / 30)
 offset_place n p behind below = grind (arith, parts)
 
 pub part_place : (s : ℕ) (entries : List Entry) (p : ℕ) → (length entries + 29) / 30 ≤ p → p < (length entries + 29) / 30 + length entries
-    → part2 s entries p ≡ place_bytes s (block_of entries (p - (length entries + 29) / 30))
+    → format2.part s entries p ≡ place_bytes s (block_of entries (p - (length entries + 29) / 30))
 part_place s entries p behind below = grind (arith, parts)
 
 pub commit_two : {blocks s : ℕ} {entries : List Entry} → IsRecordOf format2 blocks s entries
-    → IsCommitTwo s (length entries) (commit_bytes s (length entries))
+    → IsCommitTwo s (length entries) (spelling (commit_mark ∷ s ∷ length entries ∷ []))
 commit_two r = search rules
 
 pub carries2 : (blocks s : ℕ) (entries : List Entry) (p : ℕ) → IsRecordOf format2 blocks s entries
-    → Carries2 (offset2 (length entries) p) s (part2 s entries p)
+    → Carries2 (format2.offset (length entries) p) s (format2.part s entries p)
 carries2 blocks s entries p r =
     let few = r.fit.few in
     record {
@@ -50,7 +50,7 @@ carried2 o s bytes c =
     grind (arith, nat_tests, header_says, place_says, commit, c.descriptor, c.place)
 
 pub one_stamp2 : (blocks s t : ℕ) (entries : List Entry) (p : ℕ) → IsRecordOf format2 blocks s entries
-    → Carries2 (offset2 (length entries) p) t (part2 s entries p) → t ≡ s
+    → Carries2 (format2.offset (length entries) p) t (format2.part s entries p) → t ≡ s
 one_stamp2 blocks s t entries p r c = sym (carried2 _ t _ c) ∙ carried2 _ s _ (carries2 blocks s entries p r)
 
 -- zeros carry no stamp but 0

@@ -1,10 +1,7 @@
-pub mod Pieces
 pub mod OneSpelling
 pub mod SectorNumbers
 pub mod AllOrFirst
-pub mod Decided
 pub mod EntriesTwo
-pub mod RecordTwo
 pub mod Apart
 pub mod BatchEntries
 pub mod CopiedBlock
@@ -15,7 +12,6 @@ pub mod Format1Laws
 pub mod Format2Laws
 pub mod Formats
 pub mod Overlay
-pub mod WholeOne
 pub mod RetiredRecord
 pub mod SectorsRead
 pub mod Slots

@@ -1,15 +1,37 @@
 -- The numbers and the bytes of a sector, written and read back.
-use Rattle.std.proofs.Common.{◌≡◌, ℕ, ◌+◌, ◌*◌, ◌-◌, ◌^◌, ◌<◌, ◌≤◌, List, [], ◌++◌, length, get_or, drop, refl, sym}
-use Rattle.std.proofs.Common.{◌∙◌, ap, arith}
-use Rattle.std.proofs.lemmas.List.{drop_at, drop-replicate}
-use Rattle.std.proofs.lemmas.Grind.{common_steps}
-use borrow.Rule.Slice.PartMut.{put_mid}
-use Rattle.std.specs.Prelude.{replicate}
+use Rattle.std.proofs.Common.{◌≡◌, ℕ, zero, suc, ◌+◌, ◌*◌, ◌<◌, List, [], ◌∷◌, ◌++◌, length, get_or, take, drop, arith}
+use Rattle.std.proofs.Common.{◌-◌, ◌^◌, ◌≤◌, refl, sym, ◌∙◌, ap}
+use Rattle.std.specs.Prelude.{All, replicate}
 use Rattle.std.specs.List.{flat_map}
+use Rattle.std.proofs.lemmas.Grind.{common_steps}
+use Rattle.std.proofs.lemmas.List.{take_at, drop_at, drop-drop, append_assoc, drop-replicate}
+use borrow.Rule.Slice.PartMut.{put_mid}
 use Rattle.byteorder.specs.Endian.{little_bytes, little_number}
 use Rattle.byteorder.specs.Numbers.{little_number-reads_back, little_from-take}
 use Rattle.journal.specs.Spelling.{padded, spelling, number_in}
-use Rattle.journal.proofs.Pieces.{length_pieces, piece_at}
+
+module _ {X : Type 0} (f : X → List ℕ) (k : ℕ) where
+  -- how many they are
+  pub length_pieces : (xs : List X) → All (λ x. length (f x) ≡ k) xs → length (flat_map f xs) ≡ k * length xs
+  length_pieces [] long = omega arith
+  length_pieces (x ∷ xs) long =
+      grind (arith, common_steps, length_pieces xs (λ i d below. long (suc i) d (omega arith)), long 0 x (omega arith))
+
+  -- the i-th one
+  pub piece_at : (xs : List X) (i : ℕ) (d : X) (rest : List ℕ) → i < length xs → All (λ x. length (f x) ≡ k) xs
+      → take k (drop (k * i) (flat_map f xs ++ rest)) ≡ f (get_or xs i d)
+  piece_at [] i d rest below long = absurd (omega arith)
+  piece_at (x ∷ xs) zero d rest below long =
+      let none : k * zero ≡ 0 = omega arith in
+      rw (none, append_assoc (f x) (flat_map f xs) rest) (take_at (f x) (flat_map f xs ++ rest) k (long 0 x (omega arith)))
+  piece_at (x ∷ xs) (suc i) d rest below long =
+      let step : k * suc i ≡ k + k * i = omega arith in
+      rw (
+        step,
+        append_assoc (f x) (flat_map f xs) rest,
+        ← (drop-drop (k * i) k (f x ++ (flat_map f xs ++ rest))),
+        drop_at (f x) (flat_map f xs ++ rest) k (long 0 x (omega arith)),
+      ) (piece_at xs i d rest (omega arith) (λ j e inside. long (suc j) e (omega arith)))
 
 -- numbers take eight bytes each
 pub length_bytes : (numbers : List ℕ) → length (flat_map (little_bytes 8) numbers) ≡ 8 * length numbers

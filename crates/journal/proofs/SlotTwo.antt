@@ -13,10 +13,10 @@ use Rattle.journal.specs.Sectors.{IsRising}
 use Rattle.journal.specs.SectorsTwo.{descriptors_of, descriptor_bytes, place_bytes, firsts_of, chunk_of, IsDescriptorTwo, IsCommitTwo}
 use Rattle.journal.specs.Record.{Entry, numbers_of, block_of}
 use Rattle.journal.specs.Layout.{IsWholeIn}
-use Rattle.journal.specs.Format2.{format2, entry_in, entries_at, record_in, part2, offset2}
+use Rattle.journal.specs.Format2.{format2, entry_in, entries_at, record_in}
 use Rattle.journal.specs.SlotReads.{HasDescriptor, HasPlaces}
 use Rattle.journal.proofs.EntriesTwo.{number_is, first_is, commit_count, place_rest}
-use Rattle.journal.proofs.RecordTwo.{number_at, first_at, descriptor_two, place_own}
+use Rattle.journal.proofs.EntriesTwo.{number_at, first_at, descriptor_two, place_own}
 use Rattle.journal.proofs.DescribedNumbers.{read_long, read_entry, chunk_numbers, chunk_firsts}
 use Rattle.journal.proofs.Format1Laws.{parts}
 use Rattle.journal.proofs.Wholeness.{record_of}
@@ -102,7 +102,7 @@ module _ (shape : Shape) (image : Image) (s n : ℕ) (committed : IsCommitTwo s 
       let placed_at = sized (8 + i) (omega (arith, committed.few)) in
       rw (read_entry image at n i below) (grind (arith, common_steps), grind (arith, common_steps))
 
-  part_read : (p : ℕ) → image (2 + 249 * (s % shape.slots) + offset2 (length read) p) ≡ part2 s read p
+  part_read : (p : ℕ) → image (2 + 249 * (s % shape.slots) + format2.offset (length read) p) ≡ format2.part s read p
   unfolding place_bytes
   part_read p = elim (cases_lt p ((length read + 29) / 30)) [
     | inl d ↦

@@ -13,19 +13,11 @@ pub record Carries1 (o stamp : ℕ) (bytes : List ℕ) : Type 0 where
   pub place : 1 ≤ o → 49 ≤ o
   pub commit : 49 ≤ o → (count : ℕ) × IsCommit stamp count bytes
 
-abbrev pub offset1 : ℕ → ℕ → ℕ
-offset1 n p = by_part (λ i. i) (λ i. 1 + i) 49 1 n p
-
 abbrev pub commit1 : ℕ → ℕ → List ℕ
 commit1 stamp n = spelling (commit_mark ∷ stamp ∷ n ∷ [])
 
 abbrev pub descriptor1 : ℕ → List ℕ → List ℕ
 descriptor1 stamp numbers = spelling (descriptor_mark ∷ stamp ∷ length numbers ∷ numbers)
-
-abbrev pub part1 : ℕ → List Entry → ℕ → List ℕ
-part1 stamp entries p =
-    by_part (λ i. descriptor1 stamp (numbers_of entries)) (block_of entries)
-    (commit1 stamp (length entries)) 1 (length entries) p
 
 -- the i-th entry of the record that may stand in the slot from this sector on
 abbrev pub entry_in : Image → ℕ → ℕ → Entry
@@ -41,8 +33,10 @@ format1 = record {
   most = 48;
   parts = λ n. n + 2;
   early = λ n. n + 1;
-  offset = offset1;
-  part = part1;
+  offset = by_part (λ i. i) (λ i. 1 + i) 49 1;
+  part = λ stamp entries.
+      by_part (λ i. descriptor1 stamp (numbers_of entries)) (block_of entries)
+      (commit1 stamp (length entries)) 1 (length entries);
   carries = Carries1;
   read = record_in;
 }

@@ -1,10 +1,10 @@
 -- Format 2: ceil(n / 30) descriptors, n data places and a commit, and one flush behind them.
-use Rattle.std.specs.Prelude.{◌≡◌, ◌<◌, ◌≤◌, ℕ, ◌+◌, ◌*◌, ◌/◌, ◌%◌, ◌^◌, List, ◌++◌, length}
-use Rattle.std.specs.Prelude.{drop, map, slice_range}
+use Rattle.std.specs.Prelude.{◌≡◌, ◌<◌, ◌≤◌, ℕ, ◌+◌, ◌*◌, ◌/◌, ◌%◌, ◌^◌, List, [], ◌∷◌, ◌++◌}
+use Rattle.std.specs.Prelude.{length, drop, map, slice_range}
 use Rattle.std.specs.List.{range_with_len}
 use Rattle.medium.specs.Medium.{Image}
-use Rattle.journal.specs.Spelling.{number_in}
-use Rattle.journal.specs.SectorsTwo.{descriptors_of, descriptor_bytes, place_bytes, commit_bytes}
+use Rattle.journal.specs.Spelling.{spelling, number_in}
+use Rattle.journal.specs.SectorsTwo.{descriptors_of, descriptor_bytes, place_bytes, commit_mark}
 use Rattle.journal.specs.SectorsTwo.{IsDescriptorTwo, IsCommitTwo}
 use Rattle.journal.specs.Record.{Entry, block_of}
 use Rattle.journal.specs.Layout.{Layout, by_part}
@@ -17,15 +17,6 @@ pub record Carries2 (o stamp : ℕ) (bytes : List ℕ) : Type 0 where
       × IsDescriptorTwo stamp count o numbers firsts bytes
   pub place : 8 ≤ o → o < 248 → (block : List ℕ) × (bytes ≡ place_bytes stamp block)
   pub commit : 248 ≤ o → (count : ℕ) × IsCommitTwo stamp count bytes
-
--- where the parts stand, in the order in which they are written: descriptors, data places, commit
-abbrev pub offset2 : ℕ → ℕ → ℕ
-offset2 n p = by_part (λ i. i) (λ i. 8 + i) 248 (descriptors_of n) n p
-
-abbrev pub part2 : ℕ → List Entry → ℕ → List ℕ
-part2 stamp entries p =
-    by_part (descriptor_bytes stamp entries) (λ i. place_bytes stamp (block_of entries i))
-    (commit_bytes stamp (length entries)) (descriptors_of (length entries)) (length entries) p
 
 -- the i-th entry of the record that may stand in the slot from this sector on
 abbrev pub entry_in : Image → ℕ → ℕ → Entry
@@ -49,8 +40,11 @@ format2 = record {
   most = 240;
   parts = λ n. descriptors_of n + n + 1;
   early = λ n. 0;
-  offset = offset2;
-  part = part2;
+  offset = λ n. by_part (λ i. i) (λ i. 8 + i) 248 (descriptors_of n) n;
+  part = λ stamp entries.
+      by_part (descriptor_bytes stamp entries) (λ i. place_bytes stamp (block_of entries i))
+      (spelling (commit_mark ∷ stamp ∷ length entries ∷ [])) (descriptors_of (length entries))
+      (length entries);
   carries = Carries2;
   read = record_in;
 }

@@ -21,4 +21,3 @@ pub mod Parts
 pub mod Standing
 pub mod Staged
 pub mod ImageFaults
-pub mod ImageLaws

@@ -1,9 +1,9 @@
 -- What the bytes of a descriptor, a data place and a commit of format 2 are.
-use Rattle.std.specs.Prelude.{◌≡◌, ◌≤◌, ◌<◌, ℕ, ◌+◌, ◌*◌, ◌-◌, ◌/◌, ◌^◌, min, List, [], ◌∷◌, ◌++◌}
+use Rattle.std.specs.Prelude.{◌≡◌, ◌≤◌, ◌<◌, ℕ, ◌+◌, ◌*◌, ◌-◌, ◌/◌, ◌^◌, min, List, ◌++◌}
 use Rattle.std.specs.Prelude.{length, take, drop, codes, All, map, zip}
 use Rattle.std.specs.List.{flat_map}
 use Rattle.byteorder.specs.Endian.{little_bytes}
-use Rattle.journal.specs.Spelling.{mark, padded, spelling}
+use Rattle.journal.specs.Spelling.{mark, padded}
 use Rattle.journal.specs.Entry.{Entry, numbers_of}
 use Rattle.journal.specs.Sectors.{IsRising, IsCommitOf}
 
@@ -68,10 +68,6 @@ pub record IsDescriptorTwo (stamp count j : ℕ) (numbers : List ℕ) (firsts : 
   pub most : stamp < 2 ^ 63 - 1
   pub entries : AreEntriesTwo count j numbers firsts
 
--- the bytes of a commit
-abbrev pub commit_bytes : ℕ → ℕ → List ℕ
-commit_bytes stamp count = spelling (commit_mark ∷ stamp ∷ count ∷ [])
-
--- those of one of a record of count blocks
+-- the bytes of a commit of a record of count blocks
 abbrev pub IsCommitTwo : ℕ → ℕ → List ℕ → Type 0
 IsCommitTwo stamp count bytes = IsCommitOf commit_mark 240 stamp count bytes

@@ -5,7 +5,7 @@ use Rattle.journal.specs.Record.{numbers_of}
 use Rattle.journal.specs.Reads.{LooksUp}
 use Rattle.journal.specs.Format1.{record_in}
 use Rattle.journal.proofs.CopiedBlock.{read_is}
-use Rattle.journal.proofs.WholeOne.{descriptor_there, commit_there, numbers_read, whole_in}
+use Rattle.journal.proofs.Format1Laws.{descriptor_there, commit_there, numbers_read, whole_in}
 use Rattle.journal.proofs.Wholeness.{as_format, of_format}
 use Rattle.medium.proofs.SectorsRead.{looks_joined, look_below}
 use Rattle.journal.proofs.SectorsRead.{within_one}

@@ -1,24 +1,6 @@
-use Rattle.std.proofs.Common.{◌≡◌, ℕ, List, ◌+◌, ◌*◌, rules, arith, ◌∙◌}
-use Rattle.journal.specs.SectorsTwo.{IsDescriptorTwo}
-use Rattle.journal.proofs.EntriesTwo.{header_says, here_is, numbers_are, firsts_are, sized_from}
+use Rattle.std.proofs.Common.{◌≡◌, ◌+◌, ◌*◌, rules, arith, ◌∙◌}
+use Rattle.journal.proofs.EntriesTwo.{header_says, here_is, numbers_are, firsts_are, sized_from, IsDescriptorTwo-one}
 use Rattle.journal.proofs.v2.descriptor.Descriptor.decode.Goals as goal
-use Rattle.journal.proofs.v2.descriptor.Descriptor.decode.Goals.{After-firsts_at-firsts}
-
--- what was read of a descriptor is what it says
-said : (c : After-firsts_at-firsts) {stamp count j : ℕ} {numbers : List ℕ} {firsts : List (List ℕ)}
-    → IsDescriptorTwo stamp count j numbers firsts c.args.sector.now
-    → (c.number_at-stamp.result ≡ stamp) × (c.number_at-count.result ≡ count) × (c.number_at-index.result ≡ j)
-    × (c.numbers_at-numbers.result.items ≡ numbers) × (c.firsts_at-firsts.result.items ≡ firsts)
-said c d =
-    let here = here_is d c.count_here-here.ensures c.number_at-count.ensures.is c.number_at-index.ensures.is in
-    let a = c.numbers_at-numbers in
-    let b = c.firsts_at-firsts in (
-      c.number_at-stamp.ensures.is ∙ (header_says d).0,
-      c.number_at-count.ensures.is ∙ (header_says d).1,
-      c.number_at-index.ensures.is ∙ (header_says d).2,
-      numbers_are d c.count_here-here.result a.result.items here a.ensures.count a.ensures.each,
-      firsts_are d c.count_here-here.result b.result.items here b.ensures.count b.ensures.each,
-    )
 
 pub returns-then-not-are_small-clause-all : goal.returns-then-not-are_small-clause-all
 returns-then-not-are_small-clause-all c stamp count j numbers firsts d =
@@ -38,10 +20,24 @@ invariant_of-descriptor c =
 
 pub returns-then-eq-clause-all : goal.returns-then-eq-clause-all
 returns-then-eq-clause-all c stamp count j numbers firsts d =
-    said (goal.at.returns-then-eq-clause-all c).After-firsts_at-firsts d
+    let e : c.encode.result ≡ c.args.sector.now = search rules in
+    IsDescriptorTwo-one c.args.sector.now _ _ _ _ _ _ _ _ _ _ (rw e at c.encode.ensures) d
 
 pub returns-else-eq-clause-all : goal.returns-else-eq-clause-all
 returns-else-eq-clause-all c stamp count j numbers firsts d =
-    let s = said (goal.at.returns-else-eq-clause-all c).After-firsts_at-firsts d in
-    let e : c.encode.result ≡ c.args.sector.now = cc (c.encode.ensures.spelled, s.0, s.1, s.2, s.3, s.4, d.spelled) in
+    let here = here_is d c.count_here-here.ensures c.number_at-count.ensures.is c.number_at-index.ensures.is in
+    let a = c.numbers_at-numbers in
+    let b = c.firsts_at-firsts in
+    let same_numbers = numbers_are d c.count_here-here.result a.result.items here a.ensures.count a.ensures.each in
+    let same_firsts = firsts_are d c.count_here-here.result b.result.items here b.ensures.count b.ensures.each in
+    let says = header_says d in
+    let e : c.encode.result ≡ c.args.sector.now = cc (
+      c.encode.ensures.spelled,
+      c.number_at-stamp.ensures.is ∙ says.0,
+      c.number_at-count.ensures.is ∙ says.1,
+      c.number_at-index.ensures.is ∙ says.2,
+      same_numbers,
+      same_firsts,
+      d.spelled,
+    ) in
     search rules
