@@ -63,20 +63,25 @@ module _ (image : Image) (at n : ℕ) where
 
     pub chunk_numbers : numbers_of (chunk_of (entries_at image at n) j) ≡ numbers
     chunk_numbers =
-        numbers_are d _ _ here (length-map chunk (λ (e : Entry). e.0)) (λ i below.
-        number_at read 30 (30 * j) i (omega (arith, here))
-        ∙ ap (λ (e : Entry). e.0) (entry_of j i (omega (arith, here)) (omega (arith, here))))
+        numbers_are d here (record {
+          count = length-map chunk (λ (e : Entry). e.0);
+          each = λ i below. number_at read 30 (30 * j) i (omega (arith, here))
+              ∙ ap (λ (e : Entry). e.0) (entry_of j i (omega (arith, here)) (omega (arith, here)));
+        })
 
     pub chunk_firsts : firsts_of (chunk_of (entries_at image at n) j) ≡ firsts
     chunk_firsts =
-        firsts_are d _ _ here (length-map chunk (λ (e : Entry). take 8 e.1)) (λ i below.
-        let inside : i < length numbers = omega (arith, here, d.entries.many) in
-        let long = d.entries.sized i [] (omega (arith, inside, d.entries.each)) in
-        rw (
-          first_at read 30 (30 * j) i (omega (arith, here)),
-          entry_of j i (omega (arith, here)) (omega (arith, here)),
-          first_is d i inside,
-        ) (take_at _ (drop 8 (image (at + (8 + (30 * j + i))))) 8 long))
+        firsts_are d here (record {
+          count = length-map chunk (λ (e : Entry). take 8 e.1);
+          each = λ i below.
+              let inside : i < length numbers = omega (arith, here, d.entries.many) in
+              let long = d.entries.sized i [] (omega (arith, inside, d.entries.each)) in
+              rw (
+                first_at read 30 (30 * j) i (omega (arith, here)),
+                entry_of j i (omega (arith, here)) (omega (arith, here)),
+                first_is d i inside,
+              ) (take_at _ (drop 8 (image (at + (8 + (30 * j + i))))) 8 long);
+        })
 
   module _ (stamp : ℕ) where
     -- so they name these blocks

@@ -13,7 +13,7 @@ use Rattle.byteorder.specs.Numbers.{little_number-reads_back, little_from-take}
 use Rattle.journal.specs.Entry.{Entry, numbers_of}
 use Rattle.journal.proofs.SectorNumbers.{commit_says}
 use Rattle.journal.proofs.OneSpelling.{length_pieces, piece_at}
-use Rattle.journal.specs.Spelling.{padded, number_in}
+use Rattle.journal.specs.Spelling.{padded, number_in, AreItems}
 use Rattle.journal.specs.Sectors.{IsRising}
 use Rattle.journal.specs.SectorsTwo.{entry_bytes, place_bytes, entries_here, AreEntriesTwo, IsDescriptorTwo}
 use Rattle.journal.specs.SectorsTwo.{IsCommitTwo, descriptor_bytes, firsts_of, chunk_of}
@@ -83,12 +83,10 @@ items_here items numbers from here is are =
     rw (are, few) (take_min 30 (drop from numbers))
 
 -- first bytes that were cut from bytes are 8 each
-pub sized_from : (firsts : List (List ℕ)) (count : ℕ) (bytes : List ℕ) (at : ℕ → ℕ) → length firsts ≡ count
-    → ((i : ℕ) → i < count → at i + 8 ≤ length bytes)
-    → ((i : ℕ) → i < count → get_or firsts i [] ≡ slice_range bytes (at i) (at i + 8))
-    → All (λ (first : List ℕ). length first ≡ 8) firsts
-sized_from firsts count bytes at size inside each = All-from_get_or (λ (first : List ℕ). length first ≡ 8) firsts [] (λ i below.
-    grind (arith, common_steps, each i, inside i))
+pub sized_from : {firsts : List (List ℕ)} {count : ℕ} (bytes : List ℕ) (at : ℕ → ℕ) → ((i : ℕ) → i < count → at i + 8 ≤ length bytes)
+    → AreItems count (λ i. slice_range bytes (at i) (at i + 8)) [] firsts → All (λ (first : List ℕ). length first ≡ 8) firsts
+sized_from {firsts} bytes at inside each = All-from_get_or (λ (first : List ℕ). length first ≡ 8) firsts [] (λ i below.
+    grind (arith, common_steps, each.count, each.each i, inside i))
 
 -- what a descriptor may hold, cut from the block numbers of a record
 pub entries_cut : (numbers items : List ℕ) (firsts : List (List ℕ)) (j : ℕ) → length numbers ≤ 240 → 30 * j < length numbers
@@ -144,17 +142,16 @@ module _ {stamp count j : ℕ} {numbers : List ℕ} {firsts : List (List ℕ)} {
       (take_all 8 (get_or firsts e []) (omega (arith, d.entries.sized e [] (omega (arith, d.entries.each)))))
 
   -- numbers that were read from the entries are those of the descriptor
-  pub numbers_are : (here : ℕ) (list : List ℕ) → here ≡ entries_here count j → length list ≡ here
-      → ((i : ℕ) → i < here → get_or list i 0 ≡ number_in bytes (4 + 2 * i)) → list ≡ numbers
-  numbers_are here list is size read =
-      ext_get_or 0 list numbers (omega (arith, d.entries.many))
-      (λ i below. grind (arith, read i, number_is i, d.entries.many))
+  pub numbers_are : {here : ℕ} {list : List ℕ} → here ≡ entries_here count j → AreItems here (λ i. number_in bytes (4 + 2 * i)) 0 list
+      → list ≡ numbers
+  numbers_are {list = list} is read = ext_get_or 0 list numbers (omega (arith, is, read.count, d.entries.many))
+      (λ i below. grind (arith, read.count, read.each i, number_is i, d.entries.many))
 
   -- and so are first bytes
-  pub firsts_are : (here : ℕ) (list : List (List ℕ)) → here ≡ entries_here count j → length list ≡ here
-      → ((i : ℕ) → i < here → get_or list i [] ≡ slice_range bytes (40 + 16 * i) (40 + 16 * i + 8)) → list ≡ firsts
-  firsts_are here list is size read = ext_get_or [] list firsts (omega (arith, d.entries.many, d.entries.each))
-      (λ i below. grind (arith, read i, first_is i, d.entries.many))
+  pub firsts_are : {here : ℕ} {list : List (List ℕ)} → here ≡ entries_here count j
+      → AreItems here (λ i. slice_range bytes (40 + 16 * i) (40 + 16 * i + 8)) [] list → list ≡ firsts
+  firsts_are {list = list} is read = ext_get_or [] list firsts (omega (arith, is, read.count, d.entries.many, d.entries.each))
+      (λ i below. grind (arith, read.count, read.each i, first_is i, d.entries.many))
 
 -- a sector is a descriptor of one value
 pub IsDescriptorTwo-one : (bytes : List ℕ) (a b m n i j : ℕ) (ns ms : List ℕ) (fs gs : List (List ℕ))
@@ -164,8 +161,8 @@ IsDescriptorTwo-one bytes a b m n i j ns ms fs gs d e =
     let x = header_says d in
     let y = header_says e in
     let here : length ns ≡ entries_here n j = cc (d.entries.many, x.1, y.1, x.2, y.2) in
-    let numbers = numbers_are e (length ns) ns here refl (λ x below. sym (number_is d x below)) in
-    let firsts = firsts_are e (length ns) fs here d.entries.each (λ x below. sym (first_is d x below)) in
+    let numbers = numbers_are e here (record { count = refl; each = λ x below. sym (number_is d x below) }) in
+    let firsts = firsts_are e here (record { count = d.entries.each; each = λ x below. sym (first_is d x below) }) in
     grind (arith, x, y)
 
 -- the numbers of these entries

@@ -6,14 +6,10 @@ use Rattle.std.proofs.lemmas.List.{ext_get_or}
 use Rattle.journal.specs.Places.{Shape}
 use Rattle.journal.specs.declared.log_format.LogFormat.{LogFormat}
 use Rattle.journal.specs.declared.log_format.LogFormat.TheVariants.{One, Two}
-use Rattle.journal.specs.Spelling.{number_in, super_mark, descriptor_mark}
+use Rattle.journal.specs.Spelling.{number_in, super_mark, descriptor_mark, AreItems}
 use Rattle.journal.specs.Sectors.{version_of, IsSuper, IsHead, IsDescriptor, IsCommitOf}
 use Rattle.journal.specs.SuperFaults.{HasMagic, HasVersion, HasZeroRest}
 use Rattle.journal.proofs.OneSpelling.{spelling_get, spelling-rest}
-
--- a number behind three others
-behind_three : (a b c i : ℕ) (ns : List ℕ) → get_or (a ∷ b ∷ c ∷ ns) (3 + i) 0 ≡ get_or ns i 0
-behind_three a b c i ns = grind arith
 
 module _ {stamp : ℕ} {numbers bytes : List ℕ} (d : IsDescriptor stamp numbers bytes) where
   -- the stamp of a descriptor, and how many block numbers it has
@@ -26,22 +22,18 @@ module _ {stamp : ℕ} {numbers bytes : List ℕ} (d : IsDescriptor stamp number
   -- each of its block numbers
   pub descriptor_number : (i : ℕ) → i < length numbers → number_in bytes (3 + i) ≡ get_or numbers i 0
   descriptor_number i below =
-      let it = behind_three descriptor_mark stamp (length numbers) i numbers in
+      let it : get_or (descriptor_mark ∷ stamp ∷ length numbers ∷ numbers) (3 + i) 0 ≡ get_or numbers i 0 = grind arith in
       spelling_get (3 + i) _ bytes (omega arith) (omega (arith, it, d.block_numbers.fit i 0 below)) d.spelled ∙ it
 
   -- a list that was read as its block numbers is its block numbers
-  pub descriptor_numbers : (count : ℕ) (list : List ℕ) → count ≡ number_in bytes 2
-      → length list ≡ count
-      → ((i : ℕ) → i < count → get_or list i 0 ≡ number_in bytes (3 + i)) → list ≡ numbers
-  descriptor_numbers count list is size read = ext_get_or 0 list numbers (omega (arith, is, descriptor_says.1))
-      (λ i below. grind (arith, read i, descriptor_number i, is, descriptor_says.1))
+  pub descriptor_numbers : {count : ℕ} {list : List ℕ} → count ≡ number_in bytes 2
+      → AreItems count (λ i. number_in bytes (3 + i)) 0 list → list ≡ numbers
+  descriptor_numbers {list = list} is read = ext_get_or 0 list numbers (omega (arith, is, read.count, descriptor_says.1))
+      (λ i below. grind (arith, read.count, read.each i, descriptor_number i, is, descriptor_says.1))
 
 -- the format of a super with this version
 abbrev pub format_in : ℕ → LogFormat
 format_in version = if version == 1 then One else Two
-
-format_is : (format : LogFormat) → format_in (version_of format) ≡ format
-format_is format = grind arith
 
 module _ {shape : Shape} {bytes : List ℕ} (s : IsSuper shape bytes) where
   -- the version of a super, its blocks and slots, and where home begins
@@ -73,8 +65,8 @@ shape_in bytes = record {
 }
 
 pub shape_is : {shape : Shape} {bytes : List ℕ} → IsSuper shape bytes → shape_in bytes ≡ shape
-shape_is {shape} s = λ i. record {
-  format = (ap format_in (super_says s).0 ∙ format_is shape.format) i;
+shape_is {shape} {bytes} s = let format : format_in (number_in bytes 1) ≡ shape.format = grind (arith, super_says s) in λ i. record {
+  format = format i;
   blocks = (super_says s).1 i;
   slots = (super_says s).2 i;
   home = (super_says s).3 i;

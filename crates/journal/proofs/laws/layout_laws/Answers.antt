@@ -10,7 +10,7 @@ returns c = record {
   head = λ bytes a b h k. IsHead-one a b bytes h k;
   descriptor = λ bytes a b ns ms d e. (
     sym (descriptor_says d).0 ∙ (descriptor_says e).0,
-    descriptor_numbers e _ ns (sym (descriptor_says d).1) refl (λ i below. sym (descriptor_number d i below)),
+    descriptor_numbers e (sym (descriptor_says d).1) (record { count = refl; each = λ i below. sym (descriptor_number d i below) }),
   );
   commit = λ bytes a b m n x y. grind (arith, commit_says x, commit_says y);
   descriptor_two = IsDescriptorTwo-one;

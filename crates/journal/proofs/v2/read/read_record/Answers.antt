@@ -1,125 +1,111 @@
-use Rattle.std.proofs.Common.{◌≡◌, ◌+◌, ◌*◌, ◌%◌, ◌<◌, ℕ, Ok, inl, inr, refl, rules, arith}
+use Rattle.std.proofs.Common.{◌≡◌, ◌<◌, ◌+◌, ◌*◌, ◌%◌, ℕ, inl, inr, refl, rules, arith}
 use Rattle.std.specs.Prelude.{length}
-use Rattle.medium.specs.Medium.{State}
+use Rattle.medium.specs.Medium.{Image}
 use Rattle.journal.specs.SectorsTwo.{descriptors_of}
 use Rattle.journal.specs.Values.{shape_of}
 use Rattle.journal.specs.Format2.{entries_at}
-use Rattle.journal.specs.Reads.{LooksUp}
-use Rattle.journal.specs.SlotReads.{IsCommitted}
 use Rattle.journal.proofs.CopiedBlock.{read_is}
 use Rattle.journal.proofs.EntriesTwo.{commit_count}
 use Rattle.journal.proofs.DescribedNumbers.{numbers_long, named, named_alone}
 use Rattle.journal.proofs.SectorsRead.{within_two, looks_on, looks_within}
 use Rattle.journal.proofs.SlotTwo.{untrue, commit_whole, described_whole, record_read, whole_two}
 use Rattle.journal.proofs.Wholeness.{as_format, of_format}
-use Rattle.journal.proofs.v2.read.read_record.Given as given
 use Rattle.journal.proofs.v2.read.read_record.Goals as goal
-use Rattle.journal.proofs.v2.read.read_record.Goals.{After-read_descriptors}
 
 pub returns-in_default : goal.returns-in_default
 returns-in_default g c =
     let shape = shape_of c.args.sizes.now in
     let image = (g.M.Medium.state c.args.m.now).content in
+    let two = c.requires.format in
+    let ends = within_two c.args.sizes.now c.args.stamp _ c.slot_of-slot.ensures two in
     let none = rw (c.in_default.is, c.slot_of-slot.ensures) at c.in_ok-count.ensures.finds in
     record {
       passes = search rules;
       finds = record {
         some = tt;
-        all = λ entries whole. none.1 _ (commit_whole shape image c.args.stamp entries (as_format c.requires.format whole));
-        exact = (1, rw c.requires.format (inl (none.1, refl)), none.0);
+        all = λ entries whole. none.1 _ (commit_whole shape image c.args.stamp entries (as_format two whole));
+        exact = (1, rw two (inl (none.1, refl)), none.0);
       };
-      follows = (looks_within (within_two c.args.sizes.now c.args.stamp _ c.slot_of-slot.ensures c.requires.format) c.read_count.ensures).follows;
+      follows = (looks_within ends c.read_count.ensures).follows;
     }
-
--- the commit counts this many blocks, by one read
-committed : (g : given.Over) (c : After-read_descriptors g) → ((g.M.Medium.state c.read_count.new.m).calls ≡ (g.M.Medium.state c.args.m.now).calls + 1)
-    × IsCommitted (g.M.Medium.state c.args.m.now).content (2 + 249 * (c.args.stamp % c.args.sizes.now.slots)) c.args.stamp c.in-Some.count
-committed g c = rw (c.in-Some.is, c.slot_of-slot.ensures) at c.in_ok-count.ensures.finds
-
--- its reading leaves what the sectors hold
-stays : (g : given.Over) (c : After-read_descriptors g)
-    → (g.M.Medium.state c.read_count.new.m).content ≡ (g.M.Medium.state c.args.m.now).content
-stays g c = λ i x. c.read_count.ensures.passes.quiet.content_stays x i
-
--- the commit and then the descriptors are read, of a slot that ends before home, and find this
-joined : (g : given.Over) (c : After-read_descriptors g) {Z : Type 0} {H : State → State → Z → Type 0} (z : Z)
-    → H (g.M.Medium.state c.args.m.now) (g.M.Medium.state c.read_descriptors.new.m) z
-    → LooksUp g.M.Medium.state g.M.Medium.follows 9 (λ s. s < c.args.sizes.now.home) H
-    c.args.m.now c.read_descriptors.new.m (Ok z)
-joined g c z finds =
-    let ends = within_two c.args.sizes.now c.args.stamp _ c.slot_of-slot.ensures c.requires.format in
-    looks_on g.met.M.Medium.follows_through (looks_within ends c.read_count.ensures) (looks_within ends c.read_descriptors.ensures)
-    (omega arith) tt finds
 
 pub returns-then-not-branch : goal.returns-then-not-branch
 returns-then-not-branch g c =
-    let after = (goal.at.returns-then-not-branch g c).After-read_descriptors in
     let shape = shape_of c.args.sizes.now in
-    let image = (g.M.Medium.state c.args.m.now).content in
-    let commit = committed g after in
-    let stop = rw (c.if-not-branch.true, stays g after, c.slot_of-slot.ensures) at c.in_ok-read_descriptors.ensures.finds in
-    joined g after _ (record {
+    let image : Image = (g.M.Medium.state c.args.m.now).content in
+    let two = c.requires.format in
+    let is = c.slot_of-slot.ensures in
+    let ends = within_two c.args.sizes.now c.args.stamp _ is two in
+    let same : (g.M.Medium.state c.read_count.new.m).content ≡ image = λ i x. c.read_count.ensures.passes.quiet.content_stays x i in
+    let commit = rw (c.in-Some.is, is) at c.in_ok-count.ensures.finds in
+    let stop = rw (c.if-not-branch.true, same, is) at c.in_ok-read_descriptors.ensures.finds in
+    looks_on g.met.M.Medium.follows_through (looks_within ends c.read_count.ensures) (looks_within ends c.read_descriptors.ensures)
+    (omega arith) tt (record {
       some = tt;
-      all = λ entries whole. stop.1.bad (described_whole shape image c.args.stamp entries (as_format c.requires.format whole)
+      all = λ entries whole. stop.1.bad (described_whole shape image c.args.stamp entries (as_format two whole)
           c.in-Some.count commit.1 stop.1.first stop.1.inside);
-      exact = (
-        1 + stop.0,
-        rw c.requires.format (inr (c.in-Some.count, commit.1, stop.0, inl stop.1, refl)),
-        omega (arith, stop.2, commit.0),
-      );
+      exact = (1 + stop.0, rw two (inr (c.in-Some.count, commit.1, stop.0, inl stop.1, refl)), omega (arith, stop.2, commit.0));
     })
 
 pub returns-then-are_blocks : goal.returns-then-are_blocks
 returns-then-are_blocks g c =
-    let after = (goal.at.returns-then-are_blocks g c).After-read_descriptors in
     let shape = shape_of c.args.sizes.now in
     let s = c.args.stamp in
     let n = c.in-Some.count in
     let at : ℕ = 2 + 249 * (c.args.stamp % c.args.sizes.now.slots) in
-    let image = (g.M.Medium.state c.args.m.now).content in
+    let image : Image = (g.M.Medium.state c.args.m.now).content in
     let two = c.requires.format in
+    let is = c.slot_of-slot.ensures in
+    let ends = within_two c.args.sizes.now c.args.stamp _ is two in
+    let same : (g.M.Medium.state c.read_count.new.m).content ≡ image = λ i x. c.read_count.ensures.passes.quiet.content_stays x i in
+    let commit = rw (c.in-Some.is, is) at c.in_ok-count.ensures.finds in
+    let says = rw (c.if-not-branch.false, same, is) at c.in_ok-read_descriptors.ensures.finds in
     let read = c.read_descriptors.new.to.numbers.items in
-    let commit = committed g after in
-    let named_by = rw (c.if-not-branch.false, stays g after, c.slot_of-slot.ensures) at c.in_ok-read_descriptors.ensures.finds in
-    let is = named_by.0.numbers_are in
     let blocks = rw c.deref.ensures.0 at (c.are_blocks.ensures.0 c.if-are_blocks.true) in
-    let these = rw is at blocks in
-    let long : length read ≡ n = rw is (numbers_long image at n) in
+    let these = rw says.0.numbers_are at blocks in
+    let long : length read ≡ n = rw says.0.numbers_are (numbers_long image at n) in
     let sound = g.met.M.Medium.sound c.args.m.now in
-    let ends = within_two c.args.sizes.now s _ refl two in
-    joined g after _ (record {
+    let sized = λ (x : ℕ) (below : x < 249). sound.sized (at + x) (image (at + x)) (omega (arith, ends, is, c.requires.fits, below))
+    (sound.holds_content (at + x)) in
+    looks_on g.met.M.Medium.follows_through (looks_within ends c.read_count.ensures) (looks_within ends c.read_descriptors.ensures)
+    (omega arith) tt (record {
       some = λ stamped. (
         entries_at image at n,
-        of_format two (whole_two shape image s n commit.1 named_by.0.there (rw (two, long) at stamped)
-            (λ x below. sound.sized (at + x) (image (at + x)) (omega (arith, ends, c.requires.fits, below)) (sound.holds_content (at + x)))
-            these.0 these.1),
+        of_format two (whole_two shape image s n commit.1 says.0.there (rw (two, long) at stamped) sized these.0 these.1),
       );
       all = λ entries whole. read_is shape image s entries whole c.read_descriptors.new.to
-          (rw (two, commit_count s n _ commit.1) is) (rw (two, commit_count s n _ commit.1) named_by.0.firsts_are);
+          (rw (two, commit_count s n _ commit.1) says.0.numbers_are) (rw (two, commit_count s n _ commit.1) says.0.firsts_are);
       exact = (
         1 + descriptors_of (length read),
-        rw two (rw (← long) at commit.1, (read, refl, rw (← is) at (named image at n s named_by.0.there), blocks.0, blocks.1), refl),
-        omega (arith, long, named_by.1, commit.0),
+        rw two (
+          rw (← long) at commit.1,
+          (read, refl, rw (← says.0.numbers_are) at (named image at n s says.0.there), blocks.0, blocks.1),
+          refl,
+        ),
+        omega (arith, long, says.1, commit.0),
       );
     })
 
 pub returns-else-are_blocks : goal.returns-else-are_blocks
 returns-else-are_blocks g c =
-    let after = (goal.at.returns-else-are_blocks g c).After-read_descriptors in
     let shape = shape_of c.args.sizes.now in
     let s = c.args.stamp in
     let n = c.in-Some.count in
     let at : ℕ = 2 + 249 * (c.args.stamp % c.args.sizes.now.slots) in
-    let image = (g.M.Medium.state c.args.m.now).content in
+    let image : Image = (g.M.Medium.state c.args.m.now).content in
     let two = c.requires.format in
-    let commit = committed g after in
-    let named_by = rw (c.if-not-branch.false, stays g after, c.slot_of-slot.ensures) at c.in_ok-read_descriptors.ensures.finds in
-    let not = rw (c.deref.ensures.0, named_by.0.numbers_are, c.if-are_blocks.false) at c.are_blocks.ensures.1 in
-    joined g after _ (record {
+    let is = c.slot_of-slot.ensures in
+    let ends = within_two c.args.sizes.now c.args.stamp _ is two in
+    let same : (g.M.Medium.state c.read_count.new.m).content ≡ image = λ i x. c.read_count.ensures.passes.quiet.content_stays x i in
+    let commit = rw (c.in-Some.is, is) at c.in_ok-count.ensures.finds in
+    let says = rw (c.if-not-branch.false, same, is) at c.in_ok-read_descriptors.ensures.finds in
+    let not = rw (c.deref.ensures.0, says.0.numbers_are, c.if-are_blocks.false) at c.are_blocks.ensures.1 in
+    looks_on g.met.M.Medium.follows_through (looks_within ends c.read_count.ensures) (looks_within ends c.read_descriptors.ensures)
+    (omega arith) tt (record {
       some = tt;
       all = λ entries whole.
-          let is = rw (commit_count s n _ commit.1) at (record_read shape image s entries (as_format two whole)) in
-          untrue (not (rw is at whole.fit.rising, rw is at whole.fit.inside));
+          let one = rw (commit_count s n _ commit.1) at (record_read shape image s entries (as_format two whole)) in
+          untrue (not (rw one at whole.fit.rising, rw one at whole.fit.inside));
       exact = (
         1 + descriptors_of n,
         rw two (inr (
@@ -127,13 +113,13 @@ returns-else-are_blocks g c =
           commit.1,
           descriptors_of n,
           inr (
-            named_by.0.there,
+            says.0.there,
             λ fit.
                 let one = named_alone image at n s fit.0 fit.1 fit.2 in untrue (not (rw one at fit.3, rw one at fit.4)),
             refl,
           ),
           refl,
         )),
-        omega (arith, named_by.1, commit.0),
+        omega (arith, says.1, commit.0),
       );
     })
