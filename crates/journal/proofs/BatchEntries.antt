@@ -2,10 +2,11 @@
 use Rattle.std.proofs.Common.{◌≡◌, ℕ, zero, suc, ◌+◌, ◌*◌, ◌-◌, ◌<◌, List, [], ◌∷◌, length, get_or, take, drop, refl, sym, ◌∙◌, ap}
 use Rattle.std.proofs.Common.{arith}
 use Rattle.std.specs.Prelude.{slice_range, All}
-use Rattle.std.proofs.lemmas.List.{length-take, length-drop, length-map, take-take, take_all, ext_get_or}
+use Rattle.std.proofs.lemmas.List.{length-take, length-drop, length-map, take-take, ext_get_or}
+use Rattle.std.proofs.Math.ListN.{get_or-map}
 use Rattle.journal.specs.SectorsTwo.{firsts_of, chunk_of}
 use Rattle.std.proofs.lemmas.Grind.{common_steps}
-use Rattle.journal.proofs.RecordTwo.{first_at, numbers_of_chunk, descriptor_spelled}
+use Rattle.journal.proofs.EntriesTwo.{first_at, numbers_of_chunk}
 use Rattle.journal.specs.Record.{Entry, numbers_of, entries_from, entries_of}
 
 numbers_from : (k : ℕ) (numbers bytes : List ℕ) → numbers_of (entries_from k numbers bytes) ≡ numbers
@@ -37,43 +38,40 @@ sized_batch numbers bytes size i d below =
     let inside : i < length numbers = omega (arith, length_of_batch numbers bytes) in
     grind (arith, common_steps, entry_of_batch i numbers bytes d inside)
 
--- the first bytes of some blocks that follow each other
-firsts_of_part : (numbers bytes : List ℕ) (firsts : List (List ℕ)) (many from : ℕ) → length bytes ≡ 512 * length numbers
-    → length firsts ≡ length (take many (drop from numbers))
-    → ((i : ℕ) → i < length (take many (drop from numbers))
-    → get_or firsts i [] ≡ slice_range bytes (512 * (from + i)) (512 * (from + i) + 8))
-    → firsts ≡ firsts_of (take many (drop from (entries_of numbers bytes)))
-firsts_of_part numbers bytes firsts many from size count each =
-    let es : List Entry = entries_of numbers bytes in
-    ext_get_or [] firsts (firsts_of (take many (drop from es)))
-    (simp (length-map, length-take, length-drop, length_of_batch) (simp (length-take, length-drop) at count))
-    (λ i below.
-    let few : i < many = omega (arith, count, length-take many (drop from numbers)) in
-    let inside : from + i < length numbers =
-    omega (arith, count, length-take many (drop from numbers), length-drop from numbers) in
-    let a : 512 * (from + i) + 512 - 512 * (from + i) ≡ 512 = omega arith in
-    let b : 512 * (from + i) + 8 - 512 * (from + i) ≡ 8 = omega arith in
-    let entry = entry_of_batch (from + i) numbers bytes (0, []) inside in
-    rw (each i (omega (arith, count)), first_at es many from i few, entry, a, b)
-    (sym (take-take 8 512 (drop (512 * (from + i)) bytes) (omega arith))))
+-- the first bytes of the i-th block
+first_of_batch : (i : ℕ) (numbers bytes : List ℕ) → i < length numbers
+    → get_or (firsts_of (entries_of numbers bytes)) i [] ≡ slice_range bytes (512 * i) (512 * i + 8)
+first_of_batch i numbers bytes below =
+    let a : 512 * i + 512 - 512 * i ≡ 512 = omega arith in
+    let b : 512 * i + 8 - 512 * i ≡ 8 = omega arith in
+    let first : Entry → List ℕ = λ e. take 8 e.1 in
+    rw (get_or-map first (entries_of numbers bytes) i (0, []), entry_of_batch i numbers bytes (0, []) below, a, b)
+    (take-take 8 512 (drop (512 * i) bytes) (omega arith))
 
--- of all of them
-pub all_firsts_of : (numbers bytes : List ℕ) (firsts : List (List ℕ)) (count : ℕ) → length bytes ≡ 512 * length numbers
-    → count ≡ length numbers → length firsts ≡ count
+-- those of all of them
+pub all_firsts_of : (numbers bytes : List ℕ) (firsts : List (List ℕ)) (count : ℕ) → count ≡ length numbers → length firsts ≡ count
     → ((i : ℕ) → i < count → get_or firsts i [] ≡ slice_range bytes (512 * (0 + i)) (512 * (0 + i) + 8))
     → firsts ≡ firsts_of (entries_of numbers bytes)
-all_firsts_of numbers bytes firsts count size all many each =
-    let whole = take_all (length numbers) numbers (omega arith) in
-    rw (take_all (length numbers) (entries_of numbers bytes) (omega (arith, length_of_batch numbers bytes))) at
-    (firsts_of_part numbers bytes firsts (length numbers) 0 size (rw (whole, ← all) many) (rw (whole, ← all) each))
+all_firsts_of numbers bytes firsts count all many each =
+    ext_get_or [] firsts _ (simp (length-map, length_of_batch) (omega (arith, many, all)))
+    (λ i below. let same : 0 + i ≡ i = omega arith in
+    rw same at (each i (omega (arith, many))) ∙ sym (first_of_batch i numbers bytes (omega (arith, many, all))))
 
 -- and of those of a descriptor
-pub firsts_of_batch : (numbers bytes : List ℕ) (firsts : List (List ℕ)) (j : ℕ) → length bytes ≡ 512 * length numbers
+pub firsts_of_batch : (numbers bytes : List ℕ) (firsts : List (List ℕ)) (j : ℕ)
     → length firsts ≡ length (take 30 (drop (30 * j) numbers))
     → ((i : ℕ) → i < length (take 30 (drop (30 * j) numbers))
     → get_or firsts i [] ≡ slice_range bytes (512 * (30 * j + i)) (512 * (30 * j + i) + 8))
     → firsts ≡ firsts_of (chunk_of (entries_of numbers bytes) j)
-firsts_of_batch numbers bytes firsts j = firsts_of_part numbers bytes firsts 30 (30 * j)
+firsts_of_batch numbers bytes firsts j count each =
+    let first : Entry → List ℕ = λ e. take 8 e.1 in
+    let es : List Entry = entries_of numbers bytes in
+    ext_get_or [] firsts _ (simp (length-map, length-take, length-drop, length_of_batch) (simp (length-take, length-drop) at count))
+    (λ i below.
+    let few : i < 30 = omega (arith, count, length-take 30 (drop (30 * j) numbers)) in
+    let inside : 30 * j + i < length numbers = omega (arith, count, length-take 30 (drop (30 * j) numbers), length-drop (30 * j) numbers) in
+    let whole = get_or-map first es (30 * j + i) (0, []) in
+    each i (omega (arith, count)) ∙ sym (first_at es 30 (30 * j) i few ∙ sym whole ∙ first_of_batch (30 * j + i) numbers bytes inside))
 
 pub ruleset batch =
-    (numbers_of_batch, length_of_batch, entry_of_batch, firsts_of_batch, numbers_of_chunk, descriptor_spelled)
+    (numbers_of_batch, length_of_batch, entry_of_batch, firsts_of_batch, numbers_of_chunk)

@@ -2,20 +2,21 @@
 use Rattle.std.proofs.Common.{◌≡◌, ℕ, ◌+◌, ◌<◌, List, [], ◌++◌, length, drop, get_or, refl, arith}
 use Rattle.std.specs.Prelude.{Option}
 use Rattle.std.proofs.lemmas.Grind.{common_steps}
-use Rattle.std.proofs.lemmas.List.{length-map}
 use Rattle.medium.specs.Medium.{Image}
 use Rattle.journal.specs.declared.log_format.LogFormat.{LogFormat}
 use Rattle.journal.specs.declared.log_format.LogFormat.TheVariants.{One, Two}
+use Rattle.journal.specs.declared.record.Record.{Record}
 use Rattle.journal.specs.Places.{Shape, first_data_of}
-use Rattle.journal.specs.Record.{Entry, block_of}
+use Rattle.journal.specs.Record.{Entry, numbers_of, block_of}
 use Rattle.journal.specs.Layout.{slot_at, IsWholeIn}
 use Rattle.journal.specs.Formats.{layout_of, IsWhole}
-use Rattle.journal.specs.Reading.{AreStamped, data_at}
+use Rattle.journal.specs.Reading.{AreStamped, IsRead}
 use Rattle.journal.specs.SectorsTwo.{firsts_of}
 use Rattle.journal.specs.Copies.{begun_with, first_of}
 use Rattle.journal.proofs.EntriesTwo.{place_rest}
-use Rattle.journal.proofs.WholeOne.{place_there as place_there_one}
-use Rattle.journal.proofs.WholeTwo.{place_there, says_whole}
+use Rattle.journal.proofs.Formats.{laws_of}
+use Rattle.journal.proofs.Format1Laws.{place_there as place_there_one}
+use Rattle.journal.proofs.SlotTwo.{place_there, placed}
 
 -- its first bytes, where its data place does not have them, and the rest of that make the block
 pub begun_is : (format : LogFormat) (shape : Shape) (image : Image) (stamp : ℕ) (entries : List Entry)
@@ -27,21 +28,33 @@ begun_is One shape image stamp entries w i below first is sector there =
 begun_is Two shape image stamp entries w i below first is sector there =
     let it = place_there shape image stamp entries w i below in grind (arith, common_steps, place_rest)
 
--- what is read of a record, and what its data places have, make its blocks
-module _ (shape : Shape) (image : Image) (stamp : ℕ) (entries : List Entry) (whole : IsWhole shape image stamp entries)
-    (firsts : List (List ℕ)) (i : ℕ) (below : i < length entries) where
-  begun : begun_with (first_of shape.format entries i) (image (data_at shape stamp i)) ≡ block_of entries i
-  begun = begun_is shape.format shape image stamp entries whole i below _ refl _ refl
+-- what stands before the data places of these blocks has these first bytes of them
+abbrev pub firsts_before : LogFormat → List Entry → List (List ℕ)
+firsts_before One entries = []
+firsts_before Two entries = firsts_of entries
 
-  -- in format 1 a data place has the whole block
-  pub one_read : shape.format ≡ One → firsts ≡ []
-      → get_or firsts i [] ++ drop (length (get_or firsts i [])) (image (data_at shape stamp i)) ≡ block_of entries i
-  one_read one none = grind (arith, begun)
+-- they and the rest of a data place make the block
+first_put : (format : LogFormat) (entries : List Entry) (i : ℕ) (sector : List ℕ) → i < length entries → length (block_of entries i) ≡ 512
+    → begun_with (first_of format entries i) sector ≡ block_of entries i
+    → get_or (firsts_before format entries) i [] ++ drop (length (get_or (firsts_before format entries) i [])) sector
+    ≡ block_of entries i
+first_put One entries i sector below sized begun = begun
+first_put Two entries i sector below sized begun = grind (arith, common_steps, begun, sized)
 
-  -- in format 2 all of it but the first 8 bytes
-  pub two_read : shape.format ≡ Two → firsts ≡ firsts_of entries
-      → get_or firsts i [] ++ drop (length (get_or firsts i [])) (image (data_at shape stamp i)) ≡ block_of entries i
-  two_read two same = grind (arith, common_steps, begun, whole.fit.sized i (0, []) below)
+-- a record that is whole is the one that its slot spells, and this was read of it
+pub read_is : (shape : Shape) (image : Image) (stamp : ℕ) (entries : List Entry) → IsWhole shape image stamp entries → (read : Record)
+    → read.numbers.items ≡ numbers_of ((layout_of shape.format).read image (slot_at (layout_of shape.format) shape stamp))
+    → read.firsts.items
+    ≡ firsts_before shape.format ((layout_of shape.format).read image (slot_at (layout_of shape.format) shape stamp))
+    → IsRead shape image stamp entries read
+read_is shape image stamp entries whole read numbers firsts =
+    let is = (laws_of shape.format).read shape image stamp entries whole in
+    let same : read.firsts.items ≡ firsts_before shape.format entries = rw is firsts in
+    record {
+      numbers_are = rw is numbers;
+      blocks_are = λ i below. rw same (first_put shape.format entries i _ below (whole.fit.sized i (0, []) below)
+          (begun_is shape.format shape image stamp entries whole i below _ refl _ refl));
+    }
 
 -- the data places of a whole record carry its stamp, in each format
 pub stamped_whole : (shape : Shape) (image : Image) (stamp : ℕ) (entries : List Entry) → IsWhole shape image stamp entries
@@ -51,4 +64,4 @@ stamped_whole shape image stamp entries whole = stamped_in shape.format whole
     stamped_in : (format : LogFormat) → IsWholeIn (layout_of format) shape image stamp entries
         → AreStamped format shape image stamp (length entries)
     stamped_in One whole = tt
-    stamped_in Two whole = rw (← (length-map entries (λ (e : Entry). e.0))) (says_whole shape image stamp entries whole).placed
+    stamped_in Two whole = placed shape image stamp entries whole

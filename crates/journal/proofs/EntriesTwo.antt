@@ -1,31 +1,30 @@
 -- The numbers and the entries in the sectors of format 2.
-use Rattle.std.proofs.Common.{◌≡◌, ℕ, ◌+◌, ◌*◌, ◌-◌, ◌^◌, ◌<◌, ◌≤◌, List, [], ◌∷◌, ◌++◌, length, get_or, take, drop, refl}
-use Rattle.std.proofs.Common.{sym, ap, arith, rules}
+use Rattle.std.proofs.Common.{◌≡◌, ℕ, ◌+◌, ◌*◌, ◌-◌, ◌^◌, ◌<◌, ◌≤◌, List, [], ◌∷◌, ◌++◌, length, get_or, take, drop}
+use Rattle.std.proofs.Common.{refl, sym, ap, arith, rules, ◌∙◌}
 use Rattle.std.specs.Prelude.{All, min, zip, slice_range}
 use Rattle.std.specs.List.{flat_map}
 use Rattle.std.proofs.lemmas.List.{take_all, take_min, length-take, length-drop, append_assoc, append-nil, take_more}
-use Rattle.std.proofs.lemmas.List.{drop-drop, drop-take, ext_get_or}
+use Rattle.std.proofs.lemmas.List.{drop-drop, drop-take, ext_get_or, take-map, drop-map, length-map, length-take-le}
 use Rattle.std.proofs.lemmas.List.Elements.{All-take, All-drop, All-from_get_or}
 use Rattle.std.proofs.lemmas.Slice.Zip.{length-zip, get_or-zip}
 use Rattle.std.proofs.lemmas.Grind.{common_steps, flat_map-append}
 use Rattle.byteorder.specs.Endian.{little_bytes}
 use Rattle.byteorder.specs.Numbers.{little_number-reads_back, little_from-take}
-use Rattle.journal.specs.Entry.{Entry}
-use Rattle.journal.proofs.Pieces.{length_pieces, piece_at}
-use Rattle.journal.specs.Spelling.{number_in}
+use Rattle.journal.specs.Entry.{Entry, numbers_of}
+use Rattle.journal.proofs.SectorNumbers.{commit_says}
+use Rattle.journal.proofs.OneSpelling.{length_pieces, piece_at}
+use Rattle.journal.specs.Spelling.{padded, number_in, AreItems}
 use Rattle.journal.specs.Sectors.{IsRising}
-use Rattle.journal.specs.SectorsTwo.{padded, entry_bytes, place_bytes, commit_bytes, entries_here, AreEntriesTwo}
-use Rattle.journal.specs.SectorsTwo.{IsDescriptorTwo, IsCommitTwo}
+use Rattle.journal.specs.SectorsTwo.{entry_bytes, place_bytes, entries_here, AreEntriesTwo, IsDescriptorTwo}
+use Rattle.journal.specs.SectorsTwo.{IsCommitTwo, descriptor_bytes, firsts_of, chunk_of}
+use Rattle.std.proofs.Math.ListN.{get_or-map}
+use Rattle.journal.specs.LayoutLaws.{IsRecordOf}
+use Rattle.journal.specs.Format2.{format2}
 
 -- the stamp in a data place, which begins with it
 pub place_says : (s : ℕ) (block : List ℕ) → s < 2 ^ 64 → number_in (place_bytes s block) 0 ≡ s
 unfolding number_in place_bytes
 place_says s block small = little_number-reads_back 8 s [] small
-
--- the count in a commit
-pub commit_counts : (s n : ℕ) → n < 2 ^ 64 → number_in (commit_bytes s n) 2 ≡ n
-unfolding number_in commit_bytes padded
-commit_counts s n small = search rules
 
 -- the bytes of a block behind its first 8
 pub place_rest : (s : ℕ) (block : List ℕ) → drop 8 (place_bytes s block) ≡ drop 8 block
@@ -67,17 +66,10 @@ module _ (numbers : List ℕ) (firsts : List (List ℕ)) (each : length firsts �
     unfolding entry_bytes
     entries_more before e below =
         let es : List Entry = zip numbers firsts in
-        let fm : List ℕ = flat_map entry_bytes (take e es) in
         let x : Entry = (get_or numbers e 0, get_or firsts e []) in
-        cc (
-          take_all 8 (get_or firsts e []) (omega (arith, sized e [] (omega arith))),
-          take_more es e (0, []) (omega (arith, length_zipped)),
-          zipped e below,
-          append_assoc (before ++ fm) (little_bytes 8 (get_or numbers e 0)) (get_or firsts e []),
-          append_assoc before fm (little_bytes 8 (get_or numbers e 0) ++ get_or firsts e []),
-          append-nil (entry_bytes x),
-          flat_map-append entry_bytes (take e es) (x ∷ []),
-        )
+        let first = take_all 8 (get_or firsts e []) (omega (arith, sized e [] (omega arith))) in
+        let more = take_more es e (0, []) (omega (arith, length_zipped)) in
+        rw (more, zipped e below, flat_map-append entry_bytes (take e es) (x ∷ [])) (simp (append_assoc, first) (rw (append-nil (get_or firsts e []))))
 
 -- a part of what rises rises
 pub rising_part : (numbers : List ℕ) (from count : ℕ) → IsRising numbers → IsRising (take count (drop from numbers))
@@ -91,12 +83,10 @@ items_here items numbers from here is are =
     rw (are, few) (take_min 30 (drop from numbers))
 
 -- first bytes that were cut from bytes are 8 each
-pub sized_from : (firsts : List (List ℕ)) (count : ℕ) (bytes : List ℕ) (at : ℕ → ℕ) → length firsts ≡ count
-    → ((i : ℕ) → i < count → at i + 8 ≤ length bytes)
-    → ((i : ℕ) → i < count → get_or firsts i [] ≡ slice_range bytes (at i) (at i + 8))
-    → All (λ (first : List ℕ). length first ≡ 8) firsts
-sized_from firsts count bytes at size inside each = All-from_get_or (λ (first : List ℕ). length first ≡ 8) firsts [] (λ i below.
-    grind (arith, common_steps, each i, inside i))
+pub sized_from : {firsts : List (List ℕ)} {count : ℕ} (bytes : List ℕ) (at : ℕ → ℕ) → ((i : ℕ) → i < count → at i + 8 ≤ length bytes)
+    → AreItems count (λ i. slice_range bytes (at i) (at i + 8)) [] firsts → All (λ (first : List ℕ). length first ≡ 8) firsts
+sized_from {firsts} bytes at inside each = All-from_get_or (λ (first : List ℕ). length first ≡ 8) firsts [] (λ i below.
+    grind (arith, common_steps, each.count, each.each i, inside i))
 
 -- what a descriptor may hold, cut from the block numbers of a record
 pub entries_cut : (numbers items : List ℕ) (firsts : List (List ℕ)) (j : ℕ) → length numbers ≤ 240 → 30 * j < length numbers
@@ -110,13 +100,8 @@ entries_cut numbers items firsts j few used rising small are each sized =
     search rules
 
 -- the numbers of a commit
-module _ (stamp count : ℕ) (bytes : List ℕ) (c : IsCommitTwo stamp count bytes) where
-  pub commit_stamp : number_in bytes 1 ≡ stamp
-  unfolding number_in commit_bytes padded
-  commit_stamp = rw c.spelled (little_number-reads_back 8 stamp [] (omega (arith, c.most)))
-
-  pub commit_count : number_in bytes 2 ≡ count
-  commit_count = rw c.spelled (commit_counts stamp count (omega (arith, c.few)))
+pub commit_count : (stamp count : ℕ) (bytes : List ℕ) → IsCommitTwo stamp count bytes → number_in bytes 2 ≡ count
+commit_count stamp count bytes c = (commit_says c).1 (omega arith)
 
 -- what the bytes of a descriptor say
 module _ {stamp count j : ℕ} {numbers : List ℕ} {firsts : List (List ℕ)} {bytes : List ℕ}
@@ -157,17 +142,16 @@ module _ {stamp count j : ℕ} {numbers : List ℕ} {firsts : List (List ℕ)} {
       (take_all 8 (get_or firsts e []) (omega (arith, d.entries.sized e [] (omega (arith, d.entries.each)))))
 
   -- numbers that were read from the entries are those of the descriptor
-  pub numbers_are : (here : ℕ) (list : List ℕ) → here ≡ entries_here count j → length list ≡ here
-      → ((i : ℕ) → i < here → get_or list i 0 ≡ number_in bytes (4 + 2 * i)) → list ≡ numbers
-  numbers_are here list is size read =
-      ext_get_or 0 list numbers (omega (arith, d.entries.many))
-      (λ i below. grind (arith, read i, number_is i, d.entries.many))
+  pub numbers_are : {here : ℕ} {list : List ℕ} → here ≡ entries_here count j → AreItems here (λ i. number_in bytes (4 + 2 * i)) 0 list
+      → list ≡ numbers
+  numbers_are {list = list} is read = ext_get_or 0 list numbers (omega (arith, is, read.count, d.entries.many))
+      (λ i below. grind (arith, read.count, read.each i, number_is i, d.entries.many))
 
   -- and so are first bytes
-  pub firsts_are : (here : ℕ) (list : List (List ℕ)) → here ≡ entries_here count j → length list ≡ here
-      → ((i : ℕ) → i < here → get_or list i [] ≡ slice_range bytes (40 + 16 * i) (40 + 16 * i + 8)) → list ≡ firsts
-  firsts_are here list is size read = ext_get_or [] list firsts (omega (arith, d.entries.many, d.entries.each))
-      (λ i below. grind (arith, read i, first_is i, d.entries.many))
+  pub firsts_are : {here : ℕ} {list : List (List ℕ)} → here ≡ entries_here count j
+      → AreItems here (λ i. slice_range bytes (40 + 16 * i) (40 + 16 * i + 8)) [] list → list ≡ firsts
+  firsts_are {list = list} is read = ext_get_or [] list firsts (omega (arith, is, read.count, d.entries.many, d.entries.each))
+      (λ i below. grind (arith, read.count, read.each i, first_is i, d.entries.many))
 
 -- a sector is a descriptor of one value
 pub IsDescriptorTwo-one : (bytes : List ℕ) (a b m n i j : ℕ) (ns ms : List ℕ) (fs gs : List (List ℕ))
@@ -177,8 +161,46 @@ IsDescriptorTwo-one bytes a b m n i j ns ms fs gs d e =
     let x = header_says d in
     let y = header_says e in
     let here : length ns ≡ entries_here n j = cc (d.entries.many, x.1, y.1, x.2, y.2) in
-    let numbers = numbers_are e (length ns) ns here refl (λ x below. sym (number_is d x below)) in
-    let firsts = firsts_are e (length ns) fs here d.entries.each (λ x below. sym (first_is d x below)) in
+    let numbers = numbers_are e here (record { count = refl; each = λ x below. sym (number_is d x below) }) in
+    let firsts = firsts_are e here (record { count = d.entries.each; each = λ x below. sym (first_is d x below) }) in
     grind (arith, x, y)
 
-pub ruleset commits = (commit_stamp, commit_count)
+-- the numbers of these entries
+pub numbers_of_chunk : (es : List Entry) (j : ℕ) → numbers_of (chunk_of es j) ≡ take 30 (drop (30 * j) (numbers_of es))
+numbers_of_chunk es j =
+    rw (drop-map (λ (e : Entry). e.0) (30 * j) es, take-map (λ (e : Entry). e.0) 30 (drop (30 * j) es))
+
+-- one of some entries that follow each other
+module _ (es : List Entry) (many from i : ℕ) (few : i < many) where
+  part_at : get_or (take many (drop from es)) i (0, []) ≡ get_or es (from + i) (0, [])
+  part_at = grind (arith, common_steps)
+
+  pub number_at : get_or (numbers_of (take many (drop from es))) i 0 ≡ (get_or es (from + i) (0, [])).0
+  number_at = get_or-map (λ (e : Entry). e.0) (take many (drop from es)) i (0, []) ∙ ap (λ (e : Entry). e.0) part_at
+
+  pub first_at : get_or (firsts_of (take many (drop from es))) i [] ≡ take 8 (get_or es (from + i) (0, [])).1
+  first_at =
+      let first : Entry → List ℕ = λ e. take 8 e.1 in
+      get_or-map first (take many (drop from es)) i (0, []) ∙ ap first part_at
+
+-- in a record in the limits it is a descriptor
+pub descriptor_two : {blocks stamp : ℕ} {es : List Entry} (j : ℕ) → IsRecordOf format2 blocks stamp es → 30 * j < length es
+    → IsDescriptorTwo stamp (length es) j (numbers_of (chunk_of es j)) (firsts_of (chunk_of es j)) (descriptor_bytes stamp es j)
+descriptor_two {stamp = stamp} {es = es} j r used =
+    let first : Entry → List ℕ = λ e. take 8 e.1 in
+    let full : Entry → Type 0 = λ e. length e.1 ≡ 512 in
+    let chunk : List Entry = chunk_of es j in
+    let long = length-map es (λ (e : Entry). e.0) in
+    let each = length-map chunk first in
+    let sized = All-take full 30 (drop (30 * j) es) (All-drop full (30 * j) es r.fit.sized) in
+    let entries = entries_cut (numbers_of es) (numbers_of chunk) (firsts_of chunk) j (omega (arith, long, r.fit.few))
+    (omega (arith, long)) r.fit.rising r.fit.small (numbers_of_chunk es j) (each ∙ sym (length-map chunk (λ (e : Entry). e.0)))
+    (All-from_get_or (λ (l : List ℕ). length l ≡ 8) (firsts_of chunk) [] (λ i below.
+    rw (get_or-map first chunk i (0, []))
+    (length-take-le 8 (get_or chunk i (0, [])).1 (omega (arith, sized i (0, []) (omega (arith, below, each))))))) in
+    record { spelled = refl; least = r.least; most = r.below; entries = rw long at entries }
+
+-- a data place is one for its own bytes
+pub place_own : (stamp : ℕ) (block sector : List ℕ) → sector ≡ place_bytes stamp block → sector ≡ place_bytes stamp sector
+unfolding place_bytes
+place_own stamp block sector is = grind arith

@@ -1,52 +1,126 @@
 -- An image stands for something or has one fault.
-use Rattle.std.proofs.Common.{◌≡◌, ◌⊎◌, inl, inr, ℕ, ◌+◌, ◌≤◌, List, arith}
-use Rattle.std.specs.Prelude.{drop, replicate}
+use Rattle.std.proofs.Common.{◌≡◌, ◌⊎◌, ℕ, ◌+◌, ◌-◌, ◌^◌, ◌<◌, List, [], ◌∷◌, length, get_or, sym, subst, arith, rules}
+use Rattle.std.proofs.Common.{inl, inr}
+use Rattle.std.specs.Prelude.{All}
 use Rattle.std.proofs.lemmas.Bool.{cases_eq, cases_lt}
+use Rattle.std.proofs.lemmas.List.{ext_get_or}
+use Rattle.std.proofs.lemmas.List.Elements.{All-from_get_or}
 use Rattle.medium.specs.Medium.{Image}
-use Rattle.journal.specs.declared.super_fault.SuperFault.{SuperFault}
-use Rattle.journal.specs.declared.super_fault.SuperFault.TheVariants.{Magic, Version, Rest, Sizes}
 use Rattle.journal.specs.Places.{Shape, sectors_of}
-use Rattle.journal.specs.Spelling.{number_in, super_mark}
-use Rattle.journal.specs.Sectors.{IsSuper}
-use Rattle.journal.specs.SuperFaults.{HasMagic, HasVersion, HasZeroRest, IsSuperFault}
-use Rattle.journal.specs.Standing.{Stands}
+use Rattle.journal.specs.Spelling.{spelling, number_in, super_mark, head_mark}
+use Rattle.journal.specs.Sectors.{version_of, IsSuper, IsHead, IsRising}
+use Rattle.journal.specs.Record.{Entry, numbers_of}
+use Rattle.journal.specs.Layout.{Layout, AreEntries, IsWholeIn, HasWholeIn, slot_at, part_at}
+use Rattle.journal.specs.LayoutLaws.{Laws}
+use Rattle.journal.specs.Formats.{layout_of, HasWhole}
+use Rattle.journal.specs.Standing.{IsCount, Stands}
+use Rattle.journal.proofs.AllOrFirst.{all_or_first}
+use Rattle.journal.proofs.Formats.{laws_of}
+use Rattle.journal.proofs.SectorNumbers.{head_stamp, shape_in, shape_is, super_begins, IsSuper-one}
+use Rattle.journal.specs.SuperFaults.{HasMagic, HasVersion, HasZeroRest}
 use Rattle.journal.specs.ImageFaults.{ImageFault, BadSuper, BadVersion, BadSize, BadHead, HasFault}
-use Rattle.journal.proofs.SectorNumbers.{super_begins, IsSuper-one}
-use Rattle.journal.proofs.Decided.{same_or_not, head_or_not, super_or_not, count_of}
 use Rattle.journal.proofs.StandingLaws.{count_stands}
 
--- a sector is a super or has a fault, by what is known of it
-first_fault : (bytes : List ℕ) → HasMagic bytes ⊎ (¬ HasMagic bytes) → HasVersion bytes ⊎ (¬ HasVersion bytes)
-    → HasZeroRest bytes ⊎ (¬ HasZeroRest bytes)
-    → ((shape : Shape) × IsSuper shape bytes) ⊎ (¬ ((shape : Shape) × IsSuper shape bytes))
-    → ((shape : Shape) × IsSuper shape bytes) ⊎ ((fault : SuperFault) × IsSuperFault fault bytes)
-first_fault bytes (inr m) v z s = inr (Magic, m)
-first_fault bytes (inl m) (inr v) z s = inr (Version, (m, v))
-first_fault bytes (inl m) (inl v) (inr z) s = inr (Rest, (m, v, z))
-first_fault bytes (inl m) (inl v) (inl z) (inr s) = inr (Sizes, (m, v, z, λ shape is. s (shape, is)))
-first_fault bytes (inl m) (inl v) (inl z) (inl s) = inl s
+-- so or not
+abbrev Decided : Type 0 → Type 0
+Decided P = P ⊎ (¬ P)
 
-pub super_or_fault : (bytes : List ℕ)
-    → ((shape : Shape) × IsSuper shape bytes) ⊎ ((fault : SuperFault) × IsSuperFault fault bytes)
-super_or_fault bytes =
-    first_fault bytes (cases_eq (number_in bytes 0) super_mark) (grind arith)
-    (same_or_not (drop 48 bytes) (replicate 464 0)) (super_or_not bytes)
+-- all of n or not
+each_or_not : (P : ℕ → Type 0) (n : ℕ) → ((k : ℕ) → Decided (P k)) → Decided ((k : ℕ) → k < n → P k)
+each_or_not P n p = let first = all_or_first P (λ k. ¬ P k) n (λ k below. p k) in search (rules, arith)
 
--- the faults of a super, as those of an image
-fault_of : (size : ℕ) (image : Image) → 1 ≤ size → (fault : SuperFault)
-    → IsSuperFault fault (image 0) → (f : ImageFault) × HasFault size image f
-fault_of size image some Magic f = (BadSuper, (some, inl f))
-fault_of size image some Version f = (BadVersion, (some, f))
-fault_of size image some Rest f = (BadSuper, (some, inr f))
-fault_of size image some Sizes f = (BadSize, inr (inl f))
+-- two lists of numbers are the same or not
+pub same_or_not : (xs ys : List ℕ) → Decided (xs ≡ ys)
+same_or_not xs ys =
+    let each = each_or_not (λ k. get_or xs k 0 ≡ get_or ys k 0) (length xs) (λ k. cases_eq _ _) in
+    search (rules, arith, cases_eq (length xs) (length ys), ext_get_or 0 xs ys)
+
+-- all of a list or not
+all_or_not : {A : Type 0} (P : A → Type 0) → ((x : A) → Decided (P x)) → (xs : List A) (d : A) → Decided (All P xs)
+all_or_not P each xs d =
+    let all = each_or_not (λ k. P (get_or xs k d)) (length xs) (λ k. each (get_or xs k d)) in
+    search (rules, All-from_get_or P xs d)
+
+-- below or not
+below_or_not : (a b : ℕ) → Decided (a < b)
+below_or_not a b = grind (arith, cases_lt a b)
+
+-- numbers rise or not
+rising_or_not : (numbers : List ℕ) → Decided (IsRising numbers)
+rising_or_not numbers =
+    let all = each_or_not (λ j. (i : ℕ) → i < j → get_or numbers i 0 < get_or numbers j 0) (length numbers)
+    (λ j. each_or_not (λ i. get_or numbers i 0 < get_or numbers j 0) j (λ i. below_or_not _ _)) in
+    search (rules, arith)
+
+-- a sector is a head or not
+pub head_or_not : (bytes : List ℕ) → Decided ((stamp : ℕ) × IsHead stamp bytes)
+head_or_not bytes =
+    let s = number_in bytes 1 in
+    let spelled = same_or_not bytes (spelling (head_mark ∷ s ∷ [])) in
+    let here : Decided (IsHead s bytes) = search (rules, arith, cases_lt) in
+    let one = λ (h : (stamp : ℕ) × IsHead stamp bytes). rw (← (head_stamp h.1)) at h.1 in
+    search (rules, one)
+
+-- a sector is a super or not
+pub super_or_not : (bytes : List ℕ) → Decided ((shape : Shape) × IsSuper shape bytes)
+super_or_not bytes =
+    let s : Shape = shape_in bytes in
+    let spelled = same_or_not bytes (spelling (super_mark ∷ version_of s.format ∷ s.blocks ∷ s.slots ∷ 2 ∷ s.home ∷ [])) in
+    let here : Decided (IsSuper s bytes) = search (rules, arith, cases_lt) in
+    let one : ((shape : Shape) × IsSuper shape bytes) → IsSuper s bytes =
+    λ w. subst (λ (x : Shape). IsSuper x bytes) (sym (shape_is w.1)) w.1 in
+    search (rules, one)
+
+-- blocks make a record or not
+entries_or_not : (most blocks : ℕ) (es : List Entry) → Decided (AreEntries most blocks es)
+entries_or_not most blocks es =
+    let rising = rising_or_not (numbers_of es) in
+    let inside = all_or_not (λ b. b < blocks) (λ b. below_or_not b blocks) (numbers_of es) 0 in
+    let small = all_or_not (λ b. b < 2 ^ 31) (λ b. below_or_not b (2 ^ 31)) (numbers_of es) 0 in
+    let sized = all_or_not (λ e. length e.1 ≡ 512) (λ e. cases_eq (length e.1) 512) es (0, []) in
+    search (rules, arith, cases_lt 0 (length es), cases_lt most (length es))
+
+-- a record is whole or not
+whole_or_not : (L : Layout) (laws : Laws L) (shape : Shape) (image : Image) (stamp : ℕ)
+    → Decided (HasWholeIn L shape image stamp)
+whole_or_not L laws shape image stamp =
+    let es : List Entry = L.read image (slot_at L shape stamp) in
+    let fit = entries_or_not L.most shape.blocks es in
+    let there = each_or_not (λ p. image (part_at L shape stamp (length es) p) ≡ L.part stamp es p) (L.parts (length es))
+    (λ p. same_or_not (image (part_at L shape stamp (length es) p)) (L.part stamp es p)) in
+    let here : Decided (IsWholeIn L shape image stamp es) = search (rules, arith, cases_lt 0 stamp, cases_lt stamp (2 ^ 63 - 1)) in
+    let one : HasWholeIn L shape image stamp → IsWholeIn L shape image stamp es =
+    λ w. subst (IsWholeIn L shape image stamp) (laws.read shape image stamp w.0 w.1) w.1 in
+    search (rules, one)
+
+-- each image has a count of whole records from each stamp on
+pub count_of : (shape : Shape) (image : Image) (head : ℕ) → (count : ℕ) × IsCount shape image head count
+count_of shape image head =
+    let whole : ℕ → Type 0 = λ j. HasWhole shape image (head + j) in
+    elim (all_or_first whole (λ j. ¬ whole j) shape.slots
+    (λ j below. whole_or_not (layout_of shape.format) (laws_of shape.format) shape image (head + j))) [
+      | inl all ↦ (shape.slots, record { few = omega arith; whole = all; ends = λ less. absurd (omega (arith, less)) })
+      | inr first ↦ (first.0, record { few = omega (arith, first.1); whole = first.2; ends = λ less. first.3 })
+    ]
+
+-- an image has a super or a fault of it, by what is known of its first sector
+first_fault : (size : ℕ) (image : Image) → 0 < size → HasMagic (image 0) ⊎ (¬ HasMagic (image 0))
+    → HasVersion (image 0) ⊎ (¬ HasVersion (image 0)) → HasZeroRest (image 0) ⊎ (¬ HasZeroRest (image 0))
+    → ((shape : Shape) × IsSuper shape (image 0)) ⊎ (¬ ((shape : Shape) × IsSuper shape (image 0)))
+    → ((shape : Shape) × IsSuper shape (image 0)) ⊎ ((fault : ImageFault) × HasFault size image fault)
+first_fault size image some (inr m) v z s = inr (BadSuper, (some, inl m))
+first_fault size image some (inl m) (inr v) z s = inr (BadVersion, (some, (m, v)))
+first_fault size image some (inl m) (inl v) (inr z) s = inr (BadSuper, (some, inr (m, v, z)))
+first_fault size image some (inl m) (inl v) (inl z) (inr s) = inr (BadSize, inr (inl (m, v, z, λ shape is. s (shape, is))))
+first_fault size image some (inl m) (inl v) (inl z) (inl s) = inl s
 
 -- an image stands for something or has a fault
 pub stands_or_fault : (size : ℕ) (image : Image) → Stands size image ⊎ ((fault : ImageFault)
     × HasFault size image fault)
 stands_or_fault size image = elim (cases_lt 0 size) [
   | inr none ↦ inr (BadSize, inl (omega arith))
-  | inl some ↦ elim (super_or_fault (image 0)) [
-    | inr f ↦ inr (fault_of size image some f.0 f.1)
+  | inl some ↦ elim (first_fault size image some (cases_eq _ _) (grind arith) (same_or_not _ _) (super_or_not _)) [
+    | inr f ↦ inr f
     | inl s ↦ elim (cases_lt size (sectors_of s.0)) [
       | inl short ↦ inr (BadSize, inr (inr (s.0, s.1, short)))
       | inr fits ↦ elim (head_or_not (image 1)) [

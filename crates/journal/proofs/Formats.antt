@@ -1,5 +1,5 @@
 -- Both formats keep the laws of a layout.
-use Rattle.std.proofs.Common.{◌≡◌, inr, length, arith}
+use Rattle.std.proofs.Common.{◌≡◌, inr, arith}
 use Rattle.journal.specs.declared.log_format.LogFormat.{LogFormat}
 use Rattle.journal.specs.declared.log_format.LogFormat.TheVariants.{One, Two}
 use Rattle.journal.specs.Places.{limit_of, slot_sectors_of}
@@ -8,23 +8,22 @@ use Rattle.journal.specs.Format1.{format1}
 use Rattle.journal.specs.Format2.{format2}
 use Rattle.journal.specs.Formats.{layout_of}
 use Rattle.journal.proofs.SectorNumbers.{commit_says}
-use Rattle.journal.proofs.EntriesTwo.{commit_counts}
-use Rattle.journal.proofs.Format1Laws.{parts as parts1, inside1, apart1, carries1, one_stamp1, zeros1, commit_of}
-use Rattle.journal.proofs.Format2Laws.{parts as parts2, inside2, apart2, carries2, one_stamp2, zeros2}
-use Rattle.journal.proofs.WholeOne.{record_read as read1}
-use Rattle.journal.proofs.WholeTwo.{record_read as read2}
+use Rattle.journal.proofs.Format1Laws.{parts, carries1, one_stamp1, zeros1, commit_of}
+use Rattle.journal.proofs.Format2Laws.{commit_two, carries2, one_stamp2, zeros2}
+use Rattle.journal.proofs.Format1Laws.{record_read as read1}
+use Rattle.journal.proofs.SlotTwo.{record_read as read2}
 
 pub format1_laws : Laws format1
 format1_laws = record {
   some_parts = λ n. omega arith;
-  inside = inside1;
-  apart = apart1;
-  last = λ n. grind (arith, parts1);
+  inside = λ n p few below. grind (arith, parts);
+  apart = λ n p q few hp hq e. grind (arith, parts);
+  last = λ n. grind (arith, parts);
   carries = λ blocks s entries p r below. carries1 r p below;
   last_is_late = λ n. omega arith;
   one_stamp = λ blocks s t entries p r below c. one_stamp1 blocks s t entries p r c;
-  last_part = λ s a b same. grind (arith, parts1);
-  count = λ blocks s a b ra rb e. grind (arith, parts1, commit_says (commit_of ra), commit_says (commit_of rb));
+  last_part = λ s a b same. grind (arith, parts);
+  count = λ blocks s a b ra rb e. grind (arith, parts, commit_says (commit_of ra), commit_says (commit_of rb));
   read = read1;
   zeros = zeros1;
 }
@@ -32,16 +31,14 @@ format1_laws = record {
 pub format2_laws : Laws format2
 format2_laws = record {
   some_parts = λ n. omega arith;
-  inside = inside2;
-  apart = apart2;
-  last = λ n. grind (arith, parts2);
+  inside = λ n p few below. grind (arith, parts);
+  apart = λ n p q few hp hq e. grind (arith, parts);
+  last = λ n. grind (arith, parts);
   carries = λ blocks s entries p r below. inr (carries2 blocks s entries p r);
   last_is_late = λ n. omega arith;
   one_stamp = λ blocks s t entries p r below c. one_stamp2 blocks s t entries p r c;
-  last_part = λ s a b same. grind (arith, parts2);
-  count = λ blocks s a b ra rb e.
-      let many = commit_counts s (length a) (omega (arith, ra.fit.few)) in
-      grind (arith, parts2, many, commit_counts s (length b) (omega (arith, rb.fit.few)));
+  last_part = λ s a b same. grind (arith, parts);
+  count = λ blocks s a b ra rb e. grind (arith, parts, commit_says (commit_two ra), commit_says (commit_two rb));
   read = read2;
   zeros = zeros2;
 }

@@ -1,10 +1,7 @@
-pub mod Pieces
 pub mod OneSpelling
 pub mod SectorNumbers
 pub mod AllOrFirst
-pub mod Decided
 pub mod EntriesTwo
-pub mod RecordTwo
 pub mod Apart
 pub mod BatchEntries
 pub mod CopiedBlock
@@ -14,11 +11,9 @@ pub mod Format1Laws
 pub mod Format2Laws
 pub mod Formats
 pub mod Overlay
-pub mod WholeOne
 pub mod SectorsRead
 pub mod Slots
 pub mod StandingLaws
-pub mod WholeTwo
 pub mod SlotTwo
 pub mod DescribedNumbers
 pub mod Wholeness

@@ -1,19 +1,15 @@
 -- What a sector's numbers say of the value that it spells, and that this is one.
-use Rattle.std.proofs.Common.{◌≡◌, ◌⊎◌, ℕ, ◌+◌, ◌<◌, ◌≤◌, ◌*◌, List, [], ◌∷◌, length, drop, get_or}
+use Rattle.std.proofs.Common.{◌≡◌, ℕ, ◌+◌, ◌<◌, ◌≤◌, List, [], ◌∷◌, length, drop, get_or}
 use Rattle.std.proofs.Common.{ap, sym, ◌∙◌, arith}
 use Rattle.std.specs.Prelude.{if◌then◌else◌, ◌==◌}
 use Rattle.std.proofs.lemmas.List.{ext_get_or}
-use Rattle.journal.specs.Places.{Shape, IsFirstHome}
+use Rattle.journal.specs.Places.{Shape}
 use Rattle.journal.specs.declared.log_format.LogFormat.{LogFormat}
 use Rattle.journal.specs.declared.log_format.LogFormat.TheVariants.{One, Two}
-use Rattle.journal.specs.Spelling.{number_in, super_mark, descriptor_mark}
-use Rattle.journal.specs.Sectors.{version_of, IsSuper, IsHead, IsDescriptor, IsCommit}
+use Rattle.journal.specs.Spelling.{number_in, super_mark, descriptor_mark, AreItems}
+use Rattle.journal.specs.Sectors.{version_of, IsSuper, IsHead, IsDescriptor, IsCommitOf}
 use Rattle.journal.specs.SuperFaults.{HasMagic, HasVersion, HasZeroRest}
 use Rattle.journal.proofs.OneSpelling.{spelling_get, spelling-rest}
-
--- a number behind three others
-behind_three : (a b c i : ℕ) (ns : List ℕ) → get_or (a ∷ b ∷ c ∷ ns) (3 + i) 0 ≡ get_or ns i 0
-behind_three a b c i ns = grind arith
 
 module _ {stamp : ℕ} {numbers bytes : List ℕ} (d : IsDescriptor stamp numbers bytes) where
   -- the stamp of a descriptor, and how many block numbers it has
@@ -26,48 +22,35 @@ module _ {stamp : ℕ} {numbers bytes : List ℕ} (d : IsDescriptor stamp number
   -- each of its block numbers
   pub descriptor_number : (i : ℕ) → i < length numbers → number_in bytes (3 + i) ≡ get_or numbers i 0
   descriptor_number i below =
-      let it = behind_three descriptor_mark stamp (length numbers) i numbers in
+      let it : get_or (descriptor_mark ∷ stamp ∷ length numbers ∷ numbers) (3 + i) 0 ≡ get_or numbers i 0 = grind arith in
       spelling_get (3 + i) _ bytes (omega arith) (omega (arith, it, d.block_numbers.fit i 0 below)) d.spelled ∙ it
 
   -- a list that was read as its block numbers is its block numbers
-  pub descriptor_numbers : (count : ℕ) (list : List ℕ) → count ≡ number_in bytes 2
-      → length list ≡ count
-      → ((i : ℕ) → i < count → get_or list i 0 ≡ number_in bytes (3 + i)) → list ≡ numbers
-  descriptor_numbers count list is size read = ext_get_or 0 list numbers (omega (arith, is, descriptor_says.1))
-      (λ i below. grind (arith, read i, descriptor_number i, is, descriptor_says.1))
+  pub descriptor_numbers : {count : ℕ} {list : List ℕ} → count ≡ number_in bytes 2
+      → AreItems count (λ i. number_in bytes (3 + i)) 0 list → list ≡ numbers
+  descriptor_numbers {list = list} is read = ext_get_or 0 list numbers (omega (arith, is, read.count, descriptor_says.1))
+      (λ i below. grind (arith, read.count, read.each i, descriptor_number i, is, descriptor_says.1))
 
 -- the format of a super with this version
 abbrev pub format_in : ℕ → LogFormat
 format_in version = if version == 1 then One else Two
 
-format_is : (format : LogFormat) → format_in (version_of format) ≡ format
-format_is format = grind arith
-
--- a format has version 1 or 2
-version_known : (format : LogFormat) → (version_of format ≡ 1) ⊎ (version_of format ≡ 2)
-version_known format = grind arith
-
--- home is near the log
-home_near : (format : LogFormat) (slots home : ℕ) → IsFirstHome format slots home → home ≤ 2 + 249 * (slots + 1)
-home_near format slots home h = grind (arith, h)
-
 module _ {shape : Shape} {bytes : List ℕ} (s : IsSuper shape bytes) where
   -- the version of a super, its blocks and slots, and where home begins
   super_says : (number_in bytes 1 ≡ version_of shape.format) × (number_in bytes 2 ≡ shape.blocks)
       × (number_in bytes 3 ≡ shape.slots) × (number_in bytes 5 ≡ shape.home)
-  super_says =
-      let near = home_near shape.format shape.slots shape.home s.home_is in (
-        spelling_get 1 _ bytes (omega arith) (grind (arith, version_known shape.format)) s.spelled,
-        spelling_get 2 _ bytes (omega arith) (omega (arith, s.most_blocks)) s.spelled,
-        spelling_get 3 _ bytes (omega arith) (omega (arith, s.most_slots)) s.spelled,
-        spelling_get 5 _ bytes (omega arith) (omega (arith, s.most_slots, near)) s.spelled,
-      )
+  super_says = (
+    spelling_get 1 _ bytes (omega arith) (grind arith) s.spelled,
+    spelling_get 2 _ bytes (omega arith) (omega (arith, s.most_blocks)) s.spelled,
+    spelling_get 3 _ bytes (omega arith) (omega (arith, s.most_slots)) s.spelled,
+    spelling_get 5 _ bytes (omega arith) (grind (arith, s.most_slots, s.home_is)) s.spelled,
+  )
 
   -- a super has no fault
   pub super_begins : HasMagic bytes × HasVersion bytes × HasZeroRest bytes
   super_begins = (
     spelling_get 0 _ bytes (omega arith) (omega arith) s.spelled,
-    rw super_says.0 (version_known shape.format),
+    grind (arith, super_says),
     ap (λ (l : List ℕ). drop 48 l) s.spelled
         ∙ spelling-rest (super_mark ∷ version_of shape.format ∷ shape.blocks ∷ shape.slots ∷ 2 ∷ shape.home ∷ []),
   )
@@ -82,8 +65,8 @@ shape_in bytes = record {
 }
 
 pub shape_is : {shape : Shape} {bytes : List ℕ} → IsSuper shape bytes → shape_in bytes ≡ shape
-shape_is {shape} s = λ i. record {
-  format = (ap format_in (super_says s).0 ∙ format_is shape.format) i;
+shape_is {shape} {bytes} s = let format : format_in (number_in bytes 1) ≡ shape.format = grind (arith, super_says s) in λ i. record {
+  format = format i;
   blocks = (super_says s).1 i;
   slots = (super_says s).2 i;
   home = (super_says s).3 i;
@@ -102,9 +85,9 @@ pub IsHead-one : (a b : ℕ) (bytes : List ℕ) → IsHead a bytes → IsHead b 
 IsHead-one a b bytes h k = sym (head_stamp h) ∙ head_stamp k
 
 -- the stamp of a commit, and its count
-pub commit_says : {stamp count : ℕ} {bytes : List ℕ} → IsCommit stamp count bytes
-    → (number_in bytes 1 ≡ stamp) × (number_in bytes 2 ≡ count)
+pub commit_says : {mark limit stamp count : ℕ} {bytes : List ℕ} → IsCommitOf mark limit stamp count bytes
+    → (number_in bytes 1 ≡ stamp) × (limit ≤ 240 → number_in bytes 2 ≡ count)
 commit_says c = (
   spelling_get 1 _ _ (omega arith) (omega (arith, c.most)) c.spelled,
-  spelling_get 2 _ _ (omega arith) (omega (arith, c.few)) c.spelled,
+  λ low. spelling_get 2 _ _ (omega arith) (omega (arith, c.few, low)) c.spelled,
 )

@@ -1,5 +1,5 @@
 -- An image stands for one array and one next stamp.
-use Rattle.std.proofs.Common.{◌≡◌, ℕ, ◌+◌, ◌<◌, ◌≤◌, List, [], length, get_or, map, refl, sym, ◌∙◌, ap, subst, arith}
+use Rattle.std.proofs.Common.{◌≡◌, ℕ, ◌+◌, ◌<◌, ◌≤◌, List, [], length, get_or, map, refl, sym, ◌∙◌, subst, arith}
 use Rattle.std.proofs.lemmas.List.{ext_get_or}
 use Rattle.std.proofs.lemmas.List.FromFn.{get_or-map-range_with_len, length-map-range_with_len}
 use Rattle.std.specs.List.{range_with_len}
@@ -32,13 +32,6 @@ module _ (size other : ℕ) (shape : Shape) (image : Image) (a b : Array) (t u :
   pub counts : length h.records ≡ length k.records
   counts = grind (arith, not_fewer h k heads, not_fewer k h (sym heads))
 
-  -- they are the same records
-  records_same : h.records ≡ k.records
-  records_same =
-      ext_get_or [] h.records k.records counts
-      (λ j below. IsWhole-one (layout_of shape.format) (laws_of shape.format) shape image (h.head + j) (get_or h.records j [])
-      (get_or k.records j []) (h.keeps.whole j below) (rw heads (k.keeps.whole j (omega (arith, counts)))))
-
 -- an image stands for at most one array and next stamp, of one shape
 pub StandsFor-one : (size other : ℕ) (s r : Shape) (image : Image) (a b : Array) (t u : ℕ)
     → StandsFor size s image a t → StandsFor other r image b u
@@ -46,10 +39,12 @@ pub StandsFor-one : (size other : ℕ) (s r : Shape) (image : Image) (a b : Arra
 StandsFor-one size other s r image a b t u h k =
     let one : s ≡ r = IsSuper-one s r (image 0) h.keeps.super k.keeps.super in
     let there : StandsFor other s image b u = subst (λ (x : Shape). StandsFor other x image b u) (sym one) k in
-    let same = records_same size other s image a b t u h there in
-    let many = heads size other s image a b t u h there in (
+    let many = heads size other s image a b t u h there in
+    let long = counts size other s image a b t u h there in
+    let same = ext_get_or [] h.records there.records long (λ j below. IsWhole-one (layout_of s.format) (laws_of s.format) s image
+    (h.head + j) _ _ (h.keeps.whole j below) (rw many (there.keeps.whole j (omega (arith, long))))) in (
       one,
-      omega (arith, h.next_is, there.next_is, many, ap (λ (rs : List (List Entry)). length rs) same),
+      omega (arith, h.next_is, there.next_is, many, long),
       λ x below. sym (h.keeps.blocks x below) ∙ rw same (there.keeps.blocks x below),
     )
 
@@ -58,7 +53,6 @@ pub record Stood (size : ℕ) (shape : Shape) (image : Image) (head count : ℕ)
   pub array : Array
   pub stands : StandsFor size shape image array (head + count + 1)
   pub head_is : stands.head ≡ head
-  pub count_is : length stands.records ≡ count
 
 -- what it stands for
 pub count_stands : (size : ℕ) (shape : Shape) (image : Image) (head count : ℕ)
@@ -84,7 +78,7 @@ count_stands size shape image head count fits s h c =
       ends = rw long c.ends;
       next_is = omega (arith, long);
     } in
-    record { array = with_records records (home_of shape image); stands = stands; head_is = refl; count_is = long }
+    record { array = with_records records (home_of shape image); stands = stands; head_is = refl }
 
 -- an image that stands for something has the shape of its super
 pub StandsFor-shape : (size : ℕ) (shape : Shape) (image : Image) (array : Array) (next : ℕ) → StandsFor size shape image array next

@@ -1,12 +1,11 @@
 -- Format 1, as a layout: a descriptor and n data places, a flush, a commit, a flush.
-use Rattle.std.specs.Prelude.{◌<◌, ◌≤◌, ℕ, ◌+◌, ◌-◌, List, [], ◌∷◌, length, map, if◌then◌else◌}
-use Rattle.std.specs.Prelude.{nat_lt}
+use Rattle.std.specs.Prelude.{◌<◌, ◌≤◌, ℕ, ◌+◌, List, [], ◌∷◌, length, map}
 use Rattle.std.specs.List.{range_with_len}
 use Rattle.medium.specs.Medium.{Image}
 use Rattle.journal.specs.Spelling.{spelling, number_in, descriptor_mark, commit_mark}
 use Rattle.journal.specs.Sectors.{IsDescriptor, IsCommit}
-use Rattle.journal.specs.Record.{Entry, numbers_of, block_of, entries_in}
-use Rattle.journal.specs.Layout.{Layout}
+use Rattle.journal.specs.Record.{Entry, numbers_of, block_of}
+use Rattle.journal.specs.Layout.{Layout, by_part}
 
 -- at this offset of a slot these bytes carry this stamp: data places carry none
 pub record Carries1 (o stamp : ℕ) (bytes : List ℕ) : Type 0 where
@@ -14,28 +13,19 @@ pub record Carries1 (o stamp : ℕ) (bytes : List ℕ) : Type 0 where
   pub place : 1 ≤ o → 49 ≤ o
   pub commit : 49 ≤ o → (count : ℕ) × IsCommit stamp count bytes
 
-unfoldable pub offset1 : ℕ → ℕ → ℕ
-offset1 n p = if nat_lt p (n + 1) then p else 49
-
 abbrev pub commit1 : ℕ → ℕ → List ℕ
 commit1 stamp n = spelling (commit_mark ∷ stamp ∷ n ∷ [])
 
 abbrev pub descriptor1 : ℕ → List ℕ → List ℕ
 descriptor1 stamp numbers = spelling (descriptor_mark ∷ stamp ∷ length numbers ∷ numbers)
 
-unfoldable pub part1 : ℕ → List Entry → ℕ → List ℕ
-part1 stamp entries p =
-    if nat_lt p 1 then descriptor1 stamp (numbers_of entries)
-    else (if nat_lt p (length entries + 1) then block_of entries (p - 1)
-    else commit1 stamp (length entries))
+-- the i-th entry of the record that may stand in the slot from this sector on
+abbrev pub entry_in : Image → ℕ → ℕ → Entry
+entry_in image at i = (number_in (image at) (3 + i), image (at + 1 + i))
 
--- the block numbers that a descriptor spells
-abbrev pub numbers_in : List ℕ → List ℕ
-numbers_in bytes = map (λ i. number_in bytes (3 + i)) (range_with_len 0 (number_in bytes 2))
-
--- the only record that may be whole in the slot from this sector on
+-- the only record that may be whole there
 abbrev pub record_in : Image → ℕ → List Entry
-record_in image at = entries_in image (at + 1) (numbers_in (image at))
+record_in image at = map (entry_in image at) (range_with_len 0 (number_in (image at) 2))
 
 abbrev pub format1 : Layout
 format1 = record {
@@ -43,8 +33,10 @@ format1 = record {
   most = 48;
   parts = λ n. n + 2;
   early = λ n. n + 1;
-  offset = offset1;
-  part = part1;
+  offset = by_part (λ i. i) (λ i. 1 + i) 49 1;
+  part = λ stamp entries.
+      by_part (λ i. descriptor1 stamp (numbers_of entries)) (block_of entries)
+      (commit1 stamp (length entries)) 1 (length entries);
   carries = Carries1;
   read = record_in;
 }

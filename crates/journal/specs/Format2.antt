@@ -1,13 +1,13 @@
 -- Format 2: ceil(n / 30) descriptors, n data places and a commit, and one flush behind them.
-use Rattle.std.specs.Prelude.{◌≡◌, ◌<◌, ◌≤◌, ℕ, ◌+◌, ◌*◌, ◌-◌, ◌/◌, ◌%◌, ◌^◌, List, ◌++◌, length}
-use Rattle.std.specs.Prelude.{drop, map, slice_range, if◌then◌else◌, nat_lt}
+use Rattle.std.specs.Prelude.{◌≡◌, ◌<◌, ◌≤◌, ℕ, ◌+◌, ◌*◌, ◌/◌, ◌%◌, ◌^◌, List, [], ◌∷◌, ◌++◌}
+use Rattle.std.specs.Prelude.{length, drop, map, slice_range}
 use Rattle.std.specs.List.{range_with_len}
 use Rattle.medium.specs.Medium.{Image}
-use Rattle.journal.specs.Spelling.{number_in}
-use Rattle.journal.specs.SectorsTwo.{descriptors_of, descriptor_bytes, place_bytes, commit_bytes}
+use Rattle.journal.specs.Spelling.{spelling, number_in}
+use Rattle.journal.specs.SectorsTwo.{descriptors_of, descriptor_bytes, place_bytes, commit_mark}
 use Rattle.journal.specs.SectorsTwo.{IsDescriptorTwo, IsCommitTwo}
 use Rattle.journal.specs.Record.{Entry, block_of}
-use Rattle.journal.specs.Layout.{Layout}
+use Rattle.journal.specs.Layout.{Layout, by_part}
 
 -- At this offset of a slot these bytes carry this stamp: they spell a descriptor or a commit, or
 -- are those of a data place, which carries whatever number it begins with.
@@ -18,18 +18,6 @@ pub record Carries2 (o stamp : ℕ) (bytes : List ℕ) : Type 0 where
   pub place : 8 ≤ o → o < 248 → (block : List ℕ) × (bytes ≡ place_bytes stamp block)
   pub commit : 248 ≤ o → (count : ℕ) × IsCommitTwo stamp count bytes
 
--- where the parts stand, in the order in which they are written: descriptors, data places, commit
-unfoldable pub offset2 : ℕ → ℕ → ℕ
-offset2 n p = if nat_lt p (descriptors_of n) then p
-    else (if nat_lt p (descriptors_of n + n) then 8 + (p - descriptors_of n) else 248)
-
-unfoldable pub part2 : ℕ → List Entry → ℕ → List ℕ
-part2 stamp entries p =
-    if nat_lt p (descriptors_of (length entries)) then descriptor_bytes stamp entries p
-    else (if nat_lt p (descriptors_of (length entries) + length entries)
-    then place_bytes stamp (block_of entries (p - descriptors_of (length entries)))
-    else commit_bytes stamp (length entries))
-
 -- the i-th entry of the record that may stand in the slot from this sector on
 abbrev pub entry_in : Image → ℕ → ℕ → Entry
 entry_in image at i = (
@@ -38,10 +26,13 @@ entry_in image at i = (
       ++ drop 8 (image (at + (8 + i))),
 )
 
+-- count entries of it
+abbrev pub entries_at : Image → ℕ → ℕ → List Entry
+entries_at image at count = map (entry_in image at) (range_with_len 0 count)
+
 -- the only record that may be whole there
 abbrev pub record_in : Image → ℕ → List Entry
-record_in image at =
-    map (entry_in image at) (range_with_len 0 (number_in (image (at + 248)) 2))
+record_in image at = entries_at image at (number_in (image (at + 248)) 2)
 
 abbrev pub format2 : Layout
 format2 = record {
@@ -49,8 +40,11 @@ format2 = record {
   most = 240;
   parts = λ n. descriptors_of n + n + 1;
   early = λ n. 0;
-  offset = offset2;
-  part = part2;
+  offset = λ n. by_part (λ i. i) (λ i. 8 + i) 248 (descriptors_of n) n;
+  part = λ stamp entries.
+      by_part (descriptor_bytes stamp entries) (λ i. place_bytes stamp (block_of entries i))
+      (spelling (commit_mark ∷ stamp ∷ length entries ∷ [])) (descriptors_of (length entries))
+      (length entries);
   carries = Carries2;
   read = record_in;
 }

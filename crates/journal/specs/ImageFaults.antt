@@ -1,4 +1,4 @@
--- What is wrong with an image that stands for nothing.
+-- What is wrong with an image that stands for nothing, and what holds of every image.
 use Rattle.std.specs.Prelude.{◌≡◌, ◌⊎◌, ◌≤◌, ◌<◌, ℕ, ◌^◌}
 use Rattle.medium.specs.Medium.{Image}
 use Rattle.spec.specs.Blocks.{Array}
@@ -6,7 +6,7 @@ use Rattle.journal.specs.declared.super_fault.SuperFault.TheVariants.{Magic, Ver
 use Rattle.journal.specs.Places.{Shape, sectors_of}
 use Rattle.journal.specs.Sectors.{IsSuper, IsHead}
 use Rattle.journal.specs.SuperFaults.{IsSuperFault}
-use Rattle.journal.specs.Standing.{StandsFor}
+use Rattle.journal.specs.Standing.{StandsFor, Stands}
 
 -- the image's super is one of this shape, for which the medium is long enough
 pub record HasShape (size : ℕ) (shape : Shape) (image : Image) : Type 0 where
@@ -39,3 +39,18 @@ abbrev pub HasNoStampLeft : ℕ → Image → Type 0
 HasNoStampLeft size image =
     (shape : Shape) × (array : Array) × (next : ℕ) × StandsFor size shape image array next
     × (2 ^ 63 ≤ next)
+
+-- an image stands for one array at most, with one next stamp
+abbrev pub StandsForOneArray : Type 0
+StandsForOneArray = (size : ℕ) (image : Image) (s r : Shape) (a b : Array) (t u : ℕ)
+    → StandsFor size s image a t → StandsFor size r image b u
+    → (s ≡ r) × (t ≡ u) × ((x : ℕ) → x < s.blocks → a x ≡ b x)
+
+-- an image stands for something or has one fault, and never both
+pub record StandsOrHasOneFault : Type 0 where
+  pub either : (size : ℕ) (image : Image)
+      → Stands size image ⊎ ((fault : ImageFault) × HasFault size image fault)
+  pub not_both : (size : ℕ) (image : Image) (fault : ImageFault)
+      → HasFault size image fault → ¬ Stands size image
+  pub one : (size : ℕ) (image : Image) (a b : ImageFault)
+      → HasFault size image a → HasFault size image b → a ≡ b

@@ -1,6 +1,6 @@
 -- How records lie in a log, whatever the format.
 use Rattle.std.specs.Prelude.{◌≡◌, ◌<◌, ◌≤◌, ℕ, ◌+◌, ◌*◌, ◌-◌, ◌%◌, ◌^◌, List, [], length, get_or}
-use Rattle.std.specs.Prelude.{All}
+use Rattle.std.specs.Prelude.{All, if◌then◌else◌, nat_lt}
 use Rattle.medium.specs.Medium.{Image}
 use Rattle.spec.specs.Blocks.{Array}
 use Rattle.journal.specs.Places.{Shape}
@@ -26,6 +26,14 @@ pub record Layout : Type 1 where
   pub carries : ℕ → ℕ → List ℕ → Type 0
   -- the only record that may be whole in the slot that begins at this sector
   pub read : Image → ℕ → List Entry
+
+-- In both formats there are descriptors, from the beginning of a slot on, n data places and a
+-- commit. Of part p of a record this is what is so of descriptor p, of the i-th data place, or of the
+-- commit.
+unfoldable pub by_part : {X : Type 0} → (ℕ → X) → (ℕ → X) → X → ℕ → ℕ → ℕ → X
+by_part descriptor place commit descriptors n p =
+    if nat_lt p descriptors then descriptor p
+    else (if nat_lt p (descriptors + n) then place (p - descriptors) else commit)
 
 -- what a record may consist of
 pub record AreEntries (most blocks : ℕ) (entries : List Entry) : Type 0 where

@@ -1,4 +1,3 @@
-pub mod V1
 pub mod V2
 pub mod Places
 pub mod Spelling
@@ -13,7 +12,6 @@ pub mod Layout
 pub mod LayoutLaws
 pub mod Format1
 pub mod Format2
-pub mod SlotTwo
 pub mod SlotReads
 pub mod Reads
 pub mod Formats
@@ -23,4 +21,3 @@ pub mod Parts
 pub mod Standing
 pub mod Staged
 pub mod ImageFaults
-pub mod ImageLaws

@@ -1,7 +1,5 @@
 -- Where the parts of a medium stand: super, head, slots of the log, and blocks at home.
 use Rattle.std.specs.Prelude.{◌≤◌, ◌<◌, ℕ, ◌+◌, ◌*◌, ◌/◌}
-use Rattle.journal.specs.V1 as v1
-use Rattle.journal.specs.V2 as v2
 use Rattle.journal.specs.declared.log_format.LogFormat.{LogFormat}
 use Rattle.journal.specs.declared.log_format.LogFormat.TheVariants.{One, Two}
 
@@ -14,13 +12,13 @@ pub record Shape : Type 0 where
 
 -- how many blocks a record has at most
 abbrev pub limit_of : LogFormat → ℕ
-limit_of One = v1.limit
-limit_of Two = v2.limit
+limit_of One = 48
+limit_of Two = 240
 
 -- how many sectors a slot has
 abbrev pub slot_sectors_of : LogFormat → ℕ
-slot_sectors_of One = v1.slot_sectors
-slot_sectors_of Two = v2.slot_sectors
+slot_sectors_of One = 50
+slot_sectors_of Two = 249
 
 -- how many flushes make a record durable
 abbrev pub flushes_of : LogFormat → ℕ
@@ -35,13 +33,13 @@ record_calls_of format = slot_sectors_of format + flushes_of format + (limit_of 
 
 -- where in a slot the bytes of its record's first block stand; in format 2 all but the first 8
 abbrev pub first_data_of : LogFormat → ℕ
-first_data_of One = v1.first_data
-first_data_of Two = v2.first_data
+first_data_of One = 1
+first_data_of Two = 8
 
 -- how many sectors more there may be between the log and home, and one
 abbrev pub gap_of : LogFormat → ℕ
-gap_of One = v1.gap
-gap_of Two = v2.gap
+gap_of One = 1
+gap_of Two = 249
 
 -- Home begins where a log of `slots` slots ends. In format 2 less than a slot may lie between them,
 -- which is what a migration leaves.

@@ -7,8 +7,8 @@ use Rattle.journal.specs.declared.log_format.LogFormat.TheVariants.{One, Two}
 use Rattle.journal.specs.declared.record.Record.{Record}
 use Rattle.journal.specs.Places.{Shape, first_data_of}
 use Rattle.journal.specs.SectorsTwo.{descriptors_of}
-use Rattle.journal.specs.SlotTwo.{HasPlaces}
-use Rattle.journal.specs.SlotReads.{ReadsUpToBad, IsCommitted, HasPlace, NamesBlocks, IsReadInVain}
+use Rattle.journal.specs.SlotReads.{ReadsUpToBad, IsCommitted, HasPlace, HasPlaces, NamesBlocks}
+use Rattle.journal.specs.SlotReads.{IsReadInVain}
 use Rattle.journal.specs.Record.{Entry, numbers_of, block_of}
 use Rattle.journal.specs.Layout.{slot_at}
 use Rattle.journal.specs.Format2.{format2}

@@ -1,5 +1,5 @@
 -- Calls that only read.
-use Rattle.std.specs.Prelude.{◌≡◌, ◌≢◌, ℕ, ◌+◌, ◌<◌, ◌≤◌, Result, OnOk, IfOk, IfErr}
+use Rattle.std.specs.Prelude.{◌≡◌, ◌≢◌, ℕ, ◌+◌, ◌<◌, ◌≤◌, Result, IfOk, IfErr}
 use Rattle.medium.specs.Medium.{State, LooksOnly}
 use Rattle.medium.specs.Moments.{IsQuiet}
 use Rattle.medium.specs.declared.fault.MediumFault.{MediumFault}
@@ -22,29 +22,11 @@ pub record ReadsPass {X : Type 0} (most : ℕ) (old new : State) (result : Resul
   pub calls : new.calls ≤ old.calls + most
   pub cause : IfErr result (IsRefusedCall old new)
 
--- No call but reads was made: this many where Ok, no more than that where the medium refused one,
--- which is the only error.
-pub record ReadsAllPass {X : Type 0} (count : ℕ) (old new : State)
-    (result : Result X MediumFault) : Type 0 where
-  pub quiet : IsQuiet old new
-  pub reads : MakesReadsAlone old new
-  pub calls : new.calls ≤ old.calls + count
-  pub exact : OnOk result (new.calls ≡ old.calls + count)
-  pub cause : IfErr result (IsRefusedCall old new)
-
 -- The medium comes after what it was, by reads alone, at most this many, and of these sectors. What
 -- they find is so.
 pub record LooksUp {M X : Type 0} (state : M → State) (Follows : M → M → Type 0) (most : ℕ)
     (places : ℕ → Type 0) (Finds : State → State → X → Type 0) (old new : M)
     (result : Result X MediumFault) : Type 0 where
   pub passes : ReadsPass most (state old) (state new) result
-  pub finds : IfOk result (Finds (state old) (state new))
-  pub follows : Follows old new × LooksOnly places (state old) (state new)
-
--- The same, with this many reads where Ok.
-pub record LooksUpAll {M X : Type 0} (state : M → State) (Follows : M → M → Type 0) (count : ℕ)
-    (places : ℕ → Type 0) (Finds : State → State → X → Type 0) (old new : M)
-    (result : Result X MediumFault) : Type 0 where
-  pub passes : ReadsAllPass count (state old) (state new) result
   pub finds : IfOk result (Finds (state old) (state new))
   pub follows : Follows old new × LooksOnly places (state old) (state new)

@@ -10,11 +10,6 @@ use Rattle.journal.specs.Places.{Shape}
 abbrev pub block_of : List Entry → ℕ → List ℕ
 block_of entries i = (get_or entries i (0, [])).1
 
--- the bytes that stand from this sector on, under these block numbers
-abbrev pub entries_in : Image → ℕ → List ℕ → List Entry
-entries_in image place [] = []
-entries_in image place (b ∷ numbers) = (b, image place) ∷ entries_in image (place + 1) numbers
-
 -- each number with its 512 bytes, of which the first are the i-th
 abbrev pub entries_from : ℕ → List ℕ → List ℕ → List Entry
 entries_from i [] bytes = []

@@ -46,10 +46,15 @@ pub record IsDescriptor (stamp : ℕ) (numbers bytes : List ℕ) : Type 0 where
   pub most : stamp < 2 ^ 63 - 1
   pub block_numbers : AreBlockNumbers numbers
 
--- the bytes of a commit, with the count of the record's blocks
-pub record IsCommit (stamp count : ℕ) (bytes : List ℕ) : Type 0 where
-  pub spelled : bytes ≡ spelling (commit_mark ∷ stamp ∷ count ∷ [])
+-- the bytes of a commit with this mark, and with the count of the record's blocks, of which there are
+-- `limit` at most
+pub record IsCommitOf (mark limit stamp count : ℕ) (bytes : List ℕ) : Type 0 where
+  pub spelled : bytes ≡ spelling (mark ∷ stamp ∷ count ∷ [])
   pub least : 1 ≤ stamp
   pub most : stamp < 2 ^ 63 - 1
   pub some : 1 ≤ count
-  pub few : count ≤ 48
+  pub few : count ≤ limit
+
+-- the bytes of a commit of format 1
+abbrev pub IsCommit : ℕ → ℕ → List ℕ → Type 0
+IsCommit stamp count bytes = IsCommitOf commit_mark 48 stamp count bytes

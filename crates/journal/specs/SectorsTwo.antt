@@ -1,21 +1,17 @@
 -- What the bytes of a descriptor, a data place and a commit of format 2 are.
-use Rattle.std.specs.Prelude.{◌≡◌, ◌≤◌, ◌<◌, ℕ, ◌+◌, ◌*◌, ◌-◌, ◌/◌, ◌^◌, min, List, ◌++◌, length}
-use Rattle.std.specs.Prelude.{take, drop, replicate, codes, All, map, zip}
+use Rattle.std.specs.Prelude.{◌≡◌, ◌≤◌, ◌<◌, ℕ, ◌+◌, ◌*◌, ◌-◌, ◌/◌, ◌^◌, min, List, ◌++◌}
+use Rattle.std.specs.Prelude.{length, take, drop, codes, All, map, zip}
 use Rattle.std.specs.List.{flat_map}
 use Rattle.byteorder.specs.Endian.{little_bytes}
-use Rattle.journal.specs.Spelling.{mark}
-use Rattle.journal.specs.Entry.{Entry}
-use Rattle.journal.specs.Sectors.{IsRising}
+use Rattle.journal.specs.Spelling.{mark, padded}
+use Rattle.journal.specs.Entry.{Entry, numbers_of}
+use Rattle.journal.specs.Sectors.{IsRising, IsCommitOf}
 
 abbrev pub descriptor_mark : ℕ
 descriptor_mark = mark (codes "RDDESCR2")
 
 abbrev pub commit_mark : ℕ
 commit_mark = mark (codes "RDCOMMT2")
-
--- these bytes, and zeros behind them
-unfoldable pub padded : List ℕ → List ℕ
-padded bytes = bytes ++ replicate (512 - length bytes) 0
 
 -- a block's number and its first 8 bytes
 unfoldable pub entry_bytes : Entry → List ℕ
@@ -25,21 +21,9 @@ entry_bytes e = little_bytes 8 e.0 ++ take 8 e.1
 abbrev pub descriptors_of : ℕ → ℕ
 descriptors_of n = (n + 29) / 30
 
--- the bytes of descriptor j
-unfoldable pub descriptor_bytes : ℕ → List Entry → ℕ → List ℕ
-descriptor_bytes stamp entries j =
-    padded (little_bytes 8 descriptor_mark ++ (little_bytes 8 stamp
-    ++ (little_bytes 8 (length entries)
-    ++ (little_bytes 8 j ++ flat_map entry_bytes (take 30 (drop (30 * j) entries))))))
-
 -- the bytes of a data place
 unfoldable pub place_bytes : ℕ → List ℕ → List ℕ
 place_bytes stamp block = little_bytes 8 stamp ++ drop 8 block
-
--- the bytes of a commit
-unfoldable pub commit_bytes : ℕ → ℕ → List ℕ
-commit_bytes stamp count =
-    padded (little_bytes 8 commit_mark ++ (little_bytes 8 stamp ++ little_bytes 8 count))
 
 -- the first 8 bytes of each block
 abbrev pub firsts_of : List Entry → List (List ℕ)
@@ -70,6 +54,12 @@ spelled_two stamp count j numbers firsts =
     padded (little_bytes 8 descriptor_mark ++ (little_bytes 8 stamp ++ (little_bytes 8 count
     ++ (little_bytes 8 j ++ flat_map entry_bytes (zip numbers firsts)))))
 
+-- the bytes of descriptor j of a record
+abbrev pub descriptor_bytes : ℕ → List Entry → ℕ → List ℕ
+descriptor_bytes stamp entries j =
+    spelled_two stamp (length entries) j (numbers_of (chunk_of entries j))
+    (firsts_of (chunk_of entries j))
+
 -- the bytes of descriptor j of a record of count blocks, with these block numbers and first bytes
 pub record IsDescriptorTwo (stamp count j : ℕ) (numbers : List ℕ) (firsts : List (List ℕ))
     (bytes : List ℕ) : Type 0 where
@@ -79,9 +69,5 @@ pub record IsDescriptorTwo (stamp count j : ℕ) (numbers : List ℕ) (firsts : 
   pub entries : AreEntriesTwo count j numbers firsts
 
 -- the bytes of a commit of a record of count blocks
-pub record IsCommitTwo (stamp count : ℕ) (bytes : List ℕ) : Type 0 where
-  pub spelled : bytes ≡ commit_bytes stamp count
-  pub least : 1 ≤ stamp
-  pub most : stamp < 2 ^ 63 - 1
-  pub some : 1 ≤ count
-  pub few : count ≤ 240
+abbrev pub IsCommitTwo : ℕ → ℕ → List ℕ → Type 0
+IsCommitTwo stamp count bytes = IsCommitOf commit_mark 240 stamp count bytes

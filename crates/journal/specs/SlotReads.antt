@@ -1,10 +1,13 @@
--- How many sectors of a slot of format 2 are read to find the record in it.
-use Rattle.std.specs.Prelude.{◌≡◌, ◌⊎◌, ℕ, ◌+◌, ◌<◌, List, length, All}
+-- What the sectors of a slot of format 2 say, and how many are read to find the record in it.
+use Rattle.std.specs.Prelude.{◌≡◌, ◌⊎◌, ℕ, ◌+◌, ◌*◌, ◌<◌, List, length, take, drop, All}
 use Rattle.medium.specs.Medium.{Image}
+use Rattle.journal.specs.declared.record.Record.{Record}
+use Rattle.journal.specs.Record.{numbers_of}
 use Rattle.journal.specs.Sectors.{IsRising}
-use Rattle.journal.specs.SectorsTwo.{descriptors_of, place_bytes, IsDescriptorTwo, IsCommitTwo}
+use Rattle.journal.specs.SectorsTwo.{descriptors_of, place_bytes, firsts_of, IsDescriptorTwo}
+use Rattle.journal.specs.SectorsTwo.{IsCommitTwo}
 use Rattle.journal.specs.V2.{first_data, commit_offset}
-use Rattle.journal.specs.SlotTwo.{HasDescriptors}
+use Rattle.journal.specs.Format2.{entries_at}
 
 -- one of `many` is bad, and as many are read as go up to the first bad one, and with it
 pub record StopsAtBad (good : ℕ → Type 0) (many reads : ℕ) : Type 0 where
@@ -30,14 +33,30 @@ module _ (image : Image) (at stamp : ℕ) where
   HasDescriptor count j = (numbers : List ℕ) × (firsts : List (List ℕ))
       × IsDescriptorTwo stamp count j numbers firsts (image (at + j))
 
+  -- the descriptors of a record with these block numbers are there
+  abbrev pub HasDescriptors : List ℕ → Type 0
+  HasDescriptors numbers = (j : ℕ) → j < descriptors_of (length numbers) → (firsts : List (List ℕ))
+      × IsDescriptorTwo stamp (length numbers) j (take 30 (drop (30 * j) numbers)) firsts
+      (image (at + j))
+
+  -- all descriptors are there, if it has count blocks, and this was read of them
+  pub record AreNamed (count : ℕ) (read : Record) : Type 0 where
+    pub there : (j : ℕ) → j < descriptors_of count → HasDescriptor count j
+    pub numbers_are : read.numbers.items ≡ numbers_of (entries_at image at count)
+    pub firsts_are : read.firsts.items ≡ firsts_of (entries_at image at count)
+
   -- the i-th data place begins with the stamp
   abbrev pub HasPlace : ℕ → Type 0
   HasPlace i = image (at + (first_data + i)) ≡ place_bytes stamp (image (at + (first_data + i)))
 
+  -- and so do those of count blocks
+  abbrev pub HasPlaces : ℕ → Type 0
+  HasPlaces count = (i : ℕ) → i < count → HasPlace i
+
   -- all descriptors are there, and what they name are count blocks of an array of this length
   abbrev pub NamesBlocks : ℕ → ℕ → Type 0
   NamesBlocks blocks count = (numbers : List ℕ) × (length numbers ≡ count)
-      × HasDescriptors image at stamp numbers
+      × HasDescriptors numbers
       × IsRising numbers × All (λ b. b < blocks) numbers
 
   -- How many sectors are read behind a commit of count blocks where they are not named:

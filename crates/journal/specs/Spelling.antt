@@ -4,9 +4,13 @@ use Rattle.std.specs.Prelude.{get_or, codes}
 use Rattle.std.specs.List.{flat_map}
 use Rattle.byteorder.specs.Endian.{little_bytes, little_number}
 
+-- these bytes, and zeros behind them
+unfoldable pub padded : List ℕ → List ℕ
+padded bytes = bytes ++ replicate (512 - length bytes) 0
+
 -- a sector of these numbers, eight bytes each, and zeros behind them
 unfoldable pub spelling : List ℕ → List ℕ
-spelling numbers = flat_map (little_bytes 8) numbers ++ replicate (512 - 8 * length numbers) 0
+spelling numbers = padded (flat_map (little_bytes 8) numbers)
 
 -- the i-th number of a sector
 unfoldable pub number_in : List ℕ → ℕ → ℕ

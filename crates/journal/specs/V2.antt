@@ -1,13 +1,5 @@
--- Where the parts of a record of format 2 stand, and how many they are.
+-- Where the parts of a record of format 2 stand.
 use Rattle.std.specs.Prelude.{ℕ, ◌+◌, ◌*◌}
-
--- how many blocks a record has at most
-abbrev pub limit : ℕ
-limit = 240
-
--- how many sectors a slot has
-abbrev pub slot_sectors : ℕ
-slot_sectors = 249
 
 -- where in a slot the bytes of its record's first block stand, all but the first 8
 abbrev pub first_data : ℕ
@@ -16,10 +8,6 @@ first_data = 8
 -- where in a slot the commit stands
 abbrev pub commit_offset : ℕ
 commit_offset = 248
-
--- one more than the number of sectors that may lie between the log and home
-abbrev pub gap : ℕ
-gap = 249
 
 -- the first sector of a slot, which holds the first descriptor
 abbrev pub place_of : ℕ → ℕ

@@ -1,7 +1,8 @@
-//! The numbers of a sector.
+//! The numbers and the bytes of a sector.
 ghost use Rattle.std.specs.Prelude.{◌≡◌, ◌≤◌, ◌<◌, ◌*◌, ◌^◌, ◌+◌, ◌++◌, ◌∷◌, ◌↔◌};
-ghost use Rattle.std.specs.Prelude.{[], List, ℕ, length, All, slice_index, IsTrue};
-ghost use Rattle.journal.specs.Spelling.{spelling, number_in, mark, AreItems};
+ghost use Rattle.std.specs.Prelude.{[], List, ℕ, length, All, slice_index, slice_range, IsTrue};
+ghost use Rattle.byteorder.specs.Endian.{little_bytes};
+ghost use Rattle.journal.specs.Spelling.{padded, spelling, number_in, mark, AreItems};
 ghost use Rattle.journal.specs.Sectors.{IsRising};
 ghost use Rattle.journal.specs.SuperFaults.{HasZeroRest};
 
@@ -15,15 +16,69 @@ pub(crate) fn mark_number(text: &[u8; 8]) -> u64
     LittleEndian::read_u64(text)
 }
 
-/// Writes the i-th number of a sector.
-#[tactic(auto, using(crate::proofs::OneSpelling::spelling_put))]
-pub(crate) fn put(sector: &mut [u8], i: usize, number: u64)
+/// Writes these bytes behind those that are written.
+#[tactic(auto, using(crate::proofs::OneSpelling::padded_put))]
+pub(crate) fn append(sector: &mut [u8], at: usize, part: &[u8])
+    requires size { length sector.old ≡ 512 }
+    requires inside { at + length part.now ≤ 512 }
+    ensures { (before : List ℕ) → length before ≡ at → sector.old ≡ padded before
+        → sector.new ≡ padded (before ++ part.now) }
+{
+    sector[at..at + part.len()].copy_from_slice(part);
+}
+
+/// Writes the eight bytes of this number behind those that are written.
+pub(crate) fn append_number(sector: &mut [u8], at: usize, number: u64)
+    requires size { length sector.old ≡ 512 }
+    requires inside { at + 8 ≤ 512 }
+    ensures { (before : List ℕ) → length before ≡ at → sector.old ≡ padded before
+        → sector.new ≡ padded (before ++ little_bytes 8 number) }
+{
+    let mut eight = [0; 8];
+    LittleEndian::write_u64(&mut eight, number);
+    append(sector, at, &eight);
+}
+
+/// The eight bytes from here on.
+pub(crate) fn eight_at(bytes: &[u8], at: usize) -> [u8; 8]
+    requires { at + 8 ≤ length bytes.now }
+    ensures { result ≡ slice_range bytes.now at (at + 8) }
+{
+    let mut eight = [0; 8];
+    eight.copy_from_slice(&bytes[at..at + 8]);
+    eight
+}
+
+// Writes the i-th number of a sector.
+fn put(sector: &mut [u8], i: usize, number: u64)
     requires size { length sector.old ≡ 512 }
     requires inside { 8 * i + 8 ≤ 512 }
     ensures { (numbers : List ℕ) → length numbers ≡ i → sector.old ≡ spelling numbers
         → sector.new ≡ spelling (numbers ++ number ∷ []) }
 {
-    LittleEndian::write_u64(&mut sector[8 * i..], number);
+    append_number(sector, 8 * i, number);
+}
+
+/// Writes these numbers behind the i numbers of a sector.
+pub(crate) fn put_all(sector: &mut [u8], i: usize, numbers: &[u64])
+    requires size { length sector.old ≡ 512 }
+    requires inside { 8 * i + 8 * length numbers.now ≤ 512 }
+    ensures { (before : List ℕ) → length before ≡ i → sector.old ≡ spelling before
+        → sector.new ≡ spelling (before ++ numbers.now) }
+{
+    for (k, number) in numbers.iter().enumerate() {
+        put(sector, i + k, *number);
+    }
+}
+
+/// A sector of these numbers.
+pub(crate) fn sector_of(numbers: &[u64]) -> [u8; 512]
+    requires { length numbers.now ≤ 64 }
+    ensures { result ≡ spelling numbers.now }
+{
+    let mut sector = [0; 512];
+    put_all(&mut sector, 0, numbers);
+    sector
 }
 
 /// The i-th number of a sector.

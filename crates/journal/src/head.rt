@@ -2,7 +2,7 @@
 ghost use Rattle.std.specs.Prelude.{◌≡◌, ◌≤◌, ◌<◌, ◌^◌, ℕ, IfSome, IsSomeAnd};
 ghost use Rattle.journal.specs.Sectors.{IsHead};
 
-use crate::fields::{mark_number, number_at, put};
+use crate::fields::{mark_number, number_at, sector_of};
 
 /// What sector 1 holds.
 #[derive(Clone, Copy, Debug, PartialEq, Eq)]
@@ -27,10 +27,7 @@ impl Head {
     pub fn encode(&self) -> [u8; 512]
         ensures { IsHead self.now.stamp result }
     {
-        let mut sector = [0; 512];
-        put(&mut sector, 0, mark_number(b"RDHEAD01"));
-        put(&mut sector, 1, self.stamp);
-        sector
+        sector_of(&[mark_number(b"RDHEAD01"), self.stamp])
     }
 
     /// The head that these bytes spell, if they spell one.

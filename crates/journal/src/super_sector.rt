@@ -4,7 +4,7 @@ ghost use Rattle.std.specs.Prelude.{IsTrue, IfOk, IsOkAnd, IfErr, IfSome, IsSome
 ghost use Rattle.journal.specs.Places.{IsFirstHome, slot_sectors_of};
 ghost use Rattle.journal.specs.Sectors.{version_of};
 
-use crate::fields::{has_zero_rest, mark_number, number_at, put};
+use crate::fields::{has_zero_rest, mark_number, number_at, sector_of};
 use crate::places::FIRST_SLOT;
 use crate::{LogFormat, SuperFault};
 
@@ -83,14 +83,14 @@ impl Super {
     pub fn encode(&self) -> [u8; 512]
         ensures { IsSuper (shape_of self.now) result }
     {
-        let mut sector = [0; 512];
-        put(&mut sector, 0, mark_number(b"RDSUPER1"));
-        put(&mut sector, 1, self.format.version());
-        put(&mut sector, 2, self.blocks);
-        put(&mut sector, 3, self.slots);
-        put(&mut sector, 4, FIRST_SLOT);
-        put(&mut sector, 5, self.home);
-        sector
+        sector_of(&[
+            mark_number(b"RDSUPER1"),
+            self.format.version(),
+            self.blocks,
+            self.slots,
+            FIRST_SLOT,
+            self.home,
+        ])
     }
 
     /// The super that these bytes spell, or the first of their faults.

@@ -5,7 +5,6 @@ mod descriptor;
 mod places;
 mod read;
 mod record;
-mod sectors;
 
 pub use commit::Commit;
 pub use data::{data_sector, is_data};

@@ -2,7 +2,7 @@
 ghost use Rattle.std.specs.Prelude.{◌≡◌, ◌≤◌, ◌<◌, ◌-◌, ◌^◌, ℕ, IfSome, IsSomeAnd};
 ghost use Rattle.journal.specs.Sectors.{IsCommit};
 
-use crate::fields::{mark_number, number_at, put};
+use crate::fields::{mark_number, number_at, sector_of};
 
 /// What the last sector of a slot holds.
 #[derive(Clone, Copy, Debug, PartialEq, Eq)]
@@ -34,11 +34,7 @@ impl Commit {
     pub fn encode(&self) -> [u8; 512]
         ensures { IsCommit self.now.stamp self.now.count result }
     {
-        let mut sector = [0; 512];
-        put(&mut sector, 0, mark_number(b"RDCOMMIT"));
-        put(&mut sector, 1, self.stamp);
-        put(&mut sector, 2, self.count);
-        sector
+        sector_of(&[mark_number(b"RDCOMMIT"), self.stamp, self.count])
     }
 
     /// The commit that these bytes spell, if they spell one.

@@ -1,10 +1,9 @@
 //! The descriptor: the first sector of a record, which names its blocks.
-ghost use Rattle.std.specs.Prelude.{◌≡◌, ◌≤◌, ◌<◌, ◌-◌, ◌^◌, ◌+◌, ◌*◌, ◌++◌, ◌↔◌};
-ghost use Rattle.std.specs.Prelude.{ℕ, List, length, IfSome, IsSomeAnd, IsTrue};
-ghost use Rattle.journal.specs.Spelling.{spelling};
+ghost use Rattle.std.specs.Prelude.{◌≡◌, ◌≤◌, ◌<◌, ◌-◌, ◌^◌, ◌↔◌};
+ghost use Rattle.std.specs.Prelude.{ℕ, List, IfSome, IsSomeAnd, IsTrue};
 ghost use Rattle.journal.specs.Sectors.{AreBlockNumbers, IsDescriptor};
 
-use crate::fields::{are_rising, list_of, mark_number, number_at, numbers_at, put};
+use crate::fields::{are_rising, list_of, mark_number, number_at, numbers_at, put_all, sector_of};
 use arrayvec::ArrayVec;
 
 /// What the first sector of a slot holds.
@@ -38,10 +37,8 @@ impl Descriptor {
     pub fn encode(&self) -> [u8; 512]
         ensures { IsDescriptor self.now.stamp self.now.numbers.items result }
     {
-        let mut sector = [0; 512];
-        put(&mut sector, 0, mark_number(b"RDDESCR1"));
-        put(&mut sector, 1, self.stamp);
-        put(&mut sector, 2, self.numbers.len() as u64);
+        let count = self.numbers.len() as u64;
+        let mut sector = sector_of(&[mark_number(b"RDDESCR1"), self.stamp, count]);
         put_all(&mut sector, 3, &self.numbers);
         sector
     }
@@ -68,18 +65,6 @@ impl Descriptor {
         } else {
             None
         }
-    }
-}
-
-// Writes these numbers from the i-th on.
-fn put_all(sector: &mut [u8], i: usize, numbers: &[u64])
-    requires size { length sector.old ≡ 512 }
-    requires inside { 8 * i + 8 * length numbers.now ≤ 512 }
-    ensures { (before : List ℕ) → length before ≡ i → sector.old ≡ spelling before
-        → sector.new ≡ spelling (before ++ numbers.now) }
-{
-    for (k, number) in numbers.iter().enumerate() {
-        put(sector, i + k, *number);
     }
 }
 

@@ -2,8 +2,7 @@
 ghost use Rattle.std.specs.Prelude.{◌≡◌, ◌≤◌, ◌<◌, ◌-◌, ◌^◌, ℕ, IfSome, IsSomeAnd};
 ghost use Rattle.journal.specs.SectorsTwo.{IsCommitTwo};
 
-use crate::fields::{mark_number, number_at};
-use crate::v2::sectors::append_number;
+use crate::fields::{mark_number, number_at, sector_of};
 
 /// What the last sector of a slot of format 2 holds.
 #[derive(Clone, Copy, Debug, PartialEq, Eq)]
@@ -35,15 +34,10 @@ impl Commit {
     pub fn encode(&self) -> [u8; 512]
         ensures { IsCommitTwo self.now.stamp self.now.count result }
     {
-        let mut sector = [0; 512];
-        append_number(&mut sector, 0, mark_number(b"RDCOMMT2"));
-        append_number(&mut sector, 8, self.stamp);
-        append_number(&mut sector, 16, self.count);
-        sector
+        sector_of(&[mark_number(b"RDCOMMT2"), self.stamp, self.count])
     }
 
     /// The commit that these bytes spell, if they spell one.
-    #[tactic(auto, using(crate::proofs::EntriesTwo::commits))]
     pub fn decode(sector: &[u8; 512]) -> Option<Commit>
         ensures some { IfSome result (λ commit.
             IsCommitTwo commit.stamp commit.count sector.now) }

@@ -4,14 +4,15 @@ ghost use Rattle.std.specs.Prelude.{ℕ, List, length, take, drop, All, slice_in
 ghost use Rattle.std.specs.Prelude.{slice_range, [], zip, min, IsTrue, IfSome, IsSomeAnd};
 ghost use Rattle.std.specs.List.{flat_map};
 ghost use Rattle.journal.specs.Sectors.{IsRising};
-ghost use Rattle.journal.specs.Spelling.{number_in, AreItems};
+ghost use Rattle.journal.specs.Spelling.{padded, number_in, AreItems};
 ghost use Rattle.journal.specs.SectorsTwo.{AreEntriesTwo, IsDescriptorTwo, entries_here};
-ghost use Rattle.journal.specs.SectorsTwo.{entry_bytes, padded};
+ghost use Rattle.journal.specs.SectorsTwo.{entry_bytes};
 ghost use Rattle.journal.specs.Parts.{CanDescribe, Describes};
 
-use crate::fields::{are_rising, list_of, mark_number, number_at};
+use crate::fields::{
+    append, append_number, are_rising, eight_at, list_of, mark_number, number_at, sector_of,
+};
 use crate::v2::places::ENTRIES;
-use crate::v2::sectors::{append, append_number, eight_at};
 use arrayvec::ArrayVec;
 
 /// What one of the first sectors of a slot of format 2 holds.
@@ -57,11 +58,8 @@ impl Descriptor {
         ensures { IsDescriptorTwo self.now.stamp self.now.count self.now.index
             self.now.numbers.items self.now.firsts.items result }
     {
-        let mut sector = [0; 512];
-        append_number(&mut sector, 0, mark_number(b"RDDESCR2"));
-        append_number(&mut sector, 8, self.stamp);
-        append_number(&mut sector, 16, self.count);
-        append_number(&mut sector, 24, self.index);
+        let mark = mark_number(b"RDDESCR2");
+        let mut sector = sector_of(&[mark, self.stamp, self.count, self.index]);
         append_entries(&mut sector, &self.numbers, &self.firsts);
         sector
     }

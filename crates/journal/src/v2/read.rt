@@ -1,19 +1,15 @@
 //! The reading of a record of format 2.
 ghost use Rattle.std.specs.Prelude.{◌≡◌, ◌≤◌, ◌<◌, ◌+◌, ◌*◌};
-ghost use Rattle.std.specs.Prelude.{ℕ, List, length, All, IfOk};
-ghost use Rattle.std.specs.Prelude.{IfSome, IsSomeAnd, IsTrue, MatchOption};
-ghost use Rattle.std.specs.Prelude.{◌↔◌};
+ghost use Rattle.std.specs.Prelude.{ℕ, List, All, IsTrue, MatchOption, ◌↔◌};
 ghost use Rattle.journal.specs.declared.log_format.LogFormat.TheVariants.{Two};
-ghost use Rattle.journal.specs.Entry.{Entry, numbers_of};
 ghost use Rattle.journal.specs.Places.{first_home, sectors_of};
 ghost use Rattle.journal.specs.Sectors.{IsRising};
 ghost use Rattle.journal.specs.SectorsTwo.{descriptors_of, IsDescriptorTwo, IsCommitTwo};
-ghost use Rattle.journal.specs.SectorsTwo.{chunk_of, firsts_of};
-ghost use Rattle.journal.specs.V2.{place_of, slot_end, descriptor_place, commit_place};
+ghost use Rattle.journal.specs.V2.{place_of, slot_end};
 ghost use Rattle.journal.specs.Values.{shape_of};
-ghost use Rattle.journal.specs.SlotTwo.{HasDescriptors, HasPlaces};
-ghost use Rattle.journal.specs.SlotReads.{StopsAtBad, ReadsUpToBad, HasDescriptor, HasPlace};
-ghost use Rattle.journal.specs.Reads.{LooksUp, LooksUpAll};
+ghost use Rattle.journal.specs.SlotReads.{StopsAtBad, IsCommitted, HasDescriptor, HasPlace};
+ghost use Rattle.journal.specs.SlotReads.{AreNamed};
+ghost use Rattle.journal.specs.Reads.{LooksUp};
 ghost use Rattle.journal.specs.Reading.{FindsRecord, FindsStamps, found_in};
 
 use crate::v2::{
@@ -24,8 +20,8 @@ use medium::{Medium, MediumFault};
 
 // How many blocks the record of a stamp has, if this is its commit.
 fn count_of(sector: &[u8; 512], stamp: u64) -> Option<u64>
-    ensures some { IfSome result (λ count. IsCommitTwo stamp count sector.now) }
-    ensures all { (n : ℕ) → IsCommitTwo stamp n sector.now → IsSomeAnd result (λ k. k ≡ n) }
+    ensures { MatchOption result ((n : ℕ) → ¬ IsCommitTwo stamp n sector.now)
+        (λ n. IsCommitTwo stamp n sector.now) }
 {
     match Commit::decode(sector) {
         Some(found) if found.stamp == stamp => Some(found.count),
@@ -38,11 +34,10 @@ fn count_of(sector: &[u8; 512], stamp: u64) -> Option<u64>
 fn read_count<M: Medium>(m: &mut M, slot: u64, stamp: u64) -> Result<Option<u64>, MediumFault>
     requires slot { slot < 64 }
     requires inside { slot_end slot ≤ (M.state m.old).size }
-    ensures reads { LooksUpAll M.state M.follows 1 (λ s. s < slot_end slot)
-        (λ old new found. IfSome found (λ count.
-        IsCommitTwo stamp count (old.content (commit_place slot)))) m.old m.new result }
-    ensures all { (n : ℕ) → IsCommitTwo stamp n ((M.state m.old).content (commit_place slot))
-        → IfOk result (λ found. IsSomeAnd found (λ k. k ≡ n)) }
+    ensures { LooksUp M.state M.follows 1 (λ s. s < slot_end slot) (λ old new found.
+        (new.calls ≡ old.calls + 1)
+        × MatchOption found ((n : ℕ) → ¬ IsCommitted old.content (place_of slot) stamp n)
+        (IsCommitted old.content (place_of slot) stamp)) m.old m.new result }
 {
     let mut commit = [0; 512];
     m.read(commit_place(slot), &mut commit)?;
@@ -51,11 +46,10 @@ fn read_count<M: Medium>(m: &mut M, slot: u64, stamp: u64) -> Result<Option<u64>
 
 // Descriptor j of the record of a stamp with `count` blocks, if these bytes are that.
 fn descriptor_of(sector: &[u8; 512], stamp: u64, count: u64, j: u64) -> Option<Descriptor>
-    ensures some { IfSome result (λ d. (d.index ≡ j)
-        × IsDescriptorTwo stamp count j d.numbers.items d.firsts.items sector.now) }
-    ensures all { (numbers : List ℕ) (firsts : List (List ℕ))
-        → IsDescriptorTwo stamp count j numbers firsts sector.now
-        → IsSomeAnd result (λ d. (d.numbers.items ≡ numbers) × (d.firsts.items ≡ firsts)) }
+    ensures { MatchOption result
+        ((numbers : List ℕ) (firsts : List (List ℕ))
+        → ¬ IsDescriptorTwo stamp count j numbers firsts sector.now)
+        (λ d. IsDescriptorTwo stamp count j d.numbers.items d.firsts.items sector.now) }
 {
     let found = Descriptor::decode(sector)?;
     if found.stamp == stamp && found.count == count && found.index == j {
@@ -77,13 +71,11 @@ fn read_descriptor<M: Medium>(
     requires slot { slot < 64 }
     requires few { j < 8 }
     requires inside { slot_end slot ≤ (M.state m.old).size }
-    ensures reads { LooksUpAll M.state M.follows 1 (λ s. s < slot_end slot)
-        (λ old new found. IfSome found (λ d. (d.index ≡ j)
-        × IsDescriptorTwo stamp count j d.numbers.items d.firsts.items
-        (old.content (descriptor_place slot j)))) m.old m.new result }
-    ensures all { (numbers : List ℕ) (firsts : List (List ℕ)) → IsDescriptorTwo stamp count j
-        numbers firsts ((M.state m.old).content (descriptor_place slot j)) → IfOk result (λ found.
-        IsSomeAnd found (λ d. (d.numbers.items ≡ numbers) × (d.firsts.items ≡ firsts))) }
+    ensures { LooksUp M.state M.follows 1 (λ s. s < slot_end slot) (λ old new found.
+        (new.calls ≡ old.calls + 1)
+        × MatchOption found (¬ HasDescriptor old.content (place_of slot) stamp count j) (λ d.
+        IsDescriptorTwo stamp count j d.numbers.items d.firsts.items
+        (old.content (place_of slot + j)))) m.old m.new result }
 {
     let mut sector = [0; 512];
     m.read(descriptor_place(slot, j), &mut sector)?;
@@ -91,7 +83,6 @@ fn read_descriptor<M: Medium>(
 }
 
 // Reads what the descriptors of a record of `count` blocks say. False where they are not there.
-#[tactic(auto, using(crate::proofs::SectorsRead::reads))]
 fn read_descriptors<M: Medium>(
     m: &mut M,
     slot: u64,
@@ -102,23 +93,12 @@ fn read_descriptors<M: Medium>(
     requires slot { slot < 64 }
     requires few { count ≤ 240 }
     requires inside { slot_end slot ≤ (M.state m.old).size }
-    ensures reads { LooksUp M.state M.follows 8 (λ s. s < slot_end slot)
-        (λ old new found. MatchOption (found_in found to.new)
+    ensures { LooksUp M.state M.follows 8 (λ s. s < slot_end slot) (λ old new found.
+        MatchOption (found_in found to.new)
         ((reads : ℕ) × StopsAtBad (HasDescriptor old.content (place_of slot) stamp count)
         (descriptors_of count) reads × (new.calls ≡ old.calls + reads))
-        (λ read. (length read.numbers.items ≡ count)
-        × HasDescriptors old.content (place_of slot) stamp read.numbers.items
+        (λ read. AreNamed old.content (place_of slot) stamp count read
         × (new.calls ≡ old.calls + descriptors_of count))) m.old m.new result }
-    ensures all { (numbers : List ℕ) → length numbers ≡ count
-        → HasDescriptors (M.state m.old).content (place_of slot) stamp numbers
-        → IfOk result (λ found. IsSomeAnd (found_in found to.new)
-        (λ read. read.numbers.items ≡ numbers)) }
-    ensures firsts { (entries : List Entry) → length entries ≡ count
-        → ((j : ℕ) → j < descriptors_of count → IsDescriptorTwo stamp count j
-        (numbers_of (chunk_of entries j)) (firsts_of (chunk_of entries j))
-        ((M.state m.old).content (descriptor_place slot j)))
-        → IfOk result (λ found. IfSome (found_in found to.new)
-        (λ read. read.firsts.items ≡ firsts_of entries)) }
 {
     to.clear();
     for j in 0..descriptors(count as usize) as u64 {
@@ -138,7 +118,6 @@ fn are_blocks(numbers: &[u64], blocks: u64) -> bool
 }
 
 /// Reads the record of a stamp up to its data places. False where its other sectors are not there.
-#[tactic(auto, using(crate::proofs::SectorsRead::reads))]
 pub(crate) fn read_record<M: Medium>(
     m: &mut M,
     sizes: &Super,
@@ -171,32 +150,13 @@ fn has_stamp<M: Medium>(m: &mut M, slot: u64, stamp: u64, i: u64) -> Result<bool
     requires slot { slot < 64 }
     requires few { i < 240 }
     requires inside { slot_end slot ≤ (M.state m.old).size }
-    ensures { LooksUpAll M.state M.follows 1 (λ s. s < slot_end slot)
-        (λ old new good. IsTrue good ↔ HasPlace old.content (place_of slot) stamp i)
-        m.old m.new result }
+    ensures { LooksUp M.state M.follows 1 (λ s. s < slot_end slot) (λ old new good.
+        (new.calls ≡ old.calls + 1)
+        × (IsTrue good ↔ HasPlace old.content (place_of slot) stamp i)) m.old m.new result }
 {
     let mut sector = [0; 512];
     m.read(data_place(slot, i), &mut sector)?;
     Ok(is_data(stamp, &sector))
-}
-
-// Whether the first `count` data places of a slot begin with the stamp.
-#[tactic(auto, using(crate::proofs::SectorsRead::reads))]
-fn has_stamps<M: Medium>(m: &mut M, slot: u64, stamp: u64, count: u64) -> Result<bool, MediumFault>
-    requires slot { slot < 64 }
-    requires few { count ≤ 240 }
-    requires inside { slot_end slot ≤ (M.state m.old).size }
-    ensures { LooksUp M.state M.follows count (λ s. s < slot_end slot)
-        (λ old new good. (IsTrue good ↔ HasPlaces old.content (place_of slot) stamp count)
-        × (reads : ℕ) × ReadsUpToBad (HasPlace old.content (place_of slot) stamp) count reads
-        × (new.calls ≡ old.calls + reads)) m.old m.new result }
-{
-    for i in 0..count {
-        if !has_stamp(m, slot, stamp, i)? {
-            return Ok(false);
-        }
-    }
-    Ok(true)
 }
 
 /// Whether the first `count` data places of the record of a stamp carry it.
@@ -213,5 +173,11 @@ pub(crate) fn are_stamped<M: Medium>(
         (λ s. s < first_home (shape_of sizes.now)) (FindsStamps (shape_of sizes.now) stamp count)
         m.old m.new result }
 {
-    has_stamps(m, slot_of(stamp, sizes.slots), stamp, count)
+    let slot = slot_of(stamp, sizes.slots);
+    for i in 0..count {
+        if !has_stamp(m, slot, stamp, i)? {
+            return Ok(false);
+        }
+    }
+    Ok(true)
 }

@@ -34,7 +34,7 @@ pub(crate) fn early(_count: usize) -> usize
 }
 
 /// Part p of a record: its descriptors, then its data places, then its commit.
-#[tactic(auto, using(crate::proofs::Format2Laws::parts, crate::proofs::BatchEntries::batch))]
+#[tactic(auto, using(crate::proofs::Format1Laws::parts, crate::proofs::BatchEntries::batch))]
 pub(crate) fn part(stamp: u64, numbers: &[u64], bytes: &[u8], p: usize) -> Part
     requires { CanWrite format2.parts 240 stamp numbers.now bytes.now p }
     ensures offset { result.offset ≡ format2.offset (length numbers.now) p }

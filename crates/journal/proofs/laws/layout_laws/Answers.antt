@@ -1,7 +1,7 @@
 use Rattle.std.proofs.Common.{refl, sym, ◌∙◌, arith}
 use Rattle.journal.proofs.SectorNumbers.{IsSuper-one, IsHead-one, descriptor_says, descriptor_number}
 use Rattle.journal.proofs.SectorNumbers.{descriptor_numbers, commit_says}
-use Rattle.journal.proofs.EntriesTwo.{IsDescriptorTwo-one, commit_stamp, commit_count}
+use Rattle.journal.proofs.EntriesTwo.{IsDescriptorTwo-one}
 use Rattle.journal.proofs.laws.layout_laws.Goals as goal
 
 pub returns : goal.returns
@@ -10,11 +10,9 @@ returns c = record {
   head = λ bytes a b h k. IsHead-one a b bytes h k;
   descriptor = λ bytes a b ns ms d e. (
     sym (descriptor_says d).0 ∙ (descriptor_says e).0,
-    descriptor_numbers e _ ns (sym (descriptor_says d).1) refl (λ i below. sym (descriptor_number d i below)),
+    descriptor_numbers e (sym (descriptor_says d).1) (record { count = refl; each = λ i below. sym (descriptor_number d i below) }),
   );
   commit = λ bytes a b m n x y. grind (arith, commit_says x, commit_says y);
   descriptor_two = IsDescriptorTwo-one;
-  commit_two = λ bytes a b m n x y.
-      let count = commit_count a m bytes x in
-      grind (arith, count, commit_stamp a m bytes x, commit_stamp b n bytes y, commit_count b n bytes y);
+  commit_two = λ bytes a b m n x y. grind (arith, commit_says x, commit_says y);
 }

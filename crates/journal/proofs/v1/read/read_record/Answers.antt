@@ -1,25 +1,75 @@
-use Rattle.std.proofs.Common.{◌≡◌, ◌∙◌, [], refl, rules}
+use Rattle.std.proofs.Common.{◌≡◌, ◌∙◌, ◌<◌, ◌+◌, ◌*◌, ◌%◌, ℕ, Ok, [], refl, sym, rules, arith}
+use Rattle.medium.specs.Medium.{State}
 use Rattle.journal.specs.Values.{shape_of}
-use Rattle.journal.proofs.CopiedBlock.{one_read}
+use Rattle.journal.specs.Record.{numbers_of}
+use Rattle.journal.specs.Reads.{LooksUp}
+use Rattle.journal.specs.Format1.{record_in}
+use Rattle.journal.proofs.CopiedBlock.{read_is}
+use Rattle.journal.proofs.Format1Laws.{descriptor_there, commit_there, numbers_read, whole_in}
+use Rattle.journal.proofs.Wholeness.{as_format, of_format}
+use Rattle.medium.proofs.SectorsRead.{looks_joined, look_below}
+use Rattle.journal.proofs.SectorsRead.{within_one}
+use Rattle.journal.proofs.v1.read.read_record.Given as given
 use Rattle.journal.proofs.v1.read.read_record.Goals as goal
+use Rattle.journal.proofs.v1.read.read_record.Goals.{After-whole_record}
+
+-- the descriptor and then the commit are read, of a slot that ends before home, and find this
+joined : (g : given.Over) (c : After-whole_record g) {Z : Type 0} {H : State → State → Z → Type 0} (z : Z)
+    → H (g.M.Medium.state c.args.m.now) (g.M.Medium.state c.read-2.new.self) z
+    → LooksUp g.M.Medium.state g.M.Medium.follows 2 (λ s. s < c.args.sizes.now.home) H c.args.m.now c.read-2.new.self (Ok z)
+joined g c z finds =
+    let ends = within_one c.args.sizes.now c.args.stamp _ c.slot_of-slot.ensures c.requires.format in
+    let a = c.read.ensures.follows in
+    let b = c.read-2.ensures.follows in
+    let first = look_below c.args.sizes.now.home _ _ _ (omega (arith, ends, c.place_of.ensures)) a.1 in
+    let last = look_below c.args.sizes.now.home _ _ _ (omega (arith, ends, c.commit_place.ensures)) b.1 in
+    record {
+      passes = search rules;
+      finds = finds;
+      follows = (g.met.M.Medium.follows_through _ _ _ a.0 b.0, looks_joined _ _ _ _ first last);
+    }
+
+pub returns-in_default : goal.returns-in_default
+returns-in_default g c =
+    let after = (goal.at.returns-in_default g c).After-whole_record in
+    let shape = shape_of c.args.sizes.now in
+    let old = g.M.Medium.state c.args.m.now in
+    let slot = c.slot_of-slot.ensures in
+    joined g after _ (record {
+      some = tt;
+      all = λ entries whole.
+          let w = as_format c.requires.format whole in
+          c.in_default.ensures.all (numbers_of entries)
+          (rw (c.in_ok-read.ensures.ok, c.place_of.ensures, slot) (descriptor_there shape old.content c.args.stamp entries w))
+          (rw (c.in_ok-read-2.ensures.ok, c.commit_place.ensures, c.read.ensures.content _, slot)
+          (commit_there shape old.content c.args.stamp entries w)) w.fit.inside;
+      exact = (2, rw c.requires.format refl, omega arith);
+    })
 
 pub returns : goal.returns
-returns g c = record {
-  passes = search rules;
-  finds =
-      let shape = shape_of c.args.sizes.now in
-      let image = (g.M.Medium.state c.args.m.now).content in
-      let listed : c.append.new.self.numbers.items ≡ c.in-Some.found.numbers.items =
-      rw (c.append.ensures.numbers, c.clear.ensures.numbers) c.deref.ensures.0 in
-      let none : c.append.new.self.firsts.items ≡ [] = rw (c.append.ensures.firsts, c.clear.ensures.firsts) in
-      let w = rw c.in-Some.is at c.in_ok-found.ensures.reads.finds in
-      record {
-        some = λ stamped. (w.0, w.1);
-        all = λ entries whole. record {
-          numbers_are = listed ∙ (rw c.in-Some.is at (c.in_ok-found.ensures.all entries whole));
-          blocks_are = λ i below. one_read shape image c.args.stamp entries whole _ i below c.requires.format none;
-        };
-        exact = (2, rw c.requires.format refl, c.in_ok-found.ensures.reads.passes.exact);
-      };
-  follows = search rules;
-}
+returns g c =
+    let after = (goal.at.returns g c).After-whole_record in
+    let shape = shape_of c.args.sizes.now in
+    let image = (g.M.Medium.state c.args.m.now).content in
+    let slot = c.slot_of-slot.ensures in
+    let at : ℕ = 2 + 50 * (c.args.stamp % c.args.sizes.now.slots) in
+    let found = c.in-Some.found.numbers.items in
+    let described = rw (c.in_ok-read.ensures.ok, c.place_of.ensures, slot) at c.in-Some.ensures.some in
+    let ended = rw (c.in_ok-read-2.ensures.ok, c.commit_place.ensures, c.read.ensures.content _, slot) at c.in-Some.ensures.ended in
+    let listed : c.append.new.self.numbers.items ≡ found = rw (c.append.ensures.numbers, c.clear.ensures.numbers) c.deref.ensures.0 in
+    let none : c.append.new.self.firsts.items ≡ [] = rw (c.append.ensures.firsts, c.clear.ensures.firsts) in
+    let sound = g.met.M.Medium.sound c.args.m.now in
+    let ends = within_one c.args.sizes.now c.args.stamp _ refl c.requires.format in
+    let few = described.block_numbers.few in
+    joined g after _ (record {
+      some = λ stamped. (
+        record_in image at,
+        of_format c.requires.format (whole_in shape image c.args.stamp found described ended c.in-Some.ensures.inside
+            (λ i below. sound.sized (at + 1 + i) (image (at + 1 + i)) (omega (arith, ends, c.requires.fits, few, below))
+            (sound.holds_content (at + 1 + i)))),
+      );
+      all = λ entries whole. read_is shape image c.args.stamp entries whole c.append.new.self
+          (rw c.requires.format (listed ∙ sym (numbers_read image at described)))
+          (rw c.requires.format none);
+      exact = (2, rw c.requires.format refl, omega arith);
+    })

@@ -1,107 +1,72 @@
-use Rattle.std.proofs.Common.{◌≡◌, ◌∙◌, ◌+◌, ◌*◌, ℕ, List, ◌++◌, length, take, drop, refl, rules, arith}
-use Rattle.std.proofs.Math.Seq.{take-add}
-use Rattle.std.proofs.lemmas.List.{length-append}
-use Rattle.journal.specs.Entry.{Entry, numbers_of}
-use Rattle.journal.specs.SectorsTwo.{chunk_of, firsts_of}
-use Rattle.journal.proofs.DescribedNumbers.{described_more}
-use Rattle.journal.proofs.RecordTwo.{firsts_of_chunk}
-use Rattle.journal.proofs.SectorsRead.{reads}
+use Rattle.std.proofs.Common.{◌≡◌, ◌<◌, ◌+◌, ◌*◌, ◌/◌, ℕ, List, ◌++◌, take, refl, rules, arith}
+use Rattle.std.proofs.lemmas.List.{map-append, take_all}
+use borrow.Author.Count.{below_more}
+use Rattle.medium.specs.Medium.{Image}
+use Rattle.journal.specs.Record.{Entry}
+use Rattle.journal.specs.SectorsTwo.{chunk_of}
+use Rattle.journal.specs.Format2.{entries_at}
+use Rattle.journal.specs.SlotReads.{HasDescriptor}
+use Rattle.journal.proofs.DescribedNumbers.{take_chunk, read_long, chunk_numbers, chunk_firsts}
+use Rattle.journal.proofs.SectorsRead.{looks_on}
 use Rattle.journal.proofs.v2.read.read_descriptors.Goals as goal
-
-pub returns-in_default-clause-all : goal.returns-in_default-clause-all
-returns-in_default-clause-all g c numbers long has =
-    let j = c.loop-j.j in
-    let d = has j (omega (arith, c.descriptors-j-end.ensures, c.loop-j-test.true, long)) in
-    let same = c.loop-j.invariant.quiet.content_stays (2 + 249 * c.args.slot + j) in
-    absurd (rw c.in_default.is at (c.in_ok-found.ensures.all (take 30 (drop (30 * j) numbers)) d.0 (rw same (simp long at d.1))))
 
 pub loop-j-preserved : goal.loop-j-preserved
 loop-j-preserved g c =
-    let old = g.M.Medium.state c.args.m.now in
+    let image : Image = (g.M.Medium.state c.args.m.now).content in
     let inv = c.loop-j.invariant in
-    let s = c.args.stamp in
+    let at : ℕ = 2 + 249 * c.args.slot in
     let n = c.args.count in
     let j = c.loop-j.j in
-    let at : ℕ = 2 + 249 * c.args.slot in
-    let below = c.loop-j-test.true in
-    let ns = c.loop-j.to.numbers.items in
+    let same : (g.M.Medium.state c.loop-j.m).content ≡ image = λ i s. inv.looked.passes.quiet.content_stays s i in
+    let finds = rw (c.in-Some.is, same) at c.in_ok-found.ensures.finds in
     let d = c.in-Some.found in
-    let same = inv.quiet.content_stays (at + j) in
-    let is = rw same at (rw c.in-Some.is at c.in_ok-found.ensures.reads.finds).1 in
-    let more : c.append.new.self.numbers.items ≡ ns ++ d.numbers.items = cc in
-    let fs = c.loop-j.to.firsts.items in
-    let more_firsts : c.append.new.self.firsts.items ≡ fs ++ d.firsts.items = cc in
-    let next : 30 * j + 30 ≡ 30 * (j + 1) = omega arith in
-    let full : length ns ≡ 30 * j = omega (arith, inv.long, below, c.descriptors-j-end.ensures) in
+    let es : List Entry = entries_at image at n in
+    let so_far : List Entry = take (30 * c.loop-j.j) es in
+    let numbers : c.append.new.self.numbers.items ≡ c.loop-j.to.numbers.items ++ d.numbers.items = cc in
+    let firsts : c.append.new.self.firsts.items ≡ c.loop-j.to.firsts.items ++ d.firsts.items = cc in
+    let more = take_chunk es j in
+    let chunk : List Entry = chunk_of es c.loop-j.j in
     record {
-      quiet = search (rules, reads);
-      reads = λ kind other. c.read_descriptor.ensures.reads.passes.reads kind other ∙ inv.reads kind other;
-      calls = omega (arith, inv.calls, c.in_ok-found.ensures.reads.passes.exact);
-      long = rw more (omega (arith, length-append ns d.numbers.items, is.entries.many, full));
-      described = rw more (described_more j ns d.numbers.items full old.content at s n d.firsts.items is inv.described);
-      all = λ numbers long has.
-          let here = has j (omega (arith, c.descriptors-j-end.ensures, below, long)) in
-          let part : List ℕ = take 30 (drop (30 * j) numbers) in
-          let found = rw c.in-Some.is at (c.in_ok-found.ensures.all part here.0 (rw same (simp long at here.1))) in
-          cc (more, inv.all numbers long has, found.0, take-add (30 * j) 30 numbers, next);
-      firsts = λ entries long has.
-          let here = has j (omega (arith, c.descriptors-j-end.ensures, below)) in
-          let part : List Entry = chunk_of entries j in
-          let found = rw c.in-Some.is at (c.in_ok-found.ensures.all (numbers_of part) (firsts_of part) (rw same here)) in
-          cc (
-            more_firsts,
-            inv.firsts entries long has,
-            found.1,
-            firsts_of_chunk entries j,
-            take-add (30 * j) 30 (firsts_of entries),
-            next,
-          );
-      each = rw (more, more_firsts) (omega (
-        arith,
-        inv.each,
-        is.entries.each,
-        length-append ns d.numbers.items,
-        length-append fs d.firsts.items,
-      ));
-      follows = search (rules, g.met.M.Medium.follows_through);
-      looks = search (rules, reads);
+      there = below_more (HasDescriptor image at c.args.stamp n) j inv.there (d.numbers.items, d.firsts.items, finds.1);
+      numbers = cc (numbers, inv.numbers, chunk_numbers image at n finds.1, more, map-append (λ (e : Entry). e.0) so_far chunk);
+      firsts = cc (firsts, inv.firsts, chunk_firsts image at n finds.1, more, map-append (λ (e : Entry). take 8 e.1) so_far chunk);
+      looked = looks_on g.met.M.Medium.follows_through inv.looked c.read_descriptor.ensures (omega arith) tt
+          (omega (arith, inv.looked.finds, finds.0));
     }
 
-pub returns-clause-reads : goal.returns-clause-reads
-returns-clause-reads g c = record {
-  passes = search rules;
-  finds =
-      let inv = c.loop-j.invariant in
-      let n = c.args.count in
-      let over = c.loop-j-test.false in
-      let long : length c.loop-j.to.numbers.items ≡ c.args.count = omega (arith, inv.long, over, c.descriptors-j-end.ensures) in (
-        long,
-        λ j below.
-            let was = inv.described j (omega (arith, below, long, over, c.descriptors-j-end.ensures)) in (was.0, simp long was.1),
-        omega (arith, inv.calls, over, c.descriptors-j-end.ensures, c.loop-j.auto.j-end),
+pub returns : goal.returns
+returns g c =
+    let inv = c.loop-j.invariant in
+    let at : ℕ = 2 + 249 * c.args.slot in
+    let old = g.M.Medium.state c.args.m.now in
+    let es : List Entry = entries_at old.content (2 + 249 * c.args.slot) c.args.count in
+    let all = take_all (30 * c.loop-j.j) es (omega (arith, read_long old.content at c.args.count, c.descriptors-j-end.ensures)) in
+    let there : (j : ℕ) → j < (c.args.count + 29) / 30 → HasDescriptor old.content at c.args.stamp c.args.count j =
+    λ j below. inv.there j (omega (arith, below, c.loop-j-test.false, c.descriptors-j-end.ensures)) in
+    record {
+      passes = search rules;
+      finds = (
+        record { there = there; numbers_are = rw all at inv.numbers; firsts_are = rw all at inv.firsts },
+        omega (arith, inv.looked.finds, c.descriptors-j-end.ensures),
       );
-  follows = search rules;
-}
+      follows = search rules;
+    }
 
-pub returns-in_default-clause-reads : goal.returns-in_default-clause-reads
-returns-in_default-clause-reads g c = record {
-  passes = search rules;
-  finds =
-      let s = c.args.stamp in
-      let n = c.args.count in
-      let j = c.loop-j.j in
-      let inv = c.loop-j.invariant in
-      let at : ℕ = 2 + 249 * c.args.slot in
-      let same = inv.quiet.content_stays (at + j) in (
-        j + 1,
-        record {
-          first = j;
-          inside = omega (arith, c.descriptors-j-end.ensures, c.loop-j-test.true);
-          before = λ k below. let d = inv.described k below in (take 30 (drop (30 * k) c.loop-j.to.numbers.items), d.0, d.1);
-          bad = λ has. absurd (rw c.in_default.is at (c.in_ok-found.ensures.all has.0 has.1 (rw same has.2)));
-          reads_are = refl;
-        },
-        omega (arith, inv.calls, c.in_ok-found.ensures.reads.passes.exact),
-      );
-  follows = search (rules, reads, g.met.M.Medium.follows_through);
-}
+pub returns-in_default : goal.returns-in_default
+returns-in_default g c =
+    let inv = c.loop-j.invariant in
+    let j = c.loop-j.j in
+    let same : (g.M.Medium.state c.loop-j.m).content ≡ (g.M.Medium.state c.args.m.now).content =
+    λ i s. inv.looked.passes.quiet.content_stays s i in
+    let finds = rw (c.in_default.is, same) at c.in_ok-found.ensures.finds in
+    looks_on g.met.M.Medium.follows_through inv.looked c.read_descriptor.ensures (omega (arith, c.descriptors-j-end.ensures)) tt (
+      j + 1,
+      record {
+        first = j;
+        inside = omega (arith, c.descriptors-j-end.ensures);
+        before = inv.there;
+        bad = finds.1;
+        reads_are = refl;
+      },
+      omega (arith, inv.looked.finds, finds.0),
+    )

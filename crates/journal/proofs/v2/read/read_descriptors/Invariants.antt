@@ -1,30 +1,18 @@
-use Rattle.std.proofs.Common.{◌≡◌, ◌<◌, ◌+◌, ◌*◌, ℕ, List, length, take, drop}
-use Rattle.std.specs.Prelude.{min}
-use Rattle.medium.specs.Medium.{LooksOnly}
-use Rattle.medium.specs.Moments.{IsQuiet}
-use Rattle.journal.specs.Entry.{Entry, numbers_of}
-use Rattle.journal.specs.SectorsTwo.{descriptors_of, chunk_of, firsts_of, IsDescriptorTwo}
-use Rattle.journal.specs.SlotTwo.{HasDescriptors}
-use Rattle.journal.specs.Reads.{MakesReadsAlone}
+use Rattle.std.proofs.Common.{◌≡◌, ◌<◌, ◌+◌, ◌*◌, ℕ, Ok, take}
+use Rattle.journal.specs.Record.{numbers_of}
+use Rattle.journal.specs.SectorsTwo.{firsts_of}
+use Rattle.journal.specs.Format2.{entries_at}
+use Rattle.journal.specs.SlotReads.{HasDescriptor}
+use Rattle.journal.specs.Reads.{LooksUp}
 use Rattle.journal.proofs.v2.read.read_descriptors.Given as goal
 
 abbrev pub invariant-loop-j : goal.invariant-loop-j
-invariant-loop-j g l = record {
-  quiet : IsQuiet (g.M.Medium.state l.fn.m) (g.M.Medium.state l.m);
-  reads : MakesReadsAlone (g.M.Medium.state l.fn.m) (g.M.Medium.state l.m);
-  calls : (g.M.Medium.state l.m).calls ≡ (g.M.Medium.state l.fn.m).calls + l.j;
-  long : length l.to.numbers.items ≡ min (30 * l.j) l.count;
-  described : (k : ℕ) → k < l.j
-      → (firsts : List (List ℕ))
-      × IsDescriptorTwo l.stamp l.count k (take 30 (drop (30 * k) l.to.numbers.items)) firsts
-      ((g.M.Medium.state l.fn.m).content (2 + 249 * l.slot + k));
-  all : (numbers : List ℕ) → length numbers ≡ l.count → HasDescriptors (g.M.Medium.state l.fn.m).content (2 + 249 * l.slot) l.stamp numbers
-      → l.to.numbers.items ≡ take (30 * l.j) numbers;
-  firsts : (entries : List Entry) → length entries ≡ l.count
-      → ((k : ℕ) → k < descriptors_of l.count → IsDescriptorTwo l.stamp l.count k (numbers_of (chunk_of entries k))
-      (firsts_of (chunk_of entries k)) ((g.M.Medium.state l.fn.m).content (2 + 249 * l.slot + k)))
-      → l.to.firsts.items ≡ take (30 * l.j) (firsts_of entries);
-  each : length l.to.firsts.items ≡ length l.to.numbers.items;
-  follows : g.M.Medium.follows l.fn.m l.m;
-  looks : LooksOnly (λ s. s < 2 + 249 * l.slot + 249) (g.M.Medium.state l.fn.m) (g.M.Medium.state l.m);
-}
+invariant-loop-j g l =
+    let at : ℕ = 2 + 249 * l.slot in
+    let old = g.M.Medium.state l.fn.m in record {
+      there : (k : ℕ) → k < l.j → HasDescriptor old.content at l.stamp l.count k;
+      numbers : l.to.numbers.items ≡ numbers_of (take (30 * l.j) (entries_at old.content at l.count));
+      firsts : l.to.firsts.items ≡ firsts_of (take (30 * l.j) (entries_at old.content at l.count));
+      looked : LooksUp {X = Unit {0}} g.M.Medium.state g.M.Medium.follows l.j (λ s. s < at + 249)
+          (λ old new _. new.calls ≡ old.calls + l.j) l.fn.m l.m (Ok tt);
+    }

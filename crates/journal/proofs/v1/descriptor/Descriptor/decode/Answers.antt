@@ -4,22 +4,17 @@ use Rattle.journal.proofs.v1.descriptor.Descriptor.decode.Goals as goal
 
 pub returns-then-not-are_block_numbers-clause-all : goal.returns-then-not-are_block_numbers-clause-all
 returns-then-not-are_block_numbers-clause-all c stamp numbers d =
-    let read = c.numbers_at-numbers.ensures in
-    let same = descriptor_numbers d _ c.numbers_at-numbers.result.items c.number_at-count.ensures.is read.count read.each in
-    grind (arith, same, d.block_numbers)
+    grind (arith, descriptor_numbers d c.number_at-count.ensures.is c.numbers_at-numbers.ensures, d.block_numbers)
 
 pub returns-then-eq-clause-all : goal.returns-then-eq-clause-all
-returns-then-eq-clause-all c stamp numbers d =
-    let read = c.numbers_at-numbers.ensures in (
-      c.number_at-stamp.ensures.is ∙ (descriptor_says d).0,
-      descriptor_numbers d _ c.numbers_at-numbers.result.items c.number_at-count.ensures.is read.count read.each,
-    )
+returns-then-eq-clause-all c stamp numbers d = (
+  c.number_at-stamp.ensures.is ∙ (descriptor_says d).0,
+  descriptor_numbers d c.number_at-count.ensures.is c.numbers_at-numbers.ensures,
+)
 
 pub returns-else-eq-clause-all : goal.returns-else-eq-clause-all
 returns-else-eq-clause-all c stamp numbers d =
-    let read = c.numbers_at-numbers.ensures in
-    let same = descriptor_numbers d _ c.numbers_at-numbers.result.items c.number_at-count.ensures.is read.count read.each in
-    let says = descriptor_says d in
-    let e : c.encode.result ≡ c.args.sector.now =
-    cc (c.encode.ensures.spelled, c.number_at-stamp.ensures.is, says.0, same, d.spelled) in
+    let same = descriptor_numbers d c.number_at-count.ensures.is c.numbers_at-numbers.ensures in
+    let is = c.number_at-stamp.ensures.is ∙ (descriptor_says d).0 in
+    let e : c.encode.result ≡ c.args.sector.now = cc (c.encode.ensures.spelled, is, same, d.spelled) in
     search rules

@@ -1,4 +1,4 @@
-use Rattle.std.proofs.Common.{◌+◌, ◌*◌, ℕ, List, length, drop, ap, arith, length-take, length-drop, rules}
+use Rattle.std.proofs.Common.{◌+◌, ◌*◌, ◌<◌, ◌≤◌, ℕ, List, length, drop, ap, arith, length-take, length-drop, rules}
 use Rattle.journal.proofs.EntriesTwo.{items_here, sized_from, entries_cut}
 use Rattle.journal.proofs.v2.descriptor.Descriptor.new.Goals as goal
 
@@ -10,8 +10,9 @@ invariant_of-result c =
     let count = c.firsts_in.ensures.count in
     let items = items_here c.list_of.result.items numbers from c.count_here-here.result here c.list_of.ensures in
     let long = ap (λ (l : List ℕ). length l) items in
-    let sized = sized_from c.firsts_in.result.items c.count_here-here.result c.args.bytes.now (λ i. 512 * (from + i)) count
-    (λ i below. omega (arith, below, here, c.requires.size)) c.firsts_in.ensures.each in
+    let inside : (i : ℕ) → i < c.count_here-here.result → 512 * (from + i) + 8 ≤ length c.args.bytes.now =
+    λ i below. omega (arith, below, here, c.requires.size) in
+    let sized = sized_from _ (λ i. 512 * (from + i)) inside c.firsts_in.ensures in
     let entries = entries_cut numbers c.list_of.result.items c.firsts_in.result.items c.args.index c.requires.few c.requires.used
     c.requires.rising c.requires.small items
     (omega (arith, here, count, long, length-take 30 (drop from numbers), length-drop from numbers)) sized in
