@@ -19,7 +19,7 @@ use Rattle.journal.specs.Sectors.{IsSuper, IsHead}
 use Rattle.journal.specs.Standing.{IsOurs}
 use Rattle.journal.proofs.Apart.{in_log}
 use Rattle.journal.proofs.Overlay.{with_records-same, records-hide}
-use Rattle.recovery.specs.Copies.{IsHomeOf, IsHomeInRecord, IsHomeInRecords}
+use Rattle.recovery.specs.Calls.{IsHomeOf, IsHomeInRecord, IsHomeInRecords}
 use Rattle.recovery.specs.Recovered.{IsFresh}
 
 -- what a cut may leave in one sector an image has there that it may leave

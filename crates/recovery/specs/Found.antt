@@ -1,21 +1,77 @@
--- What recovery finds before its first write.
-use Rattle.std.specs.Prelude.{◌≡◌, ℕ, ◌+◌, ◌*◌, ◌^◌, ◌<◌, ◌≤◌, min, List, length, Option}
-use Rattle.std.specs.Prelude.{MatchOption}
+-- What recovery finds before its first write, and how many reads show it, by what the image holds.
+use Rattle.std.specs.Prelude.{◌≡◌, ◌⊎◌, ℕ, ◌+◌, ◌*◌, ◌^◌, ◌<◌, ◌≤◌, min, List, length, sum, slice_index}
+use Rattle.std.specs.Prelude.{Option, MatchOption, Result, IfOk, IfErr}
 use Rattle.medium.specs.Medium.{State, Image}
 use Rattle.medium.specs.Moments.{IsQuiet}
-use Rattle.journal.specs.declared.log_format.LogFormat.TheVariants.{Two}
+use Rattle.journal.specs.declared.log_format.LogFormat.{LogFormat}
+use Rattle.journal.specs.declared.log_format.LogFormat.TheVariants.{One, Two}
 use Rattle.journal.specs.Places.{Shape, slot_sectors_of}
 use Rattle.journal.specs.Values.{shape_of}
 use Rattle.journal.specs.Sectors.{IsHead}
+use Rattle.journal.specs.SectorsTwo.{descriptors_of}
+use Rattle.journal.specs.SlotReads.{ReadsUpToBad, IsCommitted, HasPlace, NamesBlocks, IsReadInVain}
+use Rattle.journal.specs.Layout.{slot_at}
+use Rattle.journal.specs.Format2.{format2}
 use Rattle.journal.specs.Record.{Entry}
 use Rattle.journal.specs.Formats.{IsWhole, HasWhole}
 use Rattle.journal.specs.Standing.{IsCount}
 use Rattle.journal.specs.ImageFaults.{HasShape}
-use Rattle.recovery.specs.Causes.{HasFewSlots, MakesReadsAlone}
-use Rattle.recovery.specs.Copies.{most_reads_of}
-use Rattle.recovery.specs.Looks.{LooksAtLog}
-use Rattle.recovery.specs.Tries.{AreTries, IsTryOf}
+use Rattle.recovery.specs.Calls.{most_reads_of, LooksAtLog}
+use Rattle.recovery.specs.Causes.{HasFewSlots, IsRefusalBy, MakesReadsAlone}
 use Rattle.recovery.specs.declared.found.Found.{Found}
+use Rattle.recovery.specs.declared.start_fault.StartFault.{StartFault}
+
+-- of the record of a stamp in the slot of format 2 that begins at this sector
+module _ (image : Image) (at stamp : ℕ) where
+  -- How many sectors are read behind a commit of count blocks: descriptors up to the first bad
+  -- one; or all of them, where they name no such blocks; or all of them, and data places up to the
+  -- first bad one.
+  abbrev pub IsReadBehind : ℕ → ℕ → ℕ → Type 0
+  IsReadBehind blocks count reads =
+      IsReadInVain image at stamp blocks count reads
+      ⊎ (NamesBlocks image at stamp blocks count × (places : ℕ)
+      × ReadsUpToBad (HasPlace image at stamp) count places
+      × (reads ≡ descriptors_of count + places))
+
+  -- how many are read in all: the commit, and where it is there, what is read behind it
+  abbrev pub IsReadInSlot : ℕ → ℕ → Type 0
+  IsReadInSlot blocks reads =
+      (((count : ℕ) → ¬ IsCommitted image at stamp count) × (reads ≡ 1))
+      ⊎ ((count : ℕ) × IsCommitted image at stamp count × (behind : ℕ)
+      × IsReadBehind blocks count behind × (reads ≡ 1 + behind))
+
+  -- So many sectors, and no other number of them, are read to tell whether the record is whole.
+  pub record IsTryTwo (blocks reads : ℕ) : Type 0 where
+    pub is : IsReadInSlot blocks reads
+    pub only : (other : ℕ) → IsReadInSlot blocks other → other ≡ reads
+
+-- As many stamps as `tries` says are tried from the first on, by a number of reads for each.
+pub record AreTriesTwo (shape : Shape) (image : Image) (first tries before after : ℕ)
+    : Type 0 where
+  pub reads : List ℕ
+  pub many : length reads ≡ tries
+  pub each : (j : ℕ) → j < tries
+      → IsTryTwo image (slot_at format2 shape (first + j)) (first + j) shape.blocks
+      (slice_index reads j)
+  pub after_is : after ≡ before + sum reads
+
+-- By the try of a stamp one count of calls becomes another: by two reads in format 1.
+abbrev pub IsTryOf : LogFormat → Shape → Image → ℕ → ℕ → ℕ → Type 0
+IsTryOf One shape image stamp before after = after ≡ before + 2
+IsTryOf Two shape image stamp before after =
+    (reads : ℕ) × IsTryTwo image (slot_at format2 shape stamp) stamp shape.blocks reads
+    × (after ≡ before + reads)
+
+-- so by tries of this many stamps from the first on: by two reads each in format 1
+abbrev pub AreTriesOf : LogFormat → Shape → Image → ℕ → ℕ → ℕ → ℕ → Type 0
+AreTriesOf One shape image first tries before after = after ≡ before + 2 * tries
+AreTriesOf Two shape image first tries before after =
+    AreTriesTwo shape image first tries before after
+
+-- the image is of this shape
+abbrev pub AreTries : Shape → Image → ℕ → ℕ → ℕ → ℕ → Type 0
+AreTries shape image first tries before after =
+    AreTriesOf shape.format shape image first tries before after
 
 -- the image of a medium of `size` sectors has none of the faults, and this is what it has
 pub record IsFound (size : ℕ) (image : Image) (found : Found) : Type 0 where
@@ -23,11 +79,6 @@ pub record IsFound (size : ℕ) (image : Image) (found : Found) : Type 0 where
   pub head : IsHead found.head (image 1)
   pub count : IsCount (shape_of found.sizes) image found.head found.count
   pub stamp_left : found.head + found.count + 1 < 2 ^ 63
-
--- By as many calls as show it, count records are whole from this stamp on.
-pub record CountsWhole (shape : Shape) (head : ℕ) (old new : State) (count : ℕ) : Type 0 where
-  pub exact : AreTries shape old.content head (min (count + 1) shape.slots) old.calls new.calls
-  pub is : IsCount shape old.content head count
 
 -- the record of this stamp is whole, and has count blocks
 abbrev pub HasCount : Shape → Image → ℕ → ℕ → Type 0
@@ -40,6 +91,19 @@ pub record CountsBlocks (shape : Shape) (stamp : ℕ) (old new : State) (found :
   pub exact : IsTryOf shape.format shape old.content stamp old.calls new.calls
   pub counted : MatchOption found (¬ HasWhole shape old.content stamp)
       (λ count. HasCount shape old.content stamp count)
+
+-- As many records as there are counts are whole from the head on, without a gap, and at most as
+-- many as there are slots; and each has as many blocks as its count says.
+pub record AreCounts (shape : Shape) (image : Image) (head : ℕ) (counts : List ℕ) : Type 0 where
+  pub is : IsCount shape image head (length counts)
+  pub each : (j : ℕ) → j < length counts → HasCount shape image (head + j) (slice_index counts j)
+
+-- By as many calls as show it, these are the counts of the records that are whole from the head on.
+pub record CountsRecords (shape : Shape) (head : ℕ) (old new : State) (counts : List ℕ)
+    : Type 0 where
+  pub exact : AreTries shape old.content head (min (length counts + 1) shape.slots)
+      old.calls new.calls
+  pub are : AreCounts shape old.content head counts
 
 -- A survey wants at least this many slots in a log of format 1, and found this. It read the super,
 -- the head and, for each stamp that it tried, what shows whether its record is whole.
@@ -58,3 +122,12 @@ pub record SurveysAtMost (old new : State) : Type 0 where
   pub most : (shape : Shape) → HasShape old.size shape old.content
       → new.calls ≤ old.calls + 2 + most_reads_of shape.format * shape.slots
   pub looks : LooksAtLog old new
+
+-- A survey wants at least this many slots in a log of format 1: how it reads, what it finds, and
+-- why it is refused.
+pub record Surveys {M : Type 0} (state : M → State) (Follows : M → M → Type 0) (least : ℕ)
+    (old new : M) (result : Result Found StartFault) : Type 0 where
+  pub reads : SurveysAtMost (state old) (state new)
+  pub ok : IfOk result (IsSurvey least (state old) (state new))
+  pub err : IfErr result (IsRefusalBy least IsQuiet (state old) (state new))
+  pub follows : Follows old new

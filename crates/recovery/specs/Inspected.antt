@@ -1,6 +1,6 @@
 -- What a look at an image answers.
-use Rattle.std.specs.Prelude.{◌≡◌, ◌⊎◌, ℕ, ◌+◌, ◌*◌, ◌<◌, ◌≤◌, List, length, slice_index, map}
-use Rattle.medium.specs.Medium.{State, Image}
+use Rattle.std.specs.Prelude.{◌≡◌, ◌⊎◌, ℕ, ◌+◌, ◌*◌, ◌<◌, ◌≤◌, List, length, map, Result, IfOk, IfErr}
+use Rattle.medium.specs.Medium.{State}
 use Rattle.medium.specs.Moments.{IsQuiet}
 use Rattle.spec.specs.Blocks.{Array}
 use Rattle.medium.specs.declared.fault.MediumFault.TheVariants as medium
@@ -10,22 +10,16 @@ use Rattle.journal.specs.Places.{Shape, sectors_of, slot_sectors_of}
 use Rattle.journal.specs.Sectors.{IsSuper}
 use Rattle.journal.specs.SuperFaults.{IsSuperFault}
 use Rattle.journal.specs.Values.{shape_of}
-use Rattle.journal.specs.Standing.{IsCount, StandsFor, Stands}
+use Rattle.journal.specs.Standing.{StandsFor, Stands}
 use Rattle.journal.specs.ImageFaults as image
 use Rattle.recovery.specs.Causes.{IsRefusedCall, MakesReadsAlone, IsDeviceFault}
-use Rattle.recovery.specs.Found.{HasCount}
-use Rattle.recovery.specs.Looks.{LooksAtLog}
+use Rattle.recovery.specs.Calls.{ReadsUpTo}
+use Rattle.recovery.specs.Calls.{LooksAtLog}
 use Rattle.recovery.specs.declared.inspection.Inspection.{Inspection}
 use Rattle.recovery.specs.declared.start_fault.StartFault.{StartFault}
 use Rattle.recovery.specs.declared.start_fault.StartFault.TheVariants.{Read, Write, Flush}
 use Rattle.recovery.specs.declared.start_fault.StartFault.TheVariants.{BadSuper, BadVersion}
 use Rattle.recovery.specs.declared.start_fault.StartFault.TheVariants.{BadSize, BadHead}
-
--- As many records as there are counts are whole from the head on, without a gap, and at most as
--- many as there are slots; and each has as many blocks as its count says.
-pub record AreCounts (shape : Shape) (image : Image) (head : ℕ) (counts : List ℕ) : Type 0 where
-  pub is : IsCount shape image head (length counts)
-  pub each : (j : ℕ) → j < length counts → HasCount shape image (head + j) (slice_index counts j)
 
 -- The answer is what the contents stand for: their sizes, their head, and of each record that waits
 -- there, in order of the stamps, how many blocks it has.
@@ -55,6 +49,16 @@ IsLookCause old new BadVersion = image.HasFault old.size old.content image.BadVe
 IsLookCause old new BadSize = image.HasFault old.size old.content image.BadSize
 IsLookCause old new BadHead = image.HasFault old.size old.content image.BadHead
 IsLookCause old new fault = ⊥
+
+-- The first sectors are looked at, by this many reads: what they have, and why not.
+pub record LooksAtFirst {M X : Type 0} (state : M → State) (Follows : M → M → Type 0)
+    (Has : State → X → Type 0) (count : ℕ) (old new : M) (result : Result X StartFault)
+    : Type 0 where
+  pub reads : ReadsUpTo count (state old) (state new) result
+  pub looks : LooksAtLog (state old) (state new)
+  pub ok : IfOk result (Has (state old))
+  pub err : IfErr result (IsLookCause (state old) (state new))
+  pub follows : Follows old new
 
 -- what is wrong with a super on a medium of `size` sectors
 abbrev pub IsSuperCause : ℕ → List ℕ → StartFault → Type 0

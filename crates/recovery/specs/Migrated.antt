@@ -1,10 +1,9 @@
 -- What a migration to format 2 answers, and what it leaves.
 use Rattle.std.specs.Prelude.{◌≡◌, ◌⊎◌, ℕ, ◌+◌, ◌*◌, ◌^◌, ◌<◌, ◌≤◌, length, min, replicate, Bool}
 use Rattle.std.specs.Prelude.{true, false}
-use Rattle.medium.specs.Medium.{State, Image, CutLeaves}
-use Rattle.medium.specs.Moments.{EachCut, IsFlushed, LeavesOnly, SparesFrom}
+use Rattle.medium.specs.Medium.{State, Image}
+use Rattle.medium.specs.Moments.{IsFlushed}
 use Rattle.spec.specs.Blocks.{Array}
-use Rattle.medium.specs.Sent.{SendsUpTo}
 use Rattle.journal.specs.declared.log_format.LogFormat.{LogFormat}
 use Rattle.journal.specs.declared.log_format.LogFormat.TheVariants.{One, Two}
 use Rattle.journal.specs.Places.{Shape, first_home, sectors_of, slot_sectors_of, migrated}
@@ -12,11 +11,8 @@ use Rattle.journal.specs.Sectors.{IsSuper, IsHead}
 use Rattle.journal.specs.Values.{shape_of}
 use Rattle.journal.specs.Standing.{StandsFor, IsOurs}
 use Rattle.recovery.specs.Causes.{HasFewSlots, WritesNothing, IsRefusalBy, IsDeviceFault}
-use Rattle.journal.specs.ImageFaults.{HasShape}
-use Rattle.recovery.specs.Copies.{copy_calls, most_start_sends}
-use Rattle.recovery.specs.Looks.{LooksAtLog}
-use Rattle.recovery.specs.Recovered.{IsRecoveredFrom, IsFresh, SparesTheRest, IsOursForSome}
-use Rattle.recovery.specs.Recovered.{IsOursWithNext}
+use Rattle.recovery.specs.Calls.{copy_calls, most_start_sends}
+use Rattle.recovery.specs.Recovered.{IsRecoveredFrom, IsFresh, IsOursWithNext, StartLeaves}
 use Rattle.recovery.specs.declared.recovered.Recovered.{Recovered}
 use Rattle.recovery.specs.declared.start_fault.StartFault.{StartFault}
 
@@ -86,16 +82,6 @@ abbrev pub IsOursInEither : ℕ → Shape → Array → ℕ → Image → Type 0
 IsOursInEither size shape array next image = IsOursWithNext size shape array next image
     ⊎ (CanMigrate shape × IsOurs size (migrated shape) image array (next + 1))
 
--- so for an array that an image allowed before stood for
-pub record StandsInEither (old : State) (image : Image) : Type 0 where
-  pub before : Image
-  pub allowed : CutLeaves old.may_leave before
-  pub shape : Shape
-  pub array : Array
-  pub next : ℕ
-  pub was : IsOurs old.size shape before array next
-  pub is : IsOursInEither old.size shape array next image
-
 -- how many writes and flushes a migration makes at most: those of a recovery, and of format 1 those
 -- that make format 2 of it
 abbrev pub most_migration_sends : LogFormat → ℕ → ℕ
@@ -103,22 +89,7 @@ most_migration_sends One slots = most_start_sends One slots + (slot_sectors_of O
 most_migration_sends Two slots = most_start_sends Two slots
 
 -- What a migration leaves at each moment of it, good or refused, and how many calls it makes.
-pub record MigrationLeaves (old new : State) : Type 0 where
-  -- Where every image is ours, a cut leaves one that is ours for one of the arrays.
-  pub cuts : EachCut (IsOursForSome old.size) old → LeavesOnly (StandsInEither old) old new
-  -- From the first good flush on it is that of the contents. A second call follows a good one only.
-  pub after_flush : (shape : Shape) (array : Array) (next : ℕ)
-      → IsOurs old.size shape old.content array next → old.calls + 2 ≤ new.calls
-      → (image : Image) → new.left_since (old.calls + 1) image
-      → IsOursInEither old.size shape array next image
-  pub spares : SparesTheRest old new
-  -- nothing is written where no slot of format 2 has room in the log of format 1
-  pub small : HasFewSlots 5 old.size old.content → SparesFrom 0 old new
-  -- Whatever the image: no count falls, and the size stays.
-  pub moments : LeavesOnly (λ _. Unit {0}) old new
-  pub calls : new.calls ≤ old.calls + 6 + 738 * 64
-  pub sends : (shape : Shape) → HasShape old.size shape old.content
-      → SendsUpTo (most_migration_sends shape.format shape.slots) old new
-  -- where the image has no super, a flush
-  pub sends_one : ((shape : Shape) → ¬ HasShape old.size shape old.content) → SendsUpTo 1 old new
-  pub looks : LooksAtLog old new
+-- Nothing is written where no slot of format 2 has room in the log of format 1.
+abbrev pub MigrationLeaves : State → State → Type 0
+MigrationLeaves old new =
+    StartLeaves IsOursInEither (λ format slots. 738 * 64) most_migration_sends 5 old new

@@ -4,6 +4,7 @@ use Rattle.medium.specs.Medium.{State, Image, CutLeaves}
 use Rattle.medium.specs.Moments.{EachCut, IsFlushed, LeavesOnly, SparesFrom}
 use Rattle.spec.specs.Blocks.{Array}
 use Rattle.medium.specs.Sent.{SendsUpTo}
+use Rattle.journal.specs.declared.log_format.LogFormat.{LogFormat}
 use Rattle.journal.specs.declared.log_format.LogFormat.TheVariants.{Two}
 use Rattle.journal.specs.Places.{Shape, first_home, sectors_of}
 use Rattle.journal.specs.Values.{shape_of}
@@ -11,10 +12,9 @@ use Rattle.journal.specs.Sectors.{IsSuper, IsHead}
 use Rattle.journal.specs.Formats.{CarriesBelow}
 use Rattle.journal.specs.Standing.{StandsFor, IsOurs}
 use Rattle.journal.specs.ImageFaults.{HasShape}
+use Rattle.recovery.specs.Calls.{copy_calls, most_start_of, most_start_sends, LooksAtLog}
 use Rattle.recovery.specs.Causes.{HasFewSlots, IsCause, IsDeviceFault}
-use Rattle.recovery.specs.Copies.{copy_calls, most_start_of, most_start_sends}
-use Rattle.recovery.specs.Looks.{LooksAtLog}
-use Rattle.recovery.specs.Tries.{AreTries}
+use Rattle.recovery.specs.Found.{AreTries}
 use Rattle.recovery.specs.declared.recovered.Recovered.{Recovered}
 use Rattle.recovery.specs.declared.start_fault.StartFault.{StartFault}
 
@@ -55,16 +55,22 @@ abbrev pub IsOursWithNext : ℕ → Shape → Array → ℕ → Image → Type 0
 IsOursWithNext size shape array next image =
     IsOurs size shape image array next ⊎ IsOurs size shape image array (next + 1)
 
--- the image is ours for an array that an image allowed before stood for, with its next stamp or the
--- one behind it
-pub record StandsForOneOf (old : State) (image : Image) : Type 0 where
+-- An image allowed before stood for an array. The image is this of that one's size, shape, array and
+-- next stamp.
+pub record StandsForSome (Is : ℕ → Shape → Array → ℕ → Image → Type 0) (old : State)
+    (image : Image) : Type 0 where
   pub before : Image
   pub allowed : CutLeaves old.may_leave before
   pub shape : Shape
   pub array : Array
   pub next : ℕ
   pub was : IsOurs old.size shape before array next
-  pub is : IsOursWithNext old.size shape array next image
+  pub is : Is old.size shape array next image
+
+-- the image is ours for an array that an image allowed before stood for, with its next stamp or the
+-- one behind it
+abbrev pub StandsForOneOf : State → Image → Type 0
+StandsForOneOf old image = StandsForSome IsOursWithNext old image
 
 -- The sectors behind the image are spared, and every sector where the contents stand for nothing
 -- with a stamp left.
@@ -74,34 +80,52 @@ pub record SparesTheRest (old new : State) : Type 0 where
   pub unserved : ((shape : Shape) (array : Array) (next : ℕ)
       → StandsFor old.size shape old.content array next → 2 ^ 63 ≤ next) → SparesFrom 0 old new
 
--- How many writes and flushes a recovery makes at most, good or refused: where the image has a
--- super, by its format and its slots; where it has none, a flush; and whatever the image.
-pub record RecoverySends (old new : State) : Type 0 where
+-- How many writes and flushes a start makes at most, good or refused: where the image has a super,
+-- by its format and its slots; where it has none, a flush; and whatever the image.
+pub record StartSends (sends : LogFormat → ℕ → ℕ) (old new : State) : Type 0 where
   pub most : (shape : Shape) → HasShape old.size shape old.content
-      → SendsUpTo (most_start_sends shape.format shape.slots) old new
+      → SendsUpTo (sends shape.format shape.slots) old new
   pub none : ((shape : Shape) → ¬ HasShape old.size shape old.content) → SendsUpTo 1 old new
   pub any : SendsUpTo (most_start_sends Two 64) old new
 
--- What a recovery leaves at each moment of it, good or refused, and how many calls it makes.
-pub record RecoveryLeaves (old new : State) : Type 0 where
-  -- Where every image is ours, a cut at any moment leaves one that is ours for one of the arrays.
-  pub cuts : EachCut (IsOursForSome old.size) old → LeavesOnly (StandsForOneOf old) old new
+-- so a recovery
+abbrev pub RecoverySends : State → State → Type 0
+RecoverySends old new = StartSends most_start_sends old new
+
+-- What a start leaves at each moment of it, good or refused, that wants at least this many slots in
+-- a log of format 1, and how many calls it makes: where the image has a super, by its format and
+-- its slots. The images are this of the size, the shape, the array and the next stamp.
+pub record StartLeaves (Is : ℕ → Shape → Array → ℕ → Image → Type 0)
+    (most_calls most_sends : LogFormat → ℕ → ℕ) (least : ℕ) (old new : State) : Type 0 where
+  -- Where every image is ours, a cut at any moment leaves one that is so for one of the arrays.
+  pub cuts : EachCut (IsOursForSome old.size) old → LeavesOnly (StandsForSome Is old) old new
   -- The first call flushes, and others follow only where it was good. From then on a cut leaves the
   -- array of the contents.
   pub after_flush : (shape : Shape) (array : Array) (next : ℕ)
       → IsOurs old.size shape old.content array next → old.calls + 2 ≤ new.calls
       → (image : Image) → new.left_since (old.calls + 1) image
-      → IsOursWithNext old.size shape array next image
+      → Is old.size shape array next image
   pub spares : SparesTheRest old new
+  -- nothing is written where there are fewer slots
+  pub small : HasFewSlots least old.size old.content → SparesFrom 0 old new
   -- Whatever the image: no count falls, and the size stays.
   pub moments : LeavesOnly (λ _. Unit {0}) old new
-  -- Whatever the image, and where it has a super of a format.
   pub calls : new.calls ≤ old.calls + 6 + 738 * 64
   pub most : (shape : Shape) → HasShape old.size shape old.content
-      → new.calls ≤ old.calls + 6 + most_start_of shape.format * shape.slots
-  pub sends : RecoverySends old new
+      → new.calls ≤ old.calls + 6 + most_calls shape.format shape.slots
+  pub sends : StartSends most_sends old new
   -- Whatever the image: a sector that is no part of the log is not read.
   pub looks : LooksAtLog old new
+
+-- So a recovery that wants this many: each image is ours with the next stamp or the one behind it.
+abbrev pub LeavesAtLeast : ℕ → State → State → Type 0
+LeavesAtLeast least old new =
+    StartLeaves IsOursWithNext (λ format slots. most_start_of format * slots) most_start_sends least
+    old new
+
+-- so one that takes any log
+abbrev pub RecoveryLeaves : State → State → Type 0
+RecoveryLeaves old new = LeavesAtLeast 0 old new
 
 -- Why a recovery is refused. Contents that stand for something with a stamp left are refused by the
 -- device alone.
@@ -114,8 +138,3 @@ pub record IsRecoveryRefusal (old new : State) (fault : StartFault) : Type 0 whe
 pub record IsRecoveredAtLeast (least : ℕ) (old new : State) (answer : Recovered) : Type 0 where
   pub from : IsRecoveredFrom old new answer
   pub room : ¬ HasFewSlots least old.size old.content
-
--- What such a recovery leaves at each moment. Where there are fewer slots, it writes nothing.
-pub record LeavesAtLeast (least : ℕ) (old new : State) : Type 0 where
-  pub all : RecoveryLeaves old new
-  pub small : HasFewSlots least old.size old.content → SparesFrom 0 old new

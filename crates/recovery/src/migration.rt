@@ -7,8 +7,8 @@ ghost use Rattle.journal.specs.Values.{shape_of};
 ghost use Rattle.journal.specs.Standing.{IsOurs};
 ghost use Rattle.recovery.specs.Recovered.{IsFresh};
 ghost use Rattle.recovery.specs.Migrated.{CanMigrate, IsMigrationBy, IsMigrationRefusal};
-ghost use Rattle.recovery.specs.Migrated.{MigrationLeaves};
-ghost use Rattle.recovery.specs.Steps.{MakesTwo};
+ghost use Rattle.recovery.specs.Migrated.{MigrationLeaves, IsMadeOf, StaysFresh};
+ghost use Rattle.recovery.specs.Calls.{Writes};
 
 use crate::new_head::move_head;
 use crate::recovery::recover_at_least;
@@ -56,7 +56,12 @@ fn make_two<M: Medium>(m: &mut M, found: &Recovered) -> Result<Recovered, Medium
     requires flushed { IsFlushed (M.state m.old) }
     requires least { 1 ≤ found.now.next }
     requires most { found.now.next < 2 ^ 63 }
-    ensures { MakesTwo M.state M.follows found.now m.old m.new result }
+    ensures ok { IfOk result (IsMadeOf found.now (M.state m.new)) }
+    // A write for each sector of the log, a flush, the head, a flush, the super and a flush.
+    ensures writes { Writes
+        (StaysFresh (shape_of found.now.sizes) found.now.next (M.state m.old).content)
+        found.now.sizes.home (found.now.sizes.home + 3) (M.state m.old) (M.state m.new) result }
+    ensures follows { M.follows m.old m.new }
 {
     let sizes = found.sizes.migrated();
     clear(m, 2, sizes.home)?;

@@ -31,7 +31,7 @@ returns-in-Err-clause-err c = λ told.
           c.in_ok-window.window c.migrate.new.m over have
           (c.waiting-waiting.ensures.served c.migrate.new.m c.migrate.ensures.follows)
           c.migrate.ensures.leaves.looks (λ shape same has. few _ _ c.args.first.sizes sizes shape have.sizes_are same
-          (c.migrate.ensures.leaves.sends shape has))) c.in-Err.ensures.err.cause;
+          (c.migrate.ensures.leaves.sends.most shape has))) c.in-Err.ensures.err.cause;
       refused_is = refl;
       unasked = refl;
     }))

@@ -10,7 +10,7 @@ use Rattle.journal.specs.Values.{shape_of}
 use Rattle.journal.specs.Reading.{data_at}
 use Rattle.journal.proofs.SectorsRead.{place_before}
 use Rattle.recovery.specs.Calls.{Copies}
-use Rattle.recovery.specs.Copies.{IsHomeOf}
+use Rattle.recovery.specs.Calls.{IsHomeOf}
 use Rattle.recovery.proofs.JoinedCalls.{copies_on, none_made}
 use Rattle.recovery.proofs.copies.copy_blocks.Given as given
 use Rattle.recovery.proofs.copies.copy_blocks.Goals as goal
@@ -35,9 +35,9 @@ copied : (g : given.Over) (c : After-copy_sector g) {X : Type 0} (result : Resul
     → c.home_of.result ≡ first_home (shape_of c.args.sizes.now) + get_or c.args.read.now.numbers.items c.loop-i.i 0
     → c.copy_place.result < first_home (shape_of c.args.sizes.now) → 2 * c.loop-i.i + 2 ≤ most → c.loop-i.i + 1 ≤ sends
     → IfErr result (IsRefusedCall (g.M.Medium.state c.args.m.now) (g.M.Medium.state c.copy_sector.new.m))
-    → Copies g.M.Medium.state g.M.Medium.follows (IsHomeOf (shape_of c.args.sizes.now) c.args.read.now.numbers.items)
-    (λ s. s < first_home (shape_of c.args.sizes.now)) most sends c.args.m.now c.copy_sector.new.m result
-copied g c result most sends to low fit few cause = copies_on g.met.M.Medium.follows_through (g.met.M.Medium.sound c.loop-i.m)
+    → Copies (IsHomeOf (shape_of c.args.sizes.now) c.args.read.now.numbers.items) (λ s. s < first_home (shape_of c.args.sizes.now))
+    most sends (g.M.Medium.state c.args.m.now) (g.M.Medium.state c.copy_sector.new.m) result
+copied g c result most sends to low fit few cause = copies_on (g.met.M.Medium.sound c.loop-i.m)
     (λ x e. (c.loop-i.i, omega (arith, c.loop-i-test.true, c.len-i-end.ensures.value), e ∙ to))
     (λ s here. omega (arith, here, low)) c.loop-i.invariant.copies c.copy_sector.ensures.copies fit few cause
 
@@ -86,6 +86,7 @@ loop-i-preserved g c =
             let apart : first_home shape + get_or ns k 0 ≢ c.home_of.result = λ e. omega (arith, e, block.3, up) in
             c.copy_sector.ensures.copies.elsewhere (first_home shape + get_or ns k 0) apart ∙ inv.copied k (omega arith)
       ];
+      follows = g.met.M.Medium.follows_through _ _ _ inv.follows c.copy_sector.ensures.follows;
       copies = copied g at.After-copy_sector _ _ _ block.3 block.2 (omega arith) (omega arith) tt;
       calls = omega (arith, inv.calls, c.in_ok-copy_sector.ensures.done.1);
     }

@@ -9,7 +9,7 @@ use Rattle.journal.specs.Record.{numbers_of}
 use Rattle.journal.specs.Values.{shape_of}
 use Rattle.journal.specs.Reading.{record_reads_of, data_at, IsReadFor, FindsRecord}
 use Rattle.journal.proofs.Formats.{most_is}
-use Rattle.recovery.specs.Copies.{AreBlocks, IsHomeOf, calls_of, most_calls_of}
+use Rattle.recovery.specs.Calls.{AreBlocks, IsHomeOf, calls_of, most_calls_of}
 use Rattle.recovery.proofs.CopiedRecords.{number_of, long_as}
 use Rattle.recovery.proofs.JoinedCalls.{none_copies, copies_on}
 use Rattle.recovery.proofs.copies.copy_record.Given as given
@@ -60,7 +60,7 @@ returns-then-branch-clause-copies g c =
     let whole = c.requires.whole in
     let is = (found g at).all whole.0 whole.1 in
     let few = (blocks g at).few in
-    copies_on {less = 0} g.met.M.Medium.follows_through (g.met.M.Medium.sound c.read_record.new.m)
+    copies_on {less = 0} (g.met.M.Medium.sound c.read_record.new.m)
     (λ x h. (whole.0, whole.1, subst (λ (l : List ℕ). IsHomeOf shape l x) is.numbers_are h)) (λ s below. below)
     (none_copies (g.met.M.Medium.sound c.args.m.now) c.read_record.ensures (omega arith) c.read_record.ensures.passes.cause)
     c.copy_blocks.ensures.copies (most_copied c.args.sizes.now.format _ few) (omega (arith, few)) (search rules)

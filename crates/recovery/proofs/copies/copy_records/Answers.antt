@@ -9,7 +9,7 @@ use Rattle.journal.specs.Reads.{IsRefusedCall}
 use Rattle.journal.specs.Values.{shape_of}
 use Rattle.recovery.specs.Calls.{Copies}
 use Rattle.journal.proofs.Overlay.{with_blocks-copied, with_blocks-same, with_records-append}
-use Rattle.recovery.specs.Copies.{calls_of, copy_calls, most_calls_of, IsHomeInRecords}
+use Rattle.recovery.specs.Calls.{calls_of, copy_calls, most_calls_of, IsHomeInRecords}
 use Rattle.recovery.proofs.CopiedRecords.{number_of, long_as, home_in_whole, not_in_log, whole_same}
 use Rattle.recovery.proofs.JoinedCalls.{each_once_more, copies_on, none_made}
 use Rattle.recovery.proofs.copies.copy_records.Given as given
@@ -27,9 +27,10 @@ copied : (g : given.Over) (c : After-copy_record g) {X : Type 0} (result : Resul
     → most_calls_of c.args.found.now.sizes.format * c.loop-j.j + most_calls_of c.args.found.now.sizes.format ≤ most
     → limit_of c.args.found.now.sizes.format * c.loop-j.j + limit_of c.args.found.now.sizes.format ≤ sends
     → IfErr result (IsRefusedCall (g.M.Medium.state c.args.m.now) (g.M.Medium.state c.copy_record.new.m))
-    → Copies g.M.Medium.state g.M.Medium.follows (IsHomeInRecords (shape_of c.args.found.now.sizes)
+    → Copies (IsHomeInRecords (shape_of c.args.found.now.sizes)
     (g.M.Medium.state c.args.m.now).content c.args.found.now.head c.args.found.now.count)
-    (λ s. s < first_home (shape_of c.args.found.now.sizes)) most sends c.args.m.now c.copy_record.new.m result
+    (λ s. s < first_home (shape_of c.args.found.now.sizes)) most sends (g.M.Medium.state c.args.m.now)
+    (g.M.Medium.state c.copy_record.new.m) result
 copied g c result most sends fit few cause =
     let found = c.args.found.now in
     let shape = shape_of found.sizes in
@@ -37,7 +38,7 @@ copied g c result most sends fit few cause =
     let mid = (g.M.Medium.state c.loop-j.m).content in
     let log : (y : ℕ) → y < first_home shape → old y ≡ mid y =
     λ y below. sym (c.loop-j.invariant.copies.elsewhere y (not_in_log shape old found.head found.count y below)) in
-    copies_on g.met.M.Medium.follows_through (g.met.M.Medium.sound c.loop-j.m)
+    copies_on (g.met.M.Medium.sound c.loop-j.m)
     (λ x h. (
       c.loop-j.j,
       c.loop-j-test.true,
@@ -90,6 +91,7 @@ loop-j-preserved g c =
                 (before.home b) ∙ sym (with_records-append (take j records) es (home_of shape old.content) b);
             exact = omega (arith, before.exact, now.exact, copy_calls-append shape.format (take j records) es);
           });
+      follows = g.met.M.Medium.follows_through _ _ _ inv.follows c.copy_record.ensures.follows;
       copies = copied g (goal.at.loop-j-preserved g c).After-copy_record _ _ _ (omega arith) (omega arith) tt;
     }
 

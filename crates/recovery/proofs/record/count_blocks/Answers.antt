@@ -14,8 +14,8 @@ use Rattle.journal.proofs.CopiedBlock.{stamped_whole}
 use Rattle.journal.proofs.DescribedNumbers.{each_there}
 use Rattle.journal.proofs.EntriesTwo.{commit_count}
 use Rattle.journal.proofs.SlotTwo.{untrue}
-use Rattle.recovery.specs.Copies.{most_reads_of}
-use Rattle.recovery.specs.Tries.{IsReadBehind, IsReadInSlot, IsTryTwo, IsTryOf}
+use Rattle.recovery.specs.Calls.{most_reads_of}
+use Rattle.recovery.specs.Found.{IsReadBehind, IsReadInSlot, IsTryTwo, IsTryOf}
 use Rattle.recovery.proofs.CopiedRecords.{long_as}
 use Rattle.recovery.proofs.JoinedCalls.{looks_on}
 use Rattle.recovery.proofs.record.count_blocks.Goals as goal

@@ -2,7 +2,7 @@ use Rattle.std.proofs.Common.{◌≡◌, ℕ, inl, inr, ⊎_elim, ◌∙◌, ap,
 use Rattle.std.proofs.lemmas.Bool.{cases_eq}
 use Rattle.medium.specs.Moments.{StaysWithin}
 use Rattle.medium.proofs.Moments.{gains_within, goes_on_within}
-use Rattle.recovery.specs.Copies.{cleared_at, IsBetween}
+use Rattle.recovery.specs.Calls.{cleared_at, IsBetween}
 use Rattle.recovery.proofs.CopiedRecords.{sets_within}
 use Rattle.recovery.proofs.sectors.clear.Given as given
 use Rattle.recovery.proofs.sectors.clear.Goals as goal

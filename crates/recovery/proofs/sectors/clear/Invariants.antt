@@ -1,8 +1,7 @@
 use Rattle.std.proofs.Common.{◌≡◌, ◌<◌, ◌≤◌, ◌+◌, ◌-◌, ℕ, replicate}
 use Rattle.medium.specs.Moments.{StaysWithin}
 use Rattle.recovery.specs.Calls.{FollowsBy}
-use Rattle.recovery.specs.Unread.{ReadsNothing}
-use Rattle.recovery.specs.Copies.{cleared_at, IsBetween}
+use Rattle.recovery.specs.Calls.{cleared_at, IsBetween}
 use Rattle.recovery.proofs.sectors.clear.Given as goal
 
 abbrev pub invariant-loop-sector : goal.invariant-loop-sector
@@ -12,5 +11,5 @@ invariant-loop-sector g l = record {
   within : StaysWithin (cleared_at (IsBetween l.from l.end) (g.M.Medium.state l.fn.m).may_leave) (g.M.Medium.state l.fn.m)
       (g.M.Medium.state l.m);
   calls : (g.M.Medium.state l.m).calls ≡ (g.M.Medium.state l.fn.m).calls + (l.sector - l.from);
-  follows : FollowsBy g.M.Medium.state g.M.Medium.follows (l.sector - l.from) ReadsNothing l.fn.m l.m;
+  follows : FollowsBy g.M.Medium.state g.M.Medium.follows (l.sector - l.from) l.fn.m l.m;
 }
