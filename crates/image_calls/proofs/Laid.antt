@@ -9,7 +9,7 @@ use Rattle.journal.specs.Places.{Shape, first_home, slot_sectors_of}
 use Rattle.recovery.specs.Calls.{MakesNoRead}
 use Rattle.recovery.specs.Formatted.{IsLaid, LayingLeaves}
 use Rattle.recovery.specs.Causes.{start_fault_of}
-use Rattle.recovery.specs.Migrated.{IsMigrationBy, IsMigrationRefusal, IsMigrationCause, MigrationLeaves}
+use Rattle.recovery.specs.Recovered.{IsMigrationBy, IsMigrationRefusal, IsMigrationCause, MigrationLeaves}
 use Rattle.recovery.specs.declared.start_fault.StartFault.TheVariants as start
 use Rattle.medium.specs.declared.fault.MediumFault.{MediumFault}
 use Rattle.medium.specs.declared.fault.MediumFault.TheVariants as kind

@@ -13,7 +13,7 @@ use Rattle.journal.specs.Standing.{IsOurs}
 use Rattle.recovery.specs.Calls.{cleared_at, WithOrWithout, IsBetween}
 use Rattle.recovery.specs.Formatted.{FormatLeaves, AreSizes, IsNoneOrNew, IsMidway, IsLaid, LayingLeaves}
 use Rattle.recovery.proofs.CopiedRecords.{sets_within}
-use Rattle.recovery.proofs.MadeImage.{first_leaves, clear_spares}
+use Rattle.recovery.proofs.JoinedCalls.{first_leaves, clear_spares}
 use Rattle.image_calls.specs.Parts.{IsUnderWay, IsMadeAnew}
 
 abbrev ZEROS : List ℕ

@@ -1,6 +1,6 @@
--- A whole recovery: a flush, reads, copies and the new head; and what it leaves up to each of its exits.
-use Rattle.std.proofs.Common.{◌≡◌, ◌⊎◌, inl, inr, ⊎_elim, ℕ, ◌+◌, ◌*◌, ◌<◌, ◌≤◌, ◌^◌, List, [], length, get_or, sym, ◌∙◌, ap, arith, rules}
-use Rattle.std.proofs.Common.{mul-le-mul_left}
+-- A whole recovery: a flush, reads, copies and the new head; what it leaves up to each of its exits, and why it is refused.
+use Rattle.std.proofs.Common.{◌≡◌, ◌⊎◌, inl, inr, ⊎_elim, ℕ, ◌+◌, ◌*◌, ◌<◌, ◌≤◌, ◌^◌, List, [], length, get_or, sym, ◌∙◌, ap, arith}
+use Rattle.std.proofs.Common.{rules, mul-le-mul_left, refl}
 use Rattle.std.specs.Prelude.{min, Result}
 use Rattle.medium.specs.Medium.{State, Image, CutLeaves, Stays, Within, Only, Passes, LooksOnly, IsSound}
 use Rattle.medium.specs.Moments.{EachCut, IsFlushed, LeavesOnly, IsQuiet, SparesFrom}
@@ -19,22 +19,48 @@ use Rattle.journal.specs.Sectors.{IsSuper}
 use Rattle.journal.specs.Values.{shape_of}
 use Rattle.journal.specs.Record.{Entry, with_records, home_of}
 use Rattle.journal.specs.Formats.{layout_of, IsWhole}
-use Rattle.journal.specs.Standing.{StandsFor, IsOurs}
+use Rattle.journal.specs.Standing.{StandsFor, IsOurs, Stands}
 use Rattle.journal.specs.ImageFaults as image
 use Rattle.journal.proofs.SectorNumbers.{IsSuper-one}
 use Rattle.journal.proofs.Formats.{laws_of}
 use Rattle.journal.proofs.Wholeness.{CarriesBelow-agree}
-use Rattle.journal.proofs.StandingLaws.{Stood, StandsFor-shape, count_stands, heads, counts}
+use Rattle.journal.proofs.StandingLaws.{Stood, StandsFor-shape, count_stands, heads, counts, StandsFor-one}
 use Rattle.recovery.specs.Calls.{copy_calls, most_calls_of, most_reads_of, most_start_of, most_start_sends, AreCopied, IsHomeInRecords}
 use Rattle.recovery.specs.Calls.{HasNewHead, Copies, Writes, HoldsLog}
-use Rattle.recovery.specs.Causes.{WritesNothing, HasFewSlots, IsRefusalBy}
-use Rattle.recovery.specs.Found.{AreTries, AreTriesOf, IsFound, IsSurvey, SurveysAtMost}
-use Rattle.recovery.specs.Recovered.{IsRecoveredAtLeast, IsFresh, IsOursForSome, IsOursWithNext, StandsForOneOf, StandsForSome, LeavesAtLeast, StartLeaves}
+use Rattle.recovery.specs.Causes.{WritesNothing, HasFewSlots, IsRefusalBy, IsDeviceFault}
+use Rattle.recovery.specs.Inspected.{AreTriesOf, IsSurvey, SurveysAtMost, IsLookCause}
+use Rattle.recovery.specs.Recovered.{IsRecoveredAtLeast, IsRecoveredFrom, IsFresh, IsOursForSome, IsOursWithNext, StandsForOneOf}
+use Rattle.recovery.specs.Recovered.{StandsForSome, LeavesAtLeast, StartLeaves}
 use Rattle.recovery.specs.declared.found.Found.{Found}
 use Rattle.recovery.specs.declared.start_fault.StartFault.{StartFault}
-use Rattle.recovery.specs.declared.start_fault.StartFault.TheVariants.{NoMemory, StampsUsedUp, LogTooSmall}
+use Rattle.recovery.specs.declared.start_fault.StartFault.TheVariants.{NoMemory, StampsUsedUp, LogTooSmall, Read, Write, Flush}
 use Rattle.recovery.proofs.CopiedRecords.{log_ends, not_in_log, spared_by, AreSame, copies_ours, fresh_ours}
 use Rattle.recovery.proofs.JoinedCalls.{quiet_before, quiet_after, looked_on}
+use Rattle.medium.specs.declared.fault.MediumFault.TheVariants as medium
+use Rattle.journal.proofs.FaultLaws.{HasFault-stands}
+
+-- a look at contents that stand for something is refused by the device
+pub served_look : (old new : State) (fault : StartFault) → IsLookCause old new fault → Stands old.size old.content → IsDeviceFault fault
+served_look old new Read h s = (medium.Read, refl)
+served_look old new Write h s = (medium.Write, refl)
+served_look old new Flush h s = (medium.Flush, refl)
+served_look old new NoMemory h s = absurd h
+served_look old new fault h s =
+    let faultless = λ (f : image.ImageFault) (h : image.HasFault old.size old.content f). HasFault-stands old.size old.content f h s in
+    absurd (search (rules, faultless))
+
+-- and so is a start, with a stamp left and enough slots
+module _ (least : ℕ) (old new : State) (shape : Shape) (array : Array) (next : ℕ) (s : StandsFor old.size shape old.content array next)
+    (left : next < 2 ^ 63) (some : ¬ HasFewSlots least old.size old.content) where
+  pub served_slots : (fault : StartFault) → IsRefusalBy least WritesNothing old new fault → IsDeviceFault fault
+  served_slots NoMemory h = absurd h
+  served_slots StampsUsedUp h =
+      let w = h.1 in
+      let same = (StandsFor-one old.size old.size w.0 shape old.content w.1 array w.2 next w.3 s).1 in
+      let past = w.4 in
+      absurd (omega (arith, same, past, left))
+  served_slots LogTooSmall h = absurd (some h.0)
+  served_slots fault h = served_look old new fault (search rules) (shape, array, next, s)
 
 -- tries, with other calls before and behind them
 tries_moved : (format : LogFormat) (shape : Shape) (image : Image) (first tries old new before after more : ℕ) → before ≡ old + more
@@ -168,17 +194,17 @@ module _ (least : ℕ) {old mid seen : State} {result : Result (Unit {0}) Medium
   refusal LogTooSmall h = (back (λ n i. HasFewSlots least n i) h.0, wrote_nothing)
   refusal fault h =
       let same = λ (f : image.ImageFault). back (λ n i. image.HasFault n i f) in
-      search (rules, flushed.failures_stay, flushed.refused_stay, same, wrote_nothing)
+      search (rules, same, wrote_nothing)
 
-  module _ {copied : State} {found : Found} {copies : Result (Unit {0}) MediumFault} (survey : IsSurvey least mid seen found)
+  module _ {copied : State} {found : Found} {copies : Result (Unit {0}) MediumFault} (survey : IsSurvey least mid.size mid.content mid.calls seen.calls found)
       (sound : IsSound copied) (copying : Copies (IsHomeInRecords (shape_of found.sizes) seen.content found.head found.count)
       (λ s. s < first_home (shape_of found.sizes)) (most_calls_of found.sizes.format * found.count)
       (limit_of found.sizes.format * found.count) seen copied copies) where
     abbrev shape : Shape
     shape = shape_of found.sizes
 
-    at_old : IsFound old.size old.content found
-    at_old = back (λ n i. IsFound n i found) survey.is
+    at_old : IsSurvey least old.size old.content mid.calls seen.calls found
+    at_old = back (λ n i. IsSurvey least n i mid.calls seen.calls found) survey
 
     one_shape : (other : Shape) → IsSuper other (old.content 0) → other ≡ shape
     one_shape other s = IsSuper-one other shape (old.content 0) s at_old.shape.super
@@ -188,7 +214,7 @@ module _ (least : ℕ) {old mid seen : State} {result : Result (Unit {0}) Medium
     stood = count_stands old.size shape old.content found.head found.count at_old.shape.fits at_old.shape.super at_old.head at_old.count
 
     served : IsServed least old (shape_of found.sizes)
-    served = search (rules, stood.stands, at_old.stamp_left, survey.room, quiet_after (λ n i. HasFewSlots least n i) old mid flushed)
+    served = search (rules, stood.stands, at_old.stamp_left, at_old.room)
 
     -- the head and the count are those of all for which they stand
     matches : {array : Array} {next : ℕ} (s : StandsFor old.size shape old.content array next)
@@ -231,7 +257,7 @@ module _ (least : ℕ) {old mid seen : State} {result : Result (Unit {0}) Medium
     few : (new calls : ℕ) → calls ≤ 3 → new ≤ copied.calls + calls
         → new ≤ old.calls + 6 + most_start_of found.sizes.format * found.sizes.slots
     few new calls some made = most_start found.sizes.format found.sizes.slots old.calls mid.calls seen.calls new found.count counted
-        (known.reads.most shape survey.is.shape) (omega (arith, copying.calls, some, made)) survey.is.count.few
+        (known.reads.most shape survey.shape) (omega (arith, copying.calls, some, made)) survey.count.few
 
     sent_few : SendsUpTo (limit_of found.sizes.format * found.sizes.slots + 1) old copied
     sent_few = omega (arith, mul-le-mul_left (limit_of found.sizes.format) at_old.count.few, one_sent, copying.sent)
@@ -302,23 +328,19 @@ module _ (least : ℕ) {old mid seen : State} {result : Result (Unit {0}) Medium
             → IsRecoveredAtLeast least old new (record { sizes = found.sizes; next = found.head + found.count + 1 })
         recovery_from last =
             let s = stood.stands in
-            let tries = back (λ n i. AreTries shape i found.head (min (found.count + 1) found.sizes.slots) (mid.calls + 2) seen.calls)
-            survey.exact in
-            record {
-              from = record {
-                array = stood.array;
-                stood = s;
-                stamp_left = at_old.stamp_left;
-                flushed = durable;
-                head = head.head;
-                home = λ b below. head.elsewhere (first_home shape + b) (λ e. omega (arith, e, log_ends shape at_old.shape.super.home_is))
-                    ∙ copied_home s b below;
-                elsewhere = λ x not other. head.elsewhere x not
-                    ∙ ⊎_elim (copied_log x) (λ past. copied_spares.content x past ∙ quiet.content_stays x) other;
-                calls = tries_moved found.sizes.format shape old.content s.head (min (length s.records + 1) found.sizes.slots)
-                    (mid.calls + 2) seen.calls (old.calls + 6 + copy_calls found.sizes.format s.records) new.calls
-                    (copy_calls found.sizes.format s.records + 3) (omega (arith, counted)) (omega (arith, (all_copied s).exact, last))
-                    (rw (stood.head_is, stood.count_is) tries);
-              };
-              room = served.room;
-            }
+            let ends = log_ends shape at_old.shape.super.home_is in
+            let from : IsRecoveredFrom old new (record { sizes = found.sizes; next = found.head + found.count + 1 }) = record {
+              array = stood.array;
+              stood = s;
+              stamp_left = at_old.stamp_left;
+              flushed = durable;
+              head = head.head;
+              home = λ b below. head.elsewhere (first_home shape + b) (λ e. omega (arith, e, ends)) ∙ copied_home s b below;
+              elsewhere = λ x not other. head.elsewhere x not
+                  ∙ ⊎_elim (copied_log x) (λ past. copied_spares.content x past ∙ quiet.content_stays x) other;
+              calls = tries_moved found.sizes.format shape old.content s.head (min (length s.records + 1) found.sizes.slots)
+                  (mid.calls + 2) seen.calls (old.calls + 6 + copy_calls found.sizes.format s.records) new.calls
+                  (copy_calls found.sizes.format s.records + 3) (omega (arith, counted)) (omega (arith, (all_copied s).exact, last))
+                  (rw (stood.head_is, stood.count_is) at_old.exact);
+            } in
+            record { from = from; room = at_old.room }

@@ -2,7 +2,7 @@
 use Rattle.std.specs.Prelude.{◌≡◌, ◌≢◌, ◌⊎◌, ℕ, ◌+◌, ◌*◌, ◌<◌, ◌≤◌, List, [], ◌∷◌, length, All}
 use Rattle.std.specs.Prelude.{slice_index, get_or, replicate, Result, OnOk, IfErr}
 use Rattle.medium.specs.Medium.{State, Image, Sets, CutLeaves, LooksOnly, Holds}
-use Rattle.medium.specs.Moments.{LeavesOnly, SparesFrom, IsQuiet}
+use Rattle.medium.specs.Moments.{LeavesOnly, SparesFrom}
 use Rattle.medium.specs.Sent.{SendsUpTo}
 use Rattle.medium.specs.declared.fault.MediumFault.{MediumFault}
 use Rattle.medium.specs.declared.fault.MediumFault.TheVariants.{Read}
@@ -14,21 +14,17 @@ use Rattle.journal.specs.Sectors.{IsHead, IsRising}
 use Rattle.journal.specs.SectorsTwo.{descriptors_of}
 use Rattle.journal.specs.Record.{Entry, numbers_of, block_of, with_records, home_of}
 use Rattle.journal.specs.Formats.{IsWhole}
-use Rattle.journal.specs.Reads.{IsRefusedCall, MakesReadsAlone}
+use Rattle.journal.specs.Reads.{IsRefusedCall}
 
 -- no read was made, and so none refused
 pub record MakesNoRead (old new : State) : Type 0 where
   pub made_stays : new.made Read ≡ old.made Read
   pub refused_stays : new.refused Read ≡ old.refused Read
 
--- no read named a sector
-abbrev pub LooksNowhere : State → State → Type 0
-LooksNowhere old new = new.looked ≡ old.looked
-
 -- no read was made, and so none named a sector
 pub record ReadsNothing (old new : State) : Type 0 where
   pub no_read : MakesNoRead old new
-  pub looked_stays : LooksNowhere old new
+  pub looked_stays : new.looked ≡ old.looked
 
 -- So many first sectors are all that is read of an image but its blocks at home: the super, and
 -- where that names a log, the head and the log.
@@ -52,14 +48,6 @@ pub record FollowsBy {M : Type 0} (state : M → State) (Follows : M → M → T
 -- Where Ok, this many calls were made; where refused, no more than that.
 pub record CallsUpTo {X E : Type 0} (count : ℕ) (old new : State) (result : Result X E)
     : Type 0 where
-  pub calls : new.calls ≤ old.calls + count
-  pub exact : OnOk result (new.calls ≡ old.calls + count)
-
--- No call but reads was made: this many where Ok, no more than that where refused.
-pub record ReadsUpTo {X E : Type 0} (count : ℕ) (old new : State) (result : Result X E)
-    : Type 0 where
-  pub quiet : IsQuiet old new
-  pub reads : MakesReadsAlone old new
   pub calls : new.calls ≤ old.calls + count
   pub exact : OnOk result (new.calls ≡ old.calls + count)
 
@@ -101,12 +89,6 @@ pub record Copies {X : Type 0} (places reads : ℕ → Type 0) (most sends : ℕ
   pub sent : SendsUpTo sends old new
   pub looks : LooksOnly reads old new
   pub cause : IfErr result (IsRefusedCall old new)
-
--- Calls that write zeros to these sectors: a cut may leave zeros in them.
-abbrev pub ClearsAllPass : {X : Type 0} → (ℕ → Type 0) → ℕ → State → State
-    → Result X MediumFault → Type 0
-ClearsAllPass places count old new result =
-    WritesAllPass places (CutLeaves (cleared_at places old.may_leave)) count old new result
 
 -- Calls that write, and read nothing: `count` where Ok, no more than that where the medium refused
 -- one. They spare the sectors from the end on. A cut at any moment of them leaves an image that has

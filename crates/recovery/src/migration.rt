@@ -6,8 +6,8 @@ ghost use Rattle.journal.specs.Places.{Shape, sectors_of};
 ghost use Rattle.journal.specs.Values.{shape_of};
 ghost use Rattle.journal.specs.Standing.{IsOurs};
 ghost use Rattle.recovery.specs.Recovered.{IsFresh};
-ghost use Rattle.recovery.specs.Migrated.{CanMigrate, IsMigrationBy, IsMigrationRefusal};
-ghost use Rattle.recovery.specs.Migrated.{MigrationLeaves, IsMadeOf, StaysFresh};
+ghost use Rattle.recovery.specs.Recovered.{CanMigrate, IsMigrationBy, IsMigrationRefusal};
+ghost use Rattle.recovery.specs.Recovered.{MigrationLeaves, IsMadeOf, StaysFresh};
 ghost use Rattle.recovery.specs.Calls.{Writes};
 
 use crate::new_head::move_head;

@@ -4,7 +4,7 @@ ghost use Rattle.journal.specs.Places.{first_home, sectors_of};
 ghost use Rattle.journal.specs.Values.{shape_of};
 ghost use Rattle.journal.specs.Reads.{LooksUp};
 ghost use Rattle.recovery.specs.Calls.{most_reads_of};
-ghost use Rattle.recovery.specs.Found.{CountsBlocks, CountsRecords};
+ghost use Rattle.recovery.specs.Inspected.{CountsBlocks, CountsRecords};
 
 use arrayvec::ArrayVec;
 use journal::{Record, Super, are_stamped, read_record};

@@ -5,7 +5,7 @@ ghost use Rattle.journal.specs.Places.{sectors_of};
 ghost use Rattle.journal.specs.Values.{shape_of};
 ghost use Rattle.journal.specs.ImageFaults.{HasShape};
 ghost use Rattle.journal.specs.Sectors.{IsSuper, IsHead};
-ghost use Rattle.recovery.specs.Found.{Surveys};
+ghost use Rattle.recovery.specs.Inspected.{Surveys};
 ghost use Rattle.recovery.specs.Inspected.{IsSuperCause, LooksAtFirst};
 
 use crate::StartFault;

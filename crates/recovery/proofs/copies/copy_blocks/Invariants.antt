@@ -2,8 +2,7 @@ use Rattle.std.proofs.Common.{◌≡◌, ◌<◌, ◌+◌, ◌*◌, ◌++◌, �
 use Rattle.journal.specs.Places.{first_home}
 use Rattle.journal.specs.Values.{shape_of}
 use Rattle.journal.specs.Reading.{data_at}
-use Rattle.recovery.specs.Calls.{Copies}
-use Rattle.recovery.specs.Calls.{IsHomeOf}
+use Rattle.recovery.specs.Calls.{Copies, IsHomeOf}
 use Rattle.recovery.proofs.copies.copy_blocks.Given as goal
 
 abbrev pub invariant-loop-i : goal.invariant-loop-i

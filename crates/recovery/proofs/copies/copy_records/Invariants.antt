@@ -3,8 +3,7 @@ use Rattle.journal.specs.Places.{first_home, limit_of}
 use Rattle.journal.specs.Values.{shape_of}
 use Rattle.journal.specs.Record.{Entry}
 use Rattle.journal.specs.Formats.{IsWhole}
-use Rattle.recovery.specs.Calls.{Copies}
-use Rattle.recovery.specs.Calls.{most_calls_of, AreCopied, IsHomeInRecords}
+use Rattle.recovery.specs.Calls.{Copies, most_calls_of, AreCopied, IsHomeInRecords}
 use Rattle.recovery.proofs.copies.copy_records.Given as goal
 
 abbrev pub invariant-loop-j : goal.invariant-loop-j

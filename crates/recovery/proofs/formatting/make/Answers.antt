@@ -2,7 +2,7 @@ use Rattle.std.proofs.Common.{◌+◌, ◌∙◌, arith, rules, ap, replicate}
 use Rattle.std.specs.Prelude.{OnOk}
 use Rattle.journal.specs.Places.{new_shape, sectors_of, first_home}
 use Rattle.recovery.specs.Formatted.{IsMade, FormatLeaves, WritesImage}
-use Rattle.recovery.proofs.MadeImage.{image_made}
+use Rattle.recovery.proofs.JoinedCalls.{image_made}
 use Rattle.recovery.proofs.formatting.make.Given as given
 use Rattle.recovery.proofs.formatting.make.Goals as goal
 use Rattle.recovery.proofs.formatting.make.Goals.{After-write_image}

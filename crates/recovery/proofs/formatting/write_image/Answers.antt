@@ -5,10 +5,11 @@ use Rattle.medium.proofs.Moments.{at_exit}
 use Rattle.journal.specs.Values.{shape_of}
 use Rattle.recovery.specs.Calls.{Writes}
 use Rattle.recovery.specs.Formatted.{IsWritten, IsNoneOrWritten}
-use Rattle.recovery.proofs.MadeImage.{wider, writes_on, through_writes, clear_writes, made_image}
+use Rattle.recovery.proofs.JoinedCalls.{wider, writes_on, through_writes, clear_writes, made_image}
 use Rattle.recovery.proofs.formatting.write_image.Given as given
 use Rattle.recovery.proofs.formatting.write_image.Goals as goal
-use Rattle.recovery.proofs.formatting.write_image.Goals.{After-write_through, After-clear, After-write_through-2, After-write_through-3}
+use Rattle.recovery.proofs.formatting.write_image.Goals.{After-write_through, After-clear, After-write_through-2}
+use Rattle.recovery.proofs.formatting.write_image.Goals.{After-write_through-3}
 
 -- sector 0 has zeros
 abbrev HasNone : Image → Type 0

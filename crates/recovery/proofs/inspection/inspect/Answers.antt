@@ -10,14 +10,11 @@ use Rattle.journal.specs.ImageFaults.{HasShape}
 use Rattle.journal.proofs.Formats.{laws_of}
 use Rattle.journal.proofs.Wholeness.{IsWhole-one}
 use Rattle.journal.proofs.StandingLaws.{count_stands}
-use Rattle.recovery.specs.Found.{AreCounts, SurveysAtMost}
-use Rattle.recovery.specs.Inspected.{IsInspected}
+use Rattle.recovery.specs.Inspected.{AreCounts, IsInspected}
 use Rattle.recovery.specs.declared.inspection.Inspection.{Inspection}
-use Rattle.recovery.proofs.Causes.{served_look}
+use Rattle.recovery.proofs.WholeRecovery.{served_look}
 use Rattle.recovery.proofs.JoinedCalls.{quiet_before, records_read}
-use Rattle.recovery.proofs.inspection.inspect.Given as given
 use Rattle.recovery.proofs.inspection.inspect.Goals as goal
-use Rattle.recovery.proofs.inspection.inspect.Goals.{After-count_waiting}
 
 -- what was read is what the image stands for
 counts_stand : (old : State) (answer : Inspection) → HasShape old.size (shape_of answer.sizes) old.content
@@ -38,14 +35,6 @@ counts_stand old answer has head are =
     ∙ sym (get_or-map f s.stands.records j [] 0 inside)) in
     record { array = s.array; next = answer.head + length counts + 1; stood = s.stands; head_is = sym s.head_is; counts_are = same }
 
--- all is read
-read : (g : given.Over) (c : After-count_waiting g)
-    → SurveysAtMost (g.M.Medium.state c.args.m.now) (g.M.Medium.state c.count_waiting.new.m)
-read g c =
-    let first = c.read_head.ensures in
-    records_read c.in_ok-sizes.sizes c.in_ok-sizes.ensures.ok.0 first.reads.quiet first.reads.reads first.reads.calls first.looks
-    c.count_waiting.ensures
-
 pub returns-in_err-sizes-clause-err : goal.returns-in_err-sizes-clause-err
 returns-in_err-sizes-clause-err g c =
     let p = err_from_is_err_and c.from_residual.result c.from_residual.ensures.1 in
@@ -57,10 +46,10 @@ returns-clause-ok g c =
     let waiting = c.in_ok-waiting.waiting in
     counts_stand _ (record { sizes = sizes; head = c.in_ok-sizes.head; waiting = waiting }) c.in_ok-sizes.ensures.ok.0
     c.in_ok-sizes.ensures.ok.1 (quiet_before (λ n i. AreCounts (shape_of sizes) i c.in_ok-sizes.head waiting.items) _ _
-    c.read_head.ensures.reads.quiet c.in_ok-waiting.ensures.finds.are)
+    c.read_head.ensures.quiet c.in_ok-waiting.ensures.finds.are)
 
 pub returns-clause-looks : goal.returns-clause-looks
-returns-clause-looks g c = search (rules, read g (goal.at.returns-clause-looks g c).After-count_waiting)
+returns-clause-looks g c = search (rules, records_read c.in_ok-sizes.sizes c.in_ok-sizes.ensures.ok.0 c.read_head.ensures c.count_waiting.ensures)
 
 pub returns-in_err-waiting-clause-looks : goal.returns-in_err-waiting-clause-looks
-returns-in_err-waiting-clause-looks g c = search (rules, read g (goal.at.returns-in_err-waiting-clause-looks g c).After-count_waiting)
+returns-in_err-waiting-clause-looks g c = search (rules, records_read c.in_ok-sizes.sizes c.in_ok-sizes.ensures.ok.0 c.read_head.ensures c.count_waiting.ensures)

@@ -10,11 +10,10 @@ use Rattle.journal.specs.Formats.{layout_of}
 use Rattle.journal.specs.Values.{shape_of}
 use Rattle.journal.proofs.Formats.{laws_of}
 use Rattle.recovery.specs.Calls.{Writes, IsBetween}
-use Rattle.recovery.specs.Migrated.{StaysFresh}
-use Rattle.recovery.specs.Recovered.{IsFresh}
+use Rattle.recovery.specs.Recovered.{StaysFresh, IsFresh}
 use Rattle.recovery.specs.declared.recovered.Recovered.{Recovered}
 use Rattle.recovery.proofs.CopiedRecords.{log_ends, zeros_fresh}
-use Rattle.recovery.proofs.MadeImage.{wider, writes_on, clear_writes, through_writes}
+use Rattle.recovery.proofs.JoinedCalls.{wider, writes_on, clear_writes, through_writes}
 use Rattle.recovery.proofs.migration.make_two.Given as given
 use Rattle.recovery.proofs.migration.make_two.Goals as goal
 use Rattle.recovery.proofs.migration.make_two.Goals.{After-clear, After-move_head, After-write_through}

@@ -1,4 +1,4 @@
-use Rattle.std.proofs.Common.{◌≡◌, inl, inr, ⊎_elim, ℕ, ◌+◌, ◌*◌, ◌<◌, ◌≤◌, length, refl, sym, ◌∙◌, subst, arith, rules, min, Result}
+use Rattle.std.proofs.Common.{◌≡◌, inl, inr, ⊎_elim, ℕ, ◌+◌, ◌*◌, ◌<◌, ◌≤◌, length, refl, ◌∙◌, arith, rules, min, Result}
 use Rattle.std.proofs.lemmas.Bool.{cases_lt}
 use Rattle.std.proofs.lemmas.Result.{err_from_is_err_and}
 use Rattle.medium.specs.Medium.{State, IsSound}
@@ -21,12 +21,11 @@ use Rattle.journal.proofs.StandingLaws.{StandsFor-one, StandsFor-shape}
 use Rattle.recovery.specs.Calls.{Writes, copy_calls, most_start_sends}
 use Rattle.recovery.specs.Causes.{start_fault_of, IsRefusedCall, WritesNothing, IsRefusalBy}
 use Rattle.recovery.specs.Recovered.{IsRecoveredAtLeast, IsFresh, StandsForOneOf, StandsForSome, IsOursForSome, LeavesAtLeast}
-use Rattle.recovery.specs.Migrated.{CanMigrate, IsMadeOf, IsMigratedFrom, StaysFresh, IsOursInEither, MigrationLeaves}
-use Rattle.recovery.specs.Migrated.{most_migration_sends}
+use Rattle.recovery.specs.Recovered.{CanMigrate, IsMadeOf, IsMigratedFrom, StaysFresh, IsOursInEither, MigrationLeaves}
+use Rattle.recovery.specs.Recovered.{most_migration_sends}
 use Rattle.recovery.specs.declared.recovered.Recovered.{Recovered}
-use Rattle.recovery.proofs.Causes.{served_slots}
+use Rattle.recovery.proofs.WholeRecovery.{served_slots, start_on}
 use Rattle.recovery.proofs.CopiedRecords.{log_ends, AreSame, zeros_fresh, fresh_ours}
-use Rattle.recovery.proofs.WholeRecovery.{start_on}
 use Rattle.recovery.proofs.migration.migrate.Given as given
 use Rattle.recovery.proofs.migration.migrate.Goals as goal
 use Rattle.recovery.proofs.migration.migrate.Goals.{After-make_two}
@@ -112,7 +111,7 @@ module _ {old mid : State} {found : Recovered} (start : IsRecoveredAtLeast 5 old
       pub migrated_from : new.calls ≡ mid.calls + (found.sizes.home + 3) → IsMigratedFrom old new answer
       migrated_from counted =
           let stood = start.from.stood in
-          subst (λ (n : ℕ). IsMigratedFrom old new (record { sizes = answer.sizes; next = n })) (sym is.next_is) (record {
+          rw is.next_is (record {
             shape = shape;
             could = can_migrate;
             sizes_are = is.sizes_are;

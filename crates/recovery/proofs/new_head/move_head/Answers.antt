@@ -1,7 +1,7 @@
 use Rattle.std.proofs.Common.{◌⊎◌, inl, inr, ◌∙◌, arith, rules}
 use Rattle.medium.specs.Medium.{CutLeaves}
 use Rattle.recovery.specs.Calls.{HasNewHead, Writes}
-use Rattle.recovery.proofs.MadeImage.{flush_writes, through_writes, writes_on}
+use Rattle.recovery.proofs.JoinedCalls.{flush_writes, through_writes, writes_on}
 use Rattle.recovery.proofs.new_head.move_head.Given as given
 use Rattle.recovery.proofs.new_head.move_head.Goals as goal
 use Rattle.recovery.proofs.new_head.move_head.Goals.{After-flush}

@@ -14,7 +14,7 @@ use Rattle.journal.specs.Values.{shape_of}
 use Rattle.journal.specs.Layout.{slot_at}
 use Rattle.journal.specs.Format2.{format2}
 use Rattle.recovery.specs.Calls.{most_reads_of}
-use Rattle.recovery.specs.Found.{IsTryTwo, IsTryOf, AreTriesOf, AreTries, HasCount, AreCounts}
+use Rattle.recovery.specs.Inspected.{IsTryTwo, IsTryOf, AreTriesOf, AreTries, HasCount, AreCounts}
 use Rattle.recovery.proofs.JoinedCalls.{quiet_before, quiet_after, each_once_more, looks_on}
 use Rattle.recovery.proofs.record.count_waiting.Given as given
 use Rattle.recovery.proofs.record.count_waiting.Goals as goal

@@ -5,7 +5,7 @@ use Rattle.recovery.specs.declared.start_fault.StartFault.{StartFault}
 use Rattle.recovery.specs.declared.start_fault.StartFault.TheVariants.{StampsUsedUp, LogTooSmall}
 use Rattle.std.proofs.lemmas.Result.{IfErr-weaker}
 use Rattle.recovery.specs.Recovered.{IsRecoveryRefusal}
-use Rattle.recovery.proofs.Causes.{served_slots}
+use Rattle.recovery.proofs.WholeRecovery.{served_slots}
 use Rattle.recovery.proofs.recovery.recover.Goals as goal
 
 -- a start that asks for no slots is refused as a recovery is

@@ -7,8 +7,7 @@ use Rattle.journal.specs.Formats.{HasWhole}
 use Rattle.recovery.specs.Recovered.{LeavesAtLeast}
 use Rattle.recovery.proofs.CopiedRecords.{log_ends}
 use Rattle.recovery.proofs.JoinedCalls.{quiet_after}
-use Rattle.recovery.proofs.WholeRecovery.{IsSurveyed, survey_leaves, copies_leave, moves_leave, recovery_fresh}
-use Rattle.recovery.proofs.WholeRecovery.{recovery_from, refusal}
+use Rattle.recovery.proofs.WholeRecovery.{IsSurveyed, survey_leaves, copies_leave, moves_leave, recovery_fresh, recovery_from, refusal}
 use Rattle.recovery.proofs.recovery.recover_at_least.Given as given
 use Rattle.recovery.proofs.recovery.recover_at_least.Goals as goal
 use Rattle.recovery.proofs.recovery.recover_at_least.Goals.{After-inspect, After-move_head}
@@ -28,14 +27,14 @@ pub copy_records-requires-clause-whole : goal.copy_records-requires-clause-whole
 copy_records-requires-clause-whole g c j below =
     let found = c.in_ok-found.found in
     quiet_after (λ n i. HasWhole (shape_of found.sizes) i (found.head + j)) (g.M.Medium.state c.flush.new.self)
-    (g.M.Medium.state c.inspect.new.m) c.inspect.ensures.reads.quiet (c.in_ok-found.ensures.ok.is.count.whole j below)
+    (g.M.Medium.state c.inspect.new.m) c.inspect.ensures.reads.quiet (c.in_ok-found.ensures.ok.count.whole j below)
 
 pub move_head-requires-clause-inside : goal.move_head-requires-clause-inside
 move_head-requires-clause-inside g c =
     let sizes = c.in_ok-found.found.sizes in
     omega (
       arith,
-      c.in_ok-found.ensures.ok.is.shape.fits,
+      c.in_ok-found.ensures.ok.shape.fits,
       c.inspect.ensures.reads.quiet.size_stays,
       c.copy_records.ensures.copies.moments.size_stays,
       log_ends (shape_of sizes) sizes.home_is,

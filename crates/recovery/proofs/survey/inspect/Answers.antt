@@ -5,19 +5,10 @@ use Rattle.journal.specs.Standing.{IsCount}
 use Rattle.journal.proofs.SectorNumbers.{IsSuper-one}
 use Rattle.journal.proofs.StandingLaws.{count_stands}
 use Rattle.recovery.specs.Causes.{HasFewSlots}
-use Rattle.recovery.specs.Found.{SurveysAtMost}
 use Rattle.recovery.proofs.JoinedCalls.{records_read}
 use Rattle.recovery.proofs.survey.inspect.Given as given
 use Rattle.recovery.proofs.survey.inspect.Goals as goal
-use Rattle.recovery.proofs.survey.inspect.Goals.{After-count_waiting, After-len-count}
-
--- all is read
-read : (g : given.Over) (c : After-count_waiting g)
-    → SurveysAtMost (g.M.Medium.state c.args.m.now) (g.M.Medium.state c.count_waiting.new.m)
-read g c =
-    let first = c.read_head.ensures in
-    records_read c.in_ok-sizes.sizes c.in_ok-sizes.ensures.ok.0 first.reads.quiet first.reads.reads first.reads.calls first.looks
-    c.count_waiting.ensures
+use Rattle.recovery.proofs.survey.inspect.Goals.{After-len-count}
 
 -- the count is that of the image as it was, and the log has slots enough
 counted : (g : given.Over) (c : After-len-count g)
@@ -26,7 +17,7 @@ counted : (g : given.Over) (c : After-len-count g)
 counted g c =
     let old = g.M.Medium.state c.args.m.now in
     let same : (g.M.Medium.state c.read_head.new.m).content ≡ old.content =
-    λ i s. c.read_head.ensures.reads.quiet.content_stays s i in (
+    λ i s. c.read_head.ensures.quiet.content_stays s i in (
       rw (same, ← c.len-count.ensures.value) at c.in_ok-count_waiting.ensures.finds.are.is,
       λ few.
           let one = IsSuper-one few.shape (shape_of c.in_ok-sizes.sizes) (old.content 0) few.has.super c.in_ok-sizes.ensures.ok.0.super in
@@ -40,10 +31,10 @@ returns-then-head-count g c =
     let at = goal.at.returns-then-head-count g c in
     let old = g.M.Medium.state c.args.m.now in
     let mid = g.M.Medium.state c.read_head.new.m in
-    let same : mid.content ≡ old.content = λ i s. c.read_head.ensures.reads.quiet.content_stays s i in
-    let calls : mid.calls ≡ old.calls + 2 = c.in_ok-sizes.ensures.reads.exact in
+    let same : mid.content ≡ old.content = λ i s. c.read_head.ensures.quiet.content_stays s i in
+    let calls : mid.calls ≡ old.calls + 2 = c.in_ok-sizes.ensures.exact in
     let exact = rw (same, calls, ← c.len-count.ensures.value) at c.in_ok-count_waiting.ensures.finds.exact in
-    search (rules, read g at.After-count_waiting, counted g at.After-len-count, exact, g.met.M.Medium.follows_through)
+    search (rules, records_read c.in_ok-sizes.sizes c.in_ok-sizes.ensures.ok.0 c.read_head.ensures c.count_waiting.ensures, counted g at.After-len-count, exact, g.met.M.Medium.follows_through)
 
 pub returns-else-head-count : goal.returns-else-head-count
 returns-else-head-count g c =
@@ -52,9 +43,8 @@ returns-else-head-count g c =
     let known = counted g at.After-len-count in
     let s = count_stands _ (shape_of c.in_ok-sizes.sizes) _ c.in_ok-sizes.head c.len-count.result has.fits has.super
     c.in_ok-sizes.ensures.ok.1 known.0 in
-    search (rules, read g at.After-count_waiting, known, s, g.met.M.Medium.follows_through)
+    search (rules, records_read c.in_ok-sizes.sizes c.in_ok-sizes.ensures.ok.0 c.read_head.ensures c.count_waiting.ensures, known, s, g.met.M.Medium.follows_through)
 
 pub returns-in_err-count_waiting : goal.returns-in_err-count_waiting
 returns-in_err-count_waiting g c =
-    let at = goal.at.returns-in_err-count_waiting g c in
-    search (rules, read g at.After-count_waiting, g.met.M.Medium.follows_through)
+    search (rules, records_read c.in_ok-sizes.sizes c.in_ok-sizes.ensures.ok.0 c.read_head.ensures c.count_waiting.ensures, g.met.M.Medium.follows_through)

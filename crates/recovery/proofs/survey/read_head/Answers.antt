@@ -18,7 +18,7 @@ read g c =
     let head = c.read.ensures in
     let shape = shape_of c.in_ok-sizes.sizes in
     let home = c.in_ok-sizes.sizes.home_is.0 in (
-      quiet_joined _ _ _ super.reads.quiet (quiet_call _ _ head.passes head.content head.sets),
+      quiet_joined _ _ _ super.quiet (quiet_call _ _ head.passes head.content head.sets),
       looked_on shape _ _ _ c.in_ok-sizes.ensures.ok super.looks
           (look_below (first_home shape) _ _ 1 (omega (arith, home)) head.follows.1),
     )
@@ -31,5 +31,5 @@ returns-in_default g c = search (rules, read g (goal.at.returns-in_default g c).
 
 pub returns : goal.returns
 returns g c =
-    let is = rw (c.in_ok-read.ensures.ok ∙ c.read_super.ensures.reads.quiet.content_stays 1) at c.in-Some.ensures.some in
+    let is = rw (c.in_ok-read.ensures.ok ∙ c.read_super.ensures.quiet.content_stays 1) at c.in-Some.ensures.some in
     search (rules, read g (goal.at.returns g c).After-read, is, g.met.M.Medium.follows_through)
