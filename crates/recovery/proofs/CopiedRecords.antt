@@ -23,7 +23,8 @@ use Rattle.recovery.specs.Calls.{IsHomeOf, IsHomeInRecord, IsHomeInRecords}
 use Rattle.recovery.specs.Recovered.{IsFresh}
 
 -- what a cut may leave in one sector an image has there that it may leave
-image_with : (m : State) (s : ℕ) (c : List ℕ) → IsSound m → m.may_leave s c → (image : Image) × CutLeaves m.may_leave image × (image s ≡ c)
+image_with : (m : State) (s : ℕ) (c : List ℕ) → IsSound m → m.may_leave s c
+    → (image : Image) × CutLeaves m.may_leave image × (image s ≡ c)
 image_with m s c sound left = (
   updated m.content s c,
   λ t. elim (cases_eq t s) [

@@ -103,8 +103,8 @@ pub super_looked : (old new : State) → LooksOnly (λ s. s ≡ 0) old new → L
 super_looked old new look near holds = look_below near old new 0 holds.some look
 
 -- the super and the head are read, and then what shows whether records are whole
-pub records_read : {M X Y : Type 0} {state : M → State} {Follows : M → M → Type 0} {Has : State → Y → Type 0} {F : State → State → X → Type 0}
-    {old mid new : M} {first : Result Y StartFault} {result : Result X MediumFault} (sizes : Super)
+pub records_read : {M X Y : Type 0} {state : M → State} {Follows : M → M → Type 0} {Has : State → Y → Type 0}
+    {F : State → State → X → Type 0} {old mid new : M} {first : Result Y StartFault} {result : Result X MediumFault} (sizes : Super)
     → HasShape (state old).size (shape_of sizes) (state old).content → LooksAtFirst state Follows Has 2 old mid first
     → LooksUp state Follows (most_reads_of sizes.format * sizes.slots) (λ s. s < first_home (shape_of sizes)) F mid new result
     → SurveysAtMost (state old) (state new)

@@ -66,13 +66,11 @@ module _ (least : ℕ) (old new : State) (shape : Shape) (array : Array) (next :
 tries_moved : (format : LogFormat) (shape : Shape) (image : Image) (first tries old new before after more : ℕ) → before ≡ old + more
     → after ≡ new + more → AreTriesOf format shape image first tries old new → AreTriesOf format shape image first tries before after
 tries_moved One shape image first tries old new before after more e f t = omega (arith, e, f, t)
-tries_moved Two shape image first tries old new before after more e f t =
-    record { reads = t.reads; many = t.many; each = t.each; after_is = omega (arith, e, f, t.after_is) }
+tries_moved Two shape image first tries old new before after more e f t = search (rules, t.each, t.after_is)
 
 tries_late : (format : LogFormat) (shape : Shape) (image : Image) (first tries before after : ℕ)
     → AreTriesOf format shape image first tries before after → before ≤ after
-tries_late One shape image first tries before after t = omega (arith, t)
-tries_late Two shape image first tries before after t = omega (arith, t.after_is)
+tries_late format shape image first tries before after t = grind (arith, t)
 
 -- how many calls a whole recovery makes at most
 most_start : (format : LogFormat) (slots old mid seen new count : ℕ) → mid ≡ old + 1 → seen ≤ mid + 2 + most_reads_of format * slots
@@ -105,15 +103,19 @@ pub record IsServed (least : ℕ) (old : State) (shape : Shape) : Type 0 where
 -- a start, and behind its first good flush other calls
 pub start_on : {Is : ℕ → Shape → Array → ℕ → Image → Type 0} {few_calls few_sends most_calls most_sends : LogFormat → ℕ → ℕ} {least : ℕ}
     {old mid new : State} {shape : Shape} → IsSound old → IsServed least old shape → StartLeaves Is few_calls few_sends least old mid
-    → old.calls + 2 ≤ mid.calls → ((other : Shape) (array : Array) (next : ℕ) → IsOurs old.size other old.content array next
-    → LeavesOnly (Is old.size other array next) mid new) → SparesFrom (sectors_of shape) mid new → LooksOnly (λ s. s < first_home shape) mid new
+    → old.calls + 2 ≤ mid.calls
+    → ((array : Array) (next : ℕ) → IsOurs old.size shape old.content array next → LeavesOnly (Is old.size shape array next) mid new)
+    → SparesFrom (sectors_of shape) mid new → LooksOnly (λ s. s < first_home shape) mid new
     → new.calls ≤ old.calls + 6 + most_calls shape.format shape.slots → most_calls shape.format shape.slots ≤ 738 * 64
     → SendsUpTo (most_sends shape.format shape.slots) old new → most_sends shape.format shape.slots ≤ most_start_sends Two 64
     → StartLeaves Is most_calls most_sends least old new
-start_on {Is} {old = old} {mid = mid} {new = new} {shape = shape} sound served first begun later spares looks calls all_calls sent all_sent =
+start_on {Is} {old = old} {mid = mid} {new = new} {shape = shape} sound served first begun ours spares looks calls all_calls sent all_sent =
     let has = StandsFor-shape old.size shape old.content served.array served.next served.stands in
     let one : (other : Shape) → image.HasShape old.size other old.content → other ≡ shape =
     λ other its. IsSuper-one other shape (old.content 0) its.super has.super in
+    let later : (other : Shape) (array : Array) (next : ℕ) → IsOurs old.size other old.content array next
+    → LeavesOnly (Is old.size other array next) mid new = λ other array next theirs.
+    let is = IsSuper-one other shape (old.content 0) theirs.stands.keeps.super has.super in rw is (ours array next (rw is at theirs)) in
     record {
       cuts = λ each.
           let e = each old.content sound.holds_content in
@@ -152,9 +154,6 @@ module _ (least : ℕ) {old mid seen : State} {result : Result (Unit {0}) Medium
   same : seen.content ≡ old.content
   same = λ i s. quiet.content_stays s i
 
-  counted : mid.calls ≡ old.calls + 1
-  counted = known.passes.calls_are
-
   one_sent : SendsUpTo 1 old seen
   one_sent = omega (arith, flush_sends old mid known.passes, none_sent mid seen known.reads.reads)
 
@@ -165,7 +164,7 @@ module _ (least : ℕ) {old mid seen : State} {result : Result (Unit {0}) Medium
   seen_after : Only old.content mid.may_leave → (shape : Shape) (array : Array) (next : ℕ) → IsOurs old.size shape old.content array next
       → (image : Image) → seen.left_since (old.calls + 1) image → IsOursWithNext old.size shape array next image
   seen_after only shape array next ours image since =
-      let here = rw (← counted) at since in
+      let here = rw (← known.passes.calls_are) at since in
       let is = only_image old.content mid.may_leave only image
       (⊎_elim (λ was. known.sound_mid.only_now image was) (λ now. now)
       (known.reads.quiet.nothing_else mid.calls image (omega arith) here)) in
@@ -179,12 +178,12 @@ module _ (least : ℕ) {old mid seen : State} {result : Result (Unit {0}) Medium
       (λ image cut. let e = each image cut in search (rules, e.3)) quiet in
       let moments = quiet_leaves (λ _. Unit {0}) old seen known.sound (λ image cut. tt) quiet in
       let most = λ (shape : Shape) (has : image.HasShape old.size shape old.content).
-      most_start shape.format shape.slots old.calls mid.calls seen.calls seen.calls 0 counted
+      most_start shape.format shape.slots old.calls mid.calls seen.calls seen.calls 0 known.passes.calls_are
       (known.reads.most shape (quiet_after (λ n i. image.HasShape n shape i) old mid flushed has)) (omega arith) (omega arith) in
       let looks = λ (near : ℕ) (holds : HoldsLog near old.size old.content). looks_joined (λ s. s < near) old mid seen
       (no_looks _ old mid (known.passes.looked_stays (λ e. cc e)))
       (known.reads.looks near (quiet_after (λ n i. HoldsLog near n i) old mid flushed holds)) in
-      search (rules, cuts, seen_after, known.only, moments, counted, most, one_sent, looks, spared_quiet, quiet, known.sound)
+      search (rules, cuts, seen_after, known.only, moments, known.passes.calls_are, most, one_sent, looks, spared_quiet, quiet, known.sound)
 
   -- a refusal by the survey is one by the flush and it
   pub refusal : (fault : StartFault) → IsRefusalBy least IsQuiet mid seen fault → IsRefusalBy least WritesNothing old seen fault
@@ -196,8 +195,9 @@ module _ (least : ℕ) {old mid seen : State} {result : Result (Unit {0}) Medium
       let same = λ (f : image.ImageFault). back (λ n i. image.HasFault n i f) in
       search (rules, same, wrote_nothing)
 
-  module _ {copied : State} {found : Found} {copies : Result (Unit {0}) MediumFault} (survey : IsSurvey least mid.size mid.content mid.calls seen.calls found)
-      (sound : IsSound copied) (copying : Copies (IsHomeInRecords (shape_of found.sizes) seen.content found.head found.count)
+  module _ {copied : State} {found : Found} {copies : Result (Unit {0}) MediumFault}
+      (survey : IsSurvey least mid.size mid.content mid.calls seen.calls found) (sound : IsSound copied)
+      (copying : Copies (IsHomeInRecords (shape_of found.sizes) seen.content found.head found.count)
       (λ s. s < first_home (shape_of found.sizes)) (most_calls_of found.sizes.format * found.count)
       (limit_of found.sizes.format * found.count) seen copied copies) where
     abbrev shape : Shape
@@ -219,16 +219,14 @@ module _ (least : ℕ) {old mid seen : State} {result : Result (Unit {0}) Medium
     -- the head and the count are those of all for which they stand
     matches : {array : Array} {next : ℕ} (s : StandsFor old.size shape old.content array next)
         → (found.head ≡ s.head) × (found.count ≡ length s.records)
-    matches {array} {next} s =
-        let n = old.size in
-        let stamp = found.head + found.count + 1 in (
-          sym stood.head_is ∙ heads n n shape old.content stood.array array stamp next stood.stands s,
-          sym stood.count_is ∙ counts n n shape old.content stood.array array stamp next stood.stands s,
-        )
+    matches s = (
+      sym stood.head_is ∙ heads _ _ _ _ _ _ _ _ stood.stands s,
+      sym stood.count_is ∙ counts _ _ _ _ _ _ _ _ stood.stands s,
+    )
 
     -- a survey follows a good flush
     begun : old.calls + 2 ≤ seen.calls
-    begun = omega (arith, tries_late found.sizes.format _ _ _ _ _ _ survey.exact, counted)
+    begun = omega (arith, tries_late found.sizes.format _ _ _ _ _ _ survey.exact, known.passes.calls_are)
 
     -- each sector is as it was, or is the home of a block that is copied
     copied_ours : {array : Array} {next : ℕ} → IsOurs old.size shape old.content array next
@@ -256,8 +254,8 @@ module _ (least : ℕ) {old mid seen : State} {result : Result (Unit {0}) Medium
 
     few : (new calls : ℕ) → calls ≤ 3 → new ≤ copied.calls + calls
         → new ≤ old.calls + 6 + most_start_of found.sizes.format * found.sizes.slots
-    few new calls some made = most_start found.sizes.format found.sizes.slots old.calls mid.calls seen.calls new found.count counted
-        (known.reads.most shape survey.shape) (omega (arith, copying.calls, some, made)) survey.count.few
+    few new calls some made = most_start found.sizes.format found.sizes.slots old.calls mid.calls seen.calls new found.count
+        known.passes.calls_are (known.reads.most shape survey.shape) (omega (arith, copying.calls, some, made)) survey.count.few
 
     sent_few : SendsUpTo (limit_of found.sizes.format * found.sizes.slots + 1) old copied
     sent_few = omega (arith, mul-le-mul_left (limit_of found.sizes.format) at_old.count.few, one_sent, copying.sent)
@@ -269,8 +267,7 @@ module _ (least : ℕ) {old mid seen : State} {result : Result (Unit {0}) Medium
     -- at any moment from the first write on each image is ours for the contents
     pub copies_leave : LeavesAtLeast least old copied
     copies_leave = start_on known.sound served survey_leaves begun
-        (λ other array next theirs. let is = one_shape other theirs.stands.keeps.super in
-        rw is (weaker _ _ _ _ (λ image o. inl o) (copied_ours (rw is at theirs)))) copied_spares copying.looks
+        (λ array next ours. weaker _ _ _ _ (λ image o. inl o) (copied_ours ours)) copied_spares copying.looks
         (few copied.calls 0 (omega arith) (omega arith)) most.0 (omega (arith, sent_few)) most.1
 
     -- they were good: the records are home
@@ -308,11 +305,8 @@ module _ (least : ℕ) {old mid seen : State} {result : Result (Unit {0}) Medium
       pub moves_leave : {new : State} {moves : Result (Unit {0}) MediumFault} → Writes (λ image. CutLeaves copied.may_leave image
           ⊎ HasNewHead (found.head + found.count + 1) copied.content image) 2 3 copied new moves → LeavesAtLeast least old new
       moves_leave {new = new} moves = start_on known.sound served copies_leave (omega (arith, begun, copying.moments.later))
-          (λ other array next theirs.
-          let is = one_shape other theirs.stands.keeps.super in
-          let ours = rw is at theirs in
-          rw is (weaker _ _ _ _ (λ image either. ⊎_elim (λ cut. inl (at_exit _ seen copied sound (copied_ours ours) image cut))
-          (λ moved. inr (fresh_ours at_old.shape.fits (moved_fresh ours moved))) either) moves.moments))
+          (λ array next ours. weaker _ _ _ _ (λ image either. ⊎_elim (λ cut. inl (at_exit _ seen copied sound (copied_ours ours) image cut))
+          (λ moved. inr (fresh_ours at_old.shape.fits (moved_fresh ours moved))) either) moves.moments)
           (spared_behind 2 (sectors_of shape) copied new (omega arith) moves.spares)
           (no_looks _ copied new moves.reads.looked_stays) (few new.calls 3 (omega arith) moves.calls) most.0
           (omega (arith, sent_few, moves.sent)) most.1
@@ -340,7 +334,8 @@ module _ (least : ℕ) {old mid seen : State} {result : Result (Unit {0}) Medium
                   ∙ ⊎_elim (copied_log x) (λ past. copied_spares.content x past ∙ quiet.content_stays x) other;
               calls = tries_moved found.sizes.format shape old.content s.head (min (length s.records + 1) found.sizes.slots)
                   (mid.calls + 2) seen.calls (old.calls + 6 + copy_calls found.sizes.format s.records) new.calls
-                  (copy_calls found.sizes.format s.records + 3) (omega (arith, counted)) (omega (arith, (all_copied s).exact, last))
+                  (copy_calls found.sizes.format s.records + 3) (omega (arith, known.passes.calls_are))
+                  (omega (arith, (all_copied s).exact, last))
                   (rw (stood.head_is, stood.count_is) at_old.exact);
             } in
             record { from = from; room = at_old.room }

@@ -1,6 +1,6 @@
 -- What the calls of a recovery, a migration or a format do and cost, and what a cut leaves of them.
 use Rattle.std.specs.Prelude.{◌≡◌, ◌≢◌, ◌⊎◌, ℕ, ◌+◌, ◌*◌, ◌<◌, ◌≤◌, List, [], ◌∷◌, length, All}
-use Rattle.std.specs.Prelude.{slice_index, get_or, replicate, Result, OnOk, IfErr}
+use Rattle.std.specs.Prelude.{slice_index, replicate, Result, OnOk, IfErr}
 use Rattle.medium.specs.Medium.{State, Image, Sets, CutLeaves, LooksOnly, Holds}
 use Rattle.medium.specs.Moments.{LeavesOnly, SparesFrom}
 use Rattle.medium.specs.Sent.{SendsUpTo}
@@ -12,7 +12,7 @@ use Rattle.journal.specs.Places.{Shape, first_home, limit_of, slot_sectors_of}
 use Rattle.journal.specs.ImageFaults.{HasShape}
 use Rattle.journal.specs.Sectors.{IsHead, IsRising}
 use Rattle.journal.specs.SectorsTwo.{descriptors_of}
-use Rattle.journal.specs.Record.{Entry, numbers_of, block_of, with_records, home_of}
+use Rattle.journal.specs.Record.{Entry, numbers_of, with_records, home_of}
 use Rattle.journal.specs.Formats.{IsWhole}
 use Rattle.journal.specs.Reads.{IsRefusedCall}
 
@@ -37,8 +37,8 @@ abbrev pub LooksAtLog : State → State → Type 0
 LooksAtLog old new =
     (near : ℕ) → HoldsLog near old.size old.content → LooksOnly (λ s. s < near) old new
 
--- The medium comes after what it was, by calls alone that read nothing, of which at most `sends` are
--- writes and flushes.
+-- The medium comes after what it was, by calls alone that read nothing, of which at most `sends`
+-- are writes and flushes.
 pub record FollowsBy {M : Type 0} (state : M → State) (Follows : M → M → Type 0) (sends : ℕ)
     (old new : M) : Type 0 where
   pub follows : Follows old new
@@ -78,9 +78,9 @@ pub record WritesAllPass {X : Type 0} (places : ℕ → Type 0) (P : Image → T
   pub exact : OnOk result (new.calls ≡ old.calls + count)
   pub cause : IfErr result (IsRefusedCall old new)
 
--- At most `most` calls, of which at most `sends` are writes and flushes. They copy to these sectors:
--- a cut may leave anything in them. Each read names one of those. An error is a call that the medium
--- refused.
+-- At most `most` calls, of which at most `sends` are writes and flushes. They copy to these
+-- sectors: a cut may leave anything in them. Each read names one of those. An error is a call that
+-- the medium refused.
 pub record Copies {X : Type 0} (places reads : ℕ → Type 0) (most sends : ℕ) (old new : State)
     (result : Result X MediumFault) : Type 0 where
   pub elsewhere : (x : ℕ) → ¬ places x → new.content x ≡ old.content x
@@ -136,13 +136,7 @@ abbrev pub copy_calls : LogFormat → List (List Entry) → ℕ
 copy_calls format [] = 0
 copy_calls format (entries ∷ records) = calls_of format (length entries) + copy_calls format records
 
--- the blocks of a record are at home, by as many calls as it takes
-pub record IsCopied (shape : Shape) (entries : List Entry) (old new : State) : Type 0 where
-  pub home : (i : ℕ) → i < length entries
-      → new.content (first_home shape + (get_or entries i (0, [])).0) ≡ block_of entries i
-  pub exact : new.calls ≡ old.calls + calls_of shape.format (length entries)
-
--- so for records one after the other
+-- the blocks of these records are at home, in order, by as many calls as it takes
 pub record AreCopied (shape : Shape) (records : List (List Entry)) (old new : State) : Type 0 where
   pub home : (b : ℕ) → new.content (first_home shape + b)
       ≡ with_records records (home_of shape old.content) b

@@ -1,6 +1,6 @@
 -- What is found of an image before the first write, by how many reads, and what a look answers.
 use Rattle.std.specs.Prelude.{◌≡◌, ◌⊎◌, ℕ, ◌+◌, ◌*◌, ◌^◌, ◌<◌, ◌≤◌, min, List, length, sum}
-use Rattle.std.specs.Prelude.{slice_index, Option, MatchOption, Result, IfOk, IfErr, map, OnOk}
+use Rattle.std.specs.Prelude.{slice_index, Result, IfOk, IfErr, map, OnOk}
 use Rattle.medium.specs.Medium.{State, Image}
 use Rattle.medium.specs.Moments.{IsQuiet}
 use Rattle.journal.specs.declared.log_format.LogFormat.{LogFormat}
@@ -13,11 +13,11 @@ use Rattle.journal.specs.SlotReads.{ReadsUpToBad, IsCommitted, HasPlace, NamesBl
 use Rattle.journal.specs.Layout.{slot_at}
 use Rattle.journal.specs.Format2.{format2}
 use Rattle.journal.specs.Record.{Entry}
-use Rattle.journal.specs.Formats.{IsWhole, HasWhole}
+use Rattle.journal.specs.Formats.{IsWhole}
 use Rattle.journal.specs.Standing.{IsCount, StandsFor, Stands}
 use Rattle.journal.specs.ImageFaults.{HasShape}
 use Rattle.recovery.specs.Calls.{most_reads_of, LooksAtLog}
-use Rattle.recovery.specs.Causes.{HasFewSlots, IsRefusalBy, MakesReadsAlone, IsRefusedCall}
+use Rattle.recovery.specs.Causes.{HasFewSlots, MakesReadsAlone, IsRefusedCall}
 use Rattle.recovery.specs.Causes.{IsDeviceFault}
 use Rattle.recovery.specs.declared.found.Found.{Found}
 use Rattle.recovery.specs.declared.start_fault.StartFault.{StartFault}
@@ -87,29 +87,15 @@ abbrev pub HasCount : Shape → Image → ℕ → ℕ → Type 0
 HasCount shape image stamp count =
     (entries : List Entry) × IsWhole shape image stamp entries × (count ≡ length entries)
 
--- By as many calls as show it, the record of this stamp has count blocks, or it is not whole.
-pub record CountsBlocks (shape : Shape) (stamp : ℕ) (old new : State) (found : Option ℕ)
-    : Type 0 where
-  pub exact : IsTryOf shape.format shape old.content stamp old.calls new.calls
-  pub counted : MatchOption found (¬ HasWhole shape old.content stamp)
-      (λ count. HasCount shape old.content stamp count)
-
 -- As many records as there are counts are whole from the head on, without a gap, and at most as
 -- many as there are slots; and each has as many blocks as its count says.
 pub record AreCounts (shape : Shape) (image : Image) (head : ℕ) (counts : List ℕ) : Type 0 where
   pub is : IsCount shape image head (length counts)
   pub each : (j : ℕ) → j < length counts → HasCount shape image (head + j) (slice_index counts j)
 
--- By as many calls as show it, these are the counts of the records that are whole from the head on.
-pub record CountsRecords (shape : Shape) (head : ℕ) (old new : State) (counts : List ℕ)
-    : Type 0 where
-  pub exact : AreTries shape old.content head (min (length counts + 1) shape.slots)
-      old.calls new.calls
-  pub are : AreCounts shape old.content head counts
-
 -- A survey of a medium of `size` sectors wants at least this many slots in a log of format 1, and
--- found this: the image has none of the faults. It read the super, the head and, for each stamp that
--- it tried, what shows whether its record is whole.
+-- found this: the image has none of the faults. It read the super, the head and, for each stamp
+-- that it tried, what shows whether its record is whole.
 pub record IsSurvey (least size : ℕ) (image : Image) (before after : ℕ) (found : Found)
     : Type 0 where
   pub shape : HasShape size (shape_of found.sizes) image
@@ -129,16 +115,6 @@ pub record SurveysAtMost (old new : State) : Type 0 where
   pub most : (shape : Shape) → HasShape old.size shape old.content
       → new.calls ≤ old.calls + 2 + most_reads_of shape.format * shape.slots
   pub looks : LooksAtLog old new
-
--- A survey wants at least this many slots in a log of format 1: how it reads, what it finds, and
--- why it is refused.
-pub record Surveys {M : Type 0} (state : M → State) (Follows : M → M → Type 0) (least : ℕ)
-    (old new : M) (result : Result Found StartFault) : Type 0 where
-  pub reads : SurveysAtMost (state old) (state new)
-  pub ok : IfOk result (IsSurvey least (state old).size (state old).content (state old).calls
-      (state new).calls)
-  pub err : IfErr result (IsRefusalBy least IsQuiet (state old) (state new))
-  pub follows : Follows old new
 
 -- The answer is what the contents stand for: their sizes, their head, and of each record that waits
 -- there, in order of the stamps, how many blocks it has.
@@ -169,8 +145,8 @@ IsLookCause old new BadSize = image.HasFault old.size old.content image.BadSize
 IsLookCause old new BadHead = image.HasFault old.size old.content image.BadHead
 IsLookCause old new fault = ⊥
 
--- The first sectors are looked at, by this many reads where Ok, and no more than that where refused:
--- what they have, and why not.
+-- The first sectors are looked at, by this many reads where Ok, and no more than that where
+-- refused: what they have, and why not.
 pub record LooksAtFirst {M X : Type 0} (state : M → State) (Follows : M → M → Type 0)
     (Has : State → X → Type 0) (count : ℕ) (old new : M) (result : Result X StartFault)
     : Type 0 where

@@ -56,8 +56,8 @@ abbrev pub IsOursWithNext : ℕ → Shape → Array → ℕ → Image → Type 0
 IsOursWithNext size shape array next image =
     IsOurs size shape image array next ⊎ IsOurs size shape image array (next + 1)
 
--- An image allowed before stood for an array. The image is this of that one's size, shape, array and
--- next stamp.
+-- An image allowed before stood for an array. The image is this of that one's size, shape, array
+-- and next stamp.
 pub record StandsForSome (Is : ℕ → Shape → Array → ℕ → Image → Type 0) (old : State)
     (image : Image) : Type 0 where
   pub before : Image

@@ -1,6 +1,6 @@
 //! The copying of the whole records home.
 ghost use Rattle.std.specs.Prelude.{◌≡◌, ◌<◌, ◌≤◌, ◌+◌, ◌*◌, ◌^◌, ◌++◌};
-ghost use Rattle.std.specs.Prelude.{List, ℕ, OnOk, length, [], get_or, slice_index, drop};
+ghost use Rattle.std.specs.Prelude.{List, ℕ, OnOk, length, [], ◌∷◌, get_or, slice_index, drop};
 ghost use Rattle.journal.specs.Places.{first_home, sectors_of, limit_of};
 ghost use Rattle.journal.specs.Values.{shape_of};
 ghost use Rattle.journal.specs.Record.{Entry};
@@ -8,7 +8,7 @@ ghost use Rattle.journal.specs.Formats.{IsWhole, HasWhole};
 ghost use Rattle.recovery.specs.Calls.{Copies};
 ghost use Rattle.journal.specs.Reading.{data_at};
 ghost use Rattle.recovery.specs.Calls.{most_calls_of, IsHomeOf, IsHomeInRecord, IsHomeInRecords};
-ghost use Rattle.recovery.specs.Calls.{AreBlocks, IsCopied, AreCopied};
+ghost use Rattle.recovery.specs.Calls.{AreBlocks, AreCopied};
 
 use crate::found::Found;
 use journal::{Record, Super, copy_place, read_record, slot_of};
@@ -83,7 +83,7 @@ fn copy_record<M: Medium>(
     ensures done { (entries : List Entry)
         → IsWhole (shape_of sizes.now) (M.state m.old).content stamp entries
         → OnOk result
-        (IsCopied (shape_of sizes.now) entries (M.state m.old) (M.state m.new)) }
+        (AreCopied (shape_of sizes.now) (entries ∷ []) (M.state m.old) (M.state m.new)) }
     ensures copies { Copies
         (IsHomeInRecord (shape_of sizes.now) (M.state m.old).content stamp)
         (λ s. s < first_home (shape_of sizes.now)) (most_calls_of sizes.now.format)

@@ -17,7 +17,8 @@ pub(crate) fn move_head<M: Medium>(m: &mut M, stamp: u64) -> Result<(), MediumFa
         × IsFlushed (M.state m.new)) }
     // A cut leaves what it could leave before, or the contents with the new head.
     ensures writes { Writes (λ image. CutLeaves (M.state m.old).may_leave image
-        ⊎ HasNewHead stamp (M.state m.old).content image) 2 3 (M.state m.old) (M.state m.new) result }
+        ⊎ HasNewHead stamp (M.state m.old).content image) 2 3
+        (M.state m.old) (M.state m.new) result }
     ensures follows { M.follows m.old m.new }
 {
     m.flush()?;

@@ -1,16 +1,19 @@
 //! The records that are whole.
-ghost use Rattle.std.specs.Prelude.{◌≡◌, ◌≤◌, ◌<◌, ◌*◌, ◌^◌, true, false, MatchOption};
+ghost use Rattle.std.specs.Prelude.{◌≡◌, ◌≤◌, ◌<◌, ◌+◌, ◌*◌, ◌^◌, true, false, MatchOption};
+ghost use Rattle.std.specs.Prelude.{length, min};
 ghost use Rattle.journal.specs.Places.{first_home, sectors_of};
 ghost use Rattle.journal.specs.Values.{shape_of};
 ghost use Rattle.journal.specs.Reads.{LooksUp};
 ghost use Rattle.recovery.specs.Calls.{most_reads_of};
-ghost use Rattle.recovery.specs.Inspected.{CountsBlocks, CountsRecords};
+ghost use Rattle.journal.specs.Formats.{HasWhole};
+ghost use Rattle.recovery.specs.Inspected.{AreTries, AreCounts, IsTryOf, HasCount};
 
 use arrayvec::ArrayVec;
 use journal::{Record, Super, are_stamped, read_record};
 use medium::{Medium, MediumFault};
 
-/// Reads how many blocks each of the whole records has that follow from the head on.
+/// Reads how many blocks each of the whole records has that follow from the head on, by as many
+/// calls as show it.
 pub(crate) fn count_waiting<M: Medium>(
     m: &mut M,
     sizes: &Super,
@@ -20,7 +23,9 @@ pub(crate) fn count_waiting<M: Medium>(
     requires head { head < 2 ^ 63 }
     ensures { LooksUp M.state M.follows (most_reads_of sizes.now.format * sizes.now.slots)
         (λ s. s < first_home (shape_of sizes.now))
-        (λ old new counts. CountsRecords (shape_of sizes.now) head old new counts.items)
+        (λ old new counts. AreTries (shape_of sizes.now) old.content head
+        (min (length counts.items + 1) sizes.now.slots) old.calls new.calls
+        × AreCounts (shape_of sizes.now) old.content head counts.items)
         m.old m.new result }
 {
     let mut waiting = ArrayVec::new();
@@ -33,7 +38,7 @@ pub(crate) fn count_waiting<M: Medium>(
     Ok(waiting)
 }
 
-// Reads how many blocks the record of a stamp has, if it is whole.
+// Reads how many blocks the record of a stamp has, if it is whole, by as many calls as show it.
 fn count_blocks<M: Medium>(
     m: &mut M,
     sizes: &Super,
@@ -41,7 +46,10 @@ fn count_blocks<M: Medium>(
 ) -> Result<Option<u8>, MediumFault>
     requires { sectors_of (shape_of sizes.now) ≤ (M.state m.old).size }
     ensures { LooksUp M.state M.follows (most_reads_of sizes.now.format)
-        (λ s. s < first_home (shape_of sizes.now)) (CountsBlocks (shape_of sizes.now) stamp)
+        (λ s. s < first_home (shape_of sizes.now))
+        (λ old new found. IsTryOf sizes.now.format (shape_of sizes.now) old.content stamp
+        old.calls new.calls × MatchOption found (¬ HasWhole (shape_of sizes.now) old.content stamp)
+        (λ count. HasCount (shape_of sizes.now) old.content stamp count))
         m.old m.new result }
 {
     let mut record = Record::new();

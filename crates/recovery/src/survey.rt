@@ -5,8 +5,9 @@ ghost use Rattle.journal.specs.Places.{sectors_of};
 ghost use Rattle.journal.specs.Values.{shape_of};
 ghost use Rattle.journal.specs.ImageFaults.{HasShape};
 ghost use Rattle.journal.specs.Sectors.{IsSuper, IsHead};
-ghost use Rattle.recovery.specs.Inspected.{Surveys};
-ghost use Rattle.recovery.specs.Inspected.{IsSuperCause, LooksAtFirst};
+ghost use Rattle.medium.specs.Moments.{IsQuiet};
+ghost use Rattle.recovery.specs.Causes.{IsRefusalBy};
+ghost use Rattle.recovery.specs.Inspected.{IsSuperCause, LooksAtFirst, IsSurvey, SurveysAtMost};
 
 use crate::StartFault;
 use crate::found::Found;
@@ -74,7 +75,11 @@ fn has_few_slots(sizes: &Super, least: u64) -> bool
 /// Reads all that recovery has to know before its first write. A log of format 1 with fewer slots
 /// than these is too small.
 pub(crate) fn inspect<M: Medium>(m: &mut M, least: u64) -> Result<Found, StartFault>
-    ensures { Surveys M.state M.follows least m.old m.new result }
+    ensures reads { SurveysAtMost (M.state m.old) (M.state m.new) }
+    ensures ok { IfOk result (IsSurvey least (M.state m.old).size (M.state m.old).content
+        (M.state m.old).calls (M.state m.new).calls) }
+    ensures err { IfErr result (IsRefusalBy least IsQuiet (M.state m.old) (M.state m.new)) }
+    ensures follows { M.follows m.old m.new }
 {
     let (sizes, head) = read_head(m)?;
     if has_few_slots(&sizes, least) {

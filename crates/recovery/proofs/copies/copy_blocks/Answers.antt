@@ -25,11 +25,6 @@ at_block g c =
     (mod_below c.args.stamp sizes.slots sizes.some_slots) (omega (arith, inside, c.requires.blocks.few)) in
     (inside, from, omega (arith, from, low), rw c.deref.ensures.0 at c.home_of.ensures)
 
-pub copy_place-requires-clause-inside : goal.copy_place-requires-clause-inside
-copy_place-requires-clause-inside g c =
-    let inside : c.loop-i.i < length c.args.read.now.numbers.items = omega (arith, c.loop-i-test.true, c.len-i-end.ensures.value) in
-    omega (arith, inside, c.requires.blocks.few)
-
 pub copy_sector-requires-clause-from_inside : goal.copy_sector-requires-clause-from_inside
 copy_sector-requires-clause-from_inside g c =
     let low = (at_block g (goal.at.copy_sector-requires-clause-from_inside g c).After-first).2 in

@@ -1,12 +1,12 @@
-use Rattle.std.proofs.Common.{◌≡◌, ◌+◌, ◌<◌, ℕ, List, [], ◌∷◌, ◌++◌, length, take, get_or, refl, sym, ◌∙◌, arith, rules}
+use Rattle.std.proofs.Common.{◌≡◌, ◌+◌, ◌<◌, ℕ, List, [], ◌∷◌, ◌++◌, length, take, get_or, sym, ◌∙◌, arith, rules}
 use Rattle.std.proofs.lemmas.List.{take_all, take_more}
 use Rattle.journal.specs.declared.log_format.LogFormat.{LogFormat}
 use Rattle.journal.specs.Places.{first_home}
-use Rattle.journal.specs.Record.{Entry, numbers_of, with_records, home_of}
+use Rattle.journal.specs.Record.{Entry, with_records, home_of}
 use Rattle.journal.specs.Values.{shape_of}
 use Rattle.recovery.specs.Calls.{calls_of, copy_calls, IsHomeInRecord, IsHomeInRecords}
-use Rattle.journal.proofs.Overlay.{with_blocks-copied, with_blocks-same, with_records-append}
-use Rattle.recovery.proofs.CopiedRecords.{number_of, long_as, home_in_whole, not_in_log, whole_same}
+use Rattle.journal.proofs.Overlay.{with_blocks-same, with_records-append}
+use Rattle.recovery.proofs.CopiedRecords.{not_in_log, whole_same}
 use Rattle.recovery.proofs.JoinedCalls.{each_once_more, copies_on, none_made}
 use Rattle.recovery.proofs.copies.copy_records.Given as given
 use Rattle.recovery.proofs.copies.copy_records.Goals as goal
@@ -63,15 +63,7 @@ loop-j-preserved g c =
           let before = inv.done records count whole in
           let now = c.in_ok-copy_record.ensures.done es here in
           rw (take_more records j [] short) (record {
-            -- home is as if the blocks of one more record were laid over it
-            home = λ b. with_blocks-copied es (home_of shape mid.content) _ now.home
-                (λ d not. c.copy_record.ensures.copies.elsewhere (first_home shape + d) (λ h.
-                let home = home_in_whole shape mid.content (found.head + j) es (first_home shape + d) here h in
-                let below = home.1 in
-                let is = home.2 in
-                let many = long_as es (numbers_of es) refl in
-                let n = number_of es (numbers_of es) home.0 refl in
-                not home.0 (omega (arith, many, below)) (omega (arith, n, is)))) b
+            home = λ b. now.home b
                 ∙ with_blocks-same es (home_of shape mid.content) (with_records (take j records) (home_of shape old.content)) b
                 (before.home b) ∙ sym (with_records-append (take j records) es (home_of shape old.content) b);
             exact = omega (arith, before.exact, now.exact, copy_calls-append shape.format (take j records) es);

@@ -1,5 +1,5 @@
 use Rattle.std.proofs.Common.{◌≡◌, ◌⊎◌, inl, inr, ◌+◌, ◌-◌, ◌≤◌, ◌∙◌, ℕ, ⊎_elim, rules, arith, replicate}
-use Rattle.std.proofs.lemmas.Result.{err_from_is_err_and, on_ok_weaker}
+use Rattle.std.proofs.lemmas.Result.{on_ok_weaker}
 use Rattle.medium.specs.Medium.{Image, Holds, CutLeaves}
 use Rattle.medium.proofs.Moments.{at_exit}
 use Rattle.journal.specs.Values.{shape_of}
@@ -85,21 +85,17 @@ returns-clause-image g c =
 
 pub returns-in_err-write_through-clause-image : goal.returns-in_err-write_through-clause-image
 returns-in_err-write_through-clause-image g c =
-    let p = err_from_is_err_and c.from_residual.result c.from_residual.ensures.1 in
-    rw (p.1, p.2) (search (rules, first g (goal.at.returns-in_err-write_through-clause-image g c).After-write_through))
+    search (rules, first g (goal.at.returns-in_err-write_through-clause-image g c).After-write_through)
 
 pub returns-in_err-clear-clause-image : goal.returns-in_err-clear-clause-image
 returns-in_err-clear-clause-image g c =
-    let p = err_from_is_err_and c.from_residual-in_err-clear.result c.from_residual-in_err-clear.ensures.1 in
     let at = goal.at.returns-in_err-clear-clause-image g c in
-    rw (p.1, p.2) (made_image (first g at.After-write_through)
-    c.in_ok-write_through.ensures.writes.exact (wider _ _ (λ image is. inl is) (omega arith) (cleared g at.After-clear)) (omega arith)
-    (search rules) tt tt)
+    made_image (first g at.After-write_through) c.in_ok-write_through.ensures.writes.exact
+    (wider _ _ (λ image is. inl is) (omega arith) (cleared g at.After-clear)) (omega arith) (search rules) (search rules) (search rules)
 
 pub returns-in_err-write_through-2-clause-image : goal.returns-in_err-write_through-2-clause-image
 returns-in_err-write_through-2-clause-image g c =
-    let p = err_from_is_err_and c.from_residual-in_err-write_through-2.result c.from_residual-in_err-write_through-2.ensures.1 in
     let at = goal.at.returns-in_err-write_through-2-clause-image g c in
-    rw (p.1, p.2) (made_image (first g at.After-write_through)
-    c.in_ok-write_through.ensures.writes.exact (wider _ _ (λ image is. inl is) (omega arith) (headed g at.After-write_through-2))
-    (omega arith) (search rules) tt tt)
+    made_image (first g at.After-write_through) c.in_ok-write_through.ensures.writes.exact
+    (wider _ _ (λ image is. inl is) (omega arith) (headed g at.After-write_through-2)) (omega arith) (search rules) (search rules)
+    (search rules)

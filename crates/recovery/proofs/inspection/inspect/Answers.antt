@@ -46,10 +46,12 @@ returns-clause-ok g c =
     let waiting = c.in_ok-waiting.waiting in
     counts_stand _ (record { sizes = sizes; head = c.in_ok-sizes.head; waiting = waiting }) c.in_ok-sizes.ensures.ok.0
     c.in_ok-sizes.ensures.ok.1 (quiet_before (λ n i. AreCounts (shape_of sizes) i c.in_ok-sizes.head waiting.items) _ _
-    c.read_head.ensures.quiet c.in_ok-waiting.ensures.finds.are)
+    c.read_head.ensures.quiet c.in_ok-waiting.ensures.finds.1)
 
 pub returns-clause-looks : goal.returns-clause-looks
-returns-clause-looks g c = search (rules, records_read c.in_ok-sizes.sizes c.in_ok-sizes.ensures.ok.0 c.read_head.ensures c.count_waiting.ensures)
+returns-clause-looks g c =
+    search (rules, records_read c.in_ok-sizes.sizes c.in_ok-sizes.ensures.ok.0 c.read_head.ensures c.count_waiting.ensures)
 
 pub returns-in_err-waiting-clause-looks : goal.returns-in_err-waiting-clause-looks
-returns-in_err-waiting-clause-looks g c = search (rules, records_read c.in_ok-sizes.sizes c.in_ok-sizes.ensures.ok.0 c.read_head.ensures c.count_waiting.ensures)
+returns-in_err-waiting-clause-looks g c =
+    search (rules, records_read c.in_ok-sizes.sizes c.in_ok-sizes.ensures.ok.0 c.read_head.ensures c.count_waiting.ensures)

@@ -19,9 +19,9 @@ use Rattle.journal.proofs.SectorNumbers.{IsSuper-one}
 use Rattle.journal.specs.Standing.{IsOurs}
 use Rattle.journal.proofs.StandingLaws.{StandsFor-one, StandsFor-shape}
 use Rattle.recovery.specs.Calls.{Writes, copy_calls, most_start_sends}
-use Rattle.recovery.specs.Causes.{start_fault_of, IsRefusedCall, WritesNothing, IsRefusalBy}
+use Rattle.recovery.specs.Causes.{start_fault_of, IsRefusedCall}
 use Rattle.recovery.specs.Recovered.{IsRecoveredAtLeast, IsFresh, StandsForOneOf, StandsForSome, IsOursForSome, LeavesAtLeast}
-use Rattle.recovery.specs.Recovered.{CanMigrate, IsMadeOf, IsMigratedFrom, StaysFresh, IsOursInEither, MigrationLeaves}
+use Rattle.recovery.specs.Recovered.{CanMigrate, IsMadeOf, IsMigratedFrom, IsMigrationRefusal, StaysFresh, IsOursInEither, MigrationLeaves}
 use Rattle.recovery.specs.Recovered.{most_migration_sends}
 use Rattle.recovery.specs.declared.recovered.Recovered.{Recovered}
 use Rattle.recovery.proofs.WholeRecovery.{served_slots, start_on}
@@ -73,17 +73,14 @@ module _ {old mid : State} {found : Recovered} (start : IsRecoveredAtLeast 5 old
         (fresh : (shape : Shape) (array : Array) (next : ℕ) → IsOurs old.size shape old.content array next
         → EachCut (IsFresh shape array next) mid) where
       -- each image is ours for the contents
-      leaves_ours : (other : Shape) (array : Array) (next : ℕ) → IsOurs old.size other old.content array next
-          → LeavesOnly (IsOursInEither old.size other array next) mid new
-      leaves_ours other array next ours =
-          let same = StandsFor-one old.size old.size other shape old.content array start.from.array next found.next ours.stands
-          start.from.stood in
-          let here = rw (same.0, same.1) at ours in
+      leaves_ours : (array : Array) (next : ℕ) → IsOurs old.size shape old.content array next
+          → LeavesOnly (IsOursInEither old.size shape array next) mid new
+      leaves_ours array next ours =
+          let same = (StandsFor-one _ _ _ _ _ _ _ _ _ ours.stands start.from.stood).1 in
           let fits = start.from.stood.fits in
-          rw (same.0, same.1) (weaker _ _ _ _
-          (λ image either. ⊎_elim (λ was. inl (inr (fresh_ours fits was)))
-          (λ two. inr (can_migrate, fresh_ours fits two))
-          (either array (fresh shape array found.next here mid.content sound_mid.holds_content))) making.moments)
+          let before = fresh shape array found.next (rw same at ours) mid.content sound_mid.holds_content in
+          rw same (weaker _ _ _ _ (λ image either. ⊎_elim (λ was. inl (inr (fresh_ours fits was)))
+          (λ two. inr (can_migrate, fresh_ours fits two)) (either array before)) making.moments)
 
       pub migration_leaves : LeavesAtLeast 5 old mid → MigrationLeaves old new
       migration_leaves before =
@@ -91,8 +88,9 @@ module _ {old mid : State} {found : Recovered} (start : IsRecoveredAtLeast 5 old
           let most = rw one at (before.most shape has) in
           let sends : SendsUpTo (most_migration_sends One found.sizes.slots) old new =
           let most = rw one at (before.sends.most shape has) in omega (arith, most, making.sent, home_is) in
-          start_on {shape = shape} sound_old (search (rules, start.from.stood, start.from.stamp_left, start.room)) (recovery_leaves old mid before)
-          (omega (arith, tried)) leaves_ours (spared_behind (first_home shape) (sectors_of shape) mid new (omega arith) making.spares)
+          start_on {shape = shape} sound_old (search (rules, start.from.stood, start.from.stamp_left, start.room))
+          (recovery_leaves old mid before) (omega (arith, tried)) leaves_ours
+          (spared_behind (first_home shape) (sectors_of shape) mid new (omega arith) making.spares)
           (no_looks _ mid new making.reads.looked_stays) (omega (arith, most, making.calls, home_is, found.sizes.most_slots)) (omega arith)
           (rw one sends) (rw one (omega (arith, found.sizes.most_slots)))
 
@@ -127,10 +125,9 @@ module _ {old mid : State} {found : Recovered} (start : IsRecoveredAtLeast 5 old
           })
 
 -- such a call refuses a start
-call_refuses : (least : ℕ) (Calls : State → State → Type 0) (old new : State) (kind : MediumFault) → IsRefusedCall old new kind
-    → IsRefusalBy least Calls old new (start_fault_of kind)
-call_refuses least Calls old new medium.Read h = h
-call_refuses least Calls old new kind h = h
+call_refuses : (old new : State) (kind : MediumFault) → IsRefusedCall old new kind → IsMigrationRefusal old new (start_fault_of kind)
+call_refuses old new medium.Read h = search rules
+call_refuses old new kind h = search rules
 
 -- format 2 is made, good or refused
 makes : (g : given.Over) (c : After-make_two g) → MigrationLeaves (g.M.Medium.state c.args.m.now) (g.M.Medium.state c.make_two.new.m)
@@ -144,22 +141,15 @@ make_two-requires-clause-can g c = can_migrate c.in_ok-found.ensures.ok (c.migra
 pub returns-in_err-found-clause-err : goal.returns-in_err-found-clause-err
 returns-in_err-found-clause-err g c =
     let p = err_from_is_err_and c.from_residual.result c.from_residual.ensures.1 in
-    let why = c.in_err-found.ensures.err in
-    rw (p.1, p.2) (record {
-      cause = why;
-      served = λ shape array next s left some. served_slots 5 _ _ shape array next s left some c.in_err-found.field-0.0 why;
-    })
+    rw (p.1, p.2) (search (rules, c.in_err-found.ensures.err, served_slots))
 
 pub returns-in_err-make_two-clause-err : goal.returns-in_err-make_two-clause-err
 returns-in_err-make_two-clause-err g c =
     let back = c.from_residual-in_err-make_two in
     let p = err_from_is_err_and back.result back.ensures.1 in
     let kind = c.in_err-make_two.field-0.0 in
-    let before = c.recover_at_least.ensures.leaves.moments in
-    rw (p.1, p.2) (record {
-      cause = call_refuses 5 WritesNothing _ _ kind (search (rules, before.refused_stay kind, c.in_err-make_two.ensures.writes.cause));
-      served = λ shape array next s left some. (kind, refl);
-    })
+    let before = c.recover_at_least.ensures.leaves.moments.refused_stay kind in
+    rw (p.1, p.2) (call_refuses _ _ kind (search (rules, before, c.in_err-make_two.ensures.writes.cause)))
 
 pub returns-in_err-found-clause-leaves : goal.returns-in_err-found-clause-leaves
 returns-in_err-found-clause-leaves g c = recovery_leaves _ _ c.recover_at_least.ensures.leaves
@@ -180,7 +170,8 @@ returns-in_ok-make_two-clause-ok g c =
 
 pub returns-in_ok-make_two-clause-fresh : goal.returns-in_ok-make_two-clause-fresh
 returns-in_ok-make_two-clause-fresh g c =
-    migrated_fresh c.in_ok-found.ensures.ok (c.migrates.ensures.0 c.if-migrates.true) c.make_two.ensures.writes _ c.in_ok-make_two.ensures.ok
+    migrated_fresh c.in_ok-found.ensures.ok (c.migrates.ensures.0 c.if-migrates.true) c.make_two.ensures.writes _
+    c.in_ok-make_two.ensures.ok
 
 pub returns-else-migrates-clause-fresh : goal.returns-else-migrates-clause-fresh
 returns-else-migrates-clause-fresh g c shape array next ours =

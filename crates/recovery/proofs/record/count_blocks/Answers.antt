@@ -117,10 +117,10 @@ returns g c =
     let is = rw (same, count) at asked.is in
     let long = λ (whole : HasWhole shape old.content stamp). long_as whole.0 read.numbers.items (finds.all whole.0 whole.1).numbers_are in
     looks_on g.met.M.Medium.follows_through c.read_record.ensures c.are_stamped.ensures
-    (most_tried c.args.sizes.now.format c.len-count.result (omega (arith, few, count))) tt (record {
-      exact = try_read shape.format shape old.content stamp read finds.exact.0 asked.exact.0 old.calls mid.calls _
-          finds.exact.1 finds.exact.2 (rw (same, count) at asked.exact.1) asked.exact.2;
-      counted = option_weaker c.counted.result
+    (most_tried c.args.sizes.now.format c.len-count.result (omega (arith, few, count))) tt (
+      try_read shape.format shape old.content stamp read finds.exact.0 asked.exact.0 old.calls mid.calls _
+          finds.exact.1 finds.exact.2 (rw (same, count) at asked.exact.1) asked.exact.2,
+      option_weaker c.counted.result
           (λ not whole. untrue (sym not ∙ is.1 (rw (← long whole) at (stamped_whole shape old.content stamp whole.0 whole.1))))
-          (λ blocks yes. let whole = finds.some (is.0 yes.0) in (whole.0, whole.1, yes.1 ∙ count ∙ long whole)) c.counted.ensures;
-    })
+          (λ blocks yes. let whole = finds.some (is.0 yes.0) in (whole.0, whole.1, yes.1 ∙ count ∙ long whole)) c.counted.ensures,
+    )

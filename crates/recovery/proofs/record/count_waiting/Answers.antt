@@ -32,7 +32,8 @@ each_pushed P xs x j long each last k below = elim (cases_lt k j) [
 no_tries : (format : LogFormat) (shape : Shape) (image : Image) (first at : ℕ) → AreTriesOf format shape image first 0 at at
 no_tries One shape image first at = omega arith
 no_tries Two shape image first at =
-    let none : at ≡ at + 0 = omega arith in record { reads = []; many = refl; each = λ j below. absurd (omega (arith, below)); after_is = none }
+    let none : at ≡ at + 0 = omega arith in
+    record { reads = []; many = refl; each = λ j below. absurd (omega (arith, below)); after_is = none }
 
 -- one more
 tries_more : (format : LogFormat) (shape : Shape) (image : Image) (first j old mid new : ℕ)
@@ -55,7 +56,7 @@ one_more g c =
     let inv = c.loop-j.invariant in
     let same : (g.M.Medium.state c.loop-j.m).content ≡ (g.M.Medium.state c.args.m.now).content =
     λ i s. inv.passes.quiet.content_stays s i in
-    tries_more shape.format shape _ c.args.head c.loop-j.j _ _ _ inv.finds.0 (rw same at c.in_ok-count.ensures.finds.exact)
+    tries_more shape.format shape _ c.args.head c.loop-j.j _ _ _ inv.finds.0 (rw same at c.in_ok-count.ensures.finds.0)
 
 -- all that were counted
 counts_made : (shape : Shape) (image : Image) (head j : ℕ) (counts : List ℕ) → length counts ≡ j → j ≤ shape.slots
@@ -79,12 +80,13 @@ loop-j-preserved g c =
     let inv = c.loop-j.invariant in
     let j = c.loop-j.j in
     let n = c.in-Some.count in
-    let counted = rw c.in-Some.is at c.in_ok-count.ensures.finds.counted in
+    let counted = rw c.in-Some.is at c.in_ok-count.ensures.finds.1 in
     let here = quiet_before (λ _ i. HasCount shape i (c.args.head + j) n) old _ inv.passes.quiet counted in
     looks_on g.met.M.Medium.follows_through inv c.count_blocks.ensures (omega arith) tt (
       one_more g (goal.at.loop-j-preserved g c).In_ok-count,
       rw c.push.ensures.items (omega (arith, length-append c.loop-j.waiting.items (n ∷ []), inv.finds.1)),
-      rw c.push.ensures.items (each_pushed (λ k n. HasCount shape old.content (c.args.head + k) n) c.loop-j.waiting.items n j inv.finds.1 inv.finds.2 here),
+      rw c.push.ensures.items
+          (each_pushed (λ k n. HasCount shape old.content (c.args.head + k) n) c.loop-j.waiting.items n j inv.finds.1 inv.finds.2 here),
     )
 
 pub returns-in_err-count : goal.returns-in_err-count
@@ -99,7 +101,7 @@ returns-in-None g c =
     let inv = c.loop-j.invariant in
     let below = c.loop-j-test.true in
     let many : c.loop-j.j + 1 ≡ min (length c.loop-j.waiting.items + 1) c.args.sizes.now.slots = omega (arith, below, inv.finds.1) in
-    let none = rw c.in-None.is at c.in_ok-count.ensures.finds.counted in
+    let none = rw c.in-None.is at c.in_ok-count.ensures.finds.1 in
     let are = counts_made shape old.content c.args.head c.loop-j.j c.loop-j.waiting.items inv.finds.1 (omega (arith, below)) inv.finds.2
     (λ less w. none (quiet_after (λ n i. HasWhole shape i (c.args.head + c.loop-j.j)) old _ inv.passes.quiet w)) in
     looks_on g.met.M.Medium.follows_through inv c.count_blocks.ensures

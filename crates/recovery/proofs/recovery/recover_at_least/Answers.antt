@@ -31,14 +31,7 @@ copy_records-requires-clause-whole g c j below =
 
 pub move_head-requires-clause-inside : goal.move_head-requires-clause-inside
 move_head-requires-clause-inside g c =
-    let sizes = c.in_ok-found.found.sizes in
-    omega (
-      arith,
-      c.in_ok-found.ensures.ok.shape.fits,
-      c.inspect.ensures.reads.quiet.size_stays,
-      c.copy_records.ensures.copies.moments.size_stays,
-      log_ends (shape_of sizes) sizes.home_is,
-    )
+    let sizes = c.in_ok-found.found.sizes in omega (arith, c.in_ok-found.ensures.ok.shape.fits, log_ends (shape_of sizes) sizes.home_is)
 
 -- behind a refused flush there is no survey
 pub returns-in_err-flush-clause-leaves : goal.returns-in_err-flush-clause-leaves
@@ -49,7 +42,8 @@ returns-in_err-flush-clause-leaves g c =
     survey_leaves c.args.least known
 
 pub returns-in_err-found-clause-leaves : goal.returns-in_err-found-clause-leaves
-returns-in_err-found-clause-leaves g c = survey_leaves c.args.least (survey g (goal.at.returns-in_err-found-clause-leaves g c).After-inspect)
+returns-in_err-found-clause-leaves g c =
+    survey_leaves c.args.least (survey g (goal.at.returns-in_err-found-clause-leaves g c).After-inspect)
 
 pub returns-in_err-found-clause-err : goal.returns-in_err-found-clause-err
 returns-in_err-found-clause-err g c =

@@ -10,7 +10,8 @@ use Rattle.recovery.proofs.sectors.clear.Goals as goal
 use Rattle.recovery.proofs.sectors.clear.Goals.{After-write}
 
 -- what is left while one sector more is cleared, and what the others hold
-one_more : (g : given.Over) (c : After-write g) → Stays (g.M.Medium.state c.loop-sector.m).content (g.M.Medium.state c.write.new.self).content
+one_more : (g : given.Over) (c : After-write g)
+    → Stays (g.M.Medium.state c.loop-sector.m).content (g.M.Medium.state c.write.new.self).content
     ⊎ Holds c.loop-sector.sector (replicate 512 0) (g.M.Medium.state c.loop-sector.m).content (g.M.Medium.state c.write.new.self).content
     → StaysWithin (cleared_at (IsBetween c.args.from c.args.end) (g.M.Medium.state c.args.m.now).may_leave)
     (g.M.Medium.state c.args.m.now) (g.M.Medium.state c.write.new.self)
@@ -38,7 +39,8 @@ pub loop-sector-preserved : goal.loop-sector-preserved
 loop-sector-preserved g c =
     let inv = c.loop-sector.invariant in
     let wrote = c.in_ok-write.ensures.ok in
-    let zeros : (x : ℕ) → c.args.from ≤ x → x < c.loop-sector.sector + 1 → (g.M.Medium.state c.write.new.self).content x ≡ replicate 512 0 =
+    let zeros : (x : ℕ) → c.args.from ≤ x → x < c.loop-sector.sector + 1
+    → (g.M.Medium.state c.write.new.self).content x ≡ replicate 512 0 =
     λ x low high. elim (cases_eq x c.loop-sector.sector) [
       | inl is ↦ ap (g.M.Medium.state c.write.new.self).content is ∙ wrote.here
       | inr not ↦ wrote.elsewhere x not ∙ inv.zeros x low (omega (arith, high, not))

@@ -1,4 +1,4 @@
-use Rattle.std.proofs.Common.{◌≡◌, ◌+◌, ◌<◌, rules}
+use Rattle.std.proofs.Common.{◌≡◌, ◌+◌, ◌<◌, arith, rules}
 use Rattle.journal.specs.declared.log_format.LogFormat.TheVariants.{One}
 use Rattle.journal.specs.Values.{shape_of}
 use Rattle.journal.specs.Standing.{IsCount}
@@ -18,7 +18,7 @@ counted g c =
     let old = g.M.Medium.state c.args.m.now in
     let same : (g.M.Medium.state c.read_head.new.m).content ≡ old.content =
     λ i s. c.read_head.ensures.quiet.content_stays s i in (
-      rw (same, ← c.len-count.ensures.value) at c.in_ok-count_waiting.ensures.finds.are.is,
+      rw (same, ← c.len-count.ensures.value) at c.in_ok-count_waiting.ensures.finds.1.is,
       λ few.
           let one = IsSuper-one few.shape (shape_of c.in_ok-sizes.sizes) (old.content 0) few.has.super c.in_ok-sizes.ensures.ok.0.super in
           let both : (few.shape.format ≡ One) × (few.shape.slots < c.args.least) = (few.one, few.few) in
@@ -26,25 +26,32 @@ counted g c =
           absurd (cc is),
     )
 
-pub returns-then-head-count : goal.returns-then-head-count
-returns-then-head-count g c =
-    let at = goal.at.returns-then-head-count g c in
+pub returns-then-head-count-clause-reads : goal.returns-then-head-count-clause-reads
+returns-then-head-count-clause-reads g c =
+    records_read c.in_ok-sizes.sizes c.in_ok-sizes.ensures.ok.0 c.read_head.ensures c.count_waiting.ensures
+
+pub returns-else-head-count-clause-reads : goal.returns-else-head-count-clause-reads
+returns-else-head-count-clause-reads g c =
+    records_read c.in_ok-sizes.sizes c.in_ok-sizes.ensures.ok.0 c.read_head.ensures c.count_waiting.ensures
+
+pub returns-in_err-count_waiting-clause-reads : goal.returns-in_err-count_waiting-clause-reads
+returns-in_err-count_waiting-clause-reads g c =
+    records_read c.in_ok-sizes.sizes c.in_ok-sizes.ensures.ok.0 c.read_head.ensures c.count_waiting.ensures
+
+pub returns-then-head-count-clause-ok : goal.returns-then-head-count-clause-ok
+returns-then-head-count-clause-ok g c =
     let old = g.M.Medium.state c.args.m.now in
     let mid = g.M.Medium.state c.read_head.new.m in
     let same : mid.content ≡ old.content = λ i s. c.read_head.ensures.quiet.content_stays s i in
     let calls : mid.calls ≡ old.calls + 2 = c.in_ok-sizes.ensures.exact in
-    let exact = rw (same, calls, ← c.len-count.ensures.value) at c.in_ok-count_waiting.ensures.finds.exact in
-    search (rules, records_read c.in_ok-sizes.sizes c.in_ok-sizes.ensures.ok.0 c.read_head.ensures c.count_waiting.ensures, counted g at.After-len-count, exact, g.met.M.Medium.follows_through)
+    let exact = rw (same, calls, ← c.len-count.ensures.value) at c.in_ok-count_waiting.ensures.finds.0 in
+    search (rules, counted g (goal.at.returns-then-head-count-clause-ok g c).After-len-count, exact)
 
-pub returns-else-head-count : goal.returns-else-head-count
-returns-else-head-count g c =
-    let at = goal.at.returns-else-head-count g c in
+pub returns-else-head-count-clause-err : goal.returns-else-head-count-clause-err
+returns-else-head-count-clause-err g c =
     let has = c.in_ok-sizes.ensures.ok.0 in
-    let known = counted g at.After-len-count in
+    let known = counted g (goal.at.returns-else-head-count-clause-err g c).After-len-count in
     let s = count_stands _ (shape_of c.in_ok-sizes.sizes) _ c.in_ok-sizes.head c.len-count.result has.fits has.super
     c.in_ok-sizes.ensures.ok.1 known.0 in
-    search (rules, records_read c.in_ok-sizes.sizes c.in_ok-sizes.ensures.ok.0 c.read_head.ensures c.count_waiting.ensures, known, s, g.met.M.Medium.follows_through)
-
-pub returns-in_err-count_waiting : goal.returns-in_err-count_waiting
-returns-in_err-count_waiting g c =
-    search (rules, records_read c.in_ok-sizes.sizes c.in_ok-sizes.ensures.ok.0 c.read_head.ensures c.count_waiting.ensures, g.met.M.Medium.follows_through)
+    let all = records_read c.in_ok-sizes.sizes has c.read_head.ensures c.count_waiting.ensures in
+    (known.1, (_, s.array, _, s.stands, omega arith), all.quiet)
