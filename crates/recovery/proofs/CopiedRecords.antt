@@ -53,8 +53,7 @@ spared_by first old new sound content moments = record {
 pub number_of : (entries : List Entry) (numbers : List ℕ) (i : ℕ) → numbers ≡ numbers_of entries
     → get_or numbers i 0 ≡ (get_or entries i (0, [])).0
 number_of entries numbers i names =
-    let f : Entry → ℕ = λ e. e.0 in
-    ap (λ (l : List ℕ). get_or l i 0) names ∙ get_or-map f entries i (0, [])
+    let f : Entry → ℕ = λ e. e.0 in rw names (get_or-map f entries i (0, []))
 
 pub long_as : (entries : List Entry) (numbers : List ℕ) → numbers ≡ numbers_of entries → length numbers ≡ length entries
 long_as entries numbers names = let f : Entry → ℕ = λ e. e.0 in ap (λ (l : List ℕ). length l) names ∙ length-map entries f
@@ -132,8 +131,11 @@ copies_ours {shape = shape} {start = start} {next = next} ours head count head_i
           blocks = λ b below. home b ∙ ours.stands.keeps.blocks b below;
         };
         few = ours.stands.few;
-        ends = λ less w. ours.stands.ends less (w.0, whole_same shape image start _ w.0 super.some_slots super.home_is
-            (λ x below. sym (log x below)) w.1);
+        ends = λ less w. ours.stands.ends less (
+          w.0,
+          whole_same shape image start _ w.0 super.some_slots super.home_is
+              (λ x below. sym (log x below)) w.1,
+        );
         next_is = ours.stands.next_is;
       };
       carries = CarriesBelow-agree (layout_of shape.format) (laws_of shape.format) shape start image next

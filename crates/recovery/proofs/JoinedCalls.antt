@@ -1,5 +1,5 @@
 -- Calls, and then others: what they are together, and what is left at each moment of them.
-use Rattle.std.proofs.Common.{◌≡◌, inl, inr, ⊎_elim, ℕ, ◌+◌, ◌*◌, ◌<◌, ◌≤◌, ◌∙◌, Result, Ok, subst, arith, rules, mul-le-mul_left, ◌≢◌}
+use Rattle.std.proofs.Common.{◌≡◌, inl, inr, ⊎_elim, ℕ, ◌+◌, ◌*◌, ◌<◌, ◌≤◌, ◌∙◌, Result, Ok, arith, rules, mul-le-mul_left, ◌≢◌}
 use Rattle.std.proofs.Common.{◌⊎◌, ◌-◌, List}
 use Rattle.std.specs.Prelude.{IfOk, IfErr, replicate, OnOk}
 use Rattle.medium.specs.Medium.{State, Image, CutLeaves, LooksOnly, IsSound, Holds, Stays, Within, Passes}
@@ -31,7 +31,7 @@ use Rattle.recovery.specs.Formatted.{IsNoneOrNew, IsMidway, ImageLeaves, IsMade,
 pub quiet_before : (P : ℕ → Image → Type 0) (old mid : State) → IsQuiet old mid → P mid.size mid.content → P old.size old.content
 quiet_before P old mid quiet h =
     let same : mid.content ≡ old.content = λ i s. quiet.content_stays s i in
-    subst (λ (n : ℕ). P n old.content) quiet.size_stays (subst (P mid.size) same h)
+    rw (same, quiet.size_stays) at h
 
 -- and what held before them holds after them
 pub quiet_after : (P : ℕ → Image → Type 0) (old mid : State) → IsQuiet old mid → P old.size old.content → P mid.size mid.content

@@ -29,7 +29,7 @@ use Rattle.recovery.specs.Calls.{copy_calls, most_calls_of, most_reads_of, most_
 use Rattle.recovery.specs.Calls.{HasNewHead, Copies, Writes, HoldsLog}
 use Rattle.recovery.specs.Causes.{WritesNothing, HasFewSlots, IsRefusalBy, IsDeviceFault}
 use Rattle.recovery.specs.Inspected.{AreTriesOf, IsSurvey, SurveysAtMost, IsLookCause}
-use Rattle.recovery.specs.Recovered.{IsRecoveredAtLeast, IsRecoveredFrom, IsFresh, IsOursForSome, IsOursWithNext, StandsForOneOf}
+use Rattle.recovery.specs.Recovered.{IsRecoveryRefusal, IsRecoveredAtLeast, IsRecoveredFrom, IsFresh, IsOursForSome, IsOursWithNext, StandsForOneOf}
 use Rattle.recovery.specs.Recovered.{StandsForSome, LeavesAtLeast, StartLeaves}
 use Rattle.recovery.specs.declared.found.Found.{Found}
 use Rattle.recovery.specs.declared.start_fault.StartFault.{StartFault}
@@ -61,6 +61,13 @@ module _ (least : ℕ) (old new : State) (shape : Shape) (array : Array) (next :
       absurd (omega (arith, same, past, left))
   served_slots LogTooSmall h = absurd (some h.0)
   served_slots fault h = served_look old new fault (search rules) (shape, array, next, s)
+
+-- a start that asks for no slots is refused as a recovery is
+pub recovery_refused : (old new : State) (fault : StartFault) → IsRefusalBy 0 WritesNothing old new fault → IsRecoveryRefusal old new fault
+recovery_refused old new LogTooSmall h = let few = h.0.few in absurd (omega (arith, few))
+recovery_refused old new fault h =
+    let none : ¬ HasFewSlots 0 old.size old.content = λ few. let below = few.few in absurd (omega (arith, below)) in
+    record { cause = search rules; served = λ shape array next s left. served_slots 0 old new shape array next s left none fault h }
 
 -- tries, with other calls before and behind them
 tries_moved : (format : LogFormat) (shape : Shape) (image : Image) (first tries old new before after more : ℕ) → before ≡ old + more

@@ -153,12 +153,6 @@ pub record IsMadeTwo (shape : Shape) (next : ℕ) (m : State) : Type 0 where
   pub head : IsHead next (m.content 1)
   pub zeros : (x : ℕ) → 2 ≤ x → x < first_home shape → m.content x ≡ replicate 512 0
 
--- The answer tells what was made of an image of format 1 with these sizes and this next stamp.
-pub record IsMadeOf (found : Recovered) (new : State) (answer : Recovered) : Type 0 where
-  pub sizes_are : shape_of answer.sizes ≡ migrated (shape_of found.sizes)
-  pub next_is : answer.next ≡ found.next
-  pub made : IsMadeTwo (shape_of found.sizes) found.next new
-
 -- where no record waited for an array, none waits in the image, which is of the format that it had
 -- or of format 2
 abbrev pub StaysFresh : Shape → ℕ → Image → Image → Type 0

@@ -1,13 +1,13 @@
 //! The migration of an image of format 1 to format 2.
-ghost use Rattle.std.specs.Prelude.{◌<◌, ◌≤◌, ◌+◌, ◌*◌, ◌^◌, ℕ, IfOk, IfErr};
+ghost use Rattle.std.specs.Prelude.{◌≡◌, ◌<◌, ◌≤◌, ◌+◌, ◌*◌, ◌^◌, ℕ, IfOk, IfErr};
 ghost use Rattle.medium.specs.Moments.{EachCut, IsFlushed};
 ghost use Rattle.spec.specs.Blocks.{Array};
-ghost use Rattle.journal.specs.Places.{Shape, sectors_of};
+ghost use Rattle.journal.specs.Places.{Shape, sectors_of, migrated};
 ghost use Rattle.journal.specs.Values.{shape_of};
 ghost use Rattle.journal.specs.Standing.{IsOurs};
 ghost use Rattle.recovery.specs.Recovered.{IsFresh};
 ghost use Rattle.recovery.specs.Recovered.{CanMigrate, IsMigrationBy, IsMigrationRefusal};
-ghost use Rattle.recovery.specs.Recovered.{MigrationLeaves, IsMadeOf, StaysFresh};
+ghost use Rattle.recovery.specs.Recovered.{MigrationLeaves, IsMadeTwo, StaysFresh};
 ghost use Rattle.recovery.specs.Calls.{Writes};
 
 use crate::new_head::move_head;
@@ -56,7 +56,10 @@ fn make_two<M: Medium>(m: &mut M, found: &Recovered) -> Result<Recovered, Medium
     requires flushed { IsFlushed (M.state m.old) }
     requires least { 1 ≤ found.now.next }
     requires most { found.now.next < 2 ^ 63 }
-    ensures ok { IfOk result (IsMadeOf found.now (M.state m.new)) }
+    // The answer tells what was made.
+    ensures ok { IfOk result (λ answer. (shape_of answer.sizes ≡ migrated (shape_of found.now.sizes))
+        × (answer.next ≡ found.now.next)
+        × IsMadeTwo (shape_of found.now.sizes) found.now.next (M.state m.new)) }
     // A write for each sector of the log, a flush, the head, a flush, the super and a flush.
     ensures writes { Writes
         (StaysFresh (shape_of found.now.sizes) found.now.next (M.state m.old).content)

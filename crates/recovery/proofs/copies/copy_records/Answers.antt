@@ -38,9 +38,11 @@ in_records g c x h =
 pub copy_record-requires-clause-whole : goal.copy_record-requires-clause-whole
 copy_record-requires-clause-whole g c =
     let sizes = c.args.found.now.sizes in
-    let w = c.requires.whole c.loop-j.j c.loop-j-test.true in
-    (w.0, whole_same (shape_of sizes) _ _ _ w.0 sizes.some_slots sizes.home_is
-    (same_log g (goal.at.copy_record-requires-clause-whole g c).In-loop-j) w.1)
+    let w = c.requires.whole c.loop-j.j c.loop-j-test.true in (
+      w.0,
+      whole_same (shape_of sizes) _ _ _ w.0 sizes.some_slots sizes.home_is
+          (same_log g (goal.at.copy_record-requires-clause-whole g c).In-loop-j) w.1,
+    )
 
 pub loop-j-init : goal.loop-j-init
 loop-j-init g c = search (rules, none_made, g.met.M.Medium.sound, g.met.M.Medium.follows_itself)

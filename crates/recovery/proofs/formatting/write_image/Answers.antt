@@ -11,10 +11,6 @@ use Rattle.recovery.proofs.formatting.write_image.Goals as goal
 use Rattle.recovery.proofs.formatting.write_image.Goals.{After-write_through, After-clear, After-write_through-2}
 use Rattle.recovery.proofs.formatting.write_image.Goals.{After-write_through-3}
 
--- sector 0 has zeros
-abbrev HasNone : Image → Type 0
-HasNone image = image 0 ≡ replicate 512 0
-
 -- the super is cleared
 first : (g : given.Over) (c : After-write_through g) → Writes (λ image. CutLeaves (g.M.Medium.state c.args.m.now).may_leave image
     ⊎ IsNoneOrWritten (shape_of c.args.sizes.now) c.args.end (g.M.Medium.state c.args.m.now).content image) c.args.end 2
@@ -25,8 +21,8 @@ first g c =
     through_writes (g.met.M.Medium.sound c.write_through.new.m) (omega (arith, home, c.requires.log)) wrote.writes wrote.follows
     (λ image cut. inl cut) (λ was image cut holds. inr (inl holds.here))
 
--- while the log is cleared there is none
-cleared : (g : given.Over) (c : After-clear g) → Writes HasNone c.args.end (c.args.end - 1)
+-- while the log is cleared there is none: sector 0 has zeros
+cleared : (g : given.Over) (c : After-clear g) → Writes (λ image. image 0 ≡ replicate 512 0) c.args.end (c.args.end - 1)
     (g.M.Medium.state c.write_through.new.m) (g.M.Medium.state c.clear.new.m) c.clear.result
 cleared g c =
     let done = c.in_ok-write_through.ensures.done in
@@ -34,7 +30,7 @@ cleared g c =
     (λ image cut. ⊎_elim (λ was. done.1 0 (image 0) was ∙ done.0.here) (λ zeros. absurd (omega (arith, zeros.0.0))) (cut 0))
 
 -- nor while the head is written
-headed : (g : given.Over) (c : After-write_through-2 g) → Writes HasNone c.args.end (c.args.end + 1)
+headed : (g : given.Over) (c : After-write_through-2 g) → Writes (λ image. image 0 ≡ replicate 512 0) c.args.end (c.args.end + 1)
     (g.M.Medium.state c.write_through.new.m) (g.M.Medium.state c.write_through-2.new.m) c.write_through-2.result
 headed g c =
     let home = c.args.sizes.now.home_is.0 in

@@ -101,13 +101,19 @@ made g c =
 
 pub returns-in_err-clear-clause-writes : goal.returns-in_err-clear-clause-writes
 returns-in_err-clear-clause-writes g c =
-    search (rules, still (shape_of c.args.found.now.sizes) c.requires.least
-    (wiped g (goal.at.returns-in_err-clear-clause-writes g c).After-clear))
+    search (
+      rules,
+      still (shape_of c.args.found.now.sizes) c.requires.least
+          (wiped g (goal.at.returns-in_err-clear-clause-writes g c).After-clear),
+    )
 
 pub returns-in_err-move_head-clause-writes : goal.returns-in_err-move_head-clause-writes
 returns-in_err-move_head-clause-writes g c =
-    search (rules, still (shape_of c.args.found.now.sizes) c.requires.least
-    (headed g (goal.at.returns-in_err-move_head-clause-writes g c).After-move_head))
+    search (
+      rules,
+      still (shape_of c.args.found.now.sizes) c.requires.least
+          (headed g (goal.at.returns-in_err-move_head-clause-writes g c).After-move_head),
+    )
 
 pub returns-in_err-write_through-clause-writes : goal.returns-in_err-write_through-clause-writes
 returns-in_err-write_through-clause-writes g c =

@@ -21,7 +21,7 @@ use Rattle.journal.proofs.StandingLaws.{StandsFor-one, StandsFor-shape}
 use Rattle.recovery.specs.Calls.{Writes, copy_calls, most_start_sends}
 use Rattle.recovery.specs.Causes.{start_fault_of, IsRefusedCall}
 use Rattle.recovery.specs.Recovered.{IsRecoveredAtLeast, IsFresh, StandsForOneOf, StandsForSome, IsOursForSome, LeavesAtLeast}
-use Rattle.recovery.specs.Recovered.{CanMigrate, IsMadeOf, IsMigratedFrom, IsMigrationRefusal, StaysFresh, IsOursInEither, MigrationLeaves}
+use Rattle.recovery.specs.Recovered.{CanMigrate, IsMadeTwo, IsMigratedFrom, IsMigrationRefusal, StaysFresh, IsOursInEither, MigrationLeaves}
 use Rattle.recovery.specs.Recovered.{most_migration_sends}
 use Rattle.recovery.specs.declared.recovered.Recovered.{Recovered}
 use Rattle.recovery.proofs.WholeRecovery.{served_slots, start_on}
@@ -64,65 +64,66 @@ module _ {old mid : State} {found : Recovered} (start : IsRecoveredAtLeast 5 old
 
   module _ {new : State} {made : Result Recovered MediumFault}
       (making : Writes (StaysFresh (shape_of found.sizes) found.next mid.content) found.sizes.home (found.sizes.home + 3) mid new made)
-      where
-    -- the home sectors hold what recovery left there
-    kept_home : AreSame (shape_of found.sizes) (home_of shape new.content) start.from.array
-    kept_home b below = making.spares.content (first_home shape + b) (omega arith) ∙ start.from.home b below
+    where
+      -- the home sectors hold what recovery left there
+      kept_home : AreSame (shape_of found.sizes) (home_of shape new.content) start.from.array
+      kept_home b below = making.spares.content (first_home shape + b) (omega arith) ∙ start.from.home b below
 
-    module _ (sound_old : IsSound old) (sound_mid : IsSound mid)
-        (fresh : (shape : Shape) (array : Array) (next : ℕ) → IsOurs old.size shape old.content array next
-        → EachCut (IsFresh shape array next) mid) where
-      -- each image is ours for the contents
-      leaves_ours : (array : Array) (next : ℕ) → IsOurs old.size shape old.content array next
-          → LeavesOnly (IsOursInEither old.size shape array next) mid new
-      leaves_ours array next ours =
-          let same = (StandsFor-one _ _ _ _ _ _ _ _ _ ours.stands start.from.stood).1 in
-          let fits = start.from.stood.fits in
-          let before = fresh shape array found.next (rw same at ours) mid.content sound_mid.holds_content in
-          rw same (weaker _ _ _ _ (λ image either. ⊎_elim (λ was. inl (inr (fresh_ours fits was)))
-          (λ two. inr (can_migrate, fresh_ours fits two)) (either array before)) making.moments)
+      module _ (sound_old : IsSound old) (sound_mid : IsSound mid)
+          (fresh : (shape : Shape) (array : Array) (next : ℕ) → IsOurs old.size shape old.content array next
+          → EachCut (IsFresh shape array next) mid) where
+        -- each image is ours for the contents
+        leaves_ours : (array : Array) (next : ℕ) → IsOurs old.size shape old.content array next
+            → LeavesOnly (IsOursInEither old.size shape array next) mid new
+        leaves_ours array next ours =
+            let same = (StandsFor-one _ _ _ _ _ _ _ _ _ ours.stands start.from.stood).1 in
+            let fits = start.from.stood.fits in
+            let before = fresh shape array found.next (rw same at ours) mid.content sound_mid.holds_content in
+            rw same (weaker _ _ _ _ (λ image either. ⊎_elim (λ was. inl (inr (fresh_ours fits was)))
+            (λ two. inr (can_migrate, fresh_ours fits two)) (either array before)) making.moments)
 
-      pub migration_leaves : LeavesAtLeast 5 old mid → MigrationLeaves old new
-      migration_leaves before =
-          let has = StandsFor-shape old.size shape old.content start.from.array found.next start.from.stood in
-          let most = rw one at (before.most shape has) in
-          let sends : SendsUpTo (most_migration_sends One found.sizes.slots) old new =
-          let most = rw one at (before.sends.most shape has) in omega (arith, most, making.sent, home_is) in
-          start_on {shape = shape} sound_old (search (rules, start.from.stood, start.from.stamp_left, start.room))
-          (recovery_leaves old mid before) (omega (arith, tried)) leaves_ours
-          (spared_behind (first_home shape) (sectors_of shape) mid new (omega arith) making.spares)
-          (no_looks _ mid new making.reads.looked_stays) (omega (arith, most, making.calls, home_is, found.sizes.most_slots)) (omega arith)
-          (rw one sends) (rw one (omega (arith, found.sizes.most_slots)))
+        pub migration_leaves : LeavesAtLeast 5 old mid → MigrationLeaves old new
+        migration_leaves before =
+            let has = StandsFor-shape old.size shape old.content start.from.array found.next start.from.stood in
+            let most = rw one at (before.most shape has) in
+            let sends : SendsUpTo (most_migration_sends One found.sizes.slots) old new =
+            let most = rw one at (before.sends.most shape has) in omega (arith, most, making.sent, home_is) in
+            start_on {shape = shape} sound_old (search (rules, start.from.stood, start.from.stamp_left, start.room))
+            (recovery_leaves old mid before) (omega (arith, tried)) leaves_ours
+            (spared_behind (first_home shape) (sectors_of shape) mid new (omega arith) making.spares)
+            (no_looks _ mid new making.reads.looked_stays) (omega (arith, most, making.calls, home_is, found.sizes.most_slots)) (omega arith)
+            (rw one sends) (rw one (omega (arith, found.sizes.most_slots)))
 
-    module _ (answer : Recovered) (is : IsMadeOf found new answer) where
-      here_fresh : (array : Array) → AreSame shape start.from.array array → IsFresh (migrated shape) array found.next new.content
-      here_fresh array same = zeros_fresh (migrated shape) array found.next new.content is.made.super is.made.head is.made.zeros
-          (λ b below. kept_home b below ∙ same b below)
+      module _ (answer : Recovered) (is : (shape_of answer.sizes ≡ migrated shape) × (answer.next ≡ found.next)
+          × IsMadeTwo shape found.next new) where
+        here_fresh : (array : Array) → AreSame shape start.from.array array → IsFresh (migrated shape) array found.next new.content
+        here_fresh array same = zeros_fresh (migrated shape) array found.next new.content is.2.super is.2.head is.2.zeros
+            (λ b below. kept_home b below ∙ same b below)
 
-      pub migrated_fresh : (other : Shape) (array : Array) (next : ℕ) → IsOurs old.size other old.content array next
-          → EachCut (IsFresh (shape_of answer.sizes) array next) new
-      migrated_fresh other array next ours image cut =
-          let same = StandsFor-one old.size old.size shape other old.content start.from.array array found.next next
-          start.from.stood ours.stands in
-          rw (only_image new.content new.may_leave is.made.flushed image cut, is.sizes_are, ← same.1) (here_fresh array same.2)
+        pub migrated_fresh : (other : Shape) (array : Array) (next : ℕ) → IsOurs old.size other old.content array next
+            → EachCut (IsFresh (shape_of answer.sizes) array next) new
+        migrated_fresh other array next ours image cut =
+            let same = StandsFor-one old.size old.size shape other old.content start.from.array array found.next next
+            start.from.stood ours.stands in
+            rw (only_image new.content new.may_leave is.2.flushed image cut, is.0, ← same.1) (here_fresh array same.2)
 
-      pub migrated_from : new.calls ≡ mid.calls + (found.sizes.home + 3) → IsMigratedFrom old new answer
-      migrated_from counted =
-          let stood = start.from.stood in
-          rw is.next_is (record {
-            shape = shape;
-            could = can_migrate;
-            sizes_are = is.sizes_are;
-            array = start.from.array;
-            stood = stood;
-            stamp_left = start.from.stamp_left;
-            made = is.made;
-            home = kept_home;
-            behind = λ x past. making.spares.content x (omega (arith, past))
-                ∙ start.from.elsewhere x (λ e. omega (arith, e, past, log_ends shape stood.keeps.super.home_is)) (inr past);
-            ours = fresh_ours stood.fits (here_fresh start.from.array (λ b below. refl));
-            calls = omega (arith, tried, counted, home_is);
-          })
+        pub migrated_from : new.calls ≡ mid.calls + (found.sizes.home + 3) → IsMigratedFrom old new answer
+        migrated_from counted =
+            let stood = start.from.stood in
+            rw is.1 (record {
+              shape = shape;
+              could = can_migrate;
+              sizes_are = is.0;
+              array = start.from.array;
+              stood = stood;
+              stamp_left = start.from.stamp_left;
+              made = is.2;
+              home = kept_home;
+              behind = λ x past. making.spares.content x (omega (arith, past))
+                  ∙ start.from.elsewhere x (λ e. omega (arith, e, past, log_ends shape stood.keeps.super.home_is)) (inr past);
+              ours = fresh_ours stood.fits (here_fresh start.from.array (λ b below. refl));
+              calls = omega (arith, tried, counted, home_is);
+            })
 
 -- such a call refuses a start
 call_refuses : (old new : State) (kind : MediumFault) → IsRefusedCall old new kind → IsMigrationRefusal old new (start_fault_of kind)
@@ -170,7 +171,7 @@ returns-in_ok-make_two-clause-ok g c =
 
 pub returns-in_ok-make_two-clause-fresh : goal.returns-in_ok-make_two-clause-fresh
 returns-in_ok-make_two-clause-fresh g c =
-    migrated_fresh c.in_ok-found.ensures.ok (c.migrates.ensures.0 c.if-migrates.true) c.make_two.ensures.writes _
+    migrated_fresh c.in_ok-found.ensures.ok (c.migrates.ensures.0 c.if-migrates.true) c.make_two.ensures.writes c.in_ok-make_two.field-0
     c.in_ok-make_two.ensures.ok
 
 pub returns-else-migrates-clause-fresh : goal.returns-else-migrates-clause-fresh
