@@ -6,10 +6,10 @@ use Rattle.std.specs.Prelude.{Bool}
 use Rattle.window.specs.Window.{Window, state_of, kept_out, ComesAfter, CoversDevice}
 use Rattle.window.specs.Looks.{near_in_sight, none_missed}
 use Rattle.journal.specs.Places.{Shape, first_home, slot_sectors_of}
-use Rattle.recovery.specs.Unread.{MakesNoRead}
+use Rattle.recovery.specs.Calls.{MakesNoRead}
 use Rattle.recovery.specs.Formatted.{IsLaid, LayingLeaves}
 use Rattle.recovery.specs.Causes.{start_fault_of}
-use Rattle.recovery.specs.Migrated.{IsMigrationBy, IsMigrationRefusal, IsMigrationCause, MigrationLeaves}
+use Rattle.recovery.specs.Recovered.{IsMigrationBy, IsMigrationRefusal, IsMigrationCause, MigrationLeaves}
 use Rattle.recovery.specs.declared.start_fault.StartFault.TheVariants as start
 use Rattle.medium.specs.declared.fault.MediumFault.{MediumFault}
 use Rattle.medium.specs.declared.fault.MediumFault.TheVariants as kind
@@ -100,7 +100,7 @@ migrated_not first m after why on empty refusal leaves follows =
       follows = follows;
       leaves = leaves;
       full = full m after why empty refusal leaves follows;
-      kept = λ shape has room. let most = leaves.sends shape has in kept_same m after follows (omega (arith, empty, room, most));
+      kept = λ shape has room. let most = leaves.sends.most shape has in kept_same m after follows (omega (arith, empty, room, most));
       seen = misses_none m after follows leaves;
     })
 

@@ -10,10 +10,10 @@ use Rattle.medium.proofs.SparedSectors.{HasSpared, spared_joined}
 use Rattle.journal.specs.Places.{Shape, first_home, sectors_of, new_shape}
 use Rattle.journal.specs.Record.{home_of}
 use Rattle.journal.specs.Standing.{IsOurs}
-use Rattle.recovery.specs.Copies.{cleared_at, WithOrWithout, IsBetween}
+use Rattle.recovery.specs.Calls.{cleared_at, WithOrWithout, IsBetween}
 use Rattle.recovery.specs.Formatted.{FormatLeaves, AreSizes, IsNoneOrNew, IsMidway, IsLaid, LayingLeaves}
 use Rattle.recovery.proofs.CopiedRecords.{sets_within}
-use Rattle.recovery.proofs.MadeImage.{first_leaves, clear_spares}
+use Rattle.recovery.proofs.JoinedCalls.{first_leaves, clear_spares}
 use Rattle.image_calls.specs.Parts.{IsUnderWay, IsMadeAnew}
 
 abbrev ZEROS : List ℕ

@@ -5,11 +5,11 @@ use Rattle.mirror.specs.declared.call.DeviceCall.{DeviceCall}
 use Rattle.mirror.specs.declared.call.DeviceCall.TheVariants.{Write, Flush}
 use Rattle.window.specs.Window.{Window, state_of, kept_out, ComesAfter, CoversDevice}
 use Rattle.journal.specs.Places.{Shape, first_home}
-use Rattle.recovery.specs.Looks.{HoldsLog}
+use Rattle.recovery.specs.Calls.{HoldsLog}
 use Rattle.recovery.specs.Formatted.{IsLaid, LayingLeaves, AreSizes}
 use Rattle.journal.specs.ImageFaults.{HasShape}
-use Rattle.recovery.specs.Migrated.{IsMigrationBy, IsMigrationRefusal, MigrationLeaves}
-use Rattle.recovery.specs.Migrated.{most_migration_sends}
+use Rattle.recovery.specs.Recovered.{IsMigrationBy, IsMigrationRefusal, MigrationLeaves}
+use Rattle.recovery.specs.Recovered.{most_migration_sends}
 use Rattle.recovery.specs.declared.recovered.Recovered.{Recovered}
 use Rattle.recovery.specs.declared.start_fault.StartFault.{StartFault}
 use Rattle.recovery.specs.declared.start_fault.StartFault.TheVariants.{NoMemory}

@@ -5,7 +5,7 @@ use Rattle.medium.specs.Sent.{SendsUpTo}
 use Rattle.journal.specs.Places.{Shape, first_home, sectors_of, new_shape}
 use Rattle.journal.specs.Values.{shape_of}
 use Rattle.recovery.specs.Formatted.{IsFormatted, FormatLeaves, AreSizes}
-use Rattle.recovery.specs.Unread.{MakesNoRead}
+use Rattle.recovery.specs.Calls.{MakesNoRead}
 use Rattle.image_calls.specs.declared.plan.Plan.{Plan}
 
 -- Between two parts: home is cleared up to this sector, and there is no super. Since it was taken

@@ -14,7 +14,7 @@ use Rattle.journal.specs.declared.super_sector.Super.{Super}
 use Rattle.journal.proofs.SectorNumbers.{IsSuper-one}
 use Rattle.recovery.specs.Causes.{IsDeviceFault, IsCause, IsRefusalBy, MakesReadsAlone, WritesNothing, start_fault_of}
 use Rattle.recovery.specs.Inspected.{IsLookCause}
-use Rattle.recovery.specs.Looks.{HoldsLog, LooksAtLog}
+use Rattle.recovery.specs.Calls.{HoldsLog, LooksAtLog}
 use Rattle.recovery.specs.declared.start_fault.StartFault.{StartFault}
 use Rattle.window.specs.Window.{Window, state_of, fresh, IsServed}
 use Rattle.window.specs.Looks.{near_in_sight, none_refused}

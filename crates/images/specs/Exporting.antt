@@ -6,7 +6,7 @@ use Rattle.mirror.specs.declared.call.DeviceCall.TheVariants.{Flush}
 use Rattle.journal.specs.declared.super_sector.Super.{Super}
 use Rattle.window.specs.Window.{Window, state_of, ComesAfter}
 use Rattle.recovery.specs.Causes.{IsDeviceFault}
-use Rattle.recovery.specs.Copies.{most_start_sends}
+use Rattle.recovery.specs.Calls.{most_start_sends}
 use Rattle.recovery.specs.Recovered.{IsRecoveredFrom, IsRecoveryRefusal}
 use Rattle.recovery.specs.declared.recovered.Recovered.{Recovered}
 use Rattle.recovery.specs.declared.start_fault.StartFault.{StartFault}

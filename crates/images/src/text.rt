@@ -33,13 +33,13 @@ fn sizes_lines(alloc: Global, found: &Inspection) -> Result<Vec<u8>, AllocError>
 }
 
 // A line for each record, from this stamp on.
-fn put_records(text: &mut Vec<u8>, stamp: u64, counts: &[u64]) -> Result<(), AllocError>
+fn put_records(text: &mut Vec<u8>, stamp: u64, counts: &[u8]) -> Result<(), AllocError>
     requires { stamp + length counts.now < 2 ^ 64 }
     ensures { OnOk result (text.new.items ≡ text.old.items ++ record_lines stamp counts.now) }
 {
     let mut next = stamp;
     for count in counts {
-        put_record(text, next, *count)?;
+        put_record(text, next, *count as u64)?;
         next += 1;
     }
     Ok(())

@@ -9,8 +9,8 @@ use Rattle.medium.specs.declared.fault.MediumFault.TheVariants as kind
 use Rattle.journal.specs.declared.log_format.LogFormat.{LogFormat}
 use Rattle.journal.specs.declared.log_format.LogFormat.TheVariants.{One, Two}
 use Rattle.recovery.specs.Causes.{IsDeviceFault, start_fault_of}
-use Rattle.recovery.specs.Copies.{most_start_sends}
-use Rattle.recovery.specs.Looks.{LooksAtLog}
+use Rattle.recovery.specs.Calls.{most_start_sends}
+use Rattle.recovery.specs.Calls.{LooksAtLog}
 use Rattle.window.specs.Window.{Window, state_of, ComesAfter, IsServed}
 use Rattle.window.specs.Looks.{near_in_sight, none_refused}
 use Rattle.scsi_unit.specs.Calls.{most_sends_of}

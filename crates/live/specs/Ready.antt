@@ -5,8 +5,8 @@ use Rattle.journal.specs.ImageFaults.{HasShape}
 use Rattle.journal.specs.Places.{Shape, first_home}
 use Rattle.journal.specs.declared.log_format.LogFormat.{LogFormat}
 use Rattle.medium.specs.Medium.{Image}
-use Rattle.recovery.specs.Copies.{most_start_sends}
-use Rattle.recovery.specs.Looks.{HoldsLog}
+use Rattle.recovery.specs.Calls.{most_start_sends}
+use Rattle.recovery.specs.Calls.{HoldsLog}
 use Rattle.scsi_unit.specs.Calls.{most_sends_of}
 use Rattle.scsi_unit.specs.Starting.{layout_of}
 use Rattle.window.specs.Window.{Window, state_of, kept_out}

@@ -1,10 +1,9 @@
 -- Records are copied home: where their blocks are, what a cut leaves of the sectors, and what images stand for meanwhile.
-use Rattle.std.proofs.Common.{◌≡◌, inl, inr, ℕ, ◌+◌, ◌*◌, ◌<◌, ◌≤◌, List, [], length, get_or, refl, ◌∙◌, ap, subst}
-use Rattle.std.proofs.Common.{◌⊎◌, ⊎_elim, ◌-◌, ◌%◌, replicate, sym, arith, rules}
+use Rattle.std.proofs.Common.{◌≡◌, inl, inr, ℕ, ◌+◌, ◌*◌, ◌<◌, ◌≤◌, List, [], length, get_or, refl, ◌∙◌, ap, subst, ◌⊎◌, ⊎_elim}
+use Rattle.std.proofs.Common.{replicate, sym, arith, rules}
 use Rattle.std.proofs.Math.ListN.{get_or-map}
 use Rattle.std.proofs.lemmas.Bool.{cases_eq}
 use Rattle.std.proofs.lemmas.List.{length-map}
-use Rattle.std.proofs.lemmas.Nat.{mod_below}
 use Rattle.medium.specs.Medium.{State, Image, Sets, CutLeaves, Within, IsSound}
 use Rattle.medium.specs.Moments.{LeavesOnly, StaysWithin, SparesFrom}
 use Rattle.medium.proofs.Moments.{at_exit, updated, updated_here, updated_elsewhere}
@@ -12,18 +11,20 @@ use Rattle.medium.proofs.SparedSectors.{HasSpared}
 use Rattle.spec.specs.Blocks.{Array}
 use Rattle.journal.specs.Places.{Shape, first_home, sectors_of, IsFirstHome}
 use Rattle.journal.specs.Record.{Entry, numbers_of, with_records, home_of, Hides}
-use Rattle.journal.specs.Formats.{layout_of, IsWhole, HasWhole, CarriesBelow}
+use Rattle.journal.specs.Formats.{layout_of, IsWhole, CarriesBelow}
 use Rattle.journal.proofs.Formats.{laws_of, sectors_are}
 use Rattle.journal.proofs.Wholeness.{IsWhole-one, IsWhole-same, slot_inside, CarriesBelow-agree}
 use Rattle.journal.specs.Sectors.{IsSuper, IsHead}
 use Rattle.journal.specs.Standing.{IsOurs}
 use Rattle.journal.proofs.Apart.{in_log}
+use Rattle.journal.proofs.Engine.{none_carried}
 use Rattle.journal.proofs.Overlay.{with_records-same, records-hide}
-use Rattle.recovery.specs.Copies.{IsHomeOf, IsHomeInRecord, IsHomeInRecords}
+use Rattle.recovery.specs.Calls.{IsHomeOf, IsHomeInRecord, IsHomeInRecords}
 use Rattle.recovery.specs.Recovered.{IsFresh}
 
 -- what a cut may leave in one sector an image has there that it may leave
-image_with : (m : State) (s : ℕ) (c : List ℕ) → IsSound m → m.may_leave s c → (image : Image) × CutLeaves m.may_leave image × (image s ≡ c)
+image_with : (m : State) (s : ℕ) (c : List ℕ) → IsSound m → m.may_leave s c
+    → (image : Image) × CutLeaves m.may_leave image × (image s ≡ c)
 image_with m s c sound left = (
   updated m.content s c,
   λ t. elim (cases_eq t s) [
@@ -52,8 +53,7 @@ spared_by first old new sound content moments = record {
 pub number_of : (entries : List Entry) (numbers : List ℕ) (i : ℕ) → numbers ≡ numbers_of entries
     → get_or numbers i 0 ≡ (get_or entries i (0, [])).0
 number_of entries numbers i names =
-    let f : Entry → ℕ = λ e. e.0 in
-    ap (λ (l : List ℕ). get_or l i 0) names ∙ get_or-map f entries i (0, [])
+    let f : Entry → ℕ = λ e. e.0 in rw names (get_or-map f entries i (0, []))
 
 pub long_as : (entries : List Entry) (numbers : List ℕ) → numbers ≡ numbers_of entries → length numbers ≡ length entries
 long_as entries numbers names = let f : Entry → ℕ = λ e. e.0 in ap (λ (l : List ℕ). length l) names ∙ length-map entries f
@@ -87,23 +87,6 @@ not_in_log shape image head count x below home = let is = home.2.2.2 in omega (a
 abbrev pub AreSame : Shape → Array → Array → Type 0
 AreSame shape a c = (b : ℕ) → b < shape.blocks → a b ≡ c b
 
--- a whole record carries its stamp in its last sector, so the stamp is below the end of all that are carried
-carried_whole : (shape : Shape) (image : Image) (stamp end : ℕ) → 1 ≤ shape.slots → HasWhole shape image stamp
-    → CarriesBelow shape image end → stamp < end
-carried_whole shape image stamp end some whole below =
-    let L = layout_of shape.format in
-    let laws = laws_of shape.format in
-    let es = whole.0 in
-    let w = whole.1 in
-    let last = L.parts (length es) - 1 in
-    let inside : last < L.parts (length es) = omega (arith, laws.some_parts (length es)) in
-    let first = laws.inside 0 0 (omega arith) (laws.some_parts 0) in
-    let late = laws.last_is_late (length es) in
-    below (stamp % shape.slots) (L.slot_sectors - 1) stamp (mod_below stamp shape.slots some) (omega (arith, first))
-    (rw (← laws.last (length es), w.there last inside)
-    (⊎_elim (λ early. absurd (omega (arith, early, late))) (λ carried. carried)
-    (laws.carries shape.blocks stamp es last (record { fit = w.fit; least = w.least; below = w.below }) inside)))
-
 -- a log of zeros carries nothing from stamp 1 on
 zeros_carry : (shape : Shape) (image : Image) (end : ℕ) → 1 ≤ end
     → ((x : ℕ) → 2 ≤ x → x < 2 + (layout_of shape.format).slot_sectors * shape.slots → image x ≡ replicate 512 0)
@@ -120,55 +103,44 @@ pub copies_ours : {size : ℕ} {shape : Shape} {start : Image} {array : Array} {
     (head count : ℕ) → head ≡ ours.stands.head → count ≡ length ours.stands.records → (image : Image)
     → ((x : ℕ) → (image x ≡ start x) ⊎ IsHomeInRecords shape start head count x) → IsOurs size shape image array next
 copies_ours {shape = shape} {start = start} {next = next} ours head count head_is count_is image each =
+    let records = ours.stands.records in
+    let super = ours.stands.keeps.super in
+    let ends = log_ends shape super.home_is in
+    let log : (x : ℕ) → x < first_home shape → image x ≡ start x =
+    λ x below. ⊎_elim (λ same. same) (λ home. absurd (not_in_log shape start head count x below home)) (each x) in
+    let whole = λ (stamp : ℕ) (es : List Entry). whole_same shape start image stamp es super.some_slots super.home_is log in
+    -- a block that is copied is hidden by the records
+    let home : (b : ℕ) → with_records records (home_of shape image) b ≡ with_records records (home_of shape start) b =
+    λ b. ⊎_elim (with_records-same records (home_of shape image) (home_of shape start) b) (λ copied.
+    let h = rw (head_is, count_is) at copied in
+    let es = get_or records h.0 [] in
+    let here = home_in_whole shape start _ es (first_home shape + b) (ours.stands.keeps.whole h.0 h.1) h.2 in
+    let is = here.2 in
+    let number = number_of es (numbers_of es) here.0 refl in
+    let hides = records-hide records h.0 here.0 h.1 (omega (arith, here.1, long_as es (numbers_of es) refl)) in
+    subst (Hides records) (omega (arith, is, number)) hides (home_of shape image) (home_of shape start)) (each (first_home shape + b)) in
     record {
       stands = record {
         fits = ours.stands.fits;
         head = ours.stands.head;
-        records = ours.stands.records;
+        records = records;
         keeps = record {
-          super = subst (IsSuper shape) (sym (log 0 (omega (arith, log_ends shape first)))) ours.stands.keeps.super;
-          head_is = subst (IsHead ours.stands.head) (sym (log 1 (omega (arith, log_ends shape first)))) ours.stands.keeps.head_is;
-          whole = λ j below. whole_same shape start image (ours.stands.head + j) (get_or ours.stands.records j []) some first log
-              (ours.stands.keeps.whole j below);
+          super = rw (log 0 (omega (arith, ends))) super;
+          head_is = rw (log 1 (omega (arith, ends))) ours.stands.keeps.head_is;
+          whole = λ j below. whole _ _ (ours.stands.keeps.whole j below);
           blocks = λ b below. home b ∙ ours.stands.keeps.blocks b below;
         };
         few = ours.stands.few;
         ends = λ less w. ours.stands.ends less (
           w.0,
-          whole_same shape image start (ours.stands.head + length ours.stands.records) w.0 some first (λ x below. sym (log x below))
-              w.1,
+          whole_same shape image start _ w.0 super.some_slots super.home_is
+              (λ x below. sym (log x below)) w.1,
         );
         next_is = ours.stands.next_is;
       };
       carries = CarriesBelow-agree (layout_of shape.format) (laws_of shape.format) shape start image next
-          (λ x low high. log x (omega (arith, log_ends shape first))) ours.carries;
+          (λ x low high. log x (omega (arith, ends))) ours.carries;
     }
-  where
-    some : 1 ≤ shape.slots
-    some = ours.stands.keeps.super.some_slots
-
-    first : IsFirstHome shape.format shape.slots shape.home
-    first = ours.stands.keeps.super.home_is
-
-    log : (x : ℕ) → x < first_home shape → image x ≡ start x
-    log x below = ⊎_elim (λ same. same) (λ home. absurd (not_in_log shape start head count x below home)) (each x)
-
-    records : List (List Entry)
-    records = ours.stands.records
-
-    -- a block that is copied is hidden by the records
-    home : (b : ℕ) → with_records records (home_of shape image) b ≡ with_records records (home_of shape start) b
-    home b = ⊎_elim (λ same. with_records-same records (home_of shape image) (home_of shape start) b same)
-        (λ copied.
-        let h = rw (head_is, count_is) at copied in
-        let es = get_or records h.0 [] in
-        let here = home_in_whole shape start _ es (first_home shape + b) (ours.stands.keeps.whole h.0 h.1) h.2 in
-        let is = here.2 in
-        let long = long_as es (numbers_of es) refl in
-        let number = number_of es (numbers_of es) here.0 refl in
-        let hides = records-hide records h.0 here.0 h.1 (omega (arith, here.1, long)) in
-        subst (Hides records) (omega (arith, is, number)) hides (home_of shape image) (home_of shape start))
-        (each (first_home shape + b))
 
 -- no record waits in a log of zeros
 pub zeros_fresh : (shape : Shape) (array : Array) (next : ℕ) (image : Image) → IsSuper shape (image 0) → IsHead next (image 1)
@@ -188,7 +160,8 @@ fresh_ours {shape = shape} {next = next} {image = image} fits f = record {
     records = [];
     keeps = record { super = f.super; head_is = f.head; whole = λ j below. absurd (omega arith); blocks = λ b below. f.home b below };
     few = omega arith;
-    ends = λ less w. omega (arith, carried_whole shape image (next + 0) next f.super.some_slots w f.carries);
+    ends = λ less. none_carried (layout_of shape.format) (laws_of shape.format) shape f.super.some_slots image (next + 0)
+        (λ slot o stamp low small carries. omega (arith, f.carries slot o stamp low small carries));
     next_is = omega arith;
   };
   carries = λ slot o stamp low small carries. omega (arith, f.carries slot o stamp low small carries);

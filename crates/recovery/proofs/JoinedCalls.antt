@@ -1,29 +1,37 @@
--- Calls, and then others: what they are together.
-use Rattle.std.proofs.Common.{◌≡◌, inl, inr, ⊎_elim, ℕ, ◌+◌, ◌*◌, ◌<◌, ◌≤◌, ◌∙◌, Result, Ok, refl, subst, arith, rules, mul-le-mul_left}
-use Rattle.std.specs.Prelude.{IfOk, IfErr}
-use Rattle.medium.specs.Medium.{State, Image, CutLeaves, Stays, Within, Passes, LooksOnly, IsSound}
-use Rattle.medium.specs.Moments.{IsQuiet}
+-- Calls, and then others: what they are together, and what is left at each moment of them.
+use Rattle.std.proofs.Common.{◌≡◌, inl, inr, ⊎_elim, ℕ, ◌+◌, ◌*◌, ◌<◌, ◌≤◌, ◌∙◌, Result, Ok, arith, rules, mul-le-mul_left, ◌≢◌}
+use Rattle.std.proofs.Common.{◌⊎◌, ◌-◌, List}
+use Rattle.std.specs.Prelude.{IfOk, IfErr, replicate, OnOk}
+use Rattle.medium.specs.Medium.{State, Image, CutLeaves, LooksOnly, IsSound, Holds, Stays, Within, Passes}
+use Rattle.medium.specs.Moments.{IsQuiet, EachCut, IsFlushed, LeavesOnly, StaysWithin, SparesFrom}
 use Rattle.medium.specs.declared.fault.MediumFault.{MediumFault}
-use Rattle.medium.specs.declared.fault.MediumFault.TheVariants.{Read}
 use Rattle.medium.proofs.CallsSent.{none_sent}
-use Rattle.medium.proofs.Moments.{quiet_call, quiet_joined, quiet_leaves, started_within, joined_same, weaker}
+use Rattle.medium.proofs.Moments.{quiet_joined, quiet_leaves, started_within, joined_same, weaker, quiet_call}
 use Rattle.medium.proofs.SectorsRead.{no_looks, looks_joined, looks_wider, looks_below, look_below}
 use Rattle.journal.specs.declared.super_sector.Super.{Super}
-use Rattle.journal.specs.Places.{Shape, first_home}
+use Rattle.journal.specs.Places.{Shape, first_home, sectors_of}
 use Rattle.journal.specs.ImageFaults.{HasShape}
 use Rattle.journal.specs.Values.{shape_of}
 use Rattle.journal.specs.Reads.{IsRefusedCall, LooksUp}
-use Rattle.recovery.specs.Calls.{Copies, ReadsUpTo}
-use Rattle.recovery.specs.Copies.{freed_at}
-use Rattle.recovery.specs.Found.{SurveysAtMost}
-use Rattle.recovery.specs.Looks.{LooksAtLog}
-use Rattle.recovery.proofs.CopiedRecords.{sets_within}
+use Rattle.recovery.specs.Calls.{Copies, freed_at, most_reads_of, LooksAtLog, WritesAllPass, FollowsBy, Writes, cleared_at}
+use Rattle.recovery.specs.Calls.{WithOrWithout, IsBetween}
+use Rattle.recovery.specs.Inspected.{SurveysAtMost, LooksAtFirst}
+use Rattle.recovery.specs.declared.start_fault.StartFault.{StartFault}
+use Rattle.journal.proofs.SectorNumbers.{IsSuper-one}
+use Rattle.recovery.proofs.CopiedRecords.{sets_within, spared_by, AreSame, zeros_ours}
+use Rattle.std.proofs.lemmas.Result.{on_ok_weaker}
+use Rattle.medium.specs.declared.fault.MediumFault.TheVariants.{Flush}
+use Rattle.medium.proofs.SparedSectors.{spared_joined, spared_behind, spared_quiet}
+use Rattle.spec.specs.Blocks.{Array}
+use Rattle.journal.specs.Record.{home_of}
+use Rattle.journal.specs.Standing.{IsOurs}
+use Rattle.recovery.specs.Formatted.{IsNoneOrNew, IsMidway, ImageLeaves, IsMade, IsWritten, IsNoneOrWritten, WritesImage}
 
 -- what holds of a medium's size and contents after calls that wrote nothing held before them
 pub quiet_before : (P : ℕ → Image → Type 0) (old mid : State) → IsQuiet old mid → P mid.size mid.content → P old.size old.content
 quiet_before P old mid quiet h =
     let same : mid.content ≡ old.content = λ i s. quiet.content_stays s i in
-    subst (λ (n : ℕ). P n old.content) quiet.size_stays (subst (P mid.size) same h)
+    rw (same, quiet.size_stays) at h
 
 -- and what held before them holds after them
 pub quiet_after : (P : ℕ → Image → Type 0) (old mid : State) → IsQuiet old mid → P old.size old.content → P mid.size mid.content
@@ -36,67 +44,49 @@ pub looks_on : {M X Y Z : Type 0} {state : M → State} {Follows : M → M → T
     → ((a b c : M) → Follows a b → Follows b c → Follows a c) → LooksUp state Follows few places F old mid one
     → LooksUp state Follows many places G mid new two → few + many ≤ most → IfErr result (IsRefusedCall (state old) (state new))
     → IfOk result (H (state old) (state new)) → LooksUp state Follows most places H old new result
-looks_on through first second fit cause finds = record {
-  passes = record {
-    quiet = quiet_joined _ _ _ first.passes.quiet second.passes.quiet;
-    reads = λ kind other. second.passes.reads kind other ∙ first.passes.reads kind other;
-    calls = omega (arith, first.passes.calls, second.passes.calls, fit);
-    cause = cause;
-  };
-  finds = finds;
-  follows = (through _ _ _ first.follows.0 second.follows.0, looks_joined _ _ _ _ first.follows.1 second.follows.1);
-}
+looks_on through first second fit cause finds = search (
+  rules,
+  quiet_joined _ _ _ first.passes.quiet second.passes.quiet,
+  first.passes.reads,
+  second.passes.reads,
+  through _ _ _ first.follows.0 second.follows.0,
+  looks_joined _ _ _ _ first.follows.1 second.follows.1,
+)
 
 -- copies
-pub copies_on : {M X Y Z : Type 0} {state : M → State} {Follows : M → M → Type 0} {more all P Q : ℕ → Type 0}
-    {few many most less much sends : ℕ} {old mid new : M} {one : Result X MediumFault} {two : Result Y MediumFault}
-    {result : Result Z MediumFault} → ((a b c : M) → Follows a b → Follows b c → Follows a c) → IsSound (state mid)
-    → ((x : ℕ) → more x → all x) → ((s : ℕ) → Q s → P s) → Copies state Follows all P few less old mid one
-    → Copies state Follows more Q many much mid new two → few + many ≤ most → less + much ≤ sends
-    → IfErr result (IsRefusedCall (state old) (state new)) → Copies state Follows all P most sends old new result
-copies_on {state = state} {all = all} {old = old} {mid = mid} through sound f wider first second fit few cause = record {
-  elsewhere = λ x not. second.elsewhere x (λ h. not (f x h)) ∙ first.elsewhere x not;
-  moments =
-      let sets = sets_within (freed_at all (state old).may_leave) (state old) (state mid) sound first.moments in
-      joined_same _ _ _ _ first.moments
-      (weaker _ _ _ _ (λ image cut s. ⊎_elim (sets s (image s)) (λ p. inr (f s p)) (cut s)) second.moments);
-  calls = omega (arith, first.calls, second.calls, fit);
-  sent = omega (arith, first.sent, second.sent, few);
-  looks = looks_joined _ _ _ _ first.looks (looks_wider _ _ _ _ wider second.looks);
-  cause = cause;
-  follows = through _ _ _ first.follows second.follows;
-}
+pub copies_on : {X Y Z : Type 0} {more all P Q : ℕ → Type 0} {few many most less much sends : ℕ} {old mid new : State}
+    {one : Result X MediumFault} {two : Result Y MediumFault} {result : Result Z MediumFault} → IsSound mid → ((x : ℕ) → more x → all x)
+    → ((s : ℕ) → Q s → P s) → Copies all P few less old mid one → Copies more Q many much mid new two → few + many ≤ most
+    → less + much ≤ sends → IfErr result (IsRefusedCall old new) → Copies all P most sends old new result
+copies_on {all = all} {old = old} {mid = mid} sound f wider first second fit few cause =
+    let freed = freed_at all old.may_leave in
+    let sets = sets_within freed old mid sound first.moments in
+    let moments = joined_same (CutLeaves freed) _ _ _ first.moments
+    (weaker _ _ _ _ (λ image cut s. ⊎_elim (sets s (image s)) (λ p. inr (f s p)) (cut s)) second.moments) in
+    record {
+      elsewhere = λ x not. second.elsewhere x (λ h. not (f x h)) ∙ first.elsewhere x not;
+      moments = moments;
+      calls = omega (arith, first.calls, second.calls, fit);
+      sent = omega (arith, first.sent, second.sent, few);
+      looks = looks_joined _ _ _ _ first.looks (looks_wider _ _ _ _ wider second.looks);
+      cause = cause;
+    }
 
 -- reads copy nothing
 pub none_copies : {M X Y : Type 0} {state : M → State} {Follows : M → M → Type 0} {places reads : ℕ → Type 0}
     {F : State → State → X → Type 0} {few most sends : ℕ} {old new : M} {one : Result X MediumFault} {result : Result Y MediumFault}
     → IsSound (state old) → LooksUp state Follows few reads F old new one → few ≤ most
-    → IfErr result (IsRefusedCall (state old) (state new)) → Copies state Follows places reads most sends old new result
-none_copies {state = state} {places = places} {old = old} {new = new} sound looked fit cause = record {
-  elsewhere = λ x not. looked.passes.quiet.content_stays x;
-  moments = quiet_leaves (CutLeaves (freed_at places (state old).may_leave)) _ _ sound (λ image cut s. inl (cut s)) looked.passes.quiet;
-  calls = omega (arith, looked.passes.calls, fit);
-  sent = omega (arith, none_sent (state old) (state new) looked.passes.reads);
-  looks = looked.follows.1;
-  cause = cause;
-  follows = looked.follows.0;
-}
+    → IfErr result (IsRefusedCall (state old) (state new)) → Copies places reads most sends (state old) (state new) result
+none_copies {state = state} {places = places} {old = old} {new = new} sound looked fit cause =
+    let freed = freed_at places (state old).may_leave in
+    let moments = quiet_leaves (CutLeaves freed) _ _ sound (λ image cut s. inl (cut s)) looked.passes.quiet in
+    search (rules, moments, none_sent (state old) (state new) looked.passes.reads, looked.follows.1)
 
 -- nor does no call
-pub none_made : {M : Type 0} {state : M → State} {Follows : M → M → Type 0} {places reads : ℕ → Type 0} {most sends : ℕ} {m : M}
-    → IsSound (state m) → Follows m m → Copies {X = Unit {0}} state Follows places reads most sends m m (Ok tt)
-none_made {state = state} {places = places} {m = m} sound itself =
-    let moments = started_within (freed_at places (state m).may_leave) (state m) sound (λ s c left. inl left) in
-    let looks = no_looks _ (state m) (state m) refl in
-    record {
-      elsewhere = λ x not. refl;
-      moments = moments;
-      calls = omega arith;
-      sent = omega arith;
-      looks = looks;
-      cause = tt;
-      follows = itself;
-    }
+pub none_made : {places reads : ℕ → Type 0} {most sends : ℕ} {m : State} → IsSound m
+    → Copies {X = Unit {0}} places reads most sends m m (Ok tt)
+none_made {places = places} {m = m} sound =
+    search (rules, started_within (freed_at places m.may_leave) m sound (λ s c left. inl left), no_looks)
 
 -- the calls for a few and for one more
 pub each_once_more : (each few many : ℕ) → few < many → each * few + each ≤ each * many
@@ -112,14 +102,130 @@ looked_on shape old mid new has first last near holds =
 pub super_looked : (old new : State) → LooksOnly (λ s. s ≡ 0) old new → LooksAtLog old new
 super_looked old new look near holds = look_below near old new 0 holds.some look
 
--- and behind it the head
-pub head_read : {X E : Type 0} {first : Result X E} {second : Result (Unit {0}) MediumFault} {old mid new : State} (sizes : Super)
-    → HasShape old.size (shape_of sizes) old.content → ReadsUpTo 1 old mid first → LooksOnly (λ s. s ≡ 0) old mid
-    → Passes Read second mid new → Stays mid.content new.content → Within new.may_leave mid.may_leave → LooksOnly (λ s. s ≡ 1) mid new
-    → SurveysAtMost old new
-head_read {old = old} {mid = mid} {new = new} sizes has super looks read stays within look = search (
+-- the super and the head are read, and then what shows whether records are whole
+pub records_read : {M X Y : Type 0} {state : M → State} {Follows : M → M → Type 0} {Has : State → Y → Type 0}
+    {F : State → State → X → Type 0} {old mid new : M} {first : Result Y StartFault} {result : Result X MediumFault} (sizes : Super)
+    → HasShape (state old).size (shape_of sizes) (state old).content → LooksAtFirst state Follows Has 2 old mid first
+    → LooksUp state Follows (most_reads_of sizes.format * sizes.slots) (λ s. s < first_home (shape_of sizes)) F mid new result
+    → SurveysAtMost (state old) (state new)
+records_read {state = state} {old = old} sizes has before rest =
+    let one = λ (other : Shape) (is : HasShape (state old).size other (state old).content).
+    IsSuper-one other (shape_of sizes) _ is.super has.super in
+    let quiet = quiet_joined _ _ _ before.quiet rest.passes.quiet in
+    let looks = looked_on (shape_of sizes) _ _ _ has before.looks rest.follows.1 in
+    search (rules, quiet, rest.passes.reads, before.reads, one, sizes.most_slots, looks)
+
+-- a sector before these is written
+through_spares : (first place : ℕ) (bytes : List ℕ) (old new : State) → place < first → IsSound new
+    → ((x : ℕ) → x ≢ place → new.content x ≡ old.content x) → LeavesOnly (WithOrWithout place bytes old.may_leave) old new
+    → SparesFrom first old new
+through_spares first place bytes old new below sound elsewhere moments = spared_by first old new sound (λ s le. elsewhere s (apart s le))
+    (weaker _ _ _ _
+    (λ image either s le. ⊎_elim (λ cut. cut s) (λ w. rw (← w.2.elsewhere s (apart s le)) at (w.1 s)) either) moments)
+  where
+    apart : (s : ℕ) → first ≤ s → s ≢ place
+    apart s le same = omega (arith, le, same, below)
+
+-- sectors before these are cleared
+pub clear_spares : (first end : ℕ) (old new : State) → IsSound new → ((x : ℕ) → ¬ IsBetween first end x → new.content x ≡ old.content x)
+    → StaysWithin (cleared_at (IsBetween first end) old.may_leave) old new → SparesFrom end old new
+clear_spares first end old new sound elsewhere within =
+    spared_by end old new sound (λ s le. elsewhere s (λ between. omega (arith, le, between.1)))
+    (weaker _ _ _ _
+    (λ image cut s le. ⊎_elim (λ was. was) (λ zeros. absurd (omega (arith, le, zeros.0.1))) (cut s)) within)
+
+-- the super is being cleared
+pub first_leaves : (shape : Shape) (array : Array) (end : ℕ) (old first : State) → 2 ≤ end → (zeros : List ℕ) → zeros ≡ replicate 512 0
+    → IsSound first → ((x : ℕ) → x ≢ 0 → first.content x ≡ old.content x) → LeavesOnly (WithOrWithout 0 zeros old.may_leave) old first
+    → first.calls ≤ old.calls + 2 → first.looked ≡ old.looked → ImageLeaves shape array end old first
+first_leaves shape array end old first some zeros are sound elsewhere moments few looked = search (
   rules,
-  quiet_joined old mid new super.quiet (quiet_call mid new read stays within),
-  looked_on (shape_of sizes) old mid new has (super_looked old mid looks)
-      (look_below (first_home (shape_of sizes)) mid new 1 (omega (arith, sizes.home_is.0)) look),
+  weaker _ (IsMidway shape array old) _ _ (λ image either. ⊎_elim inl (λ w. inr (inl (w.2.here ∙ are))) either) moments,
+  through_spares end 0 zeros old first (omega (arith, some)) sound elsewhere moments,
 )
+
+module _ {P : Image → Type 0} where
+  -- what is weaker is left too, and sectors behind those that are spared are spared
+  pub wider : {X : Type 0} {end count : ℕ} {old new : State} {result : Result X MediumFault} (Q : Image → Type 0) (far : ℕ)
+      → ((image : Image) → P image → Q image) → end ≤ far → Writes P end count old new result → Writes Q far count old new result
+  wider Q far f le so = search (rules, weaker _ _ _ _ f so.moments, spared_behind _ far _ _ le so.spares)
+
+  -- some calls, and then others
+  pub writes_on : {X Y Z : Type 0} {end few many most : ℕ} {old mid new : State} {one : Result X MediumFault}
+      {two : Result Y MediumFault} {result : Result Z MediumFault} → Writes P end few old mid one → Writes P end many mid new two
+      → few + many ≤ most → IfErr result (IsRefusedCall old new) → OnOk result (new.calls ≡ old.calls + most)
+      → Writes P end most old new result
+  writes_on first second fit cause exact = search (
+    rules,
+    joined_same _ _ _ _ first.moments second.moments,
+    spared_joined _ _ _ _ first.spares second.spares,
+    second.reads.looked_stays ∙ first.reads.looked_stays,
+  )
+
+  -- a flush
+  pub flush_writes : {end : ℕ} {old new : State} {result : Result (Unit {0}) MediumFault} → IsSound old → Passes Flush result old new
+      → Stays old.content new.content → Within new.may_leave old.may_leave → EachCut P old → Writes P end 1 old new result
+  flush_writes {end = end} {old = old} {new = new} sound passes content sets each =
+      let quiet = quiet_call old new passes content sets in
+      search (rules, quiet_leaves P _ _ sound each quiet, spared_quiet end _ _ sound quiet, passes.looked_stays (λ e. cc e))
+
+  module _ {M : Type 0} {state : M → State} {Follows : M → M → Type 0} {end : ℕ} {old new : M} {result : Result (Unit {0}) MediumFault}
+      (sound : IsSound (state new)) where
+    -- a sector is written and flushed: it leaves P where each image had P before, and each has it with that sector written
+    pub through_writes : {place : ℕ} {bytes : List ℕ} → place < end
+        → WritesAllPass (λ x. x ≡ place) (WithOrWithout place bytes (state old).may_leave) 2 (state old) (state new) result
+        → FollowsBy state Follows 2 old new → EachCut P (state old)
+        → ((before image : Image) → CutLeaves (state old).may_leave before → Holds place bytes before image → P image)
+        → Writes P end 2 (state old) (state new) result
+    through_writes below wrote follows stays changes = search (
+      rules,
+      weaker _ P _ _ (λ image either. ⊎_elim (stays image) (λ w. changes w.0 image w.1 w.2) either) wrote.moments,
+      through_spares _ _ _ _ _ below sound wrote.elsewhere wrote.moments,
+    )
+
+    -- sectors are cleared
+    pub clear_writes : {first : ℕ} → WritesAllPass (IsBetween first end)
+        (CutLeaves (cleared_at (IsBetween first end) (state old).may_leave)) (end - first) (state old) (state new) result
+        → FollowsBy state Follows (end - first) old new
+        → ((image : Image) → CutLeaves (cleared_at (IsBetween first end) (state old).may_leave) image → P image)
+        → Writes P end (end - first) (state old) (state new) result
+    clear_writes clears follows each = search (
+      rules,
+      weaker _ P _ _ each clears.moments,
+      clear_spares _ _ _ _ sound clears.elsewhere clears.moments,
+    )
+
+-- the super was cleared by the first two calls, and since then there is none, or the new one
+pub made_image : {X Y : Type 0} {shape : Shape} {end many : ℕ} {old mid new : State} {one : Result X MediumFault}
+    {two : Result Y MediumFault} {result : Result (Unit {0}) MediumFault} → Writes (λ image. CutLeaves old.may_leave image
+    ⊎ IsNoneOrWritten shape end old.content image) end 2 old mid one → mid.calls ≡ old.calls + 2
+    → Writes (IsNoneOrWritten shape end old.content) end many mid new two → 2 + many ≤ end + 5
+    → IfErr result (IsRefusedCall old new) → OnOk result (new.calls ≡ old.calls + (end + 5))
+    → OnOk result (IsWritten shape end old.content new.content × IsFlushed new) → WritesImage shape end old new result
+made_image first counted later fit cause exact done = record {
+  done = done;
+  writes = writes_on first (wider _ _ (λ image is. inr is) (omega arith) later) fit cause exact;
+  after_flush = λ more image since. later.moments.each image (rw (← counted) at since);
+}
+
+-- an image was written, good or refused, that is ours for this array
+pub image_made : {shape : Shape} {end : ℕ} {old new : State} {result : Result (Unit {0}) MediumFault} (array : Array)
+    → WritesImage shape end old new result
+    → sectors_of shape ≤ old.size → first_home shape ≤ end
+    → ((image : Image) → IsWritten shape end old.content image → AreSame shape (home_of shape image) array)
+    → OnOk result (IsMade shape array end old new) × ImageLeaves shape array end old new
+image_made {shape = shape} {end = end} {old = old} {new = new} {result = result} array wrote fits log home =
+    let size = wrote.writes.moments.size_stays in
+    let ours : (size : ℕ) (image : Image) → sectors_of shape ≤ size → IsWritten shape end old.content image
+    → IsOurs size shape image array 2 = λ size image fits is. zeros_ours size shape array image fits is.super is.head
+    (λ x low high. is.zeros x low (omega (arith, high, log))) (home image is) in
+    let new_or_none : (image : Image) → IsNoneOrWritten shape end old.content image → IsNoneOrNew old.size shape array image =
+    λ image either. ⊎_elim inl (λ is. inr (ours _ image fits is)) either in (
+      on_ok_weaker result (λ done. search (rules, ours new.size new.content (omega (arith, fits, size)) done.0)) wrote.done,
+      record {
+        cuts = weaker _ _ _ _ (λ image either. ⊎_elim inl (λ is. inr (new_or_none image is)) either) wrote.writes.moments;
+        after_flush = λ more image since. new_or_none image (wrote.after_flush more image since);
+        spares = wrote.writes.spares;
+        looked_stays = wrote.writes.reads.looked_stays;
+      },
+    )

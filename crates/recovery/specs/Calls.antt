@@ -1,20 +1,49 @@
--- What calls of a medium do and cost, and why they are refused.
-use Rattle.std.specs.Prelude.{◌≡◌, ℕ, ◌+◌, ◌≤◌, Result, OnOk, IfErr}
-use Rattle.medium.specs.Medium.{State, Image, CutLeaves, LooksOnly}
-use Rattle.medium.specs.Moments.{LeavesOnly, SparesFrom, IsQuiet}
+-- What the calls of a recovery, a migration or a format do and cost, and what a cut leaves of them.
+use Rattle.std.specs.Prelude.{◌≡◌, ◌≢◌, ◌⊎◌, ℕ, ◌+◌, ◌*◌, ◌<◌, ◌≤◌, List, [], ◌∷◌, length, All}
+use Rattle.std.specs.Prelude.{slice_index, replicate, Result, OnOk, IfErr}
+use Rattle.medium.specs.Medium.{State, Image, Sets, CutLeaves, LooksOnly, Holds}
+use Rattle.medium.specs.Moments.{LeavesOnly, SparesFrom}
 use Rattle.medium.specs.Sent.{SendsUpTo}
 use Rattle.medium.specs.declared.fault.MediumFault.{MediumFault}
-use Rattle.recovery.specs.Causes.{IsRefusedCall, MakesReadsAlone}
-use Rattle.recovery.specs.Copies.{freed_at, cleared_at}
-use Rattle.recovery.specs.Unread.{LooksNowhere}
+use Rattle.medium.specs.declared.fault.MediumFault.TheVariants.{Read}
+use Rattle.journal.specs.declared.log_format.LogFormat.{LogFormat}
+use Rattle.journal.specs.declared.log_format.LogFormat.TheVariants.{One, Two}
+use Rattle.journal.specs.Places.{Shape, first_home, limit_of, slot_sectors_of}
+use Rattle.journal.specs.ImageFaults.{HasShape}
+use Rattle.journal.specs.Sectors.{IsHead, IsRising}
+use Rattle.journal.specs.SectorsTwo.{descriptors_of}
+use Rattle.journal.specs.Record.{Entry, numbers_of, with_records, home_of}
+use Rattle.journal.specs.Formats.{IsWhole}
+use Rattle.journal.specs.Reads.{IsRefusedCall}
 
--- The medium comes after what it was, by calls alone, of which at most `sends` are writes and
--- flushes. Of what they read this holds.
+-- no read was made, and so none refused
+pub record MakesNoRead (old new : State) : Type 0 where
+  pub made_stays : new.made Read ≡ old.made Read
+  pub refused_stays : new.refused Read ≡ old.refused Read
+
+-- no read was made, and so none named a sector
+pub record ReadsNothing (old new : State) : Type 0 where
+  pub no_read : MakesNoRead old new
+  pub looked_stays : new.looked ≡ old.looked
+
+-- So many first sectors are all that is read of an image but its blocks at home: the super, and
+-- where that names a log, the head and the log.
+pub record HoldsLog (near size : ℕ) (image : Image) : Type 0 where
+  pub some : 0 < near
+  pub log : (shape : Shape) → HasShape size shape image → first_home shape ≤ near
+
+-- each read names one of these
+abbrev pub LooksAtLog : State → State → Type 0
+LooksAtLog old new =
+    (near : ℕ) → HoldsLog near old.size old.content → LooksOnly (λ s. s < near) old new
+
+-- The medium comes after what it was, by calls alone that read nothing, of which at most `sends`
+-- are writes and flushes.
 pub record FollowsBy {M : Type 0} (state : M → State) (Follows : M → M → Type 0) (sends : ℕ)
-    (Looks : State → State → Type 0) (old new : M) : Type 0 where
+    (old new : M) : Type 0 where
   pub follows : Follows old new
   pub sent : SendsUpTo sends (state old) (state new)
-  pub looks : Looks (state old) (state new)
+  pub looks : ReadsNothing (state old) (state new)
 
 -- Where Ok, this many calls were made; where refused, no more than that.
 pub record CallsUpTo {X E : Type 0} (count : ℕ) (old new : State) (result : Result X E)
@@ -22,13 +51,22 @@ pub record CallsUpTo {X E : Type 0} (count : ℕ) (old new : State) (result : Re
   pub calls : new.calls ≤ old.calls + count
   pub exact : OnOk result (new.calls ≡ old.calls + count)
 
--- No call but reads was made: this many where Ok, no more than that where refused.
-pub record ReadsUpTo {X E : Type 0} (count : ℕ) (old new : State) (result : Result X E)
-    : Type 0 where
-  pub quiet : IsQuiet old new
-  pub reads : MakesReadsAlone old new
-  pub calls : new.calls ≤ old.calls + count
-  pub exact : OnOk result (new.calls ≡ old.calls + count)
+-- what a cut may leave, and in these sectors anything
+abbrev pub freed_at : (ℕ → Type 0) → Sets → Sets
+freed_at places sets s c = sets s c ⊎ places s
+
+-- what a cut may leave, and in these sectors zeros
+abbrev pub cleared_at : (ℕ → Type 0) → Sets → Sets
+cleared_at places sets s c = sets s c ⊎ (places s × (c ≡ replicate 512 0))
+
+-- an image that these sets allow, with these bytes written to that sector or not
+abbrev pub WithOrWithout : ℕ → List ℕ → Sets → Image → Type 0
+WithOrWithout s bytes sets image =
+    CutLeaves sets image ⊎ ((before : Image) × CutLeaves sets before × Holds s bytes before image)
+
+-- the sector lies from the first on, before the end
+abbrev pub IsBetween : ℕ → ℕ → ℕ → Type 0
+IsBetween first end x = (first ≤ x) × (x < end)
 
 -- Calls that write to these sectors alone: this many where Ok, no more than that where the medium
 -- refused one. A cut at any moment of them leaves an image that has P.
@@ -40,30 +78,91 @@ pub record WritesAllPass {X : Type 0} (places : ℕ → Type 0) (P : Image → T
   pub exact : OnOk result (new.calls ≡ old.calls + count)
   pub cause : IfErr result (IsRefusedCall old new)
 
--- The medium comes after what it was, by at most `most` calls, of which at most `sends` are
--- writes and flushes. They copy to these sectors: a cut may leave anything in them. Each read names
--- one of those. An error is a call that the medium refused.
-pub record Copies {M X : Type 0} (state : M → State) (Follows : M → M → Type 0)
-    (places reads : ℕ → Type 0) (most sends : ℕ) (old new : M) (result : Result X MediumFault)
-    : Type 0 where
-  pub elsewhere : (x : ℕ) → ¬ places x → (state new).content x ≡ (state old).content x
-  pub moments : LeavesOnly (CutLeaves (freed_at places (state old).may_leave))
-      (state old) (state new)
-  pub calls : (state new).calls ≤ (state old).calls + most
-  pub sent : SendsUpTo sends (state old) (state new)
-  pub looks : LooksOnly reads (state old) (state new)
-  pub cause : IfErr result (IsRefusedCall (state old) (state new))
-  pub follows : Follows old new
+-- At most `most` calls, of which at most `sends` are writes and flushes. They copy to these
+-- sectors: a cut may leave anything in them. Each read names one of those. An error is a call that
+-- the medium refused.
+pub record Copies {X : Type 0} (places reads : ℕ → Type 0) (most sends : ℕ) (old new : State)
+    (result : Result X MediumFault) : Type 0 where
+  pub elsewhere : (x : ℕ) → ¬ places x → new.content x ≡ old.content x
+  pub moments : LeavesOnly (CutLeaves (freed_at places old.may_leave)) old new
+  pub calls : new.calls ≤ old.calls + most
+  pub sent : SendsUpTo sends old new
+  pub looks : LooksOnly reads old new
+  pub cause : IfErr result (IsRefusedCall old new)
 
--- Calls that write zeros to these sectors: a cut may leave zeros in them.
-abbrev pub ClearsAllPass : {X : Type 0} → (ℕ → Type 0) → ℕ → State → State
-    → Result X MediumFault → Type 0
-ClearsAllPass places count old new result =
-    WritesAllPass places (CutLeaves (cleared_at places old.may_leave)) count old new result
-
--- At each moment of some calls a cut leaves an image that has P. They spare the sectors from this
--- one on, and read nothing.
-pub record Leaves (P : Image → Type 0) (end : ℕ) (old new : State) : Type 0 where
+-- Calls that write, and read nothing: `count` where Ok, no more than that where the medium refused
+-- one. They spare the sectors from the end on. A cut at any moment of them leaves an image that has
+-- P.
+pub record Writes {X : Type 0} (P : Image → Type 0) (end count : ℕ) (old new : State)
+    (result : Result X MediumFault) : Type 0 where
   pub moments : LeavesOnly P old new
   pub spares : SparesFrom end old new
-  pub looked_stays : LooksNowhere old new
+  pub calls : new.calls ≤ old.calls + count
+  pub exact : OnOk result (new.calls ≡ old.calls + count)
+  pub sent : SendsUpTo count old new
+  pub reads : ReadsNothing old new
+  pub cause : IfErr result (IsRefusedCall old new)
+
+-- The block numbers of a record in a log of this shape.
+pub record AreBlocks (shape : Shape) (numbers : List ℕ) : Type 0 where
+  pub few : length numbers ≤ limit_of shape.format
+  pub rising : IsRising numbers
+  pub inside : All (λ b. b < shape.blocks) numbers
+
+-- one of these blocks is at home in the sector
+abbrev pub IsHomeOf : Shape → List ℕ → ℕ → Type 0
+IsHomeOf shape numbers x = (i : ℕ) × (i < length numbers)
+    × (x ≡ first_home shape + slice_index numbers i)
+
+-- a block of the whole record of this stamp is at home in the sector
+abbrev pub IsHomeInRecord : Shape → Image → ℕ → ℕ → Type 0
+IsHomeInRecord shape image stamp x =
+    (entries : List Entry) × IsWhole shape image stamp entries
+    × IsHomeOf shape (numbers_of entries) x
+
+-- a block of one of count whole records from this stamp on is at home in sector x
+abbrev pub IsHomeInRecords : Shape → Image → ℕ → ℕ → ℕ → Type 0
+IsHomeInRecords shape image head count x = (j : ℕ) × (j < count)
+    × IsHomeInRecord shape image (head + j) x
+
+-- how many calls it takes to read again what names the n blocks of a record, which are its
+-- descriptors and its commit, and to read and write each block
+abbrev pub calls_of : LogFormat → ℕ → ℕ
+calls_of One n = 2 + 2 * n
+calls_of Two n = 1 + descriptors_of n + 2 * n
+
+-- so for these records
+abbrev pub copy_calls : LogFormat → List (List Entry) → ℕ
+copy_calls format [] = 0
+copy_calls format (entries ∷ records) = calls_of format (length entries) + copy_calls format records
+
+-- the blocks of these records are at home, in order, by as many calls as it takes
+pub record AreCopied (shape : Shape) (records : List (List Entry)) (old new : State) : Type 0 where
+  pub home : (b : ℕ) → new.content (first_home shape + b)
+      ≡ with_records records (home_of shape old.content) b
+  pub exact : new.calls ≡ old.calls + copy_calls shape.format records
+
+-- how many calls they are for a record at most
+abbrev pub most_calls_of : LogFormat → ℕ
+most_calls_of One = 98
+most_calls_of Two = 489
+
+-- how many calls it takes at most to find out whether a record is whole
+abbrev pub most_reads_of : LogFormat → ℕ
+most_reads_of One = 2
+most_reads_of Two = slot_sectors_of Two
+
+-- how many calls a recovery makes at most for each slot: to find its record, and to copy it home
+abbrev pub most_start_of : LogFormat → ℕ
+most_start_of One = 100
+most_start_of Two = 738
+
+-- how many writes and flushes it makes at most: one for each block of a record in each slot, a
+-- flush before them, and a flush, the head and a flush behind them
+abbrev pub most_start_sends : LogFormat → ℕ → ℕ
+most_start_sends format slots = limit_of format * slots + 4
+
+-- the image is that one with its head at this stamp
+pub record HasNewHead (stamp : ℕ) (before image : Image) : Type 0 where
+  pub head : IsHead stamp (image 1)
+  pub elsewhere : (x : ℕ) → x ≢ 1 → image x ≡ before x

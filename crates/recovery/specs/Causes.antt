@@ -10,9 +10,8 @@ use Rattle.journal.specs.Sectors.{IsHead}
 pub use Rattle.journal.specs.Reads.{IsRefusedCall, MakesReadsAlone}
 use Rattle.journal.specs.ImageFaults as image
 use Rattle.recovery.specs.declared.start_fault.StartFault.{StartFault}
-use Rattle.recovery.specs.declared.start_fault.StartFault.TheVariants.{Read, Write, Flush}
-use Rattle.recovery.specs.declared.start_fault.StartFault.TheVariants.{BadSuper, BadVersion}
-use Rattle.recovery.specs.declared.start_fault.StartFault.TheVariants.{BadSize, BadHead}
+use Rattle.recovery.specs.declared.start_fault.StartFault.TheVariants.{Read, Write, Flush, BadSuper}
+use Rattle.recovery.specs.declared.start_fault.StartFault.TheVariants.{BadVersion, BadSize, BadHead}
 use Rattle.recovery.specs.declared.start_fault.StartFault.TheVariants.{StampsUsedUp, LogTooSmall}
 
 -- the start's name for a call that the medium refused

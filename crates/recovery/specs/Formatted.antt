@@ -8,8 +8,8 @@ pub use Rattle.journal.specs.Places.{Shape, first_home, sectors_of}
 use Rattle.journal.specs.Sectors.{IsSuper, IsHead}
 use Rattle.journal.specs.Record.{home_of}
 use Rattle.journal.specs.Standing.{IsOurs}
-use Rattle.recovery.specs.Unread.{MakesNoRead}
-use Rattle.recovery.specs.Calls.{CallsUpTo}
+use Rattle.medium.specs.declared.fault.MediumFault.{MediumFault}
+use Rattle.recovery.specs.Calls.{CallsUpTo, MakesNoRead, Writes}
 use Rattle.recovery.specs.declared.format_fault.FormatFault.{FormatFault}
 use Rattle.recovery.specs.declared.format_fault.FormatFault.TheVariants.{BadSize, Medium}
 
@@ -29,13 +29,6 @@ pub record IsFormatted (shape : Shape) (m : State) : Type 0 where
   pub head : IsHead 1 (m.content 1)
   pub zeros : (x : ℕ) → 2 ≤ x → x < sectors_of shape → m.content x ≡ replicate 512 0
   pub ours : IsOurs m.size shape m.content (λ b. replicate 512 0) 2
-
--- the array that an image stands for once it has zeros up to this end: zeros in the home sectors
--- before the end, and what it held in those behind
-pub record IsArrayFrom (shape : Shape) (end : ℕ) (before : Image) (array : Array) : Type 0 where
-  pub zeros : (b : ℕ) → b < shape.blocks → first_home shape + b < end → array b ≡ replicate 512 0
-  pub kept : (b : ℕ) → b < shape.blocks → end ≤ first_home shape + b
-      → array b ≡ home_of shape before b
 
 -- The one image that a cut may leave has these sizes, the head at stamp 1, zeros up to the end, and
 -- from there on what it held; it is ours, for this array, and its next stamp is 2.
@@ -69,6 +62,29 @@ pub record ImageLeaves (shape : Shape) (array : Array) (end : ℕ) (old new : St
   pub spares : SparesFrom end old new
   -- nothing is read
   pub looked_stays : new.looked ≡ old.looked
+
+-- Behind this super and a head at stamp 1 the image has zeros up to the end, and from there on what
+-- it held.
+pub record IsWritten (shape : Shape) (end : ℕ) (before image : Image) : Type 0 where
+  pub super : IsSuper shape (image 0)
+  pub head : IsHead 1 (image 1)
+  pub zeros : (x : ℕ) → 2 ≤ x → x < end → image x ≡ replicate 512 0
+  pub behind : (x : ℕ) → end ≤ x → image x ≡ before x
+
+-- so, or with zeros in place of a super
+abbrev pub IsNoneOrWritten : Shape → ℕ → Image → Image → Type 0
+IsNoneOrWritten shape end before image =
+    (image 0 ≡ replicate 512 0) ⊎ IsWritten shape end before image
+
+-- An image of this shape is written with zeros up to this end. From the first good flush on, the
+-- second call, no old image is left.
+pub record WritesImage (shape : Shape) (end : ℕ) (old new : State)
+    (result : Result (Unit {0}) MediumFault) : Type 0 where
+  pub done : OnOk result (IsWritten shape end old.content new.content × IsFlushed new)
+  pub writes : Writes (λ image. CutLeaves old.may_leave image
+      ⊎ IsNoneOrWritten shape end old.content image) end (end + 5) old new result
+  pub after_flush : old.calls + 3 ≤ new.calls → (image : Image)
+      → new.left_since (old.calls + 2) image → IsNoneOrWritten shape end old.content image
 
 -- What a format leaves at each moment of it: the new image is one of blocks of zeros.
 abbrev pub FormatLeaves : Shape → State → State → Type 0

@@ -1,12 +1,5 @@
 pub mod Calls
 pub mod Causes
-pub mod Found
-pub mod Unread
-pub mod Copies
 pub mod Formatted
-pub mod Looks
-pub mod Migrated
 pub mod Inspected
 pub mod Recovered
-pub mod Tries
-pub mod Steps

@@ -1,14 +1,14 @@
 //! The copying of the whole records home.
 ghost use Rattle.std.specs.Prelude.{◌≡◌, ◌<◌, ◌≤◌, ◌+◌, ◌*◌, ◌^◌, ◌++◌};
-ghost use Rattle.std.specs.Prelude.{List, ℕ, OnOk, length, [], get_or, slice_index, drop};
+ghost use Rattle.std.specs.Prelude.{List, ℕ, OnOk, length, [], ◌∷◌, get_or, slice_index, drop};
 ghost use Rattle.journal.specs.Places.{first_home, sectors_of, limit_of};
 ghost use Rattle.journal.specs.Values.{shape_of};
 ghost use Rattle.journal.specs.Record.{Entry};
 ghost use Rattle.journal.specs.Formats.{IsWhole, HasWhole};
 ghost use Rattle.recovery.specs.Calls.{Copies};
 ghost use Rattle.journal.specs.Reading.{data_at};
-ghost use Rattle.recovery.specs.Copies.{most_calls_of, IsHomeOf, IsHomeInRecord, IsHomeInRecords};
-ghost use Rattle.recovery.specs.Copies.{AreBlocks, IsCopied, AreCopied};
+ghost use Rattle.recovery.specs.Calls.{most_calls_of, IsHomeOf, IsHomeInRecord, IsHomeInRecords};
+ghost use Rattle.recovery.specs.Calls.{AreBlocks, AreCopied};
 
 use crate::found::Found;
 use journal::{Record, Super, copy_place, read_record, slot_of};
@@ -27,8 +27,9 @@ pub(crate) fn copy_sector<M: Medium>(
     ensures done { OnOk result (((M.state m.new).content to
         ≡ first.now ++ drop (length first.now) ((M.state m.old).content from))
         × ((M.state m.new).calls ≡ (M.state m.old).calls + 2)) }
-    ensures copies { Copies M.state M.follows (λ s. s ≡ to) (λ s. s ≡ from) 2 1
-        m.old m.new result }
+    ensures copies { Copies (λ s. s ≡ to) (λ s. s ≡ from) 2 1
+        (M.state m.old) (M.state m.new) result }
+    ensures follows { M.follows m.old m.new }
 {
     let mut sector = [0; 512];
     m.read(from, &mut sector)?;
@@ -52,10 +53,11 @@ fn copy_blocks<M: Medium>(
         ++ drop (length (get_or read.now.firsts.items i []))
         ((M.state m.old).content (data_at (shape_of sizes.now) stamp i)))
         × ((M.state m.new).calls ≡ (M.state m.old).calls + 2 * length read.now.numbers.items)) }
-    ensures copies { Copies M.state M.follows
+    ensures copies { Copies
         (IsHomeOf (shape_of sizes.now) read.now.numbers.items)
         (λ s. s < first_home (shape_of sizes.now)) (2 * length read.now.numbers.items)
-        (length read.now.numbers.items) m.old m.new result }
+        (length read.now.numbers.items) (M.state m.old) (M.state m.new) result }
+    ensures follows { M.follows m.old m.new }
 {
     let slot = slot_of(stamp, sizes.slots);
     for i in 0..read.numbers.len() {
@@ -81,11 +83,12 @@ fn copy_record<M: Medium>(
     ensures done { (entries : List Entry)
         → IsWhole (shape_of sizes.now) (M.state m.old).content stamp entries
         → OnOk result
-        (IsCopied (shape_of sizes.now) entries (M.state m.old) (M.state m.new)) }
-    ensures copies { Copies M.state M.follows
+        (AreCopied (shape_of sizes.now) (entries ∷ []) (M.state m.old) (M.state m.new)) }
+    ensures copies { Copies
         (IsHomeInRecord (shape_of sizes.now) (M.state m.old).content stamp)
         (λ s. s < first_home (shape_of sizes.now)) (most_calls_of sizes.now.format)
-        (limit_of sizes.now.format) m.old m.new result }
+        (limit_of sizes.now.format) (M.state m.old) (M.state m.new) result }
+    ensures follows { M.follows m.old m.new }
 {
     if read_record(m, sizes, stamp, read)? {
         copy_blocks(m, sizes, stamp, read)
@@ -105,11 +108,12 @@ pub(crate) fn copy_records<M: Medium>(m: &mut M, found: &Found) -> Result<(), Me
         (M.state m.old).content (found.now.head + k) (get_or records k []))
         → OnOk result
         (AreCopied (shape_of found.now.sizes) records (M.state m.old) (M.state m.new)) }
-    ensures copies { Copies M.state M.follows (IsHomeInRecords (shape_of found.now.sizes)
+    ensures copies { Copies (IsHomeInRecords (shape_of found.now.sizes)
         (M.state m.old).content found.now.head found.now.count)
         (λ s. s < first_home (shape_of found.now.sizes))
         (most_calls_of found.now.sizes.format * found.now.count)
-        (limit_of found.now.sizes.format * found.now.count) m.old m.new result }
+        (limit_of found.now.sizes.format * found.now.count) (M.state m.old) (M.state m.new) result }
+    ensures follows { M.follows m.old m.new }
 {
     let mut read = Record::new();
     for j in 0..found.count {

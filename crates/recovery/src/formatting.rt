@@ -5,8 +5,7 @@ ghost use Rattle.journal.specs.Places.{new_shape, sectors_of, slot_sectors_of};
 ghost use Rattle.journal.specs.Values.{shape_of};
 ghost use Rattle.recovery.specs.Calls.{CallsUpTo};
 ghost use Rattle.recovery.specs.Formatted.{AreSizes, IsFormatted, FormatLeaves, IsFormatCause};
-ghost use Rattle.recovery.specs.Formatted.{Formats};
-ghost use Rattle.recovery.specs.Steps.{WritesImage};
+ghost use Rattle.recovery.specs.Formatted.{Formats, WritesImage};
 
 use crate::FormatFault;
 use crate::sectors::{clear, write_through};
@@ -38,7 +37,8 @@ pub(crate) fn write_image<M: Medium>(m: &mut M, sizes: &Super, end: u64) -> Resu
     requires fits { sectors_of (shape_of sizes.now) ≤ (M.state m.old).size }
     requires log { sizes.now.home ≤ end }
     requires inside { end ≤ sectors_of (shape_of sizes.now) }
-    ensures { WritesImage M.state M.follows (shape_of sizes.now) end m.old m.new result }
+    ensures image { WritesImage (shape_of sizes.now) end (M.state m.old) (M.state m.new) result }
+    ensures follows { M.follows m.old m.new }
 {
     write_through(m, 0, &[0; 512])?;
     clear(m, 1, end)?;

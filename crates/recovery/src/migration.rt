@@ -1,14 +1,14 @@
 //! The migration of an image of format 1 to format 2.
-ghost use Rattle.std.specs.Prelude.{◌<◌, ◌≤◌, ◌+◌, ◌*◌, ◌^◌, ℕ, IfOk, IfErr};
+ghost use Rattle.std.specs.Prelude.{◌≡◌, ◌<◌, ◌≤◌, ◌+◌, ◌*◌, ◌^◌, ℕ, IfOk, IfErr};
 ghost use Rattle.medium.specs.Moments.{EachCut, IsFlushed};
 ghost use Rattle.spec.specs.Blocks.{Array};
-ghost use Rattle.journal.specs.Places.{Shape, sectors_of};
+ghost use Rattle.journal.specs.Places.{Shape, sectors_of, migrated};
 ghost use Rattle.journal.specs.Values.{shape_of};
 ghost use Rattle.journal.specs.Standing.{IsOurs};
 ghost use Rattle.recovery.specs.Recovered.{IsFresh};
-ghost use Rattle.recovery.specs.Migrated.{CanMigrate, IsMigrationBy, IsMigrationRefusal};
-ghost use Rattle.recovery.specs.Migrated.{MigrationLeaves};
-ghost use Rattle.recovery.specs.Steps.{MakesTwo};
+ghost use Rattle.recovery.specs.Recovered.{CanMigrate, IsMigrationBy, IsMigrationRefusal};
+ghost use Rattle.recovery.specs.Recovered.{MigrationLeaves, IsMadeTwo, StaysFresh};
+ghost use Rattle.recovery.specs.Calls.{Writes};
 
 use crate::new_head::move_head;
 use crate::recovery::recover_at_least;
@@ -56,7 +56,15 @@ fn make_two<M: Medium>(m: &mut M, found: &Recovered) -> Result<Recovered, Medium
     requires flushed { IsFlushed (M.state m.old) }
     requires least { 1 ≤ found.now.next }
     requires most { found.now.next < 2 ^ 63 }
-    ensures { MakesTwo M.state M.follows found.now m.old m.new result }
+    // The answer tells what was made.
+    ensures ok { IfOk result (λ answer. (shape_of answer.sizes ≡ migrated (shape_of found.now.sizes))
+        × (answer.next ≡ found.now.next)
+        × IsMadeTwo (shape_of found.now.sizes) found.now.next (M.state m.new)) }
+    // A write for each sector of the log, a flush, the head, a flush, the super and a flush.
+    ensures writes { Writes
+        (StaysFresh (shape_of found.now.sizes) found.now.next (M.state m.old).content)
+        found.now.sizes.home (found.now.sizes.home + 3) (M.state m.old) (M.state m.new) result }
+    ensures follows { M.follows m.old m.new }
 {
     let sizes = found.sizes.migrated();
     clear(m, 2, sizes.home)?;

@@ -1,6 +1,8 @@
 //! The move of the head.
-ghost use Rattle.std.specs.Prelude.{◌<◌, ◌≤◌, ◌^◌};
-ghost use Rattle.recovery.specs.Steps.{MovesHeadTo};
+ghost use Rattle.std.specs.Prelude.{◌⊎◌, ◌<◌, ◌≤◌, ◌^◌, OnOk};
+ghost use Rattle.medium.specs.Medium.{CutLeaves};
+ghost use Rattle.medium.specs.Moments.{IsFlushed};
+ghost use Rattle.recovery.specs.Calls.{HasNewHead, Writes};
 
 use crate::sectors::write_through;
 use journal::Head;
@@ -11,7 +13,13 @@ pub(crate) fn move_head<M: Medium>(m: &mut M, stamp: u64) -> Result<(), MediumFa
     requires inside { 1 < (M.state m.old).size }
     requires least { 1 ≤ stamp }
     requires most { stamp < 2 ^ 63 }
-    ensures { MovesHeadTo M.state M.follows stamp m.old m.new result }
+    ensures done { OnOk result (HasNewHead stamp (M.state m.old).content (M.state m.new).content
+        × IsFlushed (M.state m.new)) }
+    // A cut leaves what it could leave before, or the contents with the new head.
+    ensures writes { Writes (λ image. CutLeaves (M.state m.old).may_leave image
+        ⊎ HasNewHead stamp (M.state m.old).content image) 2 3
+        (M.state m.old) (M.state m.new) result }
+    ensures follows { M.follows m.old m.new }
 {
     m.flush()?;
     write_through(m, 1, &Head::new(stamp).encode())

@@ -7,7 +7,8 @@ ghost use Rattle.journal.specs.Places.{Shape};
 ghost use Rattle.journal.specs.Standing.{IsOurs};
 ghost use Rattle.recovery.specs.Recovered.{IsRecoveredFrom, IsRecoveryRefusal};
 ghost use Rattle.recovery.specs.Recovered.{IsFresh, RecoveryLeaves};
-ghost use Rattle.recovery.specs.Steps.{RecoversAtLeast};
+ghost use Rattle.recovery.specs.Recovered.{IsRecoveredAtLeast, LeavesAtLeast};
+ghost use Rattle.recovery.specs.Causes.{IsRefusalBy, WritesNothing};
 
 use crate::copies::copy_records;
 use crate::new_head::move_head;
@@ -41,7 +42,13 @@ pub fn recover<M: Medium>(m: &mut M) -> Result<Recovered, StartFault>
 
 /// Recovers an image whose log, where it is of format 1, has at least `least` slots.
 pub(crate) fn recover_at_least<M: Medium>(m: &mut M, least: u64) -> Result<Recovered, StartFault>
-    ensures { RecoversAtLeast M.state M.follows least m.old m.new result }
+    ensures ok { IfOk result (IsRecoveredAtLeast least (M.state m.old) (M.state m.new)) }
+    ensures fresh { (shape : Shape) (array : Array) (next : ℕ)
+        → IsOurs (M.state m.old).size shape (M.state m.old).content array next
+        → OnOk result (EachCut (IsFresh shape array next) (M.state m.new)) }
+    ensures err { IfErr result (IsRefusalBy least WritesNothing (M.state m.old) (M.state m.new)) }
+    ensures leaves { LeavesAtLeast least (M.state m.old) (M.state m.new) }
+    ensures follows { M.follows m.old m.new }
 {
     m.flush()?;
     let found = inspect(m, least)?;

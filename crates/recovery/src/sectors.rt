@@ -1,10 +1,9 @@
 //! Sectors that are written at once, and not through the log.
 ghost use Rattle.std.specs.Prelude.{◌≡◌, ◌<◌, ◌≤◌, ◌-◌, ℕ, OnOk, replicate};
-ghost use Rattle.medium.specs.Medium.{Holds};
+ghost use Rattle.medium.specs.Medium.{Holds, CutLeaves};
 ghost use Rattle.medium.specs.Moments.{IsFlushed};
-ghost use Rattle.recovery.specs.Unread.{ReadsNothing};
-ghost use Rattle.recovery.specs.Calls.{FollowsBy, WritesAllPass, ClearsAllPass};
-ghost use Rattle.recovery.specs.Copies.{WithOrWithout, IsBetween};
+ghost use Rattle.recovery.specs.Calls.{FollowsBy, WritesAllPass};
+ghost use Rattle.recovery.specs.Calls.{WithOrWithout, IsBetween, cleared_at};
 
 use medium::{Medium, MediumFault};
 
@@ -18,9 +17,10 @@ pub fn clear<M: Medium>(m: &mut M, from: u64, end: u64) -> Result<(), MediumFaul
     requires some { from ≤ end }
     ensures zeros { OnOk result ((x : ℕ) → from ≤ x → x < end
         → (M.state m.new).content x ≡ replicate 512 0) }
-    ensures clears { ClearsAllPass (IsBetween from end) (end - from)
+    ensures clears { WritesAllPass (IsBetween from end)
+        (CutLeaves (cleared_at (IsBetween from end) (M.state m.old).may_leave)) (end - from)
         (M.state m.old) (M.state m.new) result }
-    ensures follows { FollowsBy M.state M.follows (end - from) ReadsNothing m.old m.new }
+    ensures follows { FollowsBy M.state M.follows (end - from) m.old m.new }
 {
     for sector in from..end {
         m.write(sector, &[0; 512])?;
@@ -45,7 +45,7 @@ pub fn write_through<M: Medium>(
     ensures writes { WritesAllPass (λ x. x ≡ place)
         (WithOrWithout place sector.now (M.state m.old).may_leave) 2
         (M.state m.old) (M.state m.new) result }
-    ensures follows { FollowsBy M.state M.follows 2 ReadsNothing m.old m.new }
+    ensures follows { FollowsBy M.state M.follows 2 m.old m.new }
 {
     m.write(place, sector)?;
     m.flush()

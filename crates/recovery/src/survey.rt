@@ -1,49 +1,40 @@
 //! What recovery reads before its first write.
-ghost use Rattle.std.specs.Prelude.{◌≡◌, ◌<◌, ◌≤◌, ◌+◌, ◌*◌, ◌^◌, ◌↔◌};
-ghost use Rattle.std.specs.Prelude.{IfOk, IfErr, min, IsTrue};
-ghost use Rattle.medium.specs.Medium.{LooksOnly};
+ghost use Rattle.std.specs.Prelude.{◌≡◌, ◌<◌, ◌≤◌, ◌↔◌, IfOk, IfErr, IsTrue};
 ghost use Rattle.journal.specs.declared.log_format.LogFormat.TheVariants.{One};
-ghost use Rattle.journal.specs.Places.{first_home, sectors_of};
+ghost use Rattle.journal.specs.Places.{sectors_of};
 ghost use Rattle.journal.specs.Values.{shape_of};
 ghost use Rattle.journal.specs.ImageFaults.{HasShape};
-ghost use Rattle.journal.specs.Sectors.{IsSuper};
-ghost use Rattle.journal.specs.Reads.{LooksUp};
-ghost use Rattle.recovery.specs.Calls.{ReadsUpTo};
-ghost use Rattle.recovery.specs.Copies.{most_reads_of};
-ghost use Rattle.recovery.specs.Found.{CountsWhole};
-ghost use Rattle.recovery.specs.Inspected.{IsLookCause, IsSuperCause};
-ghost use Rattle.recovery.specs.Steps.{Surveys};
+ghost use Rattle.journal.specs.Sectors.{IsSuper, IsHead};
+ghost use Rattle.medium.specs.Moments.{IsQuiet};
+ghost use Rattle.recovery.specs.Causes.{IsRefusalBy};
+ghost use Rattle.recovery.specs.Inspected.{IsSuperCause, LooksAtFirst, IsSurvey, SurveysAtMost};
 
 use crate::StartFault;
 use crate::found::Found;
-use crate::record::count_blocks;
+use crate::record::count_waiting;
 use journal::{Head, Super, SuperFault};
-use medium::{Medium, MediumFault};
+use medium::Medium;
 
-// Counts the whole records from the head on.
-fn count_whole<M: Medium>(m: &mut M, sizes: &Super, head: u64) -> Result<u64, MediumFault>
-    requires fits { sectors_of (shape_of sizes.now) ≤ (M.state m.old).size }
-    requires head { head < 2 ^ 63 }
-    ensures { LooksUp M.state M.follows (most_reads_of sizes.now.format * sizes.now.slots)
-        (λ s. s < first_home (shape_of sizes.now)) (CountsWhole (shape_of sizes.now) head)
+/// Reads the super and the stamp of the head.
+pub(crate) fn read_head<M: Medium>(m: &mut M) -> Result<(Super, u64), StartFault>
+    ensures { LooksAtFirst M.state M.follows (λ s found.
+        HasShape s.size (shape_of found.0) s.content × IsHead found.1 (s.content 1)) 2
         m.old m.new result }
 {
-    for j in 0..sizes.slots {
-        let Some(_) = count_blocks(m, sizes, head + j)? else {
-            return Ok(j);
-        };
-    }
-    Ok(sizes.slots)
+    let sizes = read_super(m)?;
+    let mut sector = [0; 512];
+    m.read(1, &mut sector)?;
+    let Some(head) = Head::decode(&sector) else {
+        return Err(StartFault::BadHead);
+    };
+    Ok((sizes, head.stamp))
 }
 
-/// Reads the super.
-pub(crate) fn read_super<M: Medium>(m: &mut M) -> Result<Super, StartFault>
-    ensures reads { ReadsUpTo 1 (M.state m.old) (M.state m.new) result }
-    ensures err { IfErr result (IsLookCause (M.state m.old) (M.state m.new)) }
-    ensures ok { IfOk result (λ sizes.
-        HasShape (M.state m.old).size (shape_of sizes) (M.state m.old).content) }
-    ensures follows { M.follows m.old m.new
-        × LooksOnly (λ s. s ≡ 0) (M.state m.old) (M.state m.new) }
+// Reads the super.
+#[tactic(auto, using(crate::proofs::JoinedCalls::super_looked))]
+fn read_super<M: Medium>(m: &mut M) -> Result<Super, StartFault>
+    ensures { LooksAtFirst M.state M.follows (λ s sizes. HasShape s.size (shape_of sizes) s.content)
+        1 m.old m.new result }
 {
     if m.sectors() == 0 {
         return Err(StartFault::BadSize);
@@ -84,24 +75,19 @@ fn has_few_slots(sizes: &Super, least: u64) -> bool
 /// Reads all that recovery has to know before its first write. A log of format 1 with fewer slots
 /// than these is too small.
 pub(crate) fn inspect<M: Medium>(m: &mut M, least: u64) -> Result<Found, StartFault>
-    ensures { Surveys M.state M.follows least m.old m.new result }
+    ensures reads { SurveysAtMost (M.state m.old) (M.state m.new) }
+    ensures ok { IfOk result (IsSurvey least (M.state m.old).size (M.state m.old).content
+        (M.state m.old).calls (M.state m.new).calls) }
+    ensures err { IfErr result (IsRefusalBy least IsQuiet (M.state m.old) (M.state m.new)) }
+    ensures follows { M.follows m.old m.new }
 {
-    let sizes = read_super(m)?;
-    let mut sector = [0; 512];
-    m.read(1, &mut sector)?;
-    let Some(head) = Head::decode(&sector) else {
-        return Err(StartFault::BadHead);
-    };
+    let (sizes, head) = read_head(m)?;
     if has_few_slots(&sizes, least) {
         return Err(StartFault::LogTooSmall);
     }
-    let count = count_whole(m, &sizes, head.stamp)?;
-    if head.stamp + count < (1 << 63) - 1 {
-        Ok(Found {
-            sizes,
-            head: head.stamp,
-            count,
-        })
+    let count = count_waiting(m, &sizes, head)?.len() as u64;
+    if head + count < (1 << 63) - 1 {
+        Ok(Found { sizes, head, count })
     } else {
         Err(StartFault::StampsUsedUp)
     }

@@ -7,7 +7,7 @@ use Rattle.journal.specs.declared.log_format.LogFormat.{LogFormat}
 use Rattle.journal.specs.declared.log_format.LogFormat.TheVariants.{One, Two}
 use Rattle.medium.specs.Medium.{LooksOnly}
 use Rattle.medium.specs.Sent.{sent, SendsUpTo}
-use Rattle.recovery.specs.Copies.{most_start_sends}
+use Rattle.recovery.specs.Calls.{most_start_sends}
 use Rattle.window.specs.Window.{Window, state_of, is_in_sight, ComesAfter, IsServed}
 use Rattle.window.specs.Looks.{near_in_sight, none_refused, none_missed, none_kept_out}
 use Rattle.blocks.specs.Looks.{IsLogOrHome, LooksAtLog, LooksAtBlocks}

@@ -8,8 +8,8 @@ use Rattle.journal.specs.declared.log_format.LogFormat.TheVariants.{Two}
 use Rattle.medium.specs.Medium.{State}
 use Rattle.medium.specs.Writes.{sector_of}
 use Rattle.mirror.specs.Parts as mirror
-use Rattle.recovery.specs.Copies.{most_start_sends}
-use Rattle.recovery.specs.Looks as recovery
+use Rattle.recovery.specs.Calls.{most_start_sends}
+use Rattle.recovery.specs.Calls as recovery
 use Rattle.window.specs.Window.{Window, state_of, mirror_of, kept_out, is_in_sight, ComesAfter}
 use Rattle.window.specs.Window.{CoversDevice, IsServed}
 use Rattle.blocks.specs.Sent.{most_sent}

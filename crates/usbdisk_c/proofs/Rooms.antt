@@ -12,7 +12,7 @@ use Rattle.medium.specs.Medium.{LooksOnly}
 use Rattle.medium.specs.Sent.{sent}
 use Rattle.mirror.specs.Story.{given}
 use Rattle.mirror.specs.declared.call.DeviceCall.{DeviceCall}
-use Rattle.recovery.specs.Copies.{most_start_sends}
+use Rattle.recovery.specs.Calls.{most_start_sends}
 use Rattle.window.specs.Window.{Window, fresh, state_of, is_in_sight, ComesAfter, IsServed}
 use Rattle.window.specs.Looks.{near_in_sight, none_refused, none_missed, none_kept_out}
 use Rattle.scsi_unit.specs.Calls.{most_sends_of}

@@ -5,7 +5,7 @@ use Rattle.mirror.specs.OutboxMedium.{first_of}
 use Rattle.window.specs.Window.{Window}
 use Rattle.journal.specs.Places.{Shape, first_home}
 use Rattle.journal.specs.Sectors.{IsSuper}
-use Rattle.recovery.specs.Looks.{HoldsLog}
+use Rattle.recovery.specs.Calls.{HoldsLog}
 use Rattle.spec.specs.Identification.{Identification, IsLegible}
 use Rattle.bot_machine.specs.Device.{device_by, Ahead}
 use Rattle.spec.specs.Packets.{bytes_of}

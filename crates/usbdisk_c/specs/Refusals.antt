@@ -5,7 +5,7 @@ use Rattle.journal.specs.Places.{Shape, first_home, sectors_of}
 use Rattle.journal.specs.Sectors.{IsSuper}
 use Rattle.journal.specs.declared.log_format.LogFormat.TheVariants.{Two}
 use Rattle.medium.specs.Medium.{State}
-use Rattle.recovery.specs.Looks as recovery
+use Rattle.recovery.specs.Calls as recovery
 use Rattle.window.specs.Window.{Window, state_of, kept_out}
 use Rattle.spec.specs.declared.event.Event.{Event}
 use Rattle.spec.specs.declared.event.Event.TheVariants as event

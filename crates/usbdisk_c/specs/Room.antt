@@ -3,7 +3,7 @@ use Rattle.std.specs.Prelude.{◌≡◌, ◌≢◌, ◌≤◌, ◌<◌, ◌⊎�
 use Rattle.journal.specs.Places.{Shape, limit_of}
 use Rattle.journal.specs.declared.log_format.LogFormat.{LogFormat}
 use Rattle.journal.specs.declared.log_format.LogFormat.TheVariants.{One, Two}
-use Rattle.recovery.specs.Copies.{most_start_sends}
+use Rattle.recovery.specs.Calls.{most_start_sends}
 use Rattle.scsi_unit.specs.Calls.{most_sends_of}
 
 -- As many writes and flushes as an event makes at most, and as a start does that finds

@@ -3,7 +3,7 @@ use Rattle.std.specs.Prelude.{Option, Some}
 use Rattle.journal.specs.Places.{Shape}
 use Rattle.journal.specs.Values.{shape_of}
 use Rattle.journal.specs.declared.super_sector.Super.{Super}
-use Rattle.recovery.specs.Copies.{most_start_sends}
+use Rattle.recovery.specs.Calls.{most_start_sends}
 use Rattle.window.specs.Window.{state_of}
 use Rattle.images.specs.Exporting.{recovery_room}
 use Rattle.images.proofs.Misses.{misses, by_image}

@@ -3,7 +3,7 @@ use Rattle.std.specs.Prelude.{Option, Some}
 use Rattle.journal.specs.Places.{Shape}
 use Rattle.journal.specs.Values.{shape_of}
 use Rattle.journal.specs.declared.super_sector.Super.{Super}
-use Rattle.recovery.specs.Migrated.{most_migration_sends}
+use Rattle.recovery.specs.Recovered.{most_migration_sends}
 use Rattle.window.specs.Window.{state_of}
 use Rattle.images.specs.Migrating.{migration_room}
 use Rattle.images.proofs.Misses.{misses, migration_by_image}
@@ -31,7 +31,7 @@ returns-in-Err-clause-err c = λ told.
           c.in_ok-window.window c.migrate.new.m over have
           (c.waiting-waiting.ensures.served c.migrate.new.m c.migrate.ensures.follows)
           c.migrate.ensures.leaves.looks (λ shape same has. few _ _ c.args.first.sizes sizes shape have.sizes_are same
-          (c.migrate.ensures.leaves.sends shape has))) c.in-Err.ensures.err.cause;
+          (c.migrate.ensures.leaves.sends.most shape has))) c.in-Err.ensures.err.cause;
       refused_is = refl;
       unasked = refl;
     }))

@@ -1,20 +1,15 @@
-use Rattle.std.proofs.Common.{◌≡◌, ◌≢◌, ◌<◌, ◌≤◌, inl, inr, ◌∙◌, ◌+◌, ◌*◌, ◌%◌, ℕ, length, get_or, ap, IfErr}
-use Rattle.std.proofs.Common.{arith, rules, Result}
+use Rattle.std.proofs.Common.{◌≡◌, ◌≢◌, ◌<◌, inl, inr, ◌∙◌, ◌+◌, ◌*◌, ◌%◌, ℕ, length, get_or, ap, arith, rules}
 use Rattle.std.proofs.lemmas.Bool.{cases_eq}
 use Rattle.std.proofs.lemmas.Nat.{mod_below}
-use Rattle.medium.specs.declared.fault.MediumFault.{MediumFault}
 use Rattle.journal.specs.Places.{first_home, first_data_of}
 use Rattle.journal.specs.Formats.{layout_of}
-use Rattle.journal.specs.Reads.{IsRefusedCall}
 use Rattle.journal.specs.Values.{shape_of}
 use Rattle.journal.specs.Reading.{data_at}
 use Rattle.journal.proofs.SectorsRead.{place_before}
-use Rattle.recovery.specs.Calls.{Copies}
-use Rattle.recovery.specs.Copies.{IsHomeOf}
 use Rattle.recovery.proofs.JoinedCalls.{copies_on, none_made}
 use Rattle.recovery.proofs.copies.copy_blocks.Given as given
 use Rattle.recovery.proofs.copies.copy_blocks.Goals as goal
-use Rattle.recovery.proofs.copies.copy_blocks.Goals.{After-first, After-copy_sector}
+use Rattle.recovery.proofs.copies.copy_blocks.Goals.{After-first}
 
 -- the sector that is read has the data of the block and stands in the log, and the one that is written is its home
 at_block : (g : given.Over) (c : After-first g) → (c.loop-i.i < length c.args.read.now.numbers.items)
@@ -29,22 +24,6 @@ at_block g c =
     let low = place_before sizes.format sizes.slots sizes.home (c.args.stamp % sizes.slots) c.loop-i.i sizes.home_is
     (mod_below c.args.stamp sizes.slots sizes.some_slots) (omega (arith, inside, c.requires.blocks.few)) in
     (inside, from, omega (arith, from, low), rw c.deref.ensures.0 at c.home_of.ensures)
-
--- the copies, good or refused, once one more was made
-copied : (g : given.Over) (c : After-copy_sector g) {X : Type 0} (result : Result X MediumFault) (most sends : ℕ)
-    → c.home_of.result ≡ first_home (shape_of c.args.sizes.now) + get_or c.args.read.now.numbers.items c.loop-i.i 0
-    → c.copy_place.result < first_home (shape_of c.args.sizes.now) → 2 * c.loop-i.i + 2 ≤ most → c.loop-i.i + 1 ≤ sends
-    → IfErr result (IsRefusedCall (g.M.Medium.state c.args.m.now) (g.M.Medium.state c.copy_sector.new.m))
-    → Copies g.M.Medium.state g.M.Medium.follows (IsHomeOf (shape_of c.args.sizes.now) c.args.read.now.numbers.items)
-    (λ s. s < first_home (shape_of c.args.sizes.now)) most sends c.args.m.now c.copy_sector.new.m result
-copied g c result most sends to low fit few cause = copies_on g.met.M.Medium.follows_through (g.met.M.Medium.sound c.loop-i.m)
-    (λ x e. (c.loop-i.i, omega (arith, c.loop-i-test.true, c.len-i-end.ensures.value), e ∙ to))
-    (λ s here. omega (arith, here, low)) c.loop-i.invariant.copies c.copy_sector.ensures.copies fit few cause
-
-pub copy_place-requires-clause-inside : goal.copy_place-requires-clause-inside
-copy_place-requires-clause-inside g c =
-    let inside : c.loop-i.i < length c.args.read.now.numbers.items = omega (arith, c.loop-i-test.true, c.len-i-end.ensures.value) in
-    omega (arith, inside, c.requires.blocks.few)
 
 pub copy_sector-requires-clause-from_inside : goal.copy_sector-requires-clause-from_inside
 copy_sector-requires-clause-from_inside g c =
@@ -62,16 +41,15 @@ loop-i-init g c = search (rules, none_made, g.met.M.Medium.sound, g.met.M.Medium
 
 pub returns-in_err-copy_sector-clause-copies : goal.returns-in_err-copy_sector-clause-copies
 returns-in_err-copy_sector-clause-copies g c =
-    let at = goal.at.returns-in_err-copy_sector-clause-copies g c in
-    let block = at_block g at.After-first in
-    copied g at.After-copy_sector _ _ _ block.3 block.2 (omega (arith, block.0)) (omega (arith, block.0)) (search rules)
+    let block = at_block g (goal.at.returns-in_err-copy_sector-clause-copies g c).After-first in
+    copies_on (g.met.M.Medium.sound c.loop-i.m) (λ x e. (c.loop-i.i, block.0, e ∙ block.3)) (λ s here. omega (arith, here, block.2))
+    c.loop-i.invariant.copies c.copy_sector.ensures.copies (omega (arith, block.0)) (omega (arith, block.0)) (search rules)
 
 pub loop-i-preserved : goal.loop-i-preserved
 loop-i-preserved g c =
-    let at = goal.at.loop-i-preserved g c in
     let shape = shape_of c.args.sizes.now in
     let i = c.loop-i.i in
-    let block = at_block g at.After-first in
+    let block = at_block g (goal.at.loop-i-preserved g c).After-first in
     let ns = c.args.read.now.numbers.items in
     let mid = g.M.Medium.state c.loop-i.m in
     let inv = c.loop-i.invariant in
@@ -86,6 +64,8 @@ loop-i-preserved g c =
             let apart : first_home shape + get_or ns k 0 ≢ c.home_of.result = λ e. omega (arith, e, block.3, up) in
             c.copy_sector.ensures.copies.elsewhere (first_home shape + get_or ns k 0) apart ∙ inv.copied k (omega arith)
       ];
-      copies = copied g at.After-copy_sector _ _ _ block.3 block.2 (omega arith) (omega arith) tt;
+      follows = g.met.M.Medium.follows_through _ _ _ inv.follows c.copy_sector.ensures.follows;
+      copies = copies_on (g.met.M.Medium.sound c.loop-i.m) (λ x e. (i, block.0, e ∙ block.3)) (λ s here. omega (arith, here, block.2))
+          inv.copies c.copy_sector.ensures.copies (omega arith) (omega arith) tt;
       calls = omega (arith, inv.calls, c.in_ok-copy_sector.ensures.done.1);
     }

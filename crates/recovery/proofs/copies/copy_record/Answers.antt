@@ -4,12 +4,13 @@ use Rattle.std.proofs.lemmas.Result.{on_ok_weaker}
 use Rattle.medium.specs.Medium.{Image}
 use Rattle.journal.specs.declared.log_format.LogFormat.{LogFormat}
 use Rattle.journal.specs.declared.record.Record.{Record}
-use Rattle.journal.specs.Places.{Shape, limit_of}
-use Rattle.journal.specs.Record.{numbers_of}
+use Rattle.journal.specs.Places.{Shape, first_home, limit_of}
+use Rattle.journal.specs.Record.{numbers_of, home_of}
 use Rattle.journal.specs.Values.{shape_of}
 use Rattle.journal.specs.Reading.{record_reads_of, data_at, IsReadFor, FindsRecord}
 use Rattle.journal.proofs.Formats.{most_is}
-use Rattle.recovery.specs.Copies.{AreBlocks, IsHomeOf, calls_of, most_calls_of}
+use Rattle.journal.proofs.Overlay.{with_blocks-copied}
+use Rattle.recovery.specs.Calls.{AreBlocks, IsHomeOf, calls_of, most_calls_of}
 use Rattle.recovery.proofs.CopiedRecords.{number_of, long_as}
 use Rattle.recovery.proofs.JoinedCalls.{none_copies, copies_on}
 use Rattle.recovery.proofs.copies.copy_record.Given as given
@@ -60,7 +61,7 @@ returns-then-branch-clause-copies g c =
     let whole = c.requires.whole in
     let is = (found g at).all whole.0 whole.1 in
     let few = (blocks g at).few in
-    copies_on {less = 0} g.met.M.Medium.follows_through (g.met.M.Medium.sound c.read_record.new.m)
+    copies_on {less = 0} (g.met.M.Medium.sound c.read_record.new.m)
     (λ x h. (whole.0, whole.1, subst (λ (l : List ℕ). IsHomeOf shape l x) is.numbers_are h)) (λ s below. below)
     (none_copies (g.met.M.Medium.sound c.args.m.now) c.read_record.ensures (omega arith) c.read_record.ensures.passes.cause)
     c.copy_blocks.ensures.copies (most_copied c.args.sizes.now.format _ few) (omega (arith, few)) (search rules)
@@ -74,11 +75,18 @@ returns-then-branch-clause-done g c entries all =
     let many : length ns ≡ length entries = long_as entries ns its.numbers_are in
     let fs = c.read_record.new.to.firsts.items in
     on_ok_weaker c.copy_blocks.result (λ done. record {
-      home = λ i below.
-          rw (← number_of entries ns i its.numbers_are) (done.0 i (omega (arith, many, below))
+      -- home is as if the blocks of the record were laid over it
+      home = with_blocks-copied entries (home_of shape (g.M.Medium.state c.args.m.now).content) _
+          (λ i below. rw (← number_of entries ns i its.numbers_are) (done.0 i (omega (arith, many, below))
           ∙ ap (λ (bytes : List ℕ). get_or fs i [] ++ drop (length (get_or fs i [])) bytes)
           (c.read_record.ensures.passes.quiet.content_stays (data_at shape c.args.stamp i))
-          ∙ its.blocks_are i below);
-      exact = calls_made shape.format shape _ c.args.stamp c.read_record.new.to _ finds.exact.0 _ _ _ finds.exact.1 many finds.exact.2
-          done.1;
+          ∙ its.blocks_are i below))
+          (λ b not. c.copy_blocks.ensures.copies.elsewhere (first_home shape + b) (λ h.
+          let number = number_of entries ns h.0 its.numbers_are in
+          let is = h.2 in
+          not h.0 (omega (arith, many, h.1)) (omega (arith, number, is)))
+          ∙ c.read_record.ensures.passes.quiet.content_stays (first_home shape + b));
+      exact =
+          let calls = calls_made shape.format shape _ c.args.stamp c.read_record.new.to _ finds.exact.0 _ _ _ finds.exact.1 many
+          finds.exact.2 done.1 in omega (arith, calls);
     }) c.copy_blocks.ensures.done

@@ -3,8 +3,7 @@ use Rattle.journal.specs.Places.{first_home, limit_of}
 use Rattle.journal.specs.Values.{shape_of}
 use Rattle.journal.specs.Record.{Entry}
 use Rattle.journal.specs.Formats.{IsWhole}
-use Rattle.recovery.specs.Calls.{Copies}
-use Rattle.recovery.specs.Copies.{most_calls_of, AreCopied, IsHomeInRecords}
+use Rattle.recovery.specs.Calls.{Copies, most_calls_of, AreCopied, IsHomeInRecords}
 use Rattle.recovery.proofs.copies.copy_records.Given as goal
 
 abbrev pub invariant-loop-j : goal.invariant-loop-j
@@ -13,8 +12,8 @@ invariant-loop-j g l = record {
       → ((k : ℕ) → k < length records
       → IsWhole (shape_of l.found.sizes) (g.M.Medium.state l.fn.m).content (l.found.head + k) (get_or records k []))
       → AreCopied (shape_of l.found.sizes) (take l.j records) (g.M.Medium.state l.fn.m) (g.M.Medium.state l.m);
-  copies : Copies {X = Unit {0}} g.M.Medium.state g.M.Medium.follows
-      (IsHomeInRecords (shape_of l.found.sizes) (g.M.Medium.state l.fn.m).content l.found.head l.found.count)
+  copies : Copies {X = Unit {0}} (IsHomeInRecords (shape_of l.found.sizes) (g.M.Medium.state l.fn.m).content l.found.head l.found.count)
       (λ s. s < first_home (shape_of l.found.sizes)) (most_calls_of l.found.sizes.format * l.j) (limit_of l.found.sizes.format * l.j)
-      l.fn.m l.m (Ok tt);
+      (g.M.Medium.state l.fn.m) (g.M.Medium.state l.m) (Ok tt);
+  follows : g.M.Medium.follows l.fn.m l.m;
 }

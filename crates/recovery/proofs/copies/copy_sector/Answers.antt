@@ -2,7 +2,7 @@ use Rattle.std.proofs.Common.{◌≡◌, ℕ, List, inl, inr, ◌++◌, length, 
 use Rattle.medium.specs.Medium.{Sets}
 use Rattle.medium.proofs.Moments.{quiet_call, quiet_leaves, gains_within, goes_on_within}
 use Rattle.medium.proofs.SectorsRead.{write_looks, looks_joined}
-use Rattle.recovery.specs.Copies.{freed_at}
+use Rattle.recovery.specs.Calls.{freed_at}
 use Rattle.recovery.proofs.copies.copy_sector.Goals as goal
 
 pub returns-clause-copies : goal.returns-clause-copies
@@ -17,5 +17,4 @@ returns-clause-copies g c =
       goes_on_within bound _ _ _ (quiet_leaves _ _ _ (g.met.M.Medium.sound c.args.m.now) (λ image cut s. inl (cut s)) quiet) wrote.passes
           (gains_within bound _ _ c.args.to bytes (λ s b left. inl (read.sets s b left)) wrote.sets (λ s b here. inr here.0)),
       looks_joined _ _ _ _ read.follows.1 (write_looks _ _ _ wrote.passes),
-      g.met.M.Medium.follows_through,
     )

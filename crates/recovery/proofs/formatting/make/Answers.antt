@@ -1,34 +1,34 @@
-use Rattle.std.proofs.Common.{refl, arith, rules, ◌∙◌, ap, replicate}
-use Rattle.journal.specs.Places.{Shape, new_shape, sectors_of}
-use Rattle.medium.specs.Medium.{State, Image}
-use Rattle.recovery.specs.Formatted.{IsArrayFrom, IsMade, IsFormatted}
+use Rattle.std.proofs.Common.{◌+◌, ◌∙◌, arith, rules, ap, replicate}
+use Rattle.std.specs.Prelude.{OnOk}
+use Rattle.journal.specs.Places.{new_shape, sectors_of, first_home}
+use Rattle.recovery.specs.Formatted.{IsMade, FormatLeaves, WritesImage}
+use Rattle.recovery.proofs.JoinedCalls.{image_made}
+use Rattle.recovery.proofs.formatting.make.Given as given
 use Rattle.recovery.proofs.formatting.make.Goals as goal
+use Rattle.recovery.proofs.formatting.make.Goals.{After-write_image}
 
--- an array of zeros is that of an image that has them up to its end
-zeros_from : (shape : Shape) (before : Image) → IsArrayFrom shape (sectors_of shape) before (λ b. replicate 512 0)
-zeros_from shape before = record { zeros = λ b below inside. refl; kept = λ b below past. absurd (omega (arith, below, past)) }
-
--- and then it is a formatted one
-formatted : (shape : Shape) (old new : State) → IsMade shape (λ b. replicate 512 0) (sectors_of shape) old new → IsFormatted shape new
-formatted shape old new made = search (rules, made.zeros)
+-- an image of the sizes that were wanted is made, with blocks of zeros
+made : (g : given.Over) (c : After-write_image g) → let shape = new_shape c.args.format c.args.blocks c.args.slots in
+    WritesImage shape (sectors_of shape) (g.M.Medium.state c.args.m.now) (g.M.Medium.state c.write_image.new.m) c.write_image.result
+    × OnOk c.write_image.result (IsMade shape (λ b. replicate 512 0) (sectors_of shape) (g.M.Medium.state c.args.m.now)
+    (g.M.Medium.state c.write_image.new.m))
+    × FormatLeaves shape (g.M.Medium.state c.args.m.now) (g.M.Medium.state c.write_image.new.m)
+made g c =
+    let shape = new_shape c.args.format c.args.blocks c.args.slots in
+    let sized = rw c.in_ok-sizes.ensures.ok_part at c.sizes_of.ensures in
+    let wrote = rw (sized.0, c.sectors-2.ensures ∙ ap sectors_of sized.0) at c.write_image.ensures.image in
+    let all = image_made (λ b. replicate 512 0) wrote (rw c.sectors.ensures at sized.1.fits) (omega arith)
+    (λ image is b below. is.zeros (first_home shape + b) (omega arith) (omega (arith, below))) in
+    (wrote, all.0, all.1)
 
 pub returns-in_err-write_image : goal.returns-in_err-write_image
 returns-in_err-write_image g c =
-    let same = (rw c.in_ok-sizes.ensures.ok_part at c.sizes_of.ensures).0 in
-    let wrote = rw (same, c.sectors-2.ensures ∙ ap sectors_of same) at c.write_image.ensures in
-    let before = (g.M.Medium.state c.args.m.now).content in
-    search (rules, wrote.leaves (λ b. replicate 512 0) (zeros_from (new_shape c.args.format c.args.blocks c.args.slots) before))
+    let sized = rw c.in_ok-sizes.ensures.ok_part at c.sizes_of.ensures in
+    search (rules, sized.1, made g (goal.at.returns-in_err-write_image g c).After-write_image)
 
 pub returns : goal.returns
 returns g c =
-    let same = (rw c.in_ok-sizes.ensures.ok_part at c.sizes_of.ensures).0 in
-    let wrote = rw (same, c.sectors-2.ensures ∙ ap sectors_of same) at c.in_ok-write_image.ensures in
-    let shape = new_shape c.args.format c.args.blocks c.args.slots in
-    let from = zeros_from shape (g.M.Medium.state c.args.m.now).content in
-    record {
-      ok = formatted shape _ _ (wrote.done (λ b. replicate 512 0) from);
-      err = search rules;
-      leaves = wrote.leaves (λ b. replicate 512 0) from;
-      calls = search rules;
-      follows = search rules;
-    }
+    let all = made g (goal.at.returns g c).After-write_image in
+    let is = rw c.in_ok-write_image.was at all.1 in
+    let calls = rw c.in_ok-write_image.was at all.0.writes.exact in
+    search (rules, all, is, is.zeros, calls)

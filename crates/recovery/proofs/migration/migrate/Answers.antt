@@ -1,4 +1,4 @@
-use Rattle.std.proofs.Common.{◌≡◌, inl, inr, ⊎_elim, ℕ, ◌+◌, ◌*◌, ◌≤◌, length, refl, sym, ◌∙◌, subst, arith, rules, min}
+use Rattle.std.proofs.Common.{◌≡◌, inl, inr, ⊎_elim, ℕ, ◌+◌, ◌*◌, ◌<◌, ◌≤◌, length, refl, ◌∙◌, arith, rules, min, Result}
 use Rattle.std.proofs.lemmas.Bool.{cases_lt}
 use Rattle.std.proofs.lemmas.Result.{err_from_is_err_and}
 use Rattle.medium.specs.Medium.{State, IsSound}
@@ -7,9 +7,9 @@ use Rattle.spec.specs.Blocks.{Array}
 use Rattle.medium.specs.Sent.{SendsUpTo}
 use Rattle.medium.specs.declared.fault.MediumFault.{MediumFault}
 use Rattle.medium.specs.declared.fault.MediumFault.TheVariants as medium
-use Rattle.medium.proofs.Moments.{weaker, joined_same, only_image}
-use Rattle.medium.proofs.SectorsRead.{no_looks, looks_joined}
-use Rattle.medium.proofs.SparedSectors.{spared_behind, spared_joined}
+use Rattle.medium.proofs.Moments.{weaker, only_image}
+use Rattle.medium.proofs.SectorsRead.{no_looks}
+use Rattle.medium.proofs.SparedSectors.{spared_behind}
 use Rattle.journal.specs.declared.log_format.LogFormat.{LogFormat}
 use Rattle.journal.specs.declared.log_format.LogFormat.TheVariants.{One}
 use Rattle.journal.specs.Places.{Shape, first_home, sectors_of, migrated}
@@ -17,16 +17,14 @@ use Rattle.journal.specs.Record.{home_of}
 use Rattle.journal.specs.Values.{shape_of}
 use Rattle.journal.proofs.SectorNumbers.{IsSuper-one}
 use Rattle.journal.specs.Standing.{IsOurs}
-use Rattle.journal.specs.ImageFaults.{HasShape}
 use Rattle.journal.proofs.StandingLaws.{StandsFor-one, StandsFor-shape}
-use Rattle.recovery.specs.Causes.{start_fault_of, IsRefusedCall, WritesNothing, IsRefusalBy}
-use Rattle.recovery.specs.Calls.{Leaves}
-use Rattle.recovery.specs.Copies.{copy_calls, most_start_sends}
-use Rattle.recovery.specs.Recovered.{IsRecoveredAtLeast, IsFresh, StandsForOneOf, IsOursForSome, LeavesAtLeast}
-use Rattle.recovery.specs.Migrated.{CanMigrate, IsMadeOf, IsMigratedFrom, StaysFresh, IsOursInEither, StandsInEither, MigrationLeaves}
-use Rattle.recovery.specs.Migrated.{most_migration_sends}
+use Rattle.recovery.specs.Calls.{Writes, copy_calls, most_start_sends}
+use Rattle.recovery.specs.Causes.{start_fault_of, IsRefusedCall}
+use Rattle.recovery.specs.Recovered.{IsRecoveredAtLeast, IsFresh, StandsForOneOf, StandsForSome, IsOursForSome, LeavesAtLeast}
+use Rattle.recovery.specs.Recovered.{CanMigrate, IsMadeTwo, IsMigratedFrom, IsMigrationRefusal, StaysFresh, IsOursInEither, MigrationLeaves}
+use Rattle.recovery.specs.Recovered.{most_migration_sends}
 use Rattle.recovery.specs.declared.recovered.Recovered.{Recovered}
-use Rattle.recovery.proofs.Causes.{served_slots}
+use Rattle.recovery.proofs.WholeRecovery.{served_slots, start_on}
 use Rattle.recovery.proofs.CopiedRecords.{log_ends, AreSame, zeros_fresh, fresh_ours}
 use Rattle.recovery.proofs.migration.migrate.Given as given
 use Rattle.recovery.proofs.migration.migrate.Goals as goal
@@ -40,154 +38,119 @@ start_migrates format slots old new most = grind arith
 -- what a recovery leaves
 recovery_leaves : (old new : State) → LeavesAtLeast 5 old new → MigrationLeaves old new
 recovery_leaves old new leaves =
-    let all = leaves.all in
-    let cuts = λ (each : EachCut (IsOursForSome old.size) old).
-    weaker (StandsForOneOf old) (StandsInEither old) old new (λ image o. search (rules, o)) (all.cuts each) in
-    search (rules, cuts, all.after_flush, start_migrates, all.sends.most, all.sends.none, all.looks, leaves.small)
+    let cuts = λ (each : EachCut (IsOursForSome old.size) old). weaker (StandsForOneOf old) (StandsForSome IsOursInEither old) old new
+    (λ image o. search (rules, o)) (leaves.cuts each) in
+    search (rules, cuts, leaves.after_flush, start_migrates, leaves.sends.most, leaves.sends.none, leaves.looks, leaves.small)
 
-module _ (old mid : State) (found : Recovered) (start : IsRecoveredAtLeast 5 old mid found) (one : found.sizes.format ≡ One) where
+module _ {old mid : State} {found : Recovered} (start : IsRecoveredAtLeast 5 old mid found) (one : found.sizes.format ≡ One) where
   abbrev shape : Shape
   shape = shape_of found.sizes
 
-  has_shape : HasShape old.size shape old.content
-  has_shape = StandsFor-shape old.size shape old.content start.from.array found.next start.from.stood
-
   -- there is room for a slot of format 2
-  can_migrate : CanMigrate (shape_of found.sizes)
-  can_migrate = record {
-    one = one;
-    room = ⊎_elim (λ few. absurd (search (rules, start.room, has_shape, few))) (λ room. room) (cases_lt found.sizes.slots 5);
-  }
+  pub can_migrate : CanMigrate (shape_of found.sizes)
+  can_migrate =
+      let has = StandsFor-shape old.size shape old.content start.from.array found.next start.from.stood in
+      let few = λ (few : found.sizes.slots < 5). start.room (search (rules, has, few)) in
+      record { one = one; room = ⊎_elim (λ less. absurd (few less)) (λ room. room) (cases_lt found.sizes.slots 5) }
 
   -- the calls of a recovery of format 1
   tried : mid.calls ≡ old.calls + 6 + copy_calls One start.from.stood.records
       + 2 * min (length start.from.stood.records + 1) found.sizes.slots
   tried = let calls = rw one at start.from.calls in omega (arith, calls)
 
-  module _ (new : State) (making : Leaves (StaysFresh (shape_of found.sizes) found.next mid.content) found.sizes.home mid new) where
-    -- the home sectors hold what recovery left there
-    kept_home : AreSame (shape_of found.sizes) (home_of shape new.content) start.from.array
-    kept_home b below = making.spares.content (first_home shape + b) (omega arith) ∙ start.from.home b below
+  -- home begins behind the log
+  home_is : found.sizes.home ≡ 2 + 50 * found.sizes.slots
+  home_is = let home = rw one at found.sizes.home_is in omega (arith, home)
 
-    module _ (sound_old : IsSound old) (sound_mid : IsSound mid)
-        (fresh : (shape : Shape) (array : Array) (next : ℕ) → IsOurs old.size shape old.content array next
-        → EachCut (IsFresh shape array next) mid) where
-      -- each image is ours for the contents
-      leaves_ours : (other : Shape) (array : Array) (next : ℕ) → IsOurs old.size other old.content array next
-          → LeavesOnly (IsOursInEither old.size other array next) mid new
-      leaves_ours other array next ours =
-          let same = StandsFor-one old.size old.size other shape old.content array start.from.array next found.next ours.stands
-          start.from.stood in
-          let here = rw (same.0, same.1) at ours in
-          let fits = start.from.stood.fits in
-          rw (same.0, same.1) (weaker _ _ _ _
-          (λ image either. ⊎_elim (λ was. inl (inr (fresh_ours fits was)))
-          (λ two. inr (can_migrate, fresh_ours fits two))
-          (either array (fresh shape array found.next here mid.content sound_mid.holds_content))) making.moments)
+  module _ {new : State} {made : Result Recovered MediumFault}
+      (making : Writes (StaysFresh (shape_of found.sizes) found.next mid.content) found.sizes.home (found.sizes.home + 3) mid new made)
+    where
+      -- the home sectors hold what recovery left there
+      kept_home : AreSame (shape_of found.sizes) (home_of shape new.content) start.from.array
+      kept_home b below = making.spares.content (first_home shape + b) (omega arith) ∙ start.from.home b below
 
-      migration_leaves : LeavesAtLeast 5 old mid → new.calls ≤ mid.calls + (50 * found.sizes.slots + 5)
-          → SendsUpTo (50 * found.sizes.slots + 5) mid new → MigrationLeaves old new
-      migration_leaves before last sends = record {
-        cuts = λ each.
-            let e = each old.content sound_old.holds_content in
-            joined_same (StandsInEither old) old mid new (first.cuts each)
-            (weaker (IsOursInEither old.size e.0 e.1 e.2) (StandsInEither old) _ _
-            (λ image is. search (rules, e.3, is, sound_old.holds_content))
-            (leaves_ours e.0 e.1 e.2 e.3));
-        after_flush = λ other array next ours more image since. ⊎_elim
-            (λ was. first.after_flush other array next ours (omega (arith, tried)) image was) (λ now. now)
-            ((leaves_ours other array next ours).before (old.calls + 1) image (omega (arith, tried)) since);
-        spares = record {
-          behind = λ other has. rw (one_shape other has)
-              (spared_joined (sectors_of shape) old mid new (first.spares.behind shape has_shape)
-              (spared_behind (first_home shape) (sectors_of shape) mid new (omega arith) making.spares));
-          unserved = λ none.
-              let past = none shape start.from.array found.next start.from.stood in absurd (omega (arith, past, start.from.stamp_left));
-        };
-        small = λ few. absurd (start.room few);
-        moments = joined_same (λ _. Unit {0}) old mid new before.all.moments (weaker _ _ _ _ (λ image p. tt) making.moments);
-        calls =
-            let most = rw one at (before.all.most shape has_shape) in
-            omega (arith, most, last, found.sizes.most_slots);
-        sends = λ other has. rw (one_shape other has, one)
-            (let most = rw one at (before.all.sends.most shape has_shape) in omega (arith, most, sends));
-        sends_one = λ no. absurd (no shape has_shape);
-        looks = λ near holds. looks_joined _ old mid new (before.all.looks near holds) (no_looks _ mid new making.looked_stays);
-      }
-        where
-          first : MigrationLeaves old mid
-          first = recovery_leaves old mid before
+      module _ (sound_old : IsSound old) (sound_mid : IsSound mid)
+          (fresh : (shape : Shape) (array : Array) (next : ℕ) → IsOurs old.size shape old.content array next
+          → EachCut (IsFresh shape array next) mid) where
+        -- each image is ours for the contents
+        leaves_ours : (array : Array) (next : ℕ) → IsOurs old.size shape old.content array next
+            → LeavesOnly (IsOursInEither old.size shape array next) mid new
+        leaves_ours array next ours =
+            let same = (StandsFor-one _ _ _ _ _ _ _ _ _ ours.stands start.from.stood).1 in
+            let fits = start.from.stood.fits in
+            let before = fresh shape array found.next (rw same at ours) mid.content sound_mid.holds_content in
+            rw same (weaker _ _ _ _ (λ image either. ⊎_elim (λ was. inl (inr (fresh_ours fits was)))
+            (λ two. inr (can_migrate, fresh_ours fits two)) (either array before)) making.moments)
 
-          one_shape : (other : Shape) → HasShape old.size other old.content → other ≡ shape
-          one_shape other has = IsSuper-one other shape (old.content 0) has.super start.from.stood.keeps.super
+        pub migration_leaves : LeavesAtLeast 5 old mid → MigrationLeaves old new
+        migration_leaves before =
+            let has = StandsFor-shape old.size shape old.content start.from.array found.next start.from.stood in
+            let most = rw one at (before.most shape has) in
+            let sends : SendsUpTo (most_migration_sends One found.sizes.slots) old new =
+            let most = rw one at (before.sends.most shape has) in omega (arith, most, making.sent, home_is) in
+            start_on {shape = shape} sound_old (search (rules, start.from.stood, start.from.stamp_left, start.room))
+            (recovery_leaves old mid before) (omega (arith, tried)) leaves_ours
+            (spared_behind (first_home shape) (sectors_of shape) mid new (omega arith) making.spares)
+            (no_looks _ mid new making.reads.looked_stays) (omega (arith, most, making.calls, home_is, found.sizes.most_slots)) (omega arith)
+            (rw one sends) (rw one (omega (arith, found.sizes.most_slots)))
 
-    module _ (answer : Recovered) (is : IsMadeOf found new answer) where
-      here_fresh : (array : Array) → AreSame shape start.from.array array → IsFresh (migrated shape) array found.next new.content
-      here_fresh array same = zeros_fresh (migrated shape) array found.next new.content is.made.super is.made.head is.made.zeros
-          (λ b below. kept_home b below ∙ same b below)
+      module _ (answer : Recovered) (is : (shape_of answer.sizes ≡ migrated shape) × (answer.next ≡ found.next)
+          × IsMadeTwo shape found.next new) where
+        here_fresh : (array : Array) → AreSame shape start.from.array array → IsFresh (migrated shape) array found.next new.content
+        here_fresh array same = zeros_fresh (migrated shape) array found.next new.content is.2.super is.2.head is.2.zeros
+            (λ b below. kept_home b below ∙ same b below)
 
-      migrated_fresh : (other : Shape) (array : Array) (next : ℕ) → IsOurs old.size other old.content array next
-          → EachCut (IsFresh (shape_of answer.sizes) array next) new
-      migrated_fresh other array next ours image cut =
-          let same = StandsFor-one old.size old.size shape other old.content start.from.array array found.next next
-          start.from.stood ours.stands in
-          rw (only_image new.content new.may_leave is.made.flushed image cut, is.sizes_are, ← same.1) (here_fresh array same.2)
+        pub migrated_fresh : (other : Shape) (array : Array) (next : ℕ) → IsOurs old.size other old.content array next
+            → EachCut (IsFresh (shape_of answer.sizes) array next) new
+        migrated_fresh other array next ours image cut =
+            let same = StandsFor-one old.size old.size shape other old.content start.from.array array found.next next
+            start.from.stood ours.stands in
+            rw (only_image new.content new.may_leave is.2.flushed image cut, is.0, ← same.1) (here_fresh array same.2)
 
-      migrated_from : new.calls ≡ mid.calls + (50 * found.sizes.slots + 5) → IsMigratedFrom old new answer
-      migrated_from counted =
-          let stood = start.from.stood in
-          subst (λ (n : ℕ). IsMigratedFrom old new (record { sizes = answer.sizes; next = n })) (sym is.next_is) (record {
-            shape = shape;
-            could = can_migrate;
-            sizes_are = is.sizes_are;
-            array = start.from.array;
-            stood = stood;
-            stamp_left = start.from.stamp_left;
-            made = is.made;
-            home = kept_home;
-            behind = λ x past. making.spares.content x (omega (arith, past))
-                ∙ start.from.elsewhere x (λ e. omega (arith, e, past, log_ends shape stood.keeps.super.home_is)) (inr past);
-            ours = fresh_ours stood.fits (here_fresh start.from.array (λ b below. refl));
-            calls = omega (arith, tried, counted);
-          })
+        pub migrated_from : new.calls ≡ mid.calls + (found.sizes.home + 3) → IsMigratedFrom old new answer
+        migrated_from counted =
+            let stood = start.from.stood in
+            rw is.1 (record {
+              shape = shape;
+              could = can_migrate;
+              sizes_are = is.0;
+              array = start.from.array;
+              stood = stood;
+              stamp_left = start.from.stamp_left;
+              made = is.2;
+              home = kept_home;
+              behind = λ x past. making.spares.content x (omega (arith, past))
+                  ∙ start.from.elsewhere x (λ e. omega (arith, e, past, log_ends shape stood.keeps.super.home_is)) (inr past);
+              ours = fresh_ours stood.fits (here_fresh start.from.array (λ b below. refl));
+              calls = omega (arith, tried, counted, home_is);
+            })
 
 -- such a call refuses a start
-call_refuses : (least : ℕ) (Calls : State → State → Type 0) (old new : State) (kind : MediumFault) → IsRefusedCall old new kind
-    → IsRefusalBy least Calls old new (start_fault_of kind)
-call_refuses least Calls old new medium.Read h = h
-call_refuses least Calls old new kind h = h
+call_refuses : (old new : State) (kind : MediumFault) → IsRefusedCall old new kind → IsMigrationRefusal old new (start_fault_of kind)
+call_refuses old new medium.Read h = search rules
+call_refuses old new kind h = search rules
 
 -- format 2 is made, good or refused
 makes : (g : given.Over) (c : After-make_two g) → MigrationLeaves (g.M.Medium.state c.args.m.now) (g.M.Medium.state c.make_two.new.m)
-makes g c =
-    let made = c.make_two.ensures in
-    migration_leaves _ _ _ c.in_ok-found.ensures.ok (c.migrates.ensures.0 c.if-migrates.true) _ made.leaves
+makes g c = migration_leaves c.in_ok-found.ensures.ok (c.migrates.ensures.0 c.if-migrates.true) c.make_two.ensures.writes
     (g.met.M.Medium.sound c.args.m.now) (g.met.M.Medium.sound c.recover_at_least.new.m) c.in_ok-found.ensures.fresh
-    c.recover_at_least.ensures.leaves made.calls.calls made.sends
+    c.recover_at_least.ensures.leaves
 
 pub make_two-requires-clause-can : goal.make_two-requires-clause-can
-make_two-requires-clause-can g c =
-    can_migrate _ _ _ c.in_ok-found.ensures.ok (c.migrates.ensures.0 c.if-migrates.true)
+make_two-requires-clause-can g c = can_migrate c.in_ok-found.ensures.ok (c.migrates.ensures.0 c.if-migrates.true)
 
 pub returns-in_err-found-clause-err : goal.returns-in_err-found-clause-err
 returns-in_err-found-clause-err g c =
     let p = err_from_is_err_and c.from_residual.result c.from_residual.ensures.1 in
-    let why = c.in_err-found.ensures.err in
-    rw (p.1, p.2) (record {
-      cause = why;
-      served = λ shape array next s left some. served_slots 5 _ _ shape array next s left some c.in_err-found.field-0.0 why;
-    })
+    rw (p.1, p.2) (search (rules, c.in_err-found.ensures.err, served_slots))
 
 pub returns-in_err-make_two-clause-err : goal.returns-in_err-make_two-clause-err
 returns-in_err-make_two-clause-err g c =
     let back = c.from_residual-in_err-make_two in
     let p = err_from_is_err_and back.result back.ensures.1 in
     let kind = c.in_err-make_two.field-0.0 in
-    let before = c.recover_at_least.ensures.leaves.all.moments in
-    rw (p.1, p.2) (record {
-      cause = call_refuses 5 WritesNothing _ _ kind (search (rules, before.refused_stay kind, c.in_err-make_two.ensures.cause));
-      served = λ shape array next s left some. (kind, refl);
-    })
+    let before = c.recover_at_least.ensures.leaves.moments.refused_stay kind in
+    rw (p.1, p.2) (call_refuses _ _ kind (search (rules, before, c.in_err-make_two.ensures.writes.cause)))
 
 pub returns-in_err-found-clause-leaves : goal.returns-in_err-found-clause-leaves
 returns-in_err-found-clause-leaves g c = recovery_leaves _ _ c.recover_at_least.ensures.leaves
@@ -204,17 +167,15 @@ returns-in_ok-make_two-clause-leaves g c = makes g (goal.at.returns-in_ok-make_t
 pub returns-in_ok-make_two-clause-ok : goal.returns-in_ok-make_two-clause-ok
 returns-in_ok-make_two-clause-ok g c =
     let done = c.in_ok-make_two.ensures in
-    migrated_from _ _ _ c.in_ok-found.ensures.ok (c.migrates.ensures.0 c.if-migrates.true) _ c.make_two.ensures.leaves _ done.ok
-    done.calls.exact
+    migrated_from c.in_ok-found.ensures.ok (c.migrates.ensures.0 c.if-migrates.true) c.make_two.ensures.writes _ done.ok done.writes.exact
 
 pub returns-in_ok-make_two-clause-fresh : goal.returns-in_ok-make_two-clause-fresh
 returns-in_ok-make_two-clause-fresh g c =
-    migrated_fresh _ _ _ c.in_ok-found.ensures.ok (c.migrates.ensures.0 c.if-migrates.true) _ c.make_two.ensures.leaves _
+    migrated_fresh c.in_ok-found.ensures.ok (c.migrates.ensures.0 c.if-migrates.true) c.make_two.ensures.writes c.in_ok-make_two.field-0
     c.in_ok-make_two.ensures.ok
 
 pub returns-else-migrates-clause-fresh : goal.returns-else-migrates-clause-fresh
 returns-else-migrates-clause-fresh g c shape array next ours =
     let from = c.in_ok-found.ensures.ok.from in
     let is = IsSuper-one shape (shape_of c.in_ok-found.found.sizes) _ ours.stands.keeps.super from.stood.keeps.super in
-    subst (λ (s : Shape). EachCut (IsFresh s array next) (g.M.Medium.state c.recover_at_least.new.m)) is
-    (c.in_ok-found.ensures.fresh shape array next ours)
+    rw (← is) (c.in_ok-found.ensures.fresh shape array next ours)

@@ -1,43 +1,30 @@
-use Rattle.std.proofs.Common.{ℕ, inl, inr, ⊎_elim, subst, sym, arith, rules, ◌∙◌, ◌⊎◌}
+use Rattle.std.proofs.Common.{◌⊎◌, inl, inr, ◌∙◌, arith, rules}
 use Rattle.medium.specs.Medium.{CutLeaves}
-use Rattle.medium.proofs.Moments.{weaker, joined_same, quiet_call, quiet_leaves}
-use Rattle.medium.proofs.SparedSectors.{spared_silent, spared_joined}
-use Rattle.journal.specs.Sectors.{IsHead}
-use Rattle.recovery.specs.Copies.{HasNewHead}
-use Rattle.recovery.proofs.MadeImage.{through_spares}
+use Rattle.recovery.specs.Calls.{HasNewHead, Writes}
+use Rattle.recovery.proofs.JoinedCalls.{flush_writes, through_writes, writes_on}
+use Rattle.recovery.proofs.new_head.move_head.Given as given
 use Rattle.recovery.proofs.new_head.move_head.Goals as goal
+use Rattle.recovery.proofs.new_head.move_head.Goals.{After-flush}
 
-pub returns-in_err-flush : goal.returns-in_err-flush
-returns-in_err-flush g c =
+-- the first flush
+flushed : (g : given.Over) (c : After-flush g) → Writes (λ image. CutLeaves (g.M.Medium.state c.args.m.now).may_leave image
+    ⊎ HasNewHead c.args.stamp (g.M.Medium.state c.args.m.now).content image) 2 1 (g.M.Medium.state c.args.m.now)
+    (g.M.Medium.state c.flush.new.self) c.flush.result
+flushed g c =
     let first = c.flush.ensures in
-    search (
-      rules,
-      spared_silent 2 _ _ (g.met.M.Medium.sound c.args.m.now) first.passes first.content first.sets,
-      first.passes.looked_stays (λ e. cc e),
-    )
+    flush_writes (g.met.M.Medium.sound c.args.m.now) first.passes first.content first.sets (λ image cut. inl cut)
+
+pub returns-in_err-flush-clause-writes : goal.returns-in_err-flush-clause-writes
+returns-in_err-flush-clause-writes g c = search (rules, flushed g (goal.at.returns-in_err-flush-clause-writes g c).After-flush)
 
 -- each image could be left before, or is the contents before with the new head
-pub returns : goal.returns
-returns g c =
-    let old = g.M.Medium.state c.args.m.now in
-    let sound = g.met.M.Medium.sound c.args.m.now in
-    let first = c.flush.ensures in
-    let second = c.write_through.ensures in
-    let head = subst (λ (n : ℕ). IsHead n c.encode.result) c.new.ensures c.encode.ensures in
-    let only = c.in_ok-flush.ensures.ok in
-    let quiet = quiet_call _ _ first.passes first.content first.sets in
-    search (
-      rules,
-      joined_same _ _ _ _ (quiet_leaves _ _ _ sound (λ image cut. inl cut) quiet)
-          (weaker _ (λ image. CutLeaves old.may_leave image ⊎ HasNewHead c.args.stamp old.content image) _ _
-          (λ image either. ⊎_elim (λ cut. inl (λ s. first.sets s (image s) (cut s)))
-          (λ w. inr (record {
-            head = subst (IsHead c.args.stamp) (sym w.2.here) head;
-            elsewhere = λ x not. w.2.elsewhere x not ∙ only x (w.0 x) (w.1 x);
-          })) either) second.writes.moments),
-      spared_joined 2 _ _ _ (spared_silent 2 _ _ sound first.passes first.content first.sets)
-          (through_spares 2 1 c.encode.result _ _ (omega arith) (g.met.M.Medium.sound c.write_through.new.m) second.writes.elsewhere
-          second.writes.moments),
-      g.met.M.Medium.follows_through,
-      second.follows.looks.looked_stays ∙ first.passes.looked_stays (λ e. cc e),
-    )
+pub returns-clause-writes : goal.returns-clause-writes
+returns-clause-writes g c =
+    let last = c.write_through.ensures in
+    writes_on (flushed g (goal.at.returns-clause-writes g c).After-flush)
+    (through_writes (g.met.M.Medium.sound c.write_through.new.m) (omega arith) last.writes last.follows
+    (λ image cut. inl (λ s. c.flush.ensures.sets s (image s) (cut s)))
+    (λ was image cut holds. inr (record {
+      head = rw (holds.here, ← c.new.ensures) c.encode.ensures;
+      elsewhere = λ x not. holds.elsewhere x not ∙ c.in_ok-flush.ensures.ok x (was x) (cut x);
+    }))) (omega arith) (search rules) (search (rules, arith))

@@ -1,4 +1,4 @@
-use Rattle.std.proofs.Common.{◌≡◌, ◌∙◌, inl, inr, ◌+◌, ◌<◌, ◌≤◌, length, refl, sym, subst, arith, rules}
+use Rattle.std.proofs.Common.{◌≡◌, ◌⊎◌, ◌∙◌, inl, inr, ◌+◌, ◌<◌, ◌≤◌, length, refl, sym, arith, rules}
 use Rattle.std.specs.Prelude.{ℕ, Option, Some, None, MatchOption}
 use Rattle.medium.specs.Medium.{Image}
 use Rattle.journal.specs.declared.log_format.LogFormat.{LogFormat}
@@ -14,8 +14,8 @@ use Rattle.journal.proofs.CopiedBlock.{stamped_whole}
 use Rattle.journal.proofs.DescribedNumbers.{each_there}
 use Rattle.journal.proofs.EntriesTwo.{commit_count}
 use Rattle.journal.proofs.SlotTwo.{untrue}
-use Rattle.recovery.specs.Copies.{most_reads_of}
-use Rattle.recovery.specs.Tries.{IsReadBehind, IsReadInSlot, IsTryTwo, IsTryOf}
+use Rattle.recovery.specs.Calls.{most_reads_of}
+use Rattle.recovery.specs.Inspected.{IsReadInSlot, IsTryTwo, IsTryOf}
 use Rattle.recovery.proofs.CopiedRecords.{long_as}
 use Rattle.recovery.proofs.JoinedCalls.{looks_on}
 use Rattle.recovery.proofs.record.count_blocks.Goals as goal
@@ -26,29 +26,17 @@ stops_once good many a b x y =
     grind (arith, x.before y.first, y.before x.first, x.bad, y.bad, x.reads_are, y.reads_are)
 
 up_to_once : (good : ℕ → Type 0) (many a b : ℕ) → ReadsUpToBad good many a → ReadsUpToBad good many b → a ≡ b
-up_to_once good many a b (inl x) (inl y) = x.1 ∙ sym y.1
-up_to_once good many a b (inl x) (inr y) = absurd (y.bad (x.0 y.first y.inside))
-up_to_once good many a b (inr x) (inl y) = absurd (x.bad (y.0 x.first x.inside))
-up_to_once good many a b (inr x) (inr y) = stops_once good many a b x y
+up_to_once good many a b x y = grind (arith, stops_once good many a b)
+
+-- and so of the reads behind a commit, where what is named has all its descriptors
+behind_once : (named place : ℕ → Type 0) (names : Type 0) (many count a b : ℕ) → (names → (j : ℕ) → j < many → named j)
+    → (StopsAtBad named many a ⊎ (((j : ℕ) → j < many → named j) × (¬ names) × (a ≡ many)))
+    ⊎ (names × (places : ℕ) × ReadsUpToBad place count places × (a ≡ many + places))
+    → (StopsAtBad named many b ⊎ (((j : ℕ) → j < many → named j) × (¬ names) × (b ≡ many)))
+    ⊎ (names × (places : ℕ) × ReadsUpToBad place count places × (b ≡ many + places)) → a ≡ b
+behind_once named place names many count a b there x y = grind (arith, stops_once named many a b, there, up_to_once place count)
 
 module _ (image : Image) (at stamp blocks : ℕ) where
-  there : (count : ℕ) → NamesBlocks image at stamp blocks count → (j : ℕ) → j < descriptors_of count
-      → HasDescriptor image at stamp count j
-  there count named = each_there image at stamp count named.0 named.1 named.2
-
-  behind_once : (count a b : ℕ) → IsReadBehind image at stamp blocks count a → IsReadBehind image at stamp blocks count b → a ≡ b
-  behind_once count a b (inl (inl x)) (inl (inl y)) =
-      stops_once (HasDescriptor image at stamp count) (descriptors_of count) a b x y
-  behind_once count a b (inl (inl x)) (inl (inr y)) = absurd (x.bad (y.0 x.first x.inside))
-  behind_once count a b (inl (inl x)) (inr y) = absurd (x.bad (there count y.0 x.first x.inside))
-  behind_once count a b (inl (inr x)) (inl (inl y)) = absurd (y.bad (x.0 y.first y.inside))
-  behind_once count a b (inl (inr x)) (inl (inr y)) = x.2 ∙ sym y.2
-  behind_once count a b (inl (inr x)) (inr y) = absurd (x.1 y.0)
-  behind_once count a b (inr x) (inl (inl y)) = absurd (y.bad (there count x.0 y.first y.inside))
-  behind_once count a b (inr x) (inl (inr y)) = absurd (y.1 x.0)
-  behind_once count a b (inr x) (inr y) =
-      let same = up_to_once (HasPlace image at stamp) count x.1 y.1 x.2 y.2 in omega (arith, same, x.3, y.3)
-
   in_slot_once : (a b : ℕ) → IsReadInSlot image at stamp blocks a → IsReadInSlot image at stamp blocks b → a ≡ b
   in_slot_once a b (inl x) (inl y) = x.1 ∙ sym y.1
   in_slot_once a b (inl x) (inr y) = absurd (x.0 y.0 y.1)
@@ -56,8 +44,8 @@ module _ (image : Image) (at stamp blocks : ℕ) where
   in_slot_once a b (inr x) (inr y) =
       let bytes = image (at + 248) in
       let same : y.0 ≡ x.0 = sym (commit_count stamp y.0 bytes y.1) ∙ commit_count stamp x.0 bytes x.1 in
-      let there = subst (λ (n : ℕ). IsReadBehind image at stamp blocks n y.2) same y.3 in
-      let one = behind_once x.0 x.2 y.2 x.3 there in
+      let one = behind_once (HasDescriptor image at stamp x.0) (HasPlace image at stamp) (NamesBlocks image at stamp blocks x.0)
+      (descriptors_of x.0) x.0 x.2 y.2 (λ named. each_there image at stamp x.0 named.0 named.1 named.2) x.3 (rw same at y.3) in
       omega (arith, one, x.4, y.4)
 
   -- the number that is read is that of the image
@@ -129,10 +117,10 @@ returns g c =
     let is = rw (same, count) at asked.is in
     let long = λ (whole : HasWhole shape old.content stamp). long_as whole.0 read.numbers.items (finds.all whole.0 whole.1).numbers_are in
     looks_on g.met.M.Medium.follows_through c.read_record.ensures c.are_stamped.ensures
-    (most_tried c.args.sizes.now.format c.len-count.result (omega (arith, few, count))) tt (record {
-      exact = try_read shape.format shape old.content stamp read finds.exact.0 asked.exact.0 old.calls mid.calls _
-          finds.exact.1 finds.exact.2 (rw (same, count) at asked.exact.1) asked.exact.2;
-      counted = option_weaker c.counted.result
+    (most_tried c.args.sizes.now.format c.len-count.result (omega (arith, few, count))) tt (
+      try_read shape.format shape old.content stamp read finds.exact.0 asked.exact.0 old.calls mid.calls _
+          finds.exact.1 finds.exact.2 (rw (same, count) at asked.exact.1) asked.exact.2,
+      option_weaker c.counted.result
           (λ not whole. untrue (sym not ∙ is.1 (rw (← long whole) at (stamped_whole shape old.content stamp whole.0 whole.1))))
-          (λ blocks yes. let whole = finds.some (is.0 yes.0) in (whole.0, whole.1, yes.1 ∙ count ∙ long whole)) c.counted.ensures;
-    })
+          (λ blocks yes. let whole = finds.some (is.0 yes.0) in (whole.0, whole.1, yes.1 ∙ count ∙ long whole)) c.counted.ensures,
+    )

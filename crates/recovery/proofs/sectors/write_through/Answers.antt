@@ -1,7 +1,7 @@
 use Rattle.std.proofs.Common.{◌≢◌, ℕ, inl, ⊎_elim, ◌∙◌, rules}
 use Rattle.medium.specs.Moments.{LeavesOnly}
 use Rattle.medium.proofs.Moments.{one_call, goes_on, after_write, shrunk}
-use Rattle.recovery.specs.Copies.{WithOrWithout}
+use Rattle.recovery.specs.Calls.{WithOrWithout}
 use Rattle.recovery.proofs.sectors.write_through.Given as given
 use Rattle.recovery.proofs.sectors.write_through.Goals as goal
 use Rattle.recovery.proofs.sectors.write_through.Goals.{After-write}
