@@ -1,7 +1,6 @@
 -- The entries of a batch.
-use Rattle.std.proofs.Common.{◌≡◌, ℕ, zero, suc, ◌+◌, ◌*◌, ◌-◌, ◌<◌, List, [], ◌∷◌, length, get_or, take, drop, refl, sym, ◌∙◌, ap}
-use Rattle.std.proofs.Common.{arith}
-use Rattle.std.specs.Prelude.{slice_range, All}
+use Rattle.std.proofs.Common.{◌≡◌, ℕ, zero, suc, ◌+◌, ◌*◌, ◌-◌, ◌<◌, List, [], ◌∷◌, length, get_or, take, drop, refl}
+use Rattle.std.proofs.Common.{sym, ◌∙◌, ap, arith, slice_range, All}
 use Rattle.std.proofs.lemmas.List.{length-take, length-drop, length-map, take-take, ext_get_or}
 use Rattle.std.proofs.Math.ListN.{get_or-map}
 use Rattle.journal.specs.SectorsTwo.{firsts_of, chunk_of}

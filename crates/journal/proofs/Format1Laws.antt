@@ -1,7 +1,6 @@
 -- Format 1 keeps the laws of a layout too.
 use Rattle.std.proofs.Common.{◌≡◌, ◌⊎◌, ℕ, ◌+◌, ◌-◌, ◌<◌, ◌≤◌, List, length, sym, arith, rules, ◌*◌, ◌%◌, [], get_or}
-use Rattle.std.proofs.Common.{◌∙◌}
-use Rattle.std.specs.Prelude.{true, false, nat_lt, replicate, All}
+use Rattle.std.proofs.Common.{◌∙◌, true, false, nat_lt, replicate, All}
 use Rattle.std.proofs.lemmas.Bool.{cases_lt}
 use Rattle.std.proofs.lemmas.Bool.Decides.{nat_tests}
 use Rattle.std.proofs.lemmas.List.{length-map, ext_get_or}

@@ -1,8 +1,6 @@
 -- The numbers and the bytes of a sector, written and read back.
 use Rattle.std.proofs.Common.{◌≡◌, ℕ, zero, suc, ◌+◌, ◌*◌, ◌<◌, List, [], ◌∷◌, ◌++◌, length, get_or, take, drop, arith}
-use Rattle.std.proofs.Common.{◌-◌, ◌^◌, ◌≤◌, refl, sym, ◌∙◌, ap}
-use Rattle.std.specs.Prelude.{All, replicate}
-use Rattle.std.specs.List.{flat_map}
+use Rattle.std.proofs.Common.{◌-◌, ◌^◌, ◌≤◌, refl, sym, ◌∙◌, ap, All, replicate, flat_map}
 use Rattle.std.proofs.lemmas.Grind.{common_steps}
 use Rattle.std.proofs.lemmas.List.{take_at, drop_at, drop-drop, append_assoc, drop-replicate}
 use borrow.Rule.Slice.PartMut.{put_mid}

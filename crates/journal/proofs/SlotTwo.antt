@@ -1,7 +1,6 @@
 -- A record of format 2 is whole where the sectors of its slot say what they should, and there alone.
-use Rattle.std.proofs.Common.{inl, inr, ◌≡◌, ℕ, ◌+◌, ◌*◌, ◌-◌, ◌/◌, ◌%◌, ◌<◌, List, [], length, get_or, drop, sym, ◌∙◌, arith}
+use Rattle.std.proofs.Common.{◌≡◌, ℕ, ◌+◌, ◌*◌, ◌-◌, ◌/◌, ◌%◌, ◌<◌, List, [], length, get_or, drop, sym, ◌∙◌, arith}
 use Rattle.std.specs.Prelude.{false, IsTrue, All}
-use Rattle.std.proofs.lemmas.Bool.{cases_lt}
 use Rattle.std.proofs.lemmas.Grind.{common_steps}
 use Rattle.std.proofs.lemmas.List.{length-map, take-append-drop}
 use Rattle.std.proofs.lemmas.List.FromFn.{fill_by_all}
@@ -102,19 +101,13 @@ module _ (shape : Shape) (image : Image) (s n : ℕ) (committed : IsCommitTwo s 
       let placed_at = sized (8 + i) (omega (arith, committed.few)) in
       rw (read_entry image at n i below) (grind (arith, common_steps), grind (arith, common_steps))
 
-  part_read : (p : ℕ) → image (2 + 249 * (s % shape.slots) + format2.offset (length read) p) ≡ format2.part s read p
+  descriptor_read : (j : ℕ) → j < descriptors_of n → image (2 + 249 * (s % shape.slots) + j) ≡ descriptor_bytes s read j
+  descriptor_read j below =
+      let it = (described j below).2 in rw (long, chunk_numbers image at n it, chunk_firsts image at n it) it.spelled
+
+  place_read : (i : ℕ) → i < n → image (2 + 249 * (s % shape.slots) + (8 + i)) ≡ place_bytes s (block_of read i)
   unfolding place_bytes
-  part_read p = elim (cases_lt p ((length read + 29) / 30)) [
-    | inl d ↦
-        let it = (described p (omega (arith, long))).2 in
-        grind (arith, parts, it.spelled, long, chunk_numbers image at n it, chunk_firsts image at n it)
-    | inr b ↦ elim (cases_lt p ((length read + 29) / 30 + length read)) [
-      | inl d ↦
-          let i = p - (length read + 29) / 30 in
-          grind (arith, parts, placed i (omega (arith, long)), (block_read i (omega (arith, long))).1)
-      | inr d ↦ grind (arith, parts, long, committed.spelled)
-    ]
-  ]
+  place_read i below = rw (block_read i below).1 (placed i below)
 
   pub whole_two : IsRising (numbers_of (entries_at image (2 + 249 * (s % shape.slots)) n))
       → All (λ b. b < shape.blocks) (numbers_of (entries_at image (2 + 249 * (s % shape.slots)) n))
@@ -130,5 +123,5 @@ module _ (shape : Shape) (image : Image) (s n : ℕ) (committed : IsCommitTwo s 
     };
     least = committed.least;
     below = committed.most;
-    there = λ p within. part_read p;
+    there = λ p within. grind (arith, parts, descriptor_read p, place_read (p - (n + 29) / 30), long, committed.spelled);
   }

@@ -1,6 +1,5 @@
-use Rattle.std.proofs.Common.{◌≡◌, ◌<◌, ◌+◌, ◌*◌, ◌/◌, ℕ, List, ◌++◌, take, refl, rules, arith}
+use Rattle.std.proofs.Common.{◌≡◌, ◌<◌, ◌+◌, ◌*◌, ◌/◌, ℕ, List, ◌++◌, take, refl, rules, arith, below_more}
 use Rattle.std.proofs.lemmas.List.{map-append, take_all}
-use borrow.Author.Count.{below_more}
 use Rattle.medium.specs.Medium.{Image}
 use Rattle.journal.specs.Record.{Entry}
 use Rattle.journal.specs.SectorsTwo.{chunk_of}

@@ -1,5 +1,4 @@
-use Rattle.std.proofs.Common.{◌≡◌, ◌<◌, ◌+◌, ◌*◌, ◌%◌, ℕ, inl, inr, refl, rules, arith}
-use Rattle.std.specs.Prelude.{length}
+use Rattle.std.proofs.Common.{◌≡◌, ◌<◌, ◌+◌, ◌*◌, ◌%◌, ℕ, inl, inr, refl, rules, arith, length}
 use Rattle.medium.specs.Medium.{Image}
 use Rattle.journal.specs.SectorsTwo.{descriptors_of}
 use Rattle.journal.specs.Values.{shape_of}
