@@ -9,8 +9,7 @@ use Rattle.journal.specs.SectorsTwo.{descriptors_of, chunk_of, firsts_of, entrie
 use Rattle.journal.specs.Record.{Entry, numbers_of}
 use Rattle.journal.specs.Format2.{entry_in, entries_at}
 use Rattle.journal.specs.SlotReads.{HasDescriptor, HasDescriptors}
-use Rattle.journal.proofs.EntriesTwo.{first_is, numbers_are, firsts_are}
-use Rattle.journal.proofs.EntriesTwo.{number_at, first_at, numbers_of_chunk}
+use Rattle.journal.proofs.EntriesTwo.{first_is, numbers_are, firsts_are, number_at, first_at, numbers_of_chunk}
 
 -- descriptors that name count blocks are there
 pub each_there : (image : Image) (at stamp count : ℕ) (numbers : List ℕ) → length numbers ≡ count → HasDescriptors image at stamp numbers
