@@ -1,15 +1,15 @@
 -- Format 1 keeps the laws of a layout too.
 use Rattle.std.proofs.Common.{◌≡◌, ◌⊎◌, ℕ, ◌+◌, ◌-◌, ◌<◌, ◌≤◌, List, length, sym, arith, rules, ◌*◌, ◌%◌, [], get_or}
-use Rattle.std.proofs.Common.{◌∙◌, true, false, nat_lt, replicate, All}
+use Rattle.std.proofs.Common.{◌∙◌, ◌∷◌, true, false, nat_lt, replicate, All}
 use Rattle.std.proofs.lemmas.Bool.{cases_lt}
 use Rattle.std.proofs.lemmas.Bool.Decides.{nat_tests}
 use Rattle.std.proofs.lemmas.List.{length-map, ext_get_or}
-use Rattle.journal.specs.Spelling.{number_in}
+use Rattle.journal.specs.Spelling.{spelling, number_in, descriptor_mark, commit_mark}
 use Rattle.journal.specs.Sectors.{IsDescriptor, IsCommit}
 use Rattle.journal.specs.Record.{Entry, numbers_of, block_of}
 use Rattle.journal.specs.Layout.{by_part, AreEntries, IsWholeIn}
 use Rattle.journal.specs.LayoutLaws.{IsRecordOf}
-use Rattle.journal.specs.Format1.{format1, Carries1, commit1, descriptor1, entry_in, record_in}
+use Rattle.journal.specs.Format1.{format1, Carries1, entry_in, record_in}
 use Rattle.journal.proofs.SectorNumbers.{descriptor_says, commit_says, descriptor_number}
 use Rattle.std.proofs.Math.ListN.{get_or-map}
 use Rattle.std.proofs.lemmas.List.Elements.{All-from_get_or}
@@ -47,14 +47,13 @@ pub part_place : (s : ℕ) (entries : List Entry) (p : ℕ) → 1 ≤ p → p < 
 part_place s entries p behind below = grind (arith, parts)
 
 module _ {blocks s : ℕ} {entries : List Entry} (r : IsRecordOf format1 blocks s entries) where
-  pub descriptor_of : IsDescriptor s (numbers_of entries) (descriptor1 s (numbers_of entries))
+  pub descriptor_of : IsDescriptor s (numbers_of entries)
+      (spelling (descriptor_mark ∷ s ∷ length (numbers_of entries) ∷ numbers_of entries))
   descriptor_of =
       let long = length-map entries (λ (e : Entry). e.0) in
-      let some : 1 ≤ length (numbers_of entries) = omega (arith, long, r.fit.some) in
-      let few : length (numbers_of entries) ≤ 48 = omega (arith, long, r.fit.few) in
-      search rules
+      search (rules, arith)
 
-  pub commit_of : IsCommit s (length entries) (commit1 s (length entries))
+  pub commit_of : IsCommit s (length entries) (spelling (commit_mark ∷ s ∷ length entries ∷ []))
   commit_of = search rules
 
   -- the descriptor and the commit carry the record's stamp
