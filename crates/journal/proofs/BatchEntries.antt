@@ -22,7 +22,8 @@ pub numbers_of_batch : (numbers bytes : List ℕ) → numbers_of (entries_of num
 numbers_of_batch numbers bytes = numbers_from 0 numbers bytes
 
 pub length_of_batch : (numbers bytes : List ℕ) → length (entries_of numbers bytes) ≡ length numbers
-length_of_batch numbers bytes = omega (arith, length-map (entries_of numbers bytes) (λ (e : Entry). e.0), ap length (numbers_of_batch numbers bytes))
+length_of_batch numbers bytes =
+    omega (arith, length-map (entries_of numbers bytes) (λ (e : Entry). e.0), ap length (numbers_of_batch numbers bytes))
 
 pub entry_of_batch : (i : ℕ) (numbers bytes : List ℕ) (d : Entry) → i < length numbers
     → get_or (entries_of numbers bytes) i d ≡ (get_or numbers i 0, slice_range bytes (512 * i) (512 * i + 512))

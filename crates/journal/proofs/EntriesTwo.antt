@@ -64,7 +64,8 @@ module _ (numbers : List ℕ) (firsts : List (List ℕ)) (each : length firsts �
         let x : Entry = (get_or numbers e 0, get_or firsts e []) in
         let first = take_all 8 (get_or firsts e []) (omega (arith, sized e [] (omega arith))) in
         let more = take_more es e (0, []) (omega (arith, length_zipped)) in
-        rw (more, zipped e below, flat_map-append entry_bytes (take e es) (x ∷ [])) (simp (append_assoc, first) (rw (append-nil (get_or firsts e []))))
+        rw (more, zipped e below, flat_map-append entry_bytes (take e es) (x ∷ []))
+        (simp (append_assoc, first) (rw (append-nil (get_or firsts e []))))
 
 -- a part of what rises rises
 rising_part : (numbers : List ℕ) (from count : ℕ) → IsRising numbers → IsRising (take count (drop from numbers))

@@ -43,15 +43,14 @@ pub ruleset parts = (by_descriptor, by_place, by_commit)
 pub offset_early : (n p : ℕ) → p < n + 1 → format1.offset n p ≡ p
 offset_early n p below = grind (arith, parts)
 
-pub part_place : (s : ℕ) (entries : List Entry) (p : ℕ) → 1 ≤ p → p < length entries + 1 → format1.part s entries p ≡ block_of entries (p - 1)
+pub part_place : (s : ℕ) (entries : List Entry) (p : ℕ) → 1 ≤ p → p < length entries + 1
+    → format1.part s entries p ≡ block_of entries (p - 1)
 part_place s entries p behind below = grind (arith, parts)
 
 module _ {blocks s : ℕ} {entries : List Entry} (r : IsRecordOf format1 blocks s entries) where
   pub descriptor_of : IsDescriptor s (numbers_of entries)
       (spelling (descriptor_mark ∷ s ∷ length (numbers_of entries) ∷ numbers_of entries))
-  descriptor_of =
-      let long = length-map entries (λ (e : Entry). e.0) in
-      search (rules, arith)
+  descriptor_of = let long = length-map entries (λ (e : Entry). e.0) in search (rules, arith)
 
   pub commit_of : IsCommit s (length entries) (spelling (commit_mark ∷ s ∷ length entries ∷ []))
   commit_of = search rules
@@ -88,7 +87,8 @@ module _ (image : Image) (at : ℕ) {stamp : ℕ} {numbers : List ℕ} (d : IsDe
 
   entry_read : (i : ℕ) → i < length numbers → get_or (record_in image at) i (0, []) ≡ (get_or numbers i 0, image (at + 1 + i))
   entry_read i below = rw (
-    get_or-map-range_with_len (entry_in image at) 0 (number_in (image at) 2) i i (0, []) (omega (arith, (descriptor_says d).1)) (omega arith),
+    get_or-map-range_with_len (entry_in image at) 0 (number_in (image at) 2) i i (0, [])
+        (omega (arith, (descriptor_says d).1)) (omega arith),
     descriptor_number d i below,
   )
 
@@ -97,7 +97,8 @@ module _ (image : Image) (at : ℕ) {stamp : ℕ} {numbers : List ℕ} (d : IsDe
   numbers_read =
       let first : Entry → ℕ = λ e. e.0 in
       let long = length-map (record_in image at) first in
-      ext_get_or 0 _ numbers (long ∙ many) (λ i below. rw (get_or-map first (record_in image at) i (0, []), entry_read i (omega (arith, long, many))))
+      ext_get_or 0 _ numbers (long ∙ many) (λ i below.
+      rw (get_or-map first (record_in image at) i (0, []), entry_read i (omega (arith, long, many))))
 
 module _ (shape : Shape) (image : Image) (s : ℕ) (es : List Entry) (w : IsWholeIn format1 shape image s es) where
   pub descriptor_there : IsDescriptor s (numbers_of es) (image (2 + 50 * (s % shape.slots)))
@@ -134,7 +135,8 @@ module _ (shape : Shape) (image : Image) (stamp : ℕ) (numbers : List ℕ)
   entries : AreEntries 48 shape.blocks es
   entries =
       let sized = All-from_get_or (λ e. length e.1 ≡ 512) es (0, []) (λ i below.
-      let inside : i < length numbers = omega (arith, below, many image _ described) in rw (entry_read image _ described i inside) (sized i inside)) in
+      let inside : i < length numbers = omega (arith, below, many image _ described) in
+      rw (entry_read image _ described i inside) (sized i inside)) in
       grind (arith, numbers_read image _ described, many image _ described, described.block_numbers)
 
   -- these are the blocks of a whole record

@@ -62,7 +62,8 @@ returns g c =
       some = λ stamped. (
         record_in image at,
         of_format c.requires.format (whole_in shape image c.args.stamp found described ended c.in-Some.ensures.inside
-            (λ i below. sound.sized (at + 1 + i) (image (at + 1 + i)) (omega (arith, ends, c.requires.fits, described.block_numbers.few, below))
+            (λ i below. sound.sized (at + 1 + i) (image (at + 1 + i))
+            (omega (arith, ends, c.requires.fits, described.block_numbers.few, below))
             (sound.holds_content (at + 1 + i)))),
       );
       all = λ entries whole. read_is shape image c.args.stamp entries whole c.append.new.self

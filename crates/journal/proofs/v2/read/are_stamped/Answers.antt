@@ -8,7 +8,8 @@ use Rattle.journal.proofs.v2.read.are_stamped.Goals as goal
 pub returns-in_err-has_stamp : goal.returns-in_err-has_stamp
 returns-in_err-has_stamp g c =
     let ends = within_two c.args.sizes.now c.args.stamp _ c.slot_of-slot.ensures c.requires.format in
-    looks_on g.met.M.Medium.follows_through c.loop-i.invariant (looks_within ends c.has_stamp.ensures) (omega arith) (search rules) (search rules)
+    looks_on g.met.M.Medium.follows_through c.loop-i.invariant (looks_within ends c.has_stamp.ensures) (omega arith)
+    (search rules) (search rules)
 
 pub returns-then-not-branch : goal.returns-then-not-branch
 returns-then-not-branch g c =
@@ -38,7 +39,8 @@ pub loop-i-preserved : goal.loop-i-preserved
 loop-i-preserved g c =
     let ends = within_two c.args.sizes.now c.args.stamp _ c.slot_of-slot.ensures c.requires.format in
     let inv = c.loop-i.invariant in
-    let same : (g.M.Medium.state c.loop-i.m).content ≡ (g.M.Medium.state c.args.m.now).content = λ j s. inv.passes.quiet.content_stays s j in
+    let same : (g.M.Medium.state c.loop-i.m).content ≡ (g.M.Medium.state c.args.m.now).content =
+    λ j s. inv.passes.quiet.content_stays s j in
     let finds = rw (c.if-not-branch.false, same) at c.in_ok-has_stamp.ensures.finds in
     looks_on g.met.M.Medium.follows_through inv (looks_within ends c.has_stamp.ensures) (omega arith) tt
     (grind (arith, inv.finds.0, finds.1.0), omega (arith, inv.finds.1, finds.0))
