@@ -1,7 +1,6 @@
 -- The entries of a batch.
-use Rattle.std.proofs.Common.{◌≡◌, ℕ, zero, suc, ◌+◌, ◌*◌, ◌-◌, ◌<◌, List, [], ◌∷◌, length, get_or, take, drop, refl, sym, ◌∙◌, ap}
-use Rattle.std.proofs.Common.{arith}
-use Rattle.std.specs.Prelude.{slice_range, All}
+use Rattle.std.proofs.Common.{◌≡◌, ℕ, zero, suc, ◌+◌, ◌*◌, ◌-◌, ◌<◌, List, [], ◌∷◌, length, get_or, take, drop, refl}
+use Rattle.std.proofs.Common.{sym, ◌∙◌, ap, arith, slice_range, All}
 use Rattle.std.proofs.lemmas.List.{length-take, length-drop, length-map, take-take, ext_get_or}
 use Rattle.std.proofs.Math.ListN.{get_or-map}
 use Rattle.journal.specs.SectorsTwo.{firsts_of, chunk_of}
@@ -24,8 +23,7 @@ numbers_of_batch numbers bytes = numbers_from 0 numbers bytes
 
 pub length_of_batch : (numbers bytes : List ℕ) → length (entries_of numbers bytes) ≡ length numbers
 length_of_batch numbers bytes =
-    sym (length-map (entries_of numbers bytes) (λ (e : Entry). e.0))
-    ∙ ap (λ (l : List ℕ). length l) (numbers_of_batch numbers bytes)
+    omega (arith, length-map (entries_of numbers bytes) (λ (e : Entry). e.0), ap length (numbers_of_batch numbers bytes))
 
 pub entry_of_batch : (i : ℕ) (numbers bytes : List ℕ) (d : Entry) → i < length numbers
     → get_or (entries_of numbers bytes) i d ≡ (get_or numbers i 0, slice_range bytes (512 * i) (512 * i + 512))

@@ -1,7 +1,6 @@
 -- What is read of a record of format 2, descriptor by descriptor.
-use Rattle.std.proofs.Common.{◌≡◌, ℕ, ◌+◌, ◌*◌, ◌/◌, ◌%◌, ◌<◌, List, [], ◌++◌, length, get_or, take, drop, sym, ◌∙◌, ap, arith}
-use Rattle.std.specs.Prelude.{slice_range}
-use Rattle.std.proofs.Math.Seq.{take-add}
+use Rattle.std.proofs.Common.{◌≡◌, ℕ, ◌+◌, ◌*◌, ◌/◌, ◌%◌, ◌<◌, List, [], ◌++◌, length, get_or, take, drop, sym, ◌∙◌, ap}
+use Rattle.std.proofs.Common.{arith, slice_range, take-add}
 use Rattle.std.proofs.lemmas.List.{ext_get_or, take_at, get_or-take, get_or-drop, length-take, length-drop, length-map}
 use Rattle.std.proofs.lemmas.List.FromFn.{get_or-map-range_with_len, length-map-range_with_len}
 use Rattle.medium.specs.Medium.{Image}
@@ -10,8 +9,7 @@ use Rattle.journal.specs.SectorsTwo.{descriptors_of, chunk_of, firsts_of, entrie
 use Rattle.journal.specs.Record.{Entry, numbers_of}
 use Rattle.journal.specs.Format2.{entry_in, entries_at}
 use Rattle.journal.specs.SlotReads.{HasDescriptor, HasDescriptors}
-use Rattle.journal.proofs.EntriesTwo.{first_is, numbers_are, firsts_are}
-use Rattle.journal.proofs.EntriesTwo.{number_at, first_at, numbers_of_chunk}
+use Rattle.journal.proofs.EntriesTwo.{first_is, numbers_are, firsts_are, number_at, first_at, numbers_of_chunk}
 
 -- descriptors that name count blocks are there
 pub each_there : (image : Image) (at stamp count : ℕ) (numbers : List ℕ) → length numbers ≡ count → HasDescriptors image at stamp numbers

@@ -1,8 +1,6 @@
 -- The numbers and the entries in the sectors of format 2.
 use Rattle.std.proofs.Common.{◌≡◌, ℕ, ◌+◌, ◌*◌, ◌-◌, ◌^◌, ◌<◌, ◌≤◌, List, [], ◌∷◌, ◌++◌, length, get_or, take, drop}
-use Rattle.std.proofs.Common.{refl, sym, ap, arith, rules, ◌∙◌}
-use Rattle.std.specs.Prelude.{All, min, zip, slice_range}
-use Rattle.std.specs.List.{flat_map}
+use Rattle.std.proofs.Common.{refl, sym, arith, rules, ◌∙◌, All, min, zip, slice_range, flat_map}
 use Rattle.std.proofs.lemmas.List.{take_all, take_min, length-take, length-drop, append_assoc, append-nil, take_more}
 use Rattle.std.proofs.lemmas.List.{drop-drop, drop-take, ext_get_or, take-map, drop-map, length-map, length-take-le}
 use Rattle.std.proofs.lemmas.List.Elements.{All-take, All-drop, All-from_get_or}
@@ -31,11 +29,6 @@ pub place_rest : (s : ℕ) (block : List ℕ) → drop 8 (place_bytes s block) �
 unfolding place_bytes
 place_rest s block = refl
 
--- an entry takes 16 bytes
-length_entry : (e : Entry) → 8 ≤ length e.1 → length (entry_bytes e) ≡ 16
-unfolding entry_bytes
-length_entry e size = grind (arith, common_steps)
-
 module _ (numbers : List ℕ) (firsts : List (List ℕ)) (each : length firsts ≡ length numbers) where
   -- entry e
   pub zipped : (e : ℕ) → e < length numbers → get_or (zip numbers firsts) e (0, []) ≡ (get_or numbers e 0, get_or firsts e [])
@@ -45,11 +38,13 @@ module _ (numbers : List ℕ) (firsts : List (List ℕ)) (each : length firsts �
   length_zipped = omega (arith, length-zip numbers firsts)
 
   module _ (sized : All (λ (first : List ℕ). length first ≡ 8) firsts) where
+    -- an entry takes 16 bytes
     pub zipped_long : All (λ (x : Entry). length (entry_bytes x) ≡ 16) (zip numbers firsts)
+    unfolding entry_bytes
     zipped_long e d below =
         let inside : e < length numbers = omega (arith, length_zipped) in
-        let is = ap (λ (x : Entry). length x.1) (get_or-zip numbers firsts e d inside (omega (arith, inside))) in
-        length_entry (get_or (zip numbers firsts) e d) (omega (arith, is, sized e d.1 (omega (arith, inside))))
+        let is = get_or-zip numbers firsts e d inside (omega (arith, inside)) in
+        rw is (grind (arith, common_steps, sized e d.1 (omega (arith, inside))))
 
     -- how many bytes stand behind the first e entries
     pub length_so_far : (before : List ℕ) (e : ℕ) → length before ≡ 32 → e ≤ length numbers
@@ -69,10 +64,11 @@ module _ (numbers : List ℕ) (firsts : List (List ℕ)) (each : length firsts �
         let x : Entry = (get_or numbers e 0, get_or firsts e []) in
         let first = take_all 8 (get_or firsts e []) (omega (arith, sized e [] (omega arith))) in
         let more = take_more es e (0, []) (omega (arith, length_zipped)) in
-        rw (more, zipped e below, flat_map-append entry_bytes (take e es) (x ∷ [])) (simp (append_assoc, first) (rw (append-nil (get_or firsts e []))))
+        rw (more, zipped e below, flat_map-append entry_bytes (take e es) (x ∷ []))
+        (simp (append_assoc, first) (rw (append-nil (get_or firsts e []))))
 
 -- a part of what rises rises
-pub rising_part : (numbers : List ℕ) (from count : ℕ) → IsRising numbers → IsRising (take count (drop from numbers))
+rising_part : (numbers : List ℕ) (from count : ℕ) → IsRising numbers → IsRising (take count (drop from numbers))
 rising_part numbers from count rising i j less below = grind (arith, common_steps, rising (from + i) (from + j))
 
 -- the numbers of a descriptor are 30, or all that are left
@@ -172,16 +168,11 @@ numbers_of_chunk es j =
 
 -- one of some entries that follow each other
 module _ (es : List Entry) (many from i : ℕ) (few : i < many) where
-  part_at : get_or (take many (drop from es)) i (0, []) ≡ get_or es (from + i) (0, [])
-  part_at = grind (arith, common_steps)
-
   pub number_at : get_or (numbers_of (take many (drop from es))) i 0 ≡ (get_or es (from + i) (0, [])).0
-  number_at = get_or-map (λ (e : Entry). e.0) (take many (drop from es)) i (0, []) ∙ ap (λ (e : Entry). e.0) part_at
+  number_at = rw (get_or-map (λ (e : Entry). e.0) (take many (drop from es)) i (0, [])) (grind (arith, common_steps))
 
   pub first_at : get_or (firsts_of (take many (drop from es))) i [] ≡ take 8 (get_or es (from + i) (0, [])).1
-  first_at =
-      let first : Entry → List ℕ = λ e. take 8 e.1 in
-      get_or-map first (take many (drop from es)) i (0, []) ∙ ap first part_at
+  first_at = rw (get_or-map (λ (e : Entry). take 8 e.1) (take many (drop from es)) i (0, [])) (grind (arith, common_steps))
 
 -- in a record in the limits it is a descriptor
 pub descriptor_two : {blocks stamp : ℕ} {es : List Entry} (j : ℕ) → IsRecordOf format2 blocks stamp es → 30 * j < length es
@@ -199,8 +190,3 @@ descriptor_two {stamp = stamp} {es = es} j r used =
     rw (get_or-map first chunk i (0, []))
     (length-take-le 8 (get_or chunk i (0, [])).1 (omega (arith, sized i (0, []) (omega (arith, below, each))))))) in
     record { spelled = refl; least = r.least; most = r.below; entries = rw long at entries }
-
--- a data place is one for its own bytes
-pub place_own : (stamp : ℕ) (block sector : List ℕ) → sector ≡ place_bytes stamp block → sector ≡ place_bytes stamp sector
-unfolding place_bytes
-place_own stamp block sector is = grind arith

@@ -1,9 +1,7 @@
 -- An image stands for something or has one fault.
 use Rattle.std.proofs.Common.{◌≡◌, ◌⊎◌, ℕ, ◌+◌, ◌-◌, ◌^◌, ◌<◌, List, [], ◌∷◌, length, get_or, sym, subst, arith, rules}
-use Rattle.std.proofs.Common.{inl, inr}
-use Rattle.std.specs.Prelude.{All}
+use Rattle.std.proofs.Common.{inl, inr, All, ext_get_or}
 use Rattle.std.proofs.lemmas.Bool.{cases_eq, cases_lt}
-use Rattle.std.proofs.lemmas.List.{ext_get_or}
 use Rattle.std.proofs.lemmas.List.Elements.{All-from_get_or}
 use Rattle.medium.specs.Medium.{Image}
 use Rattle.journal.specs.Places.{Shape, sectors_of}

@@ -1,16 +1,15 @@
 -- Format 1 keeps the laws of a layout too.
 use Rattle.std.proofs.Common.{◌≡◌, ◌⊎◌, ℕ, ◌+◌, ◌-◌, ◌<◌, ◌≤◌, List, length, sym, arith, rules, ◌*◌, ◌%◌, [], get_or}
-use Rattle.std.proofs.Common.{◌∙◌}
-use Rattle.std.specs.Prelude.{true, false, nat_lt, replicate, All}
+use Rattle.std.proofs.Common.{◌∙◌, ◌∷◌, true, false, nat_lt, replicate, All}
 use Rattle.std.proofs.lemmas.Bool.{cases_lt}
 use Rattle.std.proofs.lemmas.Bool.Decides.{nat_tests}
 use Rattle.std.proofs.lemmas.List.{length-map, ext_get_or}
-use Rattle.journal.specs.Spelling.{number_in}
+use Rattle.journal.specs.Spelling.{spelling, number_in, descriptor_mark, commit_mark}
 use Rattle.journal.specs.Sectors.{IsDescriptor, IsCommit}
 use Rattle.journal.specs.Record.{Entry, numbers_of, block_of}
 use Rattle.journal.specs.Layout.{by_part, AreEntries, IsWholeIn}
 use Rattle.journal.specs.LayoutLaws.{IsRecordOf}
-use Rattle.journal.specs.Format1.{format1, Carries1, commit1, descriptor1, entry_in, record_in}
+use Rattle.journal.specs.Format1.{format1, Carries1, entry_in, record_in}
 use Rattle.journal.proofs.SectorNumbers.{descriptor_says, commit_says, descriptor_number}
 use Rattle.std.proofs.Math.ListN.{get_or-map}
 use Rattle.std.proofs.lemmas.List.Elements.{All-from_get_or}
@@ -44,18 +43,16 @@ pub ruleset parts = (by_descriptor, by_place, by_commit)
 pub offset_early : (n p : ℕ) → p < n + 1 → format1.offset n p ≡ p
 offset_early n p below = grind (arith, parts)
 
-pub part_place : (s : ℕ) (entries : List Entry) (p : ℕ) → 1 ≤ p → p < length entries + 1 → format1.part s entries p ≡ block_of entries (p - 1)
+pub part_place : (s : ℕ) (entries : List Entry) (p : ℕ) → 1 ≤ p → p < length entries + 1
+    → format1.part s entries p ≡ block_of entries (p - 1)
 part_place s entries p behind below = grind (arith, parts)
 
 module _ {blocks s : ℕ} {entries : List Entry} (r : IsRecordOf format1 blocks s entries) where
-  pub descriptor_of : IsDescriptor s (numbers_of entries) (descriptor1 s (numbers_of entries))
-  descriptor_of =
-      let long = length-map entries (λ (e : Entry). e.0) in
-      let some : 1 ≤ length (numbers_of entries) = omega (arith, long, r.fit.some) in
-      let few : length (numbers_of entries) ≤ 48 = omega (arith, long, r.fit.few) in
-      search rules
+  pub descriptor_of : IsDescriptor s (numbers_of entries)
+      (spelling (descriptor_mark ∷ s ∷ length (numbers_of entries) ∷ numbers_of entries))
+  descriptor_of = let long = length-map entries (λ (e : Entry). e.0) in search (rules, arith)
 
-  pub commit_of : IsCommit s (length entries) (commit1 s (length entries))
+  pub commit_of : IsCommit s (length entries) (spelling (commit_mark ∷ s ∷ length entries ∷ []))
   commit_of = search rules
 
   -- the descriptor and the commit carry the record's stamp
@@ -90,7 +87,8 @@ module _ (image : Image) (at : ℕ) {stamp : ℕ} {numbers : List ℕ} (d : IsDe
 
   entry_read : (i : ℕ) → i < length numbers → get_or (record_in image at) i (0, []) ≡ (get_or numbers i 0, image (at + 1 + i))
   entry_read i below = rw (
-    get_or-map-range_with_len (entry_in image at) 0 (number_in (image at) 2) i i (0, []) (omega (arith, (descriptor_says d).1)) (omega arith),
+    get_or-map-range_with_len (entry_in image at) 0 (number_in (image at) 2) i i (0, [])
+        (omega (arith, (descriptor_says d).1)) (omega arith),
     descriptor_number d i below,
   )
 
@@ -99,7 +97,8 @@ module _ (image : Image) (at : ℕ) {stamp : ℕ} {numbers : List ℕ} (d : IsDe
   numbers_read =
       let first : Entry → ℕ = λ e. e.0 in
       let long = length-map (record_in image at) first in
-      ext_get_or 0 _ numbers (long ∙ many) (λ i below. rw (get_or-map first (record_in image at) i (0, []), entry_read i (omega (arith, long, many))))
+      ext_get_or 0 _ numbers (long ∙ many) (λ i below.
+      rw (get_or-map first (record_in image at) i (0, []), entry_read i (omega (arith, long, many))))
 
 module _ (shape : Shape) (image : Image) (s : ℕ) (es : List Entry) (w : IsWholeIn format1 shape image s es) where
   pub descriptor_there : IsDescriptor s (numbers_of es) (image (2 + 50 * (s % shape.slots)))
@@ -136,7 +135,8 @@ module _ (shape : Shape) (image : Image) (stamp : ℕ) (numbers : List ℕ)
   entries : AreEntries 48 shape.blocks es
   entries =
       let sized = All-from_get_or (λ e. length e.1 ≡ 512) es (0, []) (λ i below.
-      let inside : i < length numbers = omega (arith, below, many image _ described) in rw (entry_read image _ described i inside) (sized i inside)) in
+      let inside : i < length numbers = omega (arith, below, many image _ described) in
+      rw (entry_read image _ described i inside) (sized i inside)) in
       grind (arith, numbers_read image _ described, many image _ described, described.block_numbers)
 
   -- these are the blocks of a whole record

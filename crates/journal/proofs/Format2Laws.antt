@@ -7,9 +7,8 @@ use Rattle.journal.specs.Record.{Entry, block_of, numbers_of}
 use Rattle.journal.specs.LayoutLaws.{IsRecordOf}
 use Rattle.journal.specs.SectorsTwo.{place_bytes, commit_mark, chunk_of, firsts_of, IsCommitTwo}
 use Rattle.journal.specs.Format2.{format2, Carries2}
-use Rattle.journal.proofs.EntriesTwo.{header_says, place_says}
+use Rattle.journal.proofs.EntriesTwo.{header_says, place_says, descriptor_two}
 use Rattle.journal.proofs.SectorNumbers.{commit_says}
-use Rattle.journal.proofs.EntriesTwo.{descriptor_two}
 use Rattle.journal.proofs.Format1Laws.{parts}
 
 pub offset_place : (n p : ℕ) → (n + 29) / 30 ≤ p → p < (n + 29) / 30 + n → format2.offset n p ≡ 8 + (p - (n + 29) / 30)

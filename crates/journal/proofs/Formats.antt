@@ -8,9 +8,8 @@ use Rattle.journal.specs.Format1.{format1}
 use Rattle.journal.specs.Format2.{format2}
 use Rattle.journal.specs.Formats.{layout_of}
 use Rattle.journal.proofs.SectorNumbers.{commit_says}
-use Rattle.journal.proofs.Format1Laws.{parts, carries1, one_stamp1, zeros1, commit_of}
+use Rattle.journal.proofs.Format1Laws.{parts, carries1, one_stamp1, zeros1, commit_of, record_read as read1}
 use Rattle.journal.proofs.Format2Laws.{commit_two, carries2, one_stamp2, zeros2}
-use Rattle.journal.proofs.Format1Laws.{record_read as read1}
 use Rattle.journal.proofs.SlotTwo.{record_read as read2}
 
 pub format1_laws : Laws format1

@@ -1,15 +1,13 @@
 -- What a sector's numbers say of the value that it spells, and that this is one.
-use Rattle.std.proofs.Common.{◌≡◌, ℕ, ◌+◌, ◌<◌, ◌≤◌, List, [], ◌∷◌, length, drop, get_or}
-use Rattle.std.proofs.Common.{ap, sym, ◌∙◌, arith}
-use Rattle.std.specs.Prelude.{if◌then◌else◌, ◌==◌}
-use Rattle.std.proofs.lemmas.List.{ext_get_or}
+use Rattle.std.proofs.Common.{◌≡◌, ℕ, ◌+◌, ◌<◌, ◌≤◌, List, ◌∷◌, length, drop, get_or, ap, sym, ◌∙◌, arith}
+use Rattle.std.proofs.Common.{if◌then◌else◌, ◌==◌, ext_get_or}
 use Rattle.journal.specs.Places.{Shape}
 use Rattle.journal.specs.declared.log_format.LogFormat.{LogFormat}
 use Rattle.journal.specs.declared.log_format.LogFormat.TheVariants.{One, Two}
-use Rattle.journal.specs.Spelling.{number_in, super_mark, descriptor_mark, AreItems}
+use Rattle.journal.specs.Spelling.{padded, spelling, number_in, descriptor_mark, AreItems}
 use Rattle.journal.specs.Sectors.{version_of, IsSuper, IsHead, IsDescriptor, IsCommitOf}
 use Rattle.journal.specs.SuperFaults.{HasMagic, HasVersion, HasZeroRest}
-use Rattle.journal.proofs.OneSpelling.{spelling_get, spelling-rest}
+use Rattle.journal.proofs.OneSpelling.{spelling_get}
 
 module _ {stamp : ℕ} {numbers bytes : List ℕ} (d : IsDescriptor stamp numbers bytes) where
   -- the stamp of a descriptor, and how many block numbers it has
@@ -46,14 +44,13 @@ module _ {shape : Shape} {bytes : List ℕ} (s : IsSuper shape bytes) where
     spelling_get 5 _ bytes (omega arith) (grind (arith, s.most_slots, s.home_is)) s.spelled,
   )
 
+  no_rest : HasZeroRest bytes
+  unfolding spelling padded
+  no_rest = ap (λ (l : List ℕ). drop 48 l) s.spelled
+
   -- a super has no fault
   pub super_begins : HasMagic bytes × HasVersion bytes × HasZeroRest bytes
-  super_begins = (
-    spelling_get 0 _ bytes (omega arith) (omega arith) s.spelled,
-    grind (arith, super_says),
-    ap (λ (l : List ℕ). drop 48 l) s.spelled
-        ∙ spelling-rest (super_mark ∷ version_of shape.format ∷ shape.blocks ∷ shape.slots ∷ 2 ∷ shape.home ∷ []),
-  )
+  super_begins = (spelling_get 0 _ bytes (omega arith) (omega arith) s.spelled, grind (arith, super_says), no_rest)
 
 -- the only shape whose super a sector may be
 abbrev pub shape_in : List ℕ → Shape

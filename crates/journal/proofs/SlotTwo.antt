@@ -1,7 +1,6 @@
 -- A record of format 2 is whole where the sectors of its slot say what they should, and there alone.
-use Rattle.std.proofs.Common.{inl, inr, ◌≡◌, ℕ, ◌+◌, ◌*◌, ◌-◌, ◌/◌, ◌%◌, ◌<◌, List, [], length, get_or, drop, sym, ◌∙◌, arith}
+use Rattle.std.proofs.Common.{◌≡◌, ℕ, ◌+◌, ◌*◌, ◌-◌, ◌/◌, ◌%◌, ◌<◌, List, [], length, get_or, drop, sym, ◌∙◌, arith}
 use Rattle.std.specs.Prelude.{false, IsTrue, All}
-use Rattle.std.proofs.lemmas.Bool.{cases_lt}
 use Rattle.std.proofs.lemmas.Grind.{common_steps}
 use Rattle.std.proofs.lemmas.List.{length-map, take-append-drop}
 use Rattle.std.proofs.lemmas.List.FromFn.{fill_by_all}
@@ -16,7 +15,7 @@ use Rattle.journal.specs.Layout.{IsWholeIn}
 use Rattle.journal.specs.Format2.{format2, entry_in, entries_at, record_in}
 use Rattle.journal.specs.SlotReads.{HasDescriptor, HasPlaces}
 use Rattle.journal.proofs.EntriesTwo.{number_is, first_is, commit_count, place_rest}
-use Rattle.journal.proofs.EntriesTwo.{number_at, first_at, descriptor_two, place_own}
+use Rattle.journal.proofs.EntriesTwo.{number_at, first_at, descriptor_two}
 use Rattle.journal.proofs.DescribedNumbers.{read_long, read_entry, chunk_numbers, chunk_firsts}
 use Rattle.journal.proofs.Format1Laws.{parts}
 use Rattle.journal.proofs.Wholeness.{record_of}
@@ -40,7 +39,8 @@ module _ (shape : Shape) (image : Image) (s : ℕ) (es : List Entry) (w : IsWhol
   place_there i below = grind (arith, parts, w.there ((length es + 29) / 30 + i))
 
   pub placed : HasPlaces image (2 + 249 * (s % shape.slots)) s (length es)
-  placed i below = place_own s (block_of es i) _ (place_there i below)
+  unfolding place_bytes
+  placed i below = grind (arith, place_there i below)
 
   -- it is the one that its slot spells
   pub record_read : es ≡ record_in image (2 + 249 * (s % shape.slots))
@@ -76,14 +76,11 @@ module _ (shape : Shape) (image : Image) (s n : ℕ) (committed : IsCommitTwo s 
     (described : (j : ℕ) → j < descriptors_of n → HasDescriptor image (2 + 249 * (s % shape.slots)) s n j)
     (placed : HasPlaces image (2 + 249 * (s % shape.slots)) s n)
     (sized : (x : ℕ) → x < 249 → length (image (2 + 249 * (s % shape.slots) + x)) ≡ 512) where
-  abbrev at : ℕ
-  at = 2 + 249 * (s % shape.slots)
-
   abbrev read : List Entry
   read = entries_at image (2 + 249 * (s % shape.slots)) n
 
   long : length read ≡ n
-  long = read_long image at n
+  long = read_long image _ n
 
   -- a number that is read is small
   small : (i : ℕ) → i < length (numbers_of read) → get_or (numbers_of read) i 0 < 2147483648
@@ -91,7 +88,7 @@ module _ (shape : Shape) (image : Image) (s n : ℕ) (committed : IsCommitTwo s 
       let inside : i < n = omega (arith, long, length-map read (λ (e : Entry). e.0)) in
       let d = (described (i / 30) (omega arith)).2 in
       let few : i % 30 < length (described (i / 30) (omega arith)).0 = omega (arith, d.entries.many) in
-      rw (get_or-map (λ (e : Entry). e.0) read i (0, []), read_entry image at n i inside, number_is d (i % 30) few)
+      rw (get_or-map (λ (e : Entry). e.0) read i (0, []), read_entry image _ n i inside, number_is d (i % 30) few)
       (d.entries.small (i % 30) 0 few)
 
   -- a block that is read has all its bytes, and the rest of its data place
@@ -100,21 +97,15 @@ module _ (shape : Shape) (image : Image) (s n : ℕ) (committed : IsCommitTwo s 
   block_read i below =
       let described_at = sized (i / 30) (omega (arith, committed.few)) in
       let placed_at = sized (8 + i) (omega (arith, committed.few)) in
-      rw (read_entry image at n i below) (grind (arith, common_steps), grind (arith, common_steps))
+      rw (read_entry image _ n i below) (grind (arith, common_steps), grind (arith, common_steps))
 
-  part_read : (p : ℕ) → image (2 + 249 * (s % shape.slots) + format2.offset (length read) p) ≡ format2.part s read p
+  descriptor_read : (j : ℕ) → j < descriptors_of n → image (2 + 249 * (s % shape.slots) + j) ≡ descriptor_bytes s read j
+  descriptor_read j below =
+      let it = (described j below).2 in rw (long, chunk_numbers image _ n it, chunk_firsts image _ n it) it.spelled
+
+  place_read : (i : ℕ) → i < n → image (2 + 249 * (s % shape.slots) + (8 + i)) ≡ place_bytes s (block_of read i)
   unfolding place_bytes
-  part_read p = elim (cases_lt p ((length read + 29) / 30)) [
-    | inl d ↦
-        let it = (described p (omega (arith, long))).2 in
-        grind (arith, parts, it.spelled, long, chunk_numbers image at n it, chunk_firsts image at n it)
-    | inr b ↦ elim (cases_lt p ((length read + 29) / 30 + length read)) [
-      | inl d ↦
-          let i = p - (length read + 29) / 30 in
-          grind (arith, parts, placed i (omega (arith, long)), (block_read i (omega (arith, long))).1)
-      | inr d ↦ grind (arith, parts, long, committed.spelled)
-    ]
-  ]
+  place_read i below = rw (block_read i below).1 (placed i below)
 
   pub whole_two : IsRising (numbers_of (entries_at image (2 + 249 * (s % shape.slots)) n))
       → All (λ b. b < shape.blocks) (numbers_of (entries_at image (2 + 249 * (s % shape.slots)) n))
@@ -130,5 +121,5 @@ module _ (shape : Shape) (image : Image) (s n : ℕ) (committed : IsCommitTwo s 
     };
     least = committed.least;
     below = committed.most;
-    there = λ p within. part_read p;
+    there = λ p within. grind (arith, parts, descriptor_read p, place_read (p - (n + 29) / 30), long, committed.spelled);
   }

@@ -53,6 +53,7 @@ pub record Stood (size : ℕ) (shape : Shape) (image : Image) (head count : ℕ)
   pub array : Array
   pub stands : StandsFor size shape image array (head + count + 1)
   pub head_is : stands.head ≡ head
+  pub count_is : length stands.records ≡ count
 
 -- what it stands for
 pub count_stands : (size : ℕ) (shape : Shape) (image : Image) (head count : ℕ)
@@ -78,7 +79,7 @@ count_stands size shape image head count fits s h c =
       ends = rw long c.ends;
       next_is = omega (arith, long);
     } in
-    record { array = with_records records (home_of shape image); stands = stands; head_is = refl }
+    record { array = with_records records (home_of shape image); stands = stands; head_is = refl; count_is = long }
 
 -- an image that stands for something has the shape of its super
 pub StandsFor-shape : (size : ℕ) (shape : Shape) (image : Image) (array : Array) (next : ℕ) → StandsFor size shape image array next

@@ -13,12 +13,6 @@ pub record Carries1 (o stamp : ℕ) (bytes : List ℕ) : Type 0 where
   pub place : 1 ≤ o → 49 ≤ o
   pub commit : 49 ≤ o → (count : ℕ) × IsCommit stamp count bytes
 
-abbrev pub commit1 : ℕ → ℕ → List ℕ
-commit1 stamp n = spelling (commit_mark ∷ stamp ∷ n ∷ [])
-
-abbrev pub descriptor1 : ℕ → List ℕ → List ℕ
-descriptor1 stamp numbers = spelling (descriptor_mark ∷ stamp ∷ length numbers ∷ numbers)
-
 -- the i-th entry of the record that may stand in the slot from this sector on
 abbrev pub entry_in : Image → ℕ → ℕ → Entry
 entry_in image at i = (number_in (image at) (3 + i), image (at + 1 + i))
@@ -35,8 +29,9 @@ format1 = record {
   early = λ n. n + 1;
   offset = by_part (λ i. i) (λ i. 1 + i) 49 1;
   part = λ stamp entries.
-      by_part (λ i. descriptor1 stamp (numbers_of entries)) (block_of entries)
-      (commit1 stamp (length entries)) 1 (length entries);
+      by_part
+      (λ i. spelling (descriptor_mark ∷ stamp ∷ length (numbers_of entries) ∷ numbers_of entries))
+      (block_of entries) (spelling (commit_mark ∷ stamp ∷ length entries ∷ [])) 1 (length entries);
   carries = Carries1;
   read = record_in;
 }

@@ -28,8 +28,7 @@ pub record Layout : Type 1 where
   pub read : Image → ℕ → List Entry
 
 -- In both formats there are descriptors, from the beginning of a slot on, n data places and a
--- commit. Of part p of a record this is what is so of descriptor p, of the i-th data place, or of the
--- commit.
+-- commit. Of part p this is what is so of descriptor p, of the i-th data place, or of the commit.
 unfoldable pub by_part : {X : Type 0} → (ℕ → X) → (ℕ → X) → X → ℕ → ℕ → ℕ → X
 by_part descriptor place commit descriptors n p =
     if nat_lt p descriptors then descriptor p

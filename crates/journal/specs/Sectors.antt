@@ -46,7 +46,7 @@ pub record IsDescriptor (stamp : ℕ) (numbers bytes : List ℕ) : Type 0 where
   pub most : stamp < 2 ^ 63 - 1
   pub block_numbers : AreBlockNumbers numbers
 
--- the bytes of a commit with this mark, and with the count of the record's blocks, of which there are
+-- the bytes of a commit with this mark, and with the count of the record's blocks, which are
 -- `limit` at most
 pub record IsCommitOf (mark limit stamp count : ℕ) (bytes : List ℕ) : Type 0 where
   pub spelled : bytes ≡ spelling (mark ∷ stamp ∷ count ∷ [])

@@ -1,7 +1,6 @@
 -- What the bytes of a descriptor, a data place and a commit of format 2 are.
 use Rattle.std.specs.Prelude.{◌≡◌, ◌≤◌, ◌<◌, ℕ, ◌+◌, ◌*◌, ◌-◌, ◌/◌, ◌^◌, min, List, ◌++◌}
-use Rattle.std.specs.Prelude.{length, take, drop, codes, All, map, zip}
-use Rattle.std.specs.List.{flat_map}
+use Rattle.std.specs.Prelude.{length, take, drop, codes, All, map, zip, flat_map}
 use Rattle.byteorder.specs.Endian.{little_bytes}
 use Rattle.journal.specs.Spelling.{mark, padded}
 use Rattle.journal.specs.Entry.{Entry, numbers_of}

@@ -6,7 +6,6 @@ use Rattle.journal.specs.Record.{numbers_of}
 use Rattle.journal.specs.Sectors.{IsRising}
 use Rattle.journal.specs.SectorsTwo.{descriptors_of, place_bytes, firsts_of, IsDescriptorTwo}
 use Rattle.journal.specs.SectorsTwo.{IsCommitTwo}
-use Rattle.journal.specs.V2.{first_data, commit_offset}
 use Rattle.journal.specs.Format2.{entries_at}
 
 -- one of `many` is bad, and as many are read as go up to the first bad one, and with it
@@ -26,7 +25,7 @@ ReadsUpToBad good many reads =
 module _ (image : Image) (at stamp : ℕ) where
   -- the last sector is a commit of count blocks
   abbrev pub IsCommitted : ℕ → Type 0
-  IsCommitted count = IsCommitTwo stamp count (image (at + commit_offset))
+  IsCommitted count = IsCommitTwo stamp count (image (at + 248))
 
   -- its descriptor j is there, if it has count blocks
   abbrev pub HasDescriptor : ℕ → ℕ → Type 0
@@ -47,7 +46,7 @@ module _ (image : Image) (at stamp : ℕ) where
 
   -- the i-th data place begins with the stamp
   abbrev pub HasPlace : ℕ → Type 0
-  HasPlace i = image (at + (first_data + i)) ≡ place_bytes stamp (image (at + (first_data + i)))
+  HasPlace i = image (at + (8 + i)) ≡ place_bytes stamp (image (at + (8 + i)))
 
   -- and so do those of count blocks
   abbrev pub HasPlaces : ℕ → Type 0

@@ -1,7 +1,6 @@
 -- Sectors as numbers: the marks, and the numbers of eight bytes, the lowest byte first.
 use Rattle.std.specs.Prelude.{◌≡◌, ◌<◌, ℕ, ◌*◌, ◌-◌, List, ◌++◌, length, replicate, drop}
-use Rattle.std.specs.Prelude.{get_or, codes}
-use Rattle.std.specs.List.{flat_map}
+use Rattle.std.specs.Prelude.{get_or, codes, flat_map}
 use Rattle.byteorder.specs.Endian.{little_bytes, little_number}
 
 -- these bytes, and zeros behind them

@@ -1,14 +1,6 @@
 -- Where the parts of a record of format 2 stand.
 use Rattle.std.specs.Prelude.{ℕ, ◌+◌, ◌*◌}
 
--- where in a slot the bytes of its record's first block stand, all but the first 8
-abbrev pub first_data : ℕ
-first_data = 8
-
--- where in a slot the commit stands
-abbrev pub commit_offset : ℕ
-commit_offset = 248
-
 -- the first sector of a slot, which holds the first descriptor
 abbrev pub place_of : ℕ → ℕ
 place_of slot = 2 + 249 * slot

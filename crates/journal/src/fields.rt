@@ -112,9 +112,7 @@ pub(crate) fn list_of<const N: usize>(numbers: &[u64]) -> ArrayVec<u64, N>
     ensures { result.items ≡ numbers.now }
 {
     let mut list = ArrayVec::new();
-    for number in numbers {
-        list.push(*number);
-    }
+    let _ = list.try_extend_from_slice(numbers);
     list
 }
 

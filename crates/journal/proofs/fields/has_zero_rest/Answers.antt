@@ -1,6 +1,5 @@
-use Rattle.std.proofs.Common.{rules, refl, ◌≡◌, ◌-◌, ◌∙◌, sym, length, take, drop, arith, length-drop}
-use Rattle.std.specs.Prelude.{replicate}
-use Rattle.std.proofs.lemmas.List.{take_all}
+use Rattle.std.proofs.Common.{rules, refl, ◌≡◌, ◌-◌, ◌∙◌, sym, length, take, drop, arith, length-drop, replicate}
+use Rattle.std.proofs.Common.{take_all}
 use Rattle.journal.proofs.fields.has_zero_rest.Goals as goal
 
 pub returns-then-eq : goal.returns-then-eq

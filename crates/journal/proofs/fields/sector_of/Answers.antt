@@ -1,6 +1,7 @@
 use Rattle.std.proofs.Common.{[], refl}
-use Rattle.journal.proofs.OneSpelling.{spelling-none}
+use Rattle.journal.specs.Spelling.{padded, spelling}
 use Rattle.journal.proofs.fields.sector_of.Goals as goal
 
 pub returns : goal.returns
-returns c = c.put_all.ensures [] refl spelling-none
+unfolding padded spelling
+returns c = c.put_all.ensures [] refl refl

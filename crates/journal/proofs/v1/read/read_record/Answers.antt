@@ -32,17 +32,15 @@ joined g c z finds =
 pub returns-in_default : goal.returns-in_default
 returns-in_default g c =
     let after = (goal.at.returns-in_default g c).After-whole_record in
-    let shape = shape_of c.args.sizes.now in
-    let old = g.M.Medium.state c.args.m.now in
     let slot = c.slot_of-slot.ensures in
     joined g after _ (record {
       some = tt;
       all = λ entries whole.
           let w = as_format c.requires.format whole in
           c.in_default.ensures.all (numbers_of entries)
-          (rw (c.in_ok-read.ensures.ok, c.place_of.ensures, slot) (descriptor_there shape old.content c.args.stamp entries w))
+          (rw (c.in_ok-read.ensures.ok, c.place_of.ensures, slot) (descriptor_there _ _ _ _ w))
           (rw (c.in_ok-read-2.ensures.ok, c.commit_place.ensures, c.read.ensures.content _, slot)
-          (commit_there shape old.content c.args.stamp entries w)) w.fit.inside;
+          (commit_there _ _ _ _ w)) w.fit.inside;
       exact = (2, rw c.requires.format refl, omega arith);
     })
 
@@ -60,12 +58,12 @@ returns g c =
     let none : c.append.new.self.firsts.items ≡ [] = rw (c.append.ensures.firsts, c.clear.ensures.firsts) in
     let sound = g.met.M.Medium.sound c.args.m.now in
     let ends = within_one c.args.sizes.now c.args.stamp _ refl c.requires.format in
-    let few = described.block_numbers.few in
     joined g after _ (record {
       some = λ stamped. (
         record_in image at,
         of_format c.requires.format (whole_in shape image c.args.stamp found described ended c.in-Some.ensures.inside
-            (λ i below. sound.sized (at + 1 + i) (image (at + 1 + i)) (omega (arith, ends, c.requires.fits, few, below))
+            (λ i below. sound.sized (at + 1 + i) (image (at + 1 + i))
+            (omega (arith, ends, c.requires.fits, described.block_numbers.few, below))
             (sound.holds_content (at + 1 + i)))),
       );
       all = λ entries whole. read_is shape image c.args.stamp entries whole c.append.new.self

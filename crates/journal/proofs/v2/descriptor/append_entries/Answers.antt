@@ -1,7 +1,4 @@
-use Rattle.std.proofs.Common.{◌++◌, ℕ, List, get_or, take, arith, length-append}
-use Rattle.std.specs.Prelude.{zip}
-use Rattle.std.specs.List.{flat_map}
-use Rattle.std.proofs.lemmas.List.{take_all}
+use Rattle.std.proofs.Common.{◌++◌, ℕ, List, get_or, take, arith, length-append, zip, flat_map, take_all}
 use Rattle.byteorder.specs.Endian.{little_bytes}
 use Rattle.journal.specs.Entry.{Entry}
 use Rattle.journal.specs.SectorsTwo.{entry_bytes}

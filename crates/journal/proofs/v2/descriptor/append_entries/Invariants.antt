@@ -1,6 +1,4 @@
-use Rattle.std.proofs.Common.{◌≡◌, ◌++◌, ℕ, List, length, take}
-use Rattle.std.specs.Prelude.{zip}
-use Rattle.std.specs.List.{flat_map}
+use Rattle.std.proofs.Common.{◌≡◌, ◌++◌, ℕ, List, length, take, zip, flat_map}
 use Rattle.journal.specs.Spelling.{padded}
 use Rattle.journal.specs.SectorsTwo.{entry_bytes}
 use Rattle.journal.proofs.v2.descriptor.append_entries.Given as goal

@@ -1,5 +1,4 @@
-use Rattle.std.proofs.Common.{◌+◌, ◌*◌, []}
-use Rattle.std.specs.Prelude.{slice_range}
+use Rattle.std.proofs.Common.{◌+◌, ◌*◌, [], slice_range}
 use Rattle.journal.specs.Spelling.{AreItems}
 use Rattle.journal.proofs.v2.descriptor.firsts_at.Given as goal
 

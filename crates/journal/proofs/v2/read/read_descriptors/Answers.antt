@@ -1,6 +1,5 @@
-use Rattle.std.proofs.Common.{◌≡◌, ◌<◌, ◌+◌, ◌*◌, ◌/◌, ℕ, List, ◌++◌, take, refl, rules, arith}
+use Rattle.std.proofs.Common.{◌≡◌, ◌<◌, ◌+◌, ◌*◌, ◌/◌, ℕ, List, ◌++◌, take, refl, rules, arith, below_more}
 use Rattle.std.proofs.lemmas.List.{map-append, take_all}
-use borrow.Author.Count.{below_more}
 use Rattle.medium.specs.Medium.{Image}
 use Rattle.journal.specs.Record.{Entry}
 use Rattle.journal.specs.SectorsTwo.{chunk_of}
@@ -19,15 +18,14 @@ loop-j-preserved g c =
     let j = c.loop-j.j in
     let same : (g.M.Medium.state c.loop-j.m).content ≡ image = λ i s. inv.looked.passes.quiet.content_stays s i in
     let finds = rw (c.in-Some.is, same) at c.in_ok-found.ensures.finds in
-    let d = c.in-Some.found in
     let es : List Entry = entries_at image at n in
     let so_far : List Entry = take (30 * c.loop-j.j) es in
-    let numbers : c.append.new.self.numbers.items ≡ c.loop-j.to.numbers.items ++ d.numbers.items = cc in
-    let firsts : c.append.new.self.firsts.items ≡ c.loop-j.to.firsts.items ++ d.firsts.items = cc in
+    let numbers : c.append.new.self.numbers.items ≡ c.loop-j.to.numbers.items ++ c.in-Some.found.numbers.items = cc in
+    let firsts : c.append.new.self.firsts.items ≡ c.loop-j.to.firsts.items ++ c.in-Some.found.firsts.items = cc in
     let more = take_chunk es j in
     let chunk : List Entry = chunk_of es c.loop-j.j in
     record {
-      there = below_more (HasDescriptor image at c.args.stamp n) j inv.there (d.numbers.items, d.firsts.items, finds.1);
+      there = below_more (HasDescriptor image at c.args.stamp n) j inv.there (_, _, finds.1);
       numbers = cc (numbers, inv.numbers, chunk_numbers image at n finds.1, more, map-append (λ (e : Entry). e.0) so_far chunk);
       firsts = cc (firsts, inv.firsts, chunk_firsts image at n finds.1, more, map-append (λ (e : Entry). take 8 e.1) so_far chunk);
       looked = looks_on g.met.M.Medium.follows_through inv.looked c.read_descriptor.ensures (omega arith) tt
@@ -61,12 +59,6 @@ returns-in_default g c =
     let finds = rw (c.in_default.is, same) at c.in_ok-found.ensures.finds in
     looks_on g.met.M.Medium.follows_through inv.looked c.read_descriptor.ensures (omega (arith, c.descriptors-j-end.ensures)) tt (
       j + 1,
-      record {
-        first = j;
-        inside = omega (arith, c.descriptors-j-end.ensures);
-        before = inv.there;
-        bad = finds.1;
-        reads_are = refl;
-      },
+      record { first = j; inside = omega (arith, c.descriptors-j-end.ensures); before = inv.there; bad = finds.1; reads_are = refl },
       omega (arith, inv.looked.finds, finds.0),
     )

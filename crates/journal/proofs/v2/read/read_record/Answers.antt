@@ -1,5 +1,4 @@
-use Rattle.std.proofs.Common.{◌≡◌, ◌<◌, ◌+◌, ◌*◌, ◌%◌, ℕ, inl, inr, refl, rules, arith}
-use Rattle.std.specs.Prelude.{length}
+use Rattle.std.proofs.Common.{◌≡◌, ◌<◌, ◌+◌, ◌*◌, ◌%◌, ℕ, inl, inr, refl, rules, arith, length}
 use Rattle.medium.specs.Medium.{Image}
 use Rattle.journal.specs.SectorsTwo.{descriptors_of}
 use Rattle.journal.specs.Values.{shape_of}
@@ -14,8 +13,6 @@ use Rattle.journal.proofs.v2.read.read_record.Goals as goal
 
 pub returns-in_default : goal.returns-in_default
 returns-in_default g c =
-    let shape = shape_of c.args.sizes.now in
-    let image = (g.M.Medium.state c.args.m.now).content in
     let two = c.requires.format in
     let ends = within_two c.args.sizes.now c.args.stamp _ c.slot_of-slot.ensures two in
     let none = rw (c.in_default.is, c.slot_of-slot.ensures) at c.in_ok-count.ensures.finds in
@@ -23,7 +20,7 @@ returns-in_default g c =
       passes = search rules;
       finds = record {
         some = tt;
-        all = λ entries whole. none.1 _ (commit_whole shape image c.args.stamp entries (as_format two whole));
+        all = λ entries whole. none.1 _ (commit_whole _ _ _ _ (as_format two whole));
         exact = (1, rw two (inl (none.1, refl)), none.0);
       };
       follows = (looks_within ends c.read_count.ensures).follows;
@@ -31,7 +28,6 @@ returns-in_default g c =
 
 pub returns-then-not-branch : goal.returns-then-not-branch
 returns-then-not-branch g c =
-    let shape = shape_of c.args.sizes.now in
     let image : Image = (g.M.Medium.state c.args.m.now).content in
     let two = c.requires.format in
     let is = c.slot_of-slot.ensures in
@@ -42,7 +38,7 @@ returns-then-not-branch g c =
     looks_on g.met.M.Medium.follows_through (looks_within ends c.read_count.ensures) (looks_within ends c.read_descriptors.ensures)
     (omega arith) tt (record {
       some = tt;
-      all = λ entries whole. stop.1.bad (described_whole shape image c.args.stamp entries (as_format two whole)
+      all = λ entries whole. stop.1.bad (described_whole _ _ _ _ (as_format two whole)
           c.in-Some.count commit.1 stop.1.first stop.1.inside);
       exact = (1 + stop.0, rw two (inr (c.in-Some.count, commit.1, stop.0, inl stop.1, refl)), omega (arith, stop.2, commit.0));
     })
@@ -88,7 +84,6 @@ returns-then-are_blocks g c =
 
 pub returns-else-are_blocks : goal.returns-else-are_blocks
 returns-else-are_blocks g c =
-    let shape = shape_of c.args.sizes.now in
     let s = c.args.stamp in
     let n = c.in-Some.count in
     let at : ℕ = 2 + 249 * (c.args.stamp % c.args.sizes.now.slots) in
@@ -104,7 +99,7 @@ returns-else-are_blocks g c =
     (omega arith) tt (record {
       some = tt;
       all = λ entries whole.
-          let one = rw (commit_count s n _ commit.1) at (record_read shape image s entries (as_format two whole)) in
+          let one = rw (commit_count s n _ commit.1) at (record_read _ _ _ _ (as_format two whole)) in
           untrue (not (rw one at whole.fit.rising, rw one at whole.fit.inside));
       exact = (
         1 + descriptors_of n,

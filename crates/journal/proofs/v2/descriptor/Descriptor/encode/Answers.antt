@@ -1,5 +1,4 @@
-use Rattle.std.proofs.Common.{ℕ, List, [], ◌∷◌, refl, rules}
-use Rattle.std.specs.List.{flat_map}
+use Rattle.std.proofs.Common.{ℕ, List, [], ◌∷◌, refl, rules, flat_map}
 use Rattle.byteorder.specs.Endian.{little_bytes}
 use Rattle.journal.specs.Spelling.{padded, spelling}
 use Rattle.journal.proofs.v2.descriptor.Descriptor.encode.Goals as goal
