@@ -60,9 +60,8 @@ pub copies_on : {X Y Z : Type 0} {more all P Q : ℕ → Type 0} {few many most 
     → less + much ≤ sends → IfErr result (IsRefusedCall old new) → Copies all P most sends old new result
 copies_on {all = all} {old = old} {mid = mid} sound f wider first second fit few cause =
     let freed = freed_at all old.may_leave in
-    let sets = sets_within freed old mid sound first.moments in
     let moments = joined_same (CutLeaves freed) _ _ _ first.moments
-    (weaker _ _ _ _ (λ image cut s. ⊎_elim (sets s (image s)) (λ p. inr (f s p)) (cut s)) second.moments) in
+    (weaker _ _ _ _ (λ image cut s. ⊎_elim (sets_within freed old mid sound first.moments s (image s)) (λ p. inr (f s p)) (cut s)) second.moments) in
     record {
       elsewhere = λ x not. second.elsewhere x (λ h. not (f x h)) ∙ first.elsewhere x not;
       moments = moments;
@@ -78,8 +77,7 @@ pub none_copies : {M X Y : Type 0} {state : M → State} {Follows : M → M → 
     → IsSound (state old) → LooksUp state Follows few reads F old new one → few ≤ most
     → IfErr result (IsRefusedCall (state old) (state new)) → Copies places reads most sends (state old) (state new) result
 none_copies {state = state} {places = places} {old = old} {new = new} sound looked fit cause =
-    let freed = freed_at places (state old).may_leave in
-    let moments = quiet_leaves (CutLeaves freed) _ _ sound (λ image cut s. inl (cut s)) looked.passes.quiet in
+    let moments = quiet_leaves (CutLeaves (freed_at places (state old).may_leave)) _ _ sound (λ image cut s. inl (cut s)) looked.passes.quiet in
     search (rules, moments, none_sent (state old) (state new) looked.passes.reads, looked.follows.1)
 
 -- nor does no call

@@ -1,5 +1,4 @@
 use Rattle.std.proofs.Common.{◌≡◌, inl, inr, ⊎_elim, ℕ, ◌+◌, ◌*◌, ◌<◌, ◌≤◌, length, refl, ◌∙◌, arith, rules, min, Result}
-use Rattle.std.proofs.lemmas.Bool.{cases_lt}
 use Rattle.std.proofs.lemmas.Result.{err_from_is_err_and}
 use Rattle.medium.specs.Medium.{State, IsSound}
 use Rattle.medium.specs.Moments.{EachCut, LeavesOnly}
@@ -51,7 +50,7 @@ module _ {old mid : State} {found : Recovered} (start : IsRecoveredAtLeast 5 old
   can_migrate =
       let has = StandsFor-shape old.size shape old.content start.from.array found.next start.from.stood in
       let few = λ (few : found.sizes.slots < 5). start.room (search (rules, has, few)) in
-      record { one = one; room = ⊎_elim (λ less. absurd (few less)) (λ room. room) (cases_lt found.sizes.slots 5) }
+      record { one = one; room = omega (arith, few) }
 
   -- the calls of a recovery of format 1
   tried : mid.calls ≡ old.calls + 6 + copy_calls One start.from.stood.records
@@ -149,8 +148,8 @@ returns-in_err-make_two-clause-err g c =
     let back = c.from_residual-in_err-make_two in
     let p = err_from_is_err_and back.result back.ensures.1 in
     let kind = c.in_err-make_two.field-0.0 in
-    let before = c.recover_at_least.ensures.leaves.moments.refused_stay kind in
-    rw (p.1, p.2) (call_refuses _ _ kind (search (rules, before, c.in_err-make_two.ensures.writes.cause)))
+    rw (p.1, p.2) (call_refuses _ _ kind
+    (search (rules, c.recover_at_least.ensures.leaves.moments.refused_stay kind, c.in_err-make_two.ensures.writes.cause)))
 
 pub returns-in_err-found-clause-leaves : goal.returns-in_err-found-clause-leaves
 returns-in_err-found-clause-leaves g c = recovery_leaves _ _ c.recover_at_least.ensures.leaves
@@ -176,6 +175,5 @@ returns-in_ok-make_two-clause-fresh g c =
 
 pub returns-else-migrates-clause-fresh : goal.returns-else-migrates-clause-fresh
 returns-else-migrates-clause-fresh g c shape array next ours =
-    let from = c.in_ok-found.ensures.ok.from in
-    let is = IsSuper-one shape (shape_of c.in_ok-found.found.sizes) _ ours.stands.keeps.super from.stood.keeps.super in
-    rw (← is) (c.in_ok-found.ensures.fresh shape array next ours)
+    rw (← IsSuper-one shape (shape_of c.in_ok-found.found.sizes) _ ours.stands.keeps.super c.in_ok-found.ensures.ok.from.stood.keeps.super)
+    (c.in_ok-found.ensures.fresh shape array next ours)
