@@ -42,12 +42,10 @@ sets_within bound old new sound within s c left =
 -- what each image spares at each moment, the sets spare
 pub spared_by : (first : ℕ) (old new : State) → IsSound new → ((s : ℕ) → first ≤ s → new.content s ≡ old.content s)
     → LeavesOnly (HasSpared first old) old new → SparesFrom first old new
-spared_by first old new sound content moments = record {
-  content = content;
-  sets = λ s c le left.
-      let w = image_with new s c sound left in rw w.2 at (at_exit (HasSpared first old) old new sound moments w.0 w.1 s le);
-  moments = moments;
-}
+spared_by first old new sound content moments =
+    let sets = λ (s : ℕ) (c : List ℕ) (le : first ≤ s) (left : new.may_leave s c). let w = image_with new s c sound left in
+    rw w.2 at (at_exit (HasSpared first old) old new sound moments w.0 w.1 s le) in
+    record { content = content; sets = sets; moments = moments }
 
 -- the i-th number is that of the i-th block
 pub number_of : (entries : List Entry) (numbers : List ℕ) (i : ℕ) → numbers ≡ numbers_of entries

@@ -62,14 +62,8 @@ copies_on {all = all} {old = old} {mid = mid} sound f wider first second fit few
     let freed = freed_at all old.may_leave in
     let moments = joined_same (CutLeaves freed) _ _ _ first.moments
     (weaker _ _ _ _ (λ image cut s. ⊎_elim (sets_within freed old mid sound first.moments s (image s)) (λ p. inr (f s p)) (cut s)) second.moments) in
-    record {
-      elsewhere = λ x not. second.elsewhere x (λ h. not (f x h)) ∙ first.elsewhere x not;
-      moments = moments;
-      calls = omega (arith, first.calls, second.calls, fit);
-      sent = omega (arith, first.sent, second.sent, few);
-      looks = looks_joined _ _ _ _ first.looks (looks_wider _ _ _ _ wider second.looks);
-      cause = cause;
-    }
+    let elsewhere = λ (x : ℕ) (not : ¬ all x). second.elsewhere x (λ h. not (f x h)) ∙ first.elsewhere x not in
+    search (rules, elsewhere, moments, looks_joined _ _ _ _ first.looks (looks_wider _ _ _ _ wider second.looks))
 
 -- reads copy nothing
 pub none_copies : {M X Y : Type 0} {state : M → State} {Follows : M → M → Type 0} {places reads : ℕ → Type 0}
@@ -117,12 +111,10 @@ records_read {state = state} {old = old} sizes has before rest =
 through_spares : (first place : ℕ) (bytes : List ℕ) (old new : State) → place < first → IsSound new
     → ((x : ℕ) → x ≢ place → new.content x ≡ old.content x) → LeavesOnly (WithOrWithout place bytes old.may_leave) old new
     → SparesFrom first old new
-through_spares first place bytes old new below sound elsewhere moments = spared_by first old new sound (λ s le. elsewhere s (apart s le))
-    (weaker _ _ _ _
+through_spares first place bytes old new below sound elsewhere moments =
+    let apart : (s : ℕ) → first ≤ s → s ≢ place = λ s le same. omega (arith, le, same, below) in
+    spared_by first old new sound (λ s le. elsewhere s (apart s le)) (weaker _ _ _ _
     (λ image either s le. ⊎_elim (λ cut. cut s) (λ w. rw (← w.2.elsewhere s (apart s le)) at (w.1 s)) either) moments)
-  where
-    apart : (s : ℕ) → first ≤ s → s ≢ place
-    apart s le same = omega (arith, le, same, below)
 
 -- sectors before these are cleared
 pub clear_spares : (first end : ℕ) (old new : State) → IsSound new → ((x : ℕ) → ¬ IsBetween first end x → new.content x ≡ old.content x)
