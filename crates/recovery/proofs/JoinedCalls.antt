@@ -20,7 +20,7 @@ use Rattle.recovery.specs.declared.start_fault.StartFault.{StartFault}
 use Rattle.journal.proofs.SectorNumbers.{IsSuper-one}
 use Rattle.recovery.proofs.CopiedRecords.{sets_within, spared_by, AreSame, zeros_ours}
 use Rattle.std.proofs.lemmas.Result.{on_ok_weaker}
-use Rattle.medium.specs.declared.fault.MediumFault.TheVariants.{Flush}
+use Rattle.medium.specs.declared.fault.MediumFault.TheVariants.{Write, Flush}
 use Rattle.medium.proofs.SparedSectors.{spared_joined, spared_behind, spared_quiet}
 use Rattle.spec.specs.Blocks.{Array}
 use Rattle.journal.specs.Record.{home_of}
@@ -106,6 +106,13 @@ records_read {state = state} {old = old} sizes has before rest =
     let quiet = quiet_joined _ _ _ before.quiet rest.passes.quiet in
     let looks = looked_on (shape_of sizes) _ _ _ has before.looks rest.follows.1 in
     search (rules, quiet, rest.passes.reads, before.reads, one, sizes.most_slots, looks)
+
+-- a write reads nothing, and a flush neither
+pub write_unread : (old new : State) {result : Result (Unit {0}) MediumFault} → Passes Write result old new → new.looked ≡ old.looked
+write_unread old new call = call.looked_stays (λ e. cc e)
+
+pub flush_unread : (old new : State) {result : Result (Unit {0}) MediumFault} → Passes Flush result old new → new.looked ≡ old.looked
+flush_unread old new call = call.looked_stays (λ e. cc e)
 
 -- a sector before these is written
 through_spares : (first place : ℕ) (bytes : List ℕ) (old new : State) → place < first → IsSound new

@@ -15,7 +15,7 @@ use Rattle.medium.proofs.SparedSectors.{spared_quiet, spared_joined, spared_behi
 use Rattle.journal.specs.declared.log_format.LogFormat.{LogFormat}
 use Rattle.journal.specs.declared.log_format.LogFormat.TheVariants.{One, Two}
 use Rattle.journal.specs.Places.{Shape, first_home, sectors_of, limit_of}
-use Rattle.journal.specs.Sectors.{IsSuper, IsHead}
+use Rattle.journal.specs.Sectors.{IsHead}
 use Rattle.journal.specs.Values.{shape_of}
 use Rattle.journal.specs.Record.{Entry, with_records, home_of}
 use Rattle.journal.specs.Formats.{layout_of, IsWhole}
@@ -29,7 +29,7 @@ use Rattle.recovery.specs.Calls.{copy_calls, most_calls_of, most_reads_of, most_
 use Rattle.recovery.specs.Calls.{HasNewHead, Copies, Writes, HoldsLog}
 use Rattle.recovery.specs.Causes.{WritesNothing, HasFewSlots, IsRefusalBy, IsDeviceFault}
 use Rattle.recovery.specs.Inspected.{AreTriesOf, IsSurvey, SurveysAtMost, IsLookCause}
-use Rattle.recovery.specs.Recovered.{IsRecoveryRefusal, IsRecoveredAtLeast, IsRecoveredFrom, IsFresh, IsOursForSome, IsOursWithNext, StandsForOneOf}
+use Rattle.recovery.specs.Recovered.{IsOursInEither, MigrationLeaves, most_migration_sends, IsRecoveryRefusal, IsRecoveredAtLeast, IsRecoveredFrom, IsFresh, IsOursForSome, IsOursWithNext, StandsForOneOf}
 use Rattle.recovery.specs.Recovered.{StandsForSome, LeavesAtLeast, StartLeaves}
 use Rattle.recovery.specs.declared.found.Found.{Found}
 use Rattle.recovery.specs.declared.start_fault.StartFault.{StartFault}
@@ -211,9 +211,6 @@ module _ (least : ℕ) {old mid seen : State} {result : Result (Unit {0}) Medium
     at_old : IsSurvey least old.size old.content mid.calls seen.calls found
     at_old = back (λ n i. IsSurvey least n i mid.calls seen.calls found) survey
 
-    one_shape : (other : Shape) → IsSuper other (old.content 0) → other ≡ shape
-    one_shape other s = IsSuper-one other shape (old.content 0) s at_old.shape.super
-
     -- for what the contents stand
     stood : Stood old.size shape old.content found.head found.count
     stood = count_stands old.size shape old.content found.head found.count at_old.shape.fits at_old.shape.super at_old.head at_old.count
@@ -316,7 +313,7 @@ module _ (least : ℕ) {old mid seen : State} {result : Result (Unit {0}) Medium
         pub recovery_fresh : (other : Shape) (array : Array) (next : ℕ) → IsOurs old.size other old.content array next
             → EachCut (IsFresh other array next) new
         recovery_fresh other array next ours image cut =
-            let is : other ≡ shape = one_shape other ours.stands.keeps.super in
+            let is = IsSuper-one other shape (old.content 0) ours.stands.keeps.super at_old.shape.super in
             rw (is, only_image new.content new.may_leave durable image cut) (moved_fresh (rw is at ours) head)
 
         pub recovery_from : new.calls ≡ copied.calls + 3
@@ -340,3 +337,15 @@ module _ (least : ℕ) {old mid seen : State} {result : Result (Unit {0}) Medium
                   (rw (stood.head_is, stood.count_is) at_old.exact);
             } in
             record { from = from; room = at_old.room }
+
+-- a recovery is a part of a migration
+start_migrates : (format : LogFormat) (slots old new : ℕ) → new ≤ old + most_start_sends format slots
+    → new ≤ old + most_migration_sends format slots
+start_migrates format slots old new most = grind arith
+
+-- what a recovery leaves
+pub recovery_leaves : (old new : State) → LeavesAtLeast 5 old new → MigrationLeaves old new
+recovery_leaves old new leaves =
+    let cuts = λ (each : EachCut (IsOursForSome old.size) old). weaker (StandsForOneOf old) (StandsForSome IsOursInEither old) old new
+    (λ image o. search (rules, o)) (leaves.cuts each) in
+    search (rules, cuts, leaves.after_flush, start_migrates, leaves.sends.most, leaves.sends.none, leaves.looks, leaves.small)

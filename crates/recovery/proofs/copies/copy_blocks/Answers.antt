@@ -6,7 +6,7 @@ use Rattle.journal.specs.Formats.{layout_of}
 use Rattle.journal.specs.Values.{shape_of}
 use Rattle.journal.specs.Reading.{data_at}
 use Rattle.journal.proofs.SectorsRead.{place_before}
-use Rattle.recovery.proofs.JoinedCalls.{copies_on, none_made}
+use Rattle.recovery.proofs.JoinedCalls.{copies_on}
 use Rattle.recovery.proofs.copies.copy_blocks.Given as given
 use Rattle.recovery.proofs.copies.copy_blocks.Goals as goal
 use Rattle.recovery.proofs.copies.copy_blocks.Goals.{After-first}
@@ -38,9 +38,6 @@ pub copy_sector-requires-clause-to_inside : goal.copy_sector-requires-clause-to_
 copy_sector-requires-clause-to_inside g c =
     let at = at_block g (goal.at.copy_sector-requires-clause-to_inside g c).After-first in
     omega (arith, at.3, c.requires.blocks.inside c.loop-i.i 0 at.0, c.requires.fits, c.loop-i.invariant.copies.moments.size_stays)
-
-pub loop-i-init : goal.loop-i-init
-loop-i-init g c = search (rules, none_made, g.met.M.Medium.sound, g.met.M.Medium.follows_itself)
 
 pub returns-in_err-copy_sector-clause-copies : goal.returns-in_err-copy_sector-clause-copies
 returns-in_err-copy_sector-clause-copies g c =

@@ -1,4 +1,4 @@
-use Rattle.std.proofs.Common.{◌≡◌, inl, inr, ⊎_elim, ℕ, ◌+◌, ◌*◌, ◌<◌, ◌≤◌, length, refl, ◌∙◌, arith, rules, min, Result}
+use Rattle.std.proofs.Common.{◌≡◌, inl, inr, ⊎_elim, ℕ, ◌+◌, ◌*◌, ◌<◌, length, refl, ◌∙◌, arith, rules, min, Result}
 use Rattle.std.proofs.lemmas.Result.{err_from_is_err_and}
 use Rattle.medium.specs.Medium.{State, IsSound}
 use Rattle.medium.specs.Moments.{EachCut, LeavesOnly}
@@ -9,7 +9,6 @@ use Rattle.medium.specs.declared.fault.MediumFault.TheVariants as medium
 use Rattle.medium.proofs.Moments.{weaker, only_image}
 use Rattle.medium.proofs.SectorsRead.{no_looks}
 use Rattle.medium.proofs.SparedSectors.{spared_behind}
-use Rattle.journal.specs.declared.log_format.LogFormat.{LogFormat}
 use Rattle.journal.specs.declared.log_format.LogFormat.TheVariants.{One}
 use Rattle.journal.specs.Places.{Shape, first_home, sectors_of, migrated}
 use Rattle.journal.specs.Record.{home_of}
@@ -17,29 +16,17 @@ use Rattle.journal.specs.Values.{shape_of}
 use Rattle.journal.proofs.SectorNumbers.{IsSuper-one}
 use Rattle.journal.specs.Standing.{IsOurs}
 use Rattle.journal.proofs.StandingLaws.{StandsFor-one, StandsFor-shape}
-use Rattle.recovery.specs.Calls.{Writes, copy_calls, most_start_sends}
+use Rattle.recovery.specs.Calls.{Writes, copy_calls}
 use Rattle.recovery.specs.Causes.{start_fault_of, IsRefusedCall}
-use Rattle.recovery.specs.Recovered.{IsRecoveredAtLeast, IsFresh, StandsForOneOf, StandsForSome, IsOursForSome, LeavesAtLeast}
+use Rattle.recovery.specs.Recovered.{IsRecoveredAtLeast, IsFresh, LeavesAtLeast}
 use Rattle.recovery.specs.Recovered.{CanMigrate, IsMadeTwo, IsMigratedFrom, IsMigrationRefusal, StaysFresh, IsOursInEither, MigrationLeaves}
 use Rattle.recovery.specs.Recovered.{most_migration_sends}
 use Rattle.recovery.specs.declared.recovered.Recovered.{Recovered}
-use Rattle.recovery.proofs.WholeRecovery.{served_slots, start_on}
+use Rattle.recovery.proofs.WholeRecovery.{recovery_leaves, served_slots, start_on}
 use Rattle.recovery.proofs.CopiedRecords.{log_ends, AreSame, zeros_fresh, fresh_ours}
 use Rattle.recovery.proofs.migration.migrate.Given as given
 use Rattle.recovery.proofs.migration.migrate.Goals as goal
 use Rattle.recovery.proofs.migration.migrate.Goals.{After-make_two}
-
--- a recovery is a part of a migration
-start_migrates : (format : LogFormat) (slots old new : ℕ) → new ≤ old + most_start_sends format slots
-    → new ≤ old + most_migration_sends format slots
-start_migrates format slots old new most = grind arith
-
--- what a recovery leaves
-recovery_leaves : (old new : State) → LeavesAtLeast 5 old new → MigrationLeaves old new
-recovery_leaves old new leaves =
-    let cuts = λ (each : EachCut (IsOursForSome old.size) old). weaker (StandsForOneOf old) (StandsForSome IsOursInEither old) old new
-    (λ image o. search (rules, o)) (leaves.cuts each) in
-    search (rules, cuts, leaves.after_flush, start_migrates, leaves.sends.most, leaves.sends.none, leaves.looks, leaves.small)
 
 module _ {old mid : State} {found : Recovered} (start : IsRecoveredAtLeast 5 old mid found) (one : found.sizes.format ≡ One) where
   abbrev shape : Shape
@@ -150,12 +137,6 @@ returns-in_err-make_two-clause-err g c =
     let kind = c.in_err-make_two.field-0.0 in
     rw (p.1, p.2) (call_refuses _ _ kind
     (search (rules, c.recover_at_least.ensures.leaves.moments.refused_stay kind, c.in_err-make_two.ensures.writes.cause)))
-
-pub returns-in_err-found-clause-leaves : goal.returns-in_err-found-clause-leaves
-returns-in_err-found-clause-leaves g c = recovery_leaves _ _ c.recover_at_least.ensures.leaves
-
-pub returns-else-migrates-clause-leaves : goal.returns-else-migrates-clause-leaves
-returns-else-migrates-clause-leaves g c = recovery_leaves _ _ c.recover_at_least.ensures.leaves
 
 pub returns-in_err-make_two-clause-leaves : goal.returns-in_err-make_two-clause-leaves
 returns-in_err-make_two-clause-leaves g c = makes g (goal.at.returns-in_err-make_two-clause-leaves g c).After-make_two
