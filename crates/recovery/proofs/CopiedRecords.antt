@@ -42,12 +42,10 @@ sets_within bound old new sound within s c left =
 -- what each image spares at each moment, the sets spare
 pub spared_by : (first : ℕ) (old new : State) → IsSound new → ((s : ℕ) → first ≤ s → new.content s ≡ old.content s)
     → LeavesOnly (HasSpared first old) old new → SparesFrom first old new
-spared_by first old new sound content moments = record {
-  content = content;
-  sets = λ s c le left.
-      let w = image_with new s c sound left in rw w.2 at (at_exit (HasSpared first old) old new sound moments w.0 w.1 s le);
-  moments = moments;
-}
+spared_by first old new sound content moments =
+    let sets = λ (s : ℕ) (c : List ℕ) (le : first ≤ s) (left : new.may_leave s c). let w = image_with new s c sound left in
+    rw w.2 at (at_exit (HasSpared first old) old new sound moments w.0 w.1 s le) in
+    record { content = content; sets = sets; moments = moments }
 
 -- the i-th number is that of the i-th block
 pub number_of : (entries : List Entry) (numbers : List ℕ) (i : ℕ) → numbers ≡ numbers_of entries
@@ -75,9 +73,8 @@ pub whole_same : (shape : Shape) (before image : Image) (stamp : ℕ) (entries :
     → IsFirstHome shape.format shape.slots shape.home → ((y : ℕ) → y < first_home shape → image y ≡ before y)
     → IsWhole shape before stamp entries → IsWhole shape image stamp entries
 whole_same shape before image stamp entries some home log w =
-    let inside = slot_inside (layout_of shape.format) (laws_of shape.format) shape stamp some in
-    IsWhole-same (layout_of shape.format) (laws_of shape.format) shape before image stamp entries
-    (λ x low high. log x (omega (arith, high, inside, log_ends shape home))) w
+    IsWhole-same (layout_of shape.format) (laws_of shape.format) shape before image stamp entries (λ x low high.
+    log x (omega (arith, high, slot_inside (layout_of shape.format) (laws_of shape.format) shape stamp some, log_ends shape home))) w
 
 -- home is behind the log
 pub not_in_log : (shape : Shape) (image : Image) (head count x : ℕ) → x < first_home shape → ¬ IsHomeInRecords shape image head count x
@@ -93,10 +90,8 @@ zeros_carry : (shape : Shape) (image : Image) (end : ℕ) → 1 ≤ end
     → CarriesBelow shape image end
 zeros_carry shape image end some zeros slot o stamp low small carries =
     let L = layout_of shape.format in
-    let inside = in_log L.slot_sectors slot shape.slots o low small in
-    let none = (laws_of shape.format).zeros o stamp
-    (subst (L.carries o stamp) (zeros (2 + L.slot_sectors * slot + o) (omega arith) inside) carries) in
-    omega (arith, none, some)
+    let here = zeros (2 + L.slot_sectors * slot + o) (omega arith) (in_log L.slot_sectors slot shape.slots o low small) in
+    omega (arith, (laws_of shape.format).zeros o stamp (rw here at carries), some)
 
 -- copies of its records at home change nothing of what an image stands for
 pub copies_ours : {size : ℕ} {shape : Shape} {start : Image} {array : Array} {next : ℕ} (ours : IsOurs size shape start array next)
@@ -115,10 +110,8 @@ copies_ours {shape = shape} {start = start} {next = next} ours head count head_i
     let h = rw (head_is, count_is) at copied in
     let es = get_or records h.0 [] in
     let here = home_in_whole shape start _ es (first_home shape + b) (ours.stands.keeps.whole h.0 h.1) h.2 in
-    let is = here.2 in
-    let number = number_of es (numbers_of es) here.0 refl in
     let hides = records-hide records h.0 here.0 h.1 (omega (arith, here.1, long_as es (numbers_of es) refl)) in
-    subst (Hides records) (omega (arith, is, number)) hides (home_of shape image) (home_of shape start)) (each (first_home shape + b)) in
+    subst (Hides records) (omega (arith, here.2, number_of es (numbers_of es) here.0 refl)) hides (home_of shape image) (home_of shape start)) (each (first_home shape + b)) in
     record {
       stands = record {
         fits = ours.stands.fits;
@@ -147,8 +140,12 @@ pub zeros_fresh : (shape : Shape) (array : Array) (next : ℕ) (image : Image) �
     → ((x : ℕ) → 2 ≤ x → x < first_home shape → image x ≡ replicate 512 0)
     → AreSame shape (home_of shape image) array → IsFresh shape array next image
 zeros_fresh shape array next image super head zeros home =
-    let ends = log_ends shape super.home_is in
-    search (rules, home, zeros_carry shape image next head.least (λ x low high. zeros x low (omega (arith, high, ends))))
+    search (
+      rules,
+      home,
+      zeros_carry shape image next head.least
+          (λ x low high. zeros x low (omega (arith, high, log_ends shape super.home_is))),
+    )
 
 -- an image in which no record waits is ours, with the stamp behind
 pub fresh_ours : {size : ℕ} {shape : Shape} {array : Array} {next : ℕ} {image : Image} → sectors_of shape ≤ size

@@ -20,7 +20,7 @@ use Rattle.recovery.specs.declared.start_fault.StartFault.{StartFault}
 use Rattle.journal.proofs.SectorNumbers.{IsSuper-one}
 use Rattle.recovery.proofs.CopiedRecords.{sets_within, spared_by, AreSame, zeros_ours}
 use Rattle.std.proofs.lemmas.Result.{on_ok_weaker}
-use Rattle.medium.specs.declared.fault.MediumFault.TheVariants.{Flush}
+use Rattle.medium.specs.declared.fault.MediumFault.TheVariants.{Write, Flush}
 use Rattle.medium.proofs.SparedSectors.{spared_joined, spared_behind, spared_quiet}
 use Rattle.spec.specs.Blocks.{Array}
 use Rattle.journal.specs.Record.{home_of}
@@ -60,17 +60,10 @@ pub copies_on : {X Y Z : Type 0} {more all P Q : ℕ → Type 0} {few many most 
     → less + much ≤ sends → IfErr result (IsRefusedCall old new) → Copies all P most sends old new result
 copies_on {all = all} {old = old} {mid = mid} sound f wider first second fit few cause =
     let freed = freed_at all old.may_leave in
-    let sets = sets_within freed old mid sound first.moments in
     let moments = joined_same (CutLeaves freed) _ _ _ first.moments
-    (weaker _ _ _ _ (λ image cut s. ⊎_elim (sets s (image s)) (λ p. inr (f s p)) (cut s)) second.moments) in
-    record {
-      elsewhere = λ x not. second.elsewhere x (λ h. not (f x h)) ∙ first.elsewhere x not;
-      moments = moments;
-      calls = omega (arith, first.calls, second.calls, fit);
-      sent = omega (arith, first.sent, second.sent, few);
-      looks = looks_joined _ _ _ _ first.looks (looks_wider _ _ _ _ wider second.looks);
-      cause = cause;
-    }
+    (weaker _ _ _ _ (λ image cut s. ⊎_elim (sets_within freed old mid sound first.moments s (image s)) (λ p. inr (f s p)) (cut s)) second.moments) in
+    let elsewhere = λ (x : ℕ) (not : ¬ all x). second.elsewhere x (λ h. not (f x h)) ∙ first.elsewhere x not in
+    search (rules, elsewhere, moments, looks_joined _ _ _ _ first.looks (looks_wider _ _ _ _ wider second.looks))
 
 -- reads copy nothing
 pub none_copies : {M X Y : Type 0} {state : M → State} {Follows : M → M → Type 0} {places reads : ℕ → Type 0}
@@ -78,8 +71,7 @@ pub none_copies : {M X Y : Type 0} {state : M → State} {Follows : M → M → 
     → IsSound (state old) → LooksUp state Follows few reads F old new one → few ≤ most
     → IfErr result (IsRefusedCall (state old) (state new)) → Copies places reads most sends (state old) (state new) result
 none_copies {state = state} {places = places} {old = old} {new = new} sound looked fit cause =
-    let freed = freed_at places (state old).may_leave in
-    let moments = quiet_leaves (CutLeaves freed) _ _ sound (λ image cut s. inl (cut s)) looked.passes.quiet in
+    let moments = quiet_leaves (CutLeaves (freed_at places (state old).may_leave)) _ _ sound (λ image cut s. inl (cut s)) looked.passes.quiet in
     search (rules, moments, none_sent (state old) (state new) looked.passes.reads, looked.follows.1)
 
 -- nor does no call
@@ -115,16 +107,21 @@ records_read {state = state} {old = old} sizes has before rest =
     let looks = looked_on (shape_of sizes) _ _ _ has before.looks rest.follows.1 in
     search (rules, quiet, rest.passes.reads, before.reads, one, sizes.most_slots, looks)
 
+-- a write reads nothing, and a flush neither
+pub write_unread : (old new : State) {result : Result (Unit {0}) MediumFault} → Passes Write result old new → new.looked ≡ old.looked
+write_unread old new call = call.looked_stays (λ e. cc e)
+
+pub flush_unread : (old new : State) {result : Result (Unit {0}) MediumFault} → Passes Flush result old new → new.looked ≡ old.looked
+flush_unread old new call = call.looked_stays (λ e. cc e)
+
 -- a sector before these is written
 through_spares : (first place : ℕ) (bytes : List ℕ) (old new : State) → place < first → IsSound new
     → ((x : ℕ) → x ≢ place → new.content x ≡ old.content x) → LeavesOnly (WithOrWithout place bytes old.may_leave) old new
     → SparesFrom first old new
-through_spares first place bytes old new below sound elsewhere moments = spared_by first old new sound (λ s le. elsewhere s (apart s le))
-    (weaker _ _ _ _
+through_spares first place bytes old new below sound elsewhere moments =
+    let apart : (s : ℕ) → first ≤ s → s ≢ place = λ s le same. omega (arith, le, same, below) in
+    spared_by first old new sound (λ s le. elsewhere s (apart s le)) (weaker _ _ _ _
     (λ image either s le. ⊎_elim (λ cut. cut s) (λ w. rw (← w.2.elsewhere s (apart s le)) at (w.1 s)) either) moments)
-  where
-    apart : (s : ℕ) → first ≤ s → s ≢ place
-    apart s le same = omega (arith, le, same, below)
 
 -- sectors before these are cleared
 pub clear_spares : (first end : ℕ) (old new : State) → IsSound new → ((x : ℕ) → ¬ IsBetween first end x → new.content x ≡ old.content x)

@@ -1,5 +1,5 @@
 -- A whole recovery: a flush, reads, copies and the new head; what it leaves up to each of its exits, and why it is refused.
-use Rattle.std.proofs.Common.{◌≡◌, ◌⊎◌, inl, inr, ⊎_elim, ℕ, ◌+◌, ◌*◌, ◌<◌, ◌≤◌, ◌^◌, List, [], length, get_or, sym, ◌∙◌, ap, arith}
+use Rattle.std.proofs.Common.{◌≡◌, ◌⊎◌, inl, inr, ⊎_elim, ℕ, ◌+◌, ◌*◌, ◌<◌, ◌≤◌, ◌^◌, List, [], length, get_or, sym, ◌∙◌, ap, subst, arith}
 use Rattle.std.proofs.Common.{rules, mul-le-mul_left, refl}
 use Rattle.std.specs.Prelude.{min, Result}
 use Rattle.medium.specs.Medium.{State, Image, CutLeaves, Stays, Within, Only, Passes, LooksOnly, IsSound}
@@ -15,7 +15,7 @@ use Rattle.medium.proofs.SparedSectors.{spared_quiet, spared_joined, spared_behi
 use Rattle.journal.specs.declared.log_format.LogFormat.{LogFormat}
 use Rattle.journal.specs.declared.log_format.LogFormat.TheVariants.{One, Two}
 use Rattle.journal.specs.Places.{Shape, first_home, sectors_of, limit_of}
-use Rattle.journal.specs.Sectors.{IsSuper}
+use Rattle.journal.specs.Sectors.{IsHead}
 use Rattle.journal.specs.Values.{shape_of}
 use Rattle.journal.specs.Record.{Entry, with_records, home_of}
 use Rattle.journal.specs.Formats.{layout_of, IsWhole}
@@ -29,7 +29,7 @@ use Rattle.recovery.specs.Calls.{copy_calls, most_calls_of, most_reads_of, most_
 use Rattle.recovery.specs.Calls.{HasNewHead, Copies, Writes, HoldsLog}
 use Rattle.recovery.specs.Causes.{WritesNothing, HasFewSlots, IsRefusalBy, IsDeviceFault}
 use Rattle.recovery.specs.Inspected.{AreTriesOf, IsSurvey, SurveysAtMost, IsLookCause}
-use Rattle.recovery.specs.Recovered.{IsRecoveryRefusal, IsRecoveredAtLeast, IsRecoveredFrom, IsFresh, IsOursForSome, IsOursWithNext, StandsForOneOf}
+use Rattle.recovery.specs.Recovered.{IsOursInEither, MigrationLeaves, most_migration_sends, IsRecoveryRefusal, IsRecoveredAtLeast, IsRecoveredFrom, IsFresh, IsOursForSome, IsOursWithNext, StandsForOneOf}
 use Rattle.recovery.specs.Recovered.{StandsForSome, LeavesAtLeast, StartLeaves}
 use Rattle.recovery.specs.declared.found.Found.{Found}
 use Rattle.recovery.specs.declared.start_fault.StartFault.{StartFault}
@@ -56,17 +56,15 @@ module _ (least : ℕ) (old new : State) (shape : Shape) (array : Array) (next :
   served_slots NoMemory h = absurd h
   served_slots StampsUsedUp h =
       let w = h.1 in
-      let same = (StandsFor-one old.size old.size w.0 shape old.content w.1 array w.2 next w.3 s).1 in
-      let past = w.4 in
-      absurd (omega (arith, same, past, left))
+      absurd (omega (arith, (StandsFor-one old.size old.size w.0 shape old.content w.1 array w.2 next w.3 s).1, w.4, left))
   served_slots LogTooSmall h = absurd (some h.0)
   served_slots fault h = served_look old new fault (search rules) (shape, array, next, s)
 
 -- a start that asks for no slots is refused as a recovery is
 pub recovery_refused : (old new : State) (fault : StartFault) → IsRefusalBy 0 WritesNothing old new fault → IsRecoveryRefusal old new fault
-recovery_refused old new LogTooSmall h = let few = h.0.few in absurd (omega (arith, few))
+recovery_refused old new LogTooSmall h = absurd (omega (arith, h.0.few))
 recovery_refused old new fault h =
-    let none : ¬ HasFewSlots 0 old.size old.content = λ few. let below = few.few in absurd (omega (arith, below)) in
+    let none : ¬ HasFewSlots 0 old.size old.content = λ few. absurd (omega (arith, few.few)) in
     record { cause = search rules; served = λ shape array next s left. served_slots 0 old new shape array next s left none fault h }
 
 -- tries, with other calls before and behind them
@@ -213,9 +211,6 @@ module _ (least : ℕ) {old mid seen : State} {result : Result (Unit {0}) Medium
     at_old : IsSurvey least old.size old.content mid.calls seen.calls found
     at_old = back (λ n i. IsSurvey least n i mid.calls seen.calls found) survey
 
-    one_shape : (other : Shape) → IsSuper other (old.content 0) → other ≡ shape
-    one_shape other s = IsSuper-one other shape (old.content 0) s at_old.shape.super
-
     -- for what the contents stand
     stood : Stood old.size shape old.content found.head found.count
     stood = count_stands old.size shape old.content found.head found.count at_old.shape.fits at_old.shape.super at_old.head at_old.count
@@ -246,10 +241,7 @@ module _ (least : ℕ) {old mid seen : State} {result : Result (Unit {0}) Medium
 
     -- nothing behind the image is at home
     apart : (x : ℕ) → sectors_of (shape_of found.sizes) ≤ x → ¬ IsHomeInRecords shape seen.content found.head found.count x
-    apart x past home =
-        let below = home.2.1.fit.inside home.2.2.0 0 home.2.2.1 in
-        let is = home.2.2.2 in
-        omega (arith, below, is, past)
+    apart x past home = omega (arith, home.2.1.fit.inside home.2.2.0 0 home.2.2.1, home.2.2.2, past)
 
     copied_spares : SparesFrom (sectors_of (shape_of found.sizes)) seen copied
     copied_spares = spared_by (sectors_of shape) seen copied sound (λ s le. copying.elsewhere s (apart s le))
@@ -297,12 +289,11 @@ module _ (least : ℕ) {old mid seen : State} {result : Result (Unit {0}) Medium
           → HasNewHead (found.head + found.count + 1) copied.content image → IsFresh shape array next image
       moved_fresh {next = next} {image = image} ours moved =
           let f = matches ours.stands in
-          let is : found.head + found.count + 1 ≡ next = omega (arith, f.0, f.1, ours.stands.next_is) in
           let super = ours.stands.keeps.super in
           let ends = log_ends shape super.home_is in
           record {
             super = rw (moved.elsewhere 0 (λ e. omega arith), copied_log 0 (omega (arith, ends))) super;
-            head = rw is at moved.head;
+            head = subst (λ (n : ℕ). IsHead n (image 1)) (omega (arith, f.0, f.1, ours.stands.next_is)) moved.head;
             home = λ b below. moved.elsewhere (first_home shape + b) (λ e. omega (arith, e, ends)) ∙ copied_home ours.stands b below;
             carries = CarriesBelow-agree (layout_of shape.format) (laws_of shape.format) shape old.content image next
                 (λ x low high. moved.elsewhere x (λ e. omega (arith, low, e)) ∙ copied_log x (omega (arith, high, ends))) ours.carries;
@@ -322,7 +313,7 @@ module _ (least : ℕ) {old mid seen : State} {result : Result (Unit {0}) Medium
         pub recovery_fresh : (other : Shape) (array : Array) (next : ℕ) → IsOurs old.size other old.content array next
             → EachCut (IsFresh other array next) new
         recovery_fresh other array next ours image cut =
-            let is : other ≡ shape = one_shape other ours.stands.keeps.super in
+            let is = IsSuper-one other shape (old.content 0) ours.stands.keeps.super at_old.shape.super in
             rw (is, only_image new.content new.may_leave durable image cut) (moved_fresh (rw is at ours) head)
 
         pub recovery_from : new.calls ≡ copied.calls + 3
@@ -346,3 +337,15 @@ module _ (least : ℕ) {old mid seen : State} {result : Result (Unit {0}) Medium
                   (rw (stood.head_is, stood.count_is) at_old.exact);
             } in
             record { from = from; room = at_old.room }
+
+-- a recovery is a part of a migration
+start_migrates : (format : LogFormat) (slots old new : ℕ) → new ≤ old + most_start_sends format slots
+    → new ≤ old + most_migration_sends format slots
+start_migrates format slots old new most = grind arith
+
+-- what a recovery leaves
+pub recovery_leaves : (old new : State) → LeavesAtLeast 5 old new → MigrationLeaves old new
+recovery_leaves old new leaves =
+    let cuts = λ (each : EachCut (IsOursForSome old.size) old). weaker (StandsForOneOf old) (StandsForSome IsOursInEither old) old new
+    (λ image o. search (rules, o)) (leaves.cuts each) in
+    search (rules, cuts, leaves.after_flush, start_migrates, leaves.sends.most, leaves.sends.none, leaves.looks, leaves.small)

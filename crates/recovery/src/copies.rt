@@ -38,6 +38,7 @@ pub(crate) fn copy_sector<M: Medium>(
 }
 
 // Copies the blocks home that the record of this stamp has.
+#[tactic(auto, using(crate::proofs::JoinedCalls::none_made))]
 fn copy_blocks<M: Medium>(
     m: &mut M,
     sizes: &Super,
@@ -98,6 +99,7 @@ fn copy_record<M: Medium>(
 }
 
 /// Copies the whole records home, in order of their stamps.
+#[tactic(auto, using(crate::proofs::JoinedCalls::none_made))]
 pub(crate) fn copy_records<M: Medium>(m: &mut M, found: &Found) -> Result<(), MediumFault>
     requires fits { sectors_of (shape_of found.now.sizes) ≤ (M.state m.old).size }
     requires stamps { found.now.head + found.now.count < 2 ^ 63 }

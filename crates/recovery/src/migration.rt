@@ -24,6 +24,7 @@ use medium::{Medium, MediumFault};
 ///
 /// Those of `recover`; and `LogTooSmall` for a log of format 1 with fewer than 5 slots, which comes
 /// before `StampsUsedUp`. A fault of the image is found before the first write.
+#[tactic(auto, using(crate::proofs::WholeRecovery::recovery_leaves))]
 pub fn migrate<M: Medium>(m: &mut M) -> Result<(Recovered, bool), StartFault>
     // A function of the contents: what they stood for, whether or not other images were allowed.
     ensures ok { IfOk result (λ answer.

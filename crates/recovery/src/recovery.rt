@@ -24,6 +24,7 @@ use medium::Medium;
 /// A fault of the image is found before the first write: the first of its super's (mark, version,
 /// bytes behind it, sizes), the medium's length, its head's, and that no stamp is left. `Read`,
 /// `Write` and `Flush` where the medium refused such a call.
+#[tactic(auto, using(crate::proofs::WholeRecovery::recovery_refused))]
 pub fn recover<M: Medium>(m: &mut M) -> Result<Recovered, StartFault>
     // A function of the contents: what they stood for, whether or not other images were allowed.
     ensures ok { IfOk result (IsRecoveredFrom (M.state m.old) (M.state m.new)) }

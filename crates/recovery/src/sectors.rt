@@ -12,6 +12,7 @@ use medium::{Medium, MediumFault};
 /// # Errors
 ///
 /// Where the medium refused a write: none is made behind it.
+#[tactic(auto, using(crate::proofs::JoinedCalls::write_unread))]
 pub fn clear<M: Medium>(m: &mut M, from: u64, end: u64) -> Result<(), MediumFault>
     requires inside { end ≤ (M.state m.old).size }
     requires some { from ≤ end }
@@ -33,6 +34,7 @@ pub fn clear<M: Medium>(m: &mut M, from: u64, end: u64) -> Result<(), MediumFaul
 /// # Errors
 ///
 /// Where the medium refused one of the two calls.
+#[tactic(auto, using(crate::proofs::JoinedCalls::write_unread, crate::proofs::JoinedCalls::flush_unread))]
 pub fn write_through<M: Medium>(
     m: &mut M,
     place: u64,

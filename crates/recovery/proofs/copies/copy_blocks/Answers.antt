@@ -1,4 +1,4 @@
-use Rattle.std.proofs.Common.{◌≡◌, ◌≢◌, ◌<◌, inl, inr, ◌∙◌, ◌+◌, ◌*◌, ◌%◌, ℕ, length, get_or, ap, arith, rules}
+use Rattle.std.proofs.Common.{◌≡◌, ◌<◌, inl, inr, ◌∙◌, ◌+◌, ◌*◌, ◌%◌, ℕ, length, get_or, ap, arith, rules}
 use Rattle.std.proofs.lemmas.Bool.{cases_eq}
 use Rattle.std.proofs.lemmas.Nat.{mod_below}
 use Rattle.journal.specs.Places.{first_home, first_data_of}
@@ -6,7 +6,7 @@ use Rattle.journal.specs.Formats.{layout_of}
 use Rattle.journal.specs.Values.{shape_of}
 use Rattle.journal.specs.Reading.{data_at}
 use Rattle.journal.proofs.SectorsRead.{place_before}
-use Rattle.recovery.proofs.JoinedCalls.{copies_on, none_made}
+use Rattle.recovery.proofs.JoinedCalls.{copies_on}
 use Rattle.recovery.proofs.copies.copy_blocks.Given as given
 use Rattle.recovery.proofs.copies.copy_blocks.Goals as goal
 use Rattle.recovery.proofs.copies.copy_blocks.Goals.{After-first}
@@ -27,17 +27,17 @@ at_block g c =
 
 pub copy_sector-requires-clause-from_inside : goal.copy_sector-requires-clause-from_inside
 copy_sector-requires-clause-from_inside g c =
-    let low = (at_block g (goal.at.copy_sector-requires-clause-from_inside g c).After-first).2 in
-    omega (arith, low, c.requires.fits, c.loop-i.invariant.copies.moments.size_stays)
+    omega (
+      arith,
+      (at_block g (goal.at.copy_sector-requires-clause-from_inside g c).After-first).2,
+      c.requires.fits,
+      c.loop-i.invariant.copies.moments.size_stays,
+    )
 
 pub copy_sector-requires-clause-to_inside : goal.copy_sector-requires-clause-to_inside
 copy_sector-requires-clause-to_inside g c =
     let at = at_block g (goal.at.copy_sector-requires-clause-to_inside g c).After-first in
-    let below = c.requires.blocks.inside c.loop-i.i 0 at.0 in
-    omega (arith, at.3, below, c.requires.fits, c.loop-i.invariant.copies.moments.size_stays)
-
-pub loop-i-init : goal.loop-i-init
-loop-i-init g c = search (rules, none_made, g.met.M.Medium.sound, g.met.M.Medium.follows_itself)
+    omega (arith, at.3, c.requires.blocks.inside c.loop-i.i 0 at.0, c.requires.fits, c.loop-i.invariant.copies.moments.size_stays)
 
 pub returns-in_err-copy_sector-clause-copies : goal.returns-in_err-copy_sector-clause-copies
 returns-in_err-copy_sector-clause-copies g c =
@@ -61,8 +61,8 @@ loop-i-preserved g c =
         | inl same ↦ rw (same, ← block.3) (rw (place, c.first.ensures.is) at c.in_ok-copy_sector.ensures.done.0)
         | inr other ↦
             let up = c.requires.blocks.rising k i (omega arith) block.0 in
-            let apart : first_home shape + get_or ns k 0 ≢ c.home_of.result = λ e. omega (arith, e, block.3, up) in
-            c.copy_sector.ensures.copies.elsewhere (first_home shape + get_or ns k 0) apart ∙ inv.copied k (omega arith)
+            c.copy_sector.ensures.copies.elsewhere (first_home shape + get_or ns k 0) (λ e. omega (arith, e, block.3, up))
+            ∙ inv.copied k (omega arith)
       ];
       follows = g.met.M.Medium.follows_through _ _ _ inv.follows c.copy_sector.ensures.follows;
       copies = copies_on (g.met.M.Medium.sound c.loop-i.m) (λ x e. (i, block.0, e ∙ block.3)) (λ s here. omega (arith, here, block.2))

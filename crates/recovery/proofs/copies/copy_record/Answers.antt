@@ -51,8 +51,7 @@ returns-in_err-read_record-clause-copies g c =
 -- there is a record
 pub returns-else-branch : goal.returns-else-branch
 returns-else-branch g c =
-    let finds = rw c.if-branch.false at c.in_ok-read_record.ensures.finds in
-    absurd (finds.all c.requires.whole.0 c.requires.whole.1)
+    absurd ((rw c.if-branch.false at c.in_ok-read_record.ensures.finds).all c.requires.whole.0 c.requires.whole.1)
 
 pub returns-then-branch-clause-copies : goal.returns-then-branch-clause-copies
 returns-then-branch-clause-copies g c =
@@ -82,9 +81,7 @@ returns-then-branch-clause-done g c entries all =
           (c.read_record.ensures.passes.quiet.content_stays (data_at shape c.args.stamp i))
           ∙ its.blocks_are i below))
           (λ b not. c.copy_blocks.ensures.copies.elsewhere (first_home shape + b) (λ h.
-          let number = number_of entries ns h.0 its.numbers_are in
-          let is = h.2 in
-          not h.0 (omega (arith, many, h.1)) (omega (arith, number, is)))
+          not h.0 (omega (arith, many, h.1)) (omega (arith, number_of entries ns h.0 its.numbers_are, h.2)))
           ∙ c.read_record.ensures.passes.quiet.content_stays (first_home shape + b));
       exact =
           let calls = calls_made shape.format shape _ c.args.stamp c.read_record.new.to _ finds.exact.0 _ _ _ finds.exact.1 many

@@ -7,7 +7,7 @@ use Rattle.journal.specs.Values.{shape_of}
 use Rattle.recovery.specs.Calls.{calls_of, copy_calls, IsHomeInRecord, IsHomeInRecords}
 use Rattle.journal.proofs.Overlay.{with_blocks-same, with_records-append}
 use Rattle.recovery.proofs.CopiedRecords.{not_in_log, whole_same}
-use Rattle.recovery.proofs.JoinedCalls.{each_once_more, copies_on, none_made}
+use Rattle.recovery.proofs.JoinedCalls.{each_once_more, copies_on}
 use Rattle.recovery.proofs.copies.copy_records.Given as given
 use Rattle.recovery.proofs.copies.copy_records.Goals as goal
 use Rattle.recovery.proofs.copies.copy_records.Goals.{In-loop-j}
@@ -43,9 +43,6 @@ copy_record-requires-clause-whole g c =
       whole_same (shape_of sizes) _ _ _ w.0 sizes.some_slots sizes.home_is
           (same_log g (goal.at.copy_record-requires-clause-whole g c).In-loop-j) w.1,
     )
-
-pub loop-j-init : goal.loop-j-init
-loop-j-init g c = search (rules, none_made, g.met.M.Medium.sound, g.met.M.Medium.follows_itself)
 
 pub loop-j-preserved : goal.loop-j-preserved
 loop-j-preserved g c =

@@ -30,5 +30,4 @@ pub returns : goal.returns
 returns g c =
     let all = made g (goal.at.returns g c).After-write_image in
     let is = rw c.in_ok-write_image.was at all.1 in
-    let calls = rw c.in_ok-write_image.was at all.0.writes.exact in
-    search (rules, all, is, is.zeros, calls)
+    search (rules, all, is, is.zeros, rw c.in_ok-write_image.was at all.0.writes.exact)

@@ -1,6 +1,5 @@
 use Rattle.std.proofs.Common.{◌≡◌, ◌∙◌, ℕ, ◌+◌, ◌<◌, List, [], length, sym, ap, arith, rules, map}
 use Rattle.std.proofs.lemmas.List.{ext_get_or, get_or-map, length-map}
-use Rattle.std.proofs.lemmas.Result.{err_from_is_err_and}
 use Rattle.medium.specs.Medium.{State}
 use Rattle.journal.specs.Record.{Entry}
 use Rattle.journal.specs.Sectors.{IsHead}
@@ -37,8 +36,7 @@ counts_stand old answer has head are =
 
 pub returns-in_err-sizes-clause-err : goal.returns-in_err-sizes-clause-err
 returns-in_err-sizes-clause-err g c =
-    let p = err_from_is_err_and c.from_residual.result c.from_residual.ensures.1 in
-    rw (p.1, p.2) (search (rules, c.in_err-sizes.ensures.err, served_look _ _ c.in_err-sizes.field-0.0 c.in_err-sizes.ensures.err))
+    search (rules, c.in_err-sizes.ensures.err, served_look _ _ c.in_err-sizes.field-0.0 c.in_err-sizes.ensures.err)
 
 pub returns-clause-ok : goal.returns-clause-ok
 returns-clause-ok g c =

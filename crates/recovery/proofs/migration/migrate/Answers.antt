@@ -1,5 +1,4 @@
-use Rattle.std.proofs.Common.{◌≡◌, inl, inr, ⊎_elim, ℕ, ◌+◌, ◌*◌, ◌<◌, ◌≤◌, length, refl, ◌∙◌, arith, rules, min, Result}
-use Rattle.std.proofs.lemmas.Bool.{cases_lt}
+use Rattle.std.proofs.Common.{◌≡◌, inl, inr, ⊎_elim, ℕ, ◌+◌, ◌*◌, ◌<◌, length, refl, ◌∙◌, arith, rules, min, Result}
 use Rattle.std.proofs.lemmas.Result.{err_from_is_err_and}
 use Rattle.medium.specs.Medium.{State, IsSound}
 use Rattle.medium.specs.Moments.{EachCut, LeavesOnly}
@@ -10,7 +9,6 @@ use Rattle.medium.specs.declared.fault.MediumFault.TheVariants as medium
 use Rattle.medium.proofs.Moments.{weaker, only_image}
 use Rattle.medium.proofs.SectorsRead.{no_looks}
 use Rattle.medium.proofs.SparedSectors.{spared_behind}
-use Rattle.journal.specs.declared.log_format.LogFormat.{LogFormat}
 use Rattle.journal.specs.declared.log_format.LogFormat.TheVariants.{One}
 use Rattle.journal.specs.Places.{Shape, first_home, sectors_of, migrated}
 use Rattle.journal.specs.Record.{home_of}
@@ -18,29 +16,17 @@ use Rattle.journal.specs.Values.{shape_of}
 use Rattle.journal.proofs.SectorNumbers.{IsSuper-one}
 use Rattle.journal.specs.Standing.{IsOurs}
 use Rattle.journal.proofs.StandingLaws.{StandsFor-one, StandsFor-shape}
-use Rattle.recovery.specs.Calls.{Writes, copy_calls, most_start_sends}
+use Rattle.recovery.specs.Calls.{Writes, copy_calls}
 use Rattle.recovery.specs.Causes.{start_fault_of, IsRefusedCall}
-use Rattle.recovery.specs.Recovered.{IsRecoveredAtLeast, IsFresh, StandsForOneOf, StandsForSome, IsOursForSome, LeavesAtLeast}
+use Rattle.recovery.specs.Recovered.{IsRecoveredAtLeast, IsFresh, LeavesAtLeast}
 use Rattle.recovery.specs.Recovered.{CanMigrate, IsMadeTwo, IsMigratedFrom, IsMigrationRefusal, StaysFresh, IsOursInEither, MigrationLeaves}
 use Rattle.recovery.specs.Recovered.{most_migration_sends}
 use Rattle.recovery.specs.declared.recovered.Recovered.{Recovered}
-use Rattle.recovery.proofs.WholeRecovery.{served_slots, start_on}
+use Rattle.recovery.proofs.WholeRecovery.{recovery_leaves, served_slots, start_on}
 use Rattle.recovery.proofs.CopiedRecords.{log_ends, AreSame, zeros_fresh, fresh_ours}
 use Rattle.recovery.proofs.migration.migrate.Given as given
 use Rattle.recovery.proofs.migration.migrate.Goals as goal
 use Rattle.recovery.proofs.migration.migrate.Goals.{After-make_two}
-
--- a recovery is a part of a migration
-start_migrates : (format : LogFormat) (slots old new : ℕ) → new ≤ old + most_start_sends format slots
-    → new ≤ old + most_migration_sends format slots
-start_migrates format slots old new most = grind arith
-
--- what a recovery leaves
-recovery_leaves : (old new : State) → LeavesAtLeast 5 old new → MigrationLeaves old new
-recovery_leaves old new leaves =
-    let cuts = λ (each : EachCut (IsOursForSome old.size) old). weaker (StandsForOneOf old) (StandsForSome IsOursInEither old) old new
-    (λ image o. search (rules, o)) (leaves.cuts each) in
-    search (rules, cuts, leaves.after_flush, start_migrates, leaves.sends.most, leaves.sends.none, leaves.looks, leaves.small)
 
 module _ {old mid : State} {found : Recovered} (start : IsRecoveredAtLeast 5 old mid found) (one : found.sizes.format ≡ One) where
   abbrev shape : Shape
@@ -51,7 +37,7 @@ module _ {old mid : State} {found : Recovered} (start : IsRecoveredAtLeast 5 old
   can_migrate =
       let has = StandsFor-shape old.size shape old.content start.from.array found.next start.from.stood in
       let few = λ (few : found.sizes.slots < 5). start.room (search (rules, has, few)) in
-      record { one = one; room = ⊎_elim (λ less. absurd (few less)) (λ room. room) (cases_lt found.sizes.slots 5) }
+      record { one = one; room = omega (arith, few) }
 
   -- the calls of a recovery of format 1
   tried : mid.calls ≡ old.calls + 6 + copy_calls One start.from.stood.records
@@ -149,14 +135,8 @@ returns-in_err-make_two-clause-err g c =
     let back = c.from_residual-in_err-make_two in
     let p = err_from_is_err_and back.result back.ensures.1 in
     let kind = c.in_err-make_two.field-0.0 in
-    let before = c.recover_at_least.ensures.leaves.moments.refused_stay kind in
-    rw (p.1, p.2) (call_refuses _ _ kind (search (rules, before, c.in_err-make_two.ensures.writes.cause)))
-
-pub returns-in_err-found-clause-leaves : goal.returns-in_err-found-clause-leaves
-returns-in_err-found-clause-leaves g c = recovery_leaves _ _ c.recover_at_least.ensures.leaves
-
-pub returns-else-migrates-clause-leaves : goal.returns-else-migrates-clause-leaves
-returns-else-migrates-clause-leaves g c = recovery_leaves _ _ c.recover_at_least.ensures.leaves
+    rw (p.1, p.2) (call_refuses _ _ kind
+    (search (rules, c.recover_at_least.ensures.leaves.moments.refused_stay kind, c.in_err-make_two.ensures.writes.cause)))
 
 pub returns-in_err-make_two-clause-leaves : goal.returns-in_err-make_two-clause-leaves
 returns-in_err-make_two-clause-leaves g c = makes g (goal.at.returns-in_err-make_two-clause-leaves g c).After-make_two
@@ -176,6 +156,5 @@ returns-in_ok-make_two-clause-fresh g c =
 
 pub returns-else-migrates-clause-fresh : goal.returns-else-migrates-clause-fresh
 returns-else-migrates-clause-fresh g c shape array next ours =
-    let from = c.in_ok-found.ensures.ok.from in
-    let is = IsSuper-one shape (shape_of c.in_ok-found.found.sizes) _ ours.stands.keeps.super from.stood.keeps.super in
-    rw (← is) (c.in_ok-found.ensures.fresh shape array next ours)
+    rw (← IsSuper-one shape (shape_of c.in_ok-found.found.sizes) _ ours.stands.keeps.super c.in_ok-found.ensures.ok.from.stood.keeps.super)
+    (c.in_ok-found.ensures.fresh shape array next ours)

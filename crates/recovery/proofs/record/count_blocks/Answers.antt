@@ -56,8 +56,7 @@ module _ (image : Image) (at stamp blocks : ℕ) where
 try_missed : (format : LogFormat) (shape : Shape) (image : Image) (stamp reads before after : ℕ)
     → IsReadFor format shape image stamp None reads → after ≡ before + reads → IsTryOf format shape image stamp before after
 try_missed One shape image stamp reads before after is made = omega (arith, is, made)
-try_missed Two shape image stamp reads before after (inl none) made =
-    (reads, try_made image _ stamp _ reads (inl none), made)
+try_missed Two shape image stamp reads before after (inl none) made = (reads, try_made image _ stamp _ reads (inl none), made)
 try_missed Two shape image stamp reads before after (inr bad) made =
     (reads, try_made image _ stamp _ reads (inr (bad.0, bad.1, bad.2, inl bad.3, bad.4)), made)
 
@@ -68,17 +67,10 @@ try_read : (format : LogFormat) (shape : Shape) (image : Image) (stamp : ℕ) (r
     → IsTryOf format shape image stamp before after
 try_read One shape image stamp read reads places before mid after is made none more = omega (arith, is, made, none, more)
 try_read Two shape image stamp read reads places before mid after is made asked more =
-    let n : ℕ = length read.numbers.items in (
-      reads + places,
-      try_made image _ stamp _ (reads + places) (inr (
-        n,
-        is.0,
-        descriptors_of n + places,
-        inr (is.1, places, asked, refl),
-        let first = is.2 in omega (arith, first),
-      )),
-      omega (arith, made, more),
-    )
+    let n : ℕ = length read.numbers.items in
+    let slot : IsReadInSlot image _ stamp _ (reads + places) =
+    inr (n, is.0, descriptors_of n + places, inr (is.1, places, asked, refl), omega (arith, is.2)) in
+    (reads + places, try_made image _ stamp _ (reads + places) slot, omega (arith, made, more))
 
 -- the reads of a record and those of its data places
 most_tried : (format : LogFormat) (count : ℕ) → count ≤ 240

@@ -80,8 +80,8 @@ loop-j-preserved g c =
     let inv = c.loop-j.invariant in
     let j = c.loop-j.j in
     let n = c.in-Some.count in
-    let counted = rw c.in-Some.is at c.in_ok-count.ensures.finds.1 in
-    let here = quiet_before (λ _ i. HasCount shape i (c.args.head + j) n) old _ inv.passes.quiet counted in
+    let here = quiet_before (λ _ i. HasCount shape i (c.args.head + j) n) old _ inv.passes.quiet
+    (rw c.in-Some.is at c.in_ok-count.ensures.finds.1) in
     looks_on g.met.M.Medium.follows_through inv c.count_blocks.ensures (omega arith) tt (
       one_more g (goal.at.loop-j-preserved g c).In_ok-count,
       rw c.push.ensures.items (omega (arith, length-append c.loop-j.waiting.items (n ∷ []), inv.finds.1)),
@@ -101,9 +101,8 @@ returns-in-None g c =
     let inv = c.loop-j.invariant in
     let below = c.loop-j-test.true in
     let many : c.loop-j.j + 1 ≡ min (length c.loop-j.waiting.items + 1) c.args.sizes.now.slots = omega (arith, below, inv.finds.1) in
-    let none = rw c.in-None.is at c.in_ok-count.ensures.finds.1 in
     let are = counts_made shape old.content c.args.head c.loop-j.j c.loop-j.waiting.items inv.finds.1 (omega (arith, below)) inv.finds.2
-    (λ less w. none (quiet_after (λ n i. HasWhole shape i (c.args.head + c.loop-j.j)) old _ inv.passes.quiet w)) in
+    (λ less w. (rw c.in-None.is at c.in_ok-count.ensures.finds.1) (quiet_after (λ n i. HasWhole shape i (c.args.head + c.loop-j.j)) old _ inv.passes.quiet w)) in
     looks_on g.met.M.Medium.follows_through inv c.count_blocks.ensures
     (each_once_more (most_reads_of c.args.sizes.now.format) c.loop-j.j c.args.sizes.now.slots below) tt
     (search (rules, are, rw many at (one_more g (goal.at.returns-in-None g c).In_ok-count)))

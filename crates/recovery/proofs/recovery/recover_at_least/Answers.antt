@@ -1,5 +1,4 @@
 use Rattle.std.proofs.Common.{◌+◌, rules, arith}
-use Rattle.std.proofs.lemmas.Result.{err_from_is_err_and}
 use Rattle.medium.proofs.Moments.{quiet_start}
 use Rattle.medium.proofs.SectorsRead.{no_looks}
 use Rattle.journal.specs.Values.{shape_of}
@@ -25,9 +24,8 @@ moved g c = moves_leave c.args.least (survey g (goal.at.After-move_head g c).Aft
 
 pub copy_records-requires-clause-whole : goal.copy_records-requires-clause-whole
 copy_records-requires-clause-whole g c j below =
-    let found = c.in_ok-found.found in
-    quiet_after (λ n i. HasWhole (shape_of found.sizes) i (found.head + j)) (g.M.Medium.state c.flush.new.self)
-    (g.M.Medium.state c.inspect.new.m) c.inspect.ensures.reads.quiet (c.in_ok-found.ensures.ok.count.whole j below)
+    quiet_after (λ n i. HasWhole (shape_of c.in_ok-found.found.sizes) i (c.in_ok-found.found.head + j)) _ _
+    c.inspect.ensures.reads.quiet (c.in_ok-found.ensures.ok.count.whole j below)
 
 pub move_head-requires-clause-inside : goal.move_head-requires-clause-inside
 move_head-requires-clause-inside g c =
@@ -48,8 +46,7 @@ returns-in_err-found-clause-leaves g c =
 pub returns-in_err-found-clause-err : goal.returns-in_err-found-clause-err
 returns-in_err-found-clause-err g c =
     let known = survey g (goal.at.returns-in_err-found-clause-err g c).After-inspect in
-    let p = err_from_is_err_and c.from_residual-in_err-found.result c.from_residual-in_err-found.ensures.1 in
-    rw (p.1, p.2) (refusal c.args.least known c.in_err-found.field-0.0 c.in_err-found.ensures.err)
+    search (rules, refusal c.args.least known c.in_err-found.field-0.0 c.in_err-found.ensures.err)
 
 pub returns-in_err-copy_records-clause-leaves : goal.returns-in_err-copy_records-clause-leaves
 returns-in_err-copy_records-clause-leaves g c =

@@ -56,10 +56,3 @@ loop-sector-preserved g c =
 pub returns-in_err-write-clause-clears : goal.returns-in_err-write-clause-clears
 returns-in_err-write-clause-clears g c =
     search (rules, one_more g (goal.at.returns-in_err-write-clause-clears g c).After-write c.in_err-write.ensures.err)
-
-pub returns-in_err-write-clause-follows : goal.returns-in_err-write-clause-follows
-returns-in_err-write-clause-follows g c = search (
-  rules,
-  g.met.M.Medium.follows_through,
-  c.write.ensures.passes.looked_stays (λ e. cc e) ∙ c.loop-sector.invariant.follows.looks.looked_stays,
-)

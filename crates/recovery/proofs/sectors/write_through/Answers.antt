@@ -33,13 +33,3 @@ returns-clause-writes g c =
       goes_on _ _ mid new (written g (goal.at.returns-clause-writes g c).After-write) flushed.passes (shrunk _ mid new flushed.sets each),
       λ (x : ℕ) (not : x ≢ c.args.place). flushed.content x ∙ c.in_ok-write.ensures.ok.elsewhere x not,
     )
-
-pub returns-in_err-write-clause-follows : goal.returns-in_err-write-clause-follows
-returns-in_err-write-clause-follows g c = search (rules, c.write.ensures.passes.looked_stays (λ e. cc e))
-
-pub returns-clause-follows : goal.returns-clause-follows
-returns-clause-follows g c = search (
-  rules,
-  g.met.M.Medium.follows_through,
-  c.flush.ensures.passes.looked_stays (λ e. cc e) ∙ c.write.ensures.passes.looked_stays (λ e. cc e),
-)

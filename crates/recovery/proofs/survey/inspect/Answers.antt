@@ -20,10 +20,9 @@ counted g c =
     λ i s. c.read_head.ensures.quiet.content_stays s i in (
       rw (same, ← c.len-count.ensures.value) at c.in_ok-count_waiting.ensures.finds.1.is,
       λ few.
-          let one = IsSuper-one few.shape (shape_of c.in_ok-sizes.sizes) (old.content 0) few.has.super c.in_ok-sizes.ensures.ok.0.super in
           let both : (few.shape.format ≡ One) × (few.shape.slots < c.args.least) = (few.one, few.few) in
-          let is = c.if-has_few_slots.ensures.1 (rw one at both) in
-          absurd (cc is),
+          let one = IsSuper-one few.shape (shape_of c.in_ok-sizes.sizes) (old.content 0) few.has.super c.in_ok-sizes.ensures.ok.0.super in
+          absurd (cc (c.if-has_few_slots.ensures.1 (rw one at both))),
     )
 
 pub returns-then-head-count-clause-reads : goal.returns-then-head-count-clause-reads
