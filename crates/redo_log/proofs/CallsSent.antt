@@ -15,7 +15,7 @@ use Rattle.redo_log.specs.Flushes.{turn_flushes, next_turn_flushes, step_flushes
 use Rattle.redo_log.specs.Calls.{CallsUpTo, Call, Write, Flush, fault_of, IsFlushDue, IsNextCall}
 use Rattle.redo_log.specs.Steps.{CountsStep}
 use Rattle.redo_log.specs.Held.{turned_of, made_of}
-use Rattle.redo_log.specs.Turns.{calls_of, sends_of, flushes_of, IsHeadTurn, IsNextTurn}
+use Rattle.redo_log.specs.Turns.{counts_of, IsHeadTurn, IsNextTurn}
 use Rattle.redo_log.proofs.LogRules.{IsLog, oldest_few}
 use Rattle.std.proofs.lemmas.Bool.Decides.{nat_tests}
 use Rattle.medium.specs.declared.fault.MediumFault.TheVariants as fault
@@ -67,7 +67,7 @@ head_turn stamp (Head h) is = (h, refl, is)
 -- as many as the next retire step, where `left` are left
 turn_counts : (shape : Shape) (stamp : ℕ) (numbers : List ℕ) (kept : AllFirsts) (turned left : ℕ) (turn : Turn)
     → IsNextTurn shape stamp numbers kept turned turn → turned + left ≡ length numbers + 2 → 0 < left
-    → (calls_of turn ≡ turn_calls left) × (sends_of turn ≡ turn_sends left) × (flushes_of turn ≡ turn_flushes left)
+    → counts_of turn ≡ (turn_calls left, turn_sends left, turn_flushes left)
 turn_counts shape stamp numbers kept turned left turn next sum some = grind (arith, next.head, next.flush, next.home, sum)
 
 -- no step makes more than two calls, or writes and flushes
@@ -77,14 +77,14 @@ two_at_most left = grind arith
 pub few_next : (log : LogValue) → next_sends log ≤ 2
 few_next log = (two_at_most (of_oldest log)).1
 
-pub counts_of : {log : LogValue} → IsLog log → 0 < of_oldest log → (turn : Turn)
+pub counts_next : {log : LogValue} → IsLog log → 0 < of_oldest log → (turn : Turn)
     → IsNextTurn log.shape log.head (get_or log.waiting 0 []) log.firsts (turned_of log) turn → {result : Result (Unit {0}) MediumFault}
-    → {old new : State} → CallsUpTo (calls_of turn) (sends_of turn) (flushes_of turn) result old new
+    → {old new : State} → CallsUpTo (counts_of turn).0 (counts_of turn).1 (counts_of turn).2 result old new
     → CountsStep (next_calls log) (next_sends log) (next_turn_flushes log) result old new
-counts_of {log} is owed turn next {result} {old} {new} up =
+counts_next {log} is owed turn next {result} {old} {new} up =
     let same = turn_counts log.shape log.head (get_or log.waiting 0 []) log.firsts (turned_of log) (of_oldest log) turn next
     (omega (arith, is.owed_most)) owed in
-    let now = rw (same.0, same.1, same.2) at up in
+    let now = rw same at up in
     let two : new.calls ≤ old.calls + 2 = omega (arith, now.calls, two_at_most (of_oldest log)) in search rules
 
 -- ---- how many writes and flushes they are at most

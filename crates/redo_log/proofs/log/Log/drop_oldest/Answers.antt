@@ -1,5 +1,4 @@
 use Rattle.std.proofs.Common.{◌≡◌, ◌+◌, List, drop, sym, ◌∙◌, ap, arith, rules, length-drop}
-use Rattle.std.specs.Prelude.{map}
 use Rattle.std.proofs.lemmas.List.{drop-map}
 use Rattle.arrayvec.specs.ArrayVec.{ArrayVec}
 use Rattle.journal.specs.Values.{shape_of}
@@ -12,7 +11,7 @@ use Rattle.redo_log.proofs.log.Log.drop_oldest.Goals as goal
 
 -- the others wait behind the oldest
 lists_less : {X : Type 0} (records : List (ArrayVec X)) {left : List (ArrayVec X)} → left ≡ drop 1 records
-    → map (λ r. r.items) left ≡ drop 1 (map (λ r. r.items) records)
+    → lists_of left ≡ drop 1 (lists_of records)
 lists_less {X} records is = let f : ArrayVec X → List X = λ r. r.items in rw is (sym (drop-map f 1 records))
 
 pub invariant_of-self : goal.invariant_of-self

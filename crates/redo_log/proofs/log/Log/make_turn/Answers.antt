@@ -3,7 +3,7 @@ use Rattle.std.proofs.lemmas.Result.{on_ok_weaker}
 use Rattle.medium.proofs.Moments.{weaker}
 use Rattle.journal.specs.Places.{first_home, sectors_of}
 use Rattle.redo_log.specs.Held.{View, HoldsView}
-use Rattle.redo_log.proofs.CallsSent.{counts_of}
+use Rattle.redo_log.proofs.CallsSent.{counts_next}
 use Rattle.redo_log.proofs.LogRules.{log_is}
 use Rattle.redo_log.proofs.HeldLog.{dead_held}
 use Rattle.redo_log.proofs.RetireTurns.{turn_leaves, stepped_held, sent_held}
@@ -26,7 +26,7 @@ returns-clause-brings g c =
     let size = c.make.ensures.counts.size in
     let spares = made.spares (sectors_of log.shape) next.inside in
     record {
-      passes = let calls = counts_of is c.requires.owed turn next.next c.make.ensures.counts in search rules;
+      passes = let calls = counts_next is c.requires.owed turn next.next c.make.ensures.counts in search rules;
       leaves = record {
         cuts = cuts;
         moments = weaker _ (λ _. Unit {0}) old new (λ image left. tt) spares.moments;
