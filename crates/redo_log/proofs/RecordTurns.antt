@@ -25,12 +25,12 @@ use Rattle.redo_log.specs.Calls.{Call, Write, Flush, MayAdd, IsDone, MakesNext, 
 use Rattle.redo_log.specs.Held.{View, with_record, view_stepped, written_of, flushed_of, made_of, turned_of, needed_of}
 use Rattle.redo_log.specs.Held.{HasDurable, MayLeave, HasHead, Guards, HoldsView, image_view}
 use Rattle.redo_log.proofs.RecordSteps.{steps_are, due_or_not, last_call, not_last, one_left, early_written, part_written}
-use Rattle.redo_log.proofs.RingRecords.{needed_one}
+use Rattle.redo_log.proofs.LogRules.{needed_one}
 use Rattle.redo_log.proofs.GuardedCalls.{Stands, stands_idle, other_part, part_lost, part_there}
 use Rattle.redo_log.proofs.GuardedCalls.{homed_here, same_head, same_stamp, stands_front, logged_leaves, guard_leaves, flush_guards}
 use Rattle.redo_log.proofs.GuardedCalls.{early_safe, durable_safe}
 use Rattle.redo_log.proofs.StoredLog.{before_home, Stores-stays, part_stores, durable_stores}
-use Rattle.redo_log.proofs.KeptFirsts.{durable_kept}
+use Rattle.redo_log.proofs.NewestCopy.{durable_kept}
 use Rattle.redo_log.proofs.LogRules.{IsLog, one_stamp, durable_of, durable_alone, durable_more}
 use Rattle.redo_log.proofs.HeldLog.{needs_one, many, count, under_count, stands_then, goes_on, durable_whole, record_batch}
 

@@ -30,13 +30,13 @@ use Rattle.redo_log.specs.Turns.{head_bytes, MayTurn, IsTurned, IsNextTurn}
 use Rattle.redo_log.specs.Held.{View, view_retired, made_of, turned_of, needed_of, image_view, MayLeave, Safe}
 use Rattle.redo_log.specs.Held.{HasHead, Guards, HoldsView}
 use Rattle.redo_log.proofs.OneSector.{moments_have}
-use Rattle.redo_log.proofs.RingRecords.{needed_one}
+use Rattle.redo_log.proofs.LogRules.{needed_one}
 use Rattle.redo_log.proofs.StoredLog.{Stores-stays, home_stores, head_stores}
 use Rattle.redo_log.proofs.GuardedCalls.{Stands, stands_less, keeps_of, logged_of, home_safe, past_safe, hides_behind}
 use Rattle.redo_log.proofs.GuardedCalls.{records_before, newest, with_newest, same_head, stands_front, Logged-records}
 use Rattle.redo_log.proofs.GuardedCalls.{homed_here, guard_leaves, flush_guards}
-use Rattle.redo_log.proofs.KeptFirsts.{kept_is, retired_kept}
-use Rattle.redo_log.proofs.CallsSent.{head_turn}
+use Rattle.redo_log.proofs.NewestCopy.{kept_is, retired_kept}
+use Rattle.redo_log.proofs.RecordSteps.{head_turn}
 use Rattle.redo_log.proofs.LogRules.{IsLog, retired_of, one_waits, nothing_home, not_homed}
 use Rattle.redo_log.proofs.HeldLog.{needs_one, many, named, count, stands_then, goes_on, count_of}
 

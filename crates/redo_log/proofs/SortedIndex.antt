@@ -1,14 +1,20 @@
--- What a search finds among entries that are sorted by block, and what is left of them without a slot.
-use Rattle.std.proofs.Common.{◌≡◌, ◌≢◌, ℕ, suc, ◌-◌, ◌<◌, ◌≤◌, List, [], ◌∷◌, length, get_or, if◌then◌else◌, Some}
-use Rattle.std.proofs.Common.{None, Less, Greater, refl, ap, arith}
-use Rattle.std.specs.Prelude.{Bool, true, false, ◌==◌}
-use Rattle.std.specs.List.{filter}
+-- Entries that are sorted by block: what a search finds, what is left without a slot, and how a record's rising block numbers merge in.
+use Rattle.std.proofs.Common.{◌≡◌, ◌≢◌, ℕ, suc, ◌-◌, ◌<◌, ◌≤◌, List, [], ◌∷◌, length, get_or, if◌then◌else◌, Some, None}
+use Rattle.std.proofs.Common.{Less, Greater, refl, ap, arith, ◌⊎◌, inl, inr, ◌+◌, ◌++◌, take, drop, set, sym, ◌∙◌}
+use Rattle.std.proofs.Common.{append_assoc, rules, length-append}
+use Rattle.std.specs.Prelude.{Bool, true, false, ◌==◌, slice_index, All}
+use Rattle.std.specs.List.{filter, AllPairs, remove_range}
 use Rattle.std.specs.List.Sorted.{IsNonDecreasingBy, IsPartitionPoint}
 use Rattle.std.specs.Ordering.{nat_cmp, ordering_index}
 use Rattle.std.proofs.lemmas.Bool.Decides.{nat_tests}
-use Rattle.std.proofs.lemmas.List.Elements.{All-filter}
+use Rattle.std.proofs.lemmas.List.Elements.{All-filter, All-cons, All-append, All-from_get_or}
 use Rattle.redo_log.specs.declared.index.Copied.{Copied}
-use Rattle.redo_log.specs.Index.{look, outside, block_at, IsSorted}
+use Rattle.redo_log.specs.Index.{look, outside, block_at, IsSorted, Enters}
+use Rattle.std.proofs.lemmas.Bool.{cases_eq}
+use Rattle.std.proofs.lemmas.List.{drop-set, take_more, take-set-le, get_or_append_left, get_or-append-add, get_or-take}
+use Rattle.std.proofs.lemmas.List.{get_or_at, length-set, length-take-le}
+use Rattle.std.proofs.lemmas.List.Kept.{AllPairs-cons}
+use Rattle.journal.specs.Sectors.{IsRising}
 
 -- no entry
 abbrev pub blank : Copied
@@ -62,3 +68,130 @@ look_filter slot (c ∷ index) sorted b =
     let none = λ (same : c.block ≡ b).
     look-absent (filter (is_outside slot) index) b (λ j less is. omega (arith, above j blank less, is, same)) in
     grind (arith, nat_tests, rest, none)
+
+-- Outside the gap from `left` to `to` an index has the old entries with the numbers from `place` on entered. Behind the gap all are above
+-- the numbers that are left.
+pub record IsMerging (old : List Copied) (slot : ℕ) (numbers : List ℕ) (left place to : ℕ) (index : List Copied) : Type 0 where
+  pub places : place ≤ length numbers
+  pub room : left + place ≤ to
+  pub inside : to ≤ length index
+  pub over : (i : ℕ) → i < place → All (Above (slice_index numbers i)) (drop to index)
+  pub enters : Enters slot numbers place old (remove_range index left to)
+
+-- some pairs, and then some more that each of them goes with
+pairs_append : {X : Type 0} (R : X → X → Type 0) (front back : List X) → AllPairs R front → AllPairs R back
+    → All (λ x. All (R x) back) front → AllPairs R (front ++ back)
+pairs_append R [] back of_front of_back across = of_back
+pairs_append R (x ∷ front) back of_front of_back across = AllPairs-cons R x (front ++ back)
+    (All-append (R x) front back (λ i d less. of_front 0 (suc i) d (omega arith) (omega arith)) (across 0 x (omega arith)))
+    (pairs_append R front back (λ i j d less below. of_front (suc i) (suc j) d (omega arith) (omega arith)) of_back
+    (λ i d less. across (suc i) d (omega arith)))
+
+-- an entry between others is found for its own block alone
+look_other : (front back : List Copied) (e : Copied) (b : ℕ) → e.block ≢ b → look (front ++ e ∷ back) b ≡ look (front ++ back) b
+look_other [] back e b not = grind (arith, nat_tests, not)
+look_other (c ∷ front) back e b not = grind (arith, nat_tests, look_other front back e b not)
+
+-- the entry of a number of the record
+abbrev pub entry_of : ℕ → List ℕ → ℕ → Copied
+entry_of slot numbers place = record { block = slice_index numbers place; slot = slot; place = place }
+
+-- of the first `was` entries `left` are left where this block enters: all, which have smaller blocks, or the last one has this block
+abbrev AreLeft : List Copied → ℕ → ℕ → ℕ → Type 0
+AreLeft index block was left = ((left ≡ was) × (0 < was → block_at index (was - 1) < block))
+    ⊎ ((was ≡ left + 1) × (block_at index left ≡ block))
+
+-- a number of the record goes behind those that are left, and before others
+module _ {old : List Copied} {slot : ℕ} {numbers : List ℕ} (index back : List Copied) (was left place : ℕ) (fits : was ≤ length index)
+    (inside : place < length numbers) (entered : Enters slot numbers (place + 1) old (take was index ++ back))
+    (ends : AreLeft index (slice_index numbers place) was left) (above : All (Above (slice_index numbers place)) back) where
+  abbrev e : Copied
+  e = entry_of slot numbers place
+
+  front_rises : (i j : ℕ) (d : Copied) → i < j → j < was → (get_or index i d).block < (get_or index j d).block
+  front_rises i j d less below =
+      let long = length-take-le was index fits in
+      grind (arith, entered.sorted i j d, get_or_append_left (take was index) back d, get_or-take was index, length-append (take was index) back, long)
+
+  long : length (take left index) ≡ left
+  long = length-take-le left index (omega (arith, ends, fits))
+
+  low : All (λ x. x.block < e.block) (take left index)
+  low = All-from_get_or (λ x. x.block < e.block) (take left index) blank (λ i less.
+      grind (arith, get_or-take left index i blank, long, ends, front_rises i left blank, front_rises i (was - 1) blank))
+
+  put_sorted : IsSorted (take left index ++ e ∷ back)
+  put_sorted = pairs_append (λ x. Above x.block) (take left index) (e ∷ back)
+      (λ i j d less below. grind (arith, get_or-take left index i d, get_or-take left index j d, front_rises i j d, below, long, ends))
+      (AllPairs-cons (λ x. Above x.block) e back above (λ i j d less below.
+          let front = take was index in
+          grind (arith, get_or-append-add front back, entered.sorted (length front + i) (length front + j) d, length-append front back, below)))
+      (λ i d less. All-cons (Above (get_or (take left index) i d).block) e back (low i d less)
+          (λ j f inside. omega (arith, low i d less, above j f inside)))
+
+  put_found : look (take left index ++ e ∷ back) e.block ≡ Some (slot, place)
+  put_found =
+      let all = take left index ++ e ∷ back in
+      grind (arith, look_found all put_sorted left e.block, get_or_at (take left index) e back blank left,
+      length-append (take left index) (e ∷ back), long)
+
+  -- only an older entry with its block goes
+  put_other : (b : ℕ) → e.block ≢ b → look (take left index ++ e ∷ back) b ≡ look (take was index ++ back) b
+  put_other b not = look_other (take left index) back e b not ∙ elim ends [
+    | inl all ↦ rw all.0 refl
+    | inr one ↦
+        let c = get_or index left blank in
+        rw (one.0, take_more index left blank (omega arith), append_assoc (take left index) (c ∷ []) back)
+        (sym (look_other (take left index) back c b (λ same. not (sym one.1 ∙ same))))
+  ]
+
+  pub put_enters : Enters slot numbers place old (take left index ++ e ∷ back)
+  put_enters = record {
+    sorted = put_sorted;
+    finds = λ b. elim (cases_eq e.block b) [
+      | inl same ↦ inl (place, omega arith, inside, same, rw (← same) put_found)
+      | inr not ↦ rw (put_other b not) (elim (entered.finds b) [
+        | inl later ↦ search (rules, arith)
+        | inr none ↦ inr (λ k low less. grind (arith, none.0 k, not), none.1)
+      ])
+    ];
+  }
+
+module _ {old : List Copied} {slot : ℕ} {numbers : List ℕ} (rising : IsRising numbers) where
+  -- an entry goes to the end of the room, above all numbers that are left
+  goes : (was before left place till to : ℕ) (index : List Copied) (c : Copied) → till ≡ to + 1 → left ≤ was → place ≤ before
+      → left + place ≤ to → (0 < place → slice_index numbers (place - 1) < c.block) → IsMerging old slot numbers was before till index
+      → Enters slot numbers place old (take left index ++ c ∷ drop till index) → IsMerging old slot numbers left place to (set index to c)
+  goes was before left place till to index c room fewer less enough last merged enters =
+      let below : to < length index = omega (arith, room, merged.inside) in
+      record {
+        places = omega (arith, less, merged.places);
+        room = enough;
+        inside = omega (arith, below, length-set index to c);
+        over = λ i low. rw (drop-set index to c below, ← room) (All-cons (Above (slice_index numbers i)) c (drop till index)
+            (grind (arith, rising i (place - 1), last)) (merged.over i (omega (arith, low, less))));
+        enters = rw (take-set-le left index to c (omega (arith, enough)), drop-set index to c below, ← room) enters;
+      }
+
+  -- the last entry that is left, above all numbers that are left
+  pub entry_moves : (was left place till to : ℕ) (index : List Copied) → was ≡ left + 1 → till ≡ to + 1
+      → (0 < place → slice_index numbers (place - 1) < block_at index left) → IsMerging old slot numbers was place till index
+      → IsMerging old slot numbers left place to (set index to (get_or index left blank))
+  entry_moves was left place till to index one_less room over merged =
+      let c = get_or index left blank in
+      let moved : remove_range index was till ≡ take left index ++ c ∷ drop till index =
+      rw (one_less, take_more index left blank (omega (arith, merged.room, merged.inside, one_less)),
+      append_assoc (take left index) (c ∷ []) (drop till index)) refl in
+      goes was place left place till to index c room (omega arith) (omega arith) (omega (arith, merged.room, one_less, room)) over merged
+      (rw moved at merged.enters)
+
+  -- the last number that is left, above all entries that are left then
+  pub number_enters : (was left before place till to : ℕ) (index : List Copied) → before ≡ place + 1 → till ≡ to + 1
+      → AreLeft index (slice_index numbers place) was left → IsMerging old slot numbers was before till index
+      → IsMerging old slot numbers left place to (set index to (entry_of slot numbers place))
+  number_enters was left before place till to index one_less room ends merged =
+      let fits : was ≤ length index = omega (arith, merged.room, merged.inside) in
+      let inside : place < length numbers = omega (arith, merged.places, one_less) in
+      goes was before left place till to index (entry_of slot numbers place) room (omega (arith, ends)) (omega arith)
+      (omega (arith, merged.room, one_less, room, ends)) (λ some. rising (place - 1) place (omega arith) inside) merged
+      (put_enters index (drop till index) was left place fits inside (rw one_less at merged.enters) ends (merged.over place (omega arith)))

@@ -23,9 +23,9 @@ use Rattle.redo_log.specs.Stages.{needed_at}
 use Rattle.redo_log.specs.Held.{View, resting_view, with_begun, made_of, turned_of}
 use Rattle.redo_log.specs.Held.{needed_of, MayLeave, Safe, stamps_of, HoldsView}
 use Rattle.redo_log.proofs.RecordSteps.{none_written, steps_some}
-use Rattle.redo_log.proofs.RingRecords.{needed_covered}
+use Rattle.redo_log.proofs.LogRules.{needed_covered}
 use Rattle.redo_log.proofs.GuardedCalls.{begun_safe, with_newest, same_head, put_head, put_safe, Logged-records}
-use Rattle.redo_log.proofs.KeptFirsts.{none_kept, begun_kept}
+use Rattle.redo_log.proofs.NewestCopy.{none_kept, begun_kept}
 use Rattle.redo_log.proofs.StoredLog.{Stores-stays}
 use Rattle.redo_log.proofs.LogRules.{one_stamp}
 use Rattle.redo_log.proofs.HeldLog.{count, under_count, going_held, died_held}

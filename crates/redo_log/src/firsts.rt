@@ -40,7 +40,7 @@ pub(crate) fn first_kept(kept: &VecDeque<Firsts>, age: usize, place: usize) -> O
 }
 
 /// How many records of a ring from the head on stand before the one in this slot.
-#[tactic(auto, using(crate::proofs::RingRecords::age_is))]
+#[tactic(auto, using(crate::proofs::LogRules::age_is))]
 pub(crate) fn age_of(slots: u64, head: u64, slot: u64) -> usize
     requires some { 0 < slots }
     requires few { slots < 2 ^ 32 }

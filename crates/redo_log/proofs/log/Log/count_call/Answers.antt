@@ -5,7 +5,7 @@ use Rattle.journal.specs.Values.{shape_of}
 use Rattle.redo_log.specs.Stages.{begun_at}
 use Rattle.redo_log.specs.Shown.{lists_of, ahead_in}
 use Rattle.std.proofs.lemmas.List.{map_push}
-use Rattle.redo_log.proofs.RingRecords.{ring_durable, ahead_durable}
+use Rattle.redo_log.proofs.LogRules.{ring_durable, ahead_durable}
 use Rattle.redo_log.proofs.IndexRoom.{record_room, index_more}
 use Rattle.redo_log.proofs.LogRules.{many_lists}
 use Rattle.redo_log.proofs.log.Log.count_call.Goals as goal

@@ -5,7 +5,7 @@ use Rattle.journal.specs.Values.{shape_of}
 use Rattle.redo_log.specs.Value.{LogValue}
 use Rattle.redo_log.specs.Shown.{kept_in, lists_of, ahead_in}
 use Rattle.redo_log.proofs.IndexRoom.{index_fewer}
-use Rattle.redo_log.proofs.RingRecords.{ring_retired, ahead_retired}
+use Rattle.redo_log.proofs.LogRules.{ring_retired, ahead_retired}
 use Rattle.redo_log.proofs.LogRules.{many_lists, log_is, one_waits, retired_of, retired_value}
 use Rattle.redo_log.proofs.log.Log.drop_oldest.Goals as goal
 

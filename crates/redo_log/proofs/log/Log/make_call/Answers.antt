@@ -6,7 +6,7 @@ use Rattle.medium.proofs.SparedSectors.{spared_behind}
 use Rattle.journal.specs.Places.{first_home, sectors_of}
 use Rattle.redo_log.specs.Calls.{Call, Write, Flush, fault_of}
 use Rattle.redo_log.specs.Held.{View, HoldsView}
-use Rattle.redo_log.proofs.CallsSent.{step_flushed}
+use Rattle.redo_log.proofs.RecordSteps.{step_flushed}
 use Rattle.redo_log.proofs.LogRules.{log_is, call_of}
 use Rattle.redo_log.proofs.HeldLog.{dead_held}
 use Rattle.redo_log.proofs.RecordTurns.{step_leaves, counted_held, counted_whole}

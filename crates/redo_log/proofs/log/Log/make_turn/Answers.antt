@@ -3,7 +3,7 @@ use Rattle.std.proofs.lemmas.Result.{on_ok_weaker}
 use Rattle.medium.proofs.Moments.{weaker}
 use Rattle.journal.specs.Places.{first_home, sectors_of}
 use Rattle.redo_log.specs.Held.{View, HoldsView}
-use Rattle.redo_log.proofs.CallsSent.{counts_next}
+use Rattle.redo_log.proofs.RecordSteps.{counts_next}
 use Rattle.redo_log.proofs.LogRules.{log_is}
 use Rattle.redo_log.proofs.HeldLog.{dead_held}
 use Rattle.redo_log.proofs.RetireTurns.{turn_leaves, stepped_held, sent_held}
