@@ -1,5 +1,5 @@
 -- What is true of every log, as a caller sees it, whatever its fields are, and how its records come and go.
-use Rattle.std.proofs.Common.{◌≡◌, ◌⊎◌, inl, ℕ, ◌+◌, ◌-◌, ◌%◌, ◌<◌, List, [], ◌∷◌, ◌++◌, length, drop, sym, ◌∙◌, arith}
+use Rattle.std.proofs.Common.{◌≡◌, ◌⊎◌, ℕ, ◌+◌, ◌-◌, ◌%◌, ◌<◌, List, [], ◌∷◌, ◌++◌, length, drop, sym, ◌∙◌, arith}
 use Rattle.std.proofs.Common.{rules, length-append, length-drop, ◌≢◌, suc, ◌*◌, ◌≤◌, get_or, refl, ap, subst}
 use Rattle.std.proofs.Math.Nat.{mod-add-mod, mod-eq-sub-mod, mod-eq_of_lt, mul-le-mul_left}
 use Rattle.std.proofs.lemmas.Bool.Decides.{nat_tests}
@@ -41,16 +41,6 @@ pub ahead_durable : (ahead : Ahead) (head : ℕ) (waiting : List (List ℕ)) (tu
     → IsAheadOf ahead head waiting turned → IsAheadOf ahead head (waiting ++ numbers ∷ []) turned
 ahead_durable ahead head [] turned numbers is = grind (arith, is)
 ahead_durable ahead head (n ∷ waiting) turned numbers is = grind (arith, is)
-
--- the oldest record is retired
-pub ahead_retired : (ahead : Ahead) (head : ℕ) (waiting newer : List (List ℕ)) (turned left : ℕ)
-    → IsAheadOf ahead head waiting turned → IsAheadOf ahead (head + 1) newer left
-ahead_retired ahead head waiting newer turned left is = inl (omega (arith, is))
-
--- the oldest of these records, and the others
-pub front_is : (records : List (ArrayVec ℕ)) (first : ArrayVec ℕ) → 0 < length records → first ≡ slice_index_or records 0 first
-    → lists_of records ≡ first.items ∷ lists_of (drop 1 records)
-front_is records first some is = grind (arith, is)
 
 -- the record under way waits
 pub ring_durable : (shape : Shape) (waiting : List (List ℕ)) (turned : ℕ) (numbers : List ℕ) (made : ℕ)
@@ -138,7 +128,7 @@ module _ (i : Inside) {log : LogValue} (is : shown i ≡ log) where
   -- a record stands in front
   module _ (first : ArrayVec ℕ) (some : 0 < length i.waiting.items) (there : first ≡ slice_index_or i.waiting.items 0 first) where
     pub front : lists_of i.waiting.items ≡ first.items ∷ lists_of (drop 1 i.waiting.items)
-    front = front_is i.waiting.items first some there
+    front = grind (arith, there)
 
     pub left_of : of_oldest log ≡ length first.items + 2 - i.turned
     left_of = rw (← is, front) (omega arith)

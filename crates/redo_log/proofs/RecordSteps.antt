@@ -1,11 +1,11 @@
 -- The calls that write a record and retire it: what they write, how many they are, and how far it is after each.
-use Rattle.std.proofs.Common.{◌≡◌, ◌≢◌, ◌⊎◌, ℕ, ◌+◌, ◌-◌, ◌<◌, ◌≤◌, arith, rules, ◌*◌, ◌/◌, ◌%◌, List, [], length, ap}
+use Rattle.std.proofs.Common.{◌≡◌, ◌≢◌, ◌⊎◌, ℕ, ◌+◌, ◌-◌, ◌<◌, ◌≤◌, arith, rules, ◌*◌, ◌/◌, List, [], length, ap}
 use Rattle.std.proofs.Common.{zero, suc, get_or, refl, sym, ◌∙◌, Result}
 use Rattle.std.proofs.lemmas.Bool.Decides.{nat_tests}
 use Rattle.journal.specs.declared.log_format.LogFormat.{LogFormat}
 use Rattle.journal.specs.declared.log_format.LogFormat.TheVariants.{One, Two}
-use Rattle.journal.specs.Places.{limit_of, Shape, first_data_of}
-use Rattle.journal.specs.Layout.{Layout, part_at}
+use Rattle.journal.specs.Places.{limit_of, first_data_of}
+use Rattle.journal.specs.Layout.{Layout}
 use Rattle.journal.specs.Formats.{layout_of}
 use Rattle.journal.proofs.Format1Laws.{below_is, above_is}
 use Rattle.redo_log.specs.Value.{steps_for, most_steps, LogValue, of_oldest, next_calls, next_sends, turns_sends}
@@ -79,23 +79,6 @@ module _ (numbers bytes : List ℕ) (i p : ℕ) (below : i < length numbers) whe
   data_part Two stamp is =
       let i_is : p - (length (entries_of numbers bytes) + 29) / 30 ≡ i = omega (arith, is, many) in grind (arith, two.parts, block_is, many)
 
--- so the write of a block to its data place is that of the part
-pub block_makes : (shape : Shape) (stamp : ℕ) (numbers bytes : List ℕ) (i p slot place : ℕ) (old new : State)
-    (result : Result (Unit {0}) MediumFault) → i < length numbers
-    → p + 1 + length numbers ≡ (layout_of shape.format).parts (length numbers) + i → slot ≡ stamp % shape.slots
-    → place ≡ 2 + (layout_of shape.format).slot_sectors * slot + first_data_of shape.format + i
-    → MakesCall (Write place (placed shape.format stamp (slice_range bytes (512 * i) (512 * i + 512)))) result old new
-    → MakesCall
-    (Write (part_at (layout_of shape.format) shape stamp (length numbers) p)
-    ((layout_of shape.format).part stamp (entries_of numbers bytes) p))
-    result old new
-block_makes shape stamp numbers bytes i p slot place old new result below is slot_is at makes =
-    let L : Layout = layout_of shape.format in
-    let f : 2 + L.slot_sectors * slot ≡ 2 + L.slot_sectors * (stamp % shape.slots) = ap (λ (x : ℕ). 2 + L.slot_sectors * x) slot_is in
-    let place_is : place ≡ 2 + L.slot_sectors * (stamp % shape.slots) + L.offset (length numbers) p =
-    omega (arith, at, f, data_offset numbers bytes i p below shape.format is) in
-    rw (← place_is, ← data_part numbers bytes i p below shape.format stamp is) makes
-
 -- the early parts have a flush, where there are any
 pub flush_of_is : (e : ℕ) → ((e ≡ 0) × (flush_of e ≡ 0)) ⊎ ((0 < e) × (flush_of e ≡ 1))
 unfolding flush_of
@@ -153,22 +136,11 @@ few_steps_for format n few = grind (arith, few)
 pub steps_some : (format : LogFormat) (n : ℕ) → 0 < steps_for format n
 steps_some format n = grind arith
 
--- whether a call of a record is a flush
-abbrev pub flushes_in : Call → ℕ
-flushes_in (Write place bytes) = 0
-flushes_in Flush = 1
-
--- a call makes as many flushes as it is
-pub call_flushes : (call : Call) (old new : State) {result : Result (Unit {0}) MediumFault} → Passes (fault_of call) result old new
-    → new.made fault.Flush ≡ old.made fault.Flush + flushes_in call
-call_flushes call old new {result} passes = grind (arith, passes.others_made fault.Flush, passes.made_is)
-
 -- a flush is due with the last step, and in format 1 before the commit
 flushes_due : (format : LogFormat) (n made left : ℕ) → made + left ≡ steps_for format n → 0 < left
     → (IsFlushDue (layout_of format) n made × (step_flushes format left ≡ 1))
     ⊎ ((¬ IsFlushDue (layout_of format) n made) × (step_flushes format left ≡ 0))
-flushes_due One n made left sum some = grind (arith, nat_tests, written_is (n + 1) made, flush_of_is (n + 1), sum)
-flushes_due Two n made left sum some = grind (arith, nat_tests, written_is 0 made, flush_of_is 0, sum)
+flushes_due format n made left sum some = grind (arith, nat_tests, written_is, flush_of_is, sum)
 
 -- the next call of a record makes the flushes of the step
 pub step_flushed : {log : LogValue} → IsLog log → 0 < log.steps_left → {numbers : List ℕ} (bytes : List ℕ) → numbers ≡ log.under_way
@@ -181,7 +153,7 @@ step_flushed {log} is some {numbers} bytes same size call next {result} {old} {n
     let many : length log.under_way ≡ n = sym (length_of_batch numbers bytes ∙ ap (λ (l : List ℕ). length l) same) in
     let sum : made_of log + log.steps_left ≡ steps_for log.shape.format n =
     omega (arith, is.most_left, ap (λ (k : ℕ). steps_for log.shape.format k) many) in
-    grind (arith, flushes_due log.shape.format n (made_of log) log.steps_left sum some, next, call_flushes call old new passes)
+    grind (arith, flushes_due log.shape.format n (made_of log) log.steps_left sum some, next, passes.others_made fault.Flush, passes.made_is)
 
 pub head_turn : (stamp : ℕ) (turn : Turn) → IsHeadTurn stamp turn → (h : HeadOf) × (turn ≡ Head h) × (h.stamp ≡ stamp)
 head_turn stamp (Copy from to first) is = absurd is

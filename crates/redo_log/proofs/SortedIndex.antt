@@ -20,11 +20,8 @@ use Rattle.journal.specs.Sectors.{IsRising}
 abbrev pub blank : Copied
 blank = record { block = 0; slot = 0; place = 0 }
 
--- no entry before place i has the block
-abbrev NoneBefore : List Copied → ℕ → ℕ → Type 0
-NoneBefore index block i = (j : ℕ) → j < i → block_at index j ≢ block
-
-look-absent : (index : List Copied) (block : ℕ) → NoneBefore index block (length index) → look index block ≡ None
+-- a block that no entry has is not found
+look-absent : (index : List Copied) (block : ℕ) → ((i : ℕ) → i < length index → block_at index i ≢ block) → look index block ≡ None
 look-absent [] block none = refl
 look-absent (c ∷ index) block none =
     grind (arith, nat_tests, none 0 (omega arith), look-absent index block (λ j less. none (suc j) (omega arith)))

@@ -5,7 +5,7 @@ use Rattle.journal.specs.Values.{shape_of}
 use Rattle.redo_log.specs.Value.{LogValue}
 use Rattle.redo_log.specs.Shown.{kept_in, lists_of, ahead_in}
 use Rattle.redo_log.proofs.IndexRoom.{index_fewer}
-use Rattle.redo_log.proofs.LogRules.{ring_retired, ahead_retired}
+use Rattle.redo_log.proofs.LogRules.{ring_retired}
 use Rattle.redo_log.proofs.LogRules.{many_lists, log_is, one_waits, retired_of, retired_value}
 use Rattle.redo_log.proofs.log.Log.drop_oldest.Goals as goal
 
@@ -26,8 +26,6 @@ invariant_of-self c =
     let index = rw (← less) at (index_fewer i.sizes.slots i.head waiting i.index.items c.drop_slot.new.index.items c.self.invariant.index_is some
     (omega (arith, c.self.invariant.ring.fits)) c.drop_slot.ensures.sorted (rw c.slot_of.ensures at c.drop_slot.ensures.looks)) in
     let ring = rw (← less) at (ring_retired (shape_of i.sizes) waiting i.turned i.under_way.items i.made c.self.invariant.ring) in
-    let ahead =
-    ahead_retired (ahead_in i) i.head waiting (lists_of c.pop_front.new.self.items) i.turned 0 c.self.invariant.ahead_is in
     search (rules, arith)
 
 pub returns : goal.returns
