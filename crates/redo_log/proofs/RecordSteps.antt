@@ -29,7 +29,8 @@ use Rattle.redo_log.specs.Flushes.{next_turn_flushes, step_flushes, next_step_fl
 use Rattle.redo_log.specs.Steps.{CountsStep}
 use Rattle.redo_log.specs.Held.{turned_of, made_of}
 use Rattle.redo_log.specs.Turns.{counts_of, IsHeadTurn, IsNextTurn}
-use Rattle.redo_log.proofs.LogRules.{IsLog, oldest_few}
+use Rattle.redo_log.proofs.LogRules.{IsLog}
+use Rattle.std.proofs.lemmas.List.{get_or_past}
 
 -- a good write holds the bytes, and a refused one may
 pub either_way : {P Q : Type 0} (result : Result (Unit {0}) MediumFault) → OnOk result P → OnErr result (Q ⊎ P) → Q ⊎ P
@@ -182,4 +183,5 @@ sends_few (suc left) = grind (arith, sends_few left)
 
 -- those of the oldest record of a log
 pub few_of_oldest : {log : LogValue} → IsLog log → sends_of_oldest log ≤ most_retire_sends log.shape.format
-few_of_oldest {log} is = omega (arith, sends_few (of_oldest log), is.owed_most, oldest_few log.shape log.waiting is.each)
+few_of_oldest {log} is =
+    grind (arith, sends_few (of_oldest log), is.owed_most, is.each 0 [], get_or_past log.waiting 0 [])
