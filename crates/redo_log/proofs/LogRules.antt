@@ -1,16 +1,15 @@
 -- What is true of every log, as a caller sees it, whatever its fields are, and how its records come and go.
 use Rattle.std.proofs.Common.{◌≡◌, ◌⊎◌, ℕ, ◌+◌, ◌-◌, ◌%◌, ◌<◌, List, [], ◌∷◌, ◌++◌, length, drop, sym, ◌∙◌, arith}
-use Rattle.std.proofs.Common.{rules, length-append, length-drop, ◌≢◌, suc, ◌*◌, ◌≤◌, get_or, refl}
+use Rattle.std.proofs.Common.{rules, ◌≢◌, suc, ◌*◌, ◌≤◌, get_or, refl}
 use Rattle.std.proofs.Math.Nat.{mod-add-mod, mod-eq-sub-mod, mod-eq_of_lt, mul-le-mul_left}
 use Rattle.std.proofs.lemmas.Bool.Decides.{nat_tests}
 use Rattle.std.proofs.lemmas.Nat.{mod_below}
-use Rattle.std.specs.Prelude.{Option, Some, None, slice_index_or, All, Bool, sum_by}
-use Rattle.std.proofs.lemmas.List.Elements.{All-drop, All-push}
+use Rattle.std.specs.Prelude.{Option, slice_index_or, All, Bool, sum_by}
 use Rattle.arrayvec.specs.ArrayVec.{ArrayVec}
 use Rattle.journal.specs.Places.{Shape, limit_of}
 use Rattle.redo_log.specs.Value.{retire_steps_of, Ahead, AllFirsts, LogValue, HasRoom, most_retire_steps, steps_of}
 use Rattle.redo_log.specs.Value.{behind_oldest, of_oldest}
-use Rattle.redo_log.specs.Stages.{AreInside, IsOldest, IsRing, needed_at, IsAheadOf, value_at, IsRecord}
+use Rattle.redo_log.specs.Stages.{AreInside, needed_at, value_at, IsRecord}
 use Rattle.redo_log.specs.Stages.{IsSized}
 use Rattle.redo_log.specs.Shown.{lists_of, shown, Invariant}
 use Rattle.std.proofs.lemmas.List.{length-map}
@@ -29,28 +28,6 @@ needed_one ahead head behind left e = grind (arith, nat_tests, e)
 -- two are left, and the flush was made
 pub needed_covered : (ahead : Ahead) (head behind : ℕ) → ahead.home ≡ head → ahead.before < behind → needed_at ahead head behind 2 ≡ 1
 needed_covered ahead head behind same since = grind (arith, nat_tests)
-
--- a record becomes durable
-pub ahead_durable : (ahead : Ahead) (head : ℕ) (waiting : List (List ℕ)) (turned : ℕ) (numbers : List ℕ)
-    → IsAheadOf ahead head waiting turned → IsAheadOf ahead head (waiting ++ numbers ∷ []) turned
-ahead_durable ahead head [] turned numbers is = grind (arith, is)
-ahead_durable ahead head (n ∷ waiting) turned numbers is = grind (arith, is)
-
--- the record under way waits
-pub ring_durable : (shape : Shape) (waiting : List (List ℕ)) (turned : ℕ) (numbers : List ℕ) (made : ℕ)
-    → IsRing shape waiting turned numbers (Some made) → IsRing shape (waiting ++ numbers ∷ []) turned [] None
-ring_durable shape waiting turned numbers made ring =
-    let each = All-push (AreInside shape) waiting numbers ring.each ring.record_under_way.0 in
-    let longer = length-append waiting (numbers ∷ []) in
-    let oldest : IsOldest (waiting ++ numbers ∷ []) turned = grind (arith, ring.oldest) in search (rules, arith)
-
--- the oldest record is retired
-pub ring_retired : (shape : Shape) (waiting : List (List ℕ)) (turned : ℕ) (under_way : List ℕ) (made : Option ℕ)
-    → IsRing shape waiting turned under_way made → IsRing shape (drop 1 waiting) 0 under_way made
-ring_retired shape waiting turned under_way made ring =
-    let each = All-drop (AreInside shape) 1 waiting ring.each in
-    let fewer = length-drop 1 waiting in
-    let oldest : IsOldest (drop 1 waiting) 0 = grind arith in search (rules, arith)
 
 -- how many retire steps a record needs
 pub steps_of_one : (numbers : List ℕ)

@@ -5,7 +5,8 @@ use Rattle.journal.specs.Values.{shape_of}
 use Rattle.redo_log.specs.Value.{LogValue}
 use Rattle.redo_log.specs.Shown.{kept_in, lists_of, ahead_in}
 use Rattle.redo_log.proofs.IndexRoom.{index_fewer}
-use Rattle.redo_log.proofs.LogRules.{ring_retired}
+use Rattle.std.proofs.lemmas.List.Elements.{All-drop}
+use Rattle.redo_log.specs.Stages.{AreInside, IsOldest}
 use Rattle.redo_log.proofs.LogRules.{many_lists, log_is, one_waits, retired_of, retired_value}
 use Rattle.redo_log.proofs.log.Log.drop_oldest.Goals as goal
 
@@ -25,7 +26,9 @@ invariant_of-self c =
     let less = lists_less i.waiting.items c.pop_front.ensures.rest in
     let index = rw (← less) at (index_fewer i.sizes.slots i.head waiting i.index.items c.drop_slot.new.index.items c.self.invariant.index_is some
     (omega (arith, c.self.invariant.ring.fits)) c.drop_slot.ensures.sorted (rw c.slot_of.ensures at c.drop_slot.ensures.looks)) in
-    let ring = rw (← less) at (ring_retired (shape_of i.sizes) waiting i.turned i.under_way.items i.made c.self.invariant.ring) in
+    let each = rw (← less) at (All-drop (AreInside (shape_of i.sizes)) 1 waiting c.self.invariant.ring.each) in
+    let oldest : IsOldest (lists_of c.pop_front.new.self.items) 0 = grind arith in
+    let shorter = rw (← less) at (length-drop 1 waiting) in
     search (rules, arith)
 
 pub returns : goal.returns
