@@ -4,10 +4,12 @@ use Rattle.std.proofs.Common.{Some, None, Option, refl, sym, ◌∙◌, arith, a
 use Rattle.std.specs.Prelude.{All, map, slice_index, Contains}
 use Rattle.std.specs.Cmp.{nat_eq_equiv}
 use Rattle.std.specs.List.{flat_map}
+use Rattle.std.proofs.lemmas.Bool.Decides.{nat_tests}
 use Rattle.std.proofs.lemmas.Bool.{cases_lt, eq-eqb, ne_eqb, eqb-true}
 use Rattle.std.proofs.lemmas.List.{length-map, get_or-map, get_or_append_left, get_or_at, get_or_default}
 use Rattle.std.proofs.lemmas.List.Concat.{length-flat_map}
-use Rattle.std.proofs.lemmas.List.Elements.{All-contains, All-from_get_or, All-map, Contains-append_left, Contains-append_right, Contains-get_or}
+use Rattle.std.proofs.lemmas.List.Elements.{All-contains, All-from_get_or, All-map, Contains-append_left}
+use Rattle.std.proofs.lemmas.List.Elements.{Contains-append_right, Contains-get_or}
 use Rattle.std.proofs.lemmas.List.Sums.{sum_by-le}
 use Rattle.std.proofs.lemmas.Map.Keys.{IsDistinct-from_apart}
 use Rattle.std.proofs.lemmas.Map.Made.{length-le_from_is_member}
@@ -39,15 +41,14 @@ record_room slots stamp most records index is free small room count few enough =
     let n = rw (look_found index is.sorted i (block_at index i) below refl) at (is.finds (block_at index i)) in
     in_all records n.age (block_at index i) n.waits
     (rw n.named at (Contains-get_or (get_or records n.age []) (get_or index i blank).place 0 n.inside)))) in
-    let apart = IsDistinct-from_apart eqb (map f index) (λ i j d less inside.
-    let below : j < length index = omega (arith, inside, length-map index f) in
-    rw (get_or-map f index i blank d (omega (arith, less, below)), get_or-map f index j blank d below)
-    (ne_eqb (block_at index i) (block_at index j) (λ same. omega (arith, is.sorted i j blank less below, same)))) in
+    let apart = IsDistinct-from_apart eqb (map f index) (λ i j d less inside. grind (arith, nat_tests, length-map index f,
+    get_or-map f index i blank d, get_or-map f index j blank d, is.sorted i j blank, inside)) in
     let all = length-le_from_is_member nat_eq_equiv (map f index) (all_of records) apart
     (λ q some. list_any-from_Contains nat_eq_equiv q (all_of records)
     (All-contains (Contains (all_of records)) (map f index) q each (Contains-from_any eqb-true q (map f index) some))) in
     let more : most * (length records + 1) ≤ most * slots = mul-le-mul_left most (omega (arith, free)) in
-    omega (arith, all, length-map index f, length-flat_map (λ r. r) records, sum_by-le (λ r. length r) most records small, few, enough, more)
+    let sum = sum_by-le (λ r. length r) most records small in
+    omega (arith, all, length-map index f, length-flat_map (λ r. r) records, sum, few, enough, more)
 
 module _ (records : List (List ℕ)) (numbers : List ℕ) (b : ℕ)
     (unnamed : (k : ℕ) → 0 ≤ k → k < length numbers → slice_index numbers k ≢ b) where

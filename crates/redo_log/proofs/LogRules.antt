@@ -127,7 +127,8 @@ pub few_begun : {log : LogValue} → IsLog log → HasRoom log → (numbers : Li
 few_begun {log} is room numbers few =
     let most = limit_of log.shape.format + 2 in
     let all : most * (length log.waiting + 1) ≤ most * log.shape.slots = mul-le-mul_left most (omega (arith, is.taken, room.free)) in
-    let owed = few_owed log.shape most (omega arith) log.waiting is.each (of_oldest log) (λ none. omega (arith, is.alone none)) is.owed_most in
+    let owed = few_owed log.shape most (omega arith) log.waiting is.each (of_oldest log) (λ none. omega (arith, is.alone none))
+    is.owed_most in
     grind (arith, owed, all, few, room.none_under_way)
 
 module _ (log : LogValue) where

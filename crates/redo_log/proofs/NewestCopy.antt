@@ -73,7 +73,8 @@ with_records-none : (records : List (List Entry)) (a : Array) (b : ℕ)
     → ((age : ℕ) → age < length (named records) → ¬ Contains (get_or (named records) age []) b) → with_records records a b ≡ a b
 with_records-none [] a b none = refl
 with_records-none (r ∷ records) a b none =
-    with_records-none records (with_blocks r a) b (λ age below. none (suc age) (omega arith)) ∙ with_blocks-none r a b (none 0 (omega arith))
+    with_records-none records (with_blocks r a) b (λ age below. none (suc age) (omega arith))
+    ∙ with_blocks-none r a b (none 0 (omega arith))
 
 -- the newest record that names the block gives it
 with_records-at : (records : List (List Entry)) (a : Array) (b age i : ℕ) → age < length (named records)
@@ -93,7 +94,8 @@ module _ (log : LogValue) (m : State) (view : View) (holds : HoldsView log m vie
   -- a block without a logged copy is read at home
   pub home_is : (b : ℕ) → b < log.shape.blocks → HasNoCopy log b → m.content (first_home log.shape + b) ≡ view.array b
   home_is b below none =
-      sym (with_records-none view.records (home_of log.shape m.content) b (rw holds.durable at none)) ∙ (holds.stores live).laid.blocks b below
+      sym (with_records-none view.records (home_of log.shape m.content) b (rw holds.durable at none))
+      ∙ (holds.stores live).laid.blocks b below
 
   -- the newest copy of a block is in a whole record, and has its bytes, with the first ones that are kept
   pub copy_is : IsLog log → (b slot place : ℕ) → (copy : IsNewestCopy log b slot place) → (place < length (get_or view.records copy.age []))

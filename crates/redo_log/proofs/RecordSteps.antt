@@ -154,7 +154,8 @@ step_flushed {log} is some {numbers} bytes same size call next {result} {old} {n
     let many : length log.under_way ≡ n = sym (length_of_batch numbers bytes ∙ ap (λ (l : List ℕ). length l) same) in
     let sum : made_of log + log.steps_left ≡ steps_for log.shape.format n =
     omega (arith, is.most_left, ap (λ (k : ℕ). steps_for log.shape.format k) many) in
-    grind (arith, flushes_due log.shape.format n (made_of log) log.steps_left sum some, next, passes.others_made fault.Flush, passes.made_is)
+    let due = flushes_due log.shape.format n (made_of log) log.steps_left sum some in
+    grind (arith, due, next, passes.others_made fault.Flush, passes.made_is)
 
 pub head_turn : (stamp : ℕ) (turn : Turn) → IsHeadTurn stamp turn → (h : HeadOf) × (turn ≡ Head h) × (h.stamp ≡ stamp)
 head_turn stamp (Copy from to first) is = absurd is

@@ -108,7 +108,8 @@ module _ {old : List Copied} {slot : ℕ} {numbers : List ℕ} (index back : Lis
   front_rises : (i j : ℕ) (d : Copied) → i < j → j < was → (get_or index i d).block < (get_or index j d).block
   front_rises i j d less below =
       let long = length-take-le was index fits in
-      grind (arith, entered.sorted i j d, get_or_append_left (take was index) back d, get_or-take was index, length-append (take was index) back, long)
+      let all = get_or_append_left (take was index) back d in
+      grind (arith, entered.sorted i j d, all, get_or-take was index, length-append (take was index) back, long)
 
   long : length (take left index) ≡ left
   long = length-take-le left index (omega (arith, ends, fits))
@@ -122,7 +123,8 @@ module _ {old : List Copied} {slot : ℕ} {numbers : List ℕ} (index back : Lis
       (λ i j d less below. grind (arith, get_or-take left index i d, get_or-take left index j d, front_rises i j d, below, long, ends))
       (AllPairs-cons (λ x. Above x.block) e back above (λ i j d less below.
           let front = take was index in
-          grind (arith, get_or-append-add front back, entered.sorted (length front + i) (length front + j) d, length-append front back, below)))
+          let up = entered.sorted (length front + i) (length front + j) d in
+          grind (arith, get_or-append-add front back, up, length-append front back, below)))
       (λ i d less. All-cons (Above (get_or (take left index) i d).block) e back (low i d less)
           (λ j f inside. omega (arith, low i d less, above j f inside)))
 

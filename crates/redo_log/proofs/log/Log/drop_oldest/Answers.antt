@@ -24,8 +24,9 @@ invariant_of-self c =
     let fewer = rw (← c.pop_front.ensures.rest) at (length-drop 1 i.waiting.items) in
     let firsts = rw (← c.pop_front-2.ensures.rest) at (length-drop 1 i.firsts.items) in
     let less = lists_less i.waiting.items c.pop_front.ensures.rest in
-    let index = rw (← less) at (index_fewer i.sizes.slots i.head waiting i.index.items c.drop_slot.new.index.items c.self.invariant.index_is some
-    (omega (arith, c.self.invariant.ring.fits)) c.drop_slot.ensures.sorted (rw c.slot_of.ensures at c.drop_slot.ensures.looks)) in
+    let index = rw (← less) at (index_fewer i.sizes.slots i.head waiting i.index.items c.drop_slot.new.index.items
+    c.self.invariant.index_is some (omega (arith, c.self.invariant.ring.fits))
+    c.drop_slot.ensures.sorted (rw c.slot_of.ensures at c.drop_slot.ensures.looks)) in
     let each = rw (← less) at (All-drop (AreInside (shape_of i.sizes)) 1 waiting c.self.invariant.ring.each) in
     let oldest : IsOldest (lists_of c.pop_front.new.self.items) 0 = grind arith in
     let shorter = rw (← less) at (length-drop 1 waiting) in

@@ -28,7 +28,8 @@ returns-clause-keeps g c =
     record {
       quiet = quiet;
       holds = λ view holds. quiet_held log view old new quiet holds;
-      cuts = λ view holds ours. quiet_leaves (MayLeave old.size log view) old new (g.met.M.Medium.sound c.args.m.now) (holds.leaves ours) quiet;
+      cuts = λ view holds ours.
+          quiet_leaves (MayLeave old.size log view) old new (g.met.M.Medium.sound c.args.m.now) (holds.leaves ours) quiet;
       looks = rw (← c.self.view_is) c.read_copy.ensures.reads.looks;
       follows = c.read_copy.ensures.reads.follows;
     }

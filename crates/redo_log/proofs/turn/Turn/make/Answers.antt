@@ -8,7 +8,8 @@ returns-in-Copy-clause-makes g c =
 
 pub returns-in-Copy-clause-looks : goal.returns-in-Copy-clause-looks
 returns-in-Copy-clause-looks g c end before =
-    look_below end (g.M.Medium.state c.args.m.now) (g.M.Medium.state c.copy_sector.new.m) _ (rw c.in-Copy.is at before) c.copy_sector.ensures.looks
+    look_below end (g.M.Medium.state c.args.m.now) (g.M.Medium.state c.copy_sector.new.m) _ (rw c.in-Copy.is at before)
+    c.copy_sector.ensures.looks
 
 pub returns-in-Flush-clause-looks : goal.returns-in-Flush-clause-looks
 returns-in-Flush-clause-looks g c end before =
