@@ -1,9 +1,9 @@
-use Rattle.std.proofs.Common.{◌≡◌, ◌≢◌, ◌+◌, ◌<◌, length, arith, rules}
+use Rattle.std.proofs.Common.{◌≡◌, ◌≢◌, ◌+◌, length, arith, rules}
 use Rattle.medium.specs.declared.fault.MediumFault.TheVariants as fault
 use Rattle.medium.proofs.Moments.{one_call}
 use Rattle.medium.proofs.SectorsRead.{no_looks}
 use Rattle.medium.proofs.SparedSectors.{spared_behind}
-use Rattle.journal.specs.Places.{first_home, sectors_of}
+use Rattle.journal.specs.Places.{first_home}
 use Rattle.journal.specs.Record.{entries_of}
 use Rattle.redo_log.specs.Calls.{Call, MakesNext, fault_of}
 use Rattle.redo_log.specs.Held.{View, HoldsView, made_of}
@@ -43,10 +43,10 @@ returns g c =
           search rules;
       leaves = record {
         cuts = cuts;
-        moments = one_call (λ _. Unit {0}) old new sound made.passes (λ image cut. tt) (λ image cut. tt);
-        spares = spared_behind (first_home log.shape) (sectors_of log.shape) old new (omega arith)
+        moments = one_call _ _ _ sound made.passes (λ image cut. tt) (λ image cut. tt);
+        spares = spared_behind _ _ _ _ (omega arith)
             (made.spares (first_home log.shape) here.inside);
-        looks = no_looks (λ s. s < first_home log.shape) old new (made.passes.looked_stays (no_read here.call));
+        looks = no_looks _ _ _ (made.passes.looked_stays (no_read here.call));
       };
       dead = λ view holds. dead_held holds new (g.met.M.Medium.sound c.make_next.new.m) made.passes.size_stays (cuts view holds);
       counted = λ view holds entries progress then stepped.

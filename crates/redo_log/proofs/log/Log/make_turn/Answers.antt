@@ -29,7 +29,7 @@ returns-clause-brings g c =
       passes = let calls = counts_next is c.requires.owed turn next.next c.make.ensures.counts in search rules;
       leaves = record {
         cuts = cuts;
-        moments = weaker _ (λ _. Unit {0}) old new (λ image left. tt) spares.moments;
+        moments = weaker _ _ _ _ (λ image left. tt) spares.moments;
         spares = spares;
         looks = c.make.ensures.looks (first_home log.shape) next.reads;
       };

@@ -19,5 +19,5 @@ returns-then-is_empty g c = record {
   answers = grind (arith, common_steps);
   passes = grind (arith, common_steps);
   holds = search rules;
-  leaves = leaves_none c.args.self.now (g.M.Medium.state c.args.m.now) (g.met.M.Medium.sound c.args.m.now);
+  leaves = leaves_none _ _ (g.met.M.Medium.sound c.args.m.now);
 }

@@ -3,7 +3,6 @@ use Rattle.std.proofs.lemmas.Result.{on_ok_weaker}
 use Rattle.medium.proofs.Moments.{one_call}
 use Rattle.medium.proofs.SectorsRead.{no_looks}
 use Rattle.medium.proofs.SparedSectors.{spared_write}
-use Rattle.journal.specs.Places.{first_home, sectors_of}
 use Rattle.redo_log.specs.Value.{of_oldest}
 use Rattle.redo_log.specs.Held.{View, HoldsView}
 use Rattle.redo_log.proofs.OneSector.{one_write}
@@ -34,10 +33,10 @@ returns g c =
       passes = grind (arith, common_steps);
       leaves = record {
         cuts = cuts;
-        moments = one_call (λ _. Unit {0}) old new sound passes (λ image cut. tt) (λ image cut. tt);
-        spares = spared_write (sectors_of log.shape) old new 1 c.encode.result sound (omega (arith, is.sized.behind)) passes
+        moments = one_call _ _ _ sound passes (λ image cut. tt) (λ image cut. tt);
+        spares = spared_write _ _ _ _ _ sound (omega (arith, is.sized.behind)) passes
             c.write.ensures.sets (either_way c.write.result c.write.ensures.ok c.write.ensures.err);
-        looks = no_looks (λ s. s < first_home log.shape) old new (passes.looked_stays (λ e. cc e));
+        looks = no_looks _ _ _ (passes.looked_stays (λ e. cc e));
       };
       dead = λ view holds. dead_held holds new (g.met.M.Medium.sound c.write.new.self) passes.size_stays (cuts view holds);
       counted = λ view holds then stepped.
