@@ -1,6 +1,5 @@
 pub mod OneSector
 pub mod RecordSteps
-pub mod IndexRoom
 pub mod NewestCopy
 pub mod GuardedCalls
 pub mod StoreFacts

@@ -8,8 +8,7 @@ use Rattle.journal.specs.declared.log_format.LogFormat.{LogFormat}
 use Rattle.journal.specs.SectorsTwo.{firsts_of}
 use Rattle.journal.specs.Record.{Entry, numbers_of, block_of, with_blocks, with_records, home_of}
 use Rattle.journal.specs.Copies.{first_of}
-use Rattle.redo_log.specs.Value.{AllFirsts, with_firsts, LogValue, IsNewestCopy, HasNoCopy}
-use Rattle.redo_log.specs.Firsts.{first_kept}
+use Rattle.redo_log.specs.Value.{AllFirsts, with_firsts, LogValue, IsNewestCopy, HasNoCopy, first_kept}
 use Rattle.redo_log.specs.Held.{kept_firsts, View, HoldsView}
 use Rattle.std.specs.Prelude.{false, map, slice_index, Contains}
 use Rattle.std.proofs.lemmas.Bool.Decides.{nat_tests}

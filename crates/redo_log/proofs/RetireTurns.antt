@@ -24,7 +24,7 @@ use Rattle.journal.proofs.RetiredRecord.{IsWholeIn-same}
 use Rattle.redo_log.specs.declared.turn.Turn.{Turn}
 use Rattle.redo_log.specs.declared.turn.Turn.TheVariants.{Copy, Flush, Head}
 use Rattle.redo_log.specs.Value.{LogValue, Ahead, IsSentHome, IsRetireStepped, of_oldest, ahead_of}
-use Rattle.redo_log.specs.Firsts.{first_kept}
+use Rattle.redo_log.specs.Value.{first_kept}
 use Rattle.redo_log.specs.Calls.{gaining, WritesOnly}
 use Rattle.redo_log.specs.Turns.{head_bytes, MayTurn, IsTurned, IsNextTurn}
 use Rattle.redo_log.specs.Held.{View, view_retired, made_of, turned_of, needed_of, image_view, MayLeave, Safe}

@@ -6,7 +6,6 @@ pub mod Index
 pub mod Stages
 pub mod Flushes
 pub mod Calls
-pub mod Firsts
 pub mod Turns
 pub mod Shown
 pub mod Steps

@@ -9,8 +9,7 @@ use Rattle.journal.specs.Spelling.{spelling, head_mark}
 use Rattle.journal.specs.Layout.{slot_at}
 use Rattle.journal.specs.Formats.{layout_of}
 pub use Rattle.journal.specs.Copies.{begun_with}
-use Rattle.redo_log.specs.Value.{AllFirsts}
-use Rattle.redo_log.specs.Firsts.{first_kept}
+use Rattle.redo_log.specs.Value.{AllFirsts, first_kept}
 use Rattle.redo_log.specs.Calls.{WritesOnly}
 use Rattle.redo_log.specs.declared.turn.Turn.{Turn}
 use Rattle.redo_log.specs.declared.turn.Turn.TheVariants.{Copy, Flush, Head}

@@ -3,8 +3,7 @@ ghost use Rattle.std.specs.Prelude.{◌≡◌, ◌≤◌, ◌<◌, ◌%◌, ◌+
 ghost use Rattle.std.specs.VecDeque.{deque_len, deque_capacity};
 ghost use Rattle.journal.specs.SectorsTwo.{firsts_of};
 ghost use Rattle.journal.specs.Record.{entries_of};
-ghost use Rattle.redo_log.specs.Value.{with_firsts};
-ghost use Rattle.redo_log.specs.Firsts.{first_kept};
+ghost use Rattle.redo_log.specs.Value.{with_firsts, first_kept};
 ghost use Rattle.redo_log.specs.Shown.{lists_of};
 
 use journal::{Firsts, LogFormat, first_bytes};

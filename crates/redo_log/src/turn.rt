@@ -7,9 +7,8 @@ ghost use Rattle.redo_log.specs.Calls.{CallsUpTo};
 ghost use Rattle.redo_log.specs.Shown.{lists_of};
 ghost use Rattle.redo_log.specs.Turns.{begun_with, counts_of};
 ghost use Rattle.redo_log.specs.Turns.{IsInside, MakesTurn, ReadsBefore, WritesSector};
-ghost use Rattle.redo_log.specs.Firsts.{first_kept};
-ghost use Rattle.redo_log.specs.Turns.{StaysInImage, IsHomeTurn, IsHeadTurn};
-ghost use Rattle.redo_log.specs.Turns.{IsNextTurn};
+ghost use Rattle.redo_log.specs.Value.{first_kept};
+ghost use Rattle.redo_log.specs.Turns.{StaysInImage, IsHomeTurn, IsHeadTurn, IsNextTurn};
 
 use crate::firsts::first_kept;
 use journal::{Firsts, Head, Super, copy_place, put_first, slot_of};

@@ -4,7 +4,7 @@ use Rattle.arrayvec.specs.ArrayVec.{ArrayVec}
 use Rattle.journal.specs.Values.{shape_of}
 use Rattle.redo_log.specs.Value.{LogValue}
 use Rattle.redo_log.specs.Shown.{kept_in, lists_of, ahead_in}
-use Rattle.redo_log.proofs.IndexRoom.{index_fewer}
+use Rattle.redo_log.proofs.SortedIndex.{index_fewer}
 use Rattle.std.proofs.lemmas.List.Elements.{All-drop}
 use Rattle.redo_log.specs.Stages.{AreInside, IsOldest}
 use Rattle.redo_log.proofs.LogRules.{many_lists, log_is, one_waits, retired_of, retired_value}

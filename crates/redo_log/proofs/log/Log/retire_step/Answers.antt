@@ -2,7 +2,6 @@ use Rattle.std.proofs.Common.{◌<◌, length, arith, rules}
 use Rattle.std.proofs.lemmas.Grind.{common_steps}
 use Rattle.redo_log.proofs.HeldLog.{leaves_none}
 use Rattle.redo_log.proofs.LogRules.{log_is, many_lists}
-use Rattle.std.proofs.lemmas.Grind.{common_steps}
 use Rattle.redo_log.proofs.log.Log.retire_step.Goals as goal
 
 
