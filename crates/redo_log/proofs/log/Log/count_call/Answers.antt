@@ -28,7 +28,6 @@ invariant_of-self-2 c =
     (grind (arith, c.self.invariant.ahead_is, length-append records, get_or_append_left records (i.under_way.items ∷ []) [] 0)) in
     let longer = rw (← waiting) at (length-append records (i.under_way.items ∷ [])) in
     let many = many_lists i.waiting.items in
-    let more = many_lists c.push_back_reserved.new.self.items in
     search (rules, arith)
 
 pub enter_record-requires-clause-numbers : goal.enter_record-requires-clause-numbers

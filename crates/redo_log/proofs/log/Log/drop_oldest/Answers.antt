@@ -29,7 +29,6 @@ invariant_of-self c =
     c.drop_slot.ensures.sorted (rw c.slot_of.ensures at c.drop_slot.ensures.looks)) in
     let each = rw (← less) at (All-drop (AreInside (shape_of i.sizes)) 1 waiting c.self.invariant.ring.each) in
     let oldest : IsOldest (lists_of c.pop_front.new.self.items) 0 = grind arith in
-    let shorter = rw (← less) at (length-drop 1 waiting) in
     search (rules, arith)
 
 pub returns : goal.returns

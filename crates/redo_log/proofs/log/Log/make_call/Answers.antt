@@ -48,7 +48,7 @@ returns g c =
             (made.spares (first_home log.shape) here.inside);
         looks = no_looks _ _ _ (made.passes.looked_stays (no_read here.call));
       };
-      dead = λ view holds. dead_held holds new (g.met.M.Medium.sound c.make_next.new.m) made.passes.size_stays (cuts view holds);
+      dead = λ view holds. dead_held holds _ (g.met.M.Medium.sound c.make_next.new.m) made.passes.size_stays (cuts view holds);
       counted = λ view holds entries progress then stepped.
           counted_held is live some sound holds bytes c.requires.numbers c.requires.bytes here entries then progress stepped;
       durable = λ view holds entries ours then stepped.

@@ -17,8 +17,6 @@ pub returns : goal.returns
 returns g c =
     let i = c.self.inside in
     let log = c.args.self.now in
-    let old = g.M.Medium.state c.args.m.now in
-    let new = g.M.Medium.state c.write.new.self in
     let sound = g.met.M.Medium.sound c.args.m.now in
     let is = log_is i c.self.view_is c.self.invariant in
     let live = c.requires.on.live in
@@ -27,8 +25,8 @@ returns g c =
     let h = c.new.result in
     let stamp : h.stamp ≡ log.head + 1 = rw (← c.self.view_is) c.new.ensures in
     let passes = c.write.ensures.passes in
-    let adds = rw c.encode.ensures.spelled at (one_write 1 c.encode.result old sound new passes c.write.ensures.sets) in
-    let cuts = λ (view : View) (holds : HoldsView log old view). head_leaves is live owed sound holds one h stamp new adds in
+    let adds = rw c.encode.ensures.spelled at (one_write 1 c.encode.result _ sound _ passes c.write.ensures.sets) in
+    let cuts = λ (view : View) (holds : HoldsView log (g.M.Medium.state c.args.m.now) view). head_leaves is live owed sound holds one h stamp _ adds in
     record {
       passes = grind (arith, common_steps);
       leaves = record {
@@ -38,11 +36,11 @@ returns g c =
             c.write.ensures.sets (either_way c.write.result c.write.ensures.ok c.write.ensures.err);
         looks = no_looks _ _ _ (passes.looked_stays (λ e. cc e));
       };
-      dead = λ view holds. dead_held holds new (g.met.M.Medium.sound c.write.new.self) passes.size_stays (cuts view holds);
+      dead = λ view holds. dead_held holds _ (g.met.M.Medium.sound c.write.new.self) passes.size_stays (cuts view holds);
       counted = λ view holds then stepped.
           on_ok_weaker c.write.result
-          (λ wrote. retired_held is live owed sound holds one h stamp new then stepped
-          (ahead_held is live owed sound holds one h stamp new c.requires.can.besides passes.size_stays adds.sets
+          (λ wrote. retired_held is live owed sound holds one h stamp _ then stepped
+          (ahead_held is live owed sound holds one h stamp _ c.requires.can.besides passes.size_stays adds.sets
           (rw c.encode.ensures.spelled at wrote)))
           c.write.ensures.ok;
     }
