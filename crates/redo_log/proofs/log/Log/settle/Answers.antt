@@ -7,7 +7,6 @@ returns-then-self-clause-covered c = (
   λ no. absurd (cc no),
   λ covered.
       let left = left_of c.self.inside c.self.view_is c.in-Some.first.now (search rules) c.in-Some.ensures.lookup in
-      let home = rw (← c.self.view_is) at covered in
       let many = many_lists c.self.inside.waiting.items in
       search (rules, arith),
 )
