@@ -3,7 +3,6 @@ use Rattle.std.proofs.Common.{◌≡◌, ◌⊎◌, ℕ, ◌+◌, ◌-◌, ◌%�
 use Rattle.std.proofs.Common.{rules, ◌≢◌, suc, ◌*◌, ◌≤◌, get_or, refl}
 use Rattle.std.proofs.Math.Nat.{mod-add-mod, mod-eq-sub-mod, mod-eq_of_lt, mul-le-mul_left}
 use Rattle.std.proofs.lemmas.Bool.Decides.{nat_tests}
-use Rattle.std.proofs.lemmas.Nat.{mod_below}
 use Rattle.std.specs.Prelude.{Option, slice_index_or, All, Bool, sum_by}
 use Rattle.arrayvec.specs.ArrayVec.{ArrayVec}
 use Rattle.journal.specs.Places.{Shape, limit_of}
@@ -36,7 +35,6 @@ steps_of_one numbers = grind arith
 -- how old the record in a slot is
 pub age_is : (slots head age slot : ℕ) → age < slots → slot ≡ (head + age) % slots → (slot + slots - head % slots) % slots ≡ age
 age_is slots head age slot near is =
-    let low : head % slots < slots = mod_below head slots (omega (arith, near)) in
     let sum : slot ≡ (head % slots + age) % slots = is ∙ sym (mod-add-mod head slots age) in
     grind (arith, mod-eq-sub-mod, mod-eq_of_lt)
 

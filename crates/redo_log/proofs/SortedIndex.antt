@@ -1,6 +1,6 @@
 -- The index, entries that are sorted by block: what a search finds, how a record's block numbers merge in, that there is room for them, and what it is then.
 use Rattle.std.proofs.Common.{◌≡◌, ◌≢◌, ℕ, suc, ◌-◌, ◌<◌, ◌≤◌, List, [], ◌∷◌, length, get_or, if◌then◌else◌, Some, None}
-use Rattle.std.proofs.Common.{Less, Greater, refl, ap, arith, ◌⊎◌, inl, inr, ◌+◌, ◌++◌, take, drop, set, sym, ◌∙◌}
+use Rattle.std.proofs.Common.{Less, Greater, refl, arith, ◌⊎◌, inl, inr, ◌+◌, ◌++◌, take, drop, set, sym, ◌∙◌}
 use Rattle.std.proofs.Common.{append_assoc, rules, length-append, zero, ◌*◌, ◌%◌, Option, add-zero, eqb}
 use Rattle.std.specs.Prelude.{Bool, true, false, ◌==◌, slice_index, All, map, Contains}
 use Rattle.std.specs.List.{filter, AllPairs, remove_range, flat_map}
@@ -51,8 +51,6 @@ pub look_parted : (index : List Copied) → IsSorted index → (block at : ℕ)
     → look index block ≡ None
 look_parted index sorted block at parted =
     let rising : IsNonDecreasingBy (λ c. ordering_index (nat_cmp c.block block)) index = λ i j d le inside.
-    let block_of = λ (k : ℕ). (get_or index k d).block in
-    let rise : block_of i ≤ block_of j = grind (arith, sorted i j d, λ (same : i ≡ j). ap block_of same) in
     grind (arith, nat_tests) in
     look-absent index block (λ j less same. grind (arith, nat_tests, (parted rising).0 j blank, (parted rising).1 j blank, same))
 

@@ -2,9 +2,9 @@ use Rattle.std.proofs.Common.{◌≡◌, ℕ, ◌+◌, vec_capacity, List, lengt
 use Rattle.arrayvec.specs.ArrayVec.{ArrayVec}
 use Rattle.journal.specs.Places.{limit_of}
 use Rattle.journal.specs.Values.{shape_of}
-use Rattle.redo_log.specs.Stages.{AreInside, IsAheadOf}
-use Rattle.redo_log.specs.Shown.{lists_of, ahead_in}
-use Rattle.std.proofs.lemmas.List.{map_push, get_or_append_left}
+use Rattle.redo_log.specs.Stages.{AreInside}
+use Rattle.redo_log.specs.Shown.{lists_of}
+use Rattle.std.proofs.lemmas.List.{map_push}
 use Rattle.std.proofs.lemmas.List.Elements.{All-push}
 use Rattle.redo_log.proofs.SortedIndex.{record_room, index_more}
 use Rattle.redo_log.proofs.LogRules.{many_lists}
@@ -23,8 +23,6 @@ invariant_of-self-2 c =
     let each = rw (← waiting) at (All-push (AreInside (shape_of i.sizes)) records i.under_way.items ring.each ring.record_under_way.0) in
     let index = rw (← waiting) at (index_more i.sizes.slots i.head records i.under_way.items i.index.items c.enter_record.new.index.items
     c.self.invariant.index_is (rw (numbers, c.slot_of.ensures, stamp) at c.enter_record.ensures.enters)) in
-    let ahead : IsAheadOf (ahead_in i) i.head (lists_of c.push_back_reserved.new.self.items) i.turned = rw waiting
-    (grind (arith, c.self.invariant.ahead_is, length-append records, get_or_append_left records (i.under_way.items ∷ []) [] 0)) in
     let longer = rw (← waiting) at (length-append records (i.under_way.items ∷ [])) in
     search (rules, arith)
 
