@@ -16,8 +16,7 @@ use Rattle.journal.proofs.StandingLaws.{StandsFor-one}
 use Rattle.recovery.specs.Recovered as recovered
 use Rattle.recovery.specs.Recovered.{IsRecoveredFrom, IsOursForSome}
 use Rattle.recovery.specs.declared.recovered.Recovered.{Recovered}
-use Rattle.redo_log.specs.Logged.{HasNoRecord}
-use Rattle.redo_log.specs.Held.{resting_view, HoldsView}
+use Rattle.redo_log.specs.Held.{resting_view, HasNoRecord, HoldsView}
 use Rattle.redo_log.specs.Value.{idle_from}
 use Rattle.redo_log.proofs.StoreFacts.{idle_holds}
 use Rattle.cache.specs.Entries.{Entries}

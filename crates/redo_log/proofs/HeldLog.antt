@@ -1,30 +1,215 @@
--- What follows of what a log and its medium hold, and what they hold where only its counts change.
-use Rattle.std.proofs.Common.{◌≡◌, ℕ, ◌+◌, ◌-◌, ◌<◌, ◌≤◌, [], length, get_or, refl, ◌∙◌, ap, ⊎_elim, arith, rules, ◌*◌}
-use Rattle.std.proofs.Common.{List, sym}
-use Rattle.std.specs.Prelude.{Bool, true, false, Result, Ok, Err, OnOk, is_err, All}
-use Rattle.std.proofs.lemmas.List.{length-map}
+-- What guards a log against a cut, and what a log and its medium hold together.
+use Rattle.std.proofs.Common.{◌≡◌, ◌⊎◌, inl, inr, ⊎_elim, ℕ, ◌+◌, ◌<◌, ◌≤◌, List, [], ◌∷◌, ◌++◌, length, arith, rules, zero, suc, get_or}
+use Rattle.std.proofs.Common.{refl, ap, length-append, append_assoc, add-zero, ◌-◌, ◌∙◌, ◌^◌}
+use Rattle.std.proofs.lemmas.Bool.{cases_lt, cases_eq}
+use Rattle.std.proofs.lemmas.List.{nil_from_length, get_or-append-add, length-map}
+use Rattle.std.specs.Prelude.{map, Bool, true, false, Result, Ok, Err, OnOk, is_err, All}
 use Rattle.std.proofs.Math.ListN.{get_or-map}
-use Rattle.medium.specs.Medium.{State, IsSound}
+use Rattle.medium.specs.Medium.{Image, State, Stays, CutLeaves, IsSound}
 use Rattle.medium.specs.Moments.{EachCut, LeavesOnly, IsQuiet}
+use Rattle.medium.proofs.Moments.{content_has, updated, updated_here, updated_elsewhere, at_exit, shrunk, started}
 use Rattle.medium.specs.declared.fault.MediumFault.{MediumFault}
-use Rattle.medium.proofs.Moments.{at_exit, shrunk, started}
 use Rattle.medium.proofs.SectorsRead.{no_looks}
 use Rattle.medium.proofs.SparedSectors.{spared_start}
-use Rattle.journal.specs.Places.{first_home, sectors_of, Shape}
-use Rattle.journal.specs.Record.{numbers_of, Entry, entries_of}
-use Rattle.journal.specs.Formats.{layout_of}
-use Rattle.journal.proofs.Formats.{laws_of, most_is}
-use Rattle.redo_log.specs.Value.{LogValue, Ahead, of_oldest, steps_of, steps_for, died}
-use Rattle.redo_log.specs.Stages.{needed_at, IsSized, IsRecord}
-use Rattle.redo_log.specs.Held.{View, made_of, turned_of, needed_of, HasDurable, MayLeave, Stores, HasHead, HoldsView}
-use Rattle.redo_log.specs.Steps.{LeavesLog}
-use Rattle.redo_log.proofs.RecordSteps.{steps_are, one_left}
-use Rattle.redo_log.proofs.GuardedCalls.{Stands, stands_idle, logged_of}
-use Rattle.redo_log.proofs.GuardedCalls.{stands_front, logged_leaves, guard_leaves}
-use Rattle.redo_log.proofs.GuardedCalls.{Stores-stays}
-use Rattle.redo_log.proofs.LogRules.{IsLog, made_is, none_made}
+use Rattle.journal.specs.Places.{Shape, sectors_of, first_home}
+use Rattle.journal.specs.Sectors.{IsHead}
+use Rattle.journal.specs.Record.{Entry, with_blocks, Hides, numbers_of}
+use Rattle.journal.specs.Formats.{layout_of, IsWhole}
+use Rattle.journal.specs.Staged.{KeepsView, Found, Stored, HasSlots, Resting, IsHomed}
 use Rattle.journal.specs.LayoutLaws.{IsRecordOf}
-use Rattle.journal.proofs.BatchEntries.{numbers_of_batch, sized_batch}
+use Rattle.journal.specs.Staged as staged
+use Rattle.journal.proofs.Formats.{laws_of, most_is}
+use Rattle.journal.proofs.SectorNumbers.{IsHead-one}
+use Rattle.journal.proofs.Engine.{rests_found, rests_begun, begun_rests, guarded_leaves}
+use Rattle.redo_log.specs.Value.{LogValue, Ahead, of_oldest, steps_of, steps_for, died}
+use Rattle.redo_log.specs.Stages.{IsSized, needed_at, IsRecord}
+use Rattle.redo_log.specs.Held.{View, HasView, with_record, with_begun, image_view, written_of, Stores, Safe, HasDurable, HasUnderWay}
+use Rattle.redo_log.specs.Held.{MayLeave, with_passed, HasHead, made_of, turned_of, needed_of, IsStored, IsGuarded, HoldsView}
+use Rattle.redo_log.specs.Steps.{LeavesLog}
+use Rattle.redo_log.proofs.RecordSteps.{all_flushed, none_written, steps_are, one_left}
+use Rattle.redo_log.proofs.LogRules.{needed_one}
+use Rattle.redo_log.proofs.LogRules.{IsLog, made_is, none_made}
+
+-- the records of a view stand in slots of their own
+pub record Stands (shape : Shape) (head : ℕ) (view : View) (steps made : ℕ) : Type 0 where
+  pub few : length view.records ≤ shape.slots
+  -- where steps are left the record under way has one too
+  pub slots : 0 < steps → HasSlots (layout_of shape.format) (image_view shape head view)
+  pub none : steps ≡ 0 → made ≡ 0
+  -- once all its parts are written two are left at most
+  pub short : (layout_of shape.format).parts (length view.under_way) ≤ written_of shape view made → steps ≤ 2
+
+-- they do where none is under way
+pub stands_idle : {shape : Shape} {head : ℕ} {view : View} {steps made : ℕ} → length view.records ≤ shape.slots → steps ≡ 0
+    → made ≡ 0 → Stands shape head view steps made
+stands_idle few idle none = search (rules, arith)
+
+module _ {shape : Shape} {head : ℕ} (view : View) {made : ℕ} {image : Image} (none : made ≡ 0) where
+  -- where no call of a record is made, an image at rest is safe
+  pub rests_safe : Resting (layout_of shape.format) (image_view shape head view) image → Safe shape head view made image
+  rests_safe rests =
+      let nothing = none_written ((layout_of shape.format).early (length view.under_way)) made none in
+      rw (nothing.0, nothing.1) (rests_begun rests)
+
+  -- and what keeps the view stores it
+  pub keeps_stored : KeepsView (layout_of shape.format) (image_view shape head view) image
+      → Stored (layout_of shape.format) (image_view shape head view) (written_of shape view made) image
+  keeps_stored keeps =
+      let nothing = none_written ((layout_of shape.format).early (length view.under_way)) made none in search (rules, arith, nothing)
+
+  -- a safe one rests
+  pub safe_rests : Safe shape head view made image → Resting (layout_of shape.format) (image_view shape head view) image
+  safe_rests = begun_rests (none_written ((layout_of shape.format).early (length view.under_way)) made none).0
+
+-- what records hide, others in front of them leave hidden
+pub hides_behind : (passed records : List (List Entry)) (b : ℕ) → Hides records b → Hides (passed ++ records) b
+hides_behind [] records b hides a c = hides a c
+hides_behind (r ∷ passed) records b hides a c = hides_behind passed records b hides (with_blocks r a) (with_blocks r c)
+
+-- an image that stands for a view with others in front of its records has the view, with the head behind them
+pub has_view : {size : ℕ} {shape : Shape} {stamp head : ℕ} (passed : List (List Entry)) (view : View) {image : Image}
+    → sectors_of shape ≤ size → head ≡ stamp + length passed
+    → Found (layout_of shape.format) (image_view shape stamp (with_passed passed view)) image → HasView size shape head view image
+has_view {stamp = stamp} {head = head} passed view fits behind found =
+    let longer = length-append passed view.records in
+    let next : stamp + length (passed ++ view.records) + 1 ≡ head + length view.records + 1 = omega (arith, behind, longer) in
+    record {
+      whole = λ j below.
+          let here : stamp + (length passed + j) ≡ head + j = omega (arith, behind) in
+          rw (here, get_or-append-add passed view.records j []) at (found.keeps.whole (length passed + j) (omega (arith, below, longer)));
+      ours = record {
+        stands = record {
+          fits = fits;
+          head = stamp;
+          records = passed ++ view.records;
+          keeps = found.keeps;
+          few = found.few;
+          ends = found.ends;
+          next_is = rw next refl;
+        };
+        carries = rw next at found.carries;
+      };
+    }
+
+-- with a record in front of them whole it has that one too
+pub has_before : {size : ℕ} {shape : Shape} {head : ℕ} (first : List Entry) {view : View} {image : Image} → IsWhole shape image head first
+    → HasView size shape (head + 1) view image → HasView size shape head (with_passed (first ∷ []) view) image
+has_before {shape = shape} {head = head} first {view} {image = image} whole has =
+    let next : head + 1 + length view.records + 1 ≡ head + length (first ∷ view.records) + 1 = omega arith in
+    record { whole = each; ours = rw next at has.ours }
+  where
+    each : (j : ℕ) → j < length (first ∷ view.records) → IsWhole shape image (head + j) (get_or (first ∷ view.records) j [])
+    each zero below = rw add-zero whole
+    each (suc j) below =
+        let here : head + suc j ≡ head + 1 + j = omega arith in rw here (has.whole j (omega (arith, below)))
+
+module _ {shape : Shape} {head : ℕ} {view : View} {made retire : ℕ} {image : Image} where
+  -- the newest head is there
+  pub with_newest : Safe shape head view made image → (retire ≡ 1 → IsHomed (image_view shape head view) image)
+      → HasHead shape head view made retire image
+  with_newest safe homed = record {
+    stamp = head;
+    passed = [];
+    behind = omega arith;
+    room = λ some. absurd (omega (arith, some));
+    safe = safe;
+    flushed = λ one. (refl, homed one);
+  }
+
+  module _ (g : HasHead shape head view made retire image) where
+    -- it is where none was passed
+    pub newest : g.passed ≡ [] → Safe shape head view made image
+    newest none =
+        let same : g.stamp ≡ head = omega (arith, g.behind, ap (λ (l : List (List Entry)). length l) none) in
+        rw (same, none) at g.safe
+
+    -- and where the image has its bytes
+    pub safe_at : IsHead head (image 1) → Safe shape head view made image
+    safe_at here =
+        let one = IsHead-one head g.stamp (image 1) here g.safe.stored.keeps.head_is in
+        newest (nil_from_length g.passed (omega (arith, g.behind, one)))
+
+    -- the head stays the one that it was, whatever record is under way
+    pub same_head : {new : Image} {entries : List Entry} {next left : ℕ}
+        → Safe shape g.stamp (with_passed g.passed (with_begun entries view)) next new
+        → (left ≡ 1 → (g.passed ≡ []) × IsHomed (image_view shape head view) new)
+        → HasHead shape head (with_begun entries view) next left new
+    same_head safe flushed =
+        record { stamp = g.stamp; passed = g.passed; behind = g.behind; room = g.room; safe = safe; flushed = flushed }
+
+    -- with the records in front the next stamp is the same
+    pub same_stamp : head + length view.records ≡ g.stamp + length (g.passed ++ view.records)
+    same_stamp = omega (arith, g.behind, length-append g.passed view.records)
+
+    -- the view with them, as images see it
+    abbrev pub front : staged.View
+    front = image_view shape g.stamp (with_passed g.passed view)
+
+    -- and all stand in slots of their own
+    pub stands_front : {steps : ℕ} → Stands shape head view steps made → Stands shape g.stamp (with_passed g.passed view) steps made
+    stands_front {steps} stands =
+        let longer = length-append g.passed view.records in
+        let few : length (g.passed ++ view.records) ≤ shape.slots = grind (arith, stands.few, g.room, longer) in
+        let slots = λ (some : 0 < steps).
+        let slots = stands.slots some in
+        let under_way = rw same_stamp at slots.under_way in
+        let here : HasSlots (layout_of shape.format) front = grind (arith, slots.room, slots.behind, slots.some, g.room, longer) in here in
+        search (rules, arith)
+
+-- what guards a log says what a cut may leave
+module _ {size : ℕ} (log : LogValue) {view : View} {made retire : ℕ} (fits : sectors_of log.shape ≤ size)
+    (stands : Stands log.shape log.head view log.steps_left made) {image : Image}
+    (g : HasHead log.shape log.head view made retire image) where
+  -- the durable records are whole, or with the one under way, whichever head is there
+  pub guard_logged : HasDurable size log view image ⊎ HasUnderWay size log view image
+  guard_logged =
+      let L = layout_of log.shape.format in
+      let n : ℕ = length view.under_way in
+      let front_stands = stands_front g stands in
+      elim (cases_lt 0 log.steps_left) [
+        | inl some ↦ ⊎_elim
+            (λ rest. inl (has_view g.passed view fits g.behind rest))
+            (λ both. inr (some, stands.short both.0, has_view g.passed (with_record view) fits g.behind (rw append_assoc at both.1)))
+            (guarded_leaves L (laws_of log.shape.format) (front g) (front_stands.slots some) image _ _
+            (all_flushed (L.early n) (L.parts n) ((laws_of log.shape.format).last_is_late n) made) g.safe)
+        | inr none ↦
+            let rests = safe_rests (with_passed g.passed view) (stands.none (omega arith)) g.safe in
+            inl (has_view g.passed view fits g.behind (rests_found L (laws_of log.shape.format) (front g) front_stands.few rests))
+      ]
+
+  pub guard_leaves : MayLeave size log view image
+  guard_leaves = ⊎_elim inl (λ both. inr (inl both)) guard_logged
+
+-- ---- what a read gives, and an image with the head that it gives
+
+-- the same content stores a log, where no more of the record under way is written, and of the oldest record at home
+pub Stores-stays : {shape : Shape} {head : ℕ} {view : View} {made turned : ℕ} {old : Image} → Stores shape head view made turned old
+    → (next then : ℕ) (new : Image) → Stays old new → written_of shape view next ≤ written_of shape view made
+    → ((i : ℕ) → i < then → i < length (get_or view.records 0 []) → i < turned) → Stores shape head view next then new
+Stores-stays {old = old} s next then new stays no_more no_home =
+    let same : new ≡ old = λ i s. stays s i in
+    rw same (record {
+      stored = record { keeps = s.stored.keeps; parts = λ p low small. s.stored.parts p (omega (arith, low, no_more)) small };
+      copied = λ i low high. s.copied i (no_home i low high) high;
+    })
+
+abbrev pub put_head : State → Image → Image
+put_head m image = updated image 1 (m.content 1)
+
+module _ {shape : Shape} {head : ℕ} {view : View} {made turned retire : ℕ} {m : State} (sound : IsSound m)
+    (s : Stores shape head view made turned m.content) (each : EachCut (HasHead shape head view made retire) m) where
+  -- a read gives the newest head
+  pub safe_here : Safe shape head view made m.content
+  safe_here = safe_at (content_has _ m sound each) s.stored.keeps.head_is
+
+  -- so an image with that head is safe, whichever was there
+  pub put_safe : {image : Image} → CutLeaves m.may_leave image → Safe shape head view made (put_head m image)
+  put_safe {image} cut =
+      let put : CutLeaves m.may_leave (put_head m image) = λ s.
+      grind (arith, cases_eq s 1, updated_here image 1 (m.content 1) s, updated_elsewhere image 1 (m.content 1) s, sound.holds_content 1, cut s) in
+      safe_at (each (put_head m image) put) (rw (updated_here image 1 (m.content 1) 1 refl) s.stored.keeps.head_is)
+
+-- ---- what a log and its medium hold
 
 -- as many entries as block numbers
 pub count_of : (numbers : List ℕ) (entries : List Entry) → numbers ≡ numbers_of entries → length numbers ≡ length entries
@@ -37,29 +222,23 @@ pub record_entries : (shape : Shape) (stamp : ℕ) (numbers : List ℕ) (entries
 record_entries shape stamp numbers entries sized rec is full =
     let count : length numbers ≡ length entries = count_of numbers entries is in
     let now = rw is at rec.numbers_are in
-    record {
-      fit = record {
-        some = omega (arith, count, rec.numbers_are.some);
-        few = omega (arith, count, rec.numbers_are.few, most_is shape.format);
-        rising = now.rising;
-        inside = now.inside;
-        small = λ j d below. omega (arith, now.inside j d below, sized.small);
-        sized = full;
-      };
-      least = rec.least;
-      below = rec.most;
-    }
+    let few : length entries ≤ (layout_of shape.format).most = omega (arith, count, now.few, most_is shape.format) in
+    let some : 1 ≤ length entries = omega (arith, count, rec.numbers_are.some) in
+    let small : All (λ b. b < 2 ^ 31) (numbers_of entries) = λ j d below. omega (arith, now.inside j d below, sized.small) in
+    search (rules, arith, rec.most)
 
--- and so is a batch
-pub record_batch : (shape : Shape) (stamp : ℕ) (numbers bytes : List ℕ) → IsSized shape → IsRecord shape stamp numbers
-    → length bytes ≡ 512 * length numbers → IsRecordOf (layout_of shape.format) shape.blocks stamp (entries_of numbers bytes)
-record_batch shape stamp numbers bytes sized rec size =
-    record_entries shape stamp numbers (entries_of numbers bytes) sized rec (sym (numbers_of_batch numbers bytes))
-    (sized_batch numbers bytes size)
+-- so have those of records
+pub counts_of : {waiting : List (List ℕ)} (records : List (List Entry)) → waiting ≡ map (λ r. numbers_of r) records → (j : ℕ)
+    → length (get_or waiting j []) ≡ length (get_or records j [])
+counts_of records is j = count_of _ _ (rw is (get_or-map (λ r. numbers_of r) records j []))
 
 -- where one retire step is left of the oldest record it needs one
 pub needs_one : (log : LogValue) → of_oldest log ≡ 1 → needed_of log ≡ 1
 needs_one log one = ap (λ (l : ℕ). needed_at log.ahead log.head (log.head + length log.waiting) l) one
+
+-- where it needs one its blocks are home
+pub all_turned : (log : LogValue) → needed_of log ≡ 1 → length (get_or log.waiting 0 []) ≤ turned_of log
+all_turned log one = omega (arith, needed_one log.ahead log.head (log.head + length log.waiting) (of_oldest log) one)
 
 -- the same records, with other counts
 abbrev pub going : LogValue → ℕ → ℕ → Ahead → Bool → LogValue
@@ -74,80 +253,58 @@ module _ {log : LogValue} {m : State} {view : View} (hv : HoldsView log m view) 
   named j = rw hv.durable (get_or-map (λ r. numbers_of r) view.records j [])
 
   pub count : (j : ℕ) → length (get_or log.waiting j []) ≡ length (get_or view.records j [])
-  count j = count_of (get_or log.waiting j []) (get_or view.records j []) (named j)
+  count = counts_of view.records hv.durable
 
   pub under_count : length log.under_way ≡ length view.under_way
   under_count = count_of log.under_way view.under_way hv.under_way
 
   pub going_held : (left retire : ℕ) (ahead : Ahead) (dead : Bool) (new : State) → new.size ≡ m.size
       → (view.ours ≡ true → EachCut (MayLeave m.size (going log left retire ahead dead) view) new)
-      → (dead ≡ false → Stores log.shape log.head view (made_of (going log left retire ahead dead))
-      (turned_of (going log left retire ahead dead)) new.content)
-      → (dead ≡ false → view.ours ≡ true → EachCut (HasHead log.shape log.head view
-      (made_of (going log left retire ahead dead)) (needed_of (going log left retire ahead dead))) new)
+      → (dead ≡ false → IsStored (going log left retire ahead dead) view new)
+      → (dead ≡ false → view.ours ≡ true → IsGuarded (going log left retire ahead dead) view new)
       → HoldsView (going log left retire ahead dead) new view
   going_held left retire ahead dead new same leaves stores guards =
       let fits : sectors_of log.shape ≤ new.size = omega (arith, same, hv.fits) in
       let leaves_now = λ (ours : view.ours ≡ true). rw (← same) at (leaves ours) in search rules
 
   -- a dead log and its medium hold what a cut may leave
-  pub died_held : (new : State) → new.size ≡ m.size → (view.ours ≡ true → EachCut (MayLeave m.size log view) new)
-      → HoldsView (died log) new view
-  died_held new same leaves = going_held log.steps_left log.retire_steps_left log.ahead true new same leaves
-      (λ live. cc live) (λ live ours. cc live)
-
   pub dead_held : (new : State) → IsSound new → new.size ≡ m.size
       → (view.ours ≡ true → LeavesOnly (MayLeave m.size log view) m new) → HoldsView (died log) new view
-  dead_held new sound same cuts = died_held new same (λ ours. at_exit (MayLeave m.size log view) m new sound (cuts ours))
-
-  -- where nothing is under way a cut leaves the durable records of a live log, whichever head is there
-  pub durable_whole : IsSized log.shape → log.dead ≡ false → view.ours ≡ true → log.steps_left ≡ 0
-      → length view.under_way ≤ (layout_of log.shape.format).most → EachCut (HasDurable m.size log view) m
-  durable_whole sized live ours none fit image cut =
-      let g = hv.guards live ours image cut in
-      let stands : Stands log.shape log.head view log.steps_left (made_of log) = stands_idle sized hv.few fit none (none_made log none) in
-      ⊎_elim (λ rest. rest) (λ both. absurd (omega (arith, both.0, none)))
-      (logged_leaves log hv.fits g (logged_of (stands_front g stands) g.safe))
+  dead_held new sound same cuts = going_held log.steps_left log.retire_steps_left log.ahead true new same
+      (λ ours. at_exit (MayLeave m.size log view) m new sound (cuts ours)) (λ live. cc live) (λ live ours. cc live)
 
   module _ (is : IsLog log) where
     -- its records stand in slots of their own, also once more steps of the one under way are made
     pub stands_then : (left made : ℕ) → left ≤ log.steps_left → (left ≡ 0 → made ≡ 0)
-        → (0 < left → made ≡ steps_of log.shape.format log.under_way - left)
-        → Stands log.shape log.head view left made
+        → (0 < left → made ≤ steps_of log.shape.format log.under_way - left + 1) → Stands log.shape log.head view left made
     stands_then left made fewer none some_made =
         let L = layout_of log.shape.format in
         let n = length view.under_way in
-        record {
-          sized = is.sized;
-          few = hv.few;
-          fit = omega (arith, is.few, under_count, most_is log.shape.format);
-          slots = λ some.
-              let left_now : 0 < log.steps_left = omega (arith, some, fewer) in
-              record {
-                some = is.sized.some;
-                room = omega (arith, many, is.room left_now);
-                behind = is.sized.behind;
-                under_way = record_entries log.shape (log.head + length view.records) log.under_way view.under_way is.sized
-                    (rw many at (is.record_is left_now)) hv.under_way hv.sized;
-              };
-          none = none;
-          short = λ all.
-              let steps = ap (λ (k : ℕ). steps_for log.shape.format k) under_count ∙ steps_are log.shape.format n in
-              let left_one = one_left (L.early n) (L.parts n) ((laws_of log.shape.format).last_is_late n) made all in
-              grind (arith, is.most_left, fewer, steps, left_one, some_made);
-        }
+        let slots : 0 < left → HasSlots (layout_of log.shape.format) (image_view log.shape log.head view) = λ some.
+        let left_now : 0 < log.steps_left = omega (arith, some, fewer) in
+        let under_way = record_entries log.shape (log.head + length view.records) log.under_way view.under_way is.sized
+        (rw many at (is.record_is left_now)) hv.under_way hv.sized in
+        let room : length view.records < log.shape.slots = omega (arith, many, is.room left_now) in
+        search rules in
+        let steps = ap (λ (k : ℕ). steps_for log.shape.format k) under_count ∙ steps_are log.shape.format n in
+        let left_one = one_left (L.early n) (L.parts n) ((laws_of log.shape.format).last_is_late n) made in
+        let short : L.parts n ≤ written_of log.shape view made → left ≤ 2 = λ all.
+        grind (arith, is.most_left, fewer, steps, left_one all, some_made) in
+        search rules
+
+    pub stands_now : Stands log.shape log.head view log.steps_left (made_of log)
+    stands_now = stands_then log.steps_left (made_of log) (omega arith) (none_made log) (λ some. omega (arith, made_is log some))
 
     -- the view stays, where this is stored and guards it
     pub goes_on : (left retire : ℕ) (ahead : Ahead) (new : State) → left ≤ log.steps_left → new.size ≡ m.size → log.dead ≡ false
-        → Stores log.shape log.head view (made_of (going log left retire ahead log.dead))
-        (turned_of (going log left retire ahead log.dead)) new.content
-        → (view.ours ≡ true → EachCut (HasHead log.shape log.head view (made_of (going log left retire ahead log.dead))
-        (needed_of (going log left retire ahead log.dead))) new) → HoldsView (going log left retire ahead log.dead) new view
+        → IsStored (going log left retire ahead log.dead) view new
+        → (view.ours ≡ true → IsGuarded (going log left retire ahead log.dead) view new)
+        → HoldsView (going log left retire ahead log.dead) new view
     goes_on left retire ahead new fewer same live stores guards =
         let then = going log left retire ahead log.dead in
         going_held left retire ahead log.dead new same
         (λ ours image cut. guard_leaves then hv.fits
-        (stands_then left (made_of then) fewer (none_made then) (made_is then)) (guards ours image cut))
+        (stands_then left (made_of then) fewer (none_made then) (λ some. omega (arith, made_is then some))) (guards ours image cut))
         (λ _. stores) (λ _. guards)
 
 -- calls that wrote nothing leave what the log and its medium hold

@@ -1,15 +1,9 @@
 pub mod OneSector
 pub mod RecordSteps
-pub mod IndexRoom
-pub mod KeptFirsts
 pub mod NewestCopy
-pub mod GuardedCalls
 pub mod StoreFacts
 pub mod RetireTurns
 pub mod SortedIndex
-pub mod MergedIndex
-pub mod RingRecords
-pub mod CallsSent
 pub mod RecordTurns
 pub mod LogRules
 pub mod HeldLog

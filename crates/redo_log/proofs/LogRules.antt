@@ -1,30 +1,42 @@
--- What is true of every log, as a caller sees it, whatever its fields are.
-use Rattle.std.proofs.Common.{◌≡◌, ◌≢◌, ℕ, suc, ◌+◌, ◌-◌, ◌*◌, ◌<◌, ◌≤◌, List, [], ◌∷◌, ◌++◌, length, get_or, drop}
-use Rattle.std.proofs.Common.{refl, sym, ap, subst, arith}
-use Rattle.std.specs.Prelude.{All, Bool, Option, Some, Result, sum_by, slice_index_or}
-use Rattle.std.proofs.Math.Nat.{mul-le-mul_left}
+-- What is true of every log, as a caller sees it, whatever its fields are, and how its records come and go.
+use Rattle.std.proofs.Common.{◌≡◌, ◌⊎◌, ℕ, ◌+◌, ◌-◌, ◌%◌, ◌<◌, List, [], ◌∷◌, ◌++◌, length, drop, sym, ◌∙◌, arith}
+use Rattle.std.proofs.Common.{rules, ◌≢◌, suc, ◌*◌, ◌≤◌, get_or, refl}
+use Rattle.std.proofs.Math.Nat.{mod-add-mod, mod-eq-sub-mod, mod-eq_of_lt, mul-le-mul_left}
 use Rattle.std.proofs.lemmas.Bool.Decides.{nat_tests}
+use Rattle.std.specs.Prelude.{Option, slice_index_or, All, Bool, sum_by}
+use Rattle.arrayvec.specs.ArrayVec.{ArrayVec}
+use Rattle.journal.specs.Places.{Shape, limit_of}
+use Rattle.redo_log.specs.Value.{retire_steps_of, Ahead, AllFirsts, LogValue, HasRoom, most_retire_steps, steps_of}
+use Rattle.redo_log.specs.Value.{behind_oldest, of_oldest}
+use Rattle.redo_log.specs.Stages.{AreInside, needed_at, value_at, IsRecord, IsSized}
+use Rattle.redo_log.specs.Shown.{lists_of, shown, Invariant}
 use Rattle.std.proofs.lemmas.List.{length-map}
 use Rattle.std.proofs.lemmas.List.Sums.{sum_by-cons, sum_by-append, sum_by-le}
-use Rattle.arrayvec.specs.ArrayVec.{ArrayVec}
-use Rattle.medium.specs.Medium.{State}
-use Rattle.medium.specs.declared.fault.MediumFault.{MediumFault}
-use Rattle.journal.specs.Places.{Shape, limit_of}
-use Rattle.journal.specs.Record.{Entry}
 use Rattle.journal.specs.Values.{shape_of}
 use Rattle.journal.specs.declared.super_sector.Super.{Super}
 use Rattle.journal.proofs.Formats.{sectors_are}
-use Rattle.redo_log.specs.declared.turn.Turn.{Turn}
 use Rattle.redo_log.specs.declared.log.Log.TheInside.{Inside}
-use Rattle.redo_log.specs.Value.{AllFirsts, LogValue, Ahead, HasRoom, most_retire_steps, steps_of, retire_steps_of}
-use Rattle.redo_log.specs.Value.{behind_oldest, of_oldest}
-use Rattle.redo_log.specs.Stages.{value_at, steps_at, AreInside, IsRecord}
-use Rattle.redo_log.specs.Stages.{IsSized}
-use Rattle.redo_log.specs.Shown.{lists_of, kept_in, shown, Invariant}
-use Rattle.redo_log.specs.Calls.{MakesNext}
-use Rattle.redo_log.specs.Turns.{IsNextTurn, StaysInImage}
 use Rattle.redo_log.specs.Held.{made_of, turned_of, stamps_of}
-use Rattle.redo_log.proofs.RingRecords.{front_is, steps_of_one}
+
+-- where one is needed, one is left, or two whose flush was made
+pub needed_one : (ahead : Ahead) (head behind left : ℕ) → needed_at ahead head behind left ≡ 1
+    → (left ≡ 1) ⊎ ((left ≡ 2) × (ahead.home ≡ head) × (ahead.before < behind))
+needed_one ahead head behind left e = grind (arith, nat_tests, e)
+
+-- two are left, and the flush was made
+pub needed_covered : (ahead : Ahead) (head behind : ℕ) → ahead.home ≡ head → ahead.before < behind → needed_at ahead head behind 2 ≡ 1
+needed_covered ahead head behind same since = grind (arith, nat_tests)
+
+-- how many retire steps a record needs
+pub steps_of_one : (numbers : List ℕ)
+    → ((length numbers ≡ 0) × (retire_steps_of numbers ≡ 0)) ⊎ (retire_steps_of numbers ≡ length numbers + 2)
+steps_of_one numbers = grind arith
+
+-- how old the record in a slot is
+pub age_is : (slots head age slot : ℕ) → age < slots → slot ≡ (head + age) % slots → (slot + slots - head % slots) % slots ≡ age
+age_is slots head age slot near is =
+    let sum : slot ≡ (head % slots + age) % slots = is ∙ sym (mod-add-mod head slots age) in
+    grind (arith, mod-eq-sub-mod, mod-eq_of_lt)
 
 -- the record under way is durable
 abbrev pub durable_of : LogValue → LogValue
@@ -71,11 +83,8 @@ one_waits {log} is owed = grind (arith, owed, is.alone)
 -- ---- what the fields make of it
 
 pub sizes_sized : (sizes : Super) → IsSized (shape_of sizes)
-sizes_sized sizes = record {
-  some = sizes.some_slots;
-  behind = subst (λ (n : ℕ). 2 + n * sizes.slots ≤ sizes.home) (sym (sectors_are sizes.format)) sizes.home_is.0;
-  small = sizes.most_blocks;
-}
+sizes_sized sizes =
+    let behind = rw (← sectors_are sizes.format) at sizes.home_is.0 in search rules
 
 -- as many lists as records
 pub many_lists : (records : List (ArrayVec ℕ)) → length (lists_of records) ≡ length records
@@ -92,29 +101,10 @@ module _ (i : Inside) {log : LogValue} (is : shown i ≡ log) where
   -- a record stands in front
   module _ (first : ArrayVec ℕ) (some : 0 < length i.waiting.items) (there : first ≡ slice_index_or i.waiting.items 0 first) where
     pub front : lists_of i.waiting.items ≡ first.items ∷ lists_of (drop 1 i.waiting.items)
-    front = front_is i.waiting.items first some there
+    front = grind (arith, there)
 
     pub left_of : of_oldest log ≡ length first.items + 2 - i.turned
     left_of = rw (← is, front) (omega arith)
-
-    -- its next turn, as a caller sees the log
-    pub next_of : 0 < of_oldest log → (turn : Turn)
-        → StaysInImage (IsNextTurn (shape_of i.sizes) i.head first.items (kept_in i) i.turned turn) (shape_of i.sizes) turn
-        → StaysInImage (IsNextTurn log.shape log.head (get_or log.waiting 0 []) log.firsts (turned_of log) turn) log.shape turn
-    next_of owed turn next =
-        let turned : i.turned ≡ turned_of (shown i) = rw front (omega (arith, rw (← is, front) at owed)) in
-        rw (← is, ← turned, front) next
-
-  -- the next call of the record under way too
-  pub call_of : Invariant i → (made stamp : ℕ) → i.made ≡ Some made → stamp ≡ i.head + length i.waiting.items → {entries : List Entry}
-      → {result : Result (Unit {0}) MediumFault} → {old new : State} → MakesNext (shape_of i.sizes) stamp entries made result old new
-      → MakesNext log.shape (log.head + length log.waiting) entries (made_of log) result old new
-  call_of inv made stamp at stamp_is {entries} {result} {old} {new} makes =
-      let ring = rw at at inv.ring.record_under_way in
-      let left = ap (λ (w : Option ℕ). steps_at i.sizes.format (length i.under_way.items) w) at in
-      let made_is : made ≡ made_of (shown i) = grind (arith, nat_tests, left, ring.1) in
-      let here : stamp ≡ i.head + length (lists_of i.waiting.items) = omega (arith, stamp_is, many_lists i.waiting.items) in
-      rw (← is, ← made_is, ← here) makes
 
 -- ---- the oldest record, as others come and go
 
@@ -127,12 +117,6 @@ steps_of_all : (waiting : List (List ℕ))
     → sum_by retire_steps_of waiting ≡ retire_steps_of (get_or waiting 0 []) + sum_by retire_steps_of (drop 1 waiting)
 steps_of_all [] = refl
 steps_of_all (n ∷ newer) = sum_by-cons retire_steps_of n newer
-
--- the oldest record has no more blocks than any
-pub oldest_few : (shape : Shape) (waiting : List (List ℕ)) → All (AreInside shape) waiting
-    → length (get_or waiting 0 []) ≤ limit_of shape.format
-oldest_few shape [] each = omega arith
-oldest_few shape (n ∷ newer) each = (each 0 [] (omega arith)).few
 
 -- records of which `left` steps are left of the oldest need no more than this
 few_owed : (shape : Shape) (most : ℕ) → limit_of shape.format + 2 ≤ most → (waiting : List (List ℕ)) → All (AreInside shape) waiting
@@ -148,7 +132,8 @@ pub few_begun : {log : LogValue} → IsLog log → HasRoom log → (numbers : Li
 few_begun {log} is room numbers few =
     let most = limit_of log.shape.format + 2 in
     let all : most * (length log.waiting + 1) ≤ most * log.shape.slots = mul-le-mul_left most (omega (arith, is.taken, room.free)) in
-    let owed = few_owed log.shape most (omega arith) log.waiting is.each (of_oldest log) (λ none. omega (arith, is.alone none)) is.owed_most in
+    let owed = few_owed log.shape most (omega arith) log.waiting is.each (of_oldest log) (λ none. omega (arith, is.alone none))
+    is.owed_most in
     grind (arith, owed, all, few, room.none_under_way)
 
 module _ (log : LogValue) where

@@ -1,5 +1,5 @@
 -- What calls that write one sector at most add to what a cut leaves.
-use Rattle.std.proofs.Common.{◌≡◌, inl, inr, ⊎_elim, ℕ, ◌+◌, ◌*◌, ◌%◌, ◌<◌, List, Result, ◌∙◌, arith}
+use Rattle.std.proofs.Common.{inl, ℕ, ◌+◌, ◌*◌, ◌%◌, ◌<◌, List, Result, arith}
 use Rattle.std.proofs.lemmas.Nat.{mod_below}
 use Rattle.medium.specs.Medium.{State, Image, Sets, CutLeaves, Within, Gains, Passes, IsSound}
 use Rattle.medium.specs.Moments.{EachCut, LeavesOnly, StaysWithin}
@@ -34,30 +34,17 @@ module _ (place : ℕ) (bytes : List ℕ) (old : State) (sound : IsSound old) wh
     sets = gains;
   }
 
-  module _ (mid new : State) {first second : MediumFault} {one two : Result (Unit {0}) MediumFault} (before : Passes first one old mid)
-      (after : Passes second two mid new) where
-    -- a call that writes nothing, and then one that writes a sector
-    pub quiet_write : (written : List ℕ) → written ≡ bytes → Within mid.may_leave old.may_leave
-        → Gains place written mid.may_leave new.may_leave → WritesOnly place bytes old new
-    quiet_write written is within gains =
-        let adds : Gains place bytes old.may_leave new.may_leave = λ s c left.
-        ⊎_elim (λ was. inl (within s c was)) (λ here. inr (here.0, here.1 ∙ is)) (gains s c left) in
-        record {
-          moments = goes_on_within bound old mid new
-              (goes_on_within bound old old mid start before (λ s c left. inl (within s c left))) after adds;
-          sets = adds;
-        }
-
-    -- a call that writes a sector, and then one that writes nothing
-    pub write_quiet : Gains place bytes old.may_leave mid.may_leave → Within new.may_leave mid.may_leave → WritesOnly place bytes old new
-    write_quiet gains within = record {
-      moments = goes_on_within bound old mid new
-          (goes_on_within bound old old mid start before gains) after
-          (λ s c left. gains s c (within s c left));
-      sets = λ s c left. gains s c (within s c left);
-    }
+  -- two calls, of which one may write it
+  pub two_calls : (mid new : State) {first second : MediumFault} {one two : Result (Unit {0}) MediumFault} → Passes first one old mid
+      → Passes second two mid new → Within mid.may_leave bound → Within new.may_leave bound → WritesOnly place bytes old new
+  two_calls mid new before after first second = record {
+    moments = goes_on_within bound old mid new (goes_on_within bound old old mid start before first) after second;
+    sets = second;
+  }
 
 -- at each moment an image has what it has where the sector may have these bytes
 pub moments_have : (P : Image → Type 0) (place : ℕ) (bytes : List ℕ) (old new : State) → WritesOnly place bytes old new
-    → EachCut P (record old { may_leave = gaining place bytes old.may_leave }) → LeavesOnly P old new
-moments_have P place bytes old new writes each = weaker (CutLeaves (gaining place bytes old.may_leave)) P old new each writes.moments
+    → ((mid : State) → Gains place bytes old.may_leave mid.may_leave → EachCut P mid) → LeavesOnly P old new
+moments_have P place bytes old new writes each =
+    let mid : State = record old { may_leave = gaining place bytes old.may_leave } in
+    weaker (CutLeaves (gaining place bytes old.may_leave)) P old new (each mid (λ s c left. left)) writes.moments

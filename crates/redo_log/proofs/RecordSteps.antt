@@ -1,17 +1,18 @@
--- The calls that write a record: what they write, how many they are, and how far it is after each.
-use Rattle.std.proofs.Common.{◌≡◌, ◌≢◌, ◌⊎◌, ℕ, ◌+◌, ◌-◌, ◌<◌, ◌≤◌, arith, rules, ◌*◌, ◌/◌, ◌%◌, List, []}
-use Rattle.std.proofs.Common.{length, ap}
+-- The calls that write a record and retire it: what they write, how many they are, and how far it is after each.
+use Rattle.std.proofs.Common.{◌≡◌, ◌≢◌, ◌⊎◌, ℕ, ◌+◌, ◌-◌, ◌<◌, ◌≤◌, arith, rules, ◌*◌, ◌/◌, List, [], length, ap}
+use Rattle.std.proofs.Common.{zero, suc, get_or, refl, sym, ◌∙◌, Result}
 use Rattle.std.proofs.lemmas.Bool.Decides.{nat_tests}
 use Rattle.journal.specs.declared.log_format.LogFormat.{LogFormat}
 use Rattle.journal.specs.declared.log_format.LogFormat.TheVariants.{One, Two}
-use Rattle.journal.specs.Places.{limit_of, Shape, first_data_of}
-use Rattle.journal.specs.Layout.{Layout, part_at}
+use Rattle.journal.specs.Places.{limit_of, first_data_of}
+use Rattle.journal.specs.Layout.{Layout}
 use Rattle.journal.specs.Formats.{layout_of}
 use Rattle.journal.proofs.Format1Laws.{below_is, above_is}
-use Rattle.redo_log.specs.Value.{steps_for, most_steps}
+use Rattle.redo_log.specs.Value.{steps_for, most_steps, LogValue, of_oldest, next_calls, next_sends, turns_sends}
+use Rattle.redo_log.specs.Value.{sends_of_oldest, most_retire_sends}
 use Rattle.redo_log.specs.Stages.{flush_of, written_at, flushed_at}
-use Rattle.redo_log.specs.Calls.{IsFlushDue, Write, Flush, placed, MakesCall}
-use Rattle.std.specs.Prelude.{slice_range, Result, OnOk, OnErr}
+use Rattle.redo_log.specs.Calls.{IsFlushDue, Write, Flush, placed, MakesCall, CallsUpTo, Call, fault_of, IsNextCall}
+use Rattle.std.specs.Prelude.{slice_range, OnOk, OnErr}
 use Rattle.std.proofs.lemmas.Result.{on_ok_weaker}
 use Rattle.medium.specs.Medium.{State, Stays, Holds, Within, Gains, Only, Passes, IsSound}
 use Rattle.medium.specs.declared.fault.MediumFault.{MediumFault}
@@ -21,6 +22,15 @@ use Rattle.journal.specs.Record.{Entry, block_of, entries_of}
 use Rattle.journal.proofs.BatchEntries.{length_of_batch, entry_of_batch}
 use Rattle.journal.proofs.Format1Laws as one
 use Rattle.journal.proofs.Format2Laws as two
+use Rattle.journal.specs.declared.head.Head.{Head as HeadOf}
+use Rattle.redo_log.specs.declared.turn.Turn.{Turn}
+use Rattle.redo_log.specs.declared.turn.Turn.TheVariants.{Copy, Flush, Head}
+use Rattle.redo_log.specs.Flushes.{next_turn_flushes, step_flushes, next_step_flushes}
+use Rattle.redo_log.specs.Steps.{CountsStep}
+use Rattle.redo_log.specs.Held.{turned_of, made_of}
+use Rattle.redo_log.specs.Turns.{counts_of, IsHeadTurn, IsNextTurn}
+use Rattle.redo_log.proofs.LogRules.{IsLog, made_is}
+use Rattle.std.proofs.lemmas.List.{get_or_past}
 
 -- a good write holds the bytes, and a refused one may
 pub either_way : {P Q : Type 0} (result : Result (Unit {0}) MediumFault) → OnOk result P → OnErr result (Q ⊎ P) → Q ⊎ P
@@ -69,23 +79,6 @@ module _ (numbers bytes : List ℕ) (i p : ℕ) (below : i < length numbers) whe
   data_part One stamp is = let i_is : p - 1 ≡ i = omega (arith, is) in grind (arith, one.parts, block_is, many)
   data_part Two stamp is =
       let i_is : p - (length (entries_of numbers bytes) + 29) / 30 ≡ i = omega (arith, is, many) in grind (arith, two.parts, block_is, many)
-
--- so the write of a block to its data place is that of the part
-pub block_makes : (shape : Shape) (stamp : ℕ) (numbers bytes : List ℕ) (i p slot place : ℕ) (old new : State)
-    (result : Result (Unit {0}) MediumFault) → i < length numbers
-    → p + 1 + length numbers ≡ (layout_of shape.format).parts (length numbers) + i → slot ≡ stamp % shape.slots
-    → place ≡ 2 + (layout_of shape.format).slot_sectors * slot + first_data_of shape.format + i
-    → MakesCall (Write place (placed shape.format stamp (slice_range bytes (512 * i) (512 * i + 512)))) result old new
-    → MakesCall
-    (Write (part_at (layout_of shape.format) shape stamp (length numbers) p)
-    ((layout_of shape.format).part stamp (entries_of numbers bytes) p))
-    result old new
-block_makes shape stamp numbers bytes i p slot place old new result below is slot_is at makes =
-    let L : Layout = layout_of shape.format in
-    let f : 2 + L.slot_sectors * slot ≡ 2 + L.slot_sectors * (stamp % shape.slots) = ap (λ (x : ℕ). 2 + L.slot_sectors * x) slot_is in
-    let place_is : place ≡ 2 + L.slot_sectors * (stamp % shape.slots) + L.offset (length numbers) p =
-    omega (arith, at, f, data_offset numbers bytes i p below shape.format is) in
-    rw (← place_is, ← data_part numbers bytes i p below shape.format stamp is) makes
 
 -- the early parts have a flush, where there are any
 pub flush_of_is : (e : ℕ) → ((e ≡ 0) × (flush_of e ≡ 0)) ⊎ ((0 < e) × (flush_of e ≡ 1))
@@ -143,3 +136,53 @@ few_steps_for format n few = grind (arith, few)
 -- a record needs steps
 pub steps_some : (format : LogFormat) (n : ℕ) → 0 < steps_for format n
 steps_some format n = grind arith
+
+-- a flush is due with the last step, and in format 1 before the commit
+flushes_due : (format : LogFormat) (n made left : ℕ) → made + left ≡ steps_for format n → 0 < left
+    → (IsFlushDue (layout_of format) n made × (step_flushes format left ≡ 1))
+    ⊎ ((¬ IsFlushDue (layout_of format) n made) × (step_flushes format left ≡ 0))
+flushes_due format n made left sum some = grind (arith, nat_tests, written_is, flush_of_is, sum)
+
+-- the next call of a record makes the flushes of the step
+pub step_flushed : {log : LogValue} → IsLog log → 0 < log.steps_left → {numbers : List ℕ} (bytes : List ℕ) → numbers ≡ log.under_way
+    → length bytes ≡ 512 * length numbers → (call : Call)
+    → IsNextCall (layout_of log.shape.format) log.shape (log.head + length log.waiting) (entries_of numbers bytes) (made_of log) call
+    → {result : Result (Unit {0}) MediumFault} → {old new : State} → Passes (fault_of call) result old new
+    → new.made fault.Flush ≡ old.made fault.Flush + next_step_flushes log
+step_flushed {log} is some {numbers} bytes same size call next {result} {old} {new} passes =
+    let n : ℕ = length (entries_of numbers bytes) in
+    let many : length log.under_way ≡ n = sym (length_of_batch numbers bytes ∙ ap (λ (l : List ℕ). length l) same) in
+    let sum : made_of log + log.steps_left ≡ steps_for log.shape.format n =
+    omega (arith, made_is log some, is.most_left, ap (λ (k : ℕ). steps_for log.shape.format k) many) in
+    let due = flushes_due log.shape.format n (made_of log) log.steps_left sum some in
+    grind (arith, due, next, passes.others_made fault.Flush, passes.made_is)
+
+pub head_turn : (stamp : ℕ) (turn : Turn) → IsHeadTurn stamp turn → (h : HeadOf) × (turn ≡ Head h) × (h.stamp ≡ stamp)
+head_turn stamp (Copy from to first) is = absurd is
+head_turn stamp Flush is = absurd is
+head_turn stamp (Head h) is = (h, refl, is)
+
+-- no step makes more than two writes and flushes
+pub few_next : (log : LogValue) → next_sends log ≤ 2
+few_next log = grind arith
+
+-- as many as the next retire step
+pub counts_next : {log : LogValue} → IsLog log → 0 < of_oldest log → (turn : Turn)
+    → IsNextTurn log.shape log.head (get_or log.waiting 0 []) log.firsts (turned_of log) turn → {result : Result (Unit {0}) MediumFault}
+    → {old new : State} → CallsUpTo (counts_of turn).0 (counts_of turn).1 (counts_of turn).2 result old new
+    → CountsStep (next_calls log) (next_sends log) (next_turn_flushes log) result old new
+counts_next {log} is owed turn next {result} {old} {new} up =
+    let same : counts_of turn ≡ (next_calls log, next_sends log, next_turn_flushes log) =
+    grind (arith, next.head, next.flush, next.home, is.owed_most) in
+    let now = rw same at up in
+    let two : new.calls ≤ old.calls + 2 = grind (arith, now.calls) in search rules
+
+-- each block is written home once, and a flush, the head and a flush follow
+sends_few : (left : ℕ) → turns_sends left ≤ left + 1
+sends_few zero = grind arith
+sends_few (suc left) = grind (arith, sends_few left)
+
+-- those of the oldest record of a log
+pub few_of_oldest : {log : LogValue} → IsLog log → sends_of_oldest log ≤ most_retire_sends log.shape.format
+few_of_oldest {log} is =
+    grind (arith, sends_few (of_oldest log), is.owed_most, is.each 0 [], get_or_past log.waiting 0 [])

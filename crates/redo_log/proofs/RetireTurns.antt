@@ -1,12 +1,12 @@
 -- Each turn that retires the oldest durable record: what the log and its medium hold after it.
-use Rattle.std.proofs.Common.{◌≡◌, ◌≢◌, inl, inr, ℕ, ◌+◌, ◌-◌, ◌<◌, ◌≤◌, List, [], ◌∷◌, length, get_or, drop, refl, ◌∙◌}
-use Rattle.std.proofs.Common.{ap, subst, arith, rules, length-drop, add-zero}
+use Rattle.std.proofs.Common.{◌≡◌, ◌≢◌, inl, inr, ℕ, ◌+◌, ◌-◌, ◌<◌, ◌≤◌, List, [], ◌∷◌, length, get_or, drop, refl, ◌∙◌, ap, subst, arith}
+use Rattle.std.proofs.Common.{rules, length-drop, add-zero}
 use Rattle.std.specs.Prelude.{true, false, map, slice_index}
 use Rattle.std.proofs.lemmas.Bool.{cases_eq, cases_lt}
 use Rattle.std.proofs.lemmas.List.{drop-map, length-map}
 use Rattle.std.proofs.Math.ListN.{get_or-map}
 use Rattle.std.proofs.Math.Seq.{drop-cons}
-use Rattle.medium.specs.Medium.{State, Holds, Gains, IsSound}
+use Rattle.medium.specs.Medium.{State, Image, Holds, Gains, IsSound}
 use Rattle.medium.specs.Moments.{EachCut, LeavesOnly}
 use Rattle.medium.proofs.Moments.{each_write, each_flush, quiet_leaves, content_has}
 use Rattle.journal.specs.declared.head.Head.{Head as HeadOf}
@@ -16,42 +16,30 @@ use Rattle.journal.specs.Record.{Entry, Hides, numbers_of}
 use Rattle.journal.specs.Layout.{Layout, slot_at}
 use Rattle.journal.specs.LayoutLaws.{Laws}
 use Rattle.journal.specs.Formats.{layout_of, IsWhole}
-use Rattle.journal.specs.Staged as staged
 use Rattle.journal.specs.Staged.{IsHomed}
+use Rattle.journal.specs.Staged as staged
 use Rattle.journal.proofs.CopiedBlock.{begun_is}
-use Rattle.journal.proofs.Formats.{laws_of}
+use Rattle.journal.proofs.Formats.{laws_of, most_is}
 use Rattle.journal.proofs.Overlay.{records-hide}
-use Rattle.journal.proofs.Engine.{IsWholeIn-same, KeepsView-home, KeepsView-head, Stored-kept}
+use Rattle.journal.proofs.Engine.{IsWholeIn-same, KeepsView-home, KeepsView-head, Stored-kept, Guarded-kept, HasSlots-less}
 use Rattle.redo_log.specs.declared.turn.Turn.{Turn}
 use Rattle.redo_log.specs.declared.turn.Turn.TheVariants.{Flush, Head}
-use Rattle.redo_log.specs.Value.{LogValue, Ahead, IsSentHome, IsRetireStepped, of_oldest, ahead_of}
-use Rattle.redo_log.specs.Firsts.{first_kept}
-use Rattle.redo_log.specs.Logged.{AreHome}
-use Rattle.redo_log.specs.Calls.{gaining, WritesOnly}
+use Rattle.redo_log.specs.Value.{LogValue, Ahead, IsSentHome, IsRetireStepped, of_oldest, ahead_of, settled}
+use Rattle.redo_log.specs.Value.{first_kept}
+use Rattle.redo_log.specs.Calls.{WritesOnly}
 use Rattle.redo_log.specs.Turns.{head_bytes, MayTurn, IsTurned, IsNextTurn}
-use Rattle.redo_log.specs.Held.{View, view_retired, made_of, turned_of, needed_of, image_view, MayLeave, Safe}
-use Rattle.redo_log.specs.Held.{HasHead, HoldsView}
+use Rattle.redo_log.specs.Held.{View, view_retired, made_of, turned_of, needed_of, image_view, MayLeave, Safe, AreHome, HasHead}
+use Rattle.redo_log.specs.Held.{IsGuarded, HoldsView}
 use Rattle.redo_log.proofs.OneSector.{moments_have}
-use Rattle.redo_log.proofs.RingRecords.{needed_one}
-use Rattle.redo_log.proofs.GuardedCalls.{Stands, stands_less, logged_of, home_safe, past_safe, hides_behind}
-use Rattle.redo_log.proofs.GuardedCalls.{records_before, newest, with_newest, same_head, stands_front, Logged-records}
-use Rattle.redo_log.proofs.GuardedCalls.{safe_here, guard_leaves, Stores-stays}
-use Rattle.redo_log.proofs.KeptFirsts.{kept_is, retired_kept}
-use Rattle.redo_log.proofs.CallsSent.{head_turn}
-use Rattle.redo_log.proofs.LogRules.{IsLog, made_is, none_made, retired_of, one_waits, nothing_home, not_homed}
-use Rattle.redo_log.proofs.HeldLog.{needs_one, many, named, count, stands_then, goes_on, count_of}
-
--- the bytes that a head turn writes are those of the new head
-new_head : (h : HeadOf) (next : ℕ) → h.stamp ≡ next → IsHead next (head_bytes h.stamp)
-new_head h next is = record {
-  spelled = ap (λ (n : ℕ). head_bytes n) is;
-  least = omega (arith, h.least, is);
-  most = omega (arith, h.most, is);
-}
+use Rattle.redo_log.proofs.LogRules.{needed_one}
+use Rattle.redo_log.proofs.HeldLog.{Stands, hides_behind, front, has_before, guard_logged, newest, with_newest, same_head, safe_here}
+use Rattle.redo_log.proofs.HeldLog.{guard_leaves, Stores-stays, needs_one, many, named, count, under_count, stands_now, goes_on, counts_of}
+use Rattle.redo_log.proofs.NewestCopy.{kept_is, retired_kept}
+use Rattle.redo_log.proofs.RecordSteps.{head_turn}
+use Rattle.redo_log.proofs.LogRules.{IsLog, retired_of, one_waits, nothing_home, not_homed}
 
 module _ {log : LogValue} (is : IsLog log) (live : log.dead ≡ false) (owed : 0 < of_oldest log) {old : State}
-    (sound : IsSound old) {view : View}
-    (hv : HoldsView log old view) where
+    (sound : IsSound old) {view : View} (hv : HoldsView log old view) where
   abbrev oldest : List Entry
   oldest = get_or view.records 0 []
 
@@ -68,140 +56,75 @@ module _ {log : LogValue} (is : IsLog log) (live : log.dead ≡ false) (owed : 0
   waits = omega (arith, many hv, one_waits is owed)
 
   stands : Stands log.shape log.head view log.steps_left (made_of log)
-  stands = stands_then hv is log.steps_left (made_of log) (omega arith) (none_made log) (made_is log)
+  stands = stands_now hv is
 
-  -- ---- a turn that brings the next block home
-  module _ (below : 2 < of_oldest log) (new : State) where
-    inside : turned_of log < length oldest
-    inside = omega (arith, below, is.owed_most, count hv 0)
-
-    abbrev block : ℕ
-    block = (get_or oldest (turned_of log) (0, [])).0
-
-    abbrev to : ℕ
-    to = first_home log.shape + block
-
-    abbrev bytes : List ℕ
-    bytes = (get_or oldest (turned_of log) (0, [])).1
-
-    hides : Hides view.records block
-    hides = records-hide view.records 0 (turned_of log) waits inside
-
-    home_each : view.ours ≡ true → (mid : State) → Gains to bytes old.may_leave mid.may_leave → {left : ℕ} → left ≢ 1
-        → EachCut (HasHead log.shape log.head view (made_of log) left) mid
-    home_each ours mid gains not = each_write _ _ old mid to bytes sound gains (hv.guards live ours)
-        (λ image g. same_head g g.safe (λ one. absurd (not one)))
-        (λ before image write g. same_head g
-        (home_safe (stands_front g stands) block (hides_behind g.passed view.records block hides) write g.safe)
-        (λ one. absurd (not one)))
-
-    home_leaves : WritesOnly to bytes old new → view.ours ≡ true → LeavesOnly (MayLeave old.size log view) old new
-    home_leaves adds ours =
-        let gained : State = record old { may_leave = gaining to bytes old.may_leave } in
-        moments_have (MayLeave old.size log view) to bytes old new adds
-        (λ image cut. guard_leaves log {retire = 0} hv.fits stands
-        (home_each ours gained (λ s c left. left) (omega arith) image cut))
-
-    home_held : (ahead : Ahead) → needed_of (record log { retire_steps_left = log.retire_steps_left - 1; ahead = ahead }) ≢ 1
-        → new.size ≡ old.size → Gains to bytes old.may_leave new.may_leave → Holds to bytes old.content new.content
-        → HoldsView (record log { retire_steps_left = log.retire_steps_left - 1; ahead = ahead }) new view
-    home_held ahead not same_size gains write =
-        let s = hv.stores live in
-        goes_on hv is log.steps_left (log.retire_steps_left - 1) ahead new (omega arith) same_size live
-        (record {
-          stored = Stored-kept L laws v is.sized.some is.sized.behind stands.fit write (λ low. omega arith) log.head view.records refl
-              (KeepsView-home L laws v is.sized.some is.sized.behind stands.fit block hides write) s.stored;
-          copied = λ j low high. elim (cases_eq j (turned_of log)) [
-            | inl same ↦ rw (same, write.here) refl
-            | inr other ↦
-                let f : Entry → ℕ = λ e. e.0 in
-                let rising : IsRising (numbers_of oldest) = subst IsRising (named hv 0) (is.each 0 [] (one_waits is owed)).rising in
-                let less : j < turned_of log = omega (arith, low, below, is.owed_most, other) in
-                let up = rising j (turned_of log) less (omega (arith, inside, length-map oldest f)) in
-                let number = λ (i : ℕ). get_or-map f oldest i (0, []) in
-                write.elsewhere _ (λ e. omega (arith, e, up, number j, number (turned_of log))) ∙ s.copied j less high
-          ];
-        })
-        (λ ours. home_each ours new gains not)
-
-  -- ---- the flush of its blocks
-  flush_held : of_oldest log ≡ 2 → (new : State) → new.size ≡ old.size → IsTurned Flush old new
-      → HoldsView (record log { retire_steps_left = log.retire_steps_left - 1 }) new view
-  flush_held two new same_size wrote =
-      let next = record log { retire_steps_left = log.retire_steps_left - 1 } in
-      let there : length oldest ≤ turned_of log = omega (arith, two, count hv 0) in
-      let s = hv.stores live in
-      goes_on hv is log.steps_left (log.retire_steps_left - 1) log.ahead new (omega arith) same_size live
-      (Stores-stays s (made_of log) (turned_of next) new.content wrote.0 (omega arith) (λ i low high. omega (arith, high, there)))
-      (λ ours. each_flush _ old.content new wrote.1 (with_newest (safe_here sound s (hv.guards live ours))
-      (λ _ i inside. s.copied i (omega (arith, inside, there)) inside)))
+  fit : length view.under_way ≤ (layout_of log.shape.format).most
+  fit = omega (arith, is.few, under_count hv, most_is log.shape.format)
 
   -- ---- the head is written past it
   module _ (one : of_oldest log ≡ 1) (h : HeadOf) (stamp_is : h.stamp ≡ log.head + 1) (new : State) where
     head_now : IsHead (log.head + 1) (head_bytes h.stamp)
-    head_now = new_head h (log.head + 1) stamp_is
+    head_now = rw (← stamp_is) (record { spelled = refl; least = h.least; most = h.most })
 
-    one_now : view.ours ≡ true → EachCut (λ image. Safe log.shape log.head view (made_of log) image
-        × IsHomed (image_view log.shape log.head view) image) old
+    one_now : view.ours ≡ true → EachCut (λ image. Safe log.shape log.head view (made_of log) image × IsHomed v image) old
     one_now ours image cut =
         let g = hv.guards live ours image cut in
         let f = g.flushed (needs_one log one) in (newest g f.0, f.1)
 
+    past_safe : {before image : Image} → IsHomed v before → Holds 1 (head_bytes h.stamp) before image
+        → Safe log.shape log.head view (made_of log) before → Safe log.shape (log.head + 1) (view_retired 1 view) (made_of log) image
+    past_safe homed write safe =
+        Guarded-kept L laws v is.sized.behind fit write (λ low. omega arith) (log.head + 1) (drop 1 view.records)
+        (omega (arith, waits, length-drop 1 view.records))
+        (KeepsView-head L laws v is.sized.behind fit waits head_now homed write) safe
+
     stands_past : Stands log.shape (log.head + 1) (view_retired 1 view) log.steps_left (made_of log)
-    stands_past = stands_less stands waits
+    stands_past =
+        let few : length (drop 1 view.records) ≤ log.shape.slots = omega (arith, stands.few, length-drop 1 view.records) in
+        let slots = λ (some : 0 < log.steps_left). HasSlots-less L v (stands.slots some) waits in
+        search (rules, stands)
 
     -- at each moment a cut leaves what it might leave before, and with the new head the same array
     pub head_leaves : WritesOnly 1 (head_bytes h.stamp) old new → view.ours ≡ true → LeavesOnly (MayLeave old.size log view) old new
-    head_leaves adds ours =
-        let gained : State = record old { may_leave = gaining 1 (head_bytes h.stamp) old.may_leave } in
-        moments_have (MayLeave old.size log view) 1 (head_bytes h.stamp) old new adds
-        (each_write _ _ old gained 1 (head_bytes h.stamp) sound (λ s c left. left) (one_now ours)
-        (λ image both. guard_leaves log {retire = 0} hv.fits stands
-        (with_newest both.0 (λ none. absurd (omega (arith, none)))))
-        (λ before image write both. elim (logged_of stands_past (past_safe stands waits head_now both.1 write both.0)) [
-          | inl rest ↦ inr (inr (waits, omega (arith, one), Logged-records hv.fits rest))
+    head_leaves adds ours = moments_have (MayLeave old.size log view) 1 (head_bytes h.stamp) old new adds
+        (λ mid gains. each_write _ _ old mid 1 (head_bytes h.stamp) sound gains (one_now ours)
+        (λ image both. guard_leaves log {retire = 0} hv.fits stands (with_newest both.0 (λ none. absurd (omega (arith, none)))))
+        (λ before image write both.
+        let g = with_newest {retire = 0} (past_safe both.1 write both.0) (λ none. absurd (omega (arith, none))) in
+        elim (guard_logged (retired_of log) hv.fits stands_past g) [
+          | inl rest ↦ inr (inr (waits, omega (arith, one), rest))
           | inr more ↦
               let first = IsWholeIn-same L laws log.shape is.sized.some before image
               (λ x low high. write.elsewhere x (λ e. omega (arith, low, e))) log.head oldest
               (rw add-zero at (both.0.stored.keeps.whole 0 waits)) in
-              inr (inl (
-                more.0,
-                more.1,
-                rw (drop-cons view.records 0 [] waits) (records_before oldest first (Logged-records hv.fits more.2)),
-              ))
+              inr (inl (more.0, more.1, rw (drop-cons view.records 0 [] waits) (has_before oldest first more.2)))
         ]))
 
     -- then the log has one record less, where this guards it
     past_held : new.size ≡ old.size → Holds 1 (head_bytes h.stamp) old.content new.content
-        → (view.ours ≡ true → EachCut (HasHead log.shape (log.head + 1) (view_retired 1 view) (made_of log) (needed_of (retired_of log))) new)
+        → (view.ours ≡ true → IsGuarded (retired_of log) (view_retired 1 view) new)
         → HoldsView (retired_of log) new (view_retired 1 view)
     past_held same_size wrote guards =
         let fits : sectors_of log.shape ≤ new.size = omega (arith, same_size, hv.fits) in
         let fewer = length-drop 1 view.records in
-        let f : List Entry → List ℕ = λ r. numbers_of r in
-        let durable : drop 1 log.waiting ≡ map f (drop 1 view.records) = rw hv.durable (drop-map f 1 view.records) in
-        let second : length (get_or (drop 1 log.waiting) 0 []) ≡ length (get_or (drop 1 view.records) 0 []) =
-        count_of _ _ (rw durable (get_or-map f (drop 1 view.records) 0 [])) in
+        let durable : drop 1 log.waiting ≡ map (λ r. numbers_of r) (drop 1 view.records) =
+        rw hv.durable (drop-map (λ r. numbers_of r) 1 view.records) in
+        let second = counts_of (drop 1 view.records) durable 0 in
         let firsts = retired_kept log.shape.format view.records view.under_way log.firsts hv.firsts waits in
         let leaves : view.ours ≡ true → EachCut (MayLeave new.size (retired_of log) (view_retired 1 view)) new =
         λ ours image cut. guard_leaves (retired_of log) fits stands_past (guards ours image cut) in
         let s = hv.stores live in
         let homed : IsHomed v old.content = λ i inside. s.copied i (omega (arith, inside, one, count hv 0)) inside in
-        let stored = Stored-kept L laws v is.sized.some is.sized.behind stands.fit wrote (λ low. omega arith) (log.head + 1)
+        let stored = Stored-kept L laws v is.sized.behind fit wrote (λ low. omega arith) (log.head + 1)
         (drop 1 view.records) (omega (arith, waits, fewer))
-        (KeepsView-head L laws v is.sized.some is.sized.behind stands.fit waits head_now homed wrote) s.stored in
+        (KeepsView-head L laws v is.sized.behind fit waits head_now homed wrote) s.stored in
         let copied : AreHome log.shape (get_or (drop 1 view.records) 0 []) (turned_of (retired_of log)) new.content =
         λ i low high. absurd (nothing_home log i low (omega (arith, high, second))) in
         search (rules, arith)
 
     -- nothing of the next one is flushed at home yet
     needs_more : needed_of (retired_of log) ≢ 1
-    needs_more e = omega (
-      arith,
-      needed_one log.ahead (log.head + 1) (log.head + 1 + length (drop 1 log.waiting)) (of_oldest (retired_of log)) e,
-      not_homed log,
-      is.past,
-    )
+    needs_more e = omega (arith, needed_one log.ahead (log.head + 1) _ (of_oldest (retired_of log)) e, not_homed log, is.past)
 
     -- so a log that counts it holds what the medium does
     pub retired_held : (then : LogValue) → IsRetireStepped log then → HoldsView (retired_of log) new (view_retired 1 view)
@@ -209,15 +132,7 @@ module _ {log : LogValue} (is : IsLog log) (live : log.dead ≡ false) (owed : 0
     retired_held then stepped held =
         let past : log.head + 1 - log.head ≡ 1 = omega arith in rw (stepped.last (omega (arith, one, stepped.some)), past) held
 
-    -- the head is flushed
-    head_held : new.size ≡ old.size → IsTurned (Head h) old new → HoldsView (retired_of log) new (view_retired 1 view)
-    head_held same_size wrote = past_held same_size wrote.0
-        (λ ours.
-        let both = content_has _ old sound (one_now ours) in
-        each_flush _ new.content new wrote.1 (with_newest (past_safe stands waits head_now both.1 wrote.0 both.0)
-        (λ is. absurd (needs_more is))))
-
-    -- it is not flushed yet, and a slot is free besides the one that is passed
+    -- where it is not flushed yet, a slot is free besides the one that is passed
     pub ahead_held : log.next - log.head < log.shape.slots → new.size ≡ old.size → Gains 1 (head_bytes h.stamp) old.may_leave new.may_leave
         → Holds 1 (head_bytes h.stamp) old.content new.content → HoldsView (retired_of log) new (view_retired 1 view)
     ahead_held besides same_size gains wrote = past_held same_size wrote (λ ours.
@@ -230,28 +145,71 @@ module _ {log : LogValue} (is : IsLog log) (live : log.dead ≡ false) (owed : 0
           safe = rw (← drop-cons view.records 0 [] waits) both.0;
           flushed = λ is. absurd (needs_more is);
         })
-        (λ before image write both. with_newest (past_safe stands waits head_now both.1 write both.0)
+        (λ before image write both. with_newest (past_safe both.1 write both.0)
         (λ is. absurd (needs_more is))))
 
   -- ---- the next turn of the oldest record
   module _ (turn : Turn) (next : IsNextTurn log.shape log.head (get_or log.waiting 0 []) log.firsts (turned_of log) turn) (new : State)
       (adds : MayTurn turn old new) where
-    -- it brings a block home
-    brings : (below : 2 < of_oldest log) → WritesOnly (to below new) (bytes below new) old new
-        × (IsTurned turn old new → Holds (to below new) (bytes below new) old.content new.content)
-    brings below =
-        let t = turned_of log in
-        let inside = inside below new in
-        let f : Entry → ℕ = λ e. e.0 in
-        let number : slice_index (get_or log.waiting 0 []) t ≡ (get_or oldest t (0, [])).0 =
-        ap (λ (l : List ℕ). slice_index l t) (named hv 0) ∙ get_or-map f oldest t (0, []) in
-        let whole : IsWhole log.shape old.content log.head oldest = rw add-zero at ((hv.stores live).stored.keeps.whole 0 waits) in
-        let from : ℕ = slot_at L log.shape log.head + first_data_of log.shape.format + t in
-        let begins = first_kept log.firsts 0 t in
-        let copies = rw number at (next.home (omega (arith, below, is.owed_most))) in
-        let brought = begun_is log.shape.format log.shape old.content log.head oldest whole t inside begins
-        (kept_is log.shape.format view.records view.under_way log.firsts hv.firsts 0 t waits inside) (old.content from) refl in
-        (rw brought at (rw copies at adds), λ done. rw brought at (rw copies at done))
+    -- ---- it brings the next block home
+    module _ (below : 2 < of_oldest log) where
+      inside : turned_of log < length oldest
+      inside = omega (arith, below, is.owed_most, count hv 0)
+
+      -- the block, and where it goes
+      abbrev block : Entry
+      block = get_or oldest (turned_of log) (0, [])
+
+      abbrev to : ℕ
+      to = first_home log.shape + block.0
+
+      brings : WritesOnly to block.1 old new × (IsTurned turn old new → Holds to block.1 old.content new.content)
+      brings =
+          let t = turned_of log in
+          let f : Entry → ℕ = λ e. e.0 in
+          let number : slice_index (get_or log.waiting 0 []) t ≡ (get_or oldest t (0, [])).0 =
+          ap (λ (l : List ℕ). slice_index l t) (named hv 0) ∙ get_or-map f oldest t (0, []) in
+          let whole : IsWhole log.shape old.content log.head oldest = rw add-zero at ((hv.stores live).stored.keeps.whole 0 waits) in
+          let from : ℕ = slot_at L log.shape log.head + first_data_of log.shape.format + t in
+          let begins = first_kept log.firsts 0 t in
+          let copies = rw number at (next.home (omega (arith, below, is.owed_most))) in
+          let brought = begun_is log.shape.format log.shape old.content log.head oldest whole t inside begins
+          (kept_is log.shape.format view.records view.under_way log.firsts hv.firsts 0 t waits inside) (old.content from) refl in
+          (rw brought at (rw copies at adds), λ done. rw brought at (rw copies at done))
+
+      hides : Hides view.records block.0
+      hides = records-hide view.records 0 (turned_of log) waits inside
+
+      home_each : view.ours ≡ true → (mid : State) → Gains to block.1 old.may_leave mid.may_leave → {left : ℕ} → left ≢ 1
+          → EachCut (HasHead log.shape log.head view (made_of log) left) mid
+      home_each ours mid gains not = each_write _ _ old mid to block.1 sound gains (hv.guards live ours)
+          (λ image g. same_head g g.safe (λ one. absurd (not one)))
+          (λ before image write g. same_head g
+          (Guarded-kept L laws (front g) is.sized.behind fit write (λ low. omega arith) g.stamp _ refl
+          (KeepsView-home L laws (front g) is.sized.behind fit block.0 (hides_behind g.passed view.records block.0 hides) write)
+          g.safe)
+          (λ one. absurd (not one)))
+
+      home_held : (ahead : Ahead) → needed_of (record log { retire_steps_left = log.retire_steps_left - 1; ahead = ahead }) ≢ 1
+          → new.size ≡ old.size → IsTurned turn old new
+          → HoldsView (record log { retire_steps_left = log.retire_steps_left - 1; ahead = ahead }) new view
+      home_held ahead not same_size done =
+          let s = hv.stores live in
+          let write = brings.1 done in
+          goes_on hv is log.steps_left (log.retire_steps_left - 1) ahead new (omega arith) same_size live
+          (record {
+            stored = Stored-kept L laws v is.sized.behind fit write (λ low. omega arith) log.head view.records refl
+                (KeepsView-home L laws v is.sized.behind fit block.0 hides write) s.stored;
+            copied = λ j low high.
+                let f : Entry → ℕ = λ e. e.0 in
+                let rising : IsRising (numbers_of oldest) = subst IsRising (named hv 0) (is.each 0 [] (one_waits is owed)).rising in
+                let up = rising j (turned_of log) in
+                let long = length-map oldest f in
+                let number = λ (i : ℕ). get_or-map f oldest i (0, []) in
+                let less : j ≤ turned_of log = omega (arith, low, below, is.owed_most) in
+                grind (arith, cases_eq j (turned_of log), write.here, write.elsewhere, s.copied j, up, long, number j, number (turned_of log), inside);
+          })
+          (λ ours. home_each ours new brings.0.sets not)
 
     -- so a block goes home, the blocks are flushed, or the head goes past the record
     by_turn : {P : Type 0} → (2 < of_oldest log → P) → (of_oldest log ≡ 2 → turn ≡ Flush → P)
@@ -270,28 +228,37 @@ module _ {log : LogValue} (is : IsLog log) (live : log.dead ≡ false) (owed : 0
     -- at each moment a cut leaves what it might leave before
     pub turn_leaves : view.ours ≡ true → LeavesOnly (MayLeave old.size log view) old new
     turn_leaves ours = by_turn
-        (λ below. home_leaves below new (brings below).0 ours)
+        (λ below. moments_have (MayLeave old.size log view) (to below) (block below).1 old new (brings below).0
+        (λ mid gains image cut. guard_leaves log {retire = 0} hv.fits stands (home_each below ours mid gains (omega arith) image cut)))
         (λ two flush. quiet_leaves (MayLeave old.size log view) old new sound (hv.leaves ours) (rw flush at adds))
         (λ one h head stamp. head_leaves one h stamp new (rw head at adds) ours)
 
     -- the log that counts the turn holds what the medium does
     module _ (same_size : new.size ≡ old.size) (done : IsTurned turn old new) (then : LogValue) where
-      at_home : (below : 2 < of_oldest log) → (ahead : Ahead)
-          → needed_of (record log { retire_steps_left = log.retire_steps_left - 1; ahead = ahead }) ≢ 1
-          → HoldsView (record log { retire_steps_left = log.retire_steps_left - 1; ahead = ahead }) new view
-      at_home below ahead not = home_held below new ahead not same_size (brings below).0.sets ((brings below).1 done)
-
       -- a record whose blocks go home by retire steps needs its flush
-      goes_home : 2 < of_oldest log → HoldsView (record log { retire_steps_left = log.retire_steps_left - 1 }) new view
-      goes_home below = at_home below log.ahead
-          (λ one. omega (arith, needed_one log.ahead log.head (log.head + length log.waiting) _ one, below, is.away below))
+      goes_home : 2 < of_oldest log → HoldsView (settled log) new view
+      goes_home below = home_held below log.ahead
+          (λ one. omega (arith, needed_one log.ahead log.head (log.head + length log.waiting) _ one, below, is.away below)) same_size done
 
       pub stepped_held : IsRetireStepped log then → HoldsView then new (view_retired (then.head - log.head) view)
       stepped_held stepped =
           let here : log.head - log.head ≡ 0 = omega arith in by_turn
           (λ below. rw (stepped.more (omega (arith, below, stepped.some)), here) (goes_home below))
-          (λ two flush. rw (stepped.more (omega (arith, two, stepped.some)), here) (flush_held two new same_size (rw flush at done)))
-          (λ one h head stamp. retired_held one h stamp new then stepped (head_held one h stamp new same_size (rw head at done)))
+          (λ two flush.
+          let wrote = rw flush at done in
+          let s = hv.stores live in
+          let there : length oldest ≤ turned_of log = omega (arith, two, count hv 0) in
+          rw (stepped.more (omega (arith, two, stepped.some)), here)
+          (goes_on hv is log.steps_left (log.retire_steps_left - 1) log.ahead new (omega arith) same_size live
+          (Stores-stays s (made_of log) (turned_of (settled log)) new.content wrote.0 (omega arith) (λ i low high. omega (arith, high, there)))
+          (λ ours. each_flush _ old.content new wrote.1 (with_newest (safe_here sound s (hv.guards live ours))
+          (λ _ i inside. s.copied i (omega (arith, inside, there)) inside)))))
+          (λ one h head stamp.
+          let wrote = rw head at done in
+          retired_held one h stamp new then stepped (past_held one h stamp new same_size wrote.0 (λ ours.
+          let both = content_has _ old sound (one_now one h stamp new ours) in
+          each_flush _ new.content new wrote.1 (with_newest (past_safe one h stamp new both.1 wrote.0 both.0)
+          (λ is. absurd (needs_more one h stamp new is))))))
 
       -- so it does ahead
       pub sent_held : 2 < of_oldest log → IsSentHome log then → HoldsView then new view
@@ -299,6 +266,6 @@ module _ {log : LogValue} (is : IsLog log) (live : log.dead ≡ false) (owed : 0
         | inl more ↦ rw (home.more more) (goes_home below)
         | inr few ↦
             let last : of_oldest log ≡ 3 = omega (arith, few, below) in
-            rw (home.last last) (at_home below (ahead_of log)
-            (λ one. omega (arith, needed_one (ahead_of log) log.head (log.head + length log.waiting) _ one, last)))
+            rw (home.last last) (home_held below (ahead_of log)
+            (λ one. omega (arith, needed_one (ahead_of log) log.head (log.head + length log.waiting) _ one, last)) same_size done)
       ]

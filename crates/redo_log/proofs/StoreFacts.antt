@@ -1,66 +1,54 @@
 -- What a store on top of a log cites.
-use Rattle.std.proofs.Common.{◌≡◌, ◌≢◌, ◌⊎◌, inl, inr, ⊎_elim, ℕ, ◌+◌, ◌-◌, ◌<◌, ◌≤◌, List, [], ◌∷◌, ◌++◌, length, drop, refl, sym, ◌∙◌}
-use Rattle.std.proofs.Common.{ap, arith, length-append, length-drop}
+use Rattle.std.proofs.Common.{◌≡◌, ◌≢◌, ◌⊎◌, inl, ℕ, ◌+◌, ◌-◌, ◌<◌, ◌≤◌, List, [], ◌∷◌, ◌++◌, length, drop, refl, sym, ◌∙◌}
+use Rattle.std.proofs.Common.{ap, arith, rules, length-append, length-drop}
 use Rattle.std.specs.Prelude.{Bool, true, false}
 use Rattle.std.proofs.lemmas.List.{nil_from_length}
 use Rattle.medium.specs.Medium.{State, Image, CutLeaves, IsSound}
 use Rattle.medium.specs.Moments.{EachCut}
-use Rattle.spec.specs.Blocks.{Array}
 use Rattle.medium.proofs.Moments.{updated_elsewhere}
+use Rattle.spec.specs.Blocks.{Array}
 use Rattle.journal.specs.Places.{Shape, sectors_of}
 use Rattle.journal.specs.SectorsTwo.{firsts_of}
 use Rattle.journal.specs.Record.{Entry, with_blocks, entries_of}
-use Rattle.journal.specs.Formats.{layout_of}
 use Rattle.journal.specs.Standing.{Keeps, IsOurs}
 use Rattle.journal.proofs.BatchEntries.{numbers_of_batch, length_of_batch, sized_batch}
-use Rattle.journal.proofs.Engine.{rests_logged}
+use Rattle.journal.proofs.Engine.{rests_found}
 use Rattle.journal.proofs.Formats.{laws_of}
-use Rattle.redo_log.specs.Value.{LogValue, HasRoom, IsCovered, retire_steps_of, behind_oldest, of_oldest, idle_from}
-use Rattle.redo_log.specs.Value.{begun, died, settled}
+use Rattle.redo_log.specs.Value.{LogValue, HasRoom, IsCovered, retire_steps_of, behind_oldest, of_oldest, idle_from, begun, died, settled}
 use Rattle.redo_log.specs.Batch.{IsBatch}
-use Rattle.redo_log.specs.Logged.{HasNoRecord}
 use Rattle.redo_log.specs.Stages.{needed_at}
-use Rattle.redo_log.specs.Held.{View, resting_view, with_begun, made_of, turned_of}
-use Rattle.redo_log.specs.Held.{needed_of, MayLeave, Safe, stamps_of, with_passed, HoldsView}
-use Rattle.redo_log.proofs.RecordSteps.{none_written, steps_some}
-use Rattle.redo_log.proofs.RingRecords.{needed_covered}
-use Rattle.redo_log.proofs.GuardedCalls.{rests_safe, safe_rests, with_newest, same_head, put_head, put_safe, Logged-records}
-use Rattle.redo_log.proofs.KeptFirsts.{none_kept, begun_kept}
-use Rattle.redo_log.proofs.GuardedCalls.{Stores-stays}
+use Rattle.redo_log.specs.Held.{View, resting_view, IsStored, IsGuarded, HasNoRecord, with_begun, made_of, turned_of, needed_of, MayLeave, Safe, stamps_of}
+use Rattle.redo_log.specs.Held.{with_passed, image_view, HoldsView}
+use Rattle.redo_log.proofs.RecordSteps.{steps_some}
+use Rattle.redo_log.proofs.LogRules.{needed_covered}
+use Rattle.redo_log.proofs.HeldLog.{rests_safe, safe_rests, keeps_stored, with_newest, same_head, put_head, put_safe, has_view}
+use Rattle.redo_log.proofs.HeldLog.{Stores-stays, count, under_count, going_held}
+use Rattle.redo_log.proofs.NewestCopy.{none_kept, begun_kept}
 use Rattle.redo_log.proofs.LogRules.{one_stamp, made_is, none_made}
-use Rattle.redo_log.proofs.HeldLog.{count, under_count, going_held, died_held}
 pub use Rattle.redo_log.proofs.HeldLog.{quiet_held}
 pub use Rattle.redo_log.proofs.NewestCopy.{home_is}
-pub use Rattle.redo_log.proofs.GuardedCalls.{put_head}
+pub use Rattle.redo_log.proofs.HeldLog.{put_head}
 
 -- a new log holds a medium that has its head and its blocks at home, and whose log is fresh
 pub idle_holds : (shape : Shape) (next : ℕ) (array : Array) (ours : Bool) (m : State) → sectors_of shape ≤ m.size
     → Keeps shape m.content next [] array → (ours ≡ true → EachCut (HasNoRecord shape next array) m)
     → HoldsView (idle_from shape next) m (resting_view array ours)
-idle_holds shape next array ours m fits keeps fresh = record {
-  fits = fits;
-  durable = refl;
-  under_way = refl;
-  next = omega arith;
-  few = omega arith;
-  sized = λ j d below. absurd (omega (arith, below));
-  firsts = none_kept shape.format;
-  leaves = λ is image cut. inl (Logged-records fits
-      (rests_logged (layout_of shape.format) (laws_of shape.format) shape keeps.super.some_slots image next [] array (omega arith)
-      (fresh is image cut)));
-  stores = λ live. record {
-    stored = record {
-      keeps = keeps;
-      parts = λ p low small. absurd (omega (arith, low, none_written ((layout_of shape.format).early 0) 0 refl));
-    };
-    copied = λ i low high. absurd (omega (arith, high));
-  };
-  guards = λ live is image cut. with_newest (rests_safe (resting_view array ours) refl (fresh is image cut)) (λ none. absurd (omega (arith, none)));
-}
+idle_holds shape next array ours m fits keeps fresh =
+    let log = idle_from shape next in
+    let view : View = resting_view array ours in
+    let firsts = none_kept shape.format in
+    let leaves : ours ≡ true → EachCut (MayLeave m.size (idle_from shape next) (resting_view array ours)) m = λ is image cut.
+    inl (has_view [] view fits (omega arith) (rests_found _ (laws_of shape.format) (image_view shape next view) (omega arith) (fresh is image cut))) in
+    let stores : IsStored (idle_from shape next) (resting_view array ours) m =
+    record { stored = keeps_stored view refl keeps; copied = λ i low high. absurd (omega (arith, high)) } in
+    let guards : ours ≡ true → IsGuarded (idle_from shape next) (resting_view array ours) m =
+    λ is image cut. with_newest (rests_safe view refl (fresh is image cut)) (λ none. absurd (omega (arith, none))) in
+    search (rules, arith)
 
 -- a log that is given up holds what a cut may leave
 pub died_holds : (log : LogValue) (m : State) (view : View) → HoldsView log m view → HoldsView (died log) m view
-died_holds log m view holds = died_held holds m refl holds.leaves
+died_holds log m view holds =
+    going_held holds log.steps_left log.retire_steps_left log.ahead true m refl holds.leaves (λ live. cc live) (λ live ours. cc live)
 
 -- a flush that was made stands for the one that the oldest record needs
 pub settled_holds : (log : LogValue) (m : State) (view : View) → HoldsView log m view → IsCovered log → HoldsView (settled log) m view
@@ -69,9 +57,7 @@ settled_holds log m view holds covered =
     let needs : needed_of log ≡ needed_of (settled log) =
     rw (covered.flushes, one) (needed_covered log.ahead log.head (log.head + length log.waiting) covered.oldest covered.since) in
     going_held holds log.steps_left (log.retire_steps_left - 1) log.ahead log.dead m refl
-    (λ ours image cut. ⊎_elim (λ rest. inl rest)
-    (λ other. ⊎_elim (λ both. inr (inl both)) (λ less. absurd (omega (arith, less.1, covered.flushes))) other)
-    (holds.leaves ours image cut))
+    (λ ours image cut. grind (arith, covered.flushes, holds.leaves ours image cut))
     (λ live. Stores-stays (holds.stores live) (made_of log) (turned_of (settled log)) m.content (λ s. refl) (omega arith)
     (λ i low high. omega (arith, high, covered.flushes, count holds 0)))
     (λ live ours. rw needs at (holds.guards live ours))
@@ -89,16 +75,11 @@ pub may_leave_ours : (size : ℕ) (log : LogValue) (view : View) (image : Image)
     → IsOurs size log.shape image view.array (log.head + length view.records + 1)
     ⊎ ((0 < log.steps_left) × IsOurs size log.shape image (with_blocks view.under_way view.array) (log.head + length view.records + 2))
 may_leave_ours size log view image found =
-    ⊎_elim (λ rest. inl rest.ours)
-    (λ more. ⊎_elim
-    (λ both.
-    let longer : log.head + length (view.records ++ view.under_way ∷ []) + 1 ≡ log.head + length view.records + 2 =
-    omega (arith, length-append view.records (view.under_way ∷ [])) in
-    inr (both.0, rw longer at both.2.ours))
-    (λ less.
-    let same : log.head + 1 + length (drop 1 view.records) + 1 ≡ log.head + length view.records + 1 =
-    omega (arith, length-drop 1 view.records, less.0) in
-    inl (rw same at less.2.ours)) more) found
+    let longer = length-append view.records (view.under_way ∷ []) in
+    let both : log.head + length (view.records ++ view.under_way ∷ []) + 1 ≡ log.head + length view.records + 2 = omega (arith, longer) in
+    let less : 0 < length view.records → log.head + 1 + length (drop 1 view.records) + 1 ≡ log.head + length view.records + 1 =
+    λ some. omega (arith, length-drop 1 view.records, some) in
+    grind (arith, found)
 
 -- a record is begun in a log with room
 pub begun_holds : (log : LogValue) (m : State) (view : View) (numbers bytes : List ℕ) → HoldsView log m view → HasRoom log
@@ -116,7 +97,6 @@ begun_holds log m view numbers bytes holds room batch =
     let needs : needed_of log ≡ needed_of next = ap (λ (l : ℕ). needed_at log.ahead log.head (log.head + length log.waiting) l) same in
     let turned : turned_of log ≡ turned_of next = omega (arith, same) in
     let made : made_of next ≡ 0 = omega (arith, made_is next (steps_some log.shape.format (length numbers))) in
-    let nothing = none_written ((layout_of log.shape.format).early (length E)) (made_of next) made in
     record {
       fits = holds.fits;
       durable = holds.durable;
@@ -126,15 +106,9 @@ begun_holds log m view numbers bytes holds room batch =
       sized = sized_batch numbers bytes batch.size;
       firsts = begun_kept log.shape.format view.records view.under_way E log.firsts holds.firsts none_yet
           (omega (arith, many, batch.some));
-      leaves = λ ours image cut. ⊎_elim (λ rest. inl rest)
-          (λ other. ⊎_elim (λ both. absurd (omega (arith, both.0, room.no_steps)))
-          (λ less. inr (inr (less.0, omega (arith, less.1, behind), less.2))) other)
-          (holds.leaves ours image cut);
+      leaves = λ ours image cut. grind (arith, holds.leaves ours image cut, room.no_steps, behind);
       stores = λ live. record {
-        stored = record {
-          keeps = (holds.stores live).stored.keeps;
-          parts = λ p low small. absurd (omega (arith, low, nothing.0));
-        };
+        stored = keeps_stored (with_begun E view) made (holds.stores live).stored.keeps;
         copied = λ i low high. (holds.stores live).copied i (omega (arith, low, turned)) high;
       };
       guards = λ live ours image cut.

@@ -1,22 +1,23 @@
 -- What a log and its medium hold together.
 use Rattle.std.specs.Prelude.{◌≡◌, ◌⊎◌, ℕ, ◌+◌, ◌-◌, ◌≤◌, ◌<◌, List, [], ◌∷◌, ◌++◌, length}
-use Rattle.std.specs.Prelude.{get_or, drop, map, All, Bool, true, false}
-use Rattle.std.specs.Prelude.{if◌then◌else◌, ◌==◌}
+use Rattle.std.specs.Prelude.{get_or, drop, map, All, Bool, true, false, if◌then◌else◌}
+use Rattle.std.specs.Prelude.{◌==◌}
 use Rattle.medium.specs.Medium.{State, Image}
 use Rattle.medium.specs.Moments.{EachCut}
 use Rattle.spec.specs.Blocks.{Array}
 use Rattle.journal.specs.declared.log_format.LogFormat.{LogFormat}
 use Rattle.journal.specs.declared.log_format.LogFormat.TheVariants.{One, Two}
-use Rattle.journal.specs.Places.{Shape, sectors_of}
+use Rattle.journal.specs.Places.{Shape, first_home, sectors_of}
 use Rattle.journal.specs.SectorsTwo.{firsts_of}
 use Rattle.journal.specs.Record.{Entry, numbers_of, with_blocks}
-use Rattle.journal.specs.Formats.{layout_of}
+use Rattle.journal.specs.Layout.{RestsIn}
+use Rattle.journal.specs.Formats.{layout_of, IsWhole}
+use Rattle.journal.specs.Standing.{IsOurs}
 use Rattle.journal.specs.Staged as staged
 use Rattle.journal.specs.Staged.{Stored, Guarded, IsHomed}
 use Rattle.redo_log.specs.declared.progress.Progress.{Progress}
 use Rattle.redo_log.specs.declared.progress.Progress.TheVariants.{More, Durable}
 use Rattle.redo_log.specs.Value.{AllFirsts, LogValue, steps_of, behind_oldest, of_oldest}
-use Rattle.redo_log.specs.Logged.{HasRecords, AreHome}
 use Rattle.redo_log.specs.Stages.{written_at, flushed_at, needed_at}
 
 -- what a log has
@@ -56,9 +57,18 @@ view_retired count view = record view { records = drop count view.records }
 abbrev pub with_begun : List Entry → View → View
 with_begun entries view = record view { under_way = entries }
 
--- the image has the durable records of this view whole, is ours, and stands for its array
-abbrev pub HasView : ℕ → Shape → ℕ → View → Image → Type 0
-HasView size shape head view image = HasRecords size shape head view.records view.array image
+-- the image has the durable records of this view whole from this stamp on, it is ours, and it stands
+-- for the view's array
+pub record HasView (size : ℕ) (shape : Shape) (head : ℕ) (view : View) (image : Image)
+    : Type 0 where
+  pub whole : (j : ℕ) → j < length view.records
+      → IsWhole shape image (head + j) (get_or view.records j [])
+  pub ours : IsOurs size shape image view.array (head + length view.records + 1)
+
+-- The image has this array at home and no record, and its log carries neither its head's stamp nor
+-- a later one.
+abbrev pub HasNoRecord : Shape → ℕ → Array → Image → Type 0
+HasNoRecord shape head array image = RestsIn (layout_of shape.format) shape image head [] array
 
 module _ (size : ℕ) (log : LogValue) (view : View) (image : Image) where
   -- the durable records are whole, and the image stands for the array that they make
@@ -79,13 +89,10 @@ module _ (size : ℕ) (log : LogValue) (view : View) (image : Image) where
   abbrev pub MayLeave : Type 0
   MayLeave = HasDurable ⊎ HasUnderWay ⊎ HasRetired
 
--- the stamp of the record behind the durable ones
-abbrev pub stamp_behind : ℕ → View → ℕ
-stamp_behind head view = head + length view.records
-
--- the oldest durable record
-abbrev pub oldest_of : View → List Entry
-oldest_of view = get_or view.records 0 []
+-- the first count of these blocks stand at home
+abbrev pub AreHome : Shape → List Entry → ℕ → Image → Type 0
+AreHome shape entries count image = (i : ℕ) → i < count → i < length entries
+    → image (first_home shape + (get_or entries i (0, [])).0) ≡ (get_or entries i (0, [])).1
 
 -- this view, as images see it
 abbrev pub image_view : Shape → ℕ → View → staged.View
@@ -114,7 +121,7 @@ pub record Stores (shape : Shape) (head : ℕ) (view : View) (made turned : ℕ)
   pub stored : Stored (layout_of shape.format) (image_view shape head view)
       (written_of shape view made) content
   -- the oldest record as far as it is copied home
-  pub copied : AreHome shape (oldest_of view) turned content
+  pub copied : AreHome shape (get_or view.records 0 []) turned content
 
 -- what a cut may leave of the log, with this head: each part of a record under way is there or not
 abbrev pub Safe : Shape → ℕ → View → ℕ → Image → Type 0
@@ -168,6 +175,16 @@ abbrev pub kept_firsts : LogFormat → List (List Entry) → List Entry → AllF
 kept_firsts One records under_way = []
 kept_firsts Two records under_way = map firsts_of records ++ begun_firsts under_way
 
+-- the medium stores a log of this view
+abbrev pub IsStored : LogValue → View → State → Type 0
+IsStored log view m =
+    Stores log.shape log.head view (made_of log) (turned_of log) m.content
+
+-- and each image that a cut may leave is safe
+abbrev pub IsGuarded : LogValue → View → State → Type 0
+IsGuarded log view m =
+    EachCut (HasHead log.shape log.head view (made_of log) (needed_of log)) m
+
 -- The log and its medium hold this: contents always, and, where every image was ours, all that a
 -- cut may leave. Of a dead log only what a cut may leave is known.
 pub record HoldsView (log : LogValue) (m : State) (view : View) : Type 0 where
@@ -179,7 +196,5 @@ pub record HoldsView (log : LogValue) (m : State) (view : View) : Type 0 where
   pub sized : All (λ e. length e.1 ≡ 512) view.under_way
   pub firsts : log.firsts ≡ kept_firsts log.shape.format view.records view.under_way
   pub leaves : view.ours ≡ true → EachCut (MayLeave m.size log view) m
-  pub stores : log.dead ≡ false
-      → Stores log.shape log.head view (made_of log) (turned_of log) m.content
-  pub guards : log.dead ≡ false → view.ours ≡ true
-      → EachCut (HasHead log.shape log.head view (made_of log) (needed_of log)) m
+  pub stores : log.dead ≡ false → IsStored log view m
+  pub guards : log.dead ≡ false → view.ours ≡ true → IsGuarded log view m

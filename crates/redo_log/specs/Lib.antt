@@ -1,12 +1,10 @@
 pub mod Value
 pub mod Batch
-pub mod Logged
 pub mod Held
 pub mod Index
 pub mod Stages
 pub mod Flushes
 pub mod Calls
-pub mod Firsts
 pub mod Turns
 pub mod Shown
 pub mod Steps

@@ -1,5 +1,5 @@
 -- A log's fields.
-use Rattle.std.specs.Prelude.{◌≡◌, ℕ, ◌+◌, ◌*◌, ◌^◌, ◌≤◌, ◌<◌, List, length, map, vec_capacity}
+use Rattle.std.specs.Prelude.{◌≡◌, ◌+◌, ◌*◌, ◌^◌, ◌≤◌, ◌<◌, List, length, map, vec_capacity}
 use Rattle.std.specs.VecDeque.{deque_capacity}
 use Rattle.arrayvec.specs.ArrayVec.{ArrayVec}
 use Rattle.journal.specs.declared.log_format.LogFormat.TheVariants.{Two}
@@ -10,13 +10,9 @@ use Rattle.redo_log.specs.Stages.{value_at, begun_at, IsRing, IsAheadOf}
 use Rattle.redo_log.specs.Index.{IsIndex}
 use Rattle.redo_log.specs.declared.log.Log.TheInside.{Inside}
 
--- the block numbers of each of these records
-abbrev pub lists_of : List (ArrayVec ℕ) → List (List ℕ)
+-- the block numbers of each of these records, or the first bytes of its blocks
+abbrev pub lists_of : {X : Type 0} → List (ArrayVec X) → List (List X)
 lists_of records = map (λ r. r.items) records
-
--- the first bytes of the blocks of each of these records
-abbrev pub firsts_in : List (ArrayVec (List ℕ)) → AllFirsts
-firsts_in records = map (λ r. r.items) records
 
 -- what was done ahead
 abbrev pub ahead_in : Inside → Ahead
@@ -24,7 +20,7 @@ ahead_in log = record { home = log.homed; before = log.before }
 
 -- the first bytes that are kept
 abbrev pub kept_in : Inside → AllFirsts
-kept_in log = firsts_in log.firsts.items
+kept_in log = lists_of log.firsts.items
 
 -- what a caller sees of the fields
 abbrev pub shown : Inside → LogValue

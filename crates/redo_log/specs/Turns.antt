@@ -9,8 +9,7 @@ use Rattle.journal.specs.Spelling.{spelling, head_mark}
 use Rattle.journal.specs.Layout.{slot_at}
 use Rattle.journal.specs.Formats.{layout_of}
 pub use Rattle.journal.specs.Copies.{begun_with}
-use Rattle.redo_log.specs.Value.{AllFirsts}
-use Rattle.redo_log.specs.Firsts.{first_kept}
+use Rattle.redo_log.specs.Value.{AllFirsts, first_kept}
 use Rattle.redo_log.specs.Calls.{WritesOnly}
 use Rattle.redo_log.specs.declared.turn.Turn.{Turn}
 use Rattle.redo_log.specs.declared.turn.Turn.TheVariants.{Copy, Flush, Head}
@@ -59,23 +58,12 @@ pub record WritesSector (place : ℕ) (bytes : List ℕ) (Done : Type 0)
   pub adds : WritesOnly place bytes old new
   pub spares : (first : ℕ) → place < first → SparesFrom first old new
 
--- how many calls it makes: two to copy, one to flush, and two for the head
-abbrev pub calls_of : Turn → ℕ
-calls_of (Copy from to first) = 2
-calls_of Flush = 1
-calls_of (Head head) = 2
-
--- how many of them are writes and flushes: all but reads
-abbrev pub sends_of : Turn → ℕ
-sends_of (Copy from to first) = 1
-sends_of Flush = 1
-sends_of (Head head) = 2
-
--- how many of them are flushes
-abbrev pub flushes_of : Turn → ℕ
-flushes_of (Copy from to first) = 0
-flushes_of Flush = 1
-flushes_of (Head head) = 1
+-- how many calls it makes, how many of them are writes and flushes, all but reads, and how many
+-- are flushes
+abbrev pub counts_of : Turn → ℕ × ℕ × ℕ
+counts_of (Copy from to first) = (2, 1, 0)
+counts_of Flush = (1, 1, 1)
+counts_of (Head head) = (2, 2, 1)
 
 -- the turn writes the head with this stamp
 abbrev pub IsHeadTurn : ℕ → Turn → Type 0

@@ -1,6 +1,6 @@
 -- What a caller sees of a redo log, and how its calls change that.
 use Rattle.std.specs.Prelude.{◌≡◌, ℕ, zero, suc, ◌+◌, ◌-◌, ◌%◌, ◌<◌, List, [], ◌∷◌, ◌++◌, length}
-use Rattle.std.specs.Prelude.{get_or, slice_index, drop, sum_by, Contains, Bool, All}
+use Rattle.std.specs.Prelude.{get_or, slice_get, slice_index, drop, sum_by, Contains, Bool, All, Option}
 use Rattle.std.specs.Prelude.{true, false, if◌then◌else◌, ◌==◌, nat_lt}
 use Rattle.journal.specs.declared.log_format.LogFormat.{LogFormat}
 use Rattle.journal.specs.declared.log_format.LogFormat.TheVariants.{One, Two}
@@ -22,6 +22,10 @@ nothing_ahead = record { home = 0; before = 0 }
 -- the first 8 bytes of each block of some records
 abbrev pub AllFirsts : Type 0
 AllFirsts = List (List (List ℕ))
+
+-- the first 8 bytes of the block in this place of the record of this age, if they are kept
+abbrev pub first_kept : AllFirsts → ℕ → ℕ → Option (List ℕ)
+first_kept kept age place = slice_get (get_or kept age []) place
 
 pub record LogValue : Type 0 where
   pub shape : Shape

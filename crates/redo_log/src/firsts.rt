@@ -3,9 +3,8 @@ ghost use Rattle.std.specs.Prelude.{◌≡◌, ◌≤◌, ◌<◌, ◌%◌, ◌+
 ghost use Rattle.std.specs.VecDeque.{deque_len, deque_capacity};
 ghost use Rattle.journal.specs.SectorsTwo.{firsts_of};
 ghost use Rattle.journal.specs.Record.{entries_of};
-ghost use Rattle.redo_log.specs.Value.{with_firsts};
-ghost use Rattle.redo_log.specs.Firsts.{first_kept};
-ghost use Rattle.redo_log.specs.Shown.{firsts_in};
+ghost use Rattle.redo_log.specs.Value.{with_firsts, first_kept};
+ghost use Rattle.redo_log.specs.Shown.{lists_of};
 
 use journal::{Firsts, LogFormat, first_bytes};
 use std::collections::VecDeque;
@@ -15,8 +14,8 @@ pub(crate) fn keep_firsts(kept: &mut VecDeque<Firsts>, format: LogFormat, bytes:
     requires few { length bytes.now ≤ 512 * 240 }
     requires room { format ≡ LogFormat.Two → deque_len kept.old < deque_capacity kept.old }
     ensures keeps { (numbers : List ℕ) → length bytes.now ≡ 512 * length numbers
-        → firsts_in kept.new.items ≡ with_firsts format (firsts_of (entries_of numbers bytes.now))
-        (firsts_in kept.old.items) }
+        → lists_of kept.new.items ≡ with_firsts format (firsts_of (entries_of numbers bytes.now))
+        (lists_of kept.old.items) }
     ensures more { length kept.new.items ≤ length kept.old.items + 1 }
     ensures capacity { deque_capacity kept.new ≡ deque_capacity kept.old }
 {
@@ -27,7 +26,7 @@ pub(crate) fn keep_firsts(kept: &mut VecDeque<Firsts>, format: LogFormat, bytes:
 
 /// Those of the block in this place of the record of this age, if they are kept.
 pub(crate) fn first_kept(kept: &VecDeque<Firsts>, age: usize, place: usize) -> Option<[u8; 8]>
-    ensures { result ≡ first_kept (firsts_in kept.now.items) age place }
+    ensures { result ≡ first_kept (lists_of kept.now.items) age place }
 {
     let Some(firsts) = kept.get(age) else {
         return None;
@@ -40,7 +39,7 @@ pub(crate) fn first_kept(kept: &VecDeque<Firsts>, age: usize, place: usize) -> O
 }
 
 /// How many records of a ring from the head on stand before the one in this slot.
-#[tactic(auto, using(crate::proofs::RingRecords::age_is))]
+#[tactic(auto, using(crate::proofs::LogRules::age_is))]
 pub(crate) fn age_of(slots: u64, head: u64, slot: u64) -> usize
     requires some { 0 < slots }
     requires few { slots < 2 ^ 32 }

@@ -4,12 +4,11 @@ ghost use Rattle.medium.specs.Medium.{Holds, Only, LooksOnly};
 ghost use Rattle.journal.specs.Values.{shape_of};
 ghost use Rattle.redo_log.specs.Stages.{IsRecord};
 ghost use Rattle.redo_log.specs.Calls.{CallsUpTo};
-ghost use Rattle.redo_log.specs.Shown.{firsts_in};
-ghost use Rattle.redo_log.specs.Turns.{begun_with, calls_of, sends_of, flushes_of};
+ghost use Rattle.redo_log.specs.Shown.{lists_of};
+ghost use Rattle.redo_log.specs.Turns.{begun_with, counts_of};
 ghost use Rattle.redo_log.specs.Turns.{IsInside, MakesTurn, ReadsBefore, WritesSector};
-ghost use Rattle.redo_log.specs.Firsts.{first_kept};
-ghost use Rattle.redo_log.specs.Turns.{StaysInImage, IsHomeTurn, IsHeadTurn};
-ghost use Rattle.redo_log.specs.Turns.{IsNextTurn};
+ghost use Rattle.redo_log.specs.Value.{first_kept};
+ghost use Rattle.redo_log.specs.Turns.{StaysInImage, IsHomeTurn, IsHeadTurn, IsNextTurn};
 
 use crate::firsts::first_kept;
 use journal::{Firsts, Head, Super, copy_place, put_first, slot_of};
@@ -30,8 +29,8 @@ impl Turn {
     pub(crate) fn make<M: Medium>(&self, m: &mut M) -> Result<(), MediumFault>
         requires { IsInside (M.state m.old).size self.now }
         ensures makes { MakesTurn self.now result (M.state m.old) (M.state m.new) }
-        ensures counts { CallsUpTo (calls_of self.now) (sends_of self.now) (flushes_of self.now)
-            result (M.state m.old) (M.state m.new) }
+        ensures counts { let count = counts_of self.now in
+            CallsUpTo count.0 count.1 count.2 result (M.state m.old) (M.state m.new) }
         ensures follows { M.follows m.old m.new }
         ensures looks { (end : ℕ) → ReadsBefore end self.now
             → LooksOnly (λ s. s < end) (M.state m.old) (M.state m.new) }
@@ -93,7 +92,7 @@ pub(crate) fn next_turn(
     requires record { IsRecord (shape_of sizes.now) stamp numbers.now }
     requires turned { turned < length numbers.now + 2 }
     ensures { StaysInImage (IsNextTurn (shape_of sizes.now) stamp numbers.now
-        (firsts_in kept.now.items) turned result) (shape_of sizes.now) result }
+        (lists_of kept.now.items) turned result) (shape_of sizes.now) result }
 {
     if turned < numbers.len() {
         return copy_turn(sizes, stamp, numbers, kept, turned);
@@ -120,7 +119,7 @@ fn copy_turn(sizes: &Super, stamp: u64, numbers: &[u64], kept: &VecDeque<Firsts>
     requires record { IsRecord (shape_of sizes.now) stamp numbers.now }
     requires inside { i < length numbers.now }
     ensures { StaysInImage (IsHomeTurn (shape_of sizes.now) stamp numbers.now
-        (first_kept (firsts_in kept.now.items) 0 i) i result) (shape_of sizes.now) result }
+        (first_kept (lists_of kept.now.items) 0 i) i result) (shape_of sizes.now) result }
 {
     let from = copy_place(sizes.format, slot_of(stamp, sizes.slots), i);
     Turn::Copy(from, sizes.home_of(numbers[i]), first_kept(kept, 0, i))

@@ -22,8 +22,8 @@ returns-then-is_flush_due-clause-makes g c =
       call = Flush;
       next = rw (length_of_batch c.args.numbers.now c.args.bytes.now) (λ _. refl, λ not. absurd (not (due.0 c.if-is_flush_due.true)));
       inside = tt;
-      makes = flush_makes (g.M.Medium.state c.args.m.now) (g.M.Medium.state c.flush.new.self) c.flush.result
-          (g.met.M.Medium.sound c.args.m.now) c.flush.ensures.ok c.flush.ensures.content c.flush.ensures.sets c.flush.ensures.passes;
+      makes = flush_makes _ _ _ (g.met.M.Medium.sound c.args.m.now) c.flush.ensures.ok c.flush.ensures.content c.flush.ensures.sets
+          c.flush.ensures.passes;
     }
 
 pub returns-clause-makes : goal.returns-clause-makes

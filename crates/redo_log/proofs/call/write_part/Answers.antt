@@ -1,39 +1,44 @@
-use Rattle.std.proofs.Common.{◌≡◌, ℕ, ◌+◌, ◌*◌, ◌-◌, ◌%◌, ◌<◌, ◌≤◌, length, ◌∙◌, ap, arith}
-use Rattle.journal.specs.declared.super_sector.Super.{Super}
-use Rattle.journal.specs.Places.{limit_of}
+use Rattle.std.proofs.Common.{◌≡◌, ◌+◌, ◌-◌, ◌<◌, length, arith, rules}
 use Rattle.journal.specs.Values.{shape_of}
+use Rattle.journal.specs.Layout.{part_at}
 use Rattle.journal.specs.Formats.{layout_of}
 use Rattle.journal.proofs.Formats.{laws_of, most_is}
 use Rattle.redo_log.proofs.OneSector.{before_home}
 use Rattle.redo_log.proofs.LogRules.{sizes_sized}
-use Rattle.redo_log.proofs.RecordSteps.{parts_more, block_makes}
+use Rattle.redo_log.proofs.RecordSteps.{parts_more, data_offset, data_part}
+use Rattle.redo_log.proofs.call.write_part.Given as given
 use Rattle.redo_log.proofs.call.write_part.Goals as goal
+use Rattle.redo_log.proofs.call.write_part.Goals.{After-slot_place}
 
 -- a part stands before home
-place_inside : (sizes : Super) (stamp n p : ℕ) {o first slot : ℕ} → n ≤ limit_of sizes.format → p < (layout_of sizes.format).parts n
-    → o ≡ (layout_of sizes.format).offset n p → first ≡ 2 + (layout_of sizes.format).slot_sectors * slot → slot ≡ stamp % sizes.slots
-    → first + o < sizes.home
-place_inside sizes stamp n p {o} {first} {slot} few below o_is first_is slot_is =
+before : (g : given.Over) (c : After-slot_place g) → c.slot_place.result + c.part-part.result.offset < c.args.sizes.now.home
+before g c =
+    let sizes = c.args.sizes.now in
     let L = layout_of sizes.format in
-    let inside : L.offset n p < L.slot_sectors = (laws_of sizes.format).inside n p (omega (arith, few, most_is sizes.format)) below in
-    let at : first ≡ 2 + L.slot_sectors * (stamp % sizes.slots) = first_is ∙ ap (λ (x : ℕ). 2 + L.slot_sectors * x) slot_is in
-    omega (arith, before_home (shape_of sizes) (sizes_sized sizes) stamp (L.offset n p) inside, at, o_is)
+    let o = L.offset (length c.args.numbers.now) c.args.p in
+    let inside : o < L.slot_sectors = (laws_of sizes.format).inside (length c.args.numbers.now) c.args.p
+    (omega (arith, c.requires.record.numbers_are.few, most_is sizes.format)) c.requires.inside in
+    let at = rw c.slot_of-slot.ensures at c.slot_place.ensures in
+    omega (arith, before_home (shape_of sizes) (sizes_sized sizes) c.args.stamp o inside, at, c.part-part.ensures.offset)
 
 pub returns-then-p-first-clause-makes : goal.returns-then-p-first-clause-makes
-returns-then-p-first-clause-makes g c = block_makes (shape_of c.args.sizes.now) c.args.stamp c.args.numbers.now c.args.bytes.now
-    (c.args.p - (c.parts.result - 1 - length c.args.numbers.now)) c.args.p c.slot_of-slot.result c.copy_place-place.result
-    (g.M.Medium.state c.args.m.now) (g.M.Medium.state c.write_block.new.m) c.write_block.result c.if-p-first.true
-    (omega (arith, c.parts.ensures, parts_more c.args.sizes.now.format (length c.args.numbers.now), c.if-first-p.true))
-    c.slot_of-slot.ensures c.copy_place-place.ensures c.write_block.ensures.makes
+returns-then-p-first-clause-makes g c =
+    let sizes = c.args.sizes.now in
+    let numbers = c.args.numbers.now in
+    let bytes = c.args.bytes.now in
+    let i = c.args.p - (c.parts.result - 1 - length numbers) in
+    let is : c.args.p + 1 + length numbers ≡ (layout_of sizes.format).parts (length numbers) + i =
+    omega (arith, c.parts.ensures, parts_more sizes.format (length numbers), c.if-first-p.true) in
+    let offset = data_offset numbers bytes i c.args.p c.if-p-first.true sizes.format is in
+    let place : c.copy_place-place.result ≡ part_at (layout_of sizes.format) (shape_of sizes) c.args.stamp (length numbers) c.args.p =
+    rw (c.copy_place-place.ensures, c.slot_of-slot.ensures, offset) (omega arith) in
+    rw (← place, ← data_part numbers bytes i c.args.p c.if-p-first.true sizes.format c.args.stamp is) c.write_block.ensures.makes
 
 pub overflow_add-slot_place : goal.overflow_add-slot_place
-overflow_add-slot_place g c =
-    let inside = place_inside c.args.sizes.now c.args.stamp (length c.args.numbers.now) c.args.p c.requires.record.numbers_are.few
-    c.requires.inside c.part-part.ensures.offset c.slot_place.ensures c.slot_of-slot.ensures in
-    grind (arith, inside, c.args.sizes.now.home_is, c.args.sizes.now.most_slots)
+overflow_add-slot_place g c = grind (arith, before g c, c.args.sizes.now.home_is, c.args.sizes.now.most_slots)
 
 pub write-requires : goal.write-requires
-write-requires g c =
-    let inside = place_inside c.args.sizes.now c.args.stamp (length c.args.numbers.now) c.args.p c.requires.record.numbers_are.few
-    c.requires.inside c.part-part.ensures.offset c.slot_place.ensures c.slot_of-slot.ensures in
-    omega (arith, inside, c.requires.fits)
+write-requires g c = omega (arith, before g (goal.at.write-requires g c).After-slot_place, c.requires.fits)
+
+pub returns-clause-makes : goal.returns-clause-makes
+returns-clause-makes g c = search rules

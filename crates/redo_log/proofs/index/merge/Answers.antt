@@ -1,5 +1,5 @@
 use Rattle.std.proofs.Common.{◌≡◌, ◌-◌, arith, rules}
-use Rattle.redo_log.proofs.MergedIndex.{entry_moves, number_enters}
+use Rattle.redo_log.proofs.SortedIndex.{entry_moves, number_enters}
 use Rattle.redo_log.proofs.index.merge.Goals as goal
 
 pub loop-place-preserved-then-index-left : goal.loop-place-preserved-then-index-left

@@ -1,23 +1,18 @@
-use Rattle.std.proofs.Common.{◌≡◌, rules}
+use Rattle.std.proofs.Common.{◌≡◌, inl, inr, ⊎_elim, rules}
 use Rattle.medium.proofs.SectorsRead.{write_looks, looks_joined}
 use Rattle.redo_log.specs.Turns.{begun_with}
-use Rattle.redo_log.proofs.OneSector.{quiet_write}
+use Rattle.redo_log.proofs.OneSector.{two_calls}
 use Rattle.redo_log.proofs.turn.copy_sector.Goals as goal
 
 pub returns-clause-writes : goal.returns-clause-writes
 returns-clause-writes g c =
     let old = g.M.Medium.state c.args.m.now in
-    let mid = g.M.Medium.state c.read.new.self in
-    let new = g.M.Medium.state c.write.new.self in
-    let adds = quiet_write c.args.to (begun_with c.args.first.now (old.content c.args.from)) old (g.met.M.Medium.sound c.args.m.now) mid new
-    c.read.ensures.passes c.write.ensures.passes c.put_first.new.sector
-    (rw c.in_ok-read.ensures.ok at c.put_first.ensures) c.read.ensures.sets c.write.ensures.sets in
+    let within = c.read.ensures.sets in
+    let gains = rw (rw c.in_ok-read.ensures.ok at c.put_first.ensures) at c.write.ensures.sets in
+    let adds = two_calls c.args.to (begun_with c.args.first.now (old.content c.args.from)) old (g.met.M.Medium.sound c.args.m.now)
+    (g.M.Medium.state c.read.new.self) (g.M.Medium.state c.write.new.self) c.read.ensures.passes c.write.ensures.passes
+    (λ s b left. inl (within s b left)) (λ s b left. ⊎_elim (λ was. inl (within s b was)) inr (gains s b left)) in
     search rules
 
 pub returns-clause-looks : goal.returns-clause-looks
-returns-clause-looks g c =
-    let old = g.M.Medium.state c.args.m.now in
-    let mid = g.M.Medium.state c.read.new.self in
-    let new = g.M.Medium.state c.write.new.self in
-    looks_joined (λ s. s ≡ c.args.from) old mid new c.read.ensures.follows.1
-    (write_looks (λ s. s ≡ c.args.from) mid new c.write.ensures.passes)
+returns-clause-looks g c = looks_joined (λ s. s ≡ c.args.from) _ _ _ c.read.ensures.follows.1 (write_looks _ _ _ c.write.ensures.passes)

@@ -1,14 +1,12 @@
 use Rattle.std.proofs.Common.{◌∙◌, rules}
-use Rattle.redo_log.proofs.OneSector.{write_quiet}
+use Rattle.redo_log.proofs.OneSector.{two_calls}
 use Rattle.redo_log.proofs.turn.write_through.Goals as goal
 
 pub returns-clause-writes : goal.returns-clause-writes
 returns-clause-writes g c =
-    let old = g.M.Medium.state c.args.m.now in
-    let mid = g.M.Medium.state c.write.new.self in
-    let new = g.M.Medium.state c.flush.new.self in
-    let adds = write_quiet c.args.place c.args.sector.now old (g.met.M.Medium.sound c.args.m.now) mid new c.write.ensures.passes
-    c.flush.ensures.passes c.write.ensures.sets c.flush.ensures.sets in
+    let adds = two_calls c.args.place c.args.sector.now (g.M.Medium.state c.args.m.now) (g.met.M.Medium.sound c.args.m.now)
+    (g.M.Medium.state c.write.new.self) (g.M.Medium.state c.flush.new.self) c.write.ensures.passes c.flush.ensures.passes
+    c.write.ensures.sets (λ s b left. c.write.ensures.sets s b (c.flush.ensures.sets s b left)) in
     search rules
 
 pub returns-in_err-write-clause-looks : goal.returns-in_err-write-clause-looks

@@ -1,7 +1,7 @@
 use Rattle.std.proofs.Common.{◌∙◌, ap, arith, rules}
 use Rattle.blocks.specs.StoreValue.{Cached}
 use Rattle.blocks.proofs.AheadTurns.{home_stays, home_retained, goes_home, home_fewer, away_is, brings_home, brings_none}
-use Rattle.redo_log.proofs.CallsSent.{few_next}
+use Rattle.redo_log.proofs.RecordSteps.{few_next}
 use Rattle.blocks.proofs.LogTurns.{dies}
 use Rattle.blocks.proofs.Retired.{still_kept, died_kept}
 use Rattle.blocks.proofs.store.Store.bring_home.Goals as goal

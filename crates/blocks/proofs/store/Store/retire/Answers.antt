@@ -2,7 +2,7 @@ use Rattle.std.proofs.Common.{◌∙◌, arith, ap, sym, subst, rules}
 use Rattle.std.proofs.lemmas.Bool.{false≢true}
 use Rattle.medium.specs.Moments.{IsUnchanged}
 use Rattle.medium.proofs.Moments.{unchanged}
-use Rattle.redo_log.proofs.CallsSent.{few_next}
+use Rattle.redo_log.proofs.RecordSteps.{few_next}
 use Rattle.blocks.proofs.LogTurns.{retires, dies}
 use Rattle.blocks.proofs.Retired.{retained, still_kept, died_kept, is_retiring, is_dying}
 use Rattle.blocks.proofs.store.Store.retire.Goals as goal

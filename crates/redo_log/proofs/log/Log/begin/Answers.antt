@@ -1,7 +1,5 @@
-use Rattle.std.proofs.Common.{◌≡◌, ℕ, List, length, arith, ap, rules}
+use Rattle.std.proofs.Common.{ℕ, List, arith, ap, rules}
 use Rattle.redo_log.specs.Value.{retire_steps_of}
-use Rattle.redo_log.specs.Stages.{begun_at}
-use Rattle.redo_log.proofs.RecordSteps.{steps_some}
 use Rattle.redo_log.proofs.LogRules.{log_is, few_begun}
 use Rattle.std.proofs.lemmas.Grind.{common_steps}
 use Rattle.redo_log.proofs.log.Log.begin.Goals as goal
@@ -20,8 +18,5 @@ returns c = record {
 
 pub invariant_of-self-2 : goal.invariant_of-self-2
 invariant_of-self-2 c =
-    let idle : begun_at c.self.inside.made ≡ 0 = search rules in
-    let room = rw (← c.self.view_is) at c.requires.room.free in
     let numbers = rw (← c.numbers_of-self-inside.ensures, ← c.self.view_is) at c.requires.batch in
-    let some = steps_some c.self.inside.sizes.format (length c.numbers_of-self-inside.result.items) in
     search (rules, arith)

@@ -1,12 +1,12 @@
-use Rattle.std.proofs.Common.{◌≡◌, ℕ, ◌+◌, vec_capacity, List, length, ◌++◌, [], ◌∷◌, refl, arith, rules, length-append}
+use Rattle.std.proofs.Common.{◌≡◌, ℕ, ◌+◌, vec_capacity, List, length, ◌++◌, [], ◌∷◌, arith, rules, length-append}
 use Rattle.arrayvec.specs.ArrayVec.{ArrayVec}
 use Rattle.journal.specs.Places.{limit_of}
 use Rattle.journal.specs.Values.{shape_of}
-use Rattle.redo_log.specs.Stages.{begun_at}
-use Rattle.redo_log.specs.Shown.{lists_of, ahead_in}
+use Rattle.redo_log.specs.Stages.{AreInside}
+use Rattle.redo_log.specs.Shown.{lists_of}
 use Rattle.std.proofs.lemmas.List.{map_push}
-use Rattle.redo_log.proofs.RingRecords.{ring_durable, ahead_durable}
-use Rattle.redo_log.proofs.IndexRoom.{record_room, index_more}
+use Rattle.std.proofs.lemmas.List.Elements.{All-push}
+use Rattle.redo_log.proofs.SortedIndex.{record_room, index_more}
 use Rattle.redo_log.proofs.LogRules.{many_lists}
 use Rattle.redo_log.proofs.log.Log.count_call.Goals as goal
 
@@ -19,16 +19,11 @@ invariant_of-self-2 c =
     rw (c.push_back_reserved.ensures.items, c.take.ensures.value) (map_push f i.waiting.items i.under_way) in
     let numbers = rw (← c.self.view_is) at c.requires.1 in
     let stamp : i.head + c.len.result ≡ i.head + length records = omega (arith, c.len.ensures, many_lists i.waiting.items) in
-    let one : begun_at i.made ≡ 1 = rw c.in-Some.is refl in
-    let ring = rw (← waiting, ← c.take.ensures.after) at (ring_durable (shape_of i.sizes) records i.turned i.under_way.items c.in-Some.made
-    (rw c.in-Some.is at c.self.invariant.ring)) in
+    let ring = rw c.in-Some.is at c.self.invariant.ring in
+    let each = rw (← waiting) at (All-push (AreInside (shape_of i.sizes)) records i.under_way.items ring.each ring.record_under_way.0) in
     let index = rw (← waiting) at (index_more i.sizes.slots i.head records i.under_way.items i.index.items c.enter_record.new.index.items
     c.self.invariant.index_is (rw (numbers, c.slot_of.ensures, stamp) at c.enter_record.ensures.enters)) in
-    let ahead = rw (← waiting) at
-    (ahead_durable (ahead_in i) i.head records i.turned i.under_way.items c.self.invariant.ahead_is) in
-    let longer = length-append records (i.under_way.items ∷ []) in
-    let many = many_lists i.waiting.items in
-    let more = many_lists c.push_back_reserved.new.self.items in
+    let longer = rw (← waiting) at (length-append records (i.under_way.items ∷ [])) in
     search (rules, arith)
 
 pub enter_record-requires-clause-numbers : goal.enter_record-requires-clause-numbers

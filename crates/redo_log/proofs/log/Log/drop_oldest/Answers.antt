@@ -1,18 +1,18 @@
-use Rattle.std.proofs.Common.{◌≡◌, ◌+◌, List, drop, sym, ◌∙◌, ap, arith, rules, length-drop}
-use Rattle.std.specs.Prelude.{map}
+use Rattle.std.proofs.Common.{◌≡◌, List, drop, sym, ◌∙◌, ap, arith, rules}
 use Rattle.std.proofs.lemmas.List.{drop-map}
 use Rattle.arrayvec.specs.ArrayVec.{ArrayVec}
 use Rattle.journal.specs.Values.{shape_of}
 use Rattle.redo_log.specs.Value.{LogValue}
 use Rattle.redo_log.specs.Shown.{kept_in, lists_of, ahead_in}
-use Rattle.redo_log.proofs.IndexRoom.{index_fewer}
-use Rattle.redo_log.proofs.RingRecords.{ring_retired, ahead_retired}
+use Rattle.redo_log.proofs.SortedIndex.{index_fewer}
+use Rattle.std.proofs.lemmas.List.Elements.{All-drop}
+use Rattle.redo_log.specs.Stages.{AreInside}
 use Rattle.redo_log.proofs.LogRules.{many_lists, log_is, one_waits, retired_of, retired_value}
 use Rattle.redo_log.proofs.log.Log.drop_oldest.Goals as goal
 
 -- the others wait behind the oldest
 lists_less : {X : Type 0} (records : List (ArrayVec X)) {left : List (ArrayVec X)} → left ≡ drop 1 records
-    → map (λ r. r.items) left ≡ drop 1 (map (λ r. r.items) records)
+    → lists_of left ≡ drop 1 (lists_of records)
 lists_less {X} records is = let f : ArrayVec X → List X = λ r. r.items in rw is (sym (drop-map f 1 records))
 
 pub invariant_of-self : goal.invariant_of-self
@@ -21,14 +21,11 @@ invariant_of-self c =
     let waiting = lists_of i.waiting.items in
     let some = rw (← c.self.view_is) at (one_waits (log_is i c.self.view_is c.self.invariant) (omega (arith, c.requires))) in
     let many = many_lists i.waiting.items in
-    let fewer = rw (← c.pop_front.ensures.rest) at (length-drop 1 i.waiting.items) in
-    let firsts = rw (← c.pop_front-2.ensures.rest) at (length-drop 1 i.firsts.items) in
     let less = lists_less i.waiting.items c.pop_front.ensures.rest in
-    let index = rw (← less) at (index_fewer i.sizes.slots i.head waiting i.index.items c.drop_slot.new.index.items c.self.invariant.index_is some
-    (omega (arith, c.self.invariant.ring.fits)) c.drop_slot.ensures.sorted (rw c.slot_of.ensures at c.drop_slot.ensures.looks)) in
-    let ring = rw (← less) at (ring_retired (shape_of i.sizes) waiting i.turned i.under_way.items i.made c.self.invariant.ring) in
-    let ahead =
-    ahead_retired (ahead_in i) i.head waiting (lists_of c.pop_front.new.self.items) i.turned 0 c.self.invariant.ahead_is in
+    let index = rw (← less) at (index_fewer i.sizes.slots i.head waiting i.index.items c.drop_slot.new.index.items
+    c.self.invariant.index_is some (omega (arith, c.self.invariant.ring.fits))
+    c.drop_slot.ensures.sorted (rw c.slot_of.ensures at c.drop_slot.ensures.looks)) in
+    let each = rw (← less) at (All-drop (AreInside (shape_of i.sizes)) 1 waiting c.self.invariant.ring.each) in
     search (rules, arith)
 
 pub returns : goal.returns
@@ -38,5 +35,4 @@ returns c =
     let is = rw (← lists_less i.waiting.items c.pop_front.ensures.rest, ← lists_less i.firsts.items c.pop_front-2.ensures.rest) at
     (retired_value (ahead_in i) (shape_of i.sizes) i.head (lists_of i.waiting.items) i.turned (kept_in i) i.under_way.items i.made i.dead
     c.self.invariant.ring.each some ∙ ap (λ (v : LogValue). retired_of v) c.self.view_is) in
-    let head = ap (λ (v : LogValue). v.head + 1) c.self.view_is in
     search (rules, arith)

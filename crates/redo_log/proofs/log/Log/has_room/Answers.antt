@@ -1,4 +1,4 @@
-use Rattle.redo_log.proofs.CallsSent.{few_of_oldest}
+use Rattle.redo_log.proofs.RecordSteps.{few_of_oldest}
 use Rattle.redo_log.proofs.LogRules.{log_is}
 use Rattle.redo_log.proofs.log.Log.has_room.Goals as goal
 

@@ -5,6 +5,5 @@ use Rattle.redo_log.proofs.log.Log.is_away.Goals as goal
 
 pub returns-in-Some : goal.returns-in-Some
 returns-in-Some c =
-    let i = c.self.inside in
-    let left = left_of i c.self.view_is c.in-Some.oldest.now (search rules) c.in-Some.ensures.lookup in
+    let left = left_of c.self.inside c.self.view_is c.in-Some.oldest.now (search rules) c.in-Some.ensures.lookup in
     grind (arith, nat_tests, left, c.len.ensures.value)

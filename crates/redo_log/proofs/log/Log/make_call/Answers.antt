@@ -1,20 +1,21 @@
-use Rattle.std.proofs.Common.{◌≢◌, ◌+◌, ◌<◌, arith, rules}
+use Rattle.std.proofs.Common.{◌≡◌, ◌≢◌, ◌+◌, length, arith, rules}
 use Rattle.medium.specs.declared.fault.MediumFault.TheVariants as fault
 use Rattle.medium.proofs.Moments.{one_call}
 use Rattle.medium.proofs.SectorsRead.{no_looks}
 use Rattle.medium.proofs.SparedSectors.{spared_behind}
-use Rattle.journal.specs.Places.{first_home, sectors_of}
-use Rattle.redo_log.specs.Calls.{Call, Write, Flush, fault_of}
-use Rattle.redo_log.specs.Held.{View, HoldsView}
-use Rattle.redo_log.proofs.CallsSent.{step_flushed}
-use Rattle.redo_log.proofs.LogRules.{log_is, call_of}
+use Rattle.journal.specs.Places.{first_home}
+use Rattle.journal.specs.Record.{entries_of}
+use Rattle.redo_log.specs.Calls.{Call, MakesNext, fault_of}
+use Rattle.redo_log.specs.Held.{View, HoldsView, made_of}
+use Rattle.redo_log.specs.Shown.{shown, lists_of}
+use Rattle.redo_log.proofs.RecordSteps.{step_flushed}
+use Rattle.redo_log.proofs.LogRules.{log_is, many_lists}
 use Rattle.redo_log.proofs.HeldLog.{dead_held}
 use Rattle.redo_log.proofs.RecordTurns.{step_leaves, counted_held, counted_whole}
 use Rattle.redo_log.proofs.log.Log.make_call.Goals as goal
 
 no_read : (call : Call) → fault_of call ≢ fault.Read
-no_read (Write place bytes) e = cc e
-no_read Flush e = cc e
+no_read call e = grind (arith, e)
 
 pub returns : goal.returns
 returns g c =
@@ -24,8 +25,12 @@ returns g c =
     let new = g.M.Medium.state c.make_next.new.m in
     let sound = g.met.M.Medium.sound c.args.m.now in
     let is = log_is i c.self.view_is c.self.invariant in
-    let here = call_of i c.self.view_is c.self.invariant c.in-Some.made (i.head + c.len.result) c.in-Some.is (omega (arith, c.len.ensures))
-    c.make_next.ensures.makes in
+    let ring = rw c.in-Some.is at c.self.invariant.ring.record_under_way in
+    let made_is : c.in-Some.made ≡ made_of (shown i) = rw c.in-Some.is (omega (arith, ring.1)) in
+    let stamp : i.head + c.len.result ≡ i.head + length (lists_of i.waiting.items) =
+    omega (arith, c.len.ensures, many_lists i.waiting.items) in
+    let here : MakesNext log.shape (log.head + length log.waiting) (entries_of c.args.numbers.now c.args.bytes.now) (made_of log)
+    c.make_next.result old new = rw (← c.self.view_is, ← made_is, ← stamp) c.make_next.ensures.makes in
     let made = here.makes in
     let live = c.requires.on.live in
     let some = c.requires.under_way in
@@ -38,12 +43,12 @@ returns g c =
           search rules;
       leaves = record {
         cuts = cuts;
-        moments = one_call (λ _. Unit {0}) old new sound made.passes (λ image cut. tt) (λ image cut. tt);
-        spares = spared_behind (first_home log.shape) (sectors_of log.shape) old new (omega arith)
+        moments = one_call _ _ _ sound made.passes (λ image cut. tt) (λ image cut. tt);
+        spares = spared_behind _ _ _ _ (omega arith)
             (made.spares (first_home log.shape) here.inside);
-        looks = no_looks (λ s. s < first_home log.shape) old new (made.passes.looked_stays (no_read here.call));
+        looks = no_looks _ _ _ (made.passes.looked_stays (no_read here.call));
       };
-      dead = λ view holds. dead_held holds new (g.met.M.Medium.sound c.make_next.new.m) made.passes.size_stays (cuts view holds);
+      dead = λ view holds. dead_held holds _ (g.met.M.Medium.sound c.make_next.new.m) made.passes.size_stays (cuts view holds);
       counted = λ view holds entries progress then stepped.
           counted_held is live some sound holds bytes c.requires.numbers c.requires.bytes here entries then progress stepped;
       durable = λ view holds entries ours then stepped.

@@ -3,7 +3,7 @@ use Rattle.std.proofs.lemmas.Result.{on_ok_weaker}
 use Rattle.medium.proofs.Moments.{weaker}
 use Rattle.journal.specs.Places.{first_home, sectors_of}
 use Rattle.redo_log.specs.Held.{View, HoldsView}
-use Rattle.redo_log.proofs.CallsSent.{counts_of}
+use Rattle.redo_log.proofs.RecordSteps.{counts_next}
 use Rattle.redo_log.proofs.LogRules.{log_is}
 use Rattle.redo_log.proofs.HeldLog.{dead_held}
 use Rattle.redo_log.proofs.RetireTurns.{turn_leaves, stepped_held, sent_held}
@@ -13,7 +13,6 @@ pub returns-clause-brings : goal.returns-clause-brings
 returns-clause-brings g c =
     let fields = c.oldest_turn.ensures.fields in
     let log = c.args.self.now in
-    let old = g.M.Medium.state c.args.m.now in
     let new = g.M.Medium.state c.make.new.m in
     let sound = g.met.M.Medium.sound c.args.m.now in
     let turn = c.oldest_turn.result in
@@ -21,19 +20,19 @@ returns-clause-brings g c =
     let made = c.make.ensures.makes in
     let is = log_is fields.inside fields.view_is fields.invariant in
     let live = c.requires.on.live in
-    let cuts = λ (view : View) (holds : HoldsView log old view). turn_leaves is live c.requires.owed sound holds turn
+    let cuts = λ (view : View) (holds : HoldsView log (g.M.Medium.state c.args.m.now) view). turn_leaves is live c.requires.owed sound holds turn
     next.next new made.adds in
     let size = c.make.ensures.counts.size in
     let spares = made.spares (sectors_of log.shape) next.inside in
     record {
-      passes = let calls = counts_of is c.requires.owed turn next.next c.make.ensures.counts in search rules;
+      passes = let calls = counts_next is c.requires.owed turn next.next c.make.ensures.counts in search rules;
       leaves = record {
         cuts = cuts;
-        moments = weaker _ (λ _. Unit {0}) old new (λ image left. tt) spares.moments;
+        moments = weaker _ _ _ _ (λ image left. tt) spares.moments;
         spares = spares;
         looks = c.make.ensures.looks (first_home log.shape) next.reads;
       };
-      dead = λ view holds. dead_held holds new (g.met.M.Medium.sound c.make.new.m) size (cuts view holds);
+      dead = λ view holds. dead_held holds _ (g.met.M.Medium.sound c.make.new.m) size (cuts view holds);
       counted = λ view holds then stepped.
           on_ok_weaker c.make.result
           (λ done. stepped_held is live c.requires.owed sound holds turn next.next new made.adds size done then stepped) made.done;

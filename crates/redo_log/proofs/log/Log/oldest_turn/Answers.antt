@@ -1,5 +1,7 @@
-use Rattle.std.proofs.Common.{◌<◌, [], length, arith, rules}
-use Rattle.redo_log.proofs.LogRules.{front, next_of}
+use Rattle.std.proofs.Common.{◌≡◌, ◌<◌, [], length, arith, rules}
+use Rattle.redo_log.specs.Held.{turned_of}
+use Rattle.redo_log.specs.Shown.{shown}
+use Rattle.redo_log.proofs.LogRules.{front}
 use Rattle.redo_log.proofs.log.Log.oldest_turn.Goals as goal
 
 pub next_turn-requires-clause-record : goal.next_turn-requires-clause-record
@@ -16,8 +18,9 @@ next_turn-requires-clause-record c =
 pub returns-clause-next : goal.returns-clause-next
 returns-clause-next c =
     let i = c.self.inside in
-    next_of i c.self.view_is c.in-Some.oldest.now (search rules) c.in-Some.ensures.lookup c.requires c.next_turn.result
-    (rw c.as_slice-numbers.ensures.value at c.next_turn.ensures)
+    let all = front i c.self.view_is c.in-Some.oldest.now (search rules) c.in-Some.ensures.lookup in
+    let turned : i.turned ≡ turned_of (shown i) = rw all (omega (arith, rw (← c.self.view_is, all) at c.requires)) in
+    rw (← c.self.view_is, ← turned, all) (rw c.as_slice-numbers.ensures.value at c.next_turn.ensures)
 
 pub returns-clause-fields : goal.returns-clause-fields
 returns-clause-fields c = record { inside = c.self.inside; view_is = c.self.view_is; invariant = c.self.invariant }

@@ -1,7 +1,6 @@
 use Rattle.std.proofs.Common.{◌+◌, ◌<◌, [], get_or, ◌∙◌, arith}
 use Rattle.std.proofs.lemmas.Result.{on_ok_weaker}
 use Rattle.medium.proofs.Moments.{quiet_leaves}
-use Rattle.redo_log.specs.Held.{MayLeave}
 use Rattle.redo_log.proofs.LogRules.{log_is}
 use Rattle.redo_log.proofs.HeldLog.{quiet_held}
 use Rattle.redo_log.proofs.NewestCopy.{copy_is}
@@ -21,14 +20,11 @@ returns-clause-ok g c view block holds copy =
 
 pub returns-clause-keeps : goal.returns-clause-keeps
 returns-clause-keeps g c =
-    let log = c.args.self.now in
-    let old = g.M.Medium.state c.args.m.now in
-    let new = g.M.Medium.state c.read_copy.new.m in
     let quiet = c.read_copy.ensures.reads.quiet in
     record {
       quiet = quiet;
-      holds = λ view holds. quiet_held log view old new quiet holds;
-      cuts = λ view holds ours. quiet_leaves (MayLeave old.size log view) old new (g.met.M.Medium.sound c.args.m.now) (holds.leaves ours) quiet;
+      holds = λ view holds. quiet_held _ _ _ _ quiet holds;
+      cuts = λ view holds ours. quiet_leaves _ _ _ (g.met.M.Medium.sound c.args.m.now) (holds.leaves ours) quiet;
       looks = rw (← c.self.view_is) c.read_copy.ensures.reads.looks;
       follows = c.read_copy.ensures.reads.follows;
     }

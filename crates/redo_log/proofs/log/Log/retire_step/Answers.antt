@@ -1,8 +1,9 @@
 use Rattle.std.proofs.Common.{◌≡◌, ◌-◌, ◌<◌, length, arith, rules}
+use Rattle.std.proofs.lemmas.Grind.{common_steps}
 use Rattle.redo_log.proofs.HeldLog.{leaves_none}
 use Rattle.redo_log.proofs.LogRules.{log_is, many_lists}
-use Rattle.std.proofs.lemmas.Grind.{common_steps}
 use Rattle.redo_log.proofs.log.Log.retire_step.Goals as goal
+
 
 pub make_turn-requires-clause-owed : goal.make_turn-requires-clause-owed
 make_turn-requires-clause-owed g c =
@@ -17,5 +18,5 @@ returns-then-is_empty g c = record {
   answers = grind (arith, common_steps);
   passes = grind (arith, common_steps);
   holds = λ view holds. let none : c.args.self.now.head - c.args.self.now.head ≡ 0 = omega arith in rw none holds;
-  leaves = leaves_none c.args.self.now (g.M.Medium.state c.args.m.now) (g.met.M.Medium.sound c.args.m.now);
+  leaves = leaves_none _ _ (g.met.M.Medium.sound c.args.m.now);
 }

@@ -3,7 +3,6 @@ use Rattle.std.proofs.lemmas.Result.{on_ok_weaker}
 use Rattle.medium.proofs.Moments.{one_call}
 use Rattle.medium.proofs.SectorsRead.{no_looks}
 use Rattle.medium.proofs.SparedSectors.{spared_write}
-use Rattle.journal.specs.Places.{first_home, sectors_of}
 use Rattle.redo_log.specs.Value.{of_oldest}
 use Rattle.redo_log.specs.Held.{View, HoldsView}
 use Rattle.redo_log.proofs.OneSector.{one_write}
@@ -18,8 +17,6 @@ pub returns : goal.returns
 returns g c =
     let i = c.self.inside in
     let log = c.args.self.now in
-    let old = g.M.Medium.state c.args.m.now in
-    let new = g.M.Medium.state c.write.new.self in
     let sound = g.met.M.Medium.sound c.args.m.now in
     let is = log_is i c.self.view_is c.self.invariant in
     let live = c.requires.on.live in
@@ -28,22 +25,22 @@ returns g c =
     let h = c.new.result in
     let stamp : h.stamp ≡ log.head + 1 = rw (← c.self.view_is) c.new.ensures in
     let passes = c.write.ensures.passes in
-    let adds = rw c.encode.ensures.spelled at (one_write 1 c.encode.result old sound new passes c.write.ensures.sets) in
-    let cuts = λ (view : View) (holds : HoldsView log old view). head_leaves is live owed sound holds one h stamp new adds in
+    let adds = rw c.encode.ensures.spelled at (one_write 1 c.encode.result _ sound _ passes c.write.ensures.sets) in
+    let cuts = λ (view : View) (holds : HoldsView log (g.M.Medium.state c.args.m.now) view). head_leaves is live owed sound holds one h stamp _ adds in
     record {
       passes = grind (arith, common_steps);
       leaves = record {
         cuts = cuts;
-        moments = one_call (λ _. Unit {0}) old new sound passes (λ image cut. tt) (λ image cut. tt);
-        spares = spared_write (sectors_of log.shape) old new 1 c.encode.result sound (omega (arith, is.sized.behind)) passes
+        moments = one_call _ _ _ sound passes (λ image cut. tt) (λ image cut. tt);
+        spares = spared_write _ _ _ _ _ sound (omega (arith, is.sized.behind)) passes
             c.write.ensures.sets (either_way c.write.result c.write.ensures.ok c.write.ensures.err);
-        looks = no_looks (λ s. s < first_home log.shape) old new (passes.looked_stays (λ e. cc e));
+        looks = no_looks _ _ _ (passes.looked_stays (λ e. cc e));
       };
-      dead = λ view holds. dead_held holds new (g.met.M.Medium.sound c.write.new.self) passes.size_stays (cuts view holds);
+      dead = λ view holds. dead_held holds _ (g.met.M.Medium.sound c.write.new.self) passes.size_stays (cuts view holds);
       counted = λ view holds then stepped.
           on_ok_weaker c.write.result
-          (λ wrote. retired_held is live owed sound holds one h stamp new then stepped
-          (ahead_held is live owed sound holds one h stamp new c.requires.can.besides passes.size_stays adds.sets
+          (λ wrote. retired_held is live owed sound holds one h stamp _ then stepped
+          (ahead_held is live owed sound holds one h stamp _ c.requires.can.besides passes.size_stays adds.sets
           (rw c.encode.ensures.spelled at wrote)))
           c.write.ensures.ok;
     }

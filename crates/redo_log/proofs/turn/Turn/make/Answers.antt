@@ -1,4 +1,4 @@
-use Rattle.std.proofs.Common.{◌<◌, rules}
+use Rattle.std.proofs.Common.{rules}
 use Rattle.medium.proofs.SectorsRead.{no_looks, flush_looks, look_below}
 use Rattle.redo_log.proofs.turn.Turn.make.Goals as goal
 
@@ -7,13 +7,10 @@ returns-in-Copy-clause-makes g c =
     rw c.in-Copy.is (search rules)
 
 pub returns-in-Copy-clause-looks : goal.returns-in-Copy-clause-looks
-returns-in-Copy-clause-looks g c end before =
-    look_below end (g.M.Medium.state c.args.m.now) (g.M.Medium.state c.copy_sector.new.m) _ (rw c.in-Copy.is at before) c.copy_sector.ensures.looks
+returns-in-Copy-clause-looks g c end before = look_below end _ _ _ (rw c.in-Copy.is at before) c.copy_sector.ensures.looks
 
 pub returns-in-Flush-clause-looks : goal.returns-in-Flush-clause-looks
-returns-in-Flush-clause-looks g c end before =
-    flush_looks (λ s. s < end) (g.M.Medium.state c.args.m.now) (g.M.Medium.state c.flush.new.self) c.flush.ensures.passes
+returns-in-Flush-clause-looks g c end before = flush_looks _ _ _ c.flush.ensures.passes
 
 pub returns-in-Head-clause-looks : goal.returns-in-Head-clause-looks
-returns-in-Head-clause-looks g c end before =
-    no_looks (λ s. s < end) (g.M.Medium.state c.args.m.now) (g.M.Medium.state c.write_through.new.m) c.write_through.ensures.looks
+returns-in-Head-clause-looks g c end before = no_looks _ _ _ c.write_through.ensures.looks
