@@ -19,14 +19,12 @@ joined : (g : given.Over) (c : After-whole_record g) {Z : Type 0} {H : State →
     → LooksUp g.M.Medium.state g.M.Medium.follows 2 (λ s. s < c.args.sizes.now.home) H c.args.m.now c.read-2.new.self (Ok z)
 joined g c z finds =
     let ends = within_one c.args.sizes.now c.args.stamp _ c.slot_of-slot.ensures c.requires.format in
-    let a = c.read.ensures.follows in
-    let b = c.read-2.ensures.follows in
-    let first = look_below c.args.sizes.now.home _ _ _ (omega (arith, ends, c.place_of.ensures)) a.1 in
-    let last = look_below c.args.sizes.now.home _ _ _ (omega (arith, ends, c.commit_place.ensures)) b.1 in
+    let first = look_below c.args.sizes.now.home _ _ _ (omega (arith, ends, c.place_of.ensures)) c.read.ensures.follows.1 in
+    let last = look_below c.args.sizes.now.home _ _ _ (omega (arith, ends, c.commit_place.ensures)) c.read-2.ensures.follows.1 in
     record {
       passes = search rules;
       finds = finds;
-      follows = (g.met.M.Medium.follows_through _ _ _ a.0 b.0, looks_joined _ _ _ _ first last);
+      follows = search (rules, g.met.M.Medium.follows_through, looks_joined, first, last);
     }
 
 pub returns-in_default : goal.returns-in_default
