@@ -42,8 +42,7 @@ first_of_batch : (i : ℕ) (numbers bytes : List ℕ) → i < length numbers
 first_of_batch i numbers bytes below =
     let a : 512 * i + 512 - 512 * i ≡ 512 = omega arith in
     let b : 512 * i + 8 - 512 * i ≡ 8 = omega arith in
-    let first : Entry → List ℕ = λ e. take 8 e.1 in
-    rw (get_or-map first (entries_of numbers bytes) i (0, []), entry_of_batch i numbers bytes (0, []) below, a, b)
+    rw (get_or-map (λ (e : Entry). take 8 e.1) (entries_of numbers bytes) i (0, []), entry_of_batch i numbers bytes (0, []) below, a, b)
     (take-take 8 512 (drop (512 * i) bytes) (omega arith))
 
 -- those of all of them
@@ -62,13 +61,12 @@ pub firsts_of_batch : (numbers bytes : List ℕ) (firsts : List (List ℕ)) (j :
     → get_or firsts i [] ≡ slice_range bytes (512 * (30 * j + i)) (512 * (30 * j + i) + 8))
     → firsts ≡ firsts_of (chunk_of (entries_of numbers bytes) j)
 firsts_of_batch numbers bytes firsts j count each =
-    let first : Entry → List ℕ = λ e. take 8 e.1 in
     let es : List Entry = entries_of numbers bytes in
     ext_get_or [] firsts _ (simp (length-map, length-take, length-drop, length_of_batch) (simp (length-take, length-drop) at count))
     (λ i below.
     let few : i < 30 = omega (arith, count, length-take 30 (drop (30 * j) numbers)) in
     let inside : 30 * j + i < length numbers = omega (arith, count, length-take 30 (drop (30 * j) numbers), length-drop (30 * j) numbers) in
-    let whole = get_or-map first es (30 * j + i) (0, []) in
+    let whole = get_or-map (λ (e : Entry). take 8 e.1) es (30 * j + i) (0, []) in
     each i (omega (arith, count)) ∙ sym (first_at es 30 (30 * j) i few ∙ sym whole ∙ first_of_batch (30 * j + i) numbers bytes inside))
 
 pub ruleset batch =

@@ -53,16 +53,13 @@ module _ (image : Image) (at n : ℕ) where
 
   -- what a descriptor says is what was read of it
   module _ {stamp j : ℕ} {numbers : List ℕ} {firsts : List (List ℕ)} (d : IsDescriptorTwo stamp n j numbers firsts (image (at + j))) where
-    abbrev chunk : List Entry
-    chunk = chunk_of read j
-
-    here : length chunk ≡ entries_here n j
+    here : length (chunk_of read j) ≡ entries_here n j
     here = omega (arith, length-take 30 (drop (30 * j) read), length-drop (30 * j) read, read_long)
 
     pub chunk_numbers : numbers_of (chunk_of (entries_at image at n) j) ≡ numbers
     chunk_numbers =
         numbers_are d here (record {
-          count = length-map chunk (λ (e : Entry). e.0);
+          count = length-map (chunk_of read j) (λ (e : Entry). e.0);
           each = λ i below. number_at read 30 (30 * j) i (omega (arith, here))
               ∙ ap (λ (e : Entry). e.0) (entry_of j i (omega (arith, here)) (omega (arith, here)));
         })
@@ -70,7 +67,7 @@ module _ (image : Image) (at n : ℕ) where
     pub chunk_firsts : firsts_of (chunk_of (entries_at image at n) j) ≡ firsts
     chunk_firsts =
         firsts_are d here (record {
-          count = length-map chunk (λ (e : Entry). take 8 e.1);
+          count = length-map (chunk_of read j) (λ (e : Entry). take 8 e.1);
           each = λ i below.
               let inside : i < length numbers = omega (arith, here, d.entries.many) in
               let long = d.entries.sized i [] (omega (arith, inside, d.entries.each)) in

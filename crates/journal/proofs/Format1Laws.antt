@@ -129,24 +129,19 @@ module _ (shape : Shape) (image : Image) (stamp : ℕ) (numbers : List ℕ)
     (committed : IsCommit stamp (length numbers) (image (2 + 50 * (stamp % shape.slots) + 49)))
     (below_all : All (λ b. b < shape.blocks) numbers)
     (sized : (i : ℕ) → i < length numbers → length (image (2 + 50 * (stamp % shape.slots) + 1 + i)) ≡ 512) where
-  abbrev es : List Entry
-  es = record_in image (2 + 50 * (stamp % shape.slots))
-
-  entries : AreEntries 48 shape.blocks es
-  entries =
-      let sized = All-from_get_or (λ e. length e.1 ≡ 512) es (0, []) (λ i below.
-      let inside : i < length numbers = omega (arith, below, many image _ described) in
-      rw (entry_read image _ described i inside) (sized i inside)) in
-      grind (arith, numbers_read image _ described, many image _ described, described.block_numbers)
-
   -- these are the blocks of a whole record
   pub whole_in : IsWholeIn format1 shape image stamp (record_in image (2 + 50 * (stamp % shape.slots)))
-  whole_in = record {
-    fit = entries;
-    least = described.least;
-    below = described.most;
-    there = λ p below.
-        let each = entry_read image _ described (p - 1) in
-        let long = many image _ described in
-        grind (arith, parts, described.spelled, committed.spelled, numbers_read image _ described, long, each);
-  }
+  whole_in =
+      let es = record_in image (2 + 50 * (stamp % shape.slots)) in
+      let long = many image _ described in
+      let names = numbers_read image _ described in
+      let blocks = All-from_get_or (λ e. length e.1 ≡ 512) es (0, []) (λ i below.
+      let inside : i < length numbers = omega (arith, below, long) in rw (entry_read image _ described i inside) (sized i inside)) in
+      let fit : AreEntries 48 shape.blocks es = grind (arith, names, long, blocks, described.block_numbers) in
+      record {
+        fit = fit;
+        least = described.least;
+        below = described.most;
+        there = λ p below.
+            grind (arith, parts, described.spelled, committed.spelled, names, long, entry_read image _ described (p - 1));
+      }

@@ -1,5 +1,5 @@
 -- Format 2 keeps the laws of a layout.
-use Rattle.std.proofs.Common.{◌≡◌, ℕ, ◌+◌, ◌-◌, ◌/◌, ◌<◌, ◌≤◌, List, [], ◌∷◌, length, sym, ◌∙◌, arith, rules}
+use Rattle.std.proofs.Common.{◌≡◌, ℕ, ◌+◌, ◌-◌, ◌/◌, ◌<◌, ◌≤◌, List, [], ◌∷◌, length, arith, rules}
 use Rattle.std.specs.Prelude.{if◌then◌else◌, nat_lt, replicate}
 use Rattle.std.proofs.lemmas.Bool.Decides.{nat_tests}
 use Rattle.journal.specs.Spelling.{spelling, number_in}
@@ -39,18 +39,14 @@ carries2 blocks s entries p r =
     }
 
 -- which number of the sector at this offset of a slot is the stamp that it carries
-stamp_place : ℕ → ℕ
+pub stamp_place : ℕ → ℕ
 stamp_place o = if nat_lt o 8 then 1 else (if nat_lt o 248 then 0 else 1)
 
-carried2 : (o s : ℕ) (bytes : List ℕ) → Carries2 o s bytes → number_in bytes (stamp_place o) ≡ s
+pub carried2 : (o s : ℕ) (bytes : List ℕ) → Carries2 o s bytes → number_in bytes (stamp_place o) ≡ s
 unfolding stamp_place
 carried2 o s bytes c =
     let commit = λ (high : 248 ≤ o). (commit_says (c.commit high).1).0 in
     grind (arith, nat_tests, header_says, place_says, commit, c.descriptor, c.place)
-
-pub one_stamp2 : (blocks s t : ℕ) (entries : List Entry) (p : ℕ) → IsRecordOf format2 blocks s entries
-    → Carries2 (format2.offset (length entries) p) t (format2.part s entries p) → t ≡ s
-one_stamp2 blocks s t entries p r c = sym (carried2 _ t _ c) ∙ carried2 _ s _ (carries2 blocks s entries p r)
 
 -- zeros carry no stamp but 0
 pub zeros2 : (o s : ℕ) → Carries2 o s (replicate 512 0) → s ≡ 0

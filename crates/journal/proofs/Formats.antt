@@ -1,5 +1,5 @@
 -- Both formats keep the laws of a layout.
-use Rattle.std.proofs.Common.{◌≡◌, inr, arith}
+use Rattle.std.proofs.Common.{◌≡◌, ◌∙◌, inr, sym, arith}
 use Rattle.journal.specs.declared.log_format.LogFormat.{LogFormat}
 use Rattle.journal.specs.declared.log_format.LogFormat.TheVariants.{One, Two}
 use Rattle.journal.specs.Places.{limit_of, slot_sectors_of}
@@ -9,7 +9,7 @@ use Rattle.journal.specs.Format2.{format2}
 use Rattle.journal.specs.Formats.{layout_of}
 use Rattle.journal.proofs.SectorNumbers.{commit_says}
 use Rattle.journal.proofs.Format1Laws.{parts, carries1, one_stamp1, zeros1, commit_of, record_read as read1}
-use Rattle.journal.proofs.Format2Laws.{commit_two, carries2, one_stamp2, zeros2}
+use Rattle.journal.proofs.Format2Laws.{commit_two, carries2, carried2, zeros2}
 use Rattle.journal.proofs.SlotTwo.{record_read as read2}
 
 pub format1_laws : Laws format1
@@ -35,7 +35,7 @@ format2_laws = record {
   last = λ n. grind (arith, parts);
   carries = λ blocks s entries p r below. inr (carries2 blocks s entries p r);
   last_is_late = λ n. omega arith;
-  one_stamp = λ blocks s t entries p r below c. one_stamp2 blocks s t entries p r c;
+  one_stamp = λ blocks s t entries p r below c. sym (carried2 _ t _ c) ∙ carried2 _ s _ (carries2 blocks s entries p r);
   last_part = λ s a b same. grind (arith, parts);
   count = λ blocks s a b ra rb e. grind (arith, parts, commit_says (commit_two ra), commit_says (commit_two rb));
   read = read2;

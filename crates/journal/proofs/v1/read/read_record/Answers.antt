@@ -1,8 +1,9 @@
-use Rattle.std.proofs.Common.{◌≡◌, ◌∙◌, ◌<◌, ◌+◌, ◌*◌, ◌%◌, ℕ, Ok, [], refl, sym, rules, arith}
+use Rattle.std.proofs.Common.{◌≡◌, ◌∙◌, ◌<◌, ◌+◌, ◌*◌, ◌%◌, ℕ, Result, IfOk, IfErr, [], refl, sym, rules, arith}
 use Rattle.medium.specs.Medium.{State}
 use Rattle.journal.specs.Values.{shape_of}
 use Rattle.journal.specs.Record.{numbers_of}
-use Rattle.journal.specs.Reads.{LooksUp}
+use Rattle.medium.specs.declared.fault.MediumFault.{MediumFault}
+use Rattle.journal.specs.Reads.{IsRefusedCall, LooksUp}
 use Rattle.journal.specs.Format1.{record_in}
 use Rattle.journal.proofs.CopiedBlock.{read_is}
 use Rattle.journal.proofs.Format1Laws.{descriptor_there, commit_there, numbers_read, whole_in}
@@ -11,29 +12,28 @@ use Rattle.medium.proofs.SectorsRead.{looks_joined, look_below}
 use Rattle.journal.proofs.SectorsRead.{within_one}
 use Rattle.journal.proofs.v1.read.read_record.Given as given
 use Rattle.journal.proofs.v1.read.read_record.Goals as goal
-use Rattle.journal.proofs.v1.read.read_record.Goals.{After-whole_record}
+use Rattle.journal.proofs.v1.read.read_record.Goals.{After-read-2}
 
 -- the descriptor and then the commit are read, of a slot that ends before home, and find this
-joined : (g : given.Over) (c : After-whole_record g) {Z : Type 0} {H : State → State → Z → Type 0} (z : Z)
-    → H (g.M.Medium.state c.args.m.now) (g.M.Medium.state c.read-2.new.self) z
-    → LooksUp g.M.Medium.state g.M.Medium.follows 2 (λ s. s < c.args.sizes.now.home) H c.args.m.now c.read-2.new.self (Ok z)
-joined g c z finds =
+joined : (g : given.Over) (c : After-read-2 g) {Z : Type 0} {H : State → State → Z → Type 0} (result : Result Z MediumFault)
+    → IfErr result (IsRefusedCall (g.M.Medium.state c.args.m.now) (g.M.Medium.state c.read-2.new.self))
+    → IfOk result (H (g.M.Medium.state c.args.m.now) (g.M.Medium.state c.read-2.new.self))
+    → LooksUp g.M.Medium.state g.M.Medium.follows 2 (λ s. s < c.args.sizes.now.home) H c.args.m.now c.read-2.new.self result
+joined g c result cause finds =
     let ends = within_one c.args.sizes.now c.args.stamp _ c.slot_of-slot.ensures c.requires.format in
-    let a = c.read.ensures.follows in
-    let b = c.read-2.ensures.follows in
-    let first = look_below c.args.sizes.now.home _ _ _ (omega (arith, ends, c.place_of.ensures)) a.1 in
-    let last = look_below c.args.sizes.now.home _ _ _ (omega (arith, ends, c.commit_place.ensures)) b.1 in
+    let first = look_below c.args.sizes.now.home _ _ _ (omega (arith, ends, c.place_of.ensures)) c.read.ensures.follows.1 in
+    let last = look_below c.args.sizes.now.home _ _ _ (omega (arith, ends, c.commit_place.ensures)) c.read-2.ensures.follows.1 in
     record {
       passes = search rules;
       finds = finds;
-      follows = (g.met.M.Medium.follows_through _ _ _ a.0 b.0, looks_joined _ _ _ _ first last);
+      follows = search (rules, g.met.M.Medium.follows_through, looks_joined, first, last);
     }
 
 pub returns-in_default : goal.returns-in_default
 returns-in_default g c =
-    let after = (goal.at.returns-in_default g c).After-whole_record in
+    let after = (goal.at.returns-in_default g c).After-read-2 in
     let slot = c.slot_of-slot.ensures in
-    joined g after _ (record {
+    joined g after _ tt (record {
       some = tt;
       all = λ entries whole.
           let w = as_format c.requires.format whole in
@@ -46,7 +46,7 @@ returns-in_default g c =
 
 pub returns : goal.returns
 returns g c =
-    let after = (goal.at.returns g c).After-whole_record in
+    let after = (goal.at.returns g c).After-read-2 in
     let shape = shape_of c.args.sizes.now in
     let image = (g.M.Medium.state c.args.m.now).content in
     let slot = c.slot_of-slot.ensures in
@@ -58,7 +58,7 @@ returns g c =
     let none : c.append.new.self.firsts.items ≡ [] = rw (c.append.ensures.firsts, c.clear.ensures.firsts) in
     let sound = g.met.M.Medium.sound c.args.m.now in
     let ends = within_one c.args.sizes.now c.args.stamp _ refl c.requires.format in
-    joined g after _ (record {
+    joined g after _ tt (record {
       some = λ stamped. (
         record_in image at,
         of_format c.requires.format (whole_in shape image c.args.stamp found described ended c.in-Some.ensures.inside
@@ -71,3 +71,6 @@ returns g c =
           (rw c.requires.format none);
       exact = (2, rw c.requires.format refl, omega arith);
     })
+
+pub returns-in_err-read-2 : goal.returns-in_err-read-2
+returns-in_err-read-2 g c = joined g (goal.at.returns-in_err-read-2 g c).After-read-2 _ (search rules) (search rules)

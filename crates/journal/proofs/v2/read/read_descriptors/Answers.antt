@@ -62,3 +62,7 @@ returns-in_default g c =
       record { first = j; inside = omega (arith, c.descriptors-j-end.ensures); before = inv.there; bad = finds.1; reads_are = refl },
       omega (arith, inv.looked.finds, finds.0),
     )
+
+pub returns-in_err-found : goal.returns-in_err-found
+returns-in_err-found g c = looks_on g.met.M.Medium.follows_through c.loop-j.invariant.looked c.read_descriptor.ensures
+    (omega (arith, c.descriptors-j-end.ensures)) (search rules) (search rules)

@@ -118,3 +118,9 @@ returns-else-are_blocks g c =
         omega (arith, says.1, commit.0),
       );
     })
+
+pub returns-in_err-read_descriptors : goal.returns-in_err-read_descriptors
+returns-in_err-read_descriptors g c =
+    let ends = within_two c.args.sizes.now c.args.stamp _ c.slot_of-slot.ensures c.requires.format in
+    looks_on g.met.M.Medium.follows_through (looks_within ends c.read_count.ensures) (looks_within ends c.read_descriptors.ensures)
+    (omega arith) (search rules) (search rules)
