@@ -20,7 +20,7 @@ use Rattle.recovery.specs.declared.start_fault.StartFault.{StartFault}
 use Rattle.journal.proofs.SectorNumbers.{IsSuper-one}
 use Rattle.recovery.proofs.CopiedRecords.{sets_within, spared_by, AreSame, zeros_ours}
 use Rattle.std.proofs.lemmas.Result.{on_ok_weaker}
-use Rattle.medium.specs.declared.fault.MediumFault.TheVariants.{Read, Write, Flush}
+use Rattle.medium.specs.declared.fault.MediumFault.TheVariants.{Read, Flush}
 use Rattle.medium.proofs.SparedSectors.{spared_joined, spared_behind, spared_quiet}
 use Rattle.spec.specs.Blocks.{Array}
 use Rattle.journal.specs.Record.{home_of}
@@ -99,7 +99,8 @@ super_looked old new look near holds = look_below near old new 0 holds.some look
 -- and behind it the head
 pub head_looked : {old mid new : State} {result : Result (Unit {0}) MediumFault} (sizes : Super)
     → HasShape old.size (shape_of sizes) old.content → IsQuiet old mid → LooksAtLog old mid → Passes Read result mid new
-    → Stays mid.content new.content → Within new.may_leave mid.may_leave → LooksOnly (λ s. s ≡ 1) mid new → IsQuiet old new × LooksAtLog old new
+    → Stays mid.content new.content → Within new.may_leave mid.may_leave → LooksOnly (λ s. s ≡ 1) mid new
+    → IsQuiet old new × LooksAtLog old new
 head_looked {old} {mid} {new} sizes has quiet looks passes content sets head =
     let home = sizes.home_is.0 in
     let read = look_below (first_home (shape_of sizes)) mid new 1 (omega (arith, home)) head in
@@ -119,11 +120,9 @@ records_read {state = state} {old = old} sizes has before rest =
     search (rules, quiet, rest.passes.reads, before.reads, one, sizes.most_slots, looks)
 
 -- a write reads nothing, and a flush neither
-pub write_unread : (old new : State) {result : Result (Unit {0}) MediumFault} → Passes Write result old new → new.looked ≡ old.looked
-write_unread old new call = call.looked_stays (λ e. cc e)
-
-pub flush_unread : (old new : State) {result : Result (Unit {0}) MediumFault} → Passes Flush result old new → new.looked ≡ old.looked
-flush_unread old new call = call.looked_stays (λ e. cc e)
+pub reads_none : (old new : State) {fault : MediumFault} {result : Result (Unit {0}) MediumFault} → Passes fault result old new
+    → fault ≢ Read → new.looked ≡ old.looked
+reads_none old new call other = call.looked_stays other
 
 -- a sector before these is written
 through_spares : (first place : ℕ) (bytes : List ℕ) (old new : State) → place < first → IsSound new
