@@ -111,7 +111,8 @@ copies_ours {shape = shape} {start = start} {next = next} ours head count head_i
     let es = get_or records h.0 [] in
     let here = home_in_whole shape start _ es (first_home shape + b) (ours.stands.keeps.whole h.0 h.1) h.2 in
     let hides = records-hide records h.0 here.0 h.1 (omega (arith, here.1, long_as es (numbers_of es) refl)) in
-    subst (Hides records) (omega (arith, here.2, number_of es (numbers_of es) here.0 refl)) hides (home_of shape image) (home_of shape start)) (each (first_home shape + b)) in
+    subst (Hides records) (omega (arith, here.2, number_of es (numbers_of es) here.0 refl)) hides
+    (home_of shape image) (home_of shape start)) (each (first_home shape + b)) in
     record {
       stands = record {
         fits = ours.stands.fits;

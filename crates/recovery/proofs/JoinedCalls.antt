@@ -20,7 +20,7 @@ use Rattle.recovery.specs.declared.start_fault.StartFault.{StartFault}
 use Rattle.journal.proofs.SectorNumbers.{IsSuper-one}
 use Rattle.recovery.proofs.CopiedRecords.{sets_within, spared_by, AreSame, zeros_ours}
 use Rattle.std.proofs.lemmas.Result.{on_ok_weaker}
-use Rattle.medium.specs.declared.fault.MediumFault.TheVariants.{Write, Flush}
+use Rattle.medium.specs.declared.fault.MediumFault.TheVariants.{Read, Flush}
 use Rattle.medium.proofs.SparedSectors.{spared_joined, spared_behind, spared_quiet}
 use Rattle.spec.specs.Blocks.{Array}
 use Rattle.journal.specs.Record.{home_of}
@@ -61,7 +61,8 @@ pub copies_on : {X Y Z : Type 0} {more all P Q : ℕ → Type 0} {few many most 
 copies_on {all = all} {old = old} {mid = mid} sound f wider first second fit few cause =
     let freed = freed_at all old.may_leave in
     let moments = joined_same (CutLeaves freed) _ _ _ first.moments
-    (weaker _ _ _ _ (λ image cut s. ⊎_elim (sets_within freed old mid sound first.moments s (image s)) (λ p. inr (f s p)) (cut s)) second.moments) in
+    (weaker _ _ _ _ (λ image cut s. ⊎_elim (sets_within freed old mid sound first.moments s (image s)) (λ p. inr (f s p)) (cut s))
+    second.moments) in
     let elsewhere = λ (x : ℕ) (not : ¬ all x). second.elsewhere x (λ h. not (f x h)) ∙ first.elsewhere x not in
     search (rules, elsewhere, moments, looks_joined _ _ _ _ first.looks (looks_wider _ _ _ _ wider second.looks))
 
@@ -71,7 +72,8 @@ pub none_copies : {M X Y : Type 0} {state : M → State} {Follows : M → M → 
     → IsSound (state old) → LooksUp state Follows few reads F old new one → few ≤ most
     → IfErr result (IsRefusedCall (state old) (state new)) → Copies places reads most sends (state old) (state new) result
 none_copies {state = state} {places = places} {old = old} {new = new} sound looked fit cause =
-    let moments = quiet_leaves (CutLeaves (freed_at places (state old).may_leave)) _ _ sound (λ image cut s. inl (cut s)) looked.passes.quiet in
+    let moments = quiet_leaves (CutLeaves (freed_at places (state old).may_leave)) _ _ sound (λ image cut s. inl (cut s))
+    looked.passes.quiet in
     search (rules, moments, none_sent (state old) (state new) looked.passes.reads, looked.follows.1)
 
 -- nor does no call
@@ -94,6 +96,16 @@ looked_on shape old mid new has first last near holds =
 pub super_looked : (old new : State) → LooksOnly (λ s. s ≡ 0) old new → LooksAtLog old new
 super_looked old new look near holds = look_below near old new 0 holds.some look
 
+-- and behind it the head
+pub head_looked : {old mid new : State} {result : Result (Unit {0}) MediumFault} (sizes : Super)
+    → HasShape old.size (shape_of sizes) old.content → IsQuiet old mid → LooksAtLog old mid → Passes Read result mid new
+    → Stays mid.content new.content → Within new.may_leave mid.may_leave → LooksOnly (λ s. s ≡ 1) mid new
+    → IsQuiet old new × LooksAtLog old new
+head_looked {old} {mid} {new} sizes has quiet looks passes content sets head =
+    let home = sizes.home_is.0 in
+    let read = look_below (first_home (shape_of sizes)) mid new 1 (omega (arith, home)) head in
+    (quiet_joined old mid new quiet (quiet_call mid new passes content sets), looked_on (shape_of sizes) old mid new has looks read)
+
 -- the super and the head are read, and then what shows whether records are whole
 pub records_read : {M X Y : Type 0} {state : M → State} {Follows : M → M → Type 0} {Has : State → Y → Type 0}
     {F : State → State → X → Type 0} {old mid new : M} {first : Result Y StartFault} {result : Result X MediumFault} (sizes : Super)
@@ -108,11 +120,9 @@ records_read {state = state} {old = old} sizes has before rest =
     search (rules, quiet, rest.passes.reads, before.reads, one, sizes.most_slots, looks)
 
 -- a write reads nothing, and a flush neither
-pub write_unread : (old new : State) {result : Result (Unit {0}) MediumFault} → Passes Write result old new → new.looked ≡ old.looked
-write_unread old new call = call.looked_stays (λ e. cc e)
-
-pub flush_unread : (old new : State) {result : Result (Unit {0}) MediumFault} → Passes Flush result old new → new.looked ≡ old.looked
-flush_unread old new call = call.looked_stays (λ e. cc e)
+pub reads_none : (old new : State) {fault : MediumFault} {result : Result (Unit {0}) MediumFault} → Passes fault result old new
+    → fault ≢ Read → new.looked ≡ old.looked
+reads_none old new call other = call.looked_stays other
 
 -- a sector before these is written
 through_spares : (first place : ℕ) (bytes : List ℕ) (old new : State) → place < first → IsSound new

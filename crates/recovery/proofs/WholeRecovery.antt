@@ -29,7 +29,8 @@ use Rattle.recovery.specs.Calls.{copy_calls, most_calls_of, most_reads_of, most_
 use Rattle.recovery.specs.Calls.{HasNewHead, Copies, Writes, HoldsLog}
 use Rattle.recovery.specs.Causes.{WritesNothing, HasFewSlots, IsRefusalBy, IsDeviceFault}
 use Rattle.recovery.specs.Inspected.{AreTriesOf, IsSurvey, SurveysAtMost, IsLookCause}
-use Rattle.recovery.specs.Recovered.{IsOursInEither, MigrationLeaves, most_migration_sends, IsRecoveryRefusal, IsRecoveredAtLeast, IsRecoveredFrom, IsFresh, IsOursForSome, IsOursWithNext, StandsForOneOf}
+use Rattle.recovery.specs.Recovered.{IsOursInEither, MigrationLeaves, most_migration_sends, IsRecoveryRefusal, IsRecoveredAtLeast}
+use Rattle.recovery.specs.Recovered.{IsRecoveredFrom, IsFresh, IsOursForSome, IsOursWithNext, StandsForOneOf}
 use Rattle.recovery.specs.Recovered.{StandsForSome, LeavesAtLeast, StartLeaves}
 use Rattle.recovery.specs.declared.found.Found.{Found}
 use Rattle.recovery.specs.declared.start_fault.StartFault.{StartFault}

@@ -58,7 +58,8 @@ fn make_two<M: Medium>(m: &mut M, found: &Recovered) -> Result<Recovered, Medium
     requires least { 1 ≤ found.now.next }
     requires most { found.now.next < 2 ^ 63 }
     // The answer tells what was made.
-    ensures ok { IfOk result (λ answer. (shape_of answer.sizes ≡ migrated (shape_of found.now.sizes))
+    ensures ok { IfOk result (λ answer.
+        (shape_of answer.sizes ≡ migrated (shape_of found.now.sizes))
         × (answer.next ≡ found.now.next)
         × IsMadeTwo (shape_of found.now.sizes) found.now.next (M.state m.new)) }
     // A write for each sector of the log, a flush, the head, a flush, the super and a flush.

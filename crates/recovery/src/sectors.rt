@@ -12,7 +12,7 @@ use medium::{Medium, MediumFault};
 /// # Errors
 ///
 /// Where the medium refused a write: none is made behind it.
-#[tactic(auto, using(crate::proofs::JoinedCalls::write_unread))]
+#[tactic(auto, using(crate::proofs::JoinedCalls::reads_none))]
 pub fn clear<M: Medium>(m: &mut M, from: u64, end: u64) -> Result<(), MediumFault>
     requires inside { end ≤ (M.state m.old).size }
     requires some { from ≤ end }
@@ -34,7 +34,7 @@ pub fn clear<M: Medium>(m: &mut M, from: u64, end: u64) -> Result<(), MediumFaul
 /// # Errors
 ///
 /// Where the medium refused one of the two calls.
-#[tactic(auto, using(crate::proofs::JoinedCalls::write_unread, crate::proofs::JoinedCalls::flush_unread))]
+#[tactic(auto, using(crate::proofs::JoinedCalls::reads_none))]
 pub fn write_through<M: Medium>(
     m: &mut M,
     place: u64,

@@ -66,13 +66,14 @@ returns-clause-image g c =
     let home = c.args.sizes.now.home_is.0 in
     let last = c.write_through-3.ensures in
     let before = headed g at.After-write_through-2 in
+    let head = c.in_ok-write_through-2.ensures.done.1 in
     let none = at_exit _ _ _ (g.met.M.Medium.sound c.write_through-2.new.m) before.moments in
     let super : Writes (IsNoneOrWritten (shape_of c.args.sizes.now) c.args.end
     (g.M.Medium.state c.args.m.now).content) c.args.end 2 (g.M.Medium.state c.write_through-2.new.m)
     (g.M.Medium.state c.write_through-3.new.m) c.write_through-3.result =
     through_writes (g.met.M.Medium.sound c.write_through-3.new.m) (omega (arith, home, c.requires.log)) last.writes last.follows
     (λ image cut. inl (none image cut)) (λ was image cut holds. inr (written g at.After-write_through-3 image
-    (record { here = holds.here; elsewhere = λ t not. holds.elsewhere t not ∙ c.in_ok-write_through-2.ensures.done.1 t (was t) (cut t) }))) in
+    (record { here = holds.here; elsewhere = λ t not. holds.elsewhere t not ∙ head t (was t) (cut t) }))) in
     made_image (first g at.After-write_through) c.in_ok-write_through.ensures.writes.exact
     (writes_on {most = c.args.end + 3} {result = c.write_through-3.result} (wider _ _ (λ image is. inl is) (omega arith) before) super
     (omega arith) (search rules) (search (rules, arith))) (omega arith) (search rules) (search (rules, arith))

@@ -77,7 +77,8 @@ module _ {old mid : State} {found : Recovered} (start : IsRecoveredAtLeast 5 old
             start_on {shape = shape} sound_old (search (rules, start.from.stood, start.from.stamp_left, start.room))
             (recovery_leaves old mid before) (omega (arith, tried)) leaves_ours
             (spared_behind (first_home shape) (sectors_of shape) mid new (omega arith) making.spares)
-            (no_looks _ mid new making.reads.looked_stays) (omega (arith, most, making.calls, home_is, found.sizes.most_slots)) (omega arith)
+            (no_looks _ mid new making.reads.looked_stays)
+            (omega (arith, most, making.calls, home_is, found.sizes.most_slots)) (omega arith)
             (rw one sends) (rw one (omega (arith, found.sizes.most_slots)))
 
       module _ (answer : Recovered) (is : (shape_of answer.sizes ≡ migrated shape) × (answer.next ≡ found.next)

@@ -102,7 +102,8 @@ returns-in-None g c =
     let below = c.loop-j-test.true in
     let many : c.loop-j.j + 1 ≡ min (length c.loop-j.waiting.items + 1) c.args.sizes.now.slots = omega (arith, below, inv.finds.1) in
     let are = counts_made shape old.content c.args.head c.loop-j.j c.loop-j.waiting.items inv.finds.1 (omega (arith, below)) inv.finds.2
-    (λ less w. (rw c.in-None.is at c.in_ok-count.ensures.finds.1) (quiet_after (λ n i. HasWhole shape i (c.args.head + c.loop-j.j)) old _ inv.passes.quiet w)) in
+    (λ less w. (rw c.in-None.is at c.in_ok-count.ensures.finds.1)
+    (quiet_after (λ n i. HasWhole shape i (c.args.head + c.loop-j.j)) old _ inv.passes.quiet w)) in
     looks_on g.met.M.Medium.follows_through inv c.count_blocks.ensures
     (each_once_more (most_reads_of c.args.sizes.now.format) c.loop-j.j c.args.sizes.now.slots below) tt
     (search (rules, are, rw many at (one_more g (goal.at.returns-in-None g c).In_ok-count)))
