@@ -1,17 +1,16 @@
 -- The crash argument, for every layout: what the writing of a record leaves, and its retiring while another is written.
-use Rattle.std.proofs.Common.{◌≡◌, ◌≢◌, ◌⊎◌, inl, inr, ⊎_elim, ℕ, ◌+◌, ◌*◌, ◌-◌, ◌%◌, ◌<◌, ◌≤◌, List, length, refl, arith, rules, [], ◌∷◌}
+use Rattle.std.proofs.Common.{◌≡◌, ◌≢◌, ◌⊎◌, inl, inr, ℕ, ◌+◌, ◌*◌, ◌-◌, ◌%◌, ◌<◌, ◌≤◌, List, length, arith, rules, [], ◌∷◌}
 use Rattle.std.proofs.Common.{◌++◌, length-append, get_or, drop, sym, ◌∙◌}
 use Rattle.std.proofs.lemmas.Bool.{cases_eq, cases_lt}
 use Rattle.std.proofs.lemmas.Nat.{mod_below}
 use Rattle.std.proofs.lemmas.List.{get_or_append_left, length-drop, get_or-drop}
-use Rattle.std.proofs.Math.Seq.{get_or-append_seam}
+use Rattle.std.proofs.Math.Seq.{get_or-append_seam, drop-cons}
 use Rattle.medium.specs.Medium.{Image, Holds}
-use Rattle.spec.specs.Blocks.{Array}
 use Rattle.journal.specs.Places.{Shape}
-use Rattle.journal.specs.Record.{Entry, with_records, home_of, Agree, Hides}
-use Rattle.journal.specs.Layout.{Layout, IsWholeIn, HasWholeIn, CarriesBelowIn, LoggedIn, RestsIn, IsFree, slot_at, part_at}
+use Rattle.journal.specs.Record.{Entry, with_blocks, with_records, home_of, Agree, Hides}
+use Rattle.journal.specs.Layout.{Layout, IsWholeIn, HasWholeIn, CarriesBelowIn, IsFree, slot_at, part_at}
 use Rattle.journal.specs.LayoutLaws.{Laws, IsRecordOf}
-use Rattle.journal.specs.Staged.{View, stamp_of, KeepsView, Found, Stored, Guarded, HasSlots, Resting, with_record, MayLeave, with_less}
+use Rattle.journal.specs.Staged.{View, HasParts, stamp_of, KeepsView, Found, Stored, Guarded, HasSlots, Resting, with_record, MayLeave, with_less}
 use Rattle.journal.specs.Staged.{IsHomed}
 use Rattle.journal.specs.Sectors.{IsHead}
 use Rattle.journal.proofs.Apart.{in_log, other_sector}
@@ -47,34 +46,31 @@ module _ (L : Layout) (laws : Laws L) (shape : Shape) where
       let late = late_carries image stamp whole.0 (L.parts n - 1) whole.1 in
       grind (arith, late, laws.some_parts n, laws.last_is_late n, laws.last n, free)
 
-module _ (L : Layout) (laws : Laws L) (shape : Shape) (some : 1 ≤ shape.slots) where
   -- behind the stamps that the log carries no record is whole
-  pub none_carried : (image : Image) (end : ℕ) → CarriesBelowIn L shape image end → ¬ HasWholeIn L shape image end
-  none_carried image end c =
+  none_carried : 1 ≤ shape.slots → (image : Image) (end : ℕ) → CarriesBelowIn L shape image end → ¬ HasWholeIn L shape image end
+  none_carried some image end c =
       let low = mod_below end shape.slots some in
-      last_free_none L laws shape image end (λ t. c (end % shape.slots) (L.slot_sectors - 1) t low
+      last_free_none image end (λ t. c (end % shape.slots) (L.slot_sectors - 1) t low
       (omega (arith, laws.inside 0 0 (omega arith) (laws.some_parts 0))))
 
-  -- an image at rest stands for its array
-  pub rests_logged : (image : Image) (head : ℕ) (records : List (List Entry)) (array : Array) → length records ≤ shape.slots
-      → RestsIn L shape image head records array → LoggedIn L shape image head records array
-  rests_logged image head records array few r =
-      let none = none_carried image (head + length records) r.carries in search (rules, arith, r.carries)
+-- an image at rest stands for its array
+pub rests_found : (L : Layout) → Laws L → (v : View) {image : Image} → length v.records ≤ v.shape.slots → Resting L v image → Found L v image
+rests_found L laws v {image} few r =
+    let none = none_carried L laws v.shape r.keeps.super.some_slots image (stamp_of v) r.carries in search (rules, arith, r.carries)
 
 -- where no sector of the log carries the stamp or a later one, a record may be begun
 pub rests_begun : {L : Layout} {v : View} {image : Image} → Resting L v image → Guarded L v 0 0 image
-rests_begun r = record {
-  stored = record { keeps = r.keeps; parts = λ p none. absurd (omega arith) };
-  carries = λ slot o low small. inr (λ t. r.carries slot o t low small);
-}
+rests_begun r = search (rules, arith, r.carries)
 
 -- and with no part of it written none does
 pub begun_rests : {L : Layout} {v : View} {so_far durable : ℕ} {image : Image} → so_far ≡ 0 → Guarded L v so_far durable image
     → Resting L v image
-begun_rests none g = record {
-  keeps = g.stored.keeps;
-  carries = λ slot o t low small c. ⊎_elim (λ h. absurd (omega (arith, h.early))) (λ free. free t c) (g.carries slot o low small);
-}
+begun_rests none g = grind (arith, none, g.stored.keeps, g.carries)
+
+-- part k may be there
+pub Guarded-lost : {L : Layout} {v : View} {image : Image} (k : ℕ) {durable : ℕ} → Guarded L v k durable image
+    → Guarded L v (k + 1) durable image
+Guarded-lost k g = grind (arith, g.stored, g.carries)
 
 module _ (L : Layout) (laws : Laws L) (v : View) (slots : HasSlots L v) where
   -- where the last part of the record under way does not carry its stamp, it is not whole
@@ -94,15 +90,11 @@ module _ (L : Layout) (laws : Laws L) (v : View) (slots : HasSlots L v) where
   keeps_stays before image o bytes small write k =
       let slot = stamp_of v % v.shape.slots in
       let low = in_log L.slot_sectors slot v.shape.slots o slot_below small in
+      let apart = λ (j x : ℕ). other_sector L.slot_sectors ((v.head + j) % v.shape.slots) slot (x - slot_at L v.shape (v.head + j)) o in
+      let near = λ (j : ℕ). other_slot (v.head + j) (stamp_of v) v.shape.slots in
       Keeps-same L laws v.shape before image v.head v.records v.array (write.elsewhere 0 (λ e. omega arith))
       (write.elsewhere 1 (λ e. omega arith))
-      (λ j earlier x from to. grind (
-        arith,
-        write.elsewhere x,
-        other_sector L.slot_sectors ((v.head + j) % v.shape.slots) slot (x - slot_at L v.shape (v.head + j)) o,
-        other_slot (v.head + j) (stamp_of v) v.shape.slots,
-        slots.room,
-      ))
+      (λ j earlier x from to. grind (arith, write.elsewhere x, apart j x, near j, slots.room))
       (λ x from to. write.elsewhere x (λ e. omega (arith, slots.behind))) k
 
   -- a part of a record of this stamp carries no other one
@@ -118,21 +110,18 @@ module _ (L : Layout) (laws : Laws L) (v : View) (slots : HasSlots L v) where
   -- no sector of the log carries a later stamp
   pub carries_below : (image : Image) (so_far durable : ℕ) → Guarded L v so_far durable image
       → CarriesBelowIn L v.shape image (stamp_of v + 1)
-  carries_below image so_far durable g slot o t low small carries = ⊎_elim
-      (λ h. omega (arith, one_part v.under_way slots.under_way slot o t h.part _ small h.inside h.place_is h.there carries))
-      (λ free. omega (arith, free t carries))
-      (g.carries slot o low small)
+  carries_below image so_far durable g slot o t low small carries =
+      let only = λ (p : ℕ). one_part v.under_way slots.under_way slot o t p (image (2 + L.slot_sectors * slot + o)) small in
+      grind (arith, g.carries slot o low small, only)
 
   -- a part is there, of those that are written, or its sector does not carry the stamp
   pub part_or_free : (image : Image) (so_far durable p : ℕ) → Guarded L v so_far durable image → p < L.parts (length v.under_way)
       → ((p < so_far) × (image (at L v p) ≡ bytes_of L v p))
       ⊎ IsFree L (stamp_of v) (L.offset (length v.under_way) p) (image (at L v p))
-  part_or_free image so_far durable p g below = ⊎_elim
-      (λ h.
-      let same : h.part ≡ p = laws.apart (length v.under_way) h.part p slots.under_way.fit.few h.inside below (omega (arith, h.place_is)) in
-      inl (omega (arith, h.early, same), rw same at h.there))
-      inr
-      (g.carries (stamp_of v % v.shape.slots) (L.offset (length v.under_way) p) slot_below (inside p below))
+  part_or_free image so_far durable p g below =
+      let same = λ (q : ℕ). laws.apart (length v.under_way) q p slots.under_way.fit.few in
+      let here = g.carries (stamp_of v % v.shape.slots) (L.offset (length v.under_way) p) slot_below (inside p below) in
+      grind (arith, here, same)
 
   -- a part that was not written now
   part_stays : {before image : Image} {k p : ℕ} {bytes : List ℕ} → Holds (at L v k) bytes before image
@@ -144,22 +133,12 @@ module _ (L : Layout) (laws : Laws L) (v : View) (slots : HasSlots L v) where
   pub Stored-write : {before image : Image} (k : ℕ) {count next : ℕ} → k < L.parts (length v.under_way)
       → ((p : ℕ) → p < next → p ≢ k → p < count) → Holds (at L v k) (bytes_of L v k) before image
       → Stored L v count before → Stored L v next image
-  Stored-write {before} {image} k below others write s =
+  Stored-write {before} {image} k {next = next} below others write s =
       let keeps = keeps_stays before image _ (bytes_of L v k) (inside k below) write s.keeps in
-      record {
-        keeps = keeps;
-        parts = λ p low small. elim (cases_eq p k) [
-          | inl same ↦ rw (same, write.here) refl
-          | inr other ↦ rw (part_stays write below small other) (s.parts p (others p low other) small)
-        ];
-      }
-
-  -- part k may be there
-  pub Guarded-lost : {image : Image} (k : ℕ) {durable : ℕ} → Guarded L v k durable image → Guarded L v (k + 1) durable image
-  Guarded-lost k g = record {
-    stored = g.stored;
-    carries = λ slot o low small. ⊎_elim (λ h. inl (search (rules, arith))) inr (g.carries slot o low small);
-  }
+      let stays = λ (p : ℕ). part_stays {p = p} write below in
+      let parts : HasParts L v.shape (stamp_of v) v.under_way next image = λ p low small.
+      grind (arith, cases_eq p k, write.here, stays p small, others p low, s.parts p) in
+      search rules
 
   -- part k reached the medium
   pub Guarded-write : {before image : Image} (k : ℕ) {durable : ℕ} → k < L.parts (length v.under_way)
@@ -167,11 +146,7 @@ module _ (L : Layout) (laws : Laws L) (v : View) (slots : HasSlots L v) where
   Guarded-write {before} {image} k below write g = record {
     stored = Stored-write k below (λ p low not. low) write g.stored;
     carries = λ slot o low small.
-        let place : ℕ = 2 + L.slot_sectors * slot + o in
-        elim (cases_eq place (at L v k)) [
-          | inl here ↦ inl (record { part = k; early = omega arith; inside = below; place_is = here; there = rw (here, write.here) refl })
-          | inr other ↦ rw (write.elsewhere place other) ((Guarded-lost k g).carries slot o low small)
-        ];
+        grind (arith, cases_eq (2 + L.slot_sectors * slot + o) (at L v k), write.here, write.elsewhere, (Guarded-lost k g).carries slot o low small);
   }
 
   -- Where a part but the last one was written with other blocks in it, the record under way is not whole.
@@ -186,32 +161,35 @@ module _ (L : Layout) (laws : Laws L) (v : View) (slots : HasSlots L v) where
       let keeps = keeps_stays before image _ (L.part (stamp_of v) other k) (inside k below) write g.stored.keeps in
       let carries : CarriesBelowIn L v.shape image (stamp_of v + 1) = λ slot o t low small carries.
       let place : ℕ = 2 + L.slot_sectors * slot + o in
-      elim (cases_eq place (at L v k)) [
-        | inl here ↦ omega (arith, one_part other is slot o t k (image place) small (rw same below) (rw same here) (rw (here, write.here) refl) carries)
-        | inr not ↦ carries_below before k durable g slot o t low small (rw (write.elsewhere place not) at carries)
-      ] in
+      let mine = one_part other is slot o t k (image place) small in
+      let others = carries_below before k durable g slot o t low small in
+      grind (arith, cases_eq place (at L v k), write.here, write.elsewhere, mine, others) in
       grind (arith, slots.room)
 
-  -- with all its parts in its slot the record is whole
-  whole_now : (image : Image) → ((p : ℕ) → p < L.parts (length v.under_way) → image (at L v p) ≡ bytes_of L v p)
-      → IsWholeIn L v.shape image (stamp_of v) v.under_way
-  whole_now image there = search (rules, slots.under_way)
+  longer : length (v.records ++ v.under_way ∷ []) ≡ length v.records + 1
+  longer = length-append v.records (v.under_way ∷ [])
 
-  -- with its last part there, each whole record of its stamp has as many blocks
-  same_count : (image : Image) (es : List Entry) → image (at L v (last L v)) ≡ bytes_of L v (last L v)
-      → IsWholeIn L v.shape image (stamp_of v) es → length es ≡ length v.under_way
-  same_count image es commit w =
-      let count = laws.count v.shape.blocks (stamp_of v) es v.under_way (record_of w) slots.under_way in
-      grind (arith, count, w.there (L.parts (length es) - 1), laws.some_parts (length es), laws.last, commit)
+  -- with all its parts in its slot the record is whole, and the image keeps it with the durable ones
+  pub Stored-durable : {image : Image} {count : ℕ} → L.parts (length v.under_way) ≤ count → Stored L v count image
+      → KeepsView L (with_record v) image
+  Stored-durable {image} all s =
+      let there = λ (p : ℕ) (below : p < L.parts (length v.under_way)). s.parts p (omega arith) below in
+      let whole : IsWholeIn L v.shape image (stamp_of v) v.under_way = search (rules, slots.under_way, there) in
+      let more = with_records-append v.records v.under_way (home_of v.shape image) in
+      let laid = with_blocks-same v.under_way (with_records v.records (home_of v.shape image)) v.array in
+      let old = get_or_append_left v.records (v.under_way ∷ []) [] in
+      grind (arith, cases_lt, s.keeps, longer, get_or-append_seam v.records v.under_way [] [])
 
-  -- the record under way is not whole, or all its parts are written, and it is, with its blocks
-  whole_or_not : (image : Image) (k durable : ℕ) → (L.parts (length v.under_way) ≤ k → L.early (length v.under_way) ≤ durable)
-      → Guarded L v k durable image → (¬ HasWholeIn L v.shape image (stamp_of v))
-      ⊎ ((L.parts (length v.under_way) ≤ k) × IsWholeIn L v.shape image (stamp_of v) v.under_way)
-  whole_or_not image k durable early g =
+  -- the record under way is not whole, or all its parts are written, and it is, with its blocks: a cut leaves what it may
+  pub guarded_leaves : (image : Image) (k durable : ℕ) → (L.parts (length v.under_way) ≤ k → L.early (length v.under_way) ≤ durable)
+      → Guarded L v k durable image → MayLeave L v k image
+  guarded_leaves image k durable early g =
       let or_free = λ (p : ℕ). part_or_free image k durable p g in
+      let carries = carries_below image k durable g in
+      let without : ¬ HasWholeIn L v.shape image (stamp_of v) → MayLeave L v k image = λ not.
+      inl (record { keeps = g.stored.keeps; few = omega (arith, slots.room); ends = λ room. not; carries = carries }) in
       elim (or_free (last L v) (omega (arith, laws.some_parts (length v.under_way)))) [
-        | inr free ↦ inl (last_free image free)
+        | inr free ↦ without (last_free image free)
         | inl commit ↦
             let all : L.parts (length v.under_way) ≤ k = omega (arith, commit.0) in
             elim (all_or_first
@@ -219,53 +197,21 @@ module _ (L : Layout) (laws : Laws L) (v : View) (slots : HasSlots L v) where
             (λ p. (durable ≤ p) × IsFree L (stamp_of v) (L.offset (length v.under_way) p) (image (at L v p)))
             (L.parts (length v.under_way))
             (λ p small. grind (arith, cases_lt p durable, g.stored.parts p, or_free p small))) [
-              | inl there ↦ inr (all, whole_now image there)
+              | inl there ↦
+                  let keeps = Stored-durable {count = k} all (record { keeps = g.stored.keeps; parts = λ p low small. there p small }) in
+                  let none = none_carried L laws v.shape slots.some image (stamp_of v + 1) carries in
+                  let found : Found L (with_record v) image = grind (arith, longer, slots.room, carries) in
+                  inr (all, found)
               | inr one ↦
-                  inl (λ whole.
-                  let same = same_count image whole.0 commit.1 whole.1 in
+                  without (λ whole.
+                  let n = length whole.0 in
+                  let count = laws.count v.shape.blocks (stamp_of v) whole.0 v.under_way (record_of whole.1) slots.under_way in
+                  let same : length whole.0 ≡ length v.under_way =
+                  grind (arith, count, whole.1.there (L.parts n - 1), laws.some_parts n, laws.last, commit.1) in
                   late_carries L laws v.shape image (stamp_of v) whole.0 one.0 whole.1 (rw same one.1)
                   (rw same (omega (arith, early all, one.3.0))) (rw same one.3.1))
             ]
       ]
-
-  longer : length (v.records ++ v.under_way ∷ []) ≡ length v.records + 1
-  longer = length-append v.records (v.under_way ∷ [])
-
-  -- an image where it is whole keeps it with the durable ones
-  keeps_with : (image : Image) → KeepsView L v image → IsWholeIn L v.shape image (stamp_of v) v.under_way
-      → KeepsView L (with_record v) image
-  keeps_with image keeps whole =
-      let more = with_records-append v.records v.under_way (home_of v.shape image) in
-      let laid = with_blocks-same v.under_way (with_records v.records (home_of v.shape image)) v.array in
-      let old = get_or_append_left v.records (v.under_way ∷ []) [] in
-      grind (arith, cases_lt, keeps, longer, get_or-append_seam v.records v.under_way [] [])
-
-  -- so a cut leaves what it may leave
-  pub guarded_leaves : (image : Image) (k durable : ℕ) → (L.parts (length v.under_way) ≤ k → L.early (length v.under_way) ≤ durable)
-      → Guarded L v k durable image → MayLeave L v k image
-  guarded_leaves image k durable early g =
-      let carries = carries_below image k durable g in
-      ⊎_elim
-      (λ not. inl (record { keeps = g.stored.keeps; few = omega (arith, slots.room); ends = λ room. not; carries = carries }))
-      (λ whole.
-      let keeps = keeps_with image g.stored.keeps whole.1 in
-      let none = none_carried L laws v.shape slots.some image (stamp_of v + 1) carries in
-      let found : Found L (with_record v) image = grind (arith, longer, slots.room, carries) in
-      inr (whole.0, found))
-      (whole_or_not image k durable early g)
-
-  -- with all its parts there the record is durable
-  pub Stored-durable : {image : Image} {count : ℕ} → L.parts (length v.under_way) ≤ count → Stored L v count image
-      → KeepsView L (with_record v) image
-  Stored-durable {image} all s = keeps_with image s.keeps (whole_now image (λ p below. s.parts p (omega arith) below))
-
-  -- and none is under way
-  pub durable_rests : {image : Image} {k durable count : ℕ} → L.parts (length v.under_way) ≤ count → Stored L v count image
-      → Guarded L v k durable image → Resting L (with_record v) image
-  durable_rests {image} {k} {durable} all s g =
-      let keeps = Stored-durable all s in
-      let carries = carries_below image k durable g in
-      grind (arith, longer, carries)
 
 module _ (L : Layout) (laws : Laws L) (shape : Shape) (some : 1 ≤ shape.slots) (before image : Image)
     (same : (x : ℕ) → 2 ≤ x → x < 2 + L.slot_sectors * shape.slots → image x ≡ before x) where
@@ -274,8 +220,8 @@ module _ (L : Layout) (laws : Laws L) (shape : Shape) (some : 1 ≤ shape.slots)
   IsWholeIn-same stamp entries w = IsWhole-same L laws shape before image stamp entries
       (λ x from to. same x (omega arith) (omega (arith, slot_inside L laws shape stamp some))) w
 
-module _ (L : Layout) (laws : Laws L) (v : View) (some : 1 ≤ v.shape.slots)
-    (behind : 2 + L.slot_sectors * v.shape.slots ≤ v.shape.home) (few : length v.under_way ≤ L.most) {before image : Image} where
+module _ (L : Layout) (laws : Laws L) (v : View) (behind : 2 + L.slot_sectors * v.shape.slots ≤ v.shape.home)
+    (few : length v.under_way ≤ L.most) {before image : Image} where
   -- a write before or behind the log leaves the log
   log_same : {s : ℕ} {bytes : List ℕ} → Holds s bytes before image → (2 ≤ s → v.shape.home ≤ s)
       → Agree 2 (2 + L.slot_sectors * v.shape.slots) image before
@@ -287,7 +233,7 @@ module _ (L : Layout) (laws : Laws L) (v : View) (some : 1 ≤ v.shape.slots)
   KeepsView-home b hides write g =
       let log = log_same write (λ low. omega arith) in
       let whole = λ (j : ℕ) (below : j < length v.records).
-      IsWholeIn-same L laws v.shape some before image log (v.head + j) (get_or v.records j []) (g.whole j below) in
+      IsWholeIn-same L laws v.shape g.super.some_slots before image log (v.head + j) (get_or v.records j []) (g.whole j below) in
       let hidden = hides (home_of v.shape image) (home_of v.shape before) in
       let others = with_records-same v.records (home_of v.shape image) (home_of v.shape before) in
       grind (arith, cases_eq, write.elsewhere, g)
@@ -299,20 +245,14 @@ module _ (L : Layout) (laws : Laws L) (v : View) (some : 1 ≤ v.shape.slots)
     super = rw (write.elsewhere 0 (λ e. omega arith)) g.super;
     head_is = rw write.here h;
     whole = λ j below.
-        IsWholeIn-same L laws v.shape some before image (log_same write (λ low. omega arith)) (v.head + 1 + j) _
+        IsWholeIn-same L laws v.shape g.super.some_slots before image (log_same write (λ low. omega arith)) (v.head + 1 + j) _
         (rw (get_or-drop 1 v.records j []) (grind (arith, g.whole (1 + j), length-drop 1 v.records)));
-    blocks = λ b below. with_records-same (drop 1 v.records) (home_of v.shape image) (home_of v.shape before) b
-        (write.elsewhere (v.shape.home + b) (λ e. omega (arith, behind)))
-        ∙ (sym (oldest_home v.records (home_of v.shape before) b homed) ∙ g.blocks b below);
+    blocks = λ b below. with_records-same (drop 1 v.records) (home_of v.shape image)
+        (with_blocks (get_or v.records 0 []) (home_of v.shape before)) b
+        (write.elsewhere (v.shape.home + b) (λ e. omega (arith, behind))
+        ∙ sym (with_blocks-home (get_or v.records 0 []) (home_of v.shape before) b homed))
+        ∙ rw (drop-cons v.records 0 [] waits) at (g.blocks b below);
   }
-    where
-      -- the oldest record changes nothing where its blocks are at home
-      oldest_home : (records : List (List Entry)) (a : Array) (b : ℕ)
-          → ((i : ℕ) → i < length (get_or records 0 [])
-          → a (get_or (get_or records 0 []) i (0, [])).0 ≡ (get_or (get_or records 0 []) i (0, [])).1)
-          → with_records records a b ≡ with_records (drop 1 records) a b
-      oldest_home [] a b homed = refl
-      oldest_home (r ∷ records) a b homed = search (rules, with_records-same, with_blocks-home)
 
   -- While the log stays, the record under way stays as far as it is written, whichever records are in front of it.
   module _ {s : ℕ} {bytes : List ℕ} (write : Holds s bytes before image) (apart : 2 ≤ s → v.shape.home ≤ s) (head : ℕ)
@@ -323,7 +263,7 @@ module _ (L : Layout) (laws : Laws L) (v : View) (some : 1 ≤ v.shape.slots)
       keeps = keeps s.keeps;
       parts = λ p low small.
           let inside = laws.inside (length v.under_way) p few small in
-          rw (next, log_same write apart (at L v p) (omega arith) (omega (arith, slot_inside L laws v.shape (stamp_of v) some, inside)))
+          rw (next, log_same write apart (at L v p) (omega arith) (omega (arith, slot_inside L laws v.shape (stamp_of v) s.keeps.super.some_slots, inside)))
           (s.parts p low small);
     }
 

@@ -20,8 +20,7 @@ use Rattle.medium.specs.declared.fault.MediumFault.TheVariants as fault
 use Rattle.medium.proofs.SparedSectors.{spared_write, spared_silent}
 use Rattle.journal.specs.Record.{Entry, block_of, entries_of}
 use Rattle.journal.proofs.BatchEntries.{length_of_batch, entry_of_batch}
-use Rattle.journal.proofs.Format1Laws as one
-use Rattle.journal.proofs.Format2Laws as two
+use Rattle.journal.proofs.Format1Laws as layout
 use Rattle.journal.specs.declared.head.Head.{Head as HeadOf}
 use Rattle.redo_log.specs.declared.turn.Turn.{Turn}
 use Rattle.redo_log.specs.declared.turn.Turn.TheVariants.{Copy, Flush, Head}
@@ -71,14 +70,14 @@ module _ (numbers bytes : List ℕ) (i p : ℕ) (below : i < length numbers) whe
 
   pub data_offset : (format : LogFormat) → p + 1 + length numbers ≡ (layout_of format).parts (length numbers) + i
       → (layout_of format).offset (length numbers) p ≡ first_data_of format + i
-  data_offset One is = grind (arith, one.parts)
-  data_offset Two is = grind (arith, two.parts)
+  data_offset One is = grind (arith, layout.parts)
+  data_offset Two is = grind (arith, layout.parts)
 
   pub data_part : (format : LogFormat) (stamp : ℕ) → p + 1 + length numbers ≡ (layout_of format).parts (length numbers) + i
       → placed format stamp (slice_range bytes (512 * i) (512 * i + 512)) ≡ (layout_of format).part stamp (entries_of numbers bytes) p
-  data_part One stamp is = let i_is : p - 1 ≡ i = omega (arith, is) in grind (arith, one.parts, block_is, many)
+  data_part One stamp is = let i_is : p - 1 ≡ i = omega (arith, is) in grind (arith, layout.parts, block_is, many)
   data_part Two stamp is =
-      let i_is : p - (length (entries_of numbers bytes) + 29) / 30 ≡ i = omega (arith, is, many) in grind (arith, two.parts, block_is, many)
+      let i_is : p - (length (entries_of numbers bytes) + 29) / 30 ≡ i = omega (arith, is, many) in grind (arith, layout.parts, block_is, many)
 
 -- the early parts have a flush, where there are any
 pub flush_of_is : (e : ℕ) → ((e ≡ 0) × (flush_of e ≡ 0)) ⊎ ((0 < e) × (flush_of e ≡ 1))

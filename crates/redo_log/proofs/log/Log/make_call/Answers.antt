@@ -1,4 +1,5 @@
 use Rattle.std.proofs.Common.{◌≡◌, ◌≢◌, ◌+◌, length, arith, rules}
+use Rattle.std.proofs.lemmas.Bool.Decides.{nat_tests}
 use Rattle.medium.specs.declared.fault.MediumFault.TheVariants as fault
 use Rattle.medium.proofs.Moments.{one_call}
 use Rattle.medium.proofs.SectorsRead.{no_looks}
@@ -26,7 +27,7 @@ returns g c =
     let sound = g.met.M.Medium.sound c.args.m.now in
     let is = log_is i c.self.view_is c.self.invariant in
     let ring = rw c.in-Some.is at c.self.invariant.ring.record_under_way in
-    let made_is : c.in-Some.made ≡ made_of (shown i) = rw c.in-Some.is (omega (arith, ring.1)) in
+    let made_is : c.in-Some.made ≡ made_of (shown i) = rw c.in-Some.is (grind (arith, nat_tests, ring.1)) in
     let stamp : i.head + c.len.result ≡ i.head + length (lists_of i.waiting.items) =
     omega (arith, c.len.ensures, many_lists i.waiting.items) in
     let here : MakesNext log.shape (log.head + length log.waiting) (entries_of c.args.numbers.now c.args.bytes.now) (made_of log)
