@@ -5,7 +5,7 @@ use Rattle.std.proofs.lemmas.Bool.Decides.{nat_tests}
 use Rattle.cache.specs.Blocks.{is_listed, Listed}
 use Rattle.cache.specs.Entries.{Entries}
 use Rattle.journal.specs.Places.{Shape}
-use Rattle.redo_log.specs.Batch.{IsBatch}
+use Rattle.redo_log.specs.Value.{IsBatch}
 use Rattle.blocks.specs.Kept.{IsBatchOf}
 
 or_else : (t b : Bool) → b ≡ true → (if t then true else b) ≡ true

@@ -9,8 +9,7 @@ use Rattle.spec.specs.Blocks.{Array, Write, apply, after, chunks}
 use Rattle.journal.specs.Places.{Shape}
 use Rattle.journal.specs.Record.{Entry, numbers_of, with_blocks}
 use Rattle.journal.specs.Standing.{IsOurs}
-use Rattle.redo_log.specs.Value.{LogValue, HasRoom, begun}
-use Rattle.redo_log.specs.Batch.{IsBatch, entries_from, entries_of}
+use Rattle.redo_log.specs.Value.{LogValue, HasRoom, begun, IsBatch, entries_from, entries_of}
 use Rattle.redo_log.specs.Held.{View, HoldsView, MayLeave, with_record, with_begun}
 use Rattle.redo_log.proofs.StoreFacts.{begun_holds, may_leave_ours}
 use Rattle.cache.specs.Blocks.{Blocks, blocks_of, over, with_range}

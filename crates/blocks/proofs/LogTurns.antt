@@ -9,8 +9,7 @@ use Rattle.medium.proofs.Moments.{started, weaker}
 use Rattle.medium.proofs.SparedSectors.{spared_start}
 use Rattle.journal.specs.Places.{sectors_of}
 use Rattle.journal.specs.Record.{Entry, numbers_of}
-use Rattle.redo_log.specs.Value.{LogValue, HasRoom, begun, died, IsStepped, IsRetireStepped, behind_oldest}
-use Rattle.redo_log.specs.Batch.{IsBatch}
+use Rattle.redo_log.specs.Value.{LogValue, HasRoom, begun, died, IsStepped, IsRetireStepped, behind_oldest, IsBatch}
 use Rattle.redo_log.specs.Held.{View, HoldsView, MayLeave, with_record, view_retired, stamps_of}
 use Rattle.redo_log.specs.declared.progress.Progress.TheVariants.{More, Durable}
 use Rattle.redo_log.proofs.StoreFacts.{died_holds}

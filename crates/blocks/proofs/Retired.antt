@@ -7,8 +7,8 @@ use Rattle.medium.specs.Sent.{SendsUpTo}
 use Rattle.medium.specs.declared.fault.MediumFault.TheVariants.{Flush}
 use Rattle.journal.specs.Places.{Shape, sectors_of}
 use Rattle.journal.specs.declared.super_sector.Super.{Super}
-use Rattle.redo_log.specs.Value.{LogValue, IsRetireStepped, behind_oldest, died, most_steps, most_retire_steps, next_calls, next_sends}
-use Rattle.redo_log.specs.Flushes.{next_turn_flushes}
+use Rattle.redo_log.specs.Value.{LogValue, IsRetireStepped, behind_oldest, died, most_steps, most_retire_steps}
+use Rattle.redo_log.specs.Value.{next_calls, next_sends, next_turn_flushes}
 use Rattle.blocks.specs.Background.{IsRetiring}
 use Rattle.blocks.specs.Kept.{IsBatchOf, Invariant}
 use Rattle.blocks.specs.StoreValue.{Cached}

@@ -4,8 +4,9 @@ use Rattle.std.specs.Prelude.{ℕ, suc, zero, List, ◌∷◌, length, nat_lt, B
 use Rattle.std.proofs.lemmas.Bool.{cases_Bool, cases_lt, ltb-true, lt-ltb, ne_eqb}
 use Rattle.journal.specs.declared.log_format.LogFormat.{LogFormat}
 use Rattle.journal.specs.declared.log_format.LogFormat.TheVariants.{Two}
-use Rattle.redo_log.specs.Value.{AllFirsts, LogValue, HasRoom, IsStepped, IsRetireStepped, behind_oldest, of_oldest, steps_of}
-use Rattle.redo_log.specs.Flushes.{step_flushes, steps_flushes, turn_flushes, turns_flushes, next_step_flushes, next_turn_flushes}
+use Rattle.redo_log.specs.Value.{AllFirsts, LogValue, HasRoom, IsStepped, IsRetireStepped, behind_oldest, of_oldest}
+use Rattle.redo_log.specs.Value.{steps_of, step_flushes, steps_flushes, turn_flushes, turns_flushes, next_step_flushes}
+use Rattle.redo_log.specs.Value.{next_turn_flushes}
 use Rattle.redo_log.specs.declared.progress.Progress.{Progress}
 use Rattle.redo_log.specs.declared.progress.Progress.TheVariants.{More, Durable}
 use Rattle.blocks.specs.Ahead.{oldest_retired}

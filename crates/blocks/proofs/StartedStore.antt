@@ -8,8 +8,7 @@ use Rattle.std.proofs.lemmas.Bool.{false≢true}
 use Rattle.journal.specs.Places.{Shape, limit_of, sectors_of}
 use Rattle.journal.specs.declared.super_sector.Super.{Super}
 use Rattle.journal.specs.declared.log_format.LogFormat.{LogFormat}
-use Rattle.journal.specs.Values.{shape_of}
-use Rattle.journal.specs.Formats.{CarriesBelow}
+use Rattle.journal.specs.Formats.{shape_of, CarriesBelow}
 use Rattle.journal.specs.Sectors.{IsSuper}
 use Rattle.journal.specs.Standing.{Keeps, IsOurs}
 use Rattle.journal.proofs.StandingLaws.{StandsFor-one}

@@ -6,9 +6,8 @@ use Rattle.medium.specs.Moments.{IsUnchanged}
 use Rattle.medium.specs.Sent.{SendsUpTo}
 use Rattle.medium.specs.declared.fault.MediumFault.TheVariants.{Flush}
 use Rattle.cache.specs.Entries.{Entries}
-use Rattle.redo_log.specs.Value.{HasRoom, begun, died, IsStepped, IsRetireStepped}
-use Rattle.redo_log.specs.Value.{next_calls, next_sends}
-use Rattle.redo_log.specs.Flushes.{next_step_flushes, next_turn_flushes}
+use Rattle.redo_log.specs.Value.{HasRoom, begun, died, IsStepped, IsRetireStepped, next_calls}
+use Rattle.redo_log.specs.Value.{next_sends, next_step_flushes, next_turn_flushes}
 use Rattle.redo_log.specs.declared.progress.Progress.{Progress}
 use Rattle.redo_log.specs.declared.progress.Progress.TheVariants.{More, Durable}
 use Rattle.blocks.specs.declared.fault.StoreFault.{StoreFault}

@@ -1,7 +1,6 @@
 -- How many flushes the calls of a store make that write its batches out.
 use Rattle.std.specs.Prelude.{ℕ, zero, suc, ◌+◌, ◌-◌, List, [], ◌∷◌, nat_lt, Bool, if◌then◌else◌}
-use Rattle.redo_log.specs.Value.{LogValue, of_oldest, steps_of}
-use Rattle.redo_log.specs.Flushes.{steps_flushes, turns_flushes}
+use Rattle.redo_log.specs.Value.{LogValue, of_oldest, steps_of, steps_flushes, turns_flushes}
 use Rattle.blocks.specs.Retiring.{finished_with}
 
 -- those of the steps that are left of the record under way

@@ -1,7 +1,7 @@
 -- What is true of the fields of every store.
 use Rattle.std.specs.Prelude.{◌≡◌, ℕ, ◌+◌, ◌*◌, ◌≤◌, ◌<◌, Bool, true, false, [], length}
 use Rattle.journal.specs.Places.{Shape, limit_of, sectors_of}
-use Rattle.journal.specs.Values.{shape_of}
+use Rattle.journal.specs.Formats.{shape_of}
 use Rattle.journal.specs.declared.super_sector.Super.{Super}
 use Rattle.cache.specs.Blocks.{Listed}
 use Rattle.cache.specs.Entries.{Entries, IsWellFormed}

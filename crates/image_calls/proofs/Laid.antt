@@ -15,7 +15,7 @@ use Rattle.medium.specs.declared.fault.MediumFault.{MediumFault}
 use Rattle.medium.specs.declared.fault.MediumFault.TheVariants as kind
 use Rattle.recovery.specs.declared.recovered.Recovered.{Recovered}
 use Rattle.recovery.specs.declared.start_fault.StartFault.{StartFault}
-use Rattle.journal.specs.Values.{shape_of}
+use Rattle.journal.specs.Formats.{shape_of}
 use Rattle.image_calls.specs.Parts.{IsBegun}
 use Rattle.image_calls.specs.Formats.{BeginsFormat, HasRoom}
 use Rattle.image_calls.specs.Works.{Work}

@@ -3,7 +3,7 @@ use Rattle.std.specs.Prelude.{◌≡◌, ℕ, suc, ◌+◌, ◌-◌, ◌<◌, �
 use Rattle.medium.specs.Medium.{State, Image}
 use Rattle.medium.specs.Sent.{SendsUpTo}
 use Rattle.journal.specs.Places.{Shape, first_home, sectors_of, new_shape}
-use Rattle.journal.specs.Values.{shape_of}
+use Rattle.journal.specs.Formats.{shape_of}
 use Rattle.recovery.specs.Formatted.{IsFormatted, FormatLeaves, AreSizes}
 use Rattle.recovery.specs.Calls.{MakesNoRead}
 use Rattle.image_calls.specs.declared.plan.Plan.{Plan}

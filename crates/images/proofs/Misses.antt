@@ -9,7 +9,7 @@ use Rattle.medium.specs.declared.fault.MediumFault.TheVariants as kind
 use Rattle.journal.specs.ImageFaults.{HasShape}
 use Rattle.journal.specs.Places.{Shape}
 use Rattle.journal.specs.Sectors.{IsSuper}
-use Rattle.journal.specs.Values.{shape_of}
+use Rattle.journal.specs.Formats.{shape_of}
 use Rattle.journal.specs.declared.super_sector.Super.{Super}
 use Rattle.journal.proofs.SectorNumbers.{IsSuper-one}
 use Rattle.recovery.specs.Causes.{IsDeviceFault, IsCause, IsRefusalBy, MakesReadsAlone, WritesNothing, start_fault_of}

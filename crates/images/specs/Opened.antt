@@ -2,7 +2,7 @@
 use Rattle.std.specs.Prelude.{◌≡◌, ◌⊎◌, ◌*◌, ◌+◌, ◌≤◌, ℕ, List, length, min, Option, Some}
 use Rattle.medium.specs.Writes.{sector_of}
 use Rattle.journal.specs.Sectors.{IsSuper}
-use Rattle.journal.specs.Values.{shape_of}
+use Rattle.journal.specs.Formats.{shape_of}
 use Rattle.journal.specs.declared.super_sector.Super.{Super}
 use Rattle.window.specs.Window.{Window}
 use Rattle.window.specs.Window as window

@@ -1,7 +1,7 @@
 //! The file of a new image, or of a copy.
 ghost use Rattle.std.specs.Prelude.{◌≡◌, ◌⊎◌, IfOk, IfErr, MatchOption};
 ghost use Rattle.journal.specs.Places.{new_shape};
-ghost use Rattle.journal.specs.Values.{shape_of};
+ghost use Rattle.journal.specs.Formats.{shape_of};
 ghost use Rattle.device_file.specs.FileValue.{fresh};
 ghost use Rattle.device_file.specs.declared.fault.FileFault.{FileFault};
 ghost use Rattle.images.specs.Limits.{AreLimits};

@@ -1,7 +1,7 @@
 //! The blocks of a plain file become those of a new image.
 ghost use Rattle.std.specs.Prelude.{◌≡◌, ◌≤◌, Some, length, IfOk, OnOk, IfErr};
 ghost use Rattle.journal.specs.Places.{sectors_of};
-ghost use Rattle.journal.specs.Values.{shape_of};
+ghost use Rattle.journal.specs.Formats.{shape_of};
 ghost use Rattle.device_file.specs.FileValue.{fresh};
 ghost use Rattle.images.specs.Copying.{Copies};
 ghost use Rattle.images.specs.Imported.{IsImage, IsNoImage, import_refusal};

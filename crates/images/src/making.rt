@@ -2,7 +2,7 @@
 ghost use Rattle.std.specs.Prelude.{[], ◌∷◌};
 ghost use Rattle.mirror.specs.declared.call.DeviceCall.TheVariants.{Write, Flush};
 ghost use Rattle.journal.specs.Sectors.{IsHead};
-ghost use Rattle.journal.specs.Values.{shape_of};
+ghost use Rattle.journal.specs.Formats.{shape_of};
 ghost use Rattle.images.specs.NewImage.{BecomesImage, GoesThrough};
 
 use device_file::{DeviceFile, FileFault, Run, write_sector};

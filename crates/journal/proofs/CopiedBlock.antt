@@ -6,12 +6,11 @@ use Rattle.journal.specs.declared.log_format.LogFormat.{LogFormat}
 use Rattle.journal.specs.declared.log_format.LogFormat.TheVariants.{One, Two}
 use Rattle.journal.specs.declared.record.Record.{Record}
 use Rattle.journal.specs.Places.{Shape, first_data_of}
-use Rattle.journal.specs.Record.{Entry, numbers_of, block_of}
+use Rattle.journal.specs.Record.{Entry, numbers_of, block_of, begun_with, first_of}
 use Rattle.journal.specs.Layout.{slot_at, IsWholeIn}
 use Rattle.journal.specs.Formats.{layout_of, IsWhole}
 use Rattle.journal.specs.Reading.{AreStamped, IsRead}
 use Rattle.journal.specs.SectorsTwo.{firsts_of}
-use Rattle.journal.specs.Copies.{begun_with, first_of}
 use Rattle.journal.proofs.EntriesTwo.{place_rest}
 use Rattle.journal.proofs.Formats.{laws_of}
 use Rattle.journal.proofs.Format1Laws.{place_there as place_there_one}

@@ -4,11 +4,11 @@ use Rattle.std.proofs.Common.{arith, slice_range, take-add}
 use Rattle.std.proofs.lemmas.List.{ext_get_or, take_at, get_or-take, get_or-drop, length-take, length-drop, length-map}
 use Rattle.std.proofs.lemmas.List.FromFn.{get_or-map-range_with_len, length-map-range_with_len}
 use Rattle.medium.specs.Medium.{Image}
-use Rattle.journal.specs.Spelling.{number_in}
+use Rattle.journal.specs.Sectors.{number_in}
 use Rattle.journal.specs.SectorsTwo.{descriptors_of, chunk_of, firsts_of, entries_here, IsDescriptorTwo}
 use Rattle.journal.specs.Record.{Entry, numbers_of}
 use Rattle.journal.specs.Format2.{entry_in, entries_at}
-use Rattle.journal.specs.SlotReads.{HasDescriptor, HasDescriptors}
+use Rattle.journal.specs.Reading.{HasDescriptor, HasDescriptors}
 use Rattle.journal.proofs.EntriesTwo.{first_is, numbers_are, firsts_are, number_at, first_at, numbers_of_chunk}
 
 -- descriptors that name count blocks are there

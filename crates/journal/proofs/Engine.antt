@@ -8,8 +8,8 @@ use Rattle.std.proofs.Math.Seq.{get_or-append_seam, drop-cons}
 use Rattle.medium.specs.Medium.{Image, Holds}
 use Rattle.journal.specs.Places.{Shape}
 use Rattle.journal.specs.Record.{Entry, with_blocks, with_records, home_of, Agree, Hides}
-use Rattle.journal.specs.Layout.{Layout, IsWholeIn, HasWholeIn, CarriesBelowIn, IsFree, slot_at, part_at}
-use Rattle.journal.specs.LayoutLaws.{Laws, IsRecordOf}
+use Rattle.journal.specs.Layout.{Layout, IsWholeIn, HasWholeIn, CarriesBelowIn, IsFree, slot_at, part_at, Laws}
+use Rattle.journal.specs.Layout.{IsRecordOf}
 use Rattle.journal.specs.Staged.{View, HasParts, stamp_of, KeepsView, Found, Stored, Guarded, HasSlots, Resting, with_record, MayLeave, with_less}
 use Rattle.journal.specs.Staged.{IsHomed}
 use Rattle.journal.specs.Sectors.{IsHead}

@@ -8,15 +8,14 @@ use Rattle.std.proofs.lemmas.Slice.Zip.{length-zip, get_or-zip}
 use Rattle.std.proofs.lemmas.Grind.{common_steps, flat_map-append}
 use Rattle.byteorder.specs.Endian.{little_bytes}
 use Rattle.byteorder.specs.Numbers.{little_number-reads_back, little_from-take}
-use Rattle.journal.specs.Entry.{Entry, numbers_of}
+use Rattle.journal.specs.Record.{Entry, numbers_of}
 use Rattle.journal.proofs.SectorNumbers.{commit_says}
 use Rattle.journal.proofs.OneSpelling.{length_pieces, piece_at}
-use Rattle.journal.specs.Spelling.{padded, number_in, AreItems}
-use Rattle.journal.specs.Sectors.{IsRising}
+use Rattle.journal.specs.Sectors.{padded, number_in, AreItems, IsRising}
 use Rattle.journal.specs.SectorsTwo.{entry_bytes, place_bytes, entries_here, AreEntriesTwo, IsDescriptorTwo}
 use Rattle.journal.specs.SectorsTwo.{IsCommitTwo, descriptor_bytes, firsts_of, chunk_of}
 use Rattle.std.proofs.Math.ListN.{get_or-map}
-use Rattle.journal.specs.LayoutLaws.{IsRecordOf}
+use Rattle.journal.specs.Layout.{IsRecordOf}
 use Rattle.journal.specs.Format2.{format2}
 
 -- the stamp in a data place, which begins with it

@@ -5,17 +5,15 @@ use Rattle.std.proofs.lemmas.Bool.{cases_eq, cases_lt}
 use Rattle.std.proofs.lemmas.List.Elements.{All-from_get_or}
 use Rattle.medium.specs.Medium.{Image}
 use Rattle.journal.specs.Places.{Shape, sectors_of}
-use Rattle.journal.specs.Spelling.{spelling, number_in, super_mark, head_mark}
-use Rattle.journal.specs.Sectors.{version_of, IsSuper, IsHead, IsRising}
+use Rattle.journal.specs.Sectors.{spelling, number_in, super_mark, head_mark, version_of, IsSuper, IsHead, IsRising}
+use Rattle.journal.specs.Sectors.{HasMagic, HasVersion, HasZeroRest}
 use Rattle.journal.specs.Record.{Entry, numbers_of}
-use Rattle.journal.specs.Layout.{Layout, AreEntries, IsWholeIn, HasWholeIn, slot_at, part_at}
-use Rattle.journal.specs.LayoutLaws.{Laws}
+use Rattle.journal.specs.Layout.{Layout, AreEntries, IsWholeIn, HasWholeIn, slot_at, part_at, Laws}
 use Rattle.journal.specs.Formats.{layout_of, HasWhole}
 use Rattle.journal.specs.Standing.{IsCount, Stands}
 use Rattle.journal.proofs.AllOrFirst.{all_or_first}
 use Rattle.journal.proofs.Formats.{laws_of}
 use Rattle.journal.proofs.SectorNumbers.{head_stamp, shape_in, shape_is, super_begins, IsSuper-one}
-use Rattle.journal.specs.SuperFaults.{HasMagic, HasVersion, HasZeroRest}
 use Rattle.journal.specs.ImageFaults.{ImageFault, BadSuper, BadVersion, BadSize, BadHead, HasFault}
 use Rattle.journal.proofs.StandingLaws.{count_stands}
 

@@ -4,11 +4,9 @@ use Rattle.std.proofs.Common.{◌∙◌, ◌∷◌, true, false, nat_lt, replica
 use Rattle.std.proofs.lemmas.Bool.{cases_lt}
 use Rattle.std.proofs.lemmas.Bool.Decides.{nat_tests}
 use Rattle.std.proofs.lemmas.List.{length-map, ext_get_or}
-use Rattle.journal.specs.Spelling.{spelling, number_in, descriptor_mark, commit_mark}
-use Rattle.journal.specs.Sectors.{IsDescriptor, IsCommit}
+use Rattle.journal.specs.Sectors.{spelling, number_in, descriptor_mark, commit_mark, IsDescriptor, IsCommit}
 use Rattle.journal.specs.Record.{Entry, numbers_of, block_of}
-use Rattle.journal.specs.Layout.{by_part, AreEntries, IsWholeIn}
-use Rattle.journal.specs.LayoutLaws.{IsRecordOf}
+use Rattle.journal.specs.Layout.{by_part, AreEntries, IsWholeIn, IsRecordOf}
 use Rattle.journal.specs.Format1.{format1, Carries1, entry_in, record_in}
 use Rattle.journal.proofs.SectorNumbers.{descriptor_says, commit_says, descriptor_number}
 use Rattle.std.proofs.Math.ListN.{get_or-map}

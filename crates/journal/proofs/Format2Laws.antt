@@ -2,9 +2,9 @@
 use Rattle.std.proofs.Common.{◌≡◌, ℕ, ◌+◌, ◌-◌, ◌/◌, ◌<◌, ◌≤◌, List, [], ◌∷◌, length, arith, rules}
 use Rattle.std.specs.Prelude.{if◌then◌else◌, nat_lt, replicate}
 use Rattle.std.proofs.lemmas.Bool.Decides.{nat_tests}
-use Rattle.journal.specs.Spelling.{spelling, number_in}
+use Rattle.journal.specs.Sectors.{spelling, number_in}
 use Rattle.journal.specs.Record.{Entry, block_of, numbers_of}
-use Rattle.journal.specs.LayoutLaws.{IsRecordOf}
+use Rattle.journal.specs.Layout.{IsRecordOf}
 use Rattle.journal.specs.SectorsTwo.{place_bytes, commit_mark, chunk_of, firsts_of, IsCommitTwo}
 use Rattle.journal.specs.Format2.{format2, Carries2}
 use Rattle.journal.proofs.EntriesTwo.{header_says, place_says, descriptor_two}

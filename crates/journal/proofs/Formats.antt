@@ -3,7 +3,7 @@ use Rattle.std.proofs.Common.{◌≡◌, ◌∙◌, inr, sym, arith}
 use Rattle.journal.specs.declared.log_format.LogFormat.{LogFormat}
 use Rattle.journal.specs.declared.log_format.LogFormat.TheVariants.{One, Two}
 use Rattle.journal.specs.Places.{limit_of, slot_sectors_of}
-use Rattle.journal.specs.LayoutLaws.{Laws}
+use Rattle.journal.specs.Layout.{Laws}
 use Rattle.journal.specs.Format1.{format1}
 use Rattle.journal.specs.Format2.{format2}
 use Rattle.journal.specs.Formats.{layout_of}

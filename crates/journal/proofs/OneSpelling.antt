@@ -6,7 +6,7 @@ use Rattle.std.proofs.lemmas.List.{take_at, drop_at, drop-drop, append_assoc, dr
 use borrow.Rule.Slice.PartMut.{put_mid}
 use Rattle.byteorder.specs.Endian.{little_bytes, little_number}
 use Rattle.byteorder.specs.Numbers.{little_number-reads_back, little_from-take}
-use Rattle.journal.specs.Spelling.{padded, spelling, number_in}
+use Rattle.journal.specs.Sectors.{padded, spelling, number_in}
 
 module _ {X : Type 0} (f : X → List ℕ) (k : ℕ) where
   -- how many they are

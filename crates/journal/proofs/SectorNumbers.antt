@@ -4,9 +4,8 @@ use Rattle.std.proofs.Common.{if◌then◌else◌, ◌==◌, ext_get_or}
 use Rattle.journal.specs.Places.{Shape}
 use Rattle.journal.specs.declared.log_format.LogFormat.{LogFormat}
 use Rattle.journal.specs.declared.log_format.LogFormat.TheVariants.{One, Two}
-use Rattle.journal.specs.Spelling.{padded, spelling, number_in, descriptor_mark, AreItems}
-use Rattle.journal.specs.Sectors.{version_of, IsSuper, IsHead, IsDescriptor, IsCommitOf}
-use Rattle.journal.specs.SuperFaults.{HasMagic, HasVersion, HasZeroRest}
+use Rattle.journal.specs.Sectors.{padded, spelling, number_in, descriptor_mark, AreItems, version_of, IsSuper, IsHead}
+use Rattle.journal.specs.Sectors.{IsDescriptor, IsCommitOf, HasMagic, HasVersion, HasZeroRest}
 use Rattle.journal.proofs.OneSpelling.{spelling_get}
 
 module _ {stamp : ℕ} {numbers bytes : List ℕ} (d : IsDescriptor stamp numbers bytes) where

@@ -13,7 +13,7 @@ use Rattle.journal.specs.SectorsTwo.{descriptors_of, descriptor_bytes, place_byt
 use Rattle.journal.specs.Record.{Entry, numbers_of, block_of}
 use Rattle.journal.specs.Layout.{IsWholeIn}
 use Rattle.journal.specs.Format2.{format2, entry_in, entries_at, record_in}
-use Rattle.journal.specs.SlotReads.{HasDescriptor, HasPlaces}
+use Rattle.journal.specs.Reading.{HasDescriptor, HasPlaces}
 use Rattle.journal.proofs.EntriesTwo.{number_is, first_is, commit_count, place_rest}
 use Rattle.journal.proofs.EntriesTwo.{number_at, first_at, descriptor_two}
 use Rattle.journal.proofs.DescribedNumbers.{read_long, read_entry, chunk_numbers, chunk_firsts}

@@ -7,8 +7,7 @@ use Rattle.spec.specs.Blocks.{Array}
 use Rattle.journal.specs.declared.log_format.LogFormat.{LogFormat}
 use Rattle.journal.specs.Places.{Shape}
 use Rattle.journal.specs.Record.{Entry, home_of, Agree}
-use Rattle.journal.specs.Layout.{Layout, IsWholeIn, CarriesBelowIn, KeepsIn, slot_at}
-use Rattle.journal.specs.LayoutLaws.{Laws, IsRecordOf}
+use Rattle.journal.specs.Layout.{Layout, IsWholeIn, CarriesBelowIn, KeepsIn, slot_at, Laws, IsRecordOf}
 use Rattle.journal.specs.Formats.{layout_of, IsWhole}
 use Rattle.journal.proofs.Apart.{in_log}
 use Rattle.journal.proofs.Overlay.{with_records-same}

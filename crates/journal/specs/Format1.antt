@@ -2,8 +2,8 @@
 use Rattle.std.specs.Prelude.{◌<◌, ◌≤◌, ℕ, ◌+◌, List, [], ◌∷◌, length, map}
 use Rattle.std.specs.List.{range_with_len}
 use Rattle.medium.specs.Medium.{Image}
-use Rattle.journal.specs.Spelling.{spelling, number_in, descriptor_mark, commit_mark}
-use Rattle.journal.specs.Sectors.{IsDescriptor, IsCommit}
+use Rattle.journal.specs.Sectors.{spelling, number_in, descriptor_mark, commit_mark, IsDescriptor}
+use Rattle.journal.specs.Sectors.{IsCommit}
 use Rattle.journal.specs.Record.{Entry, numbers_of, block_of}
 use Rattle.journal.specs.Layout.{Layout, by_part}
 

@@ -3,7 +3,7 @@ use Rattle.std.specs.Prelude.{◌≡◌, ◌<◌, ◌≤◌, ℕ, ◌+◌, ◌*�
 use Rattle.std.specs.Prelude.{length, drop, map, slice_range}
 use Rattle.std.specs.List.{range_with_len}
 use Rattle.medium.specs.Medium.{Image}
-use Rattle.journal.specs.Spelling.{spelling, number_in}
+use Rattle.journal.specs.Sectors.{spelling, number_in}
 use Rattle.journal.specs.SectorsTwo.{descriptors_of, descriptor_bytes, place_bytes, commit_mark}
 use Rattle.journal.specs.SectorsTwo.{IsDescriptorTwo, IsCommitTwo}
 use Rattle.journal.specs.Record.{Entry, block_of}

@@ -4,8 +4,7 @@ use Rattle.medium.specs.Medium.{Image}
 use Rattle.spec.specs.Blocks.{Array}
 use Rattle.journal.specs.declared.super_fault.SuperFault.TheVariants.{Magic, Version, Rest, Sizes}
 use Rattle.journal.specs.Places.{Shape, sectors_of}
-use Rattle.journal.specs.Sectors.{IsSuper, IsHead}
-use Rattle.journal.specs.SuperFaults.{IsSuperFault}
+use Rattle.journal.specs.Sectors.{IsSuper, IsHead, IsSuperFault}
 use Rattle.journal.specs.Standing.{StandsFor, Stands}
 
 -- the image's super is one of this shape, for which the medium is long enough

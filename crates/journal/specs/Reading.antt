@@ -1,18 +1,110 @@
 -- What is read of a record, and by how many reads.
-use Rattle.std.specs.Prelude.{◌≡◌, ◌⊎◌, ◌↔◌, ℕ, ◌+◌, ◌<◌, List, [], ◌++◌, length, drop, get_or}
-use Rattle.std.specs.Prelude.{Option, Some, None, IfSome, IsSomeAnd, Bool, IsTrue, if◌then◌else◌}
-use Rattle.medium.specs.Medium.{State, Image}
+use Rattle.std.specs.Prelude.{◌≡◌, ◌≢◌, ℕ, ◌+◌, ◌<◌, ◌≤◌, Result, IfOk, IfErr, ◌⊎◌, ◌*◌, List}
+use Rattle.std.specs.Prelude.{length, take, drop, All, ◌↔◌, [], ◌++◌, get_or, Option, Some, None}
+use Rattle.std.specs.Prelude.{IfSome, IsSomeAnd, Bool, IsTrue, if◌then◌else◌}
+use Rattle.medium.specs.Medium.{State, LooksOnly, Image}
+use Rattle.medium.specs.Moments.{IsQuiet}
+use Rattle.medium.specs.declared.fault.MediumFault.{MediumFault}
+use Rattle.medium.specs.declared.fault.MediumFault.TheVariants as medium
+use Rattle.journal.specs.declared.record.Record.{Record}
+use Rattle.journal.specs.Record.{numbers_of, Entry, block_of}
+use Rattle.journal.specs.Sectors.{IsRising}
+use Rattle.journal.specs.SectorsTwo.{descriptors_of, place_bytes, firsts_of, IsDescriptorTwo}
+use Rattle.journal.specs.SectorsTwo.{IsCommitTwo}
+use Rattle.journal.specs.Format2.{entries_at, format2}
 use Rattle.journal.specs.declared.log_format.LogFormat.{LogFormat}
 use Rattle.journal.specs.declared.log_format.LogFormat.TheVariants.{One, Two}
-use Rattle.journal.specs.declared.record.Record.{Record}
 use Rattle.journal.specs.Places.{Shape, first_data_of}
-use Rattle.journal.specs.SectorsTwo.{descriptors_of}
-use Rattle.journal.specs.SlotReads.{ReadsUpToBad, IsCommitted, HasPlace, HasPlaces, NamesBlocks}
-use Rattle.journal.specs.SlotReads.{IsReadInVain}
-use Rattle.journal.specs.Record.{Entry, numbers_of, block_of}
 use Rattle.journal.specs.Layout.{slot_at}
-use Rattle.journal.specs.Format2.{format2}
 use Rattle.journal.specs.Formats.{layout_of, IsWhole, HasWhole}
+
+-- a call of this kind was refused, and counted as one and as one of its kind
+pub record IsRefusedCall (old new : State) (kind : MediumFault) : Type 0 where
+  pub grew : old.failures < new.failures
+  pub kind_grew : old.refused kind < new.refused kind
+
+-- no call but reads was made
+abbrev pub MakesReadsAlone : State → State → Type 0
+MakesReadsAlone old new = (kind : MediumFault) → kind ≢ medium.Read → new.made kind ≡ old.made kind
+
+-- No call but reads was made, at most this many. An error is a call that the medium refused.
+pub record ReadsPass {X : Type 0} (most : ℕ) (old new : State) (result : Result X MediumFault)
+    : Type 0 where
+  pub quiet : IsQuiet old new
+  pub reads : MakesReadsAlone old new
+  pub calls : new.calls ≤ old.calls + most
+  pub cause : IfErr result (IsRefusedCall old new)
+
+-- The medium comes after what it was, by reads alone, at most this many, and of these sectors. What
+-- they find is so.
+pub record LooksUp {M X : Type 0} (state : M → State) (Follows : M → M → Type 0) (most : ℕ)
+    (places : ℕ → Type 0) (Finds : State → State → X → Type 0) (old new : M)
+    (result : Result X MediumFault) : Type 0 where
+  pub passes : ReadsPass most (state old) (state new) result
+  pub finds : IfOk result (Finds (state old) (state new))
+  pub follows : Follows old new × LooksOnly places (state old) (state new)
+
+-- ---- what the sectors of a slot of format 2 say, and how many are read to find the record in it
+
+-- one of `many` is bad, and as many are read as go up to the first bad one, and with it
+pub record StopsAtBad (good : ℕ → Type 0) (many reads : ℕ) : Type 0 where
+  pub first : ℕ
+  pub inside : first < many
+  pub before : (i : ℕ) → i < first → good i
+  pub bad : ¬ good first
+  pub reads_are : reads ≡ first + 1
+
+-- as many are read as go up to the first bad one; or all, where all are good
+abbrev pub ReadsUpToBad : (ℕ → Type 0) → ℕ → ℕ → Type 0
+ReadsUpToBad good many reads =
+    (((i : ℕ) → i < many → good i) × (reads ≡ many)) ⊎ StopsAtBad good many reads
+
+-- of the record of a stamp in the slot of format 2 that begins at this sector
+module _ (image : Image) (at stamp : ℕ) where
+  -- the last sector is a commit of count blocks
+  abbrev pub IsCommitted : ℕ → Type 0
+  IsCommitted count = IsCommitTwo stamp count (image (at + 248))
+
+  -- its descriptor j is there, if it has count blocks
+  abbrev pub HasDescriptor : ℕ → ℕ → Type 0
+  HasDescriptor count j = (numbers : List ℕ) × (firsts : List (List ℕ))
+      × IsDescriptorTwo stamp count j numbers firsts (image (at + j))
+
+  -- the descriptors of a record with these block numbers are there
+  abbrev pub HasDescriptors : List ℕ → Type 0
+  HasDescriptors numbers = (j : ℕ) → j < descriptors_of (length numbers) → (firsts : List (List ℕ))
+      × IsDescriptorTwo stamp (length numbers) j (take 30 (drop (30 * j) numbers)) firsts
+      (image (at + j))
+
+  -- all descriptors are there, if it has count blocks, and this was read of them
+  pub record AreNamed (count : ℕ) (read : Record) : Type 0 where
+    pub there : (j : ℕ) → j < descriptors_of count → HasDescriptor count j
+    pub numbers_are : read.numbers.items ≡ numbers_of (entries_at image at count)
+    pub firsts_are : read.firsts.items ≡ firsts_of (entries_at image at count)
+
+  -- the i-th data place begins with the stamp
+  abbrev pub HasPlace : ℕ → Type 0
+  HasPlace i = image (at + (8 + i)) ≡ place_bytes stamp (image (at + (8 + i)))
+
+  -- and so do those of count blocks
+  abbrev pub HasPlaces : ℕ → Type 0
+  HasPlaces count = (i : ℕ) → i < count → HasPlace i
+
+  -- all descriptors are there, and what they name are count blocks of an array of this length
+  abbrev pub NamesBlocks : ℕ → ℕ → Type 0
+  NamesBlocks blocks count = (numbers : List ℕ) × (length numbers ≡ count)
+      × HasDescriptors numbers
+      × IsRising numbers × All (λ b. b < blocks) numbers
+
+  -- How many sectors are read behind a commit of count blocks where they are not named:
+  -- descriptors up to the first bad one; or all of them, where they name no such blocks.
+  abbrev pub IsReadInVain : ℕ → ℕ → ℕ → Type 0
+  IsReadInVain blocks count reads =
+      StopsAtBad (HasDescriptor count) (descriptors_of count) reads
+      ⊎ (((j : ℕ) → j < descriptors_of count → HasDescriptor count j)
+      × (¬ NamesBlocks blocks count) × (reads ≡ descriptors_of count))
+
+-- ---- what is read of a record, and by how many reads
 
 -- how many sectors are read at most for the block numbers of a record
 abbrev pub record_reads_of : LogFormat → ℕ

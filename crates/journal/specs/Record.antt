@@ -1,10 +1,24 @@
--- Records of blocks, and arrays with records laid over them.
-use Rattle.std.specs.Prelude.{◌≡◌, ◌≤◌, ◌<◌, ℕ, ◌+◌, ◌*◌, List, [], ◌∷◌, get_or, slice_range}
-use Rattle.std.specs.Prelude.{if◌then◌else◌, ◌==◌}
-use Rattle.medium.specs.Medium.{Image}
+-- Records of blocks, their copies in the log, and arrays with records laid over them.
+use Rattle.std.specs.Prelude.{ℕ, List, map, ◌≡◌, ◌≤◌, ◌<◌, ◌+◌, ◌*◌, [], ◌∷◌, get_or, slice_range}
+use Rattle.std.specs.Prelude.{if◌then◌else◌, ◌==◌, ◌++◌, take, drop, Option, Some, None, Result}
+use Rattle.medium.specs.Medium.{Image, State, Passes, LooksOnly}
 use Rattle.spec.specs.Blocks.{Array}
-pub use Rattle.journal.specs.Entry.{Entry, numbers_of}
 use Rattle.journal.specs.Places.{Shape}
+use Rattle.medium.specs.Moments.{IsQuiet}
+use Rattle.medium.specs.declared.fault.MediumFault.{MediumFault}
+use Rattle.medium.specs.declared.fault.MediumFault.TheVariants.{Read}
+use Rattle.journal.specs.declared.log_format.LogFormat.{LogFormat}
+use Rattle.journal.specs.declared.log_format.LogFormat.TheVariants.{One, Two}
+
+-- a block's number and its bytes
+abbrev pub Entry : Type 0
+Entry = ℕ × List ℕ
+
+-- the block numbers of a record
+abbrev pub numbers_of : List Entry → List ℕ
+numbers_of entries = map (λ e. e.0) entries
+
+-- ---- records of blocks, and arrays with records laid over them
 
 -- the block of this number of a record
 abbrev pub block_of : List Entry → ℕ → List ℕ
@@ -41,3 +55,24 @@ Hides records b = (a c : Array) → with_records records a b ≡ with_records re
 -- both images have the same bytes from this sector up to that one
 abbrev pub Agree : ℕ → ℕ → Image → Image → Type 0
 Agree from end a b = (x : ℕ) → from ≤ x → x < end → a x ≡ b x
+
+-- ---- the copies of blocks in the log
+
+-- these bytes, with others in place of the first ones
+abbrev pub begun_with : Option (List ℕ) → List ℕ → List ℕ
+begun_with None bytes = bytes
+begun_with (Some first) bytes = first ++ drop 8 bytes
+
+-- The first bytes of the i-th block that its data place does not have. In format 2 the stamp of the
+-- record stands there.
+abbrev pub first_of : LogFormat → List Entry → ℕ → Option (List ℕ)
+first_of One entries i = None
+first_of Two entries i = Some (take 8 (block_of entries i))
+
+-- one read, and of such a sector
+pub record ReadsOne {M : Type 0} (state : M → State) (Follows : M → M → Type 0)
+    (IsRead : ℕ → Type 0) (old new : M) (result : Result (Unit {0}) MediumFault) : Type 0 where
+  pub passes : Passes Read result (state old) (state new)
+  pub quiet : IsQuiet (state old) (state new)
+  pub follows : Follows old new
+  pub looks : LooksOnly IsRead (state old) (state new)

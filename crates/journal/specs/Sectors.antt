@@ -1,9 +1,48 @@
 -- What the bytes of a super, a head, a descriptor and a commit are.
-use Rattle.std.specs.Prelude.{◌≡◌, ◌≤◌, ◌<◌, ℕ, ◌-◌, ◌^◌, List, [], ◌∷◌, length, slice_index, All}
+use Rattle.std.specs.Prelude.{◌≡◌, ◌<◌, ℕ, ◌*◌, ◌-◌, List, ◌++◌, length, replicate, drop, get_or}
+use Rattle.std.specs.Prelude.{codes, flat_map, ◌≤◌, ◌^◌, [], ◌∷◌, slice_index, All, ◌⊎◌}
+use Rattle.byteorder.specs.Endian.{little_bytes, little_number}
 use Rattle.journal.specs.declared.log_format.LogFormat.{LogFormat}
 use Rattle.journal.specs.declared.log_format.LogFormat.TheVariants.{One, Two}
 use Rattle.journal.specs.Places.{Shape, IsFirstHome}
-use Rattle.journal.specs.Spelling.{spelling, super_mark, head_mark, descriptor_mark, commit_mark}
+use Rattle.journal.specs.declared.super_fault.SuperFault.{SuperFault}
+use Rattle.journal.specs.declared.super_fault.SuperFault.TheVariants.{Magic, Version, Rest, Sizes}
+
+-- these bytes, and zeros behind them
+unfoldable pub padded : List ℕ → List ℕ
+padded bytes = bytes ++ replicate (512 - length bytes) 0
+
+-- a sector of these numbers, eight bytes each, and zeros behind them
+unfoldable pub spelling : List ℕ → List ℕ
+spelling numbers = padded (flat_map (little_bytes 8) numbers)
+
+-- the i-th number of a sector
+unfoldable pub number_in : List ℕ → ℕ → ℕ
+number_in bytes i = little_number 8 (drop (8 * i) bytes)
+
+-- the first number of a sector that begins with this text of eight characters
+abbrev pub mark : List ℕ → ℕ
+mark text = little_number 8 text
+
+abbrev pub super_mark : ℕ
+super_mark = mark (codes "RDSUPER1")
+
+abbrev pub head_mark : ℕ
+head_mark = mark (codes "RDHEAD01")
+
+abbrev pub descriptor_mark : ℕ
+descriptor_mark = mark (codes "RDDESCR1")
+
+abbrev pub commit_mark : ℕ
+commit_mark = mark (codes "RDCOMMIT")
+
+-- `many` items, of which the i-th is this
+pub record AreItems {X : Type 0} (many : ℕ) (item : ℕ → X) (none : X) (items : List X)
+    : Type 0 where
+  pub count : length items ≡ many
+  pub each : (i : ℕ) → i < many → get_or items i none ≡ item i
+
+-- ---- what the bytes of a super, a head, a descriptor and a commit are
 
 -- the version that a super has for its format
 abbrev pub version_of : LogFormat → ℕ
@@ -58,3 +97,26 @@ pub record IsCommitOf (mark limit stamp count : ℕ) (bytes : List ℕ) : Type 0
 -- the bytes of a commit of format 1
 abbrev pub IsCommit : ℕ → ℕ → List ℕ → Type 0
 IsCommit stamp count bytes = IsCommitOf commit_mark 48 stamp count bytes
+
+-- ---- what is wrong with a sector that should be a super
+
+-- it begins with the mark of a super
+abbrev pub HasMagic : List ℕ → Type 0
+HasMagic bytes = number_in bytes 0 ≡ super_mark
+
+-- its version is 1 or 2
+abbrev pub HasVersion : List ℕ → Type 0
+HasVersion bytes = (number_in bytes 1 ≡ 1) ⊎ (number_in bytes 1 ≡ 2)
+
+-- behind its six numbers there are zeros
+abbrev pub HasZeroRest : List ℕ → Type 0
+HasZeroRest bytes = drop 48 bytes ≡ replicate 464 0
+
+-- the first fault of a sector that is no super
+abbrev pub IsSuperFault : SuperFault → List ℕ → Type 0
+IsSuperFault Magic bytes = ¬ HasMagic bytes
+IsSuperFault Version bytes = HasMagic bytes × (¬ HasVersion bytes)
+IsSuperFault Rest bytes = HasMagic bytes × HasVersion bytes × (¬ HasZeroRest bytes)
+IsSuperFault Sizes bytes =
+    HasMagic bytes × HasVersion bytes × HasZeroRest bytes
+    × ((shape : Shape) → ¬ IsSuper shape bytes)

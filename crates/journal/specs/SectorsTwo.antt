@@ -2,9 +2,8 @@
 use Rattle.std.specs.Prelude.{◌≡◌, ◌≤◌, ◌<◌, ℕ, ◌+◌, ◌*◌, ◌-◌, ◌/◌, ◌^◌, min, List, ◌++◌}
 use Rattle.std.specs.Prelude.{length, take, drop, codes, All, map, zip, flat_map}
 use Rattle.byteorder.specs.Endian.{little_bytes}
-use Rattle.journal.specs.Spelling.{mark, padded}
-use Rattle.journal.specs.Entry.{Entry, numbers_of}
-use Rattle.journal.specs.Sectors.{IsRising, IsCommitOf}
+use Rattle.journal.specs.Sectors.{mark, padded, IsRising, IsCommitOf}
+use Rattle.journal.specs.Record.{Entry, numbers_of}
 
 abbrev pub descriptor_mark : ℕ
 descriptor_mark = mark (codes "RDDESCR2")

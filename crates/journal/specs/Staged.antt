@@ -5,8 +5,7 @@ use Rattle.medium.specs.Medium.{Image}
 use Rattle.spec.specs.Blocks.{Array}
 use Rattle.journal.specs.Places.{Shape}
 use Rattle.journal.specs.Record.{Entry, with_blocks}
-use Rattle.journal.specs.Layout.{Layout, KeepsIn, LoggedIn, RestsIn, IsFree, part_at}
-use Rattle.journal.specs.LayoutLaws.{IsRecordOf}
+use Rattle.journal.specs.Layout.{Layout, KeepsIn, LoggedIn, RestsIn, IsFree, part_at, IsRecordOf}
 
 -- what a log has
 pub record View : Type 0 where

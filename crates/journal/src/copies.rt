@@ -1,10 +1,8 @@
 //! The copies of blocks in the log.
 ghost use Rattle.std.specs.Prelude.{◌≡◌, ◌≤◌, ◌<◌, ◌%◌, ℕ, List, length, OnOk};
 ghost use Rattle.journal.specs.Places.{first_home, limit_of, sectors_of};
-ghost use Rattle.journal.specs.Values.{shape_of};
-ghost use Rattle.journal.specs.Copies.{begun_with, first_of, ReadsOne};
-ghost use Rattle.journal.specs.Formats.{IsWhole};
-ghost use Rattle.journal.specs.Record.{Entry, block_of};
+ghost use Rattle.journal.specs.Formats.{shape_of, IsWhole};
+ghost use Rattle.journal.specs.Record.{begun_with, first_of, ReadsOne, Entry, block_of};
 
 use crate::{Super, copy_place};
 use medium::{Medium, MediumFault};

@@ -2,9 +2,8 @@
 ghost use Rattle.std.specs.Prelude.{◌≡◌, ◌≤◌, ◌<◌, ◌*◌, ◌^◌, ◌+◌, ◌++◌, ◌∷◌, ◌↔◌};
 ghost use Rattle.std.specs.Prelude.{[], List, ℕ, length, All, slice_index, slice_range, IsTrue};
 ghost use Rattle.byteorder.specs.Endian.{little_bytes};
-ghost use Rattle.journal.specs.Spelling.{padded, spelling, number_in, mark, AreItems};
-ghost use Rattle.journal.specs.Sectors.{IsRising};
-ghost use Rattle.journal.specs.SuperFaults.{HasZeroRest};
+ghost use Rattle.journal.specs.Sectors.{padded, spelling, number_in, mark, AreItems, IsRising};
+ghost use Rattle.journal.specs.Sectors.{HasZeroRest};
 
 use arrayvec::ArrayVec;
 use byteorder::{ByteOrder, LittleEndian};
@@ -82,7 +81,7 @@ pub(crate) fn sector_of(numbers: &[u64]) -> [u8; 512]
 }
 
 /// The i-th number of a sector.
-#[tactic(auto, unfolding(crate::specs::Spelling::number_in))]
+#[tactic(auto, unfolding(crate::specs::Sectors::number_in))]
 pub(crate) fn number_at(sector: &[u8], i: usize) -> u64
     requires size { length sector.now ≡ 512 }
     requires inside { 8 * i + 8 ≤ 512 }

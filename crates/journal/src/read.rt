@@ -1,10 +1,9 @@
 //! The reading of a record, in both formats.
 ghost use Rattle.std.specs.Prelude.{◌≤◌, ◌<◌};
 ghost use Rattle.journal.specs.Places.{first_home, sectors_of};
-ghost use Rattle.journal.specs.Values.{shape_of};
-ghost use Rattle.journal.specs.Reads.{LooksUp};
-ghost use Rattle.journal.specs.Reading.{record_reads_of, stamp_reads_of};
-ghost use Rattle.journal.specs.Reading.{FindsRecord, FindsStamps, found_in};
+ghost use Rattle.journal.specs.Formats.{shape_of};
+ghost use Rattle.journal.specs.Reading.{LooksUp, record_reads_of, stamp_reads_of, FindsRecord};
+ghost use Rattle.journal.specs.Reading.{FindsStamps, found_in};
 
 use crate::{LogFormat, Record, Super, v1, v2};
 use medium::{Medium, MediumFault};

@@ -28,9 +28,8 @@ pub struct Super {
 impl Super {
     ghost use Rattle.journal.specs.declared.log_format.LogFormat.TheVariants.{One};
     ghost use Rattle.journal.specs.Places.{Shape, migrated, new_shape};
-    ghost use Rattle.journal.specs.Sectors.{IsSuper};
-    ghost use Rattle.journal.specs.SuperFaults.{IsSuperFault};
-    ghost use Rattle.journal.specs.Values.{shape_of};
+    ghost use Rattle.journal.specs.Sectors.{IsSuper, IsSuperFault};
+    ghost use Rattle.journal.specs.Formats.{shape_of};
 
     /// The super of a new medium of this format with `blocks` blocks and `slots` slots.
     pub fn new(format: LogFormat, blocks: u64, slots: u64) -> Super

@@ -6,7 +6,7 @@ use Rattle.std.proofs.lemmas.Bool.{cases_Bool, leb-true, leb-false}
 use Rattle.medium.specs.Writes.{sector_of}
 use Rattle.journal.specs.Places.{Shape}
 use Rattle.journal.specs.Sectors.{IsSuper}
-use Rattle.journal.specs.Values.{shape_of}
+use Rattle.journal.specs.Formats.{shape_of}
 use Rattle.journal.specs.declared.super_sector.Super.{Super}
 use Rattle.journal.proofs.SectorNumbers.{IsSuper-one}
 use Rattle.window.specs.Window.{Window, state_of, fresh}

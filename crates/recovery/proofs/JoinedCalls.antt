@@ -11,8 +11,8 @@ use Rattle.medium.proofs.SectorsRead.{no_looks, looks_joined, looks_wider, looks
 use Rattle.journal.specs.declared.super_sector.Super.{Super}
 use Rattle.journal.specs.Places.{Shape, first_home, sectors_of}
 use Rattle.journal.specs.ImageFaults.{HasShape}
-use Rattle.journal.specs.Values.{shape_of}
-use Rattle.journal.specs.Reads.{IsRefusedCall, LooksUp}
+use Rattle.journal.specs.Formats.{shape_of}
+use Rattle.journal.specs.Reading.{IsRefusedCall, LooksUp}
 use Rattle.recovery.specs.Calls.{Copies, freed_at, most_reads_of, LooksAtLog, WritesAllPass, FollowsBy, Writes, cleared_at}
 use Rattle.recovery.specs.Calls.{WithOrWithout, IsBetween}
 use Rattle.recovery.specs.Inspected.{SurveysAtMost, LooksAtFirst}

@@ -16,9 +16,8 @@ use Rattle.journal.specs.declared.log_format.LogFormat.{LogFormat}
 use Rattle.journal.specs.declared.log_format.LogFormat.TheVariants.{One, Two}
 use Rattle.journal.specs.Places.{Shape, first_home, sectors_of, limit_of}
 use Rattle.journal.specs.Sectors.{IsHead}
-use Rattle.journal.specs.Values.{shape_of}
+use Rattle.journal.specs.Formats.{shape_of, layout_of, IsWhole}
 use Rattle.journal.specs.Record.{Entry, with_records, home_of}
-use Rattle.journal.specs.Formats.{layout_of, IsWhole}
 use Rattle.journal.specs.Standing.{StandsFor, IsOurs, Stands}
 use Rattle.journal.specs.ImageFaults as image
 use Rattle.journal.proofs.SectorNumbers.{IsSuper-one}

@@ -14,7 +14,7 @@ use Rattle.journal.specs.Sectors.{IsHead, IsRising}
 use Rattle.journal.specs.SectorsTwo.{descriptors_of}
 use Rattle.journal.specs.Record.{Entry, numbers_of, with_records, home_of}
 use Rattle.journal.specs.Formats.{IsWhole}
-use Rattle.journal.specs.Reads.{IsRefusedCall}
+use Rattle.journal.specs.Reading.{IsRefusedCall}
 
 -- no read was made, and so none refused
 pub record MakesNoRead (old new : State) : Type 0 where

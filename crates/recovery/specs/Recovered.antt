@@ -8,9 +8,8 @@ use Rattle.medium.specs.Sent.{SendsUpTo}
 use Rattle.journal.specs.declared.log_format.LogFormat.{LogFormat}
 use Rattle.journal.specs.declared.log_format.LogFormat.TheVariants.{Two, One}
 use Rattle.journal.specs.Places.{Shape, first_home, sectors_of, slot_sectors_of, migrated}
-use Rattle.journal.specs.Values.{shape_of}
+use Rattle.journal.specs.Formats.{shape_of, CarriesBelow}
 use Rattle.journal.specs.Sectors.{IsSuper, IsHead}
-use Rattle.journal.specs.Formats.{CarriesBelow}
 use Rattle.journal.specs.Standing.{StandsFor, IsOurs}
 use Rattle.journal.specs.ImageFaults.{HasShape}
 use Rattle.recovery.specs.Calls.{copy_calls, most_start_of, most_start_sends, LooksAtLog}

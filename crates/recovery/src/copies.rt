@@ -2,13 +2,12 @@
 ghost use Rattle.std.specs.Prelude.{◌≡◌, ◌<◌, ◌≤◌, ◌+◌, ◌*◌, ◌^◌, ◌++◌};
 ghost use Rattle.std.specs.Prelude.{List, ℕ, OnOk, length, [], ◌∷◌, get_or, slice_index, drop};
 ghost use Rattle.journal.specs.Places.{first_home, sectors_of, limit_of};
-ghost use Rattle.journal.specs.Values.{shape_of};
+ghost use Rattle.journal.specs.Formats.{shape_of, IsWhole, HasWhole};
 ghost use Rattle.journal.specs.Record.{Entry};
-ghost use Rattle.journal.specs.Formats.{IsWhole, HasWhole};
 ghost use Rattle.recovery.specs.Calls.{Copies};
-ghost use Rattle.journal.specs.Reading.{data_at};
 ghost use Rattle.recovery.specs.Calls.{most_calls_of, IsHomeOf, IsHomeInRecord, IsHomeInRecords};
 ghost use Rattle.recovery.specs.Calls.{AreBlocks, AreCopied};
+ghost use Rattle.journal.specs.Reading.{data_at};
 
 use crate::found::Found;
 use journal::{Record, Super, copy_place, read_record, slot_of};

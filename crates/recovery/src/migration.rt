@@ -3,7 +3,7 @@ ghost use Rattle.std.specs.Prelude.{◌≡◌, ◌<◌, ◌≤◌, ◌+◌, ◌*
 ghost use Rattle.medium.specs.Moments.{EachCut, IsFlushed};
 ghost use Rattle.spec.specs.Blocks.{Array};
 ghost use Rattle.journal.specs.Places.{Shape, sectors_of, migrated};
-ghost use Rattle.journal.specs.Values.{shape_of};
+ghost use Rattle.journal.specs.Formats.{shape_of};
 ghost use Rattle.journal.specs.Standing.{IsOurs};
 ghost use Rattle.recovery.specs.Recovered.{IsFresh};
 ghost use Rattle.recovery.specs.Recovered.{CanMigrate, IsMigrationBy, IsMigrationRefusal};

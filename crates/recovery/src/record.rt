@@ -2,10 +2,9 @@
 ghost use Rattle.std.specs.Prelude.{◌≡◌, ◌≤◌, ◌<◌, ◌+◌, ◌*◌, ◌^◌, true, false, MatchOption};
 ghost use Rattle.std.specs.Prelude.{length, min};
 ghost use Rattle.journal.specs.Places.{first_home, sectors_of};
-ghost use Rattle.journal.specs.Values.{shape_of};
-ghost use Rattle.journal.specs.Reads.{LooksUp};
+ghost use Rattle.journal.specs.Formats.{shape_of, HasWhole};
+ghost use Rattle.journal.specs.Reading.{LooksUp};
 ghost use Rattle.recovery.specs.Calls.{most_reads_of};
-ghost use Rattle.journal.specs.Formats.{HasWhole};
 ghost use Rattle.recovery.specs.Inspected.{AreTries, AreCounts, IsTryOf, HasCount};
 
 use arrayvec::ArrayVec;

@@ -2,7 +2,7 @@
 ghost use Rattle.std.specs.Prelude.{◌≡◌, ◌<◌, ◌≤◌, ◌↔◌, IfOk, IfErr, IsTrue};
 ghost use Rattle.journal.specs.declared.log_format.LogFormat.TheVariants.{One};
 ghost use Rattle.journal.specs.Places.{sectors_of};
-ghost use Rattle.journal.specs.Values.{shape_of};
+ghost use Rattle.journal.specs.Formats.{shape_of};
 ghost use Rattle.journal.specs.ImageFaults.{HasShape};
 ghost use Rattle.journal.specs.Sectors.{IsSuper, IsHead};
 ghost use Rattle.medium.specs.Moments.{IsQuiet};

@@ -16,13 +16,13 @@ use Rattle.journal.specs.Sectors.{IsHead}
 use Rattle.journal.specs.Record.{Entry, with_blocks, Hides, numbers_of}
 use Rattle.journal.specs.Formats.{layout_of, IsWhole}
 use Rattle.journal.specs.Staged.{KeepsView, Found, Stored, HasSlots, Resting, IsHomed}
-use Rattle.journal.specs.LayoutLaws.{IsRecordOf}
+use Rattle.journal.specs.Layout.{IsRecordOf}
 use Rattle.journal.specs.Staged as staged
 use Rattle.journal.proofs.Formats.{laws_of, most_is}
 use Rattle.journal.proofs.SectorNumbers.{IsHead-one}
 use Rattle.journal.proofs.Engine.{rests_found, rests_begun, begun_rests, guarded_leaves}
 use Rattle.redo_log.specs.Value.{LogValue, Ahead, of_oldest, steps_of, steps_for, died}
-use Rattle.redo_log.specs.Stages.{IsSized, needed_at, IsRecord}
+use Rattle.redo_log.specs.Shown.{IsSized, needed_at, IsRecord}
 use Rattle.redo_log.specs.Held.{View, HasView, with_record, with_begun, image_view, written_of, Stores, Safe, HasDurable, HasUnderWay}
 use Rattle.redo_log.specs.Held.{MayLeave, with_passed, HasHead, made_of, turned_of, needed_of, IsStored, IsGuarded, HoldsView}
 use Rattle.redo_log.specs.Steps.{LeavesLog}

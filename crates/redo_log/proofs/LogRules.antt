@@ -8,11 +8,10 @@ use Rattle.arrayvec.specs.ArrayVec.{ArrayVec}
 use Rattle.journal.specs.Places.{Shape, limit_of}
 use Rattle.redo_log.specs.Value.{retire_steps_of, Ahead, AllFirsts, LogValue, HasRoom, most_retire_steps, steps_of}
 use Rattle.redo_log.specs.Value.{behind_oldest, of_oldest}
-use Rattle.redo_log.specs.Stages.{AreInside, needed_at, value_at, IsRecord, IsSized}
-use Rattle.redo_log.specs.Shown.{lists_of, shown, Invariant}
+use Rattle.redo_log.specs.Shown.{AreInside, needed_at, value_at, IsRecord, IsSized, lists_of, shown, Invariant}
 use Rattle.std.proofs.lemmas.List.{length-map}
 use Rattle.std.proofs.lemmas.List.Sums.{sum_by-cons, sum_by-append, sum_by-le}
-use Rattle.journal.specs.Values.{shape_of}
+use Rattle.journal.specs.Formats.{shape_of}
 use Rattle.journal.specs.declared.super_sector.Super.{Super}
 use Rattle.journal.proofs.Formats.{sectors_are}
 use Rattle.redo_log.specs.declared.log.Log.TheInside.{Inside}

@@ -8,7 +8,7 @@ use Rattle.medium.proofs.Moments.{started_within, goes_on_within, weaker}
 use Rattle.journal.specs.Places.{Shape}
 use Rattle.journal.specs.Formats.{layout_of}
 use Rattle.journal.proofs.Apart.{in_log}
-use Rattle.redo_log.specs.Stages.{IsSized}
+use Rattle.redo_log.specs.Shown.{IsSized}
 use Rattle.redo_log.specs.Calls.{gaining, WritesOnly}
 
 -- a sector of a slot stands before home

@@ -9,8 +9,8 @@ use Rattle.journal.specs.Layout.{Layout}
 use Rattle.journal.specs.Formats.{layout_of}
 use Rattle.journal.proofs.Format1Laws.{below_is, above_is}
 use Rattle.redo_log.specs.Value.{steps_for, most_steps, LogValue, of_oldest, next_calls, next_sends, turns_sends}
-use Rattle.redo_log.specs.Value.{sends_of_oldest, most_retire_sends}
-use Rattle.redo_log.specs.Stages.{flush_of, written_at, flushed_at}
+use Rattle.redo_log.specs.Value.{sends_of_oldest, most_retire_sends, next_turn_flushes, step_flushes, next_step_flushes}
+use Rattle.redo_log.specs.Shown.{flush_of, written_at, flushed_at}
 use Rattle.redo_log.specs.Calls.{IsFlushDue, Write, Flush, placed, MakesCall, CallsUpTo, Call, fault_of, IsNextCall}
 use Rattle.std.specs.Prelude.{slice_range, OnOk, OnErr}
 use Rattle.std.proofs.lemmas.Result.{on_ok_weaker}
@@ -24,7 +24,6 @@ use Rattle.journal.proofs.Format1Laws as layout
 use Rattle.journal.specs.declared.head.Head.{Head as HeadOf}
 use Rattle.redo_log.specs.declared.turn.Turn.{Turn}
 use Rattle.redo_log.specs.declared.turn.Turn.TheVariants.{Copy, Flush, Head}
-use Rattle.redo_log.specs.Flushes.{next_turn_flushes, step_flushes, next_step_flushes}
 use Rattle.redo_log.specs.Steps.{CountsStep}
 use Rattle.redo_log.specs.Held.{turned_of, made_of}
 use Rattle.redo_log.specs.Turns.{counts_of, IsHeadTurn, IsNextTurn}

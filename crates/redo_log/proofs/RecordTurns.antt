@@ -11,8 +11,7 @@ use Rattle.medium.specs.declared.fault.MediumFault.{MediumFault}
 use Rattle.medium.proofs.Moments.{shrunk, one_call, each_write, each_flush}
 use Rattle.journal.specs.Places.{sectors_of}
 use Rattle.journal.specs.Record.{Entry, numbers_of, entries_of}
-use Rattle.journal.specs.Layout.{Layout, part_at}
-use Rattle.journal.specs.LayoutLaws.{Laws, IsRecordOf}
+use Rattle.journal.specs.Layout.{Layout, part_at, Laws, IsRecordOf}
 use Rattle.journal.specs.Formats.{layout_of}
 use Rattle.journal.specs.Staged.{HasSlots}
 use Rattle.journal.specs.Staged as staged
@@ -22,7 +21,7 @@ use Rattle.journal.proofs.BatchEntries.{length_of_batch, numbers_of_batch, sized
 use Rattle.redo_log.specs.declared.progress.Progress.{Progress}
 use Rattle.redo_log.specs.declared.progress.Progress.TheVariants.{More, Durable}
 use Rattle.redo_log.specs.Value.{LogValue, steps_of, steps_for, IsStepped}
-use Rattle.redo_log.specs.Stages.{flush_of}
+use Rattle.redo_log.specs.Shown.{flush_of}
 use Rattle.redo_log.specs.Calls.{Write, Flush, IsDone, MakesNext, IsNextCall, IsFlushDue}
 use Rattle.redo_log.specs.Held.{View, with_record, view_stepped, written_of, flushed_of, made_of, turned_of, needed_of, HasDurable}
 use Rattle.redo_log.specs.Held.{MayLeave, HasHead, AreHome, IsStored, IsGuarded, HoldsView, image_view}

@@ -13,8 +13,7 @@ use Rattle.journal.specs.declared.head.Head.{Head as HeadOf}
 use Rattle.journal.specs.Places.{sectors_of, first_home, first_data_of}
 use Rattle.journal.specs.Sectors.{IsRising, IsHead}
 use Rattle.journal.specs.Record.{Entry, Hides, numbers_of}
-use Rattle.journal.specs.Layout.{Layout, slot_at}
-use Rattle.journal.specs.LayoutLaws.{Laws}
+use Rattle.journal.specs.Layout.{Layout, slot_at, Laws}
 use Rattle.journal.specs.Formats.{layout_of, IsWhole}
 use Rattle.journal.specs.Staged.{IsHomed}
 use Rattle.journal.specs.Staged as staged
@@ -32,11 +31,11 @@ use Rattle.redo_log.specs.Held.{View, view_retired, made_of, turned_of, needed_o
 use Rattle.redo_log.specs.Held.{IsGuarded, HoldsView}
 use Rattle.redo_log.proofs.OneSector.{moments_have}
 use Rattle.redo_log.proofs.LogRules.{needed_one}
+use Rattle.redo_log.proofs.LogRules.{IsLog, retired_of, one_waits, nothing_home, not_homed}
 use Rattle.redo_log.proofs.HeldLog.{Stands, hides_behind, front, has_before, guard_logged, newest, with_newest, same_head, safe_here}
 use Rattle.redo_log.proofs.HeldLog.{guard_leaves, Stores-stays, needs_one, many, named, count, under_count, stands_now, goes_on, counts_of}
 use Rattle.redo_log.proofs.NewestCopy.{kept_is, retired_kept}
 use Rattle.redo_log.proofs.RecordSteps.{head_turn}
-use Rattle.redo_log.proofs.LogRules.{IsLog, retired_of, one_waits, nothing_home, not_homed}
 
 module _ {log : LogValue} (is : IsLog log) (live : log.dead ≡ false) (owed : 0 < of_oldest log) {old : State}
     (sound : IsSound old) {view : View} (hv : HoldsView log old view) where

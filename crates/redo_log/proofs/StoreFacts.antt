@@ -14,20 +14,20 @@ use Rattle.journal.specs.Standing.{Keeps, IsOurs}
 use Rattle.journal.proofs.BatchEntries.{numbers_of_batch, length_of_batch, sized_batch}
 use Rattle.journal.proofs.Engine.{rests_found}
 use Rattle.journal.proofs.Formats.{laws_of}
-use Rattle.redo_log.specs.Value.{LogValue, HasRoom, IsCovered, retire_steps_of, behind_oldest, of_oldest, idle_from, begun, died, settled}
-use Rattle.redo_log.specs.Batch.{IsBatch}
-use Rattle.redo_log.specs.Stages.{needed_at}
+use Rattle.redo_log.specs.Value.{LogValue, HasRoom, IsCovered, retire_steps_of, behind_oldest, of_oldest, idle_from}
+use Rattle.redo_log.specs.Value.{begun, died, settled, IsBatch}
+use Rattle.redo_log.specs.Shown.{needed_at}
 use Rattle.redo_log.specs.Held.{View, resting_view, IsStored, IsGuarded, HasNoRecord, with_begun, made_of, turned_of, needed_of, MayLeave, Safe, stamps_of}
 use Rattle.redo_log.specs.Held.{with_passed, image_view, HoldsView}
 use Rattle.redo_log.proofs.RecordSteps.{steps_some}
 use Rattle.redo_log.proofs.LogRules.{needed_covered}
+use Rattle.redo_log.proofs.LogRules.{one_stamp, made_is, none_made}
 use Rattle.redo_log.proofs.HeldLog.{rests_safe, safe_rests, keeps_stored, with_newest, same_head, put_head, put_safe, has_view}
 use Rattle.redo_log.proofs.HeldLog.{Stores-stays, count, under_count, going_held}
 use Rattle.redo_log.proofs.NewestCopy.{none_kept, begun_kept}
-use Rattle.redo_log.proofs.LogRules.{one_stamp, made_is, none_made}
 pub use Rattle.redo_log.proofs.HeldLog.{quiet_held}
-pub use Rattle.redo_log.proofs.NewestCopy.{home_is}
 pub use Rattle.redo_log.proofs.HeldLog.{put_head}
+pub use Rattle.redo_log.proofs.NewestCopy.{home_is}
 
 -- a new log holds a medium that has its head and its blocks at home, and whose log is fresh
 pub idle_holds : (shape : Shape) (next : ℕ) (array : Array) (ours : Bool) (m : State) → sectors_of shape ≤ m.size

@@ -13,8 +13,8 @@ use Rattle.journal.specs.SectorsTwo.{place_bytes}
 use Rattle.journal.specs.Record.{Entry}
 use Rattle.journal.specs.Layout.{Layout, part_at}
 use Rattle.journal.specs.Formats.{layout_of}
-use Rattle.redo_log.specs.Stages.{written_at}
-use Rattle.redo_log.specs.Flushes.{FlushesUpTo}
+use Rattle.redo_log.specs.Shown.{written_at}
+use Rattle.redo_log.specs.Value.{FlushesUpTo}
 
 -- a call that writes a record
 pub data Call : Type 0 where

@@ -18,7 +18,7 @@ use Rattle.journal.specs.Staged.{Stored, Guarded, IsHomed}
 use Rattle.redo_log.specs.declared.progress.Progress.{Progress}
 use Rattle.redo_log.specs.declared.progress.Progress.TheVariants.{More, Durable}
 use Rattle.redo_log.specs.Value.{AllFirsts, LogValue, steps_of, behind_oldest, of_oldest}
-use Rattle.redo_log.specs.Stages.{written_at, flushed_at, needed_at}
+use Rattle.redo_log.specs.Shown.{written_at, flushed_at, needed_at}
 
 -- what a log has
 pub record View : Type 0 where

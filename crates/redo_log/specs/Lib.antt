@@ -1,9 +1,6 @@
-pub mod Value
-pub mod Batch
 pub mod Held
 pub mod Index
-pub mod Stages
-pub mod Flushes
+pub mod Value
 pub mod Calls
 pub mod Turns
 pub mod Shown

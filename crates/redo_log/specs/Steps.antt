@@ -15,10 +15,9 @@ use Rattle.redo_log.specs.declared.fault.LogFault.TheVariants.{Medium, StampsUse
 use Rattle.redo_log.specs.declared.progress.Progress.{Progress}
 use Rattle.redo_log.specs.declared.progress.Progress.TheVariants.{Durable}
 use Rattle.redo_log.specs.Value.{LogValue, died, begun, most_steps, most_retire_steps, IsStepped}
-use Rattle.redo_log.specs.Value.{Owes, IsSentHome, IsRetireStepped}
+use Rattle.redo_log.specs.Value.{Owes, IsSentHome, IsRetireStepped, FlushesUpTo, next_step_flushes}
 use Rattle.redo_log.specs.Held.{View, HoldsView, MayLeave, HasDurable, with_record, view_stepped}
 use Rattle.redo_log.specs.Held.{view_retired}
-use Rattle.redo_log.specs.Flushes.{FlushesUpTo, next_step_flushes}
 
 -- a step that answers Ok did this, and else the medium refused a call, and the log is dead
 pub record AnswersStep {X : Type 0} (Done : X → Type 0) (result : Result X LogFault)

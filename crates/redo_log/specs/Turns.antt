@@ -5,10 +5,10 @@ use Rattle.medium.specs.Medium.{State, Stays, Holds, Only}
 use Rattle.medium.specs.Moments.{IsQuiet, SparesFrom}
 use Rattle.medium.specs.declared.fault.MediumFault.{MediumFault}
 use Rattle.journal.specs.Places.{Shape, first_home, first_data_of, sectors_of}
-use Rattle.journal.specs.Spelling.{spelling, head_mark}
+use Rattle.journal.specs.Sectors.{spelling, head_mark}
 use Rattle.journal.specs.Layout.{slot_at}
 use Rattle.journal.specs.Formats.{layout_of}
-pub use Rattle.journal.specs.Copies.{begun_with}
+pub use Rattle.journal.specs.Record.{begun_with}
 use Rattle.redo_log.specs.Value.{AllFirsts, first_kept}
 use Rattle.redo_log.specs.Calls.{WritesOnly}
 use Rattle.redo_log.specs.declared.turn.Turn.{Turn}

@@ -1,11 +1,10 @@
 //! The calls of a medium that write a record, one after the other.
 ghost use Rattle.std.specs.Prelude.{◌≡◌, ◌⊎◌, ℕ, ◌≤◌, ◌<◌, ◌*◌, length, IsTrue, ◌↔◌};
 ghost use Rattle.journal.specs.Places.{sectors_of};
-ghost use Rattle.journal.specs.Values.{shape_of};
+ghost use Rattle.journal.specs.Formats.{shape_of, layout_of};
 ghost use Rattle.journal.specs.Layout.{part_at};
 ghost use Rattle.journal.specs.Record.{entries_of};
-ghost use Rattle.journal.specs.Formats.{layout_of};
-ghost use Rattle.redo_log.specs.Stages.{IsRecord, written_at};
+ghost use Rattle.redo_log.specs.Shown.{IsRecord, written_at};
 ghost use Rattle.redo_log.specs.Calls.{Write, placed, MakesCall, MakesNext};
 
 use journal::{
@@ -14,7 +13,7 @@ use journal::{
 use medium::{Medium, MediumFault};
 
 // How many parts of a record are written after `made` calls. One of them may be the early flush.
-#[tactic(auto, unfolding(crate::specs::Stages::written_at, crate::specs::Stages::flush_of))]
+#[tactic(auto, unfolding(crate::specs::Shown::written_at, crate::specs::Shown::flush_of))]
 fn written_at(early: usize, made: usize) -> usize
     ensures { result ≡ written_at early made }
 {

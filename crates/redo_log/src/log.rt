@@ -57,17 +57,16 @@ impl Model for Log {
 }
 
 impl Log {
-    ghost use Rattle.journal.specs.Values.{shape_of};
+    ghost use Rattle.journal.specs.Formats.{shape_of};
     ghost use Rattle.redo_log.specs.Value.{HasRoom, Owes, HasNoCopy, IsNewestCopy, idle_from};
+    ghost use Rattle.redo_log.specs.Value.{IsRetireStepped, next_calls, next_sends};
+    ghost use Rattle.redo_log.specs.Value.{sends_of_oldest, most_retire_sends, IsBatch, entries_of};
+    ghost use Rattle.redo_log.specs.Value.{next_turn_flushes};
     ghost use Rattle.medium.specs.Medium.{Passes};
     ghost use Rattle.medium.specs.declared.fault.MediumFault.TheVariants.{Read};
-    ghost use Rattle.redo_log.specs.Value.{IsRetireStepped, next_calls, next_sends};
-    ghost use Rattle.redo_log.specs.Value.{sends_of_oldest, most_retire_sends};
-    ghost use Rattle.redo_log.specs.Batch.{IsBatch, entries_of};
     ghost use Rattle.redo_log.specs.Held.{View, HoldsView, view_retired};
     ghost use Rattle.redo_log.specs.Steps.{IsOn, BeginsRecord, MakesStep, MakesTurns, KeepsLog};
     ghost use Rattle.redo_log.specs.Steps.{CountsStep, TellsRetired};
-    ghost use Rattle.redo_log.specs.Flushes.{next_turn_flushes};
 
     /// A log without records on a medium with this super. Its first record takes the stamp `next`.
     /// The memory for the records' block numbers, for their index and, in format 2, for the first

@@ -1,10 +1,9 @@
 //! The turns of the oldest durable record, one after the other.
 ghost use Rattle.std.specs.Prelude.{◌≡◌, ◌+◌, ◌<◌, length, get_or, []};
-ghost use Rattle.redo_log.specs.Value.{next_calls, next_sends, of_oldest};
-ghost use Rattle.redo_log.specs.Value.{IsAway, IsSentHome, CanPass, IsRetireStepped};
+ghost use Rattle.redo_log.specs.Value.{next_calls, next_sends, of_oldest, IsAway, IsSentHome};
+ghost use Rattle.redo_log.specs.Value.{CanPass, IsRetireStepped, next_turn_flushes};
 ghost use Rattle.redo_log.specs.Held.{turned_of};
 ghost use Rattle.redo_log.specs.Shown.{IsShown};
-ghost use Rattle.redo_log.specs.Flushes.{next_turn_flushes};
 ghost use Rattle.redo_log.specs.Steps.{CountsStep, IsOn, BringsOn, StaysSent};
 ghost use Rattle.redo_log.specs.Turns.{StaysInImage, IsNextTurn};
 

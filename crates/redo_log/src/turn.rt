@@ -1,14 +1,13 @@
 //! The turns that retire a durable record, one after the other.
 ghost use Rattle.std.specs.Prelude.{◌≡◌, ℕ, ◌≤◌, ◌<◌, ◌+◌, ◌-◌, ◌*◌, ◌^◌, length};
 ghost use Rattle.medium.specs.Medium.{Holds, Only, LooksOnly};
-ghost use Rattle.journal.specs.Values.{shape_of};
-ghost use Rattle.redo_log.specs.Stages.{IsRecord};
+ghost use Rattle.journal.specs.Formats.{shape_of};
+ghost use Rattle.redo_log.specs.Shown.{IsRecord, lists_of};
 ghost use Rattle.redo_log.specs.Calls.{CallsUpTo};
-ghost use Rattle.redo_log.specs.Shown.{lists_of};
 ghost use Rattle.redo_log.specs.Turns.{begun_with, counts_of};
 ghost use Rattle.redo_log.specs.Turns.{IsInside, MakesTurn, ReadsBefore, WritesSector};
-ghost use Rattle.redo_log.specs.Value.{first_kept};
 ghost use Rattle.redo_log.specs.Turns.{StaysInImage, IsHomeTurn, IsHeadTurn, IsNextTurn};
+ghost use Rattle.redo_log.specs.Value.{first_kept};
 
 use crate::firsts::first_kept;
 use journal::{Firsts, Head, Super, copy_place, put_first, slot_of};

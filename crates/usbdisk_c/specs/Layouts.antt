@@ -1,8 +1,7 @@
 -- What a maker is told of an image by its first sector.
 use Rattle.std.specs.Prelude.{◌≡◌, ◌⊎◌, ℕ, List}
 use Rattle.journal.specs.Places.{Shape, first_home, sectors_of}
-use Rattle.journal.specs.Sectors.{IsSuper, version_of}
-use Rattle.journal.specs.SuperFaults.{IsSuperFault}
+use Rattle.journal.specs.Sectors.{IsSuper, version_of, IsSuperFault}
 use Rattle.journal.specs.declared.super_fault.SuperFault.{SuperFault}
 use Rattle.journal.specs.declared.super_fault.SuperFault.TheVariants as super
 use Rattle.recovery.specs.declared.start_fault.StartFault.TheVariants as fault

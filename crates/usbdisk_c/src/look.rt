@@ -1,6 +1,6 @@
 //! The export that tells what image a device has, from its first sector.
 ghost use Rattle.std.specs.Prelude.{◌≡◌};
-ghost use Rattle.journal.specs.Values.{shape_of};
+ghost use Rattle.journal.specs.Formats.{shape_of};
 ghost use Rattle.usbdisk_c.specs.Layouts.{IsLayout, TellsLayout, code_of_super};
 
 use crate::codes::{ACK, number_of};

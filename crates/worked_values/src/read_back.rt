@@ -1,7 +1,7 @@
 //! Values of the layout, written and read back. That each comes back as it was is proved here, from
 //! the contracts alone; the play shows that it does.
 ghost use Rattle.std.specs.Prelude.{◌≡◌, IsOkAnd, IsSomeAnd};
-ghost use Rattle.journal.specs.Values.{shape_of};
+ghost use Rattle.journal.specs.Formats.{shape_of};
 
 use crate::layout::Kind;
 use log_layout::{Commit, Commit2, Descriptor, Descriptor2, Head, LogFormat, Super, SuperFault};

@@ -2,9 +2,8 @@
 ghost use Rattle.std.specs.Prelude.{◌≡◌, ◌<◌, ◌≤◌};
 ghost use Rattle.journal.specs.declared.log_format.LogFormat.TheVariants.{One};
 ghost use Rattle.journal.specs.Places.{first_home, sectors_of};
-ghost use Rattle.journal.specs.Values.{shape_of};
-ghost use Rattle.journal.specs.Reads.{LooksUp};
-ghost use Rattle.journal.specs.Reading.{FindsRecord, found_in};
+ghost use Rattle.journal.specs.Formats.{shape_of};
+ghost use Rattle.journal.specs.Reading.{LooksUp, FindsRecord, found_in};
 
 use crate::v1::{commit_place, place_of, whole_record};
 use crate::{Record, Super, slot_of};

@@ -3,8 +3,7 @@ ghost use Rattle.std.specs.Prelude.{◌≡◌, ◌≤◌, ◌<◌, ◌-◌, ◌^
 ghost use Rattle.std.specs.Prelude.{ℕ, List, length, take, drop, All, slice_index, get_or};
 ghost use Rattle.std.specs.Prelude.{slice_range, [], zip, min, IsTrue, IfSome, IsSomeAnd};
 ghost use Rattle.std.specs.List.{flat_map};
-ghost use Rattle.journal.specs.Sectors.{IsRising};
-ghost use Rattle.journal.specs.Spelling.{padded, number_in, AreItems};
+ghost use Rattle.journal.specs.Sectors.{IsRising, padded, number_in, AreItems};
 ghost use Rattle.journal.specs.SectorsTwo.{AreEntriesTwo, IsDescriptorTwo, entries_here};
 ghost use Rattle.journal.specs.SectorsTwo.{entry_bytes};
 ghost use Rattle.journal.specs.Parts.{CanDescribe, Describes};

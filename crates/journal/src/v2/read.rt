@@ -6,11 +6,9 @@ ghost use Rattle.journal.specs.Places.{first_home, sectors_of};
 ghost use Rattle.journal.specs.Sectors.{IsRising};
 ghost use Rattle.journal.specs.SectorsTwo.{descriptors_of, IsDescriptorTwo, IsCommitTwo};
 ghost use Rattle.journal.specs.V2.{place_of, slot_end};
-ghost use Rattle.journal.specs.Values.{shape_of};
-ghost use Rattle.journal.specs.SlotReads.{StopsAtBad, IsCommitted, HasDescriptor, HasPlace};
-ghost use Rattle.journal.specs.SlotReads.{AreNamed};
-ghost use Rattle.journal.specs.Reads.{LooksUp};
-ghost use Rattle.journal.specs.Reading.{FindsRecord, FindsStamps, found_in};
+ghost use Rattle.journal.specs.Formats.{shape_of};
+ghost use Rattle.journal.specs.Reading.{StopsAtBad, IsCommitted, HasDescriptor, HasPlace, AreNamed};
+ghost use Rattle.journal.specs.Reading.{LooksUp, FindsRecord, FindsStamps, found_in};
 
 use crate::v2::{
     Commit, Descriptor, commit_place, data_place, descriptor_place, descriptors, is_data,

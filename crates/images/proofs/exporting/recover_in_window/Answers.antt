@@ -1,7 +1,7 @@
 use Rattle.std.proofs.Common.{◌≡◌, ◌≤◌, ◌+◌, ℕ, inr, refl, sym, subst}
 use Rattle.std.specs.Prelude.{Option, Some}
 use Rattle.journal.specs.Places.{Shape}
-use Rattle.journal.specs.Values.{shape_of}
+use Rattle.journal.specs.Formats.{shape_of}
 use Rattle.journal.specs.declared.super_sector.Super.{Super}
 use Rattle.recovery.specs.Calls.{most_start_sends}
 use Rattle.window.specs.Window.{state_of}

@@ -1,5 +1,5 @@
 use Rattle.std.proofs.Common.{inl}
-use Rattle.journal.specs.Values.{shape_of}
+use Rattle.journal.specs.Formats.{shape_of}
 use Rattle.images.proofs.Imports.{imported_all, imported_unmade}
 use Rattle.images.proofs.importing.import_blocks.Goals as goal
 

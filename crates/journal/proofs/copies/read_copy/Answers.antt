@@ -1,5 +1,5 @@
 use Rattle.std.proofs.Common.{◌∙◌}
-use Rattle.journal.specs.Values.{shape_of}
+use Rattle.journal.specs.Formats.{shape_of}
 use Rattle.journal.proofs.CopiedBlock.{begun_is}
 use Rattle.journal.proofs.copies.read_copy.Goals as goal
 

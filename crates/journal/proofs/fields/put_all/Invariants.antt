@@ -1,5 +1,5 @@
 use Rattle.std.proofs.Common.{◌≡◌, ◌++◌, ℕ, List, length, take}
-use Rattle.journal.specs.Spelling.{spelling}
+use Rattle.journal.specs.Sectors.{spelling}
 use Rattle.journal.proofs.fields.put_all.Given as goal
 
 abbrev pub invariant-loop-k : goal.invariant-loop-k

@@ -1,5 +1,5 @@
 use Rattle.std.proofs.Common.{[], refl}
-use Rattle.journal.specs.Spelling.{padded, spelling}
+use Rattle.journal.specs.Sectors.{padded, spelling}
 use Rattle.journal.proofs.fields.sector_of.Goals as goal
 
 pub returns : goal.returns

@@ -2,8 +2,7 @@ use Rattle.std.proofs.Common.{◌≡◌, ◌<◌, inl, inr, ◌∙◌, ◌+◌, 
 use Rattle.std.proofs.lemmas.Bool.{cases_eq}
 use Rattle.std.proofs.lemmas.Nat.{mod_below}
 use Rattle.journal.specs.Places.{first_home, first_data_of}
-use Rattle.journal.specs.Formats.{layout_of}
-use Rattle.journal.specs.Values.{shape_of}
+use Rattle.journal.specs.Formats.{layout_of, shape_of}
 use Rattle.journal.specs.Reading.{data_at}
 use Rattle.journal.proofs.SectorsRead.{place_before}
 use Rattle.recovery.proofs.JoinedCalls.{copies_on}

@@ -1,6 +1,6 @@
 use Rattle.std.proofs.Common.{◌≡◌, ◌<◌, ◌+◌, ◌*◌, ◌++◌, ℕ, Ok, [], length, drop, get_or}
 use Rattle.journal.specs.Places.{first_home}
-use Rattle.journal.specs.Values.{shape_of}
+use Rattle.journal.specs.Formats.{shape_of}
 use Rattle.journal.specs.Reading.{data_at}
 use Rattle.recovery.specs.Calls.{Copies, IsHomeOf}
 use Rattle.recovery.proofs.copies.copy_blocks.Given as goal

@@ -6,7 +6,7 @@ use Rattle.journal.specs.declared.log_format.LogFormat.{LogFormat}
 use Rattle.journal.specs.declared.record.Record.{Record}
 use Rattle.journal.specs.Places.{Shape, first_home, limit_of}
 use Rattle.journal.specs.Record.{numbers_of, home_of}
-use Rattle.journal.specs.Values.{shape_of}
+use Rattle.journal.specs.Formats.{shape_of}
 use Rattle.journal.specs.Reading.{record_reads_of, data_at, IsReadFor, FindsRecord}
 use Rattle.journal.proofs.Formats.{most_is}
 use Rattle.journal.proofs.Overlay.{with_blocks-copied}

@@ -3,7 +3,7 @@ use Rattle.std.proofs.lemmas.List.{take_all, take_more}
 use Rattle.journal.specs.declared.log_format.LogFormat.{LogFormat}
 use Rattle.journal.specs.Places.{first_home}
 use Rattle.journal.specs.Record.{Entry, with_records, home_of}
-use Rattle.journal.specs.Values.{shape_of}
+use Rattle.journal.specs.Formats.{shape_of}
 use Rattle.recovery.specs.Calls.{calls_of, copy_calls, IsHomeInRecord, IsHomeInRecords}
 use Rattle.journal.proofs.Overlay.{with_blocks-same, with_records-append}
 use Rattle.recovery.proofs.CopiedRecords.{not_in_log, whole_same}

@@ -1,8 +1,7 @@
 use Rattle.std.proofs.Common.{◌≡◌, ◌<◌, ◌+◌, ◌*◌, List, ℕ, Ok, length, take, get_or, []}
 use Rattle.journal.specs.Places.{first_home, limit_of}
-use Rattle.journal.specs.Values.{shape_of}
+use Rattle.journal.specs.Formats.{shape_of, IsWhole}
 use Rattle.journal.specs.Record.{Entry}
-use Rattle.journal.specs.Formats.{IsWhole}
 use Rattle.recovery.specs.Calls.{Copies, most_calls_of, AreCopied, IsHomeInRecords}
 use Rattle.recovery.proofs.copies.copy_records.Given as goal
 

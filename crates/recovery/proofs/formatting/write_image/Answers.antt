@@ -2,7 +2,7 @@ use Rattle.std.proofs.Common.{◌≡◌, ◌⊎◌, inl, inr, ◌+◌, ◌-◌, 
 use Rattle.std.proofs.lemmas.Result.{on_ok_weaker}
 use Rattle.medium.specs.Medium.{Image, Holds, CutLeaves}
 use Rattle.medium.proofs.Moments.{at_exit}
-use Rattle.journal.specs.Values.{shape_of}
+use Rattle.journal.specs.Formats.{shape_of}
 use Rattle.recovery.specs.Calls.{Writes}
 use Rattle.recovery.specs.Formatted.{IsWritten, IsNoneOrWritten}
 use Rattle.recovery.proofs.JoinedCalls.{wider, writes_on, through_writes, clear_writes, made_image}

@@ -3,8 +3,7 @@ use Rattle.std.proofs.lemmas.List.{ext_get_or, get_or-map, length-map}
 use Rattle.medium.specs.Medium.{State}
 use Rattle.journal.specs.Record.{Entry}
 use Rattle.journal.specs.Sectors.{IsHead}
-use Rattle.journal.specs.Values.{shape_of}
-use Rattle.journal.specs.Formats.{layout_of}
+use Rattle.journal.specs.Formats.{shape_of, layout_of}
 use Rattle.journal.specs.ImageFaults.{HasShape}
 use Rattle.journal.proofs.Formats.{laws_of}
 use Rattle.journal.proofs.Wholeness.{IsWhole-one}

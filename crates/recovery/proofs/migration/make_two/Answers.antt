@@ -6,8 +6,7 @@ use Rattle.medium.proofs.Moments.{at_exit}
 use Rattle.spec.specs.Blocks.{Array}
 use Rattle.journal.specs.Places.{Shape, first_home, migrated}
 use Rattle.journal.specs.Sectors.{IsSuper, IsHead}
-use Rattle.journal.specs.Formats.{layout_of}
-use Rattle.journal.specs.Values.{shape_of}
+use Rattle.journal.specs.Formats.{layout_of, shape_of}
 use Rattle.journal.proofs.Formats.{laws_of}
 use Rattle.recovery.specs.Calls.{Writes, IsBetween}
 use Rattle.recovery.specs.Recovered.{StaysFresh, IsFresh}

@@ -12,7 +12,7 @@ use Rattle.medium.proofs.SparedSectors.{spared_behind}
 use Rattle.journal.specs.declared.log_format.LogFormat.TheVariants.{One}
 use Rattle.journal.specs.Places.{Shape, first_home, sectors_of, migrated}
 use Rattle.journal.specs.Record.{home_of}
-use Rattle.journal.specs.Values.{shape_of}
+use Rattle.journal.specs.Formats.{shape_of}
 use Rattle.journal.proofs.SectorNumbers.{IsSuper-one}
 use Rattle.journal.specs.Standing.{IsOurs}
 use Rattle.journal.proofs.StandingLaws.{StandsFor-one, StandsFor-shape}

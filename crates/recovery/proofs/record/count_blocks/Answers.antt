@@ -6,10 +6,9 @@ use Rattle.journal.specs.declared.log_format.LogFormat.TheVariants.{One, Two}
 use Rattle.journal.specs.declared.record.Record.{Record}
 use Rattle.journal.specs.Places.{Shape}
 use Rattle.journal.specs.SectorsTwo.{descriptors_of}
-use Rattle.journal.specs.SlotReads.{StopsAtBad, ReadsUpToBad, HasDescriptor, HasPlace, NamesBlocks}
-use Rattle.journal.specs.Values.{shape_of}
-use Rattle.journal.specs.Formats.{HasWhole}
-use Rattle.journal.specs.Reading.{IsReadFor, IsReadForStamps, record_reads_of, stamp_reads_of}
+use Rattle.journal.specs.Reading.{StopsAtBad, ReadsUpToBad, HasDescriptor, HasPlace, NamesBlocks, IsReadFor}
+use Rattle.journal.specs.Reading.{IsReadForStamps, record_reads_of, stamp_reads_of}
+use Rattle.journal.specs.Formats.{shape_of, HasWhole}
 use Rattle.journal.proofs.CopiedBlock.{stamped_whole}
 use Rattle.journal.proofs.DescribedNumbers.{each_there}
 use Rattle.journal.proofs.EntriesTwo.{commit_count}

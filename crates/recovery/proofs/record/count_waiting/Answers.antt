@@ -8,9 +8,8 @@ use Rattle.medium.proofs.Moments.{quiet_start}
 use Rattle.medium.proofs.SectorsRead.{no_looks}
 use Rattle.journal.specs.declared.log_format.LogFormat.{LogFormat}
 use Rattle.journal.specs.declared.log_format.LogFormat.TheVariants.{One, Two}
-use Rattle.journal.specs.Formats.{HasWhole}
+use Rattle.journal.specs.Formats.{HasWhole, shape_of}
 use Rattle.journal.specs.Places.{Shape}
-use Rattle.journal.specs.Values.{shape_of}
 use Rattle.journal.specs.Layout.{slot_at}
 use Rattle.journal.specs.Format2.{format2}
 use Rattle.recovery.specs.Calls.{most_reads_of}

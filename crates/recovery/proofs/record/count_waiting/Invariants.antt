@@ -1,7 +1,7 @@
 use Rattle.std.proofs.Common.{◌≡◌, ◌<◌, ◌+◌, ◌*◌, ℕ, Ok, length, slice_index}
 use Rattle.journal.specs.Places.{first_home}
-use Rattle.journal.specs.Reads.{LooksUp}
-use Rattle.journal.specs.Values.{shape_of}
+use Rattle.journal.specs.Reading.{LooksUp}
+use Rattle.journal.specs.Formats.{shape_of}
 use Rattle.recovery.specs.Calls.{most_reads_of}
 use Rattle.recovery.specs.Inspected.{AreTries, HasCount}
 use Rattle.recovery.proofs.record.count_waiting.Given as goal

@@ -1,8 +1,7 @@
 use Rattle.std.proofs.Common.{◌+◌, rules, arith}
 use Rattle.medium.proofs.Moments.{quiet_start}
 use Rattle.medium.proofs.SectorsRead.{no_looks}
-use Rattle.journal.specs.Values.{shape_of}
-use Rattle.journal.specs.Formats.{HasWhole}
+use Rattle.journal.specs.Formats.{shape_of, HasWhole}
 use Rattle.recovery.specs.Recovered.{LeavesAtLeast}
 use Rattle.recovery.proofs.CopiedRecords.{log_ends}
 use Rattle.recovery.proofs.JoinedCalls.{quiet_after}

@@ -1,11 +1,10 @@
 use Rattle.std.proofs.Common.{ℕ, ◌<◌, length, refl, arith}
-use Rattle.journal.specs.Values.{shape_of}
+use Rattle.journal.specs.Formats.{shape_of, layout_of}
 use Rattle.journal.specs.Record.{entries_of}
 use Rattle.journal.specs.Layout.{part_at}
-use Rattle.journal.specs.Formats.{layout_of}
 use Rattle.journal.proofs.BatchEntries.{length_of_batch}
 use Rattle.journal.proofs.Formats.{laws_of, most_is}
-use Rattle.redo_log.specs.Stages.{written_at}
+use Rattle.redo_log.specs.Shown.{written_at}
 use Rattle.redo_log.specs.Calls.{Write, Flush}
 use Rattle.redo_log.proofs.OneSector.{before_home}
 use Rattle.redo_log.proofs.LogRules.{sizes_sized}

@@ -1,7 +1,6 @@
 use Rattle.std.proofs.Common.{◌≡◌, ◌+◌, ◌-◌, ◌<◌, length, arith, rules}
-use Rattle.journal.specs.Values.{shape_of}
+use Rattle.journal.specs.Formats.{shape_of, layout_of}
 use Rattle.journal.specs.Layout.{part_at}
-use Rattle.journal.specs.Formats.{layout_of}
 use Rattle.journal.proofs.Formats.{laws_of, most_is}
 use Rattle.redo_log.proofs.OneSector.{before_home}
 use Rattle.redo_log.proofs.LogRules.{sizes_sized}

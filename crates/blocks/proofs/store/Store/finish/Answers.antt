@@ -4,13 +4,12 @@ use Rattle.std.proofs.lemmas.Bool.{false≢true}
 use Rattle.std.proofs.lemmas.Result.{on_ok_weaker}
 use Rattle.cache.specs.Entries.{Entries}
 use Rattle.medium.specs.Sent.{sent}
-use Rattle.redo_log.specs.Value.{LogValue, begun, steps_of, most_steps}
+use Rattle.redo_log.specs.Value.{LogValue, begun, steps_of, most_steps, steps_flushes}
 use Rattle.redo_log.proofs.RecordSteps.{few_steps_for}
 use Rattle.journal.specs.Places.{Shape, limit_of}
 use Rattle.blocks.specs.Retiring.{written_out, finished}
 use Rattle.blocks.specs.Flushing.{left_flushes}
 use Rattle.medium.specs.declared.fault.MediumFault.TheVariants.{Flush}
-use Rattle.redo_log.specs.Flushes.{steps_flushes}
 use Rattle.blocks.proofs.SteadyRing.{fills, stays_on}
 use Rattle.blocks.proofs.RoomFlushes.{flushes_under_way, flushes_none, flushes_begun}
 use Rattle.blocks.proofs.Room.{some_listed, finishes_under_way, finishes_none}

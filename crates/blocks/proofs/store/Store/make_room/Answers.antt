@@ -3,8 +3,8 @@ use Rattle.std.proofs.lemmas.Bool.{false≢true}
 use Rattle.journal.specs.Places.{Shape}
 use Rattle.medium.specs.Sent.{sent}
 use Rattle.medium.specs.declared.fault.MediumFault.TheVariants.{Flush}
-use Rattle.redo_log.specs.Flushes.{next_turn_flushes}
-use Rattle.redo_log.specs.Value.{LogValue, HasRoom, next_calls, next_sends, sends_of_oldest, most_retire_sends}
+use Rattle.redo_log.specs.Value.{next_turn_flushes, LogValue, HasRoom, next_calls, next_sends, sends_of_oldest}
+use Rattle.redo_log.specs.Value.{most_retire_sends}
 use Rattle.blocks.specs.StoreValue.{Cached}
 use Rattle.blocks.proofs.Room.{one_at_most, most_one, retires_more, room_is_made}
 use Rattle.blocks.proofs.RoomCalls.{CostsOldest, costs_more, costs_room}

@@ -1,9 +1,9 @@
 use Rattle.std.proofs.Common.{◌≡◌, ◌∙◌, ◌<◌, ◌+◌, ◌*◌, ◌%◌, ℕ, Result, IfOk, IfErr, [], refl, sym, rules, arith}
 use Rattle.medium.specs.Medium.{State}
-use Rattle.journal.specs.Values.{shape_of}
+use Rattle.journal.specs.Formats.{shape_of}
 use Rattle.journal.specs.Record.{numbers_of}
 use Rattle.medium.specs.declared.fault.MediumFault.{MediumFault}
-use Rattle.journal.specs.Reads.{IsRefusedCall, LooksUp}
+use Rattle.journal.specs.Reading.{IsRefusedCall, LooksUp}
 use Rattle.journal.specs.Format1.{record_in}
 use Rattle.journal.proofs.CopiedBlock.{read_is}
 use Rattle.journal.proofs.Format1Laws.{descriptor_there, commit_there, numbers_read, whole_in}

@@ -1,5 +1,5 @@
 use Rattle.std.proofs.Common.{◌≡◌, ◌++◌, ℕ, List, length, take, zip, flat_map}
-use Rattle.journal.specs.Spelling.{padded}
+use Rattle.journal.specs.Sectors.{padded}
 use Rattle.journal.specs.SectorsTwo.{entry_bytes}
 use Rattle.journal.proofs.v2.descriptor.append_entries.Given as goal
 

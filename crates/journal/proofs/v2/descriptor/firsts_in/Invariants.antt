@@ -1,5 +1,5 @@
 use Rattle.std.proofs.Common.{◌+◌, ◌*◌, [], slice_range}
-use Rattle.journal.specs.Spelling.{AreItems}
+use Rattle.journal.specs.Sectors.{AreItems}
 use Rattle.journal.proofs.v2.descriptor.firsts_in.Given as goal
 
 abbrev pub invariant-loop-i : goal.invariant-loop-i

@@ -1,5 +1,5 @@
 use Rattle.std.proofs.Common.{◌+◌, ◌*◌}
-use Rattle.journal.specs.Spelling.{number_in, AreItems}
+use Rattle.journal.specs.Sectors.{number_in, AreItems}
 use Rattle.journal.proofs.v2.descriptor.numbers_at.Given as goal
 
 abbrev pub invariant-loop-i : goal.invariant-loop-i

@@ -1,6 +1,6 @@
 use Rattle.std.proofs.Common.{◌≡◌, ◌+◌, ◌*◌, inr, refl, rules, arith}
 use Rattle.medium.specs.Medium.{Image}
-use Rattle.journal.specs.SlotReads.{HasPlace}
+use Rattle.journal.specs.Reading.{HasPlace}
 use Rattle.journal.proofs.SectorsRead.{looks_on, looks_within, within_two}
 use Rattle.journal.proofs.SlotTwo.{untrue}
 use Rattle.journal.proofs.v2.read.are_stamped.Goals as goal

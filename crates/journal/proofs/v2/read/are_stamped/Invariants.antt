@@ -1,6 +1,5 @@
 use Rattle.std.proofs.Common.{◌≡◌, ◌<◌, ◌+◌, ◌*◌, Ok}
-use Rattle.journal.specs.Reads.{LooksUp}
-use Rattle.journal.specs.SlotReads.{HasPlaces}
+use Rattle.journal.specs.Reading.{LooksUp, HasPlaces}
 use Rattle.journal.proofs.v2.read.are_stamped.Given as goal
 
 abbrev pub invariant-loop-i : goal.invariant-loop-i

@@ -4,7 +4,7 @@ use Rattle.medium.specs.Medium.{Image}
 use Rattle.journal.specs.Record.{Entry}
 use Rattle.journal.specs.SectorsTwo.{chunk_of}
 use Rattle.journal.specs.Format2.{entries_at}
-use Rattle.journal.specs.SlotReads.{HasDescriptor}
+use Rattle.journal.specs.Reading.{HasDescriptor}
 use Rattle.journal.proofs.DescribedNumbers.{take_chunk, read_long, chunk_numbers, chunk_firsts}
 use Rattle.journal.proofs.SectorsRead.{looks_on}
 use Rattle.journal.proofs.v2.read.read_descriptors.Goals as goal

@@ -2,8 +2,7 @@ use Rattle.std.proofs.Common.{◌≡◌, ◌<◌, ◌+◌, ◌*◌, ℕ, Ok, tak
 use Rattle.journal.specs.Record.{numbers_of}
 use Rattle.journal.specs.SectorsTwo.{firsts_of}
 use Rattle.journal.specs.Format2.{entries_at}
-use Rattle.journal.specs.SlotReads.{HasDescriptor}
-use Rattle.journal.specs.Reads.{LooksUp}
+use Rattle.journal.specs.Reading.{HasDescriptor, LooksUp}
 use Rattle.journal.proofs.v2.read.read_descriptors.Given as goal
 
 abbrev pub invariant-loop-j : goal.invariant-loop-j

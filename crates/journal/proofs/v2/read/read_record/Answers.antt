@@ -1,7 +1,7 @@
 use Rattle.std.proofs.Common.{◌≡◌, ◌<◌, ◌+◌, ◌*◌, ◌%◌, ℕ, inl, inr, refl, rules, arith, length}
 use Rattle.medium.specs.Medium.{Image}
 use Rattle.journal.specs.SectorsTwo.{descriptors_of}
-use Rattle.journal.specs.Values.{shape_of}
+use Rattle.journal.specs.Formats.{shape_of}
 use Rattle.journal.specs.Format2.{entries_at}
 use Rattle.journal.proofs.CopiedBlock.{read_is}
 use Rattle.journal.proofs.EntriesTwo.{commit_count}

@@ -1,9 +1,8 @@
 use Rattle.std.proofs.Common.{◌≡◌, ℕ, ◌+◌, vec_capacity, List, length, ◌++◌, [], ◌∷◌, arith, rules, length-append}
 use Rattle.arrayvec.specs.ArrayVec.{ArrayVec}
 use Rattle.journal.specs.Places.{limit_of}
-use Rattle.journal.specs.Values.{shape_of}
-use Rattle.redo_log.specs.Stages.{AreInside}
-use Rattle.redo_log.specs.Shown.{lists_of}
+use Rattle.journal.specs.Formats.{shape_of}
+use Rattle.redo_log.specs.Shown.{AreInside, lists_of}
 use Rattle.std.proofs.lemmas.List.{map_push}
 use Rattle.std.proofs.lemmas.List.Elements.{All-push}
 use Rattle.redo_log.proofs.SortedIndex.{record_room, index_more}

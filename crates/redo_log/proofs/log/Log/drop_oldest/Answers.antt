@@ -1,12 +1,11 @@
 use Rattle.std.proofs.Common.{◌≡◌, List, drop, sym, ◌∙◌, ap, arith, rules}
 use Rattle.std.proofs.lemmas.List.{drop-map}
 use Rattle.arrayvec.specs.ArrayVec.{ArrayVec}
-use Rattle.journal.specs.Values.{shape_of}
+use Rattle.journal.specs.Formats.{shape_of}
 use Rattle.redo_log.specs.Value.{LogValue}
-use Rattle.redo_log.specs.Shown.{kept_in, lists_of, ahead_in}
+use Rattle.redo_log.specs.Shown.{kept_in, lists_of, ahead_in, AreInside}
 use Rattle.redo_log.proofs.SortedIndex.{index_fewer}
 use Rattle.std.proofs.lemmas.List.Elements.{All-drop}
-use Rattle.redo_log.specs.Stages.{AreInside}
 use Rattle.redo_log.proofs.LogRules.{many_lists, log_is, one_waits, retired_of, retired_value}
 use Rattle.redo_log.proofs.log.Log.drop_oldest.Goals as goal
 

@@ -1,6 +1,6 @@
 use Rattle.std.proofs.Common.{ℕ, List, [], ◌∷◌, refl, rules, flat_map}
 use Rattle.byteorder.specs.Endian.{little_bytes}
-use Rattle.journal.specs.Spelling.{padded, spelling}
+use Rattle.journal.specs.Sectors.{padded, spelling}
 use Rattle.journal.proofs.v2.descriptor.Descriptor.encode.Goals as goal
 
 pub returns : goal.returns
