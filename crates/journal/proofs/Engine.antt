@@ -45,7 +45,7 @@ module _ (L : Layout) (laws : Laws L) (shape : Shape) where
       grind (arith, late, laws.some_parts n, laws.last_is_late n, laws.last n, free)
 
   -- behind the stamps that the log carries no record is whole
-  none_carried : 1 ≤ shape.slots → (image : Image) (end : ℕ) → CarriesBelowIn L shape image end → ¬ HasWholeIn L shape image end
+  pub none_carried : 1 ≤ shape.slots → (image : Image) (end : ℕ) → CarriesBelowIn L shape image end → ¬ HasWholeIn L shape image end
   none_carried some image end c =
       let low = mod_below end shape.slots some in
       last_free_none image end (λ t. c (end % shape.slots) (L.slot_sectors - 1) t low
