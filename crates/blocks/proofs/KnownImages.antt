@@ -8,9 +8,8 @@ use Rattle.spec.specs.Blocks.{Array, Write, apply, after}
 use Rattle.medium.proofs.Moments.{at_exit, only_image}
 use Rattle.journal.specs.Places.{Shape}
 use Rattle.journal.specs.Standing.{StandsFor, Stands, IsOurs}
-use Rattle.journal.specs.ImageFaults as image
-use Rattle.journal.proofs.StandingLaws.{StandsFor-one}
-use Rattle.journal.proofs.FaultLaws.{HasFault-stands}
+use Rattle.journal.specs.Standing as image
+use Rattle.journal.proofs.StandingLaws.{StandsFor-one, HasFault-stands}
 use Rattle.recovery.specs.Causes.{IsCause}
 use Rattle.recovery.specs.Recovered.{IsOursForSome, StandsForOneOf}
 use Rattle.recovery.specs.declared.start_fault.StartFault.{StartFault}

@@ -4,8 +4,7 @@ use Rattle.medium.specs.Medium.{State, Image}
 use Rattle.medium.specs.Moments.{EachCut, LeavesOnly, IsFlushed}
 use Rattle.spec.specs.Blocks.{Array}
 use Rattle.journal.specs.Places.{Shape}
-use Rattle.journal.specs.Standing.{StandsFor, IsOurs}
-use Rattle.journal.specs.ImageFaults.{HasShape}
+use Rattle.journal.specs.Standing.{StandsFor, IsOurs, HasShape}
 use Rattle.journal.specs.declared.super_sector.Super.{Super}
 use Rattle.recovery.specs.Causes.{IsCause, IsDeviceFault}
 use Rattle.recovery.specs.Copies.{most_start_of}

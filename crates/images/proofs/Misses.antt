@@ -6,7 +6,7 @@ use Rattle.medium.specs.Sent.{SendsUpTo}
 use Rattle.medium.specs.Writes.{sector_of}
 use Rattle.medium.specs.declared.fault.MediumFault.{MediumFault}
 use Rattle.medium.specs.declared.fault.MediumFault.TheVariants as kind
-use Rattle.journal.specs.ImageFaults.{HasShape}
+use Rattle.journal.specs.Standing.{HasShape}
 use Rattle.journal.specs.Places.{Shape}
 use Rattle.journal.specs.Sectors.{IsSuper}
 use Rattle.journal.specs.Formats.{shape_of}

@@ -13,11 +13,9 @@ use Rattle.journal.specs.Layout.{IsRecordOf}
 use Rattle.journal.specs.Staged.{View, HasParts, stamp_of, KeepsView, Found, Stored, Guarded, HasSlots, Resting, with_record, MayLeave, with_less}
 use Rattle.journal.specs.Staged.{IsHomed}
 use Rattle.journal.specs.Sectors.{IsHead}
-use Rattle.journal.proofs.Apart.{in_log, other_sector}
-use Rattle.journal.proofs.Slots.{other_slot}
-use Rattle.journal.proofs.Wholeness.{record_of, Keeps-same, IsWhole-same, slot_inside}
-use Rattle.journal.proofs.AllOrFirst.{all_or_first}
-use Rattle.journal.proofs.Overlay.{with_blocks-same, with_records-append, with_records-same, with_blocks-home}
+use Rattle.journal.proofs.Wholeness.{in_log, other_sector, other_slot, record_of, Keeps-same, IsWhole-same, slot_inside}
+use Rattle.journal.proofs.Wholeness.{all_or_first, with_blocks-same, with_records-append, with_records-same}
+use Rattle.journal.proofs.Wholeness.{with_blocks-home}
 
 -- where part p of the record under way stands
 abbrev pub at : Layout → View → ℕ → ℕ
@@ -47,7 +45,7 @@ module _ (L : Layout) (laws : Laws L) (shape : Shape) where
       grind (arith, late, laws.some_parts n, laws.last_is_late n, laws.last n, free)
 
   -- behind the stamps that the log carries no record is whole
-  none_carried : 1 ≤ shape.slots → (image : Image) (end : ℕ) → CarriesBelowIn L shape image end → ¬ HasWholeIn L shape image end
+  pub none_carried : 1 ≤ shape.slots → (image : Image) (end : ℕ) → CarriesBelowIn L shape image end → ¬ HasWholeIn L shape image end
   none_carried some image end c =
       let low = mod_below end shape.slots some in
       last_free_none image end (λ t. c (end % shape.slots) (L.slot_sectors - 1) t low

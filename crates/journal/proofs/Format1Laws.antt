@@ -38,13 +38,6 @@ module _ {X : Type 0} (descriptor place : ℕ → X) (commit : X) (d n p : ℕ) 
 
 pub ruleset parts = (by_descriptor, by_place, by_commit)
 
-pub offset_early : (n p : ℕ) → p < n + 1 → format1.offset n p ≡ p
-offset_early n p below = grind (arith, parts)
-
-pub part_place : (s : ℕ) (entries : List Entry) (p : ℕ) → 1 ≤ p → p < length entries + 1
-    → format1.part s entries p ≡ block_of entries (p - 1)
-part_place s entries p behind below = grind (arith, parts)
-
 module _ {blocks s : ℕ} {entries : List Entry} (r : IsRecordOf format1 blocks s entries) where
   pub descriptor_of : IsDescriptor s (numbers_of entries)
       (spelling (descriptor_mark ∷ s ∷ length (numbers_of entries) ∷ numbers_of entries))

@@ -1,16 +1,54 @@
--- Both formats keep the laws of a layout.
-use Rattle.std.proofs.Common.{◌≡◌, ◌∙◌, inr, sym, arith}
+-- Format 2 keeps the laws of a layout, and so both formats do.
+use Rattle.std.proofs.Common.{◌≡◌, ℕ, ◌+◌, ◌-◌, ◌/◌, ◌<◌, ◌≤◌, List, [], ◌∷◌, length, arith, rules, ◌∙◌, inr, sym}
+use Rattle.std.specs.Prelude.{if◌then◌else◌, nat_lt, replicate}
+use Rattle.std.proofs.lemmas.Bool.Decides.{nat_tests}
+use Rattle.journal.specs.Sectors.{spelling, number_in}
+use Rattle.journal.specs.Record.{Entry, block_of, numbers_of}
+use Rattle.journal.specs.Layout.{IsRecordOf, Laws}
+use Rattle.journal.specs.Format2.{commit_mark, chunk_of, firsts_of, IsCommitTwo, format2, Carries2}
+use Rattle.journal.proofs.SlotTwo.{header_says, place_says, descriptor_two, record_read as read2}
+use Rattle.journal.proofs.SectorNumbers.{commit_says}
+use Rattle.journal.proofs.Format1Laws.{parts, carries1, one_stamp1, zeros1, commit_of, record_read as read1}
 use Rattle.journal.specs.declared.log_format.LogFormat.{LogFormat}
 use Rattle.journal.specs.declared.log_format.LogFormat.TheVariants.{One, Two}
 use Rattle.journal.specs.Places.{limit_of, slot_sectors_of}
-use Rattle.journal.specs.Layout.{Laws}
 use Rattle.journal.specs.Format1.{format1}
-use Rattle.journal.specs.Format2.{format2}
 use Rattle.journal.specs.Formats.{layout_of}
-use Rattle.journal.proofs.SectorNumbers.{commit_says}
-use Rattle.journal.proofs.Format1Laws.{parts, carries1, one_stamp1, zeros1, commit_of, record_read as read1}
-use Rattle.journal.proofs.Format2Laws.{commit_two, carries2, carried2, zeros2}
-use Rattle.journal.proofs.SlotTwo.{record_read as read2}
+
+pub commit_two : {blocks s : ℕ} {entries : List Entry} → IsRecordOf format2 blocks s entries
+    → IsCommitTwo s (length entries) (spelling (commit_mark ∷ s ∷ length entries ∷ []))
+commit_two r = search rules
+
+pub carries2 : (blocks s : ℕ) (entries : List Entry) (p : ℕ) → IsRecordOf format2 blocks s entries
+    → Carries2 (format2.offset (length entries) p) s (format2.part s entries p)
+carries2 blocks s entries p r =
+    let few = r.fit.few in
+    record {
+      most = omega (arith, r.below);
+      descriptor = λ low. let is : p < (length entries + 29) / 30 = grind (arith, parts) in (
+        length entries,
+        numbers_of (chunk_of entries p),
+        firsts_of (chunk_of entries p),
+        grind (arith, parts, descriptor_two p r (omega (arith, is))),
+      );
+      place = λ low high. (block_of entries (p - (length entries + 29) / 30), grind (arith, parts));
+      commit = λ high. (length entries, grind (arith, parts, commit_two r));
+    }
+
+-- which number of the sector at this offset of a slot is the stamp that it carries
+pub stamp_place : ℕ → ℕ
+stamp_place o = if nat_lt o 8 then 1 else (if nat_lt o 248 then 0 else 1)
+
+pub carried2 : (o s : ℕ) (bytes : List ℕ) → Carries2 o s bytes → number_in bytes (stamp_place o) ≡ s
+unfolding stamp_place
+carried2 o s bytes c =
+    let commit = λ (high : 248 ≤ o). (commit_says (c.commit high).1).0 in
+    grind (arith, nat_tests, header_says, place_says, commit, c.descriptor, c.place)
+
+-- zeros carry no stamp but 0
+pub zeros2 : (o s : ℕ) → Carries2 o s (replicate 512 0) → s ≡ 0
+unfolding stamp_place number_in
+zeros2 o s c = grind (arith, nat_tests, carried2 o s (replicate 512 0) c)
 
 pub format1_laws : Laws format1
 format1_laws = record {

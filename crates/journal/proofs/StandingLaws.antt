@@ -1,20 +1,24 @@
--- An image stands for one array and one next stamp.
-use Rattle.std.proofs.Common.{◌≡◌, ℕ, ◌+◌, ◌<◌, ◌≤◌, List, [], length, get_or, map, refl, sym, ◌∙◌, subst, arith}
+-- An image stands for one array and one next stamp, or has one fault.
+use Rattle.std.proofs.Common.{◌≡◌, ℕ, ◌+◌, ◌<◌, ◌≤◌, List, [], length, get_or, map, refl, sym, ◌∙◌, subst, arith, ◌⊎◌}
+use Rattle.std.proofs.Common.{◌-◌, ◌^◌, ◌∷◌, rules, inl, inr, All, ext_get_or}
 use Rattle.std.proofs.lemmas.List.{ext_get_or}
 use Rattle.std.proofs.lemmas.List.FromFn.{get_or-map-range_with_len, length-map-range_with_len}
 use Rattle.std.specs.List.{range_with_len}
 use Rattle.medium.specs.Medium.{Image}
 use Rattle.spec.specs.Blocks.{Array}
 use Rattle.journal.specs.Places.{Shape, sectors_of}
-use Rattle.journal.specs.Sectors.{IsSuper, IsHead}
-use Rattle.journal.specs.Record.{Entry, with_records, home_of}
-use Rattle.journal.specs.Layout.{slot_at, IsWholeIn}
-use Rattle.journal.specs.Formats.{layout_of}
-use Rattle.journal.specs.Standing.{IsCount, StandsFor}
-use Rattle.journal.specs.ImageFaults.{HasShape}
-use Rattle.journal.proofs.SectorNumbers.{IsSuper-one, IsHead-one}
+use Rattle.journal.specs.Sectors.{IsSuper, IsHead, spelling, number_in, super_mark, head_mark, version_of, IsRising}
+use Rattle.journal.specs.Sectors.{HasMagic, HasVersion, HasZeroRest}
+use Rattle.journal.specs.Record.{Entry, with_records, home_of, numbers_of}
+use Rattle.journal.specs.Layout.{slot_at, IsWholeIn, Layout, AreEntries, HasWholeIn, part_at, Laws}
+use Rattle.journal.specs.Formats.{layout_of, HasWhole}
+use Rattle.journal.specs.Standing.{IsCount, StandsFor, HasShape, Stands, ImageFault, BadSuper, BadVersion, BadSize}
+use Rattle.journal.specs.Standing.{BadHead, HasFault}
+use Rattle.journal.proofs.SectorNumbers.{IsSuper-one, IsHead-one, head_stamp, shape_in, shape_is, super_begins}
 use Rattle.journal.proofs.Formats.{laws_of}
-use Rattle.journal.proofs.Wholeness.{IsWhole-one}
+use Rattle.journal.proofs.Wholeness.{IsWhole-one, all_or_first}
+use Rattle.std.proofs.lemmas.Bool.{cases_eq, cases_lt}
+use Rattle.std.proofs.lemmas.List.Elements.{All-from_get_or}
 
 -- with one head there are no fewer records of what an image stands for
 not_fewer : {size other : ℕ} {shape : Shape} {image : Image} {a b : Array} {t u : ℕ} (h : StandsFor size shape image a t)
@@ -85,3 +89,125 @@ count_stands size shape image head count fits s h c =
 pub StandsFor-shape : (size : ℕ) (shape : Shape) (image : Image) (array : Array) (next : ℕ) → StandsFor size shape image array next
     → HasShape size shape image
 StandsFor-shape size shape image array next s = record { super = s.keeps.super; fits = s.fits }
+
+-- so or not
+abbrev Decided : Type 0 → Type 0
+Decided P = P ⊎ (¬ P)
+
+-- all of n or not
+each_or_not : (P : ℕ → Type 0) (n : ℕ) → ((k : ℕ) → Decided (P k)) → Decided ((k : ℕ) → k < n → P k)
+each_or_not P n p = let first = all_or_first P (λ k. ¬ P k) n (λ k below. p k) in search (rules, arith)
+
+-- two lists of numbers are the same or not
+pub same_or_not : (xs ys : List ℕ) → Decided (xs ≡ ys)
+same_or_not xs ys =
+    let each = each_or_not (λ k. get_or xs k 0 ≡ get_or ys k 0) (length xs) (λ k. cases_eq _ _) in
+    search (rules, arith, cases_eq (length xs) (length ys), ext_get_or 0 xs ys)
+
+-- all of a list or not
+all_or_not : {A : Type 0} (P : A → Type 0) → ((x : A) → Decided (P x)) → (xs : List A) (d : A) → Decided (All P xs)
+all_or_not P each xs d =
+    let all = each_or_not (λ k. P (get_or xs k d)) (length xs) (λ k. each (get_or xs k d)) in
+    search (rules, All-from_get_or P xs d)
+
+-- below or not
+below_or_not : (a b : ℕ) → Decided (a < b)
+below_or_not a b = grind (arith, cases_lt a b)
+
+-- numbers rise or not
+rising_or_not : (numbers : List ℕ) → Decided (IsRising numbers)
+rising_or_not numbers =
+    let all = each_or_not (λ j. (i : ℕ) → i < j → get_or numbers i 0 < get_or numbers j 0) (length numbers)
+    (λ j. each_or_not (λ i. get_or numbers i 0 < get_or numbers j 0) j (λ i. below_or_not _ _)) in
+    search (rules, arith)
+
+-- a sector is a head or not
+pub head_or_not : (bytes : List ℕ) → Decided ((stamp : ℕ) × IsHead stamp bytes)
+head_or_not bytes =
+    let s = number_in bytes 1 in
+    let spelled = same_or_not bytes (spelling (head_mark ∷ s ∷ [])) in
+    let here : Decided (IsHead s bytes) = search (rules, arith, cases_lt) in
+    let one = λ (h : (stamp : ℕ) × IsHead stamp bytes). rw (← (head_stamp h.1)) at h.1 in
+    search (rules, one)
+
+-- a sector is a super or not
+pub super_or_not : (bytes : List ℕ) → Decided ((shape : Shape) × IsSuper shape bytes)
+super_or_not bytes =
+    let s : Shape = shape_in bytes in
+    let spelled = same_or_not bytes (spelling (super_mark ∷ version_of s.format ∷ s.blocks ∷ s.slots ∷ 2 ∷ s.home ∷ [])) in
+    let here : Decided (IsSuper s bytes) = search (rules, arith, cases_lt) in
+    let one : ((shape : Shape) × IsSuper shape bytes) → IsSuper s bytes =
+    λ w. subst (λ (x : Shape). IsSuper x bytes) (sym (shape_is w.1)) w.1 in
+    search (rules, one)
+
+-- blocks make a record or not
+entries_or_not : (most blocks : ℕ) (es : List Entry) → Decided (AreEntries most blocks es)
+entries_or_not most blocks es =
+    let rising = rising_or_not (numbers_of es) in
+    let inside = all_or_not (λ b. b < blocks) (λ b. below_or_not b blocks) (numbers_of es) 0 in
+    let small = all_or_not (λ b. b < 2 ^ 31) (λ b. below_or_not b (2 ^ 31)) (numbers_of es) 0 in
+    let sized = all_or_not (λ e. length e.1 ≡ 512) (λ e. cases_eq (length e.1) 512) es (0, []) in
+    search (rules, arith, cases_lt 0 (length es), cases_lt most (length es))
+
+-- a record is whole or not
+whole_or_not : (L : Layout) (laws : Laws L) (shape : Shape) (image : Image) (stamp : ℕ)
+    → Decided (HasWholeIn L shape image stamp)
+whole_or_not L laws shape image stamp =
+    let es : List Entry = L.read image (slot_at L shape stamp) in
+    let fit = entries_or_not L.most shape.blocks es in
+    let there = each_or_not (λ p. image (part_at L shape stamp (length es) p) ≡ L.part stamp es p) (L.parts (length es))
+    (λ p. same_or_not (image (part_at L shape stamp (length es) p)) (L.part stamp es p)) in
+    let here : Decided (IsWholeIn L shape image stamp es) = search (rules, arith, cases_lt 0 stamp, cases_lt stamp (2 ^ 63 - 1)) in
+    let one : HasWholeIn L shape image stamp → IsWholeIn L shape image stamp es =
+    λ w. subst (IsWholeIn L shape image stamp) (laws.read shape image stamp w.0 w.1) w.1 in
+    search (rules, one)
+
+-- each image has a count of whole records from each stamp on
+pub count_of : (shape : Shape) (image : Image) (head : ℕ) → (count : ℕ) × IsCount shape image head count
+count_of shape image head =
+    let whole : ℕ → Type 0 = λ j. HasWhole shape image (head + j) in
+    elim (all_or_first whole (λ j. ¬ whole j) shape.slots
+    (λ j below. whole_or_not (layout_of shape.format) (laws_of shape.format) shape image (head + j))) [
+      | inl all ↦ (shape.slots, record { few = omega arith; whole = all; ends = λ less. absurd (omega (arith, less)) })
+      | inr first ↦ (first.0, record { few = omega (arith, first.1); whole = first.2; ends = λ less. first.3 })
+    ]
+
+-- an image has a super or a fault of it, by what is known of its first sector
+first_fault : (size : ℕ) (image : Image) → 0 < size → HasMagic (image 0) ⊎ (¬ HasMagic (image 0))
+    → HasVersion (image 0) ⊎ (¬ HasVersion (image 0)) → HasZeroRest (image 0) ⊎ (¬ HasZeroRest (image 0))
+    → ((shape : Shape) × IsSuper shape (image 0)) ⊎ (¬ ((shape : Shape) × IsSuper shape (image 0)))
+    → ((shape : Shape) × IsSuper shape (image 0)) ⊎ ((fault : ImageFault) × HasFault size image fault)
+first_fault size image some (inr m) v z s = inr (BadSuper, (some, inl m))
+first_fault size image some (inl m) (inr v) z s = inr (BadVersion, (some, (m, v)))
+first_fault size image some (inl m) (inl v) (inr z) s = inr (BadSuper, (some, inr (m, v, z)))
+first_fault size image some (inl m) (inl v) (inl z) (inr s) = inr (BadSize, inr (inl (m, v, z, λ shape is. s (shape, is))))
+first_fault size image some (inl m) (inl v) (inl z) (inl s) = inl s
+
+-- an image stands for something or has a fault
+pub stands_or_fault : (size : ℕ) (image : Image) → Stands size image ⊎ ((fault : ImageFault)
+    × HasFault size image fault)
+stands_or_fault size image = elim (cases_lt 0 size) [
+  | inr none ↦ inr (BadSize, inl (omega arith))
+  | inl some ↦ elim (first_fault size image some (cases_eq _ _) (grind arith) (same_or_not _ _) (super_or_not _)) [
+    | inr f ↦ inr f
+    | inl s ↦ elim (cases_lt size (sectors_of s.0)) [
+      | inl short ↦ inr (BadSize, inr (inr (s.0, s.1, short)))
+      | inr fits ↦ elim (head_or_not (image 1)) [
+        | inl h ↦
+            let c = count_of s.0 image h.0 in
+            let stood = count_stands size s.0 image h.0 c.0 fits s.1 h.1 c.1 in
+            inl (s.0, stood.array, h.0 + c.0 + 1, stood.stands)
+        | inr no_head ↦ inr (BadHead, (s.0, record { super = s.1; fits = fits }, λ stamp h. no_head (stamp, h)))
+      ]
+    ]
+  ]
+]
+
+module _ (size : ℕ) (image : Image) where
+  -- an image has at most one fault
+  pub HasFault-one : (a b : ImageFault) → HasFault size image a → HasFault size image b → a ≡ b
+  HasFault-one a b h k = grind (arith, h, k, IsSuper-one, super_begins)
+
+  -- an image that stands for something has none
+  pub HasFault-stands : (fault : ImageFault) → HasFault size image fault → ¬ Stands size image
+  HasFault-stands fault h s = grind (arith, h, s, IsSuper-one, super_begins)

@@ -1,16 +1,94 @@
--- Whole records of an image: each stamp has at most one, and a slot's bytes decide.
-use Rattle.std.proofs.Common.{◌≡◌, ℕ, ◌+◌, ◌-◌, ◌*◌, ◌%◌, ◌<◌, ◌≤◌, List, [], length, get_or, sym, ◌∙◌, subst, arith}
-use Rattle.std.proofs.Common.{rules}
-use Rattle.std.proofs.lemmas.Nat.{mod_below}
-use Rattle.medium.specs.Medium.{Image}
+-- Slots of a log, arrays with records laid over them, and whole records of an image.
+use Rattle.std.proofs.Common.{◌≢◌, ℕ, ◌+◌, ◌*◌, ◌<◌, arith, ◌%◌, ◌⊎◌, zero, suc, ◌≡◌, List, [], ◌∷◌, ◌++◌, length}
+use Rattle.std.proofs.Common.{get_or, refl, ap, rules, if◌then◌else◌, ◌==◌, ◌-◌, ◌≤◌, sym, ◌∙◌, subst}
+use Rattle.std.proofs.lemmas.Nat.{rows, mod_below}
+use Rattle.std.proofs.Math.Nat.{div-add-mod}
+use Rattle.std.proofs.lemmas.Bool.{cases_eq}
+use Rattle.std.proofs.lemmas.Bool.Decides.{nat_tests}
 use Rattle.spec.specs.Blocks.{Array}
+use Rattle.journal.specs.Record.{Entry, with_blocks, with_records, Hides, home_of, Agree}
+use Rattle.medium.specs.Medium.{Image}
 use Rattle.journal.specs.declared.log_format.LogFormat.{LogFormat}
 use Rattle.journal.specs.Places.{Shape}
-use Rattle.journal.specs.Record.{Entry, home_of, Agree}
 use Rattle.journal.specs.Layout.{Layout, IsWholeIn, CarriesBelowIn, KeepsIn, slot_at, Laws, IsRecordOf}
 use Rattle.journal.specs.Formats.{layout_of, IsWhole}
-use Rattle.journal.proofs.Apart.{in_log}
-use Rattle.journal.proofs.Overlay.{with_records-same}
+
+-- a slot ends where the log ends, or before
+pub in_log : (size slot slots o : ℕ) → slot < slots → o < size → 2 + size * slot + o < 2 + size * slots
+in_log size slot slots o below small = grind (arith, rows)
+
+-- a slot ends before a later one begins
+slots_apart : (size a b o p : ℕ) → a < b → o < size → 2 + size * a + o < 2 + size * b + p
+slots_apart size a b o p less small = grind (arith, rows)
+
+-- sectors of different slots are different
+pub other_sector : (size a b o p : ℕ) → a ≢ b → o < size → p < size → 2 + size * a + o ≢ 2 + size * b + p
+other_sector size a b o p apart small less same = grind (arith, slots_apart size a b o p, slots_apart size b a p o)
+
+-- a later stamp that is nearer than a round of the slots has another slot
+pub other_slot : (a b k : ℕ) → a < b → b < a + k → a % k ≢ b % k
+other_slot a b k less near same = grind (arith, div-add-mod a k, div-add-mod b k)
+
+pub all_or_first : (P Q : ℕ → Type 0) (n : ℕ) → ((p : ℕ) → p < n → P p ⊎ Q p)
+    → ((p : ℕ) → p < n → P p) ⊎ ((p : ℕ) × (p < n) × ((i : ℕ) → i < p → P i) × Q p)
+all_or_first P Q zero each = grind arith
+all_or_first P Q (suc n) each =
+    grind (arith, all_or_first P Q n (λ p below. each p (omega arith)), each n, cases_eq)
+
+-- a block depends on that block alone
+pub with_blocks-same : (entries : List Entry) (a c : Array) (b : ℕ) → a b ≡ c b
+    → with_blocks entries a b ≡ with_blocks entries c b
+with_blocks-same [] a c b e = e
+with_blocks-same (x ∷ entries) a c b e = ap (λ (v : List ℕ). if x.0 == b then x.1 else v) (with_blocks-same entries a c b e)
+
+-- the same of records
+pub with_records-same : (records : List (List Entry)) (a c : Array) (b : ℕ) → a b ≡ c b
+    → with_records records a b ≡ with_records records c b
+with_records-same [] a c b e = e
+with_records-same (entries ∷ records) a c b e =
+    with_records-same records (with_blocks entries a) (with_blocks entries c) b (with_blocks-same entries a c b e)
+
+-- one more record is laid over the others
+pub with_records-append : (records : List (List Entry)) (entries : List Entry) (a : Array) (b : ℕ)
+    → with_records (records ++ entries ∷ []) a b ≡ with_blocks entries (with_records records a) b
+with_records-append [] entries a b = refl
+with_records-append (x ∷ records) entries a b = with_records-append records entries (with_blocks x a) b
+
+-- a block that is named hides the one below it
+pub with_blocks-hides : (entries : List Entry) (i : ℕ) (a c : Array) → i < length entries
+    → with_blocks entries a (get_or entries i (0, [])).0 ≡ with_blocks entries c (get_or entries i (0, [])).0
+with_blocks-hides [] i a c below = absurd (omega arith)
+with_blocks-hides (e ∷ entries) zero a c below = grind (arith, nat_tests)
+with_blocks-hides (e ∷ entries) (suc i) a c below = grind (arith, nat_tests, with_blocks-hides entries i a c)
+
+-- a block that a record names is hidden
+pub records-hide : (records : List (List Entry)) (j i : ℕ) → j < length records
+    → i < length (get_or records j []) → Hides records (get_or (get_or records j []) i (0, [])).0
+records-hide [] j i below inside a c = absurd (omega arith)
+records-hide (r ∷ records) zero i below inside a c =
+    with_records-same records (with_blocks r a) (with_blocks r c) (get_or r i (0, [])).0 (with_blocks-hides r i a c inside)
+records-hide (r ∷ records) (suc j) i below inside a c = records-hide records j i (omega arith) inside (with_blocks r a) (with_blocks r c)
+
+-- blocks that stand in the array already change nothing
+pub with_blocks-home : (entries : List Entry) (a : Array) (b : ℕ) → ((i : ℕ) → i < length entries
+    → a (get_or entries i (0, [])).0 ≡ (get_or entries i (0, [])).1) → with_blocks entries a b ≡ a b
+with_blocks-home [] a b home = refl
+with_blocks-home (e ∷ entries) a b home =
+    let more = with_blocks-home entries a b (λ i below. home (suc i) (omega arith)) in
+    let one = home 0 (omega arith) in
+    grind (arith, nat_tests, cases_eq e.0 b)
+
+-- once the blocks of a record are copied, and no others changed, home is as if they were laid over it
+pub with_blocks-copied : (entries : List Entry) (old new : Array) → ((i : ℕ) → i < length entries
+    → new (get_or entries i (0, [])).0 ≡ (get_or entries i (0, [])).1)
+    → ((b : ℕ) → ((i : ℕ) → i < length entries → (get_or entries i (0, [])).0 ≢ b) → new b ≡ old b)
+    → (b : ℕ) → new b ≡ with_blocks entries old b
+with_blocks-copied entries old new copied others b =
+    let home = with_blocks-home entries new b copied in
+    let number : ℕ → ℕ = λ i. (get_or entries i (0, [])).0 in
+    let named = all_or_first (λ i. number i ≢ b) (λ i. number i ≡ b) (length entries)
+    (λ i below. search (rules, cases_eq (number i) b)) in
+    grind (arith, with_blocks-same entries new old b, others b, with_blocks-hides entries)
 
 -- a whole record is one of its stamp
 pub record_of : {L : Layout} {shape : Shape} {image : Image} {stamp : ℕ} {entries : List Entry} → IsWholeIn L shape image stamp entries

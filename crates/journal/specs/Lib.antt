@@ -1,8 +1,5 @@
-pub mod V2
 pub mod Places
 pub mod Sectors
-pub mod SectorsTwo
-pub mod SectorLaws
 pub mod Layout
 pub mod Format1
 pub mod Format2
@@ -10,6 +7,5 @@ pub mod Formats
 pub mod Reading
 pub mod Record
 pub mod Parts
-pub mod Standing
 pub mod Staged
-pub mod ImageFaults
+pub mod Standing

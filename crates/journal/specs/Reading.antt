@@ -9,9 +9,8 @@ use Rattle.medium.specs.declared.fault.MediumFault.TheVariants as medium
 use Rattle.journal.specs.declared.record.Record.{Record}
 use Rattle.journal.specs.Record.{numbers_of, Entry, block_of}
 use Rattle.journal.specs.Sectors.{IsRising}
-use Rattle.journal.specs.SectorsTwo.{descriptors_of, place_bytes, firsts_of, IsDescriptorTwo}
-use Rattle.journal.specs.SectorsTwo.{IsCommitTwo}
-use Rattle.journal.specs.Format2.{entries_at, format2}
+use Rattle.journal.specs.Format2.{descriptors_of, place_bytes, firsts_of, IsDescriptorTwo}
+use Rattle.journal.specs.Format2.{IsCommitTwo, entries_at, format2}
 use Rattle.journal.specs.declared.log_format.LogFormat.{LogFormat}
 use Rattle.journal.specs.declared.log_format.LogFormat.TheVariants.{One, Two}
 use Rattle.journal.specs.Places.{Shape, first_data_of}

@@ -16,7 +16,7 @@ pub(crate) fn mark_number(text: &[u8; 8]) -> u64
 }
 
 /// Writes these bytes behind those that are written.
-#[tactic(auto, using(crate::proofs::OneSpelling::padded_put))]
+#[tactic(auto, using(crate::proofs::SectorNumbers::padded_put))]
 pub(crate) fn append(sector: &mut [u8], at: usize, part: &[u8])
     requires size { length sector.old ≡ 512 }
     requires inside { at + length part.now ≤ 512 }

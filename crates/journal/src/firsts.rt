@@ -1,6 +1,6 @@
 //! The first 8 bytes of blocks, whose place in the log the stamp of their record takes.
 ghost use Rattle.std.specs.Prelude.{◌≡◌, ◌≤◌, ◌*◌, ℕ, List, length, IfSome, MatchOption};
-ghost use Rattle.journal.specs.SectorsTwo.{firsts_of};
+ghost use Rattle.journal.specs.Format2.{firsts_of};
 ghost use Rattle.journal.specs.Record.{entries_of};
 
 use crate::{LogFormat, v2};

@@ -1,6 +1,5 @@
 //! What holds of every sector, and of every image.
-ghost use Rattle.journal.specs.SectorLaws.{SpellsOneValue};
-ghost use Rattle.journal.specs.ImageFaults.{StandsForOneArray, StandsOrHasOneFault};
+ghost use Rattle.journal.specs.Standing.{SpellsOneValue, StandsForOneArray, StandsOrHasOneFault};
 
 /// Does nothing: its contract says that the layout is without ambiguity.
 pub fn layout_laws()

@@ -4,7 +4,7 @@ use Rattle.std.specs.Prelude.{Option, Some, None}
 use Rattle.std.proofs.lemmas.Bool.{cases_Bool, cases_lt}
 use Rattle.medium.specs.Sent.{sent}
 use Rattle.journal.specs.Places.{Shape}
-use Rattle.journal.specs.ImageFaults.{HasShape}
+use Rattle.journal.specs.Standing.{HasShape}
 use Rattle.journal.proofs.SectorNumbers.{IsSuper-one}
 use Rattle.mirror.specs.Story as story
 use Rattle.spec.specs.declared.case.Case.{Case}

@@ -1,7 +1,7 @@
 -- Nothing that a disk asks of its window is refused: no write and no flush for want of room, and no
 -- read of a sector that is not in sight.
 use Rattle.std.specs.Prelude.{⊤, ◌≡◌, ◌⊎◌, ℕ, ◌≤◌, [], max}
-use Rattle.journal.specs.ImageFaults.{HasShape}
+use Rattle.journal.specs.Standing.{HasShape}
 use Rattle.journal.specs.Places.{Shape, first_home}
 use Rattle.journal.specs.declared.log_format.LogFormat.{LogFormat}
 use Rattle.medium.specs.Medium.{Image}

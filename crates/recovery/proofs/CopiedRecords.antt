@@ -13,12 +13,11 @@ use Rattle.journal.specs.Places.{Shape, first_home, sectors_of, IsFirstHome}
 use Rattle.journal.specs.Record.{Entry, numbers_of, with_records, home_of, Hides}
 use Rattle.journal.specs.Formats.{layout_of, IsWhole, CarriesBelow}
 use Rattle.journal.proofs.Formats.{laws_of, sectors_are}
-use Rattle.journal.proofs.Wholeness.{IsWhole-one, IsWhole-same, slot_inside, CarriesBelow-agree}
+use Rattle.journal.proofs.Wholeness.{IsWhole-one, IsWhole-same, slot_inside, CarriesBelow-agree, in_log}
+use Rattle.journal.proofs.Wholeness.{with_records-same, records-hide}
 use Rattle.journal.specs.Sectors.{IsSuper, IsHead}
 use Rattle.journal.specs.Standing.{IsOurs}
-use Rattle.journal.proofs.Apart.{in_log}
 use Rattle.journal.proofs.Engine.{none_carried}
-use Rattle.journal.proofs.Overlay.{with_records-same, records-hide}
 use Rattle.recovery.specs.Calls.{IsHomeOf, IsHomeInRecord, IsHomeInRecords}
 use Rattle.recovery.specs.Recovered.{IsFresh}
 

@@ -10,7 +10,7 @@ use Rattle.medium.proofs.Moments.{quiet_joined, quiet_leaves, started_within, jo
 use Rattle.medium.proofs.SectorsRead.{no_looks, looks_joined, looks_wider, looks_below, look_below}
 use Rattle.journal.specs.declared.super_sector.Super.{Super}
 use Rattle.journal.specs.Places.{Shape, first_home, sectors_of}
-use Rattle.journal.specs.ImageFaults.{HasShape}
+use Rattle.journal.specs.Standing.{HasShape, IsOurs}
 use Rattle.journal.specs.Formats.{shape_of}
 use Rattle.journal.specs.Reading.{IsRefusedCall, LooksUp}
 use Rattle.recovery.specs.Calls.{Copies, freed_at, most_reads_of, LooksAtLog, WritesAllPass, FollowsBy, Writes, cleared_at}
@@ -24,7 +24,6 @@ use Rattle.medium.specs.declared.fault.MediumFault.TheVariants.{Read, Flush}
 use Rattle.medium.proofs.SparedSectors.{spared_joined, spared_behind, spared_quiet}
 use Rattle.spec.specs.Blocks.{Array}
 use Rattle.journal.specs.Record.{home_of}
-use Rattle.journal.specs.Standing.{IsOurs}
 use Rattle.recovery.specs.Formatted.{IsNoneOrNew, IsMidway, ImageLeaves, IsMade, IsWritten, IsNoneOrWritten, WritesImage}
 
 -- what holds of a medium's size and contents after calls that wrote nothing held before them

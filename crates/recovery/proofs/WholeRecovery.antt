@@ -19,11 +19,12 @@ use Rattle.journal.specs.Sectors.{IsHead}
 use Rattle.journal.specs.Formats.{shape_of, layout_of, IsWhole}
 use Rattle.journal.specs.Record.{Entry, with_records, home_of}
 use Rattle.journal.specs.Standing.{StandsFor, IsOurs, Stands}
-use Rattle.journal.specs.ImageFaults as image
+use Rattle.journal.specs.Standing as image
 use Rattle.journal.proofs.SectorNumbers.{IsSuper-one}
 use Rattle.journal.proofs.Formats.{laws_of}
 use Rattle.journal.proofs.Wholeness.{CarriesBelow-agree}
 use Rattle.journal.proofs.StandingLaws.{Stood, StandsFor-shape, count_stands, heads, counts, StandsFor-one}
+use Rattle.journal.proofs.StandingLaws.{HasFault-stands}
 use Rattle.recovery.specs.Calls.{copy_calls, most_calls_of, most_reads_of, most_start_of, most_start_sends, AreCopied, IsHomeInRecords}
 use Rattle.recovery.specs.Calls.{HasNewHead, Copies, Writes, HoldsLog}
 use Rattle.recovery.specs.Causes.{WritesNothing, HasFewSlots, IsRefusalBy, IsDeviceFault}
@@ -37,7 +38,6 @@ use Rattle.recovery.specs.declared.start_fault.StartFault.TheVariants.{NoMemory,
 use Rattle.recovery.proofs.CopiedRecords.{log_ends, not_in_log, spared_by, AreSame, copies_ours, fresh_ours}
 use Rattle.recovery.proofs.JoinedCalls.{quiet_before, quiet_after, looked_on}
 use Rattle.medium.specs.declared.fault.MediumFault.TheVariants as medium
-use Rattle.journal.proofs.FaultLaws.{HasFault-stands}
 
 -- a look at contents that stand for something is refused by the device
 pub served_look : (old new : State) (fault : StartFault) → IsLookCause old new fault → Stands old.size old.content → IsDeviceFault fault

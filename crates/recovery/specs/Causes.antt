@@ -8,7 +8,7 @@ use Rattle.journal.specs.declared.log_format.LogFormat.TheVariants.{One}
 use Rattle.journal.specs.Places.{Shape}
 use Rattle.journal.specs.Sectors.{IsHead}
 pub use Rattle.journal.specs.Reading.{IsRefusedCall, MakesReadsAlone}
-use Rattle.journal.specs.ImageFaults as image
+use Rattle.journal.specs.Standing as image
 use Rattle.recovery.specs.declared.start_fault.StartFault.{StartFault}
 use Rattle.recovery.specs.declared.start_fault.StartFault.TheVariants.{Read, Write, Flush, BadSuper}
 use Rattle.recovery.specs.declared.start_fault.StartFault.TheVariants.{BadVersion, BadSize, BadHead}

@@ -10,8 +10,7 @@ use Rattle.journal.specs.declared.log_format.LogFormat.TheVariants.{Two, One}
 use Rattle.journal.specs.Places.{Shape, first_home, sectors_of, slot_sectors_of, migrated}
 use Rattle.journal.specs.Formats.{shape_of, CarriesBelow}
 use Rattle.journal.specs.Sectors.{IsSuper, IsHead}
-use Rattle.journal.specs.Standing.{StandsFor, IsOurs}
-use Rattle.journal.specs.ImageFaults.{HasShape}
+use Rattle.journal.specs.Standing.{StandsFor, IsOurs, HasShape}
 use Rattle.recovery.specs.Calls.{copy_calls, most_start_of, most_start_sends, LooksAtLog}
 use Rattle.recovery.specs.Causes.{HasFewSlots, IsCause, IsDeviceFault, WritesNothing, IsRefusalBy}
 use Rattle.recovery.specs.Inspected.{AreTries}

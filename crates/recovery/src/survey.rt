@@ -3,7 +3,7 @@ ghost use Rattle.std.specs.Prelude.{◌≡◌, ◌<◌, ◌≤◌, ◌↔◌, If
 ghost use Rattle.journal.specs.declared.log_format.LogFormat.TheVariants.{One};
 ghost use Rattle.journal.specs.Places.{sectors_of};
 ghost use Rattle.journal.specs.Formats.{shape_of};
-ghost use Rattle.journal.specs.ImageFaults.{HasShape};
+ghost use Rattle.journal.specs.Standing.{HasShape};
 ghost use Rattle.journal.specs.Sectors.{IsSuper, IsHead};
 ghost use Rattle.medium.specs.Moments.{IsQuiet};
 ghost use Rattle.recovery.specs.Causes.{IsRefusalBy};

@@ -5,7 +5,7 @@ use Rattle.std.proofs.lemmas.List.{map-append, length-map, get_or_append_left}
 use Rattle.std.proofs.lemmas.Option.{slice_get-map, slice_get-get_or}
 use Rattle.std.proofs.Math.ListN.{get_or-map}
 use Rattle.journal.specs.declared.log_format.LogFormat.{LogFormat}
-use Rattle.journal.specs.SectorsTwo.{firsts_of}
+use Rattle.journal.specs.Format2.{firsts_of}
 use Rattle.journal.specs.Record.{Entry, numbers_of, block_of, with_blocks, with_records, home_of, first_of}
 use Rattle.redo_log.specs.Value.{AllFirsts, with_firsts, LogValue, IsNewestCopy, HasNoCopy, first_kept}
 use Rattle.redo_log.specs.Held.{kept_firsts, View, HoldsView}

@@ -7,7 +7,7 @@ use Rattle.medium.specs.declared.fault.MediumFault.{MediumFault}
 use Rattle.medium.proofs.Moments.{started_within, goes_on_within, weaker}
 use Rattle.journal.specs.Places.{Shape}
 use Rattle.journal.specs.Formats.{layout_of}
-use Rattle.journal.proofs.Apart.{in_log}
+use Rattle.journal.proofs.Wholeness.{in_log}
 use Rattle.redo_log.specs.Shown.{IsSized}
 use Rattle.redo_log.specs.Calls.{gaining, WritesOnly}
 

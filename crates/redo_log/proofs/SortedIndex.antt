@@ -24,7 +24,7 @@ use Rattle.std.proofs.lemmas.Map.Made.{length-le_from_is_member}
 use Rattle.std.proofs.lemmas.Map.Views.{Contains-from_any, list_any-from_Contains}
 use Rattle.std.proofs.Math.Nat.{mul-le-mul_left}
 use Rattle.std.proofs.Math.Seq.{get_or-append_seam}
-use Rattle.journal.proofs.Slots.{other_slot}
+use Rattle.journal.proofs.Wholeness.{other_slot}
 
 -- no entry
 abbrev pub blank : Copied

@@ -8,7 +8,7 @@ use Rattle.medium.specs.Moments.{EachCut}
 use Rattle.medium.proofs.Moments.{updated_elsewhere}
 use Rattle.spec.specs.Blocks.{Array}
 use Rattle.journal.specs.Places.{Shape, sectors_of}
-use Rattle.journal.specs.SectorsTwo.{firsts_of}
+use Rattle.journal.specs.Format2.{firsts_of}
 use Rattle.journal.specs.Record.{Entry, with_blocks, entries_of}
 use Rattle.journal.specs.Standing.{Keeps, IsOurs}
 use Rattle.journal.proofs.BatchEntries.{numbers_of_batch, length_of_batch, sized_batch}

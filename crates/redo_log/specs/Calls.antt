@@ -9,7 +9,7 @@ use Rattle.medium.specs.declared.fault.MediumFault.TheVariants as fault
 use Rattle.journal.specs.declared.log_format.LogFormat.{LogFormat}
 use Rattle.journal.specs.declared.log_format.LogFormat.TheVariants.{One, Two}
 use Rattle.journal.specs.Places.{Shape, first_home}
-use Rattle.journal.specs.SectorsTwo.{place_bytes}
+use Rattle.journal.specs.Format2.{place_bytes}
 use Rattle.journal.specs.Record.{Entry}
 use Rattle.journal.specs.Layout.{Layout, part_at}
 use Rattle.journal.specs.Formats.{layout_of}

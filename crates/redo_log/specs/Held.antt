@@ -8,7 +8,7 @@ use Rattle.spec.specs.Blocks.{Array}
 use Rattle.journal.specs.declared.log_format.LogFormat.{LogFormat}
 use Rattle.journal.specs.declared.log_format.LogFormat.TheVariants.{One, Two}
 use Rattle.journal.specs.Places.{Shape, first_home, sectors_of}
-use Rattle.journal.specs.SectorsTwo.{firsts_of}
+use Rattle.journal.specs.Format2.{firsts_of}
 use Rattle.journal.specs.Record.{Entry, numbers_of, with_blocks}
 use Rattle.journal.specs.Layout.{RestsIn}
 use Rattle.journal.specs.Formats.{layout_of, IsWhole}

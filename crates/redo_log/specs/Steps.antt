@@ -8,7 +8,7 @@ use Rattle.medium.specs.Sent.{SendsUpTo}
 use Rattle.medium.specs.declared.fault.MediumFault.{MediumFault}
 use Rattle.medium.specs.declared.fault.MediumFault.TheVariants.{Flush}
 use Rattle.journal.specs.Places.{first_home, sectors_of}
-use Rattle.journal.specs.SectorsTwo.{firsts_of}
+use Rattle.journal.specs.Format2.{firsts_of}
 use Rattle.journal.specs.Record.{Entry, entries_of}
 use Rattle.redo_log.specs.declared.fault.LogFault.{LogFault}
 use Rattle.redo_log.specs.declared.fault.LogFault.TheVariants.{Medium, StampsUsedUp}

@@ -6,7 +6,7 @@ use Rattle.std.specs.Prelude.{◌*◌}
 use Rattle.journal.specs.declared.log_format.LogFormat.{LogFormat}
 use Rattle.journal.specs.declared.log_format.LogFormat.TheVariants.{One, Two}
 use Rattle.journal.specs.Places.{Shape, limit_of}
-use Rattle.journal.specs.SectorsTwo.{descriptors_of}
+use Rattle.journal.specs.Format2.{descriptors_of}
 use Rattle.redo_log.specs.declared.progress.Progress.{Progress}
 use Rattle.redo_log.specs.declared.progress.Progress.TheVariants.{More, Durable}
 use Rattle.medium.specs.Medium.{State}

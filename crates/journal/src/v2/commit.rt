@@ -1,6 +1,6 @@
 //! The commit of format 2: the last sector of a record.
 ghost use Rattle.std.specs.Prelude.{◌≡◌, ◌≤◌, ◌<◌, ◌-◌, ◌^◌, ℕ, IfSome, IsSomeAnd};
-ghost use Rattle.journal.specs.SectorsTwo.{IsCommitTwo};
+ghost use Rattle.journal.specs.Format2.{IsCommitTwo};
 
 use crate::fields::{mark_number, number_at, sector_of};
 

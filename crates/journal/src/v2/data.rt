@@ -1,11 +1,11 @@
 //! The data places of format 2: a block whose first 8 bytes make room for the stamp of its record.
 ghost use Rattle.std.specs.Prelude.{◌≡◌, length, IsTrue, ◌↔◌};
-ghost use Rattle.journal.specs.SectorsTwo.{place_bytes};
+ghost use Rattle.journal.specs.Format2.{place_bytes};
 
 use byteorder::{ByteOrder, LittleEndian};
 
 /// The bytes of a data place for this block.
-#[tactic(auto, unfolding(crate::specs::SectorsTwo::place_bytes))]
+#[tactic(auto, unfolding(crate::specs::Format2::place_bytes))]
 pub fn data_sector(stamp: u64, block: &[u8]) -> [u8; 512]
     requires { length block.now ≡ 512 }
     ensures { result ≡ place_bytes stamp block.now }

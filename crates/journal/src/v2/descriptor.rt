@@ -4,8 +4,7 @@ ghost use Rattle.std.specs.Prelude.{ℕ, List, length, take, drop, All, slice_in
 ghost use Rattle.std.specs.Prelude.{slice_range, [], zip, min, IsTrue, IfSome, IsSomeAnd};
 ghost use Rattle.std.specs.List.{flat_map};
 ghost use Rattle.journal.specs.Sectors.{IsRising, padded, number_in, AreItems};
-ghost use Rattle.journal.specs.SectorsTwo.{AreEntriesTwo, IsDescriptorTwo, entries_here};
-ghost use Rattle.journal.specs.SectorsTwo.{entry_bytes};
+ghost use Rattle.journal.specs.Format2.{AreEntriesTwo, IsDescriptorTwo, entries_here, entry_bytes};
 ghost use Rattle.journal.specs.Parts.{CanDescribe, Describes};
 
 use crate::fields::{
@@ -35,7 +34,7 @@ pub struct Descriptor {
 impl Descriptor {
     /// Descriptor `index` of the record with this stamp and these blocks, whose bytes stand one
     /// after the other.
-    #[tactic(auto, using(crate::proofs::EntriesTwo::items_here))]
+    #[tactic(auto, using(crate::proofs::SlotTwo::items_here))]
     pub fn new(stamp: u64, numbers: &[u64], bytes: &[u8], index: usize) -> Descriptor
         requires { CanDescribe stamp numbers.now bytes.now index }
         ensures { Describes stamp numbers.now bytes.now index result.stamp result.count
@@ -64,7 +63,7 @@ impl Descriptor {
     }
 
     /// The descriptor that these bytes spell, if they spell one.
-    #[tactic(auto, using(crate::proofs::EntriesTwo::header_says))]
+    #[tactic(auto, using(crate::proofs::SlotTwo::header_says))]
     pub fn decode(sector: &[u8; 512]) -> Option<Descriptor>
         ensures some { IfSome result (λ d. IsDescriptorTwo d.stamp d.count d.index
             d.numbers.items d.firsts.items sector.now) }

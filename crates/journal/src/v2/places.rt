@@ -1,6 +1,6 @@
 //! Where the parts of a record of format 2 stand.
 ghost use Rattle.std.specs.Prelude.{◌≡◌, ◌<◌};
-ghost use Rattle.journal.specs.V2.{place_of, descriptor_place, data_place, commit_place};
+ghost use Rattle.journal.specs.Format2.{place_of, descriptor_place, data_place, commit_place};
 
 use crate::places::FIRST_SLOT;
 

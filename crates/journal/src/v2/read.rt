@@ -4,8 +4,8 @@ ghost use Rattle.std.specs.Prelude.{ℕ, List, All, IsTrue, MatchOption, ◌↔�
 ghost use Rattle.journal.specs.declared.log_format.LogFormat.TheVariants.{Two};
 ghost use Rattle.journal.specs.Places.{first_home, sectors_of};
 ghost use Rattle.journal.specs.Sectors.{IsRising};
-ghost use Rattle.journal.specs.SectorsTwo.{descriptors_of, IsDescriptorTwo, IsCommitTwo};
-ghost use Rattle.journal.specs.V2.{place_of, slot_end};
+ghost use Rattle.journal.specs.Format2.{descriptors_of, IsDescriptorTwo, IsCommitTwo, place_of};
+ghost use Rattle.journal.specs.Format2.{slot_end};
 ghost use Rattle.journal.specs.Formats.{shape_of};
 ghost use Rattle.journal.specs.Reading.{StopsAtBad, IsCommitted, HasDescriptor, HasPlace, AreNamed};
 ghost use Rattle.journal.specs.Reading.{LooksUp, FindsRecord, FindsStamps, found_in};

@@ -2,9 +2,8 @@
 ghost use Rattle.std.specs.Prelude.{◌≡◌, ◌≤◌, ◌<◌, ◌-◌, ◌^◌, ◌+◌, ◌*◌, ◌/◌, length, All};
 ghost use Rattle.std.specs.Prelude.{slice_range};
 ghost use Rattle.journal.specs.Sectors.{IsRising};
-ghost use Rattle.journal.specs.SectorsTwo.{descriptors_of, place_bytes};
+ghost use Rattle.journal.specs.Format2.{descriptors_of, place_bytes, format2};
 ghost use Rattle.journal.specs.Record.{entries_of};
-ghost use Rattle.journal.specs.Format2.{format2};
 ghost use Rattle.journal.specs.Parts.{CanWrite};
 
 use crate::Part;

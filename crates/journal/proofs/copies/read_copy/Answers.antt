@@ -1,6 +1,6 @@
 use Rattle.std.proofs.Common.{◌∙◌}
 use Rattle.journal.specs.Formats.{shape_of}
-use Rattle.journal.proofs.CopiedBlock.{begun_is}
+use Rattle.journal.proofs.SectorsRead.{begun_is}
 use Rattle.journal.proofs.copies.read_copy.Goals as goal
 
 pub returns-clause-ok : goal.returns-clause-ok

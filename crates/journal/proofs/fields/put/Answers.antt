@@ -2,7 +2,7 @@ use Rattle.std.proofs.Common.{[], ◌∷◌, arith, flat_map}
 use Rattle.std.proofs.lemmas.Grind.{flat_map-append}
 use Rattle.byteorder.specs.Endian.{little_bytes}
 use Rattle.journal.specs.Sectors.{spelling}
-use Rattle.journal.proofs.OneSpelling.{length_bytes}
+use Rattle.journal.proofs.SectorNumbers.{length_bytes}
 use Rattle.journal.proofs.fields.put.Goals as goal
 
 pub returns : goal.returns

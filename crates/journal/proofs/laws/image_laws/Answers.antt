@@ -1,5 +1,4 @@
-use Rattle.journal.proofs.StandingLaws.{StandsFor-one}
-use Rattle.journal.proofs.FaultLaws.{stands_or_fault, HasFault-one, HasFault-stands}
+use Rattle.journal.proofs.StandingLaws.{StandsFor-one, stands_or_fault, HasFault-one, HasFault-stands}
 use Rattle.journal.proofs.laws.image_laws.Goals as goal
 
 pub returns-clause-arrays : goal.returns-clause-arrays

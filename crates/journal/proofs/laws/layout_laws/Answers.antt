@@ -1,7 +1,7 @@
 use Rattle.std.proofs.Common.{refl, sym, ◌∙◌, arith}
 use Rattle.journal.proofs.SectorNumbers.{IsSuper-one, IsHead-one, descriptor_says, descriptor_number}
 use Rattle.journal.proofs.SectorNumbers.{descriptor_numbers, commit_says}
-use Rattle.journal.proofs.EntriesTwo.{IsDescriptorTwo-one}
+use Rattle.journal.proofs.SlotTwo.{IsDescriptorTwo-one}
 use Rattle.journal.proofs.laws.layout_laws.Goals as goal
 
 pub returns : goal.returns

@@ -4,7 +4,7 @@ use Rattle.medium.specs.Medium.{State}
 use Rattle.journal.specs.Record.{Entry}
 use Rattle.journal.specs.Sectors.{IsHead}
 use Rattle.journal.specs.Formats.{shape_of, layout_of}
-use Rattle.journal.specs.ImageFaults.{HasShape}
+use Rattle.journal.specs.Standing.{HasShape}
 use Rattle.journal.proofs.Formats.{laws_of}
 use Rattle.journal.proofs.Wholeness.{IsWhole-one}
 use Rattle.journal.proofs.StandingLaws.{count_stands}

@@ -5,14 +5,12 @@ use Rattle.journal.specs.declared.log_format.LogFormat.{LogFormat}
 use Rattle.journal.specs.declared.log_format.LogFormat.TheVariants.{One, Two}
 use Rattle.journal.specs.declared.record.Record.{Record}
 use Rattle.journal.specs.Places.{Shape}
-use Rattle.journal.specs.SectorsTwo.{descriptors_of}
+use Rattle.journal.specs.Format2.{descriptors_of}
 use Rattle.journal.specs.Reading.{StopsAtBad, ReadsUpToBad, HasDescriptor, HasPlace, NamesBlocks, IsReadFor}
 use Rattle.journal.specs.Reading.{IsReadForStamps, record_reads_of, stamp_reads_of}
 use Rattle.journal.specs.Formats.{shape_of, HasWhole}
-use Rattle.journal.proofs.CopiedBlock.{stamped_whole}
-use Rattle.journal.proofs.DescribedNumbers.{each_there}
-use Rattle.journal.proofs.EntriesTwo.{commit_count}
-use Rattle.journal.proofs.SlotTwo.{untrue}
+use Rattle.journal.proofs.SectorsRead.{stamped_whole}
+use Rattle.journal.proofs.SlotTwo.{each_there, commit_count, untrue}
 use Rattle.recovery.specs.Calls.{most_reads_of}
 use Rattle.recovery.specs.Inspected.{IsReadInSlot, IsTryTwo, IsTryOf}
 use Rattle.recovery.proofs.CopiedRecords.{long_as}

@@ -5,11 +5,10 @@ use Rattle.journal.specs.Record.{numbers_of}
 use Rattle.medium.specs.declared.fault.MediumFault.{MediumFault}
 use Rattle.journal.specs.Reading.{IsRefusedCall, LooksUp}
 use Rattle.journal.specs.Format1.{record_in}
-use Rattle.journal.proofs.CopiedBlock.{read_is}
+use Rattle.journal.proofs.SectorsRead.{read_is, within_one}
 use Rattle.journal.proofs.Format1Laws.{descriptor_there, commit_there, numbers_read, whole_in}
 use Rattle.journal.proofs.Wholeness.{as_format, of_format}
 use Rattle.medium.proofs.SectorsRead.{looks_joined, look_below}
-use Rattle.journal.proofs.SectorsRead.{within_one}
 use Rattle.journal.proofs.v1.read.read_record.Given as given
 use Rattle.journal.proofs.v1.read.read_record.Goals as goal
 use Rattle.journal.proofs.v1.read.read_record.Goals.{After-read-2}

@@ -2,10 +2,9 @@ use Rattle.std.proofs.Common.{◌≡◌, ◌<◌, ◌+◌, ◌*◌, ◌/◌, ℕ
 use Rattle.std.proofs.lemmas.List.{map-append, take_all}
 use Rattle.medium.specs.Medium.{Image}
 use Rattle.journal.specs.Record.{Entry}
-use Rattle.journal.specs.SectorsTwo.{chunk_of}
-use Rattle.journal.specs.Format2.{entries_at}
+use Rattle.journal.specs.Format2.{chunk_of, entries_at}
 use Rattle.journal.specs.Reading.{HasDescriptor}
-use Rattle.journal.proofs.DescribedNumbers.{take_chunk, read_long, chunk_numbers, chunk_firsts}
+use Rattle.journal.proofs.SlotTwo.{take_chunk, read_long, chunk_numbers, chunk_firsts}
 use Rattle.journal.proofs.SectorsRead.{looks_on}
 use Rattle.journal.proofs.v2.read.read_descriptors.Goals as goal
 

@@ -1,7 +1,6 @@
 use Rattle.std.proofs.Common.{◌≡◌, ◌<◌, ◌+◌, ◌*◌, ℕ, Ok, take}
 use Rattle.journal.specs.Record.{numbers_of}
-use Rattle.journal.specs.SectorsTwo.{firsts_of}
-use Rattle.journal.specs.Format2.{entries_at}
+use Rattle.journal.specs.Format2.{firsts_of, entries_at}
 use Rattle.journal.specs.Reading.{HasDescriptor, LooksUp}
 use Rattle.journal.proofs.v2.read.read_descriptors.Given as goal
 

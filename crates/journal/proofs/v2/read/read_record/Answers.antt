@@ -1,13 +1,10 @@
 use Rattle.std.proofs.Common.{◌≡◌, ◌<◌, ◌+◌, ◌*◌, ◌%◌, ℕ, inl, inr, refl, rules, arith, length}
 use Rattle.medium.specs.Medium.{Image}
-use Rattle.journal.specs.SectorsTwo.{descriptors_of}
+use Rattle.journal.specs.Format2.{descriptors_of, entries_at}
 use Rattle.journal.specs.Formats.{shape_of}
-use Rattle.journal.specs.Format2.{entries_at}
-use Rattle.journal.proofs.CopiedBlock.{read_is}
-use Rattle.journal.proofs.EntriesTwo.{commit_count}
-use Rattle.journal.proofs.DescribedNumbers.{numbers_long, named, named_alone}
-use Rattle.journal.proofs.SectorsRead.{within_two, looks_on, looks_within}
-use Rattle.journal.proofs.SlotTwo.{untrue, commit_whole, described_whole, record_read, whole_two}
+use Rattle.journal.proofs.SectorsRead.{read_is, within_two, looks_on, looks_within}
+use Rattle.journal.proofs.SlotTwo.{commit_count, numbers_long, named, named_alone, untrue, commit_whole}
+use Rattle.journal.proofs.SlotTwo.{described_whole, record_read, whole_two}
 use Rattle.journal.proofs.Wholeness.{as_format, of_format}
 use Rattle.journal.proofs.v2.read.read_record.Goals as goal
 

@@ -1,5 +1,5 @@
 use Rattle.std.proofs.Common.{◌≡◌, ◌+◌, ◌*◌, ◌<◌, ◌≤◌, ℕ, length, rules, arith, ◌∙◌}
-use Rattle.journal.proofs.EntriesTwo.{header_says, here_is, numbers_are, firsts_are, sized_from, IsDescriptorTwo-one}
+use Rattle.journal.proofs.SlotTwo.{header_says, here_is, numbers_are, firsts_are, sized_from, IsDescriptorTwo-one}
 use Rattle.journal.proofs.v2.descriptor.Descriptor.decode.Goals as goal
 
 pub returns-then-not-are_small-clause-all : goal.returns-then-not-are_small-clause-all

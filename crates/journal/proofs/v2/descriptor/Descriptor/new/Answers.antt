@@ -1,5 +1,5 @@
 use Rattle.std.proofs.Common.{◌+◌, ◌*◌, ◌<◌, ◌≤◌, ℕ, List, length, drop, ap, arith, length-take, length-drop, rules}
-use Rattle.journal.proofs.EntriesTwo.{items_here, sized_from, entries_cut}
+use Rattle.journal.proofs.SlotTwo.{items_here, sized_from, entries_cut}
 use Rattle.journal.proofs.v2.descriptor.Descriptor.new.Goals as goal
 
 pub invariant_of-result : goal.invariant_of-result
