@@ -1,13 +1,14 @@
 -- What guards a log against a cut, and what a log and its medium hold together.
 use Rattle.std.proofs.Common.{◌≡◌, ◌⊎◌, inl, inr, ⊎_elim, ℕ, ◌+◌, ◌<◌, ◌≤◌, List, [], ◌∷◌, ◌++◌, length, arith, rules, zero, suc, get_or}
-use Rattle.std.proofs.Common.{refl, ap, length-append, append_assoc, add-zero, ◌-◌, ◌∙◌, ◌^◌}
+use Rattle.std.proofs.Common.{refl, ap, length-append, append_assoc, add-zero, ◌-◌, ◌∙◌, ◌^◌, ◌*◌, ◌%◌, Result, get_or-append-add, map}
+use Rattle.std.proofs.Common.{Bool, true, false, All}
 use Rattle.std.proofs.lemmas.Bool.{cases_lt, cases_eq}
-use Rattle.std.proofs.lemmas.List.{nil_from_length, get_or-append-add, length-map}
-use Rattle.std.specs.Prelude.{map, Bool, true, false, Result, Ok, Err, OnOk, is_err, All}
+use Rattle.std.proofs.lemmas.List.{nil_from_length, length-map}
 use Rattle.std.proofs.Math.ListN.{get_or-map}
-use Rattle.medium.specs.Medium.{Image, State, Stays, CutLeaves, IsSound}
+use Rattle.medium.specs.Medium.{Image, State, Stays, CutLeaves, IsSound, Gains, Passes}
 use Rattle.medium.specs.Moments.{EachCut, LeavesOnly, IsQuiet}
-use Rattle.medium.proofs.Moments.{content_has, updated, updated_here, updated_elsewhere, at_exit, shrunk, started}
+use Rattle.medium.proofs.Moments.{content_has, updated, updated_here, updated_elsewhere, at_exit, shrunk, started, started_within}
+use Rattle.medium.proofs.Moments.{goes_on_within, weaker}
 use Rattle.medium.specs.declared.fault.MediumFault.{MediumFault}
 use Rattle.medium.proofs.SectorsRead.{no_looks}
 use Rattle.medium.proofs.SparedSectors.{spared_start}
@@ -27,8 +28,10 @@ use Rattle.redo_log.specs.Held.{View, HasView, with_record, with_begun, image_vi
 use Rattle.redo_log.specs.Held.{MayLeave, with_passed, HasHead, made_of, turned_of, needed_of, IsStored, IsGuarded, HoldsView}
 use Rattle.redo_log.specs.Steps.{LeavesLog}
 use Rattle.redo_log.proofs.RecordSteps.{all_flushed, none_written, steps_are, one_left}
-use Rattle.redo_log.proofs.LogRules.{needed_one}
-use Rattle.redo_log.proofs.LogRules.{IsLog, made_is, none_made}
+use Rattle.redo_log.proofs.LogRules.{needed_one, IsLog, made_is, none_made}
+use Rattle.std.proofs.lemmas.Nat.{mod_below}
+use Rattle.journal.proofs.Apart.{in_log}
+use Rattle.redo_log.specs.Calls.{gaining, WritesOnly}
 
 -- the records of a view stand in slots of their own
 pub record Stands (shape : Shape) (head : ℕ) (view : View) (steps made : ℕ) : Type 0 where
@@ -107,14 +110,8 @@ module _ {shape : Shape} {head : ℕ} {view : View} {made retire : ℕ} {image :
   -- the newest head is there
   pub with_newest : Safe shape head view made image → (retire ≡ 1 → IsHomed (image_view shape head view) image)
       → HasHead shape head view made retire image
-  with_newest safe homed = record {
-    stamp = head;
-    passed = [];
-    behind = omega arith;
-    room = λ some. absurd (omega (arith, some));
-    safe = safe;
-    flushed = λ one. (refl, homed one);
-  }
+  with_newest safe homed =
+      record { stamp = head; passed = []; behind = omega arith; room = grind arith; safe = safe; flushed = λ one. (refl, homed one) }
 
   module _ (g : HasHead shape head view made retire image) where
     -- it is where none was passed
@@ -315,11 +312,6 @@ quiet_held log view old new quiet holds =
     (λ live. Stores-stays (holds.stores live) (made_of log) (turned_of log) new.content quiet.content_stays (omega arith) (λ i low high. low))
     (λ live ours. shrunk _ old new quiet.sets_shrink (holds.guards live ours))
 
--- a call that is good did this
-pub on_ok_here : {P : Type 0} (r : Result (Unit {0}) MediumFault) {refused : Bool} → refused ≡ is_err r → refused ≡ false → OnOk r P → P
-on_ok_here (Ok done) told good did = did
-on_ok_here (Err fault) told good did = cc (told, good)
-
 -- no call leaves what a cut may leave
 pub leaves_none : (log : LogValue) (m : State) → IsSound m → LeavesLog log m m
 leaves_none log m sound = record {
@@ -328,3 +320,33 @@ leaves_none log m sound = record {
   spares = spared_start (sectors_of log.shape) m sound;
   looks = no_looks (λ s. s < first_home log.shape) m m refl;
 }
+
+-- ---- calls that write one sector at most
+
+-- a sector of a slot stands before home
+pub before_home : (shape : Shape) → IsSized shape → (stamp o : ℕ) → o < (layout_of shape.format).slot_sectors
+    → 2 + (layout_of shape.format).slot_sectors * (stamp % shape.slots) + o < shape.home
+before_home shape sized stamp o small =
+    let low = in_log _ (stamp % shape.slots) shape.slots o (mod_below stamp shape.slots sized.some) small in omega (arith, low, sized.behind)
+
+module _ (place : ℕ) (bytes : List ℕ) (old : State) (sound : IsSound old) where
+  -- a call that writes a sector
+  pub one_write : (new : State) {fault : MediumFault} {result : Result (Unit {0}) MediumFault} → Passes fault result old new
+      → Gains place bytes old.may_leave new.may_leave → WritesOnly place bytes old new
+  one_write new wrote gains =
+      let start = started_within (gaining place bytes old.may_leave) old sound (λ s c left. inl left) in
+      record { moments = goes_on_within _ old old new start wrote gains; sets = gains }
+
+  -- two calls, of which one may write it
+  pub two_calls : (mid new : State) {first second : MediumFault} {one two : Result (Unit {0}) MediumFault} → Passes first one old mid
+      → Passes second two mid new → Gains place bytes old.may_leave mid.may_leave → Gains place bytes old.may_leave new.may_leave
+      → WritesOnly place bytes old new
+  two_calls mid new before after first second =
+      record { moments = goes_on_within _ old mid new (one_write mid before first).moments after second; sets = second }
+
+-- at each moment an image has what it has where the sector may have these bytes
+pub moments_have : (P : Image → Type 0) (place : ℕ) (bytes : List ℕ) (old new : State) → WritesOnly place bytes old new
+    → ((mid : State) → Gains place bytes old.may_leave mid.may_leave → EachCut P mid) → LeavesOnly P old new
+moments_have P place bytes old new writes each =
+    let mid : State = record old { may_leave = gaining place bytes old.may_leave } in
+    weaker (CutLeaves (gaining place bytes old.may_leave)) P old new (each mid (λ s c left. left)) writes.moments

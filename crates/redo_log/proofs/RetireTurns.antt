@@ -1,11 +1,9 @@
 -- Each turn that retires the oldest durable record: what the log and its medium hold after it.
 use Rattle.std.proofs.Common.{◌≡◌, ◌≢◌, inl, inr, ℕ, ◌+◌, ◌-◌, ◌<◌, ◌≤◌, List, [], ◌∷◌, length, get_or, drop, refl, ◌∙◌, ap, subst, arith}
-use Rattle.std.proofs.Common.{rules, length-drop, add-zero}
-use Rattle.std.specs.Prelude.{true, false, map, slice_index}
+use Rattle.std.proofs.Common.{rules, length-drop, add-zero, true, false, map, slice_index, drop-cons}
 use Rattle.std.proofs.lemmas.Bool.{cases_eq, cases_lt}
 use Rattle.std.proofs.lemmas.List.{drop-map, length-map}
 use Rattle.std.proofs.Math.ListN.{get_or-map}
-use Rattle.std.proofs.Math.Seq.{drop-cons}
 use Rattle.medium.specs.Medium.{State, Image, Holds, Gains, IsSound}
 use Rattle.medium.specs.Moments.{EachCut, LeavesOnly}
 use Rattle.medium.proofs.Moments.{each_write, each_flush, quiet_leaves, content_has}
@@ -23,17 +21,15 @@ use Rattle.journal.proofs.Overlay.{records-hide}
 use Rattle.journal.proofs.Engine.{IsWholeIn-same, KeepsView-home, KeepsView-head, Stored-kept, Guarded-kept, HasSlots-less}
 use Rattle.redo_log.specs.declared.turn.Turn.{Turn}
 use Rattle.redo_log.specs.declared.turn.Turn.TheVariants.{Flush, Head}
-use Rattle.redo_log.specs.Value.{LogValue, Ahead, IsSentHome, IsRetireStepped, of_oldest, ahead_of, settled}
-use Rattle.redo_log.specs.Value.{first_kept}
+use Rattle.redo_log.specs.Value.{LogValue, Ahead, IsSentHome, IsRetireStepped, of_oldest, ahead_of, settled, first_kept}
 use Rattle.redo_log.specs.Calls.{WritesOnly}
 use Rattle.redo_log.specs.Turns.{head_bytes, MayTurn, IsTurned, IsNextTurn}
-use Rattle.redo_log.specs.Held.{View, view_retired, made_of, turned_of, needed_of, image_view, MayLeave, Safe, AreHome, HasHead}
-use Rattle.redo_log.specs.Held.{IsGuarded, HoldsView}
-use Rattle.redo_log.proofs.OneSector.{moments_have}
-use Rattle.redo_log.proofs.LogRules.{needed_one}
-use Rattle.redo_log.proofs.LogRules.{IsLog, retired_of, one_waits, nothing_home, not_homed}
-use Rattle.redo_log.proofs.HeldLog.{Stands, hides_behind, front, has_before, guard_logged, newest, with_newest, same_head, safe_here}
-use Rattle.redo_log.proofs.HeldLog.{guard_leaves, Stores-stays, needs_one, many, named, count, under_count, stands_now, goes_on, counts_of}
+use Rattle.redo_log.specs.Held.{View, view_retired, made_of, turned_of, needed_of, image_view, MayLeave, Safe, AreHome, HasHead, IsGuarded}
+use Rattle.redo_log.specs.Held.{HoldsView}
+use Rattle.redo_log.proofs.HeldLog.{moments_have, Stands, hides_behind, front, has_before, guard_logged, newest, with_newest, same_head}
+use Rattle.redo_log.proofs.HeldLog.{safe_here, guard_leaves, Stores-stays, needs_one, many, named, count, under_count, stands_now, goes_on}
+use Rattle.redo_log.proofs.HeldLog.{counts_of}
+use Rattle.redo_log.proofs.LogRules.{needed_one, IsLog, retired_of, one_waits, nothing_home, not_homed}
 use Rattle.redo_log.proofs.NewestCopy.{kept_is, retired_kept}
 use Rattle.redo_log.proofs.RecordSteps.{head_turn}
 
