@@ -80,18 +80,7 @@ has_view {stamp = stamp} {head = head} passed view fits behind found =
       whole = λ j below.
           let here : stamp + (length passed + j) ≡ head + j = omega (arith, behind) in
           rw (here, get_or-append-add passed view.records j []) at (found.keeps.whole (length passed + j) (omega (arith, below, longer)));
-      ours = record {
-        stands = record {
-          fits = fits;
-          head = stamp;
-          records = passed ++ view.records;
-          keeps = found.keeps;
-          few = found.few;
-          ends = found.ends;
-          next_is = rw next refl;
-        };
-        carries = rw next at found.carries;
-      };
+      ours = let carries = rw next at found.carries in search (rules, found.keeps, found.ends, found.few, next);
     }
 
 -- with a record in front of them whole it has that one too
@@ -146,11 +135,8 @@ module _ {shape : Shape} {head : ℕ} {view : View} {made retire : ℕ} {image :
     pub stands_front : {steps : ℕ} → Stands shape head view steps made → Stands shape g.stamp (with_passed g.passed view) steps made
     stands_front {steps} stands =
         let longer = length-append g.passed view.records in
-        let few : length (g.passed ++ view.records) ≤ shape.slots = grind (arith, stands.few, g.room, longer) in
-        let slots = λ (some : 0 < steps).
-        let slots = stands.slots some in
-        let under_way = rw same_stamp at slots.under_way in
-        let here : HasSlots (layout_of shape.format) front = grind (arith, slots.room, slots.behind, slots.some, g.room, longer) in here in
+        let slots : 0 < steps → HasSlots (layout_of shape.format) front = λ some.
+        let under_way = rw same_stamp at (stands.slots some).under_way in grind (arith, stands.slots some, g.room, longer) in
         search (rules, arith)
 
 -- what guards a log says what a cut may leave
@@ -185,10 +171,7 @@ pub Stores-stays : {shape : Shape} {head : ℕ} {view : View} {made turned : ℕ
     → ((i : ℕ) → i < then → i < length (get_or view.records 0 []) → i < turned) → Stores shape head view next then new
 Stores-stays {old = old} s next then new stays no_more no_home =
     let same : new ≡ old = λ i s. stays s i in
-    rw same (record {
-      stored = record { keeps = s.stored.keeps; parts = λ p low small. s.stored.parts p (omega (arith, low, no_more)) small };
-      copied = λ i low high. s.copied i (no_home i low high) high;
-    })
+    rw same (grind (arith, s.stored, s.copied, no_home))
 
 abbrev pub put_head : State → Image → Image
 put_head m image = updated image 1 (m.content 1)
@@ -314,12 +297,9 @@ quiet_held log view old new quiet holds =
 
 -- no call leaves what a cut may leave
 pub leaves_none : (log : LogValue) (m : State) → IsSound m → LeavesLog log m m
-leaves_none log m sound = record {
-  cuts = λ view holds ours. started (MayLeave m.size log view) m sound (holds.leaves ours);
-  moments = started (λ _. Unit {0}) m sound (λ image cut. tt);
-  spares = spared_start (sectors_of log.shape) m sound;
-  looks = no_looks (λ s. s < first_home log.shape) m m refl;
-}
+leaves_none log m sound =
+    let cuts = λ (view : View) (holds : HoldsView log m view) (ours : view.ours ≡ true). started _ m sound (holds.leaves ours) in
+    let looks = no_looks (λ s. s < first_home log.shape) m m refl in search (rules, started, spared_start)
 
 -- ---- calls that write one sector at most
 
