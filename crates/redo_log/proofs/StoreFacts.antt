@@ -156,24 +156,15 @@ module _ {log : LogValue} (is : IsLog log) (live : log.dead ≡ false) (some : 0
   all_steps : steps_of log.shape.format log.under_way ≡ L.parts n + 1 + flush_of (L.early n)
   all_steps = ap (λ (k : ℕ). steps_for log.shape.format k) (under_count hv) ∙ steps_are log.shape.format n
 
-  late : L.early n < L.parts n
-  late = laws.last_is_late n
-
   -- its records stand, also after one call more
   stands : Stands log.shape log.head view log.steps_left (made_of log)
   stands = stands_now hv is
-
-  slots : HasSlots L v
-  slots = stands.slots some
-
-  made : made_of log ≡ steps_of log.shape.format log.under_way - log.steps_left
-  made = made_is log some
 
   abbrev more_log : LogValue
   more_log = record log { steps_left = log.steps_left - 1 }
 
   then_made : 1 < log.steps_left → made_of more_log ≡ made_of log + 1
-  then_made more = omega (arith, made, made_is more_log (omega (arith, more)), is.most_left, more)
+  then_made more = omega (arith, made_is log some, made_is more_log (omega (arith, more)), is.most_left, more)
 
   -- ---- the next call of a record with these blocks
   module _ {numbers : List ℕ} (bytes : List ℕ) (same : numbers ≡ log.under_way) (size : length bytes ≡ 512 * length numbers)
@@ -193,9 +184,6 @@ module _ {log : LogValue} (is : IsLog log) (live : log.dead ≡ false) (some : 0
       next : IsNextCall L log.shape stamp other (made_of log) here.call
       next = rw (many hv) at here.next
 
-      same_size : new.size ≡ old.size
-      same_size = here.makes.passes.size_stays
-
       flushes : IsFlushDue L n (made_of log) → here.call ≡ Flush
       flushes due = next.0 (rw other_count due)
 
@@ -203,11 +191,11 @@ module _ {log : LogValue} (is : IsLog log) (live : log.dead ≡ false) (some : 0
       early_flushed : 1 < log.steps_left → IsFlushDue L n (made_of log) → IsDone here.call old new → HoldsView more_log new view
       early_flushed more due done =
           let wrote = rw (flushes due) at done in
-          let few = not_last (L.early n) (L.parts n) late (made_of log) (omega (arith, made, more, all_steps, is.most_left)) in
+          let few = not_last _ _ (laws.last_is_late n) (made_of log) (omega (arith, made_is log some, more, all_steps, is.most_left)) in
           let early : (0 < L.early n) × (made_of log ≡ L.early n) = grind (arith, due, few) in
-          let after = early_written (L.early n) (L.parts n) late (made_of log) (made_of more_log) (then_made more) early.0 early.1 in
+          let after = early_written _ _ (laws.last_is_late n) (made_of log) (made_of more_log) (then_made more) early.0 early.1 in
           let s = hv.stores live in
-          goes_on hv is (log.steps_left - 1) log.retire_steps_left log.ahead new (omega arith) same_size live
+          goes_on hv is (log.steps_left - 1) log.retire_steps_left log.ahead new (omega arith) here.makes.passes.size_stays live
           (Stores-stays s (made_of more_log) (turned_of log) new.content wrote.0 (omega (arith, after.0)) (λ i low high. low))
           (λ ours.
           let g = hv.guards live ours in
@@ -218,11 +206,11 @@ module _ {log : LogValue} (is : IsLog log) (live : log.dead ≡ false) (some : 0
       -- ---- a flush of all parts: the record is durable
       all_flushed : log.steps_left ≡ 1 → IsDone here.call old new → HoldsView (durable_of log) new (with_record view)
       all_flushed last done =
-          let all = last_call (L.early n) (L.parts n) late (made_of log) (omega (arith, made, is.most_left, some, all_steps))
-          (omega (arith, made, is.most_left, last, all_steps)) in
+          let all = last_call _ _ (laws.last_is_late n) (made_of log) (omega (arith, made_is log some, is.most_left, some, all_steps))
+          (omega (arith, made_is log some, is.most_left, last, all_steps)) in
           let wrote = rw (flushes (inr all)) at done in
           let longer = length-append view.records (view.under_way ∷ []) in
-          let fits : sectors_of log.shape ≤ new.size = omega (arith, same_size, hv.fits) in
+          let fits : sectors_of log.shape ≤ new.size = omega (arith, here.makes.passes.size_stays, hv.fits) in
           let still : new.content ≡ old.content = λ i s. wrote.0 s i in
           let alone = λ (none : length view.records ≡ 0). durable_alone log is some (many hv ∙ none) in
           let waits = λ (more : 0 < length view.records). durable_more log (omega (arith, many hv, more)) in
@@ -232,15 +220,15 @@ module _ {log : LogValue} (is : IsLog log) (live : log.dead ≡ false) (some : 0
           let copied : AreHome log.shape (get_or (view.records ++ view.under_way ∷ []) 0 []) (turned_of (durable_of log)) old.content =
           let first = get_or_append_left view.records (view.under_way ∷ []) [] 0 in
           λ i low high. grind (arith, cases_eq (length view.records) 0, alone, waits, s.copied i, first) in
-          let keeps = Stored-durable L laws v slots all s.stored in
+          let keeps = Stored-durable L laws v (stands.slots some) all s.stored in
           let next : log.head + length view.records + 1 ≡ log.head + length (view.records ++ view.under_way ∷ []) = omega (arith, longer) in
           let guards : view.ours ≡ true → IsGuarded (durable_of log) (with_record view) new = λ ours.
-          let carries = rw next at (carries_below L laws v slots old.content _ _ (safe_here sound s (hv.guards live ours))) in
+          let carries = rw next at (carries_below L laws v (stands.slots some) old.content _ _ (safe_here sound s (hv.guards live ours))) in
           each_flush _ old.content new wrote.1 (with_newest (rests_safe (with_record view) refl (record { keeps = keeps; carries = carries }))
           (λ one i inside. copied i (omega (arith, inside, all_turned (durable_of log) one, counts_of (view.records ++ view.under_way ∷ []) durable 0)) inside)) in
           let one = one_stamp log.under_way (is.record_is some).numbers_are.some in
-          let few : length (view.records ++ view.under_way ∷ []) ≤ log.shape.slots = omega (arith, slots.room, longer) in
-          let firsts = durable_kept log.shape.format view.records view.under_way log.firsts hv.firsts (omega (arith, slots.under_way.fit.some)) in
+          let few : length (view.records ++ view.under_way ∷ []) ≤ log.shape.slots = omega (arith, (stands.slots some).room, longer) in
+          let firsts = durable_kept log.shape.format view.records view.under_way log.firsts hv.firsts (omega (arith, (stands.slots some).under_way.fit.some)) in
           let leaves : view.ours ≡ true → EachCut (MayLeave new.size (durable_of log) (with_record view)) new =
           λ ours image cut. guard_leaves (durable_of log) fits (stands_idle few refl refl) (guards ours image cut) in
           let stores : IsStored (durable_of log) (with_record view) new =
@@ -267,12 +255,12 @@ module _ {log : LogValue} (is : IsLog log) (live : log.dead ≡ false) (some : 0
         -- the write leaves the blocks at home
         at_home : {before image : Image} → Holds place part before image → (b : ℕ) → image (log.shape.home + b) ≡ before (log.shape.home + b)
         at_home write b =
-            let low = before_home log.shape is.sized stamp (L.offset n k) (laws.inside n k slots.under_way.fit.few small) in
+            let low = before_home log.shape is.sized stamp (L.offset n k) (laws.inside n k (stands.slots some).under_way.fit.few small) in
             write.elsewhere _ (λ e. omega (arith, e, low))
 
         after : (next : ℕ) → next ≡ made_of log + 1 → (written_of log.shape view next ≡ k + 1)
             × (flushed_of log.shape view next ≡ flushed_of log.shape view (made_of log))
-        after next one = part_written (L.early n) (L.parts n) late (made_of log) next one (grind (arith, not))
+        after next one = part_written _ _ (laws.last_is_late n) (made_of log) next one (grind (arith, not))
 
         -- with the last part in it the record has this one's
         part_each : part ≡ L.part stamp view.under_way k → view.ours ≡ true → (then : ℕ) → then ≡ made_of log + 1
@@ -292,13 +280,11 @@ module _ {log : LogValue} (is : IsLog log) (live : log.dead ≡ false) (some : 0
               each_write _ (MayLeave old.size log view) old new place part sound adds (hv.guards live ours)
               (λ image g. guard_leaves log hv.fits stands g)
               (λ before image write g.
-              let here : Holds (part_at L log.shape (log.head + length view.records) n k) (L.part (log.head + length view.records) other k)
-              before image = write in
-              inl (has_view g.passed view hv.fits g.behind (other_written L laws (front g) ((stands_front g stands).slots some) k other
-              (rw (same_stamp g) at other_is) other_count early (rw (same_stamp g) at here) g.safe)))
+              inl (has_view g.passed view hv.fits g.behind (other_written L laws (front g) ((stands_front g stands).slots some) {before = before}
+              k other (rw (same_stamp g) at other_is) other_count early (rw (← (same_stamp g)) write) g.safe)))
           | inr last ↦
               let stands_then = stands_then hv is log.steps_left (made_of log + 1) (omega arith) (λ none. absurd (omega (arith, none, some)))
-              (λ _. omega (arith, made)) in
+              (λ _. omega (arith, made_is log some)) in
               let k_is : L.parts n - 1 ≡ k = omega (arith, small, last) in
               let mine = rw (other_count, k_is) at (laws.last_part stamp other view.under_way other_count) in
               λ image cut.
@@ -311,10 +297,9 @@ module _ {log : LogValue} (is : IsLog log) (live : log.dead ≡ false) (some : 0
             let s = hv.stores live in
             let mine : part ≡ L.part stamp view.under_way k = ap (λ (l : List Entry). L.part stamp l k) (sym named) in
             let now = after (made_of more_log) (then_made more) in
-            goes_on hv is (log.steps_left - 1) log.retire_steps_left log.ahead new (omega arith) same_size live
+            goes_on hv is (log.steps_left - 1) log.retire_steps_left log.ahead new (omega arith) here.makes.passes.size_stays live
             (record {
-              stored = Stored-write L laws v slots k small (λ p low not. omega (arith, low, now.0, not))
-                  (rw mine at write) s.stored;
+              stored = Stored-write L laws v (stands.slots some) k small (λ p low not. omega (arith, low, now.0, not)) (rw mine at write) s.stored;
               copied = λ i low high. at_home write _ ∙ s.copied i low high;
             })
             (λ ours. part_each mine ours (made_of more_log) (then_made more))
