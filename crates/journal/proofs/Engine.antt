@@ -1,17 +1,16 @@
 -- The crash argument, for every layout: what the writing of a record leaves, and its retiring while another is written.
-use Rattle.std.proofs.Common.{◌≡◌, ◌≢◌, ◌⊎◌, inl, inr, ℕ, ◌+◌, ◌*◌, ◌-◌, ◌%◌, ◌<◌, ◌≤◌, List, length, arith, rules, [], ◌∷◌}
-use Rattle.std.proofs.Common.{◌++◌, length-append, get_or, drop, sym, ◌∙◌}
+use Rattle.std.proofs.Common.{◌≡◌, ◌≢◌, ◌⊎◌, inl, inr, ℕ, ◌+◌, ◌*◌, ◌-◌, ◌%◌, ◌<◌, ◌≤◌, List, length, arith, rules, [], ◌∷◌, ◌++◌}
+use Rattle.std.proofs.Common.{length-append, get_or, drop, sym, ◌∙◌, refl, length-drop, get_or-drop, drop-cons}
 use Rattle.std.proofs.lemmas.Bool.{cases_eq, cases_lt}
 use Rattle.std.proofs.lemmas.Nat.{mod_below}
-use Rattle.std.proofs.lemmas.List.{get_or_append_left, length-drop, get_or-drop}
-use Rattle.std.proofs.Math.Seq.{get_or-append_seam, drop-cons}
+use Rattle.std.proofs.lemmas.List.{get_or_append_left}
+use Rattle.std.proofs.Math.Seq.{get_or-append_seam}
 use Rattle.medium.specs.Medium.{Image, Holds}
 use Rattle.journal.specs.Places.{Shape}
 use Rattle.journal.specs.Record.{Entry, with_blocks, with_records, home_of, Agree, Hides}
-use Rattle.journal.specs.Layout.{Layout, IsWholeIn, HasWholeIn, CarriesBelowIn, IsFree, slot_at, part_at, Laws}
-use Rattle.journal.specs.Layout.{IsRecordOf}
-use Rattle.journal.specs.Staged.{View, HasParts, stamp_of, KeepsView, Found, Stored, Guarded, HasSlots, Resting, with_record, MayLeave, with_less}
-use Rattle.journal.specs.Staged.{IsHomed}
+use Rattle.journal.specs.Layout.{Layout, IsWholeIn, HasWholeIn, CarriesBelowIn, IsFree, slot_at, part_at, Laws, IsRecordOf}
+use Rattle.journal.specs.Staged.{View, HasParts, stamp_of, KeepsView, Found, Stored, Guarded, HasSlots, Resting, with_record, MayLeave}
+use Rattle.journal.specs.Staged.{with_less, IsHomed}
 use Rattle.journal.specs.Sectors.{IsHead}
 use Rattle.journal.proofs.Wholeness.{in_log, other_sector, other_slot, record_of, Keeps-same, IsWhole-same, slot_inside}
 use Rattle.journal.proofs.Wholeness.{all_or_first, with_blocks-same, with_records-append, with_records-same}
@@ -218,6 +217,11 @@ module _ (L : Layout) (laws : Laws L) (shape : Shape) (some : 1 ≤ shape.slots)
   IsWholeIn-same stamp entries w = IsWhole-same L laws shape before image stamp entries
       (λ x from to. same x (omega arith) (omega (arith, slot_inside L laws shape stamp some))) w
 
+-- where this view becomes that one, the record under way stays as far as it is written
+pub record IsKept (L : Layout) (v w : View) (before image : Image) : Type 0 where
+  pub stored : {count : ℕ} → Stored L v count before → Stored L w count image
+  pub guarded : {k durable : ℕ} → Guarded L v k durable before → Guarded L w k durable image
+
 module _ (L : Layout) (laws : Laws L) (v : View) (behind : 2 + L.slot_sectors * v.shape.slots ≤ v.shape.home)
     (few : length v.under_way ≤ L.most) {before image : Image} where
   -- a write before or behind the log leaves the log
@@ -225,54 +229,55 @@ module _ (L : Layout) (laws : Laws L) (v : View) (behind : 2 + L.slot_sectors * 
       → Agree 2 (2 + L.slot_sectors * v.shape.slots) image before
   log_same write apart x low high = write.elsewhere x (λ e. grind (arith, behind, apart))
 
+  -- While the log stays, the record under way stays as far as it is written, whichever records are in front of it.
+  kept : (head : ℕ) (records : List (List Entry)) → head + length records ≡ stamp_of v
+      → Agree 2 (2 + L.slot_sectors * v.shape.slots) image before
+      → (KeepsView L v before → KeepsView L (record v { head = head; records = records }) image)
+      → IsKept L v (record v { head = head; records = records }) before image
+  kept head records next log keeps =
+      let stored : (count : ℕ) → Stored L v count before → Stored L (record v { head = head; records = records }) count image =
+      λ count s. record {
+        keeps = keeps s.keeps;
+        parts = λ p low small.
+            let inside = laws.inside (length v.under_way) p few small in
+            rw (next, log (at L v p) (omega arith) (omega (arith, slot_inside L laws v.shape (stamp_of v) s.keeps.super.some_slots, inside)))
+            (s.parts p low small);
+      } in
+      record {
+        stored = stored _;
+        guarded = λ g. record {
+          stored = stored _ g.stored;
+          carries = λ slot o low small.
+              rw (next, log (2 + L.slot_sectors * slot + o) (omega arith) (in_log L.slot_sectors slot v.shape.slots o low small))
+              (g.carries slot o low small);
+        };
+      }
+
   -- a block that the records hide is written home
-  pub KeepsView-home : (b : ℕ) {bytes : List ℕ} → Hides v.records b → Holds (v.shape.home + b) bytes before image
-      → KeepsView L v before → KeepsView L v image
-  KeepsView-home b hides write g =
+  pub kept_home : (b : ℕ) {bytes : List ℕ} → Hides v.records b → Holds (v.shape.home + b) bytes before image → IsKept L v v before image
+  kept_home b hides write =
       let log = log_same write (λ low. omega arith) in
+      kept v.head v.records refl log (λ g.
       let whole = λ (j : ℕ) (below : j < length v.records).
       IsWholeIn-same L laws v.shape g.super.some_slots before image log (v.head + j) (get_or v.records j []) (g.whole j below) in
       let hidden = hides (home_of v.shape image) (home_of v.shape before) in
       let others = with_records-same v.records (home_of v.shape image) (home_of v.shape before) in
-      grind (arith, cases_eq, write.elsewhere, g)
+      grind (arith, cases_eq, write.elsewhere, g))
 
   -- with the oldest record at home the head goes past it
-  pub KeepsView-head : {bytes : List ℕ} → 0 < length v.records → IsHead (v.head + 1) bytes → IsHomed v before
-      → Holds 1 bytes before image → KeepsView L v before → KeepsView L (with_less v) image
-  KeepsView-head waits h homed write g = record {
-    super = rw (write.elsewhere 0 (λ e. omega arith)) g.super;
-    head_is = rw write.here h;
-    whole = λ j below.
-        IsWholeIn-same L laws v.shape g.super.some_slots before image (log_same write (λ low. omega arith)) (v.head + 1 + j) _
-        (rw (get_or-drop 1 v.records j []) (grind (arith, g.whole (1 + j), length-drop 1 v.records)));
-    blocks = λ b below. with_records-same (drop 1 v.records) (home_of v.shape image)
-        (with_blocks (get_or v.records 0 []) (home_of v.shape before)) b
-        (write.elsewhere (v.shape.home + b) (λ e. omega (arith, behind))
-        ∙ sym (with_blocks-home (get_or v.records 0 []) (home_of v.shape before) b homed))
-        ∙ rw (drop-cons v.records 0 [] waits) at (g.blocks b below);
-  }
-
-  -- While the log stays, the record under way stays as far as it is written, whichever records are in front of it.
-  module _ {s : ℕ} {bytes : List ℕ} (write : Holds s bytes before image) (apart : 2 ≤ s → v.shape.home ≤ s) (head : ℕ)
-      (records : List (List Entry)) (next : head + length records ≡ stamp_of v)
-      (keeps : KeepsView L v before → KeepsView L (record v { head = head; records = records }) image) where
-    pub Stored-kept : {count : ℕ} → Stored L v count before → Stored L (record v { head = head; records = records }) count image
-    Stored-kept s = record {
-      keeps = keeps s.keeps;
-      parts = λ p low small.
-          let inside = laws.inside (length v.under_way) p few small in
-          rw (next, log_same write apart (at L v p) (omega arith) (omega (arith, slot_inside L laws v.shape (stamp_of v) s.keeps.super.some_slots, inside)))
-          (s.parts p low small);
-    }
-
-    pub Guarded-kept : {k durable : ℕ} → Guarded L v k durable before
-        → Guarded L (record v { head = head; records = records }) k durable image
-    Guarded-kept g = record {
-      stored = Stored-kept g.stored;
-      carries = λ slot o low small.
-          rw (next, log_same write apart (2 + L.slot_sectors * slot + o) (omega arith) (in_log L.slot_sectors slot v.shape.slots o low small))
-          (g.carries slot o low small);
-    }
+  pub kept_head : {bytes : List ℕ} → 0 < length v.records → IsHead (v.head + 1) bytes → IsHomed v before
+      → Holds 1 bytes before image → IsKept L v (with_less v) before image
+  kept_head waits h homed write =
+      let log = log_same write (λ low. omega arith) in
+      let fewer = length-drop 1 v.records in
+      kept (v.head + 1) (drop 1 v.records) (omega arith) log (λ g.
+      let whole = λ (j : ℕ) (below : j < length (drop 1 v.records)).
+      IsWholeIn-same L laws v.shape g.super.some_slots before image log (v.head + 1 + j) (get_or (drop 1 v.records) j [])
+      (rw (get_or-drop 1 v.records j []) (grind (arith, g.whole (1 + j), fewer))) in
+      let first = with_blocks-home (get_or v.records 0 []) (home_of v.shape before) in
+      let others = with_records-same (drop 1 v.records) (home_of v.shape image) (with_blocks (get_or v.records 0 []) (home_of v.shape before)) in
+      let here = drop-cons v.records 0 [] waits in
+      grind (arith, write.here, write.elsewhere, g))
 
 -- with the oldest record retired one slot more is free
 pub HasSlots-less : (L : Layout) (v : View) → HasSlots L v → 0 < length v.records → HasSlots L (with_less v)

@@ -1,13 +1,14 @@
 -- What guards a log against a cut, and what a log and its medium hold together.
 use Rattle.std.proofs.Common.{◌≡◌, ◌⊎◌, inl, inr, ⊎_elim, ℕ, ◌+◌, ◌<◌, ◌≤◌, List, [], ◌∷◌, ◌++◌, length, arith, rules, zero, suc, get_or}
-use Rattle.std.proofs.Common.{refl, ap, length-append, append_assoc, add-zero, ◌-◌, ◌∙◌, ◌^◌}
+use Rattle.std.proofs.Common.{refl, ap, length-append, append_assoc, add-zero, ◌-◌, ◌∙◌, ◌^◌, ◌*◌, ◌%◌, Result, get_or-append-add, map}
+use Rattle.std.proofs.Common.{Bool, true, false, All}
 use Rattle.std.proofs.lemmas.Bool.{cases_lt, cases_eq}
-use Rattle.std.proofs.lemmas.List.{nil_from_length, get_or-append-add, length-map}
-use Rattle.std.specs.Prelude.{map, Bool, true, false, Result, Ok, Err, OnOk, is_err, All}
+use Rattle.std.proofs.lemmas.List.{nil_from_length, length-map}
 use Rattle.std.proofs.Math.ListN.{get_or-map}
-use Rattle.medium.specs.Medium.{Image, State, Stays, CutLeaves, IsSound}
+use Rattle.medium.specs.Medium.{Image, State, Stays, CutLeaves, IsSound, Gains, Passes}
 use Rattle.medium.specs.Moments.{EachCut, LeavesOnly, IsQuiet}
-use Rattle.medium.proofs.Moments.{content_has, updated, updated_here, updated_elsewhere, at_exit, shrunk, started}
+use Rattle.medium.proofs.Moments.{content_has, updated, updated_here, updated_elsewhere, at_exit, shrunk, started, started_within}
+use Rattle.medium.proofs.Moments.{goes_on_within, weaker}
 use Rattle.medium.specs.declared.fault.MediumFault.{MediumFault}
 use Rattle.medium.proofs.SectorsRead.{no_looks}
 use Rattle.medium.proofs.SparedSectors.{spared_start}
@@ -27,8 +28,10 @@ use Rattle.redo_log.specs.Held.{View, HasView, with_record, with_begun, image_vi
 use Rattle.redo_log.specs.Held.{MayLeave, with_passed, HasHead, made_of, turned_of, needed_of, IsStored, IsGuarded, HoldsView}
 use Rattle.redo_log.specs.Steps.{LeavesLog}
 use Rattle.redo_log.proofs.RecordSteps.{all_flushed, none_written, steps_are, one_left}
-use Rattle.redo_log.proofs.LogRules.{needed_one}
-use Rattle.redo_log.proofs.LogRules.{IsLog, made_is, none_made}
+use Rattle.redo_log.proofs.LogRules.{needed_one, IsLog, made_is, none_made}
+use Rattle.std.proofs.lemmas.Nat.{mod_below}
+use Rattle.journal.proofs.Apart.{in_log}
+use Rattle.redo_log.specs.Calls.{gaining, WritesOnly}
 
 -- the records of a view stand in slots of their own
 pub record Stands (shape : Shape) (head : ℕ) (view : View) (steps made : ℕ) : Type 0 where
@@ -77,18 +80,7 @@ has_view {stamp = stamp} {head = head} passed view fits behind found =
       whole = λ j below.
           let here : stamp + (length passed + j) ≡ head + j = omega (arith, behind) in
           rw (here, get_or-append-add passed view.records j []) at (found.keeps.whole (length passed + j) (omega (arith, below, longer)));
-      ours = record {
-        stands = record {
-          fits = fits;
-          head = stamp;
-          records = passed ++ view.records;
-          keeps = found.keeps;
-          few = found.few;
-          ends = found.ends;
-          next_is = rw next refl;
-        };
-        carries = rw next at found.carries;
-      };
+      ours = let carries = rw next at found.carries in search (rules, found.keeps, found.ends, found.few, next);
     }
 
 -- with a record in front of them whole it has that one too
@@ -107,14 +99,8 @@ module _ {shape : Shape} {head : ℕ} {view : View} {made retire : ℕ} {image :
   -- the newest head is there
   pub with_newest : Safe shape head view made image → (retire ≡ 1 → IsHomed (image_view shape head view) image)
       → HasHead shape head view made retire image
-  with_newest safe homed = record {
-    stamp = head;
-    passed = [];
-    behind = omega arith;
-    room = λ some. absurd (omega (arith, some));
-    safe = safe;
-    flushed = λ one. (refl, homed one);
-  }
+  with_newest safe homed =
+      record { stamp = head; passed = []; behind = omega arith; room = grind arith; safe = safe; flushed = λ one. (refl, homed one) }
 
   module _ (g : HasHead shape head view made retire image) where
     -- it is where none was passed
@@ -149,11 +135,8 @@ module _ {shape : Shape} {head : ℕ} {view : View} {made retire : ℕ} {image :
     pub stands_front : {steps : ℕ} → Stands shape head view steps made → Stands shape g.stamp (with_passed g.passed view) steps made
     stands_front {steps} stands =
         let longer = length-append g.passed view.records in
-        let few : length (g.passed ++ view.records) ≤ shape.slots = grind (arith, stands.few, g.room, longer) in
-        let slots = λ (some : 0 < steps).
-        let slots = stands.slots some in
-        let under_way = rw same_stamp at slots.under_way in
-        let here : HasSlots (layout_of shape.format) front = grind (arith, slots.room, slots.behind, slots.some, g.room, longer) in here in
+        let slots : 0 < steps → HasSlots (layout_of shape.format) front = λ some.
+        let under_way = rw same_stamp at (stands.slots some).under_way in grind (arith, stands.slots some, g.room, longer) in
         search (rules, arith)
 
 -- what guards a log says what a cut may leave
@@ -188,10 +171,7 @@ pub Stores-stays : {shape : Shape} {head : ℕ} {view : View} {made turned : ℕ
     → ((i : ℕ) → i < then → i < length (get_or view.records 0 []) → i < turned) → Stores shape head view next then new
 Stores-stays {old = old} s next then new stays no_more no_home =
     let same : new ≡ old = λ i s. stays s i in
-    rw same (record {
-      stored = record { keeps = s.stored.keeps; parts = λ p low small. s.stored.parts p (omega (arith, low, no_more)) small };
-      copied = λ i low high. s.copied i (no_home i low high) high;
-    })
+    rw same (grind (arith, s.stored, s.copied, no_home))
 
 abbrev pub put_head : State → Image → Image
 put_head m image = updated image 1 (m.content 1)
@@ -315,16 +295,38 @@ quiet_held log view old new quiet holds =
     (λ live. Stores-stays (holds.stores live) (made_of log) (turned_of log) new.content quiet.content_stays (omega arith) (λ i low high. low))
     (λ live ours. shrunk _ old new quiet.sets_shrink (holds.guards live ours))
 
--- a call that is good did this
-pub on_ok_here : {P : Type 0} (r : Result (Unit {0}) MediumFault) {refused : Bool} → refused ≡ is_err r → refused ≡ false → OnOk r P → P
-on_ok_here (Ok done) told good did = did
-on_ok_here (Err fault) told good did = cc (told, good)
-
 -- no call leaves what a cut may leave
 pub leaves_none : (log : LogValue) (m : State) → IsSound m → LeavesLog log m m
-leaves_none log m sound = record {
-  cuts = λ view holds ours. started (MayLeave m.size log view) m sound (holds.leaves ours);
-  moments = started (λ _. Unit {0}) m sound (λ image cut. tt);
-  spares = spared_start (sectors_of log.shape) m sound;
-  looks = no_looks (λ s. s < first_home log.shape) m m refl;
-}
+leaves_none log m sound =
+    let cuts = λ (view : View) (holds : HoldsView log m view) (ours : view.ours ≡ true). started _ m sound (holds.leaves ours) in
+    let looks = no_looks (λ s. s < first_home log.shape) m m refl in search (rules, started, spared_start)
+
+-- ---- calls that write one sector at most
+
+-- a sector of a slot stands before home
+pub before_home : (shape : Shape) → IsSized shape → (stamp o : ℕ) → o < (layout_of shape.format).slot_sectors
+    → 2 + (layout_of shape.format).slot_sectors * (stamp % shape.slots) + o < shape.home
+before_home shape sized stamp o small =
+    let low = in_log _ (stamp % shape.slots) shape.slots o (mod_below stamp shape.slots sized.some) small in omega (arith, low, sized.behind)
+
+module _ (place : ℕ) (bytes : List ℕ) (old : State) (sound : IsSound old) where
+  -- a call that writes a sector
+  pub one_write : (new : State) {fault : MediumFault} {result : Result (Unit {0}) MediumFault} → Passes fault result old new
+      → Gains place bytes old.may_leave new.may_leave → WritesOnly place bytes old new
+  one_write new wrote gains =
+      let start = started_within (gaining place bytes old.may_leave) old sound (λ s c left. inl left) in
+      record { moments = goes_on_within _ old old new start wrote gains; sets = gains }
+
+  -- two calls, of which one may write it
+  pub two_calls : (mid new : State) {first second : MediumFault} {one two : Result (Unit {0}) MediumFault} → Passes first one old mid
+      → Passes second two mid new → Gains place bytes old.may_leave mid.may_leave → Gains place bytes old.may_leave new.may_leave
+      → WritesOnly place bytes old new
+  two_calls mid new before after first second =
+      record { moments = goes_on_within _ old mid new (one_write mid before first).moments after second; sets = second }
+
+-- at each moment an image has what it has where the sector may have these bytes
+pub moments_have : (P : Image → Type 0) (place : ℕ) (bytes : List ℕ) (old new : State) → WritesOnly place bytes old new
+    → ((mid : State) → Gains place bytes old.may_leave mid.may_leave → EachCut P mid) → LeavesOnly P old new
+moments_have P place bytes old new writes each =
+    let mid : State = record old { may_leave = gaining place bytes old.may_leave } in
+    weaker (CutLeaves (gaining place bytes old.may_leave)) P old new (each mid (λ s c left. left)) writes.moments

@@ -1,9 +1,7 @@
-pub mod OneSector
 pub mod RecordSteps
 pub mod NewestCopy
 pub mod StoreFacts
 pub mod RetireTurns
 pub mod SortedIndex
-pub mod RecordTurns
 pub mod LogRules
 pub mod HeldLog

@@ -1,11 +1,9 @@
 -- Each turn that retires the oldest durable record: what the log and its medium hold after it.
 use Rattle.std.proofs.Common.{◌≡◌, ◌≢◌, inl, inr, ℕ, ◌+◌, ◌-◌, ◌<◌, ◌≤◌, List, [], ◌∷◌, length, get_or, drop, refl, ◌∙◌, ap, subst, arith}
-use Rattle.std.proofs.Common.{rules, length-drop, add-zero}
-use Rattle.std.specs.Prelude.{true, false, map, slice_index}
+use Rattle.std.proofs.Common.{⊎_elim, rules, length-drop, add-zero, true, false, map, slice_index, drop-cons}
 use Rattle.std.proofs.lemmas.Bool.{cases_eq, cases_lt}
 use Rattle.std.proofs.lemmas.List.{drop-map, length-map}
 use Rattle.std.proofs.Math.ListN.{get_or-map}
-use Rattle.std.proofs.Math.Seq.{drop-cons}
 use Rattle.medium.specs.Medium.{State, Image, Holds, Gains, IsSound}
 use Rattle.medium.specs.Moments.{EachCut, LeavesOnly}
 use Rattle.medium.proofs.Moments.{each_write, each_flush, quiet_leaves, content_has}
@@ -15,25 +13,23 @@ use Rattle.journal.specs.Sectors.{IsRising, IsHead}
 use Rattle.journal.specs.Record.{Entry, Hides, numbers_of}
 use Rattle.journal.specs.Layout.{Layout, slot_at, Laws}
 use Rattle.journal.specs.Formats.{layout_of, IsWhole}
-use Rattle.journal.specs.Staged.{IsHomed}
+use Rattle.journal.specs.Staged.{IsHomed, with_less}
 use Rattle.journal.specs.Staged as staged
-use Rattle.journal.proofs.SectorsRead.{begun_is}
+use Rattle.journal.proofs.CopiedBlock.{begun_is}
 use Rattle.journal.proofs.Formats.{laws_of, most_is}
-use Rattle.journal.proofs.Wholeness.{records-hide}
-use Rattle.journal.proofs.Engine.{IsWholeIn-same, KeepsView-home, KeepsView-head, Stored-kept, Guarded-kept, HasSlots-less}
+use Rattle.journal.proofs.Overlay.{records-hide}
+use Rattle.journal.proofs.Engine.{IsWholeIn-same, IsKept, kept_home, kept_head, HasSlots-less}
 use Rattle.redo_log.specs.declared.turn.Turn.{Turn}
 use Rattle.redo_log.specs.declared.turn.Turn.TheVariants.{Flush, Head}
-use Rattle.redo_log.specs.Value.{LogValue, Ahead, IsSentHome, IsRetireStepped, of_oldest, ahead_of, settled}
-use Rattle.redo_log.specs.Value.{first_kept}
+use Rattle.redo_log.specs.Value.{LogValue, Ahead, IsSentHome, IsRetireStepped, of_oldest, ahead_of, settled, first_kept}
 use Rattle.redo_log.specs.Calls.{WritesOnly}
 use Rattle.redo_log.specs.Turns.{head_bytes, MayTurn, IsTurned, IsNextTurn}
-use Rattle.redo_log.specs.Held.{View, view_retired, made_of, turned_of, needed_of, image_view, MayLeave, Safe, AreHome, HasHead}
-use Rattle.redo_log.specs.Held.{IsGuarded, HoldsView}
-use Rattle.redo_log.proofs.OneSector.{moments_have}
-use Rattle.redo_log.proofs.LogRules.{needed_one}
-use Rattle.redo_log.proofs.LogRules.{IsLog, retired_of, one_waits, nothing_home, not_homed}
-use Rattle.redo_log.proofs.HeldLog.{Stands, hides_behind, front, has_before, guard_logged, newest, with_newest, same_head, safe_here}
-use Rattle.redo_log.proofs.HeldLog.{guard_leaves, Stores-stays, needs_one, many, named, count, under_count, stands_now, goes_on, counts_of}
+use Rattle.redo_log.specs.Held.{View, view_retired, made_of, turned_of, needed_of, image_view, MayLeave, Safe, AreHome, HasHead, IsGuarded}
+use Rattle.redo_log.specs.Held.{HoldsView}
+use Rattle.redo_log.proofs.HeldLog.{moments_have, Stands, hides_behind, front, has_before, guard_logged, newest, with_newest, same_head}
+use Rattle.redo_log.proofs.HeldLog.{safe_here, guard_leaves, Stores-stays, needs_one, many, named, count, under_count, stands_now, goes_on}
+use Rattle.redo_log.proofs.HeldLog.{counts_of}
+use Rattle.redo_log.proofs.LogRules.{needed_one, IsLog, retired_of, one_waits, nothing_home, not_homed}
 use Rattle.redo_log.proofs.NewestCopy.{kept_is, retired_kept}
 use Rattle.redo_log.proofs.RecordSteps.{head_turn}
 
@@ -70,18 +66,13 @@ module _ {log : LogValue} (is : IsLog log) (live : log.dead ≡ false) (owed : 0
         let g = hv.guards live ours image cut in
         let f = g.flushed (needs_one log one) in (newest g f.0, f.1)
 
-    past_safe : {before image : Image} → IsHomed v before → Holds 1 (head_bytes h.stamp) before image
-        → Safe log.shape log.head view (made_of log) before → Safe log.shape (log.head + 1) (view_retired 1 view) (made_of log) image
-    past_safe homed write safe =
-        Guarded-kept L laws v is.sized.behind fit write (λ low. omega arith) (log.head + 1) (drop 1 view.records)
-        (omega (arith, waits, length-drop 1 view.records))
-        (KeepsView-head L laws v is.sized.behind fit waits head_now homed write) safe
+    past : {before image : Image} → IsHomed v before → Holds 1 (head_bytes h.stamp) before image → IsKept L v (with_less v) before image
+    past homed write = kept_head L laws v is.sized.behind fit waits head_now homed write
 
     stands_past : Stands log.shape (log.head + 1) (view_retired 1 view) log.steps_left (made_of log)
     stands_past =
-        let few : length (drop 1 view.records) ≤ log.shape.slots = omega (arith, stands.few, length-drop 1 view.records) in
         let slots = λ (some : 0 < log.steps_left). HasSlots-less L v (stands.slots some) waits in
-        search (rules, stands)
+        search (rules, arith, stands, length-drop 1 view.records)
 
     -- at each moment a cut leaves what it might leave before, and with the new head the same array
     pub head_leaves : WritesOnly 1 (head_bytes h.stamp) old new → view.ours ≡ true → LeavesOnly (MayLeave old.size log view) old new
@@ -89,13 +80,12 @@ module _ {log : LogValue} (is : IsLog log) (live : log.dead ≡ false) (owed : 0
         (λ mid gains. each_write _ _ old mid 1 (head_bytes h.stamp) sound gains (one_now ours)
         (λ image both. guard_leaves log {retire = 0} hv.fits stands (with_newest both.0 (λ none. absurd (omega (arith, none)))))
         (λ before image write both.
-        let g = with_newest {retire = 0} (past_safe both.1 write both.0) (λ none. absurd (omega (arith, none))) in
+        let g = with_newest {retire = 0} ((past both.1 write).guarded both.0) (λ none. absurd (omega (arith, none))) in
         elim (guard_logged (retired_of log) hv.fits stands_past g) [
           | inl rest ↦ inr (inr (waits, omega (arith, one), rest))
           | inr more ↦
               let first = IsWholeIn-same L laws log.shape is.sized.some before image
-              (λ x low high. write.elsewhere x (λ e. omega (arith, low, e))) log.head oldest
-              (rw add-zero at (both.0.stored.keeps.whole 0 waits)) in
+              (λ x low high. write.elsewhere x (λ e. omega (arith, low, e))) log.head oldest (rw add-zero at (both.0.stored.keeps.whole 0 waits)) in
               inr (inl (more.0, more.1, rw (drop-cons view.records 0 [] waits) (has_before oldest first more.2)))
         ]))
 
@@ -108,17 +98,14 @@ module _ {log : LogValue} (is : IsLog log) (live : log.dead ≡ false) (owed : 0
         let fewer = length-drop 1 view.records in
         let durable : drop 1 log.waiting ≡ map (λ r. numbers_of r) (drop 1 view.records) =
         rw hv.durable (drop-map (λ r. numbers_of r) 1 view.records) in
-        let second = counts_of (drop 1 view.records) durable 0 in
         let firsts = retired_kept log.shape.format view.records view.under_way log.firsts hv.firsts waits in
         let leaves : view.ours ≡ true → EachCut (MayLeave new.size (retired_of log) (view_retired 1 view)) new =
         λ ours image cut. guard_leaves (retired_of log) fits stands_past (guards ours image cut) in
         let s = hv.stores live in
         let homed : IsHomed v old.content = λ i inside. s.copied i (omega (arith, inside, one, count hv 0)) inside in
-        let stored = Stored-kept L laws v is.sized.behind fit wrote (λ low. omega arith) (log.head + 1)
-        (drop 1 view.records) (omega (arith, waits, fewer))
-        (KeepsView-head L laws v is.sized.behind fit waits head_now homed wrote) s.stored in
+        let stored = (past homed wrote).stored s.stored in
         let copied : AreHome log.shape (get_or (drop 1 view.records) 0 []) (turned_of (retired_of log)) new.content =
-        λ i low high. absurd (nothing_home log i low (omega (arith, high, second))) in
+        λ i low high. absurd (nothing_home log i low (omega (arith, high, counts_of (drop 1 view.records) durable 0))) in
         search (rules, arith)
 
     -- nothing of the next one is flushed at home yet
@@ -144,7 +131,7 @@ module _ {log : LogValue} (is : IsLog log) (live : log.dead ≡ false) (owed : 0
           safe = rw (← drop-cons view.records 0 [] waits) both.0;
           flushed = λ is. absurd (needs_more is);
         })
-        (λ before image write both. with_newest (past_safe both.1 write both.0)
+        (λ before image write both. with_newest ((past both.1 write).guarded both.0)
         (λ is. absurd (needs_more is))))
 
   -- ---- the next turn of the oldest record
@@ -165,15 +152,12 @@ module _ {log : LogValue} (is : IsLog log) (live : log.dead ≡ false) (owed : 0
       brings : WritesOnly to block.1 old new × (IsTurned turn old new → Holds to block.1 old.content new.content)
       brings =
           let t = turned_of log in
-          let f : Entry → ℕ = λ e. e.0 in
           let number : slice_index (get_or log.waiting 0 []) t ≡ (get_or oldest t (0, [])).0 =
-          ap (λ (l : List ℕ). slice_index l t) (named hv 0) ∙ get_or-map f oldest t (0, []) in
+          cc (named hv 0, get_or-map (λ (e : Entry). e.0) oldest t (0, [])) in
           let whole : IsWhole log.shape old.content log.head oldest = rw add-zero at ((hv.stores live).stored.keeps.whole 0 waits) in
-          let from : ℕ = slot_at L log.shape log.head + first_data_of log.shape.format + t in
-          let begins = first_kept log.firsts 0 t in
           let copies = rw number at (next.home (omega (arith, below, is.owed_most))) in
-          let brought = begun_is log.shape.format log.shape old.content log.head oldest whole t inside begins
-          (kept_is log.shape.format view.records view.under_way log.firsts hv.firsts 0 t waits inside) (old.content from) refl in
+          let brought = begun_is log.shape.format log.shape old.content log.head oldest whole t inside _
+          (kept_is log.shape.format view.records view.under_way log.firsts hv.firsts 0 t waits inside) _ refl in
           (rw brought at (rw copies at adds), λ done. rw brought at (rw copies at done))
 
       hides : Hides view.records block.0
@@ -184,9 +168,7 @@ module _ {log : LogValue} (is : IsLog log) (live : log.dead ≡ false) (owed : 0
       home_each ours mid gains not = each_write _ _ old mid to block.1 sound gains (hv.guards live ours)
           (λ image g. same_head g g.safe (λ one. absurd (not one)))
           (λ before image write g. same_head g
-          (Guarded-kept L laws (front g) is.sized.behind fit write (λ low. omega arith) g.stamp _ refl
-          (KeepsView-home L laws (front g) is.sized.behind fit block.0 (hides_behind g.passed view.records block.0 hides) write)
-          g.safe)
+          ((kept_home L laws (front g) is.sized.behind fit block.0 (hides_behind g.passed view.records block.0 hides) write).guarded g.safe)
           (λ one. absurd (not one)))
 
       home_held : (ahead : Ahead) → needed_of (record log { retire_steps_left = log.retire_steps_left - 1; ahead = ahead }) ≢ 1
@@ -197,16 +179,13 @@ module _ {log : LogValue} (is : IsLog log) (live : log.dead ≡ false) (owed : 0
           let write = brings.1 done in
           goes_on hv is log.steps_left (log.retire_steps_left - 1) ahead new (omega arith) same_size live
           (record {
-            stored = Stored-kept L laws v is.sized.behind fit write (λ low. omega arith) log.head view.records refl
-                (KeepsView-home L laws v is.sized.behind fit block.0 hides write) s.stored;
+            stored = (kept_home L laws v is.sized.behind fit block.0 hides write).stored s.stored;
             copied = λ j low high.
-                let f : Entry → ℕ = λ e. e.0 in
-                let rising : IsRising (numbers_of oldest) = subst IsRising (named hv 0) (is.each 0 [] (one_waits is owed)).rising in
-                let up = rising j (turned_of log) in
-                let long = length-map oldest f in
-                let number = λ (i : ℕ). get_or-map f oldest i (0, []) in
+                let up = (rw (named hv 0) at (is.each 0 [] (one_waits is owed)).rising) j (turned_of log) in
+                let number = λ (i : ℕ). get_or-map (λ (e : Entry). e.0) oldest i (0, []) in
+                let long = length-map oldest (λ (e : Entry). e.0) in
                 let less : j ≤ turned_of log = omega (arith, low, below, is.owed_most) in
-                grind (arith, cases_eq j (turned_of log), write.here, write.elsewhere, s.copied j, up, long, number j, number (turned_of log), inside);
+                grind (arith, cases_eq j (turned_of log), write, s.copied j, up, long, number j, number (turned_of log), inside);
           })
           (λ ours. home_each ours new brings.0.sets not)
 
@@ -256,7 +235,7 @@ module _ {log : LogValue} (is : IsLog log) (live : log.dead ≡ false) (owed : 0
           let wrote = rw head at done in
           retired_held one h stamp new then stepped (past_held one h stamp new same_size wrote.0 (λ ours.
           let both = content_has _ old sound (one_now one h stamp new ours) in
-          each_flush _ new.content new wrote.1 (with_newest (past_safe one h stamp new both.1 wrote.0 both.0)
+          each_flush _ new.content new wrote.1 (with_newest ((past one h stamp new both.1 wrote.0).guarded both.0)
           (λ is. absurd (needs_more one h stamp new is))))))
 
       -- so it does ahead

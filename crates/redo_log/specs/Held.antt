@@ -1,7 +1,6 @@
 -- What a log and its medium hold together.
-use Rattle.std.specs.Prelude.{◌≡◌, ◌⊎◌, ℕ, ◌+◌, ◌-◌, ◌≤◌, ◌<◌, List, [], ◌∷◌, ◌++◌, length}
-use Rattle.std.specs.Prelude.{get_or, drop, map, All, Bool, true, false, if◌then◌else◌}
-use Rattle.std.specs.Prelude.{◌==◌}
+use Rattle.std.specs.Prelude.{◌≡◌, ◌⊎◌, ℕ, ◌+◌, ◌-◌, ◌≤◌, ◌<◌, List, [], ◌∷◌, ◌++◌, length, get_or}
+use Rattle.std.specs.Prelude.{drop, map, All, Bool, true, false, if◌then◌else◌, ◌==◌}
 use Rattle.medium.specs.Medium.{State, Image}
 use Rattle.medium.specs.Moments.{EachCut}
 use Rattle.spec.specs.Blocks.{Array}

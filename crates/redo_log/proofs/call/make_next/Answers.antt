@@ -6,7 +6,7 @@ use Rattle.journal.proofs.BatchEntries.{length_of_batch}
 use Rattle.journal.proofs.Formats.{laws_of, most_is}
 use Rattle.redo_log.specs.Shown.{written_at}
 use Rattle.redo_log.specs.Calls.{Write, Flush}
-use Rattle.redo_log.proofs.OneSector.{before_home}
+use Rattle.redo_log.proofs.HeldLog.{before_home}
 use Rattle.redo_log.proofs.LogRules.{sizes_sized}
 use Rattle.redo_log.proofs.RecordSteps.{flush_makes}
 use Rattle.redo_log.proofs.call.make_next.Goals as goal

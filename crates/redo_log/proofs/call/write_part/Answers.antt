@@ -2,7 +2,7 @@ use Rattle.std.proofs.Common.{◌≡◌, ◌+◌, ◌-◌, ◌<◌, length, arit
 use Rattle.journal.specs.Formats.{shape_of, layout_of}
 use Rattle.journal.specs.Layout.{part_at}
 use Rattle.journal.proofs.Formats.{laws_of, most_is}
-use Rattle.redo_log.proofs.OneSector.{before_home}
+use Rattle.redo_log.proofs.HeldLog.{before_home}
 use Rattle.redo_log.proofs.LogRules.{sizes_sized}
 use Rattle.redo_log.proofs.RecordSteps.{parts_more, data_offset, data_part}
 use Rattle.redo_log.proofs.call.write_part.Given as given

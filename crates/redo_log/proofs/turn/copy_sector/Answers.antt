@@ -1,7 +1,7 @@
 use Rattle.std.proofs.Common.{◌≡◌, inl, inr, ⊎_elim, rules}
 use Rattle.medium.proofs.SectorsRead.{write_looks, looks_joined}
 use Rattle.redo_log.specs.Turns.{begun_with}
-use Rattle.redo_log.proofs.OneSector.{two_calls}
+use Rattle.redo_log.proofs.HeldLog.{two_calls}
 use Rattle.redo_log.proofs.turn.copy_sector.Goals as goal
 
 pub returns-clause-writes : goal.returns-clause-writes

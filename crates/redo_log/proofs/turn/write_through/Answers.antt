@@ -1,5 +1,5 @@
 use Rattle.std.proofs.Common.{◌∙◌, rules}
-use Rattle.redo_log.proofs.OneSector.{two_calls}
+use Rattle.redo_log.proofs.HeldLog.{two_calls}
 use Rattle.redo_log.proofs.turn.write_through.Goals as goal
 
 pub returns-clause-writes : goal.returns-clause-writes

@@ -12,7 +12,7 @@ use Rattle.redo_log.specs.Shown.{shown, lists_of}
 use Rattle.redo_log.proofs.RecordSteps.{step_flushed}
 use Rattle.redo_log.proofs.LogRules.{log_is, many_lists}
 use Rattle.redo_log.proofs.HeldLog.{dead_held}
-use Rattle.redo_log.proofs.RecordTurns.{step_leaves, counted_held, counted_whole}
+use Rattle.redo_log.proofs.StoreFacts.{step_leaves, counted_held, counted_whole}
 use Rattle.redo_log.proofs.log.Log.make_call.Goals as goal
 
 no_read : (call : Call) → fault_of call ≢ fault.Read

@@ -5,7 +5,7 @@ use Rattle.medium.proofs.SectorsRead.{no_looks}
 use Rattle.medium.proofs.SparedSectors.{spared_write}
 use Rattle.redo_log.specs.Value.{of_oldest}
 use Rattle.redo_log.specs.Held.{View, HoldsView}
-use Rattle.redo_log.proofs.OneSector.{one_write}
+use Rattle.redo_log.proofs.HeldLog.{one_write}
 use Rattle.redo_log.proofs.RecordSteps.{either_way}
 use Rattle.redo_log.proofs.LogRules.{log_is}
 use Rattle.redo_log.proofs.HeldLog.{dead_held}
