@@ -26,7 +26,7 @@ returns g c =
     let new = g.M.Medium.state c.make_next.new.m in
     let sound = g.met.M.Medium.sound c.args.m.now in
     let is = log_is i c.self.view_is c.self.invariant in
-    let ring = rw c.in-Some.is at c.self.invariant.ring.record_under_way in
+    let ring = rw c.in-Some.is at c.self.invariant.record_under_way in
     let made_is : c.in-Some.made ≡ made_of (shown i) = rw c.in-Some.is (grind (arith, nat_tests, ring.1)) in
     let stamp : i.head + c.len.result ≡ i.head + length (lists_of i.waiting.items) =
     omega (arith, c.len.ensures, many_lists i.waiting.items) in

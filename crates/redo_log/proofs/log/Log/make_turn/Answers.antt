@@ -11,14 +11,13 @@ use Rattle.redo_log.proofs.log.Log.make_turn.Goals as goal
 
 pub returns-clause-brings : goal.returns-clause-brings
 returns-clause-brings g c =
-    let fields = c.oldest_turn.ensures.fields in
     let log = c.args.self.now in
     let new = g.M.Medium.state c.make.new.m in
     let sound = g.met.M.Medium.sound c.args.m.now in
     let turn = c.oldest_turn.result in
     let next = c.oldest_turn.ensures.next in
     let made = c.make.ensures.makes in
-    let is = log_is fields.inside fields.view_is fields.invariant in
+    let is = log_is _ c.oldest_turn.ensures.fields.1 c.oldest_turn.ensures.fields.2 in
     let live = c.requires.on.live in
     let cuts = λ (view : View) (holds : HoldsView log (g.M.Medium.state c.args.m.now) view). turn_leaves is live c.requires.owed sound holds turn
     next.next new made.adds in
@@ -40,9 +39,8 @@ returns-clause-brings g c =
 
 pub returns-clause-sent : goal.returns-clause-sent
 returns-clause-sent g c away view holds then home =
-    let fields = c.oldest_turn.ensures.fields in
     on_ok_weaker c.make.result
-    (λ done. sent_held (log_is fields.inside fields.view_is fields.invariant) c.requires.on.live c.requires.owed
+    (λ done. sent_held (log_is _ c.oldest_turn.ensures.fields.1 c.oldest_turn.ensures.fields.2) c.requires.on.live c.requires.owed
     (g.met.M.Medium.sound c.args.m.now) holds c.oldest_turn.result c.oldest_turn.ensures.next.next (g.M.Medium.state c.make.new.m)
     c.make.ensures.makes.adds c.make.ensures.counts.size done then away home)
     c.make.ensures.makes.done

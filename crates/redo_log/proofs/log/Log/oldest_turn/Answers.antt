@@ -8,7 +8,7 @@ pub next_turn-requires-clause-record : goal.next_turn-requires-clause-record
 next_turn-requires-clause-record c =
     let i = c.self.inside in
     let some : 0 < length i.waiting.items = search rules in
-    let each = rw (front i c.self.view_is c.in-Some.oldest.now some c.in-Some.ensures.lookup) at c.self.invariant.ring.each in
+    let each = rw (front i c.self.view_is c.in-Some.oldest.now some c.in-Some.ensures.lookup) at c.self.invariant.each in
     record {
       least = c.self.invariant.least;
       most = omega (arith, some, c.self.invariant.most);
@@ -23,4 +23,4 @@ returns-clause-next c =
     rw (← c.self.view_is, ← turned, all) (rw c.as_slice-numbers.ensures.value at c.next_turn.ensures)
 
 pub returns-clause-fields : goal.returns-clause-fields
-returns-clause-fields c = record { inside = c.self.inside; view_is = c.self.view_is; invariant = c.self.invariant }
+returns-clause-fields c = (c.self.inside, c.self.view_is, c.self.invariant)
