@@ -25,12 +25,6 @@ invariant_of-self-2 c =
     let longer = rw (← waiting) at (length-append records (i.under_way.items ∷ [])) in
     search (rules, arith)
 
-pub enter_record-requires-clause-numbers : goal.enter_record-requires-clause-numbers
-enter_record-requires-clause-numbers c =
-    let ring = rw c.in-Some.is at c.self.invariant in
-    let inside = rw (← (rw (← c.self.view_is) at c.requires.1)) at ring.record_under_way.0 in
-    search rules
-
 pub enter_record-requires-clause-fits : goal.enter_record-requires-clause-fits
 enter_record-requires-clause-fits c =
     let i = c.self.inside in
