@@ -7,10 +7,10 @@ use Rattle.journal.specs.Places.{Shape}
 use Rattle.journal.specs.Standing.{StandsFor, IsOurs, HasShape}
 use Rattle.journal.specs.declared.super_sector.Super.{Super}
 use Rattle.recovery.specs.Causes.{IsCause, IsDeviceFault}
-use Rattle.recovery.specs.Copies.{most_start_of}
+use Rattle.recovery.specs.Calls.{most_start_of}
 use Rattle.recovery.specs.Recovered.{IsRecoveredFrom, IsOursForSome, IsOursWithNext, StandsForOneOf}
 use Rattle.recovery.specs.Recovered.{RecoverySends, SparesTheRest}
-use Rattle.recovery.specs.Looks as recovery
+use Rattle.recovery.specs.Calls as recovery
 use Rattle.recovery.specs.declared.recovered.Recovered.{Recovered}
 use Rattle.recovery.specs.declared.start_fault.StartFault.{StartFault}
 use Rattle.recovery.specs.declared.start_fault.StartFault.TheVariants.{NoMemory}

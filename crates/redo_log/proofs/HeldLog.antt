@@ -30,7 +30,7 @@ use Rattle.redo_log.specs.Steps.{LeavesLog}
 use Rattle.redo_log.proofs.RecordSteps.{all_flushed, none_written, steps_are, one_left}
 use Rattle.redo_log.proofs.LogRules.{needed_one, IsLog, made_is, none_made}
 use Rattle.std.proofs.lemmas.Nat.{mod_below}
-use Rattle.journal.proofs.Apart.{in_log}
+use Rattle.journal.proofs.Wholeness.{in_log}
 use Rattle.redo_log.specs.Calls.{gaining, WritesOnly}
 
 -- the records of a view stand in slots of their own

@@ -94,8 +94,8 @@ module _ (i : Inside) {log : LogValue} (is : shown i ≡ log) where
   log_is inv =
       let record_is : 0 < (shown i).steps_left
       → IsRecord (shown i).shape (i.head + length (shown i).waiting) i.under_way.items =
-      λ some. grind (arith, inv.ring.each, many_lists i.waiting.items) in
-      rw (← is) (grind (arith, inv.ring.each, many_lists i.waiting.items, record_is, sizes_sized i.sizes))
+      λ some. grind (arith, inv.each, many_lists i.waiting.items) in
+      rw (← is) (grind (arith, inv.each, many_lists i.waiting.items, record_is, sizes_sized i.sizes))
 
   -- a record stands in front
   module _ (first : ArrayVec ℕ) (some : 0 < length i.waiting.items) (there : first ≡ slice_index_or i.waiting.items 0 first) where

@@ -4,7 +4,7 @@ use Rattle.std.proofs.Common.{zero, suc, get_or, refl, sym, ◌∙◌, Result}
 use Rattle.std.proofs.lemmas.Bool.Decides.{nat_tests}
 use Rattle.journal.specs.declared.log_format.LogFormat.{LogFormat}
 use Rattle.journal.specs.declared.log_format.LogFormat.TheVariants.{One, Two}
-use Rattle.journal.specs.Places.{limit_of, first_data_of}
+use Rattle.journal.specs.Places.{limit_of, first_data_of, first_home, sectors_of}
 use Rattle.journal.specs.Layout.{Layout}
 use Rattle.journal.specs.Formats.{layout_of}
 use Rattle.journal.proofs.Format1Laws.{below_is, above_is}
@@ -12,9 +12,11 @@ use Rattle.redo_log.specs.Value.{steps_for, most_steps, LogValue, of_oldest, nex
 use Rattle.redo_log.specs.Value.{sends_of_oldest, most_retire_sends, next_turn_flushes, step_flushes, next_step_flushes}
 use Rattle.redo_log.specs.Shown.{flush_of, written_at, flushed_at}
 use Rattle.redo_log.specs.Calls.{IsFlushDue, Write, Flush, placed, MakesCall, CallsUpTo, Call, fault_of, IsNextCall}
-use Rattle.std.specs.Prelude.{slice_range, OnOk, OnErr}
+use Rattle.std.specs.Prelude.{slice_range, OnOk, OnErr, true}
 use Rattle.std.proofs.lemmas.Result.{on_ok_weaker}
-use Rattle.medium.specs.Medium.{State, Stays, Holds, Within, Gains, Only, Passes, IsSound}
+use Rattle.medium.specs.Medium.{State, Stays, Holds, Within, Gains, Only, Passes, IsSound, LooksOnly}
+use Rattle.medium.specs.Moments.{LeavesOnly, SparesFrom}
+use Rattle.medium.proofs.Moments.{weaker}
 use Rattle.medium.specs.declared.fault.MediumFault.{MediumFault}
 use Rattle.medium.specs.declared.fault.MediumFault.TheVariants as fault
 use Rattle.medium.proofs.SparedSectors.{spared_write, spared_silent}
@@ -24,8 +26,8 @@ use Rattle.journal.proofs.Format1Laws as layout
 use Rattle.journal.specs.declared.head.Head.{Head as HeadOf}
 use Rattle.redo_log.specs.declared.turn.Turn.{Turn}
 use Rattle.redo_log.specs.declared.turn.Turn.TheVariants.{Copy, Flush, Head}
-use Rattle.redo_log.specs.Steps.{CountsStep}
-use Rattle.redo_log.specs.Held.{turned_of, made_of}
+use Rattle.redo_log.specs.Steps.{CountsStep, LeavesLog}
+use Rattle.redo_log.specs.Held.{View, HoldsView, MayLeave, turned_of, made_of}
 use Rattle.redo_log.specs.Turns.{counts_of, IsHeadTurn, IsNextTurn}
 use Rattle.redo_log.proofs.LogRules.{IsLog, made_is}
 use Rattle.std.proofs.lemmas.List.{get_or_past}
@@ -33,6 +35,12 @@ use Rattle.std.proofs.lemmas.List.{get_or_past}
 -- a good write holds the bytes, and a refused one may
 pub either_way : {P Q : Type 0} (result : Result (Unit {0}) MediumFault) → OnOk result P → OnErr result (Q ⊎ P) → Q ⊎ P
 either_way result ok err = grind (arith, ok, err)
+
+-- what steps of a log leave, by what a cut leaves of it
+pub leaves_log : {log : LogValue} {old new : State} → ((view : View) → HoldsView log old view → view.ours ≡ true
+    → LeavesOnly (MayLeave old.size log view) old new) → SparesFrom (sectors_of log.shape) old new
+    → LooksOnly (λ s. s < first_home log.shape) old new → LeavesLog log old new
+leaves_log cuts spares looks = let moments = weaker _ (λ _. Unit {0}) _ _ (λ image left. tt) spares.moments in search rules
 
 -- a write, good or refused
 pub write_makes : (place : ℕ) (bytes written : List ℕ) (old new : State) (result : Result (Unit {0}) MediumFault) → IsSound old

@@ -15,9 +15,9 @@ use Rattle.journal.specs.Layout.{Layout, slot_at, Laws}
 use Rattle.journal.specs.Formats.{layout_of, IsWhole}
 use Rattle.journal.specs.Staged.{IsHomed, with_less}
 use Rattle.journal.specs.Staged as staged
-use Rattle.journal.proofs.CopiedBlock.{begun_is}
+use Rattle.journal.proofs.SectorsRead.{begun_is}
 use Rattle.journal.proofs.Formats.{laws_of, most_is}
-use Rattle.journal.proofs.Overlay.{records-hide}
+use Rattle.journal.proofs.Wholeness.{records-hide}
 use Rattle.journal.proofs.Engine.{IsWholeIn-same, IsKept, kept_home, kept_head, HasSlots-less}
 use Rattle.redo_log.specs.declared.turn.Turn.{Turn}
 use Rattle.redo_log.specs.declared.turn.Turn.TheVariants.{Flush, Head}

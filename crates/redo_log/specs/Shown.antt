@@ -98,19 +98,6 @@ IsUnderWay shape numbers None = numbers ≡ []
 IsUnderWay shape numbers (Some made) =
     AreInside shape numbers × (made < steps_for shape.format (length numbers))
 
--- the record that went home ahead is retired, or it is the oldest one, whose blocks are home
-abbrev pub IsAheadOf : Ahead → ℕ → List (List ℕ) → ℕ → Type 0
-IsAheadOf ahead head waiting turned = (ahead.home < head)
-    ⊎ ((ahead.home ≡ head) × (0 < length waiting) × (length (get_or waiting 0 []) ≤ turned))
-
--- the records of a log of this shape
-pub record IsRing (shape : Shape) (waiting : List (List ℕ)) (turned : ℕ) (under_way : List ℕ)
-    (writing : Option ℕ) : Type 0 where
-  pub each : All (AreInside shape) waiting
-  pub fits : length waiting + begun_at writing ≤ shape.slots
-  pub oldest : IsOldest waiting turned
-  pub record_under_way : IsUnderWay shape under_way writing
-
 -- ---- a log's fields
 
 -- the block numbers of each of these records, or the first bytes of its blocks
@@ -121,14 +108,10 @@ lists_of records = map (λ r. r.items) records
 abbrev pub ahead_in : Inside → Ahead
 ahead_in log = record { home = log.homed; before = log.before }
 
--- the first bytes that are kept
-abbrev pub kept_in : Inside → AllFirsts
-kept_in log = lists_of log.firsts.items
-
 -- what a caller sees of the fields
 abbrev pub shown : Inside → LogValue
 shown log = value_at (ahead_in log) (shape_of log.sizes) log.head (lists_of log.waiting.items)
-    log.turned (kept_in log) log.under_way.items log.made log.dead
+    log.turned (lists_of log.firsts.items) log.under_way.items log.made log.dead
 
 -- what is true of the fields of every log
 pub record Invariant (log : Inside) : Type 0 where
@@ -139,12 +122,10 @@ pub record Invariant (log : Inside) : Type 0 where
   pub firsts_few : length log.firsts.items ≤ length log.waiting.items + begun_at log.made
   pub index_room : limit_of log.sizes.format * log.sizes.slots ≤ vec_capacity log.index
   pub index_is : IsIndex log.sizes.slots log.head (lists_of log.waiting.items) log.index.items
-  pub ring : IsRing (shape_of log.sizes) (lists_of log.waiting.items) log.turned
-      log.under_way.items log.made
-  pub ahead_is : IsAheadOf (ahead_in log) log.head (lists_of log.waiting.items) log.turned
-
--- a caller sees this of the fields of some log
-pub record IsShown (log : LogValue) : Type 0 where
-  pub inside : Inside
-  pub view_is : shown inside ≡ log
-  pub invariant : Invariant inside
+  pub each : All (AreInside (shape_of log.sizes)) (lists_of log.waiting.items)
+  pub fits : length (lists_of log.waiting.items) + begun_at log.made ≤ log.sizes.slots
+  pub oldest : IsOldest (lists_of log.waiting.items) log.turned
+  pub record_under_way : IsUnderWay (shape_of log.sizes) log.under_way.items log.made
+  -- the record that went home ahead is retired, or it is the oldest one, whose blocks are home
+  pub ahead_is : (log.homed < log.head) ⊎ ((log.homed ≡ log.head) × (0 < length log.waiting.items)
+      × (length (get_or (lists_of log.waiting.items) 0 []) ≤ log.turned))

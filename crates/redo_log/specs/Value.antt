@@ -21,9 +21,6 @@ pub record Ahead : Type 0 where
   -- the stamp of the record that was to become durable next: its flush covers the blocks
   pub before : ℕ
 
-abbrev pub nothing_ahead : Ahead
-nothing_ahead = record { home = 0; before = 0 }
-
 -- the first 8 bytes of each block of some records
 abbrev pub AllFirsts : Type 0
 AllFirsts = List (List (List ℕ))
@@ -63,7 +60,7 @@ idle_from shape next = record {
   steps_left = 0;
   retire_steps_left = 0;
   firsts = [];
-  ahead = nothing_ahead;
+  ahead = record { home = 0; before = 0 };
   dead = false;
 }
 

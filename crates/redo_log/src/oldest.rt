@@ -3,7 +3,8 @@ ghost use Rattle.std.specs.Prelude.{◌≡◌, ◌+◌, ◌<◌, length, get_or,
 ghost use Rattle.redo_log.specs.Value.{next_calls, next_sends, of_oldest, IsAway, IsSentHome};
 ghost use Rattle.redo_log.specs.Value.{CanPass, IsRetireStepped, next_turn_flushes};
 ghost use Rattle.redo_log.specs.Held.{turned_of};
-ghost use Rattle.redo_log.specs.Shown.{IsShown};
+ghost use Rattle.redo_log.specs.Shown.{shown, Invariant};
+ghost use Rattle.redo_log.specs.declared.log.Log.TheInside.{Inside};
 ghost use Rattle.redo_log.specs.Steps.{CountsStep, IsOn, BringsOn, StaysSent};
 ghost use Rattle.redo_log.specs.Turns.{StaysInImage, IsNextTurn};
 
@@ -20,7 +21,7 @@ impl Log {
         ensures next { StaysInImage (IsNextTurn self.now.shape self.now.head
             (get_or self.now.waiting 0 []) self.now.firsts (turned_of self.now) result)
             self.now.shape result }
-        ensures fields { IsShown self.now }
+        ensures fields { (inside : Inside) × (shown inside ≡ self.now) × Invariant inside }
     {
         let Some(oldest) = self.waiting.front() else {
             unreachable!()

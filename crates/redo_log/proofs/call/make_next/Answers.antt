@@ -11,9 +11,6 @@ use Rattle.redo_log.proofs.LogRules.{sizes_sized}
 use Rattle.redo_log.proofs.RecordSteps.{flush_makes}
 use Rattle.redo_log.proofs.call.make_next.Goals as goal
 
-pub write_part-requires-clause-inside : goal.write_part-requires-clause-inside
-write_part-requires-clause-inside g c = grind (arith, c.parts.ensures, c.is_flush_due.ensures, c.if-is_flush_due.false)
-
 pub returns-then-is_flush_due-clause-makes : goal.returns-then-is_flush_due-clause-makes
 returns-then-is_flush_due-clause-makes g c =
     let due = rw (c.written_at-written.ensures, c.early-early.ensures, c.parts.ensures) at c.is_flush_due.ensures in

@@ -1,5 +1,4 @@
-use Rattle.std.proofs.Common.{◌≡◌, inl, inr, ⊎_elim, rules}
-use Rattle.medium.proofs.SectorsRead.{write_looks, looks_joined}
+use Rattle.std.proofs.Common.{inl, inr, ⊎_elim, rules}
 use Rattle.redo_log.specs.Turns.{begun_with}
 use Rattle.redo_log.proofs.HeldLog.{two_calls}
 use Rattle.redo_log.proofs.turn.copy_sector.Goals as goal
@@ -13,6 +12,3 @@ returns-clause-writes g c =
     (g.M.Medium.state c.read.new.self) (g.M.Medium.state c.write.new.self) c.read.ensures.passes c.write.ensures.passes
     (λ s b left. inl (within s b left)) (λ s b left. ⊎_elim (λ was. inl (within s b was)) inr (gains s b left)) in
     search rules
-
-pub returns-clause-looks : goal.returns-clause-looks
-returns-clause-looks g c = looks_joined (λ s. s ≡ c.args.from) _ _ _ c.read.ensures.follows.1 (write_looks _ _ _ c.write.ensures.passes)

@@ -1,4 +1,4 @@
-use Rattle.std.proofs.Common.{◌∙◌, rules}
+use Rattle.std.proofs.Common.{rules}
 use Rattle.redo_log.proofs.HeldLog.{two_calls}
 use Rattle.redo_log.proofs.turn.write_through.Goals as goal
 
@@ -8,9 +8,3 @@ returns-clause-writes g c =
     (g.M.Medium.state c.write.new.self) (g.M.Medium.state c.flush.new.self) c.write.ensures.passes c.flush.ensures.passes
     c.write.ensures.sets (λ s b left. c.write.ensures.sets s b (c.flush.ensures.sets s b left)) in
     search rules
-
-pub returns-in_err-write-clause-looks : goal.returns-in_err-write-clause-looks
-returns-in_err-write-clause-looks g c = c.write.ensures.passes.looked_stays (λ e. cc e)
-
-pub returns-clause-looks : goal.returns-clause-looks
-returns-clause-looks g c = c.flush.ensures.passes.looked_stays (λ e. cc e) ∙ c.write.ensures.passes.looked_stays (λ e. cc e)

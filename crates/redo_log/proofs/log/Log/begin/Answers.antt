@@ -15,8 +15,3 @@ returns c = record {
       let none = ap (λ (l : List ℕ). retire_steps_of l) (rw (← c.self.view_is) at c.requires.room.none_under_way) in
       rw (← c.self.view_is, c.numbers_of-self-inside.ensures) (omega (arith, owed, none));
 }
-
-pub invariant_of-self-2 : goal.invariant_of-self-2
-invariant_of-self-2 c =
-    let numbers = rw (← c.numbers_of-self-inside.ensures, ← c.self.view_is) at c.requires.batch in
-    search (rules, arith)

@@ -1,15 +1,14 @@
 use Rattle.std.proofs.Common.{◌≡◌, ◌≢◌, ◌+◌, length, arith, rules}
 use Rattle.std.proofs.lemmas.Bool.Decides.{nat_tests}
 use Rattle.medium.specs.declared.fault.MediumFault.TheVariants as fault
-use Rattle.medium.proofs.Moments.{one_call}
 use Rattle.medium.proofs.SectorsRead.{no_looks}
 use Rattle.medium.proofs.SparedSectors.{spared_behind}
 use Rattle.journal.specs.Places.{first_home}
 use Rattle.journal.specs.Record.{entries_of}
 use Rattle.redo_log.specs.Calls.{Call, MakesNext, fault_of}
-use Rattle.redo_log.specs.Held.{View, HoldsView, made_of}
+use Rattle.redo_log.specs.Held.{made_of}
 use Rattle.redo_log.specs.Shown.{shown, lists_of}
-use Rattle.redo_log.proofs.RecordSteps.{step_flushed}
+use Rattle.redo_log.proofs.RecordSteps.{step_flushed, leaves_log}
 use Rattle.redo_log.proofs.LogRules.{log_is, many_lists}
 use Rattle.redo_log.proofs.HeldLog.{dead_held}
 use Rattle.redo_log.proofs.StoreFacts.{step_leaves, counted_held, counted_whole}
@@ -26,7 +25,7 @@ returns g c =
     let new = g.M.Medium.state c.make_next.new.m in
     let sound = g.met.M.Medium.sound c.args.m.now in
     let is = log_is i c.self.view_is c.self.invariant in
-    let ring = rw c.in-Some.is at c.self.invariant.ring.record_under_way in
+    let ring = rw c.in-Some.is at c.self.invariant.record_under_way in
     let made_is : c.in-Some.made ≡ made_of (shown i) = rw c.in-Some.is (grind (arith, nat_tests, ring.1)) in
     let stamp : i.head + c.len.result ≡ i.head + length (lists_of i.waiting.items) =
     omega (arith, c.len.ensures, many_lists i.waiting.items) in
@@ -36,20 +35,15 @@ returns g c =
     let live = c.requires.on.live in
     let some = c.requires.under_way in
     let bytes = c.args.bytes.now in
-    let cuts = λ (view : View) (holds : HoldsView log old view).
-    step_leaves is live some sound holds bytes c.requires.numbers c.requires.bytes here in
+    let left = leaves_log (λ view holds. step_leaves is live some sound holds bytes c.requires.numbers c.requires.bytes here)
+    (spared_behind _ _ _ _ (omega arith) (made.spares (first_home log.shape) here.inside))
+    (no_looks _ _ _ (made.passes.looked_stays (no_read here.call))) in
     record {
       passes =
           let flushed = step_flushed is some bytes c.requires.numbers c.requires.bytes here.call here.next made.passes in
           search rules;
-      leaves = record {
-        cuts = cuts;
-        moments = one_call _ _ _ sound made.passes (λ image cut. tt) (λ image cut. tt);
-        spares = spared_behind _ _ _ _ (omega arith)
-            (made.spares (first_home log.shape) here.inside);
-        looks = no_looks _ _ _ (made.passes.looked_stays (no_read here.call));
-      };
-      dead = λ view holds. dead_held holds _ (g.met.M.Medium.sound c.make_next.new.m) made.passes.size_stays (cuts view holds);
+      leaves = left;
+      dead = λ view holds. dead_held holds _ (g.met.M.Medium.sound c.make_next.new.m) made.passes.size_stays (left.cuts view holds);
       counted = λ view holds entries progress then stepped.
           counted_held is live some sound holds bytes c.requires.numbers c.requires.bytes here entries then progress stepped;
       durable = λ view holds entries ours then stepped.

@@ -1,9 +1,7 @@
 use Rattle.std.proofs.Common.{rules}
 use Rattle.std.proofs.lemmas.Result.{on_ok_weaker}
-use Rattle.medium.proofs.Moments.{weaker}
-use Rattle.journal.specs.Places.{first_home, sectors_of}
-use Rattle.redo_log.specs.Held.{View, HoldsView}
-use Rattle.redo_log.proofs.RecordSteps.{counts_next}
+use Rattle.journal.specs.Places.{first_home}
+use Rattle.redo_log.proofs.RecordSteps.{counts_next, leaves_log}
 use Rattle.redo_log.proofs.LogRules.{log_is}
 use Rattle.redo_log.proofs.HeldLog.{dead_held}
 use Rattle.redo_log.proofs.RetireTurns.{turn_leaves, stepped_held, sent_held}
@@ -11,28 +9,21 @@ use Rattle.redo_log.proofs.log.Log.make_turn.Goals as goal
 
 pub returns-clause-brings : goal.returns-clause-brings
 returns-clause-brings g c =
-    let fields = c.oldest_turn.ensures.fields in
     let log = c.args.self.now in
     let new = g.M.Medium.state c.make.new.m in
     let sound = g.met.M.Medium.sound c.args.m.now in
     let turn = c.oldest_turn.result in
     let next = c.oldest_turn.ensures.next in
     let made = c.make.ensures.makes in
-    let is = log_is fields.inside fields.view_is fields.invariant in
+    let is = log_is _ c.oldest_turn.ensures.fields.1 c.oldest_turn.ensures.fields.2 in
     let live = c.requires.on.live in
-    let cuts = λ (view : View) (holds : HoldsView log (g.M.Medium.state c.args.m.now) view). turn_leaves is live c.requires.owed sound holds turn
-    next.next new made.adds in
     let size = c.make.ensures.counts.size in
-    let spares = made.spares (sectors_of log.shape) next.inside in
+    let left = leaves_log (λ view holds. turn_leaves is live c.requires.owed sound holds turn next.next new made.adds)
+    (made.spares _ next.inside) (c.make.ensures.looks (first_home log.shape) next.reads) in
     record {
       passes = let calls = counts_next is c.requires.owed turn next.next c.make.ensures.counts in search rules;
-      leaves = record {
-        cuts = cuts;
-        moments = weaker _ _ _ _ (λ image left. tt) spares.moments;
-        spares = spares;
-        looks = c.make.ensures.looks (first_home log.shape) next.reads;
-      };
-      dead = λ view holds. dead_held holds _ (g.met.M.Medium.sound c.make.new.m) size (cuts view holds);
+      leaves = left;
+      dead = λ view holds. dead_held holds _ (g.met.M.Medium.sound c.make.new.m) size (left.cuts view holds);
       counted = λ view holds then stepped.
           on_ok_weaker c.make.result
           (λ done. stepped_held is live c.requires.owed sound holds turn next.next new made.adds size done then stepped) made.done;
@@ -40,9 +31,8 @@ returns-clause-brings g c =
 
 pub returns-clause-sent : goal.returns-clause-sent
 returns-clause-sent g c away view holds then home =
-    let fields = c.oldest_turn.ensures.fields in
     on_ok_weaker c.make.result
-    (λ done. sent_held (log_is fields.inside fields.view_is fields.invariant) c.requires.on.live c.requires.owed
+    (λ done. sent_held (log_is _ c.oldest_turn.ensures.fields.1 c.oldest_turn.ensures.fields.2) c.requires.on.live c.requires.owed
     (g.met.M.Medium.sound c.args.m.now) holds c.oldest_turn.result c.oldest_turn.ensures.next.next (g.M.Medium.state c.make.new.m)
     c.make.ensures.makes.adds c.make.ensures.counts.size done then away home)
     c.make.ensures.makes.done

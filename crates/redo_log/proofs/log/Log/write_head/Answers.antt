@@ -1,16 +1,13 @@
-use Rattle.std.proofs.Common.{◌≡◌, ◌+◌, ◌<◌, arith}
+use Rattle.std.proofs.Common.{◌≡◌, ◌+◌, ◌<◌, arith, rules}
 use Rattle.std.proofs.lemmas.Result.{on_ok_weaker}
-use Rattle.medium.proofs.Moments.{one_call}
 use Rattle.medium.proofs.SectorsRead.{no_looks}
 use Rattle.medium.proofs.SparedSectors.{spared_write}
 use Rattle.redo_log.specs.Value.{of_oldest}
-use Rattle.redo_log.specs.Held.{View, HoldsView}
 use Rattle.redo_log.proofs.HeldLog.{one_write}
-use Rattle.redo_log.proofs.RecordSteps.{either_way}
+use Rattle.redo_log.proofs.RecordSteps.{either_way, leaves_log}
 use Rattle.redo_log.proofs.LogRules.{log_is}
 use Rattle.redo_log.proofs.HeldLog.{dead_held}
 use Rattle.redo_log.proofs.RetireTurns.{head_leaves, retired_held, ahead_held}
-use Rattle.std.proofs.lemmas.Grind.{common_steps}
 use Rattle.redo_log.proofs.log.Log.write_head.Goals as goal
 
 pub returns : goal.returns
@@ -26,17 +23,13 @@ returns g c =
     let stamp : h.stamp ≡ log.head + 1 = rw (← c.self.view_is) c.new.ensures in
     let passes = c.write.ensures.passes in
     let adds = rw c.encode.ensures.spelled at (one_write 1 c.encode.result _ sound _ passes c.write.ensures.sets) in
-    let cuts = λ (view : View) (holds : HoldsView log (g.M.Medium.state c.args.m.now) view). head_leaves is live owed sound holds one h stamp _ adds in
+    let left = leaves_log (λ view holds. head_leaves is live owed sound holds one h stamp _ adds)
+    (spared_write _ _ _ _ _ sound (omega (arith, is.sized.behind)) passes c.write.ensures.sets
+    (either_way c.write.result c.write.ensures.ok c.write.ensures.err)) (no_looks _ _ _ (passes.looked_stays (λ e. cc e))) in
     record {
-      passes = grind (arith, common_steps);
-      leaves = record {
-        cuts = cuts;
-        moments = one_call _ _ _ sound passes (λ image cut. tt) (λ image cut. tt);
-        spares = spared_write _ _ _ _ _ sound (omega (arith, is.sized.behind)) passes
-            c.write.ensures.sets (either_way c.write.result c.write.ensures.ok c.write.ensures.err);
-        looks = no_looks _ _ _ (passes.looked_stays (λ e. cc e));
-      };
-      dead = λ view holds. dead_held holds _ (g.met.M.Medium.sound c.write.new.self) passes.size_stays (cuts view holds);
+      passes = search (rules, arith);
+      leaves = left;
+      dead = λ view holds. dead_held holds _ (g.met.M.Medium.sound c.write.new.self) passes.size_stays (left.cuts view holds);
       counted = λ view holds then stepped.
           on_ok_weaker c.write.result
           (λ wrote. retired_held is live owed sound holds one h stamp _ then stepped
