@@ -1,6 +1,6 @@
 -- Each turn that retires the oldest durable record: what the log and its medium hold after it.
-use Rattle.std.proofs.Common.{◌≡◌, ◌≢◌, inl, inr, ℕ, ◌+◌, ◌-◌, ◌<◌, ◌≤◌, List, [], ◌∷◌, length, get_or, drop, refl, ◌∙◌, ap, subst, arith}
-use Rattle.std.proofs.Common.{⊎_elim, rules, length-drop, add-zero, true, false, map, slice_index, drop-cons}
+use Rattle.std.proofs.Common.{◌≡◌, ◌≢◌, inl, inr, ℕ, ◌+◌, ◌-◌, ◌<◌, ◌≤◌, List, [], ◌∷◌, length, get_or, drop, refl, arith}
+use Rattle.std.proofs.Common.{rules, length-drop, add-zero, true, false, map, slice_index, drop-cons}
 use Rattle.std.proofs.lemmas.Bool.{cases_eq, cases_lt}
 use Rattle.std.proofs.lemmas.List.{drop-map, length-map}
 use Rattle.std.proofs.Math.ListN.{get_or-map}
@@ -8,10 +8,10 @@ use Rattle.medium.specs.Medium.{State, Image, Holds, Gains, IsSound}
 use Rattle.medium.specs.Moments.{EachCut, LeavesOnly}
 use Rattle.medium.proofs.Moments.{each_write, each_flush, quiet_leaves, content_has}
 use Rattle.journal.specs.declared.head.Head.{Head as HeadOf}
-use Rattle.journal.specs.Places.{sectors_of, first_home, first_data_of}
-use Rattle.journal.specs.Sectors.{IsRising, IsHead}
+use Rattle.journal.specs.Places.{sectors_of, first_home}
+use Rattle.journal.specs.Sectors.{IsHead}
 use Rattle.journal.specs.Record.{Entry, Hides, numbers_of}
-use Rattle.journal.specs.Layout.{Layout, slot_at, Laws}
+use Rattle.journal.specs.Layout.{Layout, Laws}
 use Rattle.journal.specs.Formats.{layout_of, IsWhole}
 use Rattle.journal.specs.Staged.{IsHomed, with_less}
 use Rattle.journal.specs.Staged as staged
@@ -21,7 +21,7 @@ use Rattle.journal.proofs.Wholeness.{records-hide}
 use Rattle.journal.proofs.Engine.{IsWholeIn-same, IsKept, kept_home, kept_head, HasSlots-less}
 use Rattle.redo_log.specs.declared.turn.Turn.{Turn}
 use Rattle.redo_log.specs.declared.turn.Turn.TheVariants.{Flush, Head}
-use Rattle.redo_log.specs.Value.{LogValue, Ahead, IsSentHome, IsRetireStepped, of_oldest, ahead_of, settled, first_kept}
+use Rattle.redo_log.specs.Value.{LogValue, Ahead, IsSentHome, IsRetireStepped, of_oldest, ahead_of, settled}
 use Rattle.redo_log.specs.Calls.{WritesOnly}
 use Rattle.redo_log.specs.Turns.{head_bytes, MayTurn, IsTurned, IsNextTurn}
 use Rattle.redo_log.specs.Held.{View, view_retired, made_of, turned_of, needed_of, image_view, MayLeave, Safe, AreHome, HasHead, IsGuarded}
