@@ -11,8 +11,7 @@ use medium::{Medium, MediumFault};
 /// Moves the head to this stamp, once every write before is durable.
 pub(crate) fn move_head<M: Medium>(m: &mut M, stamp: u64) -> Result<(), MediumFault>
     requires inside { 1 < (M.state m.old).size }
-    requires least { 1 ≤ stamp }
-    requires most { stamp < 2 ^ 63 }
+    requires stamp { (1 ≤ stamp) × (stamp < 2 ^ 63) }
     ensures done { OnOk result (HasNewHead stamp (M.state m.old).content (M.state m.new).content
         × IsFlushed (M.state m.new)) }
     // A cut leaves what it could leave before, or the contents with the new head.

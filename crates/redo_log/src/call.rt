@@ -74,8 +74,8 @@ fn write_part<M: Medium>(
 ) -> Result<(), MediumFault>
     requires record { IsRecord (shape_of sizes.now) stamp numbers.now }
     requires size { length bytes.now ≡ 512 * length numbers.now }
-    requires inside { p < (layout_of sizes.now.format).parts (length numbers.now) }
-    requires fits { sectors_of (shape_of sizes.now) ≤ (M.state m.old).size }
+    requires inside { (p < (layout_of sizes.now.format).parts (length numbers.now))
+        × (sectors_of (shape_of sizes.now) ≤ (M.state m.old).size) }
     ensures makes { MakesCall (Write (part_at (layout_of sizes.now.format) (shape_of sizes.now)
         stamp (length numbers.now) p) ((layout_of sizes.now.format).part stamp
         (entries_of numbers.now bytes.now) p)) result (M.state m.old) (M.state m.new) }

@@ -49,8 +49,7 @@ fn copy_sector<M: Medium>(
     to: u64,
     first: &Option<[u8; 8]>,
 ) -> Result<(), MediumFault>
-    requires from_inside { from < (M.state m.old).size }
-    requires to_inside { to < (M.state m.old).size }
+    requires inside { (from < (M.state m.old).size) × (to < (M.state m.old).size) }
     ensures writes { let bytes = begun_with first.now ((M.state m.old).content from) in
         WritesSector to bytes (Holds to bytes (M.state m.old).content (M.state m.new).content)
         result (M.state m.old) (M.state m.new) }

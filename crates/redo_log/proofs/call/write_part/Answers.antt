@@ -16,7 +16,7 @@ before g c =
     let L = layout_of sizes.format in
     let o = L.offset (length c.args.numbers.now) c.args.p in
     let inside : o < L.slot_sectors = (laws_of sizes.format).inside (length c.args.numbers.now) c.args.p
-    (omega (arith, c.requires.record.numbers_are.few, most_is sizes.format)) c.requires.inside in
+    (omega (arith, c.requires.record.numbers_are.few, most_is sizes.format)) c.requires.inside.0 in
     let at = rw c.slot_of-slot.ensures at c.slot_place.ensures in
     omega (arith, before_home (shape_of sizes) (sizes_sized sizes) c.args.stamp o inside, at, c.part-part.ensures.offset)
 
@@ -37,4 +37,4 @@ pub overflow_add-slot_place : goal.overflow_add-slot_place
 overflow_add-slot_place g c = grind (arith, before g c, c.args.sizes.now.home_is, c.args.sizes.now.most_slots)
 
 pub write-requires : goal.write-requires
-write-requires g c = omega (arith, before g (goal.at.write-requires g c).After-slot_place, c.requires.fits)
+write-requires g c = omega (arith, before g (goal.at.write-requires g c).After-slot_place, c.requires.inside.1)
