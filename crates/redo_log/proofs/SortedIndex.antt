@@ -130,17 +130,22 @@ module _ {old : List Copied} {slot : ℕ} {numbers : List ℕ} (index back : Lis
   put_sorted = pairs_append (λ x. Above x.block) (take left index) (e ∷ back)
       (λ i j d less below. grind (arith, get_or-take left index i d, get_or-take left index j d, front_rises i j d, below, long, ends))
       (AllPairs-cons (λ x. Above x.block) e back above (λ i j d less below.
-          let front = take was index in
-          let up = entered.sorted (length front + i) (length front + j) d in
-          grind (arith, get_or-append-add front back, up, length-append front back, below)))
+      let front = take was index in
+      let up = entered.sorted (length front + i) (length front + j) d in
+      grind (arith, get_or-append-add front back, up, length-append front back, below)))
       (λ i d less. All-cons (Above (get_or (take left index) i d).block) e back (low i d less)
-          (λ j f inside. omega (arith, low i d less, above j f inside)))
+      (λ j f inside. omega (arith, low i d less, above j f inside)))
 
   put_found : look (take left index ++ e ∷ back) e.block ≡ Some (slot, place)
   put_found =
       let all = take left index ++ e ∷ back in
-      grind (arith, look_found all put_sorted left e.block, get_or_at (take left index) e back blank left,
-      length-append (take left index) (e ∷ back), long)
+      grind (
+        arith,
+        look_found all put_sorted left e.block,
+        get_or_at (take left index) e back blank left,
+        length-append (take left index) (e ∷ back),
+        long,
+      )
 
   -- only an older entry with its block goes
   put_other : (b : ℕ) → e.block ≢ b → look (take left index ++ e ∷ back) b ≡ look (take was index ++ back) b
@@ -187,8 +192,11 @@ module _ {old : List Copied} {slot : ℕ} {numbers : List ℕ} (rising : IsRisin
   entry_moves was left place till to index one_less room over merged =
       let c = get_or index left blank in
       let moved : remove_range index was till ≡ take left index ++ c ∷ drop till index =
-      rw (one_less, take_more index left blank (omega (arith, merged.room, merged.inside, one_less)),
-      append_assoc (take left index) (c ∷ []) (drop till index)) refl in
+      rw (
+        one_less,
+        take_more index left blank (omega (arith, merged.room, merged.inside, one_less)),
+        append_assoc (take left index) (c ∷ []) (drop till index),
+      ) refl in
       goes was place left place till to index c room (omega arith) (omega arith) (omega (arith, merged.room, one_less, room)) over merged
       (rw moved at merged.enters)
 
@@ -223,8 +231,15 @@ record_room slots stamp most records index is free small room count few enough =
     let n = rw (look_found index is.sorted i (block_at index i) below refl) at (is.finds (block_at index i)) in
     in_all records n.age (block_at index i) n.waits
     (rw n.named at (Contains-get_or (get_or records n.age []) (get_or index i blank).place 0 n.inside)))) in
-    let apart = IsDistinct-from_apart eqb (map f index) (λ i j d less inside. grind (arith, nat_tests, length-map index f,
-    get_or-map f index i blank d, get_or-map f index j blank d, is.sorted i j blank, inside)) in
+    let apart = IsDistinct-from_apart eqb (map f index) (λ i j d less inside. grind (
+      arith,
+      nat_tests,
+      length-map index f,
+      get_or-map f index i blank d,
+      get_or-map f index j blank d,
+      is.sorted i j blank,
+      inside,
+    )) in
     let all = length-le_from_is_member nat_eq_equiv (map f index) (all_of records) apart
     (λ q some. list_any-from_Contains nat_eq_equiv q (all_of records)
     (All-contains (Contains (all_of records)) (map f index) q each (Contains-from_any eqb-true q (map f index) some))) in
