@@ -40,9 +40,8 @@ sized_batch numbers bytes size i d below =
 first_of_batch : (i : ℕ) (numbers bytes : List ℕ) → i < length numbers
     → get_or (firsts_of (entries_of numbers bytes)) i [] ≡ slice_range bytes (512 * i) (512 * i + 8)
 first_of_batch i numbers bytes below =
-    let a : 512 * i + 512 - 512 * i ≡ 512 = omega arith in
-    let b : 512 * i + 8 - 512 * i ≡ 8 = omega arith in
-    rw (get_or-map (λ (e : Entry). take 8 e.1) (entries_of numbers bytes) i (0, []), entry_of_batch i numbers bytes (0, []) below, a, b)
+    let sizes : (512 * i + 512 - 512 * i ≡ 512) × (512 * i + 8 - 512 * i ≡ 8) = (omega arith, omega arith) in
+    rw (get_or-map (λ (e : Entry). take 8 e.1) (entries_of numbers bytes) i (0, []), entry_of_batch i numbers bytes (0, []) below, sizes.0, sizes.1)
     (take-take 8 512 (drop (512 * i) bytes) (omega arith))
 
 -- those of all of them

@@ -1,9 +1,9 @@
 -- Calls that read sectors of the log, and blocks of a whole record that were read back.
-use Rattle.std.proofs.Common.{◌≡◌, ℕ, ◌+◌, ◌*◌, ◌%◌, ◌<◌, ◌≤◌, ◌∙◌, Result, arith, IfOk, IfErr, List, [], ◌++◌, length}
+use Rattle.std.proofs.Common.{◌≡◌, ℕ, ◌+◌, ◌*◌, ◌%◌, ◌<◌, ◌≤◌, ◌∙◌, Result, arith, rules, IfOk, IfErr, List, [], ◌++◌, length}
 use Rattle.std.proofs.Common.{drop, get_or, refl, Option}
 use Rattle.medium.specs.Medium.{State, Image}
 use Rattle.medium.specs.declared.fault.MediumFault.{MediumFault}
-use Rattle.journal.specs.Reading.{IsRefusedCall, LooksUp, AreStamped, IsRead}
+use Rattle.journal.specs.Reading.{IsRefusedCall, MakesReadsAlone, LooksUp, AreStamped, IsRead}
 use Rattle.std.proofs.lemmas.Nat.{mod_below}
 use Rattle.journal.specs.declared.log_format.LogFormat.{LogFormat}
 use Rattle.journal.specs.declared.log_format.LogFormat.TheVariants.{One, Two}
@@ -41,16 +41,10 @@ pub looks_on : {M X Y Z : Type 0} {state : M → State} {Follows : M → M → T
     → ((a b c : M) → Follows a b → Follows b c → Follows a c) → LooksUp state Follows few places F old mid one
     → LooksUp state Follows many places G mid new two → few + many ≤ most → IfErr result (IsRefusedCall (state old) (state new))
     → IfOk result (H (state old) (state new)) → LooksUp state Follows most places H old new result
-looks_on through first second fit cause finds = record {
-  passes = record {
-    quiet = quiet_joined _ _ _ first.passes.quiet second.passes.quiet;
-    reads = λ kind other. second.passes.reads kind other ∙ first.passes.reads kind other;
-    calls = omega (arith, first.passes.calls, second.passes.calls, fit);
-    cause = cause;
-  };
-  finds = finds;
-  follows = (through _ _ _ first.follows.0 second.follows.0, looks_joined _ _ _ _ first.follows.1 second.follows.1);
-}
+looks_on {state = state} {most = most} {old = old} {new = new} through first second fit cause finds =
+    let reads : MakesReadsAlone (state old) (state new) = λ kind other. second.passes.reads kind other ∙ first.passes.reads kind other in
+    let calls : (state new).calls ≤ (state old).calls + most = omega (arith, first.passes.calls, second.passes.calls, fit) in
+    search (rules, quiet_joined, looks_joined, through)
 
 -- sectors before a sector that stands before this one
 pub looks_within : {M X : Type 0} {state : M → State} {Follows : M → M → Type 0} {most few end : ℕ} {F : State → State → X → Type 0}
