@@ -5,7 +5,7 @@ use Rattle.std.proofs.lemmas.List.{length-take, length-drop, length-map, take-ta
 use Rattle.std.proofs.Math.ListN.{get_or-map}
 use Rattle.journal.specs.Format2.{firsts_of, chunk_of}
 use Rattle.std.proofs.lemmas.Grind.{common_steps}
-use Rattle.journal.proofs.SlotTwo.{first_at, numbers_of_chunk}
+use Rattle.journal.proofs.SlotTwo.{part_at, numbers_of_chunk}
 use Rattle.journal.specs.Record.{Entry, numbers_of, entries_from, entries_of}
 
 numbers_from : (k : ℕ) (numbers bytes : List ℕ) → numbers_of (entries_from k numbers bytes) ≡ numbers
@@ -66,7 +66,7 @@ firsts_of_batch numbers bytes firsts j count each =
     let few : i < 30 = omega (arith, count, length-take 30 (drop (30 * j) numbers)) in
     let inside : 30 * j + i < length numbers = omega (arith, count, length-take 30 (drop (30 * j) numbers), length-drop (30 * j) numbers) in
     let whole = get_or-map (λ (e : Entry). take 8 e.1) es (30 * j + i) (0, []) in
-    each i (omega (arith, count)) ∙ sym (first_at es 30 (30 * j) i few ∙ sym whole ∙ first_of_batch (30 * j + i) numbers bytes inside))
+    each i (omega (arith, count)) ∙ sym (part_at es 30 (30 * j) i few (λ e. take 8 e.1) ∙ sym whole ∙ first_of_batch (30 * j + i) numbers bytes inside))
 
 pub ruleset batch =
     (numbers_of_batch, length_of_batch, entry_of_batch, firsts_of_batch, numbers_of_chunk)

@@ -19,6 +19,7 @@ use Rattle.journal.specs.Layout.{slot_at, IsWholeIn}
 use Rattle.journal.specs.Format2.{firsts_of}
 use Rattle.journal.proofs.SlotTwo.{place_rest, place_there, placed}
 use Rattle.journal.proofs.Formats.{laws_of}
+use Rattle.journal.proofs.Wholeness.{as_format}
 use Rattle.journal.proofs.Format1Laws.{place_there as place_there_one}
 
 -- a data place stands before home
@@ -96,9 +97,5 @@ read_is shape image stamp entries whole read numbers firsts =
 -- the data places of a whole record carry its stamp, in each format
 pub stamped_whole : (shape : Shape) (image : Image) (stamp : ℕ) (entries : List Entry) → IsWhole shape image stamp entries
     → AreStamped shape.format shape image stamp (length entries)
-stamped_whole shape image stamp entries whole = stamped_in shape.format whole
-  where
-    stamped_in : (format : LogFormat) → IsWholeIn (layout_of format) shape image stamp entries
-        → AreStamped format shape image stamp (length entries)
-    stamped_in One whole = tt
-    stamped_in Two whole = placed shape image stamp entries whole
+stamped_whole shape image stamp entries whole =
+    let two = λ (is : shape.format ≡ Two). placed shape image stamp entries (as_format is whole) in grind (arith, two)
