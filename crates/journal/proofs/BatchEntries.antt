@@ -50,8 +50,7 @@ pub all_firsts_of : (numbers bytes : List ℕ) (firsts : List (List ℕ)) (count
     → firsts ≡ firsts_of (entries_of numbers bytes)
 all_firsts_of numbers bytes firsts count all many each =
     ext_get_or [] firsts _ (simp (length-map, length_of_batch) (omega (arith, many, all)))
-    (λ i below. let same : 0 + i ≡ i = omega arith in
-    rw same at (each i (omega (arith, many))) ∙ sym (first_of_batch i numbers bytes (omega (arith, many, all))))
+    (λ i below. grind (arith, many, all, each i, first_of_batch i numbers bytes))
 
 -- and of those of a descriptor
 pub firsts_of_batch : (numbers bytes : List ℕ) (firsts : List (List ℕ)) (j : ℕ)

@@ -31,10 +31,6 @@ module _ {X : Type 0} (f : X → List ℕ) (k : ℕ) where
       rw (step, append_assoc, ← (drop-drop (k * i) k (f x ++ (flat_map f xs ++ rest))), drop_at (f x) _ k (long 0 x (omega arith)))
       (piece_at xs i d rest (omega arith) (λ j e inside. long (suc j) e (omega arith)))
 
--- numbers take eight bytes each
-pub length_bytes : (numbers : List ℕ) → length (flat_map (little_bytes 8) numbers) ≡ 8 * length numbers
-length_bytes numbers = length_pieces (little_bytes 8) 8 numbers (λ i d below. refl)
-
 -- the i-th number, read back
 pub spelling_get : (i : ℕ) (numbers sector : List ℕ) → i < length numbers → get_or numbers i 0 < 2 ^ 64
     → sector ≡ spelling numbers → number_in sector i ≡ get_or numbers i 0

@@ -370,8 +370,8 @@ module _ (shape : Shape) (image : Image) (s n : ℕ) (committed : IsCommitTwo s 
       let sizes = All-from_get_or (λ (e : Entry). length e.1 ≡ 512) found (0, []) (λ i below. (block_read i (omega (arith, below, long))).0) in
       let fit : AreEntries 240 shape.blocks found = grind (arith, long, committed.some, committed.few, rising, inside, smalls, sizes) in
       record {
-    fit = fit;
-    least = committed.least;
-    below = committed.most;
-    there = λ p within. grind (arith, parts, descriptor_read p, place_read (p - (n + 29) / 30), long, committed.spelled);
-  }
+        fit = fit;
+        least = committed.least;
+        below = committed.most;
+        there = λ p within. grind (arith, parts, descriptor_read p, place_read (p - (n + 29) / 30), long, committed.spelled);
+      }

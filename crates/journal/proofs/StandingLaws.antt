@@ -32,6 +32,10 @@ module _ (size other : ℕ) (shape : Shape) (image : Image) (a b : Array) (t u :
   pub heads : h.head ≡ k.head
   heads = IsHead-one h.head k.head (image 1) h.keeps.head_is k.keeps.head_is
 
+  -- there are as many records
+  pub counts : length h.records ≡ length k.records
+  counts = grind (arith, not_fewer h k heads, not_fewer k h (sym heads))
+
 -- an image stands for at most one array and next stamp, of one shape
 pub StandsFor-one : (size other : ℕ) (s r : Shape) (image : Image) (a b : Array) (t u : ℕ)
     → StandsFor size s image a t → StandsFor other r image b u
@@ -40,7 +44,7 @@ StandsFor-one size other s r image a b t u h k =
     let one : s ≡ r = IsSuper-one s r (image 0) h.keeps.super k.keeps.super in
     let there : StandsFor other s image b u = subst (λ (x : Shape). StandsFor other x image b u) (sym one) k in
     let many = heads size other s image a b t u h there in
-    let long : length h.records ≡ length there.records = grind (arith, not_fewer h there many, not_fewer there h (sym many)) in
+    let long = counts size other s image a b t u h there in
     let same = ext_get_or [] h.records there.records long (λ j below. IsWhole-one (layout_of s.format) (laws_of s.format) s image
     (h.head + j) _ _ (h.keeps.whole j below) (rw many (there.keeps.whole j (omega (arith, long))))) in (
       one,
