@@ -5,7 +5,7 @@ use Rattle.std.proofs.lemmas.List.{length-take, length-drop, length-map, take-ta
 use Rattle.std.proofs.Math.ListN.{get_or-map}
 use Rattle.journal.specs.Format2.{firsts_of, chunk_of}
 use Rattle.std.proofs.lemmas.Grind.{common_steps}
-use Rattle.journal.proofs.SlotTwo.{first_at, numbers_of_chunk}
+use Rattle.journal.proofs.SlotTwo.{part_at, numbers_of_chunk}
 use Rattle.journal.specs.Record.{Entry, numbers_of, entries_from, entries_of}
 
 numbers_from : (k : ℕ) (numbers bytes : List ℕ) → numbers_of (entries_from k numbers bytes) ≡ numbers
@@ -40,9 +40,8 @@ sized_batch numbers bytes size i d below =
 first_of_batch : (i : ℕ) (numbers bytes : List ℕ) → i < length numbers
     → get_or (firsts_of (entries_of numbers bytes)) i [] ≡ slice_range bytes (512 * i) (512 * i + 8)
 first_of_batch i numbers bytes below =
-    let a : 512 * i + 512 - 512 * i ≡ 512 = omega arith in
-    let b : 512 * i + 8 - 512 * i ≡ 8 = omega arith in
-    rw (get_or-map (λ (e : Entry). take 8 e.1) (entries_of numbers bytes) i (0, []), entry_of_batch i numbers bytes (0, []) below, a, b)
+    let sizes : (512 * i + 512 - 512 * i ≡ 512) × (512 * i + 8 - 512 * i ≡ 8) = (omega arith, omega arith) in
+    rw (get_or-map (λ (e : Entry). take 8 e.1) (entries_of numbers bytes) i (0, []), entry_of_batch i numbers bytes (0, []) below, sizes.0, sizes.1)
     (take-take 8 512 (drop (512 * i) bytes) (omega arith))
 
 -- those of all of them
@@ -51,8 +50,7 @@ pub all_firsts_of : (numbers bytes : List ℕ) (firsts : List (List ℕ)) (count
     → firsts ≡ firsts_of (entries_of numbers bytes)
 all_firsts_of numbers bytes firsts count all many each =
     ext_get_or [] firsts _ (simp (length-map, length_of_batch) (omega (arith, many, all)))
-    (λ i below. let same : 0 + i ≡ i = omega arith in
-    rw same at (each i (omega (arith, many))) ∙ sym (first_of_batch i numbers bytes (omega (arith, many, all))))
+    (λ i below. grind (arith, many, all, each i, first_of_batch i numbers bytes))
 
 -- and of those of a descriptor
 pub firsts_of_batch : (numbers bytes : List ℕ) (firsts : List (List ℕ)) (j : ℕ)
@@ -67,7 +65,7 @@ firsts_of_batch numbers bytes firsts j count each =
     let few : i < 30 = omega (arith, count, length-take 30 (drop (30 * j) numbers)) in
     let inside : 30 * j + i < length numbers = omega (arith, count, length-take 30 (drop (30 * j) numbers), length-drop (30 * j) numbers) in
     let whole = get_or-map (λ (e : Entry). take 8 e.1) es (30 * j + i) (0, []) in
-    each i (omega (arith, count)) ∙ sym (first_at es 30 (30 * j) i few ∙ sym whole ∙ first_of_batch (30 * j + i) numbers bytes inside))
+    each i (omega (arith, count)) ∙ sym (part_at es 30 (30 * j) i few (λ e. take 8 e.1) ∙ sym whole ∙ first_of_batch (30 * j + i) numbers bytes inside))
 
 pub ruleset batch =
     (numbers_of_batch, length_of_batch, entry_of_batch, firsts_of_batch, numbers_of_chunk)

@@ -1,6 +1,6 @@
 -- Format 1 keeps the laws of a layout too.
-use Rattle.std.proofs.Common.{◌≡◌, ◌⊎◌, ℕ, ◌+◌, ◌-◌, ◌<◌, ◌≤◌, List, length, sym, arith, rules, ◌*◌, ◌%◌, [], get_or}
-use Rattle.std.proofs.Common.{◌∙◌, ◌∷◌, true, false, nat_lt, replicate, All}
+use Rattle.std.proofs.Common.{◌≡◌, ℕ, ◌+◌, ◌-◌, ◌<◌, ◌≤◌, List, length, arith, rules, ◌*◌, ◌%◌, [], get_or}
+use Rattle.std.proofs.Common.{◌∙◌, ◌∷◌, true, false, nat_lt, All}
 use Rattle.std.proofs.lemmas.Bool.{cases_lt}
 use Rattle.std.proofs.lemmas.Bool.Decides.{nat_tests}
 use Rattle.std.proofs.lemmas.List.{length-map, ext_get_or}
@@ -47,29 +47,14 @@ module _ {blocks s : ℕ} {entries : List Entry} (r : IsRecordOf format1 blocks 
   commit_of = search rules
 
   -- the descriptor and the commit carry the record's stamp
-  ends_carry : (p : ℕ) → (1 ≤ p → length entries + 1 ≤ p) → Carries1 (format1.offset (length entries) p) s (format1.part s entries p)
+  pub ends_carry : (p : ℕ) → (1 ≤ p → length entries + 1 ≤ p) → Carries1 (format1.offset (length entries) p) s (format1.part s entries p)
   ends_carry p ends = grind (arith, parts, descriptor_of, commit_of)
-
-  pub carries1 : (p : ℕ) → p < length entries + 2
-      → (p < length entries + 1) ⊎ Carries1 (format1.offset (length entries) p) s (format1.part s entries p)
-  carries1 p below = search (rules, arith, cases_lt p (length entries + 1), ends_carry p)
 
 -- a stamp that a sector carries is its second number
 pub carried1 : (o s : ℕ) (bytes : List ℕ) → Carries1 o s bytes → number_in bytes 1 ≡ s
 carried1 o s bytes c =
     let commit = λ (high : 49 ≤ o). (commit_says (c.commit high).1).0 in
     grind (arith, descriptor_says, commit, c.descriptor, c.place, cases_lt o 1)
-
-pub one_stamp1 : (blocks s t : ℕ) (entries : List Entry) (p : ℕ) → IsRecordOf format1 blocks s entries
-    → Carries1 (format1.offset (length entries) p) t (format1.part s entries p) → t ≡ s
-one_stamp1 blocks s t entries p r c =
-    let ends : 1 ≤ p → length entries + 1 ≤ p = λ some. grind (arith, parts, c.place, r.fit.few) in
-    grind (arith, carried1 _ t _ c, carried1 _ s _ (ends_carry r p ends))
-
--- zeros carry no stamp
-pub zeros1 : (o s : ℕ) → Carries1 o s (replicate 512 0) → s ≡ 0
-unfolding number_in
-zeros1 o s c = sym (carried1 o s _ c)
 
 -- what is read where a descriptor stands
 module _ (image : Image) (at : ℕ) {stamp : ℕ} {numbers : List ℕ} (d : IsDescriptor stamp numbers (image at)) where

@@ -1,6 +1,7 @@
 -- Format 2 keeps the laws of a layout, and so both formats do.
 use Rattle.std.proofs.Common.{◌≡◌, ℕ, ◌+◌, ◌-◌, ◌/◌, ◌<◌, ◌≤◌, List, [], ◌∷◌, length, arith, rules, ◌∙◌, inr, sym}
 use Rattle.std.specs.Prelude.{if◌then◌else◌, nat_lt, replicate}
+use Rattle.std.proofs.lemmas.Bool.{cases_lt}
 use Rattle.std.proofs.lemmas.Bool.Decides.{nat_tests}
 use Rattle.journal.specs.Sectors.{spelling, number_in}
 use Rattle.journal.specs.Record.{Entry, block_of, numbers_of}
@@ -8,7 +9,7 @@ use Rattle.journal.specs.Layout.{IsRecordOf, Laws}
 use Rattle.journal.specs.Format2.{commit_mark, chunk_of, firsts_of, IsCommitTwo, format2, Carries2}
 use Rattle.journal.proofs.SlotTwo.{header_says, place_says, descriptor_two, record_read as read2}
 use Rattle.journal.proofs.SectorNumbers.{commit_says}
-use Rattle.journal.proofs.Format1Laws.{parts, carries1, one_stamp1, zeros1, commit_of, record_read as read1}
+use Rattle.journal.proofs.Format1Laws.{parts, ends_carry, carried1, commit_of, record_read as read1}
 use Rattle.journal.specs.declared.log_format.LogFormat.{LogFormat}
 use Rattle.journal.specs.declared.log_format.LogFormat.TheVariants.{One, Two}
 use Rattle.journal.specs.Places.{limit_of, slot_sectors_of}
@@ -45,27 +46,26 @@ carried2 o s bytes c =
     let commit = λ (high : 248 ≤ o). (commit_says (c.commit high).1).0 in
     grind (arith, nat_tests, header_says, place_says, commit, c.descriptor, c.place)
 
--- zeros carry no stamp but 0
-pub zeros2 : (o s : ℕ) → Carries2 o s (replicate 512 0) → s ≡ 0
-unfolding stamp_place number_in
-zeros2 o s c = grind (arith, nat_tests, carried2 o s (replicate 512 0) c)
-
 pub format1_laws : Laws format1
+unfolding number_in
 format1_laws = record {
   some_parts = λ n. omega arith;
   inside = λ n p few below. grind (arith, parts);
   apart = λ n p q few hp hq e. grind (arith, parts);
   last = λ n. grind (arith, parts);
-  carries = λ blocks s entries p r below. carries1 r p below;
+  carries = λ blocks s entries p r below. search (rules, arith, cases_lt p (length entries + 1), ends_carry r p);
   last_is_late = λ n. omega arith;
-  one_stamp = λ blocks s t entries p r below c. one_stamp1 blocks s t entries p r c;
+  one_stamp = λ blocks s t entries p r below c.
+      let ends : 1 ≤ p → length entries + 1 ≤ p = λ some. grind (arith, parts, c.place, r.fit.few) in
+      grind (arith, carried1 _ t _ c, carried1 _ s _ (ends_carry r p ends));
   last_part = λ s a b same. grind (arith, parts);
   count = λ blocks s a b ra rb e. grind (arith, parts, commit_says (commit_of ra), commit_says (commit_of rb));
   read = read1;
-  zeros = zeros1;
+  zeros = λ o s c. sym (carried1 o s _ c);
 }
 
 pub format2_laws : Laws format2
+unfolding stamp_place number_in
 format2_laws = record {
   some_parts = λ n. omega arith;
   inside = λ n p few below. grind (arith, parts);
@@ -77,7 +77,7 @@ format2_laws = record {
   last_part = λ s a b same. grind (arith, parts);
   count = λ blocks s a b ra rb e. grind (arith, parts, commit_says (commit_two ra), commit_says (commit_two rb));
   read = read2;
-  zeros = zeros2;
+  zeros = λ o s c. grind (arith, nat_tests, carried2 o s (replicate 512 0) c);
 }
 
 -- each format keeps them

@@ -3,7 +3,7 @@ use Rattle.std.proofs.Common.{◌≡◌, ℕ, zero, suc, ◌+◌, ◌*◌, ◌<�
 use Rattle.std.proofs.Common.{◌-◌, ◌^◌, ◌≤◌, refl, sym, ◌∙◌, ap, All, replicate, flat_map, if◌then◌else◌, ◌==◌}
 use Rattle.std.proofs.Common.{ext_get_or}
 use Rattle.std.proofs.lemmas.Grind.{common_steps}
-use Rattle.std.proofs.lemmas.List.{take_at, drop_at, drop-drop, append_assoc, drop-replicate}
+use Rattle.std.proofs.lemmas.List.{drop_at, drop-drop, append_assoc, drop-replicate}
 use borrow.Rule.Slice.PartMut.{put_mid}
 use Rattle.byteorder.specs.Endian.{little_bytes, little_number}
 use Rattle.byteorder.specs.Numbers.{little_number-reads_back, little_from-take}
@@ -25,20 +25,11 @@ module _ {X : Type 0} (f : X → List ℕ) (k : ℕ) where
       → take k (drop (k * i) (flat_map f xs ++ rest)) ≡ f (get_or xs i d)
   piece_at [] i d rest below long = absurd (omega arith)
   piece_at (x ∷ xs) zero d rest below long =
-      let none : k * zero ≡ 0 = omega arith in
-      rw (none, append_assoc (f x) (flat_map f xs) rest) (take_at (f x) (flat_map f xs ++ rest) k (long 0 x (omega arith)))
+      grind (arith, common_steps, long 0 x (omega arith))
   piece_at (x ∷ xs) (suc i) d rest below long =
       let step : k * suc i ≡ k + k * i = omega arith in
-      rw (
-        step,
-        append_assoc (f x) (flat_map f xs) rest,
-        ← (drop-drop (k * i) k (f x ++ (flat_map f xs ++ rest))),
-        drop_at (f x) (flat_map f xs ++ rest) k (long 0 x (omega arith)),
-      ) (piece_at xs i d rest (omega arith) (λ j e inside. long (suc j) e (omega arith)))
-
--- numbers take eight bytes each
-pub length_bytes : (numbers : List ℕ) → length (flat_map (little_bytes 8) numbers) ≡ 8 * length numbers
-length_bytes numbers = length_pieces (little_bytes 8) 8 numbers (λ i d below. refl)
+      rw (step, append_assoc, ← (drop-drop (k * i) k (f x ++ (flat_map f xs ++ rest))), drop_at (f x) _ k (long 0 x (omega arith)))
+      (piece_at xs i d rest (omega arith) (λ j e inside. long (suc j) e (omega arith)))
 
 -- the i-th number, read back
 pub spelling_get : (i : ℕ) (numbers sector : List ℕ) → i < length numbers → get_or numbers i 0 < 2 ^ 64
@@ -110,12 +101,8 @@ shape_in bytes = record {
 }
 
 pub shape_is : {shape : Shape} {bytes : List ℕ} → IsSuper shape bytes → shape_in bytes ≡ shape
-shape_is {shape} {bytes} s = let format : format_in (number_in bytes 1) ≡ shape.format = grind (arith, super_says s) in λ i. record {
-  format = format i;
-  blocks = (super_says s).1 i;
-  slots = (super_says s).2 i;
-  home = (super_says s).3 i;
-}
+shape_is {shape} {bytes} s = let format : format_in (number_in bytes 1) ≡ shape.format = grind (arith, super_says s) in
+    rw (format, (super_says s).1, (super_says s).2, (super_says s).3)
 
 -- a super spells one shape
 pub IsSuper-one : (a b : Shape) (bytes : List ℕ) → IsSuper a bytes → IsSuper b bytes → a ≡ b

@@ -1,9 +1,9 @@
 -- Calls that read sectors of the log, and blocks of a whole record that were read back.
-use Rattle.std.proofs.Common.{◌≡◌, ℕ, ◌+◌, ◌*◌, ◌%◌, ◌<◌, ◌≤◌, ◌∙◌, Result, arith, IfOk, IfErr, List, [], ◌++◌, length}
+use Rattle.std.proofs.Common.{◌≡◌, ℕ, ◌+◌, ◌*◌, ◌%◌, ◌<◌, ◌≤◌, ◌∙◌, Result, arith, rules, IfOk, IfErr, List, [], ◌++◌, length}
 use Rattle.std.proofs.Common.{drop, get_or, refl, Option}
 use Rattle.medium.specs.Medium.{State, Image}
 use Rattle.medium.specs.declared.fault.MediumFault.{MediumFault}
-use Rattle.journal.specs.Reading.{IsRefusedCall, LooksUp, AreStamped, IsRead}
+use Rattle.journal.specs.Reading.{IsRefusedCall, MakesReadsAlone, LooksUp, AreStamped, IsRead}
 use Rattle.std.proofs.lemmas.Nat.{mod_below}
 use Rattle.journal.specs.declared.log_format.LogFormat.{LogFormat}
 use Rattle.journal.specs.declared.log_format.LogFormat.TheVariants.{One, Two}
@@ -19,6 +19,7 @@ use Rattle.journal.specs.Layout.{slot_at, IsWholeIn}
 use Rattle.journal.specs.Format2.{firsts_of}
 use Rattle.journal.proofs.SlotTwo.{place_rest, place_there, placed}
 use Rattle.journal.proofs.Formats.{laws_of}
+use Rattle.journal.proofs.Wholeness.{as_format}
 use Rattle.journal.proofs.Format1Laws.{place_there as place_there_one}
 
 -- a data place stands before home
@@ -41,16 +42,10 @@ pub looks_on : {M X Y Z : Type 0} {state : M → State} {Follows : M → M → T
     → ((a b c : M) → Follows a b → Follows b c → Follows a c) → LooksUp state Follows few places F old mid one
     → LooksUp state Follows many places G mid new two → few + many ≤ most → IfErr result (IsRefusedCall (state old) (state new))
     → IfOk result (H (state old) (state new)) → LooksUp state Follows most places H old new result
-looks_on through first second fit cause finds = record {
-  passes = record {
-    quiet = quiet_joined _ _ _ first.passes.quiet second.passes.quiet;
-    reads = λ kind other. second.passes.reads kind other ∙ first.passes.reads kind other;
-    calls = omega (arith, first.passes.calls, second.passes.calls, fit);
-    cause = cause;
-  };
-  finds = finds;
-  follows = (through _ _ _ first.follows.0 second.follows.0, looks_joined _ _ _ _ first.follows.1 second.follows.1);
-}
+looks_on {state = state} {most = most} {old = old} {new = new} through first second fit cause finds =
+    let reads : MakesReadsAlone (state old) (state new) = λ kind other. second.passes.reads kind other ∙ first.passes.reads kind other in
+    let calls : (state new).calls ≤ (state old).calls + most = omega (arith, first.passes.calls, second.passes.calls, fit) in
+    search (rules, quiet_joined, looks_joined, through)
 
 -- sectors before a sector that stands before this one
 pub looks_within : {M X : Type 0} {state : M → State} {Follows : M → M → Type 0} {most few end : ℕ} {F : State → State → X → Type 0}
@@ -102,9 +97,5 @@ read_is shape image stamp entries whole read numbers firsts =
 -- the data places of a whole record carry its stamp, in each format
 pub stamped_whole : (shape : Shape) (image : Image) (stamp : ℕ) (entries : List Entry) → IsWhole shape image stamp entries
     → AreStamped shape.format shape image stamp (length entries)
-stamped_whole shape image stamp entries whole = stamped_in shape.format whole
-  where
-    stamped_in : (format : LogFormat) → IsWholeIn (layout_of format) shape image stamp entries
-        → AreStamped format shape image stamp (length entries)
-    stamped_in One whole = tt
-    stamped_in Two whole = placed shape image stamp entries whole
+stamped_whole shape image stamp entries whole =
+    let two = λ (is : shape.format ≡ Two). placed shape image stamp entries (as_format is whole) in grind (arith, two)

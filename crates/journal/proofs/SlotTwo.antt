@@ -1,11 +1,11 @@
 -- What the sectors of a slot of format 2 say, and of which record, whole or not.
 use Rattle.std.proofs.Common.{◌≡◌, ℕ, ◌+◌, ◌*◌, ◌-◌, ◌^◌, ◌<◌, ◌≤◌, List, [], ◌∷◌, ◌++◌, length, get_or, take, drop}
-use Rattle.std.proofs.Common.{refl, sym, arith, rules, ◌∙◌, All, min, zip, slice_range, flat_map, ◌/◌, ◌%◌, ap}
+use Rattle.std.proofs.Common.{refl, sym, map, arith, rules, ◌∙◌, All, min, zip, slice_range, flat_map, ◌/◌, ◌%◌, ap}
 use Rattle.std.proofs.Common.{take-add}
 use Rattle.std.proofs.lemmas.List.{take_all, take_min, length-take, length-drop, append_assoc, append-nil, take_more}
 use Rattle.std.proofs.lemmas.List.{drop-drop, drop-take, ext_get_or, take-map, drop-map, length-map, length-take-le}
 use Rattle.std.proofs.lemmas.List.{take_at, get_or-take, get_or-drop, take-append-drop}
-use Rattle.std.proofs.lemmas.List.Elements.{All-take, All-drop, All-from_get_or}
+use Rattle.std.proofs.lemmas.List.Elements.{All-take, All-drop, All-from_get_or, All-map}
 use Rattle.std.proofs.lemmas.Slice.Zip.{length-zip, get_or-zip}
 use Rattle.std.proofs.lemmas.Grind.{common_steps, flat_map-append}
 use Rattle.byteorder.specs.Endian.{little_bytes}
@@ -17,7 +17,7 @@ use Rattle.journal.specs.Format2.{entry_bytes, place_bytes, entries_here, AreEnt
 use Rattle.journal.specs.Format2.{descriptor_bytes, firsts_of, chunk_of, format2, descriptors_of, entry_in, entries_at}
 use Rattle.journal.specs.Format2.{record_in}
 use Rattle.std.proofs.Math.ListN.{get_or-map}
-use Rattle.journal.specs.Layout.{IsRecordOf, IsWholeIn}
+use Rattle.journal.specs.Layout.{AreEntries, IsRecordOf, IsWholeIn}
 use Rattle.std.proofs.lemmas.List.FromFn.{get_or-map-range_with_len, length-map-range_with_len, fill_by_all}
 use Rattle.medium.specs.Medium.{Image}
 use Rattle.journal.specs.Reading.{HasDescriptor, HasDescriptors, HasPlaces}
@@ -175,11 +175,8 @@ numbers_of_chunk es j =
 
 -- one of some entries that follow each other
 module _ (es : List Entry) (many from i : ℕ) (few : i < many) where
-  pub number_at : get_or (numbers_of (take many (drop from es))) i 0 ≡ (get_or es (from + i) (0, [])).0
-  number_at = rw (get_or-map (λ (e : Entry). e.0) (take many (drop from es)) i (0, [])) (grind (arith, common_steps))
-
-  pub first_at : get_or (firsts_of (take many (drop from es))) i [] ≡ take 8 (get_or es (from + i) (0, [])).1
-  first_at = rw (get_or-map (λ (e : Entry). take 8 e.1) (take many (drop from es)) i (0, [])) (grind (arith, common_steps))
+  pub part_at : {X : Type 0} (part : Entry → X) → get_or (map part (take many (drop from es))) i (part (0, [])) ≡ part (get_or es (from + i) (0, []))
+  part_at part = rw (get_or-map part (take many (drop from es)) i (0, [])) (grind (arith, common_steps))
 
 -- in a record in the limits it is a descriptor
 pub descriptor_two : {blocks stamp : ℕ} {es : List Entry} (j : ℕ) → IsRecordOf format2 blocks stamp es → 30 * j < length es
@@ -189,13 +186,10 @@ descriptor_two {stamp = stamp} {es = es} j r used =
     let full : Entry → Type 0 = λ e. length e.1 ≡ 512 in
     let chunk : List Entry = chunk_of es j in
     let long = length-map es (λ (e : Entry). e.0) in
-    let each = length-map chunk first in
     let sized = All-take full 30 (drop (30 * j) es) (All-drop full (30 * j) es r.fit.sized) in
     let entries = entries_cut (numbers_of es) (numbers_of chunk) (firsts_of chunk) j (omega (arith, long, r.fit.few))
-    (omega (arith, long)) r.fit.rising r.fit.small (numbers_of_chunk es j) (each ∙ sym (length-map chunk (λ (e : Entry). e.0)))
-    (All-from_get_or (λ (l : List ℕ). length l ≡ 8) (firsts_of chunk) [] (λ i below.
-    rw (get_or-map first chunk i (0, []))
-    (length-take-le 8 (get_or chunk i (0, [])).1 (omega (arith, sized i (0, []) (omega (arith, below, each))))))) in
+    (omega (arith, long)) r.fit.rising r.fit.small (numbers_of_chunk es j) (simp length-map)
+    (All-map (λ (l : List ℕ). length l ≡ 8) first chunk (λ i d below. length-take-le 8 (get_or chunk i d).1 (omega (arith, sized i d below)))) in
     record { spelled = refl; least = r.least; most = r.below; entries = rw long at entries }
 
 -- descriptors that name count blocks are there
@@ -247,7 +241,7 @@ module _ (image : Image) (at n : ℕ) where
     chunk_numbers =
         numbers_are d here (record {
           count = length-map (chunk_of read j) (λ (e : Entry). e.0);
-          each = λ i below. number_at read 30 (30 * j) i (omega (arith, here))
+          each = λ i below. part_at read 30 (30 * j) i (omega (arith, here)) (λ e. e.0)
               ∙ ap (λ (e : Entry). e.0) (entry_of j i (omega (arith, here)) (omega (arith, here)));
         })
 
@@ -259,7 +253,7 @@ module _ (image : Image) (at n : ℕ) where
               let inside : i < length numbers = omega (arith, here, d.entries.many) in
               let long = d.entries.sized i [] (omega (arith, inside, d.entries.each)) in
               rw (
-                first_at read 30 (30 * j) i (omega (arith, here)),
+                part_at read 30 (30 * j) i (omega (arith, here)) (λ e. take 8 e.1),
                 entry_of j i (omega (arith, here)) (omega (arith, here)),
                 first_is d i inside,
               ) (take_at _ (drop 8 (image (at + (8 + (30 * j + i))))) 8 long);
@@ -316,8 +310,8 @@ module _ (shape : Shape) (image : Image) (s : ℕ) (es : List Entry) (w : IsWhol
       rw (
         number_is d (i % 30) few,
         first_is d (i % 30) few,
-        number_at es 30 (30 * (i / 30)) (i % 30) (omega arith),
-        first_at es 30 (30 * (i / 30)) (i % 30) (omega arith),
+        part_at es 30 (30 * (i / 30)) (i % 30) (omega arith) (λ e. e.0),
+        part_at es 30 (30 * (i / 30)) (i % 30) (omega arith) (λ e. take 8 e.1),
         split,
         place_there i inside,
         place_rest s (block_of es i),
@@ -371,16 +365,13 @@ module _ (shape : Shape) (image : Image) (s n : ℕ) (committed : IsCommitTwo s 
   pub whole_two : IsRising (numbers_of (entries_at image (2 + 249 * (s % shape.slots)) n))
       → All (λ b. b < shape.blocks) (numbers_of (entries_at image (2 + 249 * (s % shape.slots)) n))
       → IsWholeIn format2 shape image s (entries_at image (2 + 249 * (s % shape.slots)) n)
-  whole_two rising inside = record {
-    fit = record {
-      some = omega (arith, committed.some, long);
-      few = omega (arith, committed.few, long);
-      rising = rising;
-      inside = inside;
-      small = All-from_get_or (λ (b : ℕ). b < 2147483648) (numbers_of found) 0 small;
-      sized = All-from_get_or (λ (e : Entry). length e.1 ≡ 512) found (0, []) (λ i below. (block_read i (omega (arith, below, long))).0);
-    };
-    least = committed.least;
-    below = committed.most;
-    there = λ p within. grind (arith, parts, descriptor_read p, place_read (p - (n + 29) / 30), long, committed.spelled);
-  }
+  whole_two rising inside =
+      let smalls = All-from_get_or (λ (b : ℕ). b < 2147483648) (numbers_of found) 0 small in
+      let sizes = All-from_get_or (λ (e : Entry). length e.1 ≡ 512) found (0, []) (λ i below. (block_read i (omega (arith, below, long))).0) in
+      let fit : AreEntries 240 shape.blocks found = grind (arith, long, committed.some, committed.few, rising, inside, smalls, sizes) in
+      record {
+        fit = fit;
+        least = committed.least;
+        below = committed.most;
+        there = λ p within. grind (arith, parts, descriptor_read p, place_read (p - (n + 29) / 30), long, committed.spelled);
+      }

@@ -74,15 +74,11 @@ count_stands size shape image head count fits s h c =
       get_or-map-range_with_len read 0 count j j [] (omega (arith, below, long)) (omega arith),
       ← ((laws_of shape.format).read shape image (head + j) w.0 w.1),
     ) w.1 in
-    let stands : StandsFor size shape image (with_records records (home_of shape image)) (head + count + 1) = record {
-      fits = fits;
-      head = head;
-      records = records;
-      keeps = record { super = s; head_is = h; whole = whole; blocks = λ b below. refl };
-      few = omega (arith, long, c.few);
-      ends = rw long c.ends;
-      next_is = omega (arith, long);
-    } in
+    let stands : StandsFor size shape image (with_records records (home_of shape image)) (head + count + 1) =
+    let few : length records ≤ shape.slots = omega (arith, long, c.few) in
+    let ends = rw (← long) at c.ends in
+    let next_is : head + count + 1 ≡ head + length records + 1 = omega (arith, long) in
+    search rules in
     record { array = with_records records (home_of shape image); stands = stands; head_is = refl; count_is = long }
 
 -- an image that stands for something has the shape of its super
@@ -110,15 +106,11 @@ all_or_not P each xs d =
     let all = each_or_not (λ k. P (get_or xs k d)) (length xs) (λ k. each (get_or xs k d)) in
     search (rules, All-from_get_or P xs d)
 
--- below or not
-below_or_not : (a b : ℕ) → Decided (a < b)
-below_or_not a b = grind (arith, cases_lt a b)
-
 -- numbers rise or not
 rising_or_not : (numbers : List ℕ) → Decided (IsRising numbers)
 rising_or_not numbers =
     let all = each_or_not (λ j. (i : ℕ) → i < j → get_or numbers i 0 < get_or numbers j 0) (length numbers)
-    (λ j. each_or_not (λ i. get_or numbers i 0 < get_or numbers j 0) j (λ i. below_or_not _ _)) in
+    (λ j. each_or_not (λ i. get_or numbers i 0 < get_or numbers j 0) j (λ i. grind (arith, cases_lt (get_or numbers i 0) (get_or numbers j 0)))) in
     search (rules, arith)
 
 -- a sector is a head or not
@@ -144,8 +136,8 @@ super_or_not bytes =
 entries_or_not : (most blocks : ℕ) (es : List Entry) → Decided (AreEntries most blocks es)
 entries_or_not most blocks es =
     let rising = rising_or_not (numbers_of es) in
-    let inside = all_or_not (λ b. b < blocks) (λ b. below_or_not b blocks) (numbers_of es) 0 in
-    let small = all_or_not (λ b. b < 2 ^ 31) (λ b. below_or_not b (2 ^ 31)) (numbers_of es) 0 in
+    let inside = all_or_not (λ b. b < blocks) (λ b. grind (arith, cases_lt b blocks)) (numbers_of es) 0 in
+    let small = all_or_not (λ b. b < 2 ^ 31) (λ b. grind (arith, cases_lt b (2 ^ 31))) (numbers_of es) 0 in
     let sized = all_or_not (λ e. length e.1 ≡ 512) (λ e. cases_eq (length e.1) 512) es (0, []) in
     search (rules, arith, cases_lt 0 (length es), cases_lt most (length es))
 

@@ -6,6 +6,5 @@ pub mod Format2
 pub mod Formats
 pub mod Reading
 pub mod Record
-pub mod Parts
 pub mod Staged
 pub mod Standing

@@ -5,7 +5,7 @@ ghost use Rattle.std.specs.Prelude.{slice_range, [], zip, min, IsTrue, IfSome, I
 ghost use Rattle.std.specs.List.{flat_map};
 ghost use Rattle.journal.specs.Sectors.{IsRising, padded, number_in, AreItems};
 ghost use Rattle.journal.specs.Format2.{AreEntriesTwo, IsDescriptorTwo, entries_here, entry_bytes};
-ghost use Rattle.journal.specs.Parts.{CanDescribe, Describes};
+ghost use Rattle.journal.specs.Record.{CanDescribe, Describes};
 
 use crate::fields::{
     append, append_number, are_rising, eight_at, list_of, mark_number, number_at, sector_of,

@@ -3,8 +3,7 @@ ghost use Rattle.std.specs.Prelude.{◌≡◌, ◌≤◌, ◌<◌, ◌-◌, ◌^
 ghost use Rattle.std.specs.Prelude.{slice_range};
 ghost use Rattle.journal.specs.Sectors.{IsRising};
 ghost use Rattle.journal.specs.Format2.{descriptors_of, place_bytes, format2};
-ghost use Rattle.journal.specs.Record.{entries_of};
-ghost use Rattle.journal.specs.Parts.{CanWrite};
+ghost use Rattle.journal.specs.Record.{entries_of, CanWrite};
 
 use crate::Part;
 use crate::v2::{COMMIT, Commit, Descriptor, ENTRIES, FIRST_DATA, data_sector};

@@ -1,4 +1,4 @@
-use Rattle.std.proofs.Common.{◌≡◌, ◌<◌, ◌+◌, ◌*◌, ◌/◌, ℕ, List, ◌++◌, take, refl, rules, arith, below_more}
+use Rattle.std.proofs.Common.{◌≡◌, ◌<◌, ◌+◌, ◌*◌, ◌/◌, ℕ, List, take, refl, rules, arith, below_more}
 use Rattle.std.proofs.lemmas.List.{map-append, take_all}
 use Rattle.medium.specs.Medium.{Image}
 use Rattle.journal.specs.Record.{Entry}
@@ -18,15 +18,12 @@ loop-j-preserved g c =
     let same : (g.M.Medium.state c.loop-j.m).content ≡ image = λ i s. inv.looked.passes.quiet.content_stays s i in
     let finds = rw (c.in-Some.is, same) at c.in_ok-found.ensures.finds in
     let es : List Entry = entries_at image at n in
-    let so_far : List Entry = take (30 * c.loop-j.j) es in
-    let numbers : c.append.new.self.numbers.items ≡ c.loop-j.to.numbers.items ++ c.in-Some.found.numbers.items = cc in
-    let firsts : c.append.new.self.firsts.items ≡ c.loop-j.to.firsts.items ++ c.in-Some.found.firsts.items = cc in
+    let joined = λ (X : Type 0) (part : Entry → X). map-append part (take (30 * c.loop-j.j) es) (chunk_of es c.loop-j.j) in
     let more = take_chunk es j in
-    let chunk : List Entry = chunk_of es c.loop-j.j in
     record {
       there = below_more (HasDescriptor image at c.args.stamp n) j inv.there (_, _, finds.1);
-      numbers = cc (numbers, inv.numbers, chunk_numbers image at n finds.1, more, map-append (λ (e : Entry). e.0) so_far chunk);
-      firsts = cc (firsts, inv.firsts, chunk_firsts image at n finds.1, more, map-append (λ (e : Entry). take 8 e.1) so_far chunk);
+      numbers = cc (chunk_numbers image at n finds.1, more, joined ℕ (λ e. e.0));
+      firsts = cc (chunk_firsts image at n finds.1, more, joined (List ℕ) (λ e. take 8 e.1));
       looked = looks_on g.met.M.Medium.follows_through inv.looked c.read_descriptor.ensures (omega arith) tt
           (omega (arith, inv.looked.finds, finds.0));
     }

@@ -2,6 +2,7 @@ use Rattle.std.proofs.Common.{◌≡◌, ◌<◌, ◌+◌, ◌*◌, ◌%◌, ℕ
 use Rattle.medium.specs.Medium.{Image}
 use Rattle.journal.specs.Format2.{descriptors_of, entries_at}
 use Rattle.journal.specs.Formats.{shape_of}
+use Rattle.journal.specs.Reading.{NamesBlocks}
 use Rattle.journal.proofs.SectorsRead.{read_is, within_two, looks_on, looks_within}
 use Rattle.journal.proofs.SlotTwo.{commit_count, numbers_long, named, named_alone, untrue, commit_whole}
 use Rattle.journal.proofs.SlotTwo.{described_whole, record_read, whole_two}
@@ -57,6 +58,8 @@ returns-then-are_blocks g c =
     let blocks = rw c.deref.ensures.0 at (c.are_blocks.ensures.0 c.if-are_blocks.true) in
     let these = rw says.0.numbers_are at blocks in
     let long : length read ≡ n = rw says.0.numbers_are (numbers_long image at n) in
+    let names : NamesBlocks image at s c.args.sizes.now.blocks (length read) =
+    (read, refl, rw (← says.0.numbers_are) at (named image at n s says.0.there), blocks.0, blocks.1) in
     let sound = g.met.M.Medium.sound c.args.m.now in
     let sized = λ (x : ℕ) (below : x < 249). sound.sized (at + x) (image (at + x)) (omega (arith, ends, is, c.requires.fits, below))
     (sound.holds_content (at + x)) in
@@ -68,15 +71,7 @@ returns-then-are_blocks g c =
       );
       all = λ entries whole. read_is shape image s entries whole c.read_descriptors.new.to
           (rw (two, commit_count s n _ commit.1) says.0.numbers_are) (rw (two, commit_count s n _ commit.1) says.0.firsts_are);
-      exact = (
-        1 + descriptors_of (length read),
-        rw two (
-          rw (← long) at commit.1,
-          (read, refl, rw (← says.0.numbers_are) at (named image at n s says.0.there), blocks.0, blocks.1),
-          refl,
-        ),
-        omega (arith, long, says.1, commit.0),
-      );
+      exact = (1 + descriptors_of (length read), rw two (rw (← long) at commit.1, names, refl), omega (arith, long, says.1, commit.0));
     })
 
 pub returns-else-are_blocks : goal.returns-else-are_blocks
@@ -92,28 +87,15 @@ returns-else-are_blocks g c =
     let commit = rw (c.in-Some.is, is) at c.in_ok-count.ensures.finds in
     let says = rw (c.if-not-branch.false, same, is) at c.in_ok-read_descriptors.ensures.finds in
     let not = rw (c.deref.ensures.0, says.0.numbers_are, c.if-are_blocks.false) at c.are_blocks.ensures.1 in
+    let none : ¬ NamesBlocks image at s c.args.sizes.now.blocks n = λ fit.
+    let one = named_alone image at n s fit.0 fit.1 fit.2 in untrue (not (rw one at fit.3, rw one at fit.4)) in
     looks_on g.met.M.Medium.follows_through (looks_within ends c.read_count.ensures) (looks_within ends c.read_descriptors.ensures)
     (omega arith) tt (record {
       some = tt;
       all = λ entries whole.
           let one = rw (commit_count s n _ commit.1) at (record_read _ _ _ _ (as_format two whole)) in
           untrue (not (rw one at whole.fit.rising, rw one at whole.fit.inside));
-      exact = (
-        1 + descriptors_of n,
-        rw two (inr (
-          n,
-          commit.1,
-          descriptors_of n,
-          inr (
-            says.0.there,
-            λ fit.
-                let one = named_alone image at n s fit.0 fit.1 fit.2 in untrue (not (rw one at fit.3, rw one at fit.4)),
-            refl,
-          ),
-          refl,
-        )),
-        omega (arith, says.1, commit.0),
-      );
+      exact = (1 + descriptors_of n, rw two (inr (n, commit.1, descriptors_of n, inr (says.0.there, none, refl), refl)), omega (arith, says.1, commit.0));
     })
 
 pub returns-in_err-read_descriptors : goal.returns-in_err-read_descriptors
