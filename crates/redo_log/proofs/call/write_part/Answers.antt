@@ -1,4 +1,4 @@
-use Rattle.std.proofs.Common.{◌≡◌, ◌+◌, ◌-◌, ◌<◌, length, arith}
+use Rattle.std.proofs.Common.{◌≡◌, ◌+◌, ◌-◌, ◌<◌, length, arith, rules}
 use Rattle.journal.specs.Formats.{shape_of, layout_of}
 use Rattle.journal.specs.Layout.{part_at}
 use Rattle.journal.proofs.Formats.{laws_of, most_is}
@@ -38,3 +38,6 @@ overflow_add-slot_place g c = grind (arith, before g c, c.args.sizes.now.home_is
 
 pub write-requires : goal.write-requires
 write-requires g c = omega (arith, before g (goal.at.write-requires g c).After-slot_place, c.requires.fits)
+
+pub returns-clause-makes : goal.returns-clause-makes
+returns-clause-makes g c = search rules
