@@ -13,7 +13,6 @@ use Rattle.redo_log.specs.Value.{sends_of_oldest, most_retire_sends, next_turn_f
 use Rattle.redo_log.specs.Shown.{flush_of, written_at, flushed_at}
 use Rattle.redo_log.specs.Calls.{IsFlushDue, Write, Flush, placed, MakesCall, CallsUpTo, Call, fault_of, IsNextCall}
 use Rattle.std.specs.Prelude.{slice_range, OnOk, OnErr, true}
-use Rattle.std.proofs.lemmas.Result.{on_ok_weaker}
 use Rattle.medium.specs.Medium.{State, Stays, Holds, Within, Gains, Only, Passes, IsSound, LooksOnly}
 use Rattle.medium.specs.Moments.{LeavesOnly, SparesFrom}
 use Rattle.medium.proofs.Moments.{weaker}
@@ -57,7 +56,7 @@ pub flush_makes : (old new : State) (result : Result (Unit {0}) MediumFault) →
     → Stays old.content new.content → Within new.may_leave old.may_leave → Passes fault.Flush result old new
     → MakesCall Flush result old new
 flush_makes old new result sound ok content sets passes = record {
-  done = on_ok_weaker result (λ only. (content, only)) ok;
+  done = search rules;
   adds = sets;
   passes = passes;
   spares = λ first below. spared_silent first old new sound passes content sets;
