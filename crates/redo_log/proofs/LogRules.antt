@@ -3,7 +3,7 @@ use Rattle.std.proofs.Common.{◌≡◌, ◌⊎◌, ℕ, ◌+◌, ◌-◌, ◌%�
 use Rattle.std.proofs.Common.{rules, ◌≢◌, suc, ◌*◌, ◌≤◌, get_or}
 use Rattle.std.proofs.Math.Nat.{mod-add-mod, mod-eq-sub-mod, mod-eq_of_lt, mul-le-mul_left}
 use Rattle.std.proofs.lemmas.Bool.Decides.{nat_tests}
-use Rattle.std.specs.Prelude.{Option, slice_index_or, All, Bool, sum_by}
+use Rattle.std.specs.Prelude.{Option, All, Bool, sum_by}
 use Rattle.arrayvec.specs.ArrayVec.{ArrayVec}
 use Rattle.journal.specs.Places.{Shape, limit_of}
 use Rattle.redo_log.specs.Value.{retire_steps_of, Ahead, AllFirsts, LogValue, HasRoom, most_retire_steps, steps_of}
@@ -91,11 +91,6 @@ module _ (i : Inside) {log : LogValue} (is : shown i ≡ log) where
       → IsRecord (shown i).shape (i.head + length (shown i).waiting) i.under_way.items =
       λ some. grind (arith, inv.each, many_lists i.waiting.items) in
       rw (← is) (grind (arith, inv.each, many_lists i.waiting.items, record_is, sizes_sized i.sizes))
-
-  -- a record stands in front
-  module _ (first : ArrayVec ℕ) (some : 0 < length i.waiting.items) (there : first ≡ slice_index_or i.waiting.items 0 first) where
-    pub front : lists_of i.waiting.items ≡ first.items ∷ lists_of (drop 1 i.waiting.items)
-    front = grind (arith, there)
 
 -- ---- the oldest record, as others come and go
 
