@@ -31,40 +31,11 @@ use Rattle.redo_log.specs.Turns.{counts_of, IsHeadTurn, IsNextTurn}
 use Rattle.redo_log.proofs.LogRules.{IsLog, made_is}
 use Rattle.std.proofs.lemmas.List.{get_or_past}
 
--- a good write holds the bytes, and a refused one may
-pub either_way : {P Q : Type 0} (result : Result (Unit {0}) MediumFault) → OnOk result P → OnErr result (Q ⊎ P) → Q ⊎ P
-either_way result ok err = grind (arith, ok, err)
-
 -- what steps of a log leave, by what a cut leaves of it
 pub leaves_log : {log : LogValue} {old new : State} → ((view : View) → HoldsView log old view → view.ours ≡ true
     → LeavesOnly (MayLeave old.size log view) old new) → SparesFrom (sectors_of log.shape) old new
     → LooksOnly (λ s. s < first_home log.shape) old new → LeavesLog log old new
 leaves_log cuts spares looks = let moments = weaker _ (λ _. Unit {0}) _ _ (λ image left. tt) spares.moments in search rules
-
--- a write, good or refused
-pub write_makes : (place : ℕ) (bytes written : List ℕ) (old new : State) (result : Result (Unit {0}) MediumFault) → IsSound old
-    → written ≡ bytes → OnOk result (Holds place written old.content new.content)
-    → OnErr result (Stays old.content new.content ⊎ Holds place written old.content new.content)
-    → Gains place written old.may_leave new.may_leave → Passes fault.Write result old new → MakesCall (Write place bytes) result old new
-write_makes place bytes written old new result sound same ok err sets passes =
-    let spares = λ (first : ℕ) (below : place < first).
-    spared_write first old new place written sound below passes sets (either_way result ok err) in
-    rw (← same) (search rules)
-
--- a flush, good or refused
-pub flush_makes : (old new : State) (result : Result (Unit {0}) MediumFault) → IsSound old → OnOk result (Only old.content new.may_leave)
-    → Stays old.content new.content → Within new.may_leave old.may_leave → Passes fault.Flush result old new
-    → MakesCall Flush result old new
-flush_makes old new result sound ok content sets passes = record {
-  done = search rules;
-  adds = sets;
-  passes = passes;
-  spares = λ first below. spared_silent first old new sound passes content sets;
-}
-
--- there is a commit behind the blocks
-pub parts_more : (format : LogFormat) (n : ℕ) → n + 1 ≤ (layout_of format).parts n
-parts_more format n = grind arith
 
 -- the data places stand behind the descriptors, and before the commit
 module _ (numbers bytes : List ℕ) (i p : ℕ) (below : i < length numbers) where

@@ -10,7 +10,7 @@ use Rattle.std.proofs.lemmas.Bool.Decides.{nat_tests}
 use Rattle.std.proofs.lemmas.List.Elements.{All-filter, All-cons, All-append, All-from_get_or, All-contains, All-map}
 use Rattle.std.proofs.lemmas.List.Elements.{Contains-append_left, Contains-append_right, Contains-get_or}
 use Rattle.redo_log.specs.declared.index.Copied.{Copied}
-use Rattle.redo_log.specs.Index.{look, outside, block_at, IsSorted, Enters, Finds, IsIndex}
+use Rattle.redo_log.specs.Index.{look, outside, IsSorted, Enters, Finds, IsIndex}
 use Rattle.std.proofs.lemmas.Bool.{cases_eq, cases_lt, eq-eqb, ne_eqb, eqb-true}
 use Rattle.std.proofs.lemmas.List.{drop-set, take_more, take-set-le, get_or_append_left, get_or-append-add, get_or-take}
 use Rattle.std.proofs.lemmas.List.{get_or_at, length-set, length-take-le, length-map, get_or-map, get_or_default}
@@ -31,13 +31,13 @@ abbrev pub blank : Copied
 blank = record { block = 0; slot = 0; place = 0 }
 
 -- a block that no entry has is not found
-look-absent : (index : List Copied) (block : ℕ) → ((i : ℕ) → i < length index → block_at index i ≢ block) → look index block ≡ None
+look-absent : (index : List Copied) (block : ℕ) → ((i : ℕ) → i < length index → (get_or index i blank).block ≢ block) → look index block ≡ None
 look-absent [] block none = refl
 look-absent (c ∷ index) block none =
     grind (arith, nat_tests, none 0 (omega arith), look-absent index block (λ j less. none (suc j) (omega arith)))
 
 -- the block is found at its place
-pub look_found : (index : List Copied) → IsSorted index → (at block : ℕ) → at < length index → block_at index at ≡ block
+pub look_found : (index : List Copied) → IsSorted index → (at block : ℕ) → at < length index → (get_or index at blank).block ≡ block
     → look index block ≡ Some ((get_or index at blank).slot, (get_or index at blank).place)
 look_found [] sorted at block below is = absurd (omega (arith, below))
 look_found (c ∷ index) sorted at block below is =
@@ -103,8 +103,8 @@ entry_of slot numbers place = record { block = slice_index numbers place; slot =
 
 -- of the first `was` entries `left` are left where this block enters: all, which have smaller blocks, or the last one has this block
 abbrev AreLeft : List Copied → ℕ → ℕ → ℕ → Type 0
-AreLeft index block was left = ((left ≡ was) × (0 < was → block_at index (was - 1) < block))
-    ⊎ ((was ≡ left + 1) × (block_at index left ≡ block))
+AreLeft index block was left = ((left ≡ was) × (0 < was → (get_or index (was - 1) blank).block < block))
+    ⊎ ((was ≡ left + 1) × ((get_or index left blank).block ≡ block))
 
 -- a number of the record goes behind those that are left, and before others
 module _ {old : List Copied} {slot : ℕ} {numbers : List ℕ} (index back : List Copied) (was left place : ℕ) (fits : was ≤ length index)
@@ -182,7 +182,7 @@ module _ {old : List Copied} {slot : ℕ} {numbers : List ℕ} (rising : IsRisin
 
   -- the last entry that is left, above all numbers that are left
   pub entry_moves : (was left place till to : ℕ) (index : List Copied) → was ≡ left + 1 → till ≡ to + 1
-      → (0 < place → slice_index numbers (place - 1) < block_at index left) → IsMerging old slot numbers was place till index
+      → (0 < place → slice_index numbers (place - 1) < (get_or index left blank).block) → IsMerging old slot numbers was place till index
       → IsMerging old slot numbers left place to (set index to (get_or index left blank))
   entry_moves was left place till to index one_less room over merged =
       let c = get_or index left blank in
@@ -220,8 +220,8 @@ record_room slots stamp most records index is free small room count few enough =
     let f : Copied → ℕ = λ c. c.block in
     let each = All-map (Contains (all_of records)) f index
     (All-from_get_or (λ c. Contains (all_of records) c.block) index blank (λ i below.
-    let n = rw (look_found index is.sorted i (block_at index i) below refl) at (is.finds (block_at index i)) in
-    in_all records n.age (block_at index i) n.waits
+    let n = rw (look_found index is.sorted i ((get_or index i blank).block) below refl) at (is.finds ((get_or index i blank).block)) in
+    in_all records n.age ((get_or index i blank).block) n.waits
     (rw n.named at (Contains-get_or (get_or records n.age []) (get_or index i blank).place 0 n.inside)))) in
     let apart = IsDistinct-from_apart eqb (map f index) (λ i j d less inside. grind (arith, nat_tests, length-map index f,
     get_or-map f index i blank d, get_or-map f index j blank d, is.sorted i j blank, inside)) in
