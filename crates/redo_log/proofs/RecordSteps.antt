@@ -11,14 +11,13 @@ use Rattle.journal.proofs.Format1Laws.{below_is, above_is}
 use Rattle.redo_log.specs.Value.{steps_for, most_steps, LogValue, of_oldest, next_calls, next_sends, turns_sends}
 use Rattle.redo_log.specs.Value.{sends_of_oldest, most_retire_sends, next_turn_flushes, step_flushes, next_step_flushes}
 use Rattle.redo_log.specs.Shown.{flush_of, written_at, flushed_at}
-use Rattle.redo_log.specs.Calls.{IsFlushDue, Write, Flush, placed, MakesCall, CallsUpTo, Call, fault_of, IsNextCall}
-use Rattle.std.specs.Prelude.{slice_range, OnOk, OnErr, true}
-use Rattle.medium.specs.Medium.{State, Stays, Holds, Within, Gains, Only, Passes, IsSound, LooksOnly}
+use Rattle.redo_log.specs.Calls.{IsFlushDue, Flush, placed, CallsUpTo, Call, fault_of, IsNextCall}
+use Rattle.std.specs.Prelude.{slice_range, true}
+use Rattle.medium.specs.Medium.{State, Passes, LooksOnly}
 use Rattle.medium.specs.Moments.{LeavesOnly, SparesFrom}
 use Rattle.medium.proofs.Moments.{weaker}
 use Rattle.medium.specs.declared.fault.MediumFault.{MediumFault}
 use Rattle.medium.specs.declared.fault.MediumFault.TheVariants as fault
-use Rattle.medium.proofs.SparedSectors.{spared_write, spared_silent}
 use Rattle.journal.specs.Record.{Entry, block_of, entries_of}
 use Rattle.journal.proofs.BatchEntries.{length_of_batch, entry_of_batch}
 use Rattle.journal.proofs.Format1Laws as layout

@@ -1,8 +1,7 @@
 -- What a caller sees of a redo log, and how its calls change that.
-use Rattle.std.specs.Prelude.{◌≡◌, ℕ, zero, suc, ◌+◌, ◌-◌, ◌%◌, ◌<◌, List, [], ◌∷◌, ◌++◌, length}
-use Rattle.std.specs.Prelude.{get_or, slice_get, slice_index, drop, sum_by, Contains, Bool, All}
-use Rattle.std.specs.Prelude.{Option, true, false, if◌then◌else◌, ◌==◌, nat_lt, ◌≤◌, Result, OnOk}
-use Rattle.std.specs.Prelude.{◌*◌}
+use Rattle.std.specs.Prelude.{zero, length, get_or, slice_get, slice_index, Contains, if◌then◌else◌}
+use Rattle.std.specs.Prelude.{List, ◌++◌, drop, sum_by, Bool, Option, true, false, nat_lt, Result}
+use Rattle.std.specs.Prelude.{◌≡◌, ℕ, suc, ◌+◌, ◌-◌, ◌%◌, ◌<◌, [], ◌∷◌, All, ◌==◌, ◌≤◌, OnOk, ◌*◌}
 use Rattle.journal.specs.declared.log_format.LogFormat.{LogFormat}
 use Rattle.journal.specs.declared.log_format.LogFormat.TheVariants.{One, Two}
 use Rattle.journal.specs.Places.{Shape, limit_of}
