@@ -7,7 +7,6 @@ use Rattle.journal.specs.declared.log_format.LogFormat.TheVariants.{One, Two}
 use Rattle.journal.specs.Places.{limit_of, first_data_of, first_home, sectors_of}
 use Rattle.journal.specs.Layout.{Layout}
 use Rattle.journal.specs.Formats.{layout_of}
-use Rattle.journal.proofs.Format1Laws.{below_is, above_is}
 use Rattle.redo_log.specs.Value.{steps_for, most_steps, LogValue, of_oldest, next_calls, next_sends, turns_sends}
 use Rattle.redo_log.specs.Value.{sends_of_oldest, most_retire_sends, next_turn_flushes, step_flushes, next_step_flushes}
 use Rattle.redo_log.specs.Shown.{flush_of, written_at, flushed_at}
@@ -18,7 +17,7 @@ use Rattle.medium.specs.Moments.{LeavesOnly, SparesFrom}
 use Rattle.medium.proofs.Moments.{weaker}
 use Rattle.medium.specs.declared.fault.MediumFault.{MediumFault}
 use Rattle.medium.specs.declared.fault.MediumFault.TheVariants as fault
-use Rattle.journal.specs.Record.{Entry, block_of, entries_of}
+use Rattle.journal.specs.Record.{entries_of}
 use Rattle.journal.proofs.BatchEntries.{length_of_batch, entry_of_batch}
 use Rattle.journal.proofs.Format1Laws as layout
 use Rattle.journal.specs.declared.head.Head.{Head as HeadOf}
@@ -38,12 +37,6 @@ leaves_log cuts spares looks = let moments = weaker _ (λ _. Unit {0}) _ _ (λ i
 
 -- the data places stand behind the descriptors, and before the commit
 module _ (numbers bytes : List ℕ) (i p : ℕ) (below : i < length numbers) where
-  block_is : block_of (entries_of numbers bytes) i ≡ slice_range bytes (512 * i) (512 * i + 512)
-  block_is = ap (λ (e : Entry). e.1) (entry_of_batch i numbers bytes (0, []) below)
-
-  many : length (entries_of numbers bytes) ≡ length numbers
-  many = length_of_batch numbers bytes
-
   pub data_offset : (format : LogFormat) → p + 1 + length numbers ≡ (layout_of format).parts (length numbers) + i
       → (layout_of format).offset (length numbers) p ≡ first_data_of format + i
   data_offset One is = grind (arith, layout.parts)
@@ -51,9 +44,9 @@ module _ (numbers bytes : List ℕ) (i p : ℕ) (below : i < length numbers) whe
 
   pub data_part : (format : LogFormat) (stamp : ℕ) → p + 1 + length numbers ≡ (layout_of format).parts (length numbers) + i
       → placed format stamp (slice_range bytes (512 * i) (512 * i + 512)) ≡ (layout_of format).part stamp (entries_of numbers bytes) p
-  data_part One stamp is = let i_is : p - 1 ≡ i = omega (arith, is) in grind (arith, layout.parts, block_is, many)
+  data_part One stamp is = let i_is : p - 1 ≡ i = omega (arith, is) in grind (arith, layout.parts, entry_of_batch, length_of_batch)
   data_part Two stamp is =
-      let i_is : p - (length (entries_of numbers bytes) + 29) / 30 ≡ i = omega (arith, is, many) in grind (arith, layout.parts, block_is, many)
+      let i_is : p - (length numbers + 29) / 30 ≡ i = omega (arith, is) in grind (arith, layout.parts, entry_of_batch, length_of_batch)
 
 -- the early parts have a flush, where there are any
 pub flush_of_is : (e : ℕ) → ((e ≡ 0) × (flush_of e ≡ 0)) ⊎ ((0 < e) × (flush_of e ≡ 1))

@@ -7,7 +7,7 @@ use Rattle.std.specs.List.{filter, AllPairs, remove_range, flat_map}
 use Rattle.std.specs.List.Sorted.{IsNonDecreasingBy, IsPartitionPoint}
 use Rattle.std.specs.Ordering.{nat_cmp, ordering_index}
 use Rattle.std.proofs.lemmas.Bool.Decides.{nat_tests}
-use Rattle.std.proofs.lemmas.List.Elements.{All-filter, All-cons, All-append, All-from_get_or, All-contains, All-map}
+use Rattle.std.proofs.lemmas.List.Elements.{All-filter, All-cons, All-from_get_or, All-contains, All-map}
 use Rattle.std.proofs.lemmas.List.Elements.{Contains-append_left, Contains-append_right, Contains-get_or}
 use Rattle.redo_log.specs.declared.index.Copied.{Copied}
 use Rattle.redo_log.specs.Index.{look, outside, IsSorted, Enters, Finds, IsIndex}
@@ -23,7 +23,7 @@ use Rattle.std.proofs.lemmas.Map.Keys.{IsDistinct-from_apart}
 use Rattle.std.proofs.lemmas.Map.Made.{length-le_from_is_member}
 use Rattle.std.proofs.lemmas.Map.Views.{Contains-from_any, list_any-from_Contains}
 use Rattle.std.proofs.Math.Nat.{mul-le-mul_left}
-use Rattle.std.proofs.Math.Seq.{get_or-append_seam}
+use Rattle.std.proofs.Math.Seq.{get_or-append_seam, get_or-append_right}
 use Rattle.journal.proofs.Slots.{other_slot}
 
 -- no entry
@@ -86,11 +86,9 @@ pub record IsMerging (old : List Copied) (slot : ℕ) (numbers : List ℕ) (left
 -- some pairs, and then some more that each of them goes with
 pairs_append : {X : Type 0} (R : X → X → Type 0) (front back : List X) → AllPairs R front → AllPairs R back
     → All (λ x. All (R x) back) front → AllPairs R (front ++ back)
-pairs_append R [] back of_front of_back across = of_back
-pairs_append R (x ∷ front) back of_front of_back across = AllPairs-cons R x (front ++ back)
-    (All-append (R x) front back (λ i d less. of_front 0 (suc i) d (omega arith) (omega arith)) (across 0 x (omega arith)))
-    (pairs_append R front back (λ i j d less below. of_front (suc i) (suc j) d (omega arith) (omega arith)) of_back
-    (λ i d less. across (suc i) d (omega arith)))
+pairs_append R front back of_front of_back across i j d less below =
+    grind (arith, get_or_append_left front back d, get_or-append_right front back, length-append front back, of_front i j d,
+    of_back (i - length front) (j - length front) d, λ (low : i < length front). across i d low (j - length front) d)
 
 -- an entry between others is found for its own block alone
 look_other : (front back : List Copied) (e : Copied) (b : ℕ) → e.block ≢ b → look (front ++ e ∷ back) b ≡ look (front ++ back) b
