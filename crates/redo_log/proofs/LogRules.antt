@@ -1,9 +1,9 @@
 -- What is true of every log, as a caller sees it, whatever its fields are, and how its records come and go.
 use Rattle.std.proofs.Common.{◌≡◌, ◌⊎◌, ℕ, ◌+◌, ◌-◌, ◌%◌, ◌<◌, List, [], ◌∷◌, ◌++◌, length, drop, sym, ◌∙◌, arith}
-use Rattle.std.proofs.Common.{rules, ◌≢◌, suc, ◌*◌, ◌≤◌, get_or, refl}
+use Rattle.std.proofs.Common.{rules, ◌≢◌, suc, ◌*◌, ◌≤◌, get_or}
 use Rattle.std.proofs.Math.Nat.{mod-add-mod, mod-eq-sub-mod, mod-eq_of_lt, mul-le-mul_left}
 use Rattle.std.proofs.lemmas.Bool.Decides.{nat_tests}
-use Rattle.std.specs.Prelude.{Option, slice_index_or, All, Bool, sum_by}
+use Rattle.std.specs.Prelude.{Option, All, Bool, sum_by}
 use Rattle.arrayvec.specs.ArrayVec.{ArrayVec}
 use Rattle.journal.specs.Places.{Shape, limit_of}
 use Rattle.redo_log.specs.Value.{retire_steps_of, Ahead, AllFirsts, LogValue, HasRoom, most_retire_steps, steps_of}
@@ -25,11 +25,6 @@ needed_one ahead head behind left e = grind (arith, nat_tests, e)
 -- two are left, and the flush was made
 pub needed_covered : (ahead : Ahead) (head behind : ℕ) → ahead.home ≡ head → ahead.before < behind → needed_at ahead head behind 2 ≡ 1
 needed_covered ahead head behind same since = grind (arith, nat_tests)
-
--- how many retire steps a record needs
-pub steps_of_one : (numbers : List ℕ)
-    → ((length numbers ≡ 0) × (retire_steps_of numbers ≡ 0)) ⊎ (retire_steps_of numbers ≡ length numbers + 2)
-steps_of_one numbers = grind arith
 
 -- how old the record in a slot is
 pub age_is : (slots head age slot : ℕ) → age < slots → slot ≡ (head + age) % slots → (slot + slots - head % slots) % slots ≡ age
@@ -97,14 +92,6 @@ module _ (i : Inside) {log : LogValue} (is : shown i ≡ log) where
       λ some. grind (arith, inv.each, many_lists i.waiting.items) in
       rw (← is) (grind (arith, inv.each, many_lists i.waiting.items, record_is, sizes_sized i.sizes))
 
-  -- a record stands in front
-  module _ (first : ArrayVec ℕ) (some : 0 < length i.waiting.items) (there : first ≡ slice_index_or i.waiting.items 0 first) where
-    pub front : lists_of i.waiting.items ≡ first.items ∷ lists_of (drop 1 i.waiting.items)
-    front = grind (arith, there)
-
-    pub left_of : of_oldest log ≡ length first.items + 2 - i.turned
-    left_of = rw (← is, front) (omega arith)
-
 -- ---- the oldest record, as others come and go
 
 -- a record takes a stamp
@@ -114,16 +101,14 @@ one_stamp numbers some = grind arith
 -- those of the oldest record and of the others
 steps_of_all : (waiting : List (List ℕ))
     → sum_by retire_steps_of waiting ≡ retire_steps_of (get_or waiting 0 []) + sum_by retire_steps_of (drop 1 waiting)
-steps_of_all [] = refl
-steps_of_all (n ∷ newer) = sum_by-cons retire_steps_of n newer
+steps_of_all waiting = grind (arith, sum_by-cons retire_steps_of)
 
 -- records of which `left` steps are left of the oldest need no more than this
 few_owed : (shape : Shape) (most : ℕ) → limit_of shape.format + 2 ≤ most → (waiting : List (List ℕ)) → All (AreInside shape) waiting
     → (left : ℕ) → (length waiting ≡ 0 → left ≡ 0) → left ≤ length (get_or waiting 0 []) + 2
     → left + sum_by retire_steps_of (drop 1 waiting) ≤ most * length waiting
-few_owed shape most few [] each left none within = omega arith
-few_owed shape most few (n ∷ newer) each left none within =
-    grind (arith, sum_by-le retire_steps_of most newer (λ i d below. grind (arith, each (suc i) d)), each 0 [])
+few_owed shape most few waiting each left none within =
+    grind (arith, sum_by-le retire_steps_of most (drop 1 waiting) (λ i d below. grind (arith, each (suc i) d)), each 0 [])
 
 -- with one more a log with room owes no more than its slots may need
 pub few_begun : {log : LogValue} → IsLog log → HasRoom log → (numbers : List ℕ) → length numbers ≤ limit_of log.shape.format
@@ -148,17 +133,15 @@ module _ (log : LogValue) where
 
   -- of the record behind the oldest no block is home, and it is not flushed there
   pub nothing_home : (i : ℕ) → i < turned_of (retired_of log) → ¬ (i < length (get_or (drop 1 log.waiting) 0 []))
-  nothing_home i low high = omega (arith, steps_of_all (drop 1 log.waiting), steps_of_one (get_or (drop 1 log.waiting) 0 []), low, high)
+  nothing_home i low high = grind (arith, steps_of_all (drop 1 log.waiting), low, high)
 
   pub not_homed : of_oldest (retired_of log) ≢ 1
-  not_homed one = omega (arith, steps_of_all (drop 1 log.waiting), steps_of_one (get_or (drop 1 log.waiting) 0 []), one)
+  not_homed one = grind (arith, steps_of_all (drop 1 log.waiting), one)
 
 -- as fields have it, the log with the oldest record retired
 pub retired_value : (ahead : Ahead) (shape : Shape) (head : ℕ) (waiting : List (List ℕ)) (turned : ℕ) (kept : AllFirsts) (items : List ℕ)
     (writing : Option ℕ) (dead : Bool) → All (AreInside shape) waiting → 0 < length waiting
     → value_at ahead shape (head + 1) (drop 1 waiting) 0 (drop 1 kept) items writing dead
     ≡ retired_of (value_at ahead shape head waiting turned kept items writing dead)
-retired_value ahead shape head [] turned kept items writing dead each some = absurd (omega arith)
-retired_value ahead shape head (n ∷ []) turned kept items writing dead each some = grind arith
-retired_value ahead shape head (n ∷ next ∷ newer) turned kept items writing dead each some =
-    grind (arith, each 1 [], steps_of_one next, sum_by-cons retire_steps_of next newer)
+retired_value ahead shape head waiting turned kept items writing dead each some =
+    grind (arith, each 1 [], steps_of_all (drop 1 waiting))

@@ -57,7 +57,7 @@ with_blocks-none (e ∷ entries) a b none =
 -- a block that a record names at this place is the one there
 with_blocks-at : (entries : List Entry) (a : Array) (b i : ℕ) → IsRising (numbers_of entries) → i < length (numbers_of entries)
     → slice_index (numbers_of entries) i ≡ b → with_blocks entries a b ≡ block_of entries i
-with_blocks-at [] a b i rising below is = absurd (omega (arith, below))
+with_blocks-at [] a b i rising below is = grind arith
 with_blocks-at (e ∷ entries) a b zero rising below is = grind (arith, nat_tests, is)
 with_blocks-at (e ∷ entries) a b (suc i) rising below is =
     let rest = with_blocks-at entries a b i (λ j k less inside. rising (suc j) (suc k) (omega arith) (omega arith)) (omega arith) is in
@@ -71,8 +71,7 @@ with_records-none : (records : List (List Entry)) (a : Array) (b : ℕ)
     → ((age : ℕ) → age < length (named records) → ¬ Contains (get_or (named records) age []) b) → with_records records a b ≡ a b
 with_records-none [] a b none = refl
 with_records-none (r ∷ records) a b none =
-    with_records-none records (with_blocks r a) b (λ age below. none (suc age) (omega arith))
-    ∙ with_blocks-none r a b (none 0 (omega arith))
+    grind (arith, with_records-none records (with_blocks r a) b (λ age below. none (suc age) (omega arith)), with_blocks-none r a b (none 0 (omega arith)))
 
 -- the newest record that names the block gives it
 with_records-at : (records : List (List Entry)) (a : Array) (b age i : ℕ) → age < length (named records)

@@ -7,20 +7,17 @@ use Rattle.journal.specs.declared.log_format.LogFormat.TheVariants.{One, Two}
 use Rattle.journal.specs.Places.{limit_of, first_data_of, first_home, sectors_of}
 use Rattle.journal.specs.Layout.{Layout}
 use Rattle.journal.specs.Formats.{layout_of}
-use Rattle.journal.proofs.Format1Laws.{below_is, above_is}
 use Rattle.redo_log.specs.Value.{steps_for, most_steps, LogValue, of_oldest, next_calls, next_sends, turns_sends}
 use Rattle.redo_log.specs.Value.{sends_of_oldest, most_retire_sends, next_turn_flushes, step_flushes, next_step_flushes}
 use Rattle.redo_log.specs.Shown.{flush_of, written_at, flushed_at}
-use Rattle.redo_log.specs.Calls.{IsFlushDue, Write, Flush, placed, MakesCall, CallsUpTo, Call, fault_of, IsNextCall}
-use Rattle.std.specs.Prelude.{slice_range, OnOk, OnErr, true}
-use Rattle.std.proofs.lemmas.Result.{on_ok_weaker}
-use Rattle.medium.specs.Medium.{State, Stays, Holds, Within, Gains, Only, Passes, IsSound, LooksOnly}
+use Rattle.redo_log.specs.Calls.{IsFlushDue, Flush, placed, CallsUpTo, Call, fault_of, IsNextCall}
+use Rattle.std.specs.Prelude.{slice_range, true}
+use Rattle.medium.specs.Medium.{State, Passes, LooksOnly}
 use Rattle.medium.specs.Moments.{LeavesOnly, SparesFrom}
 use Rattle.medium.proofs.Moments.{weaker}
 use Rattle.medium.specs.declared.fault.MediumFault.{MediumFault}
 use Rattle.medium.specs.declared.fault.MediumFault.TheVariants as fault
-use Rattle.medium.proofs.SparedSectors.{spared_write, spared_silent}
-use Rattle.journal.specs.Record.{Entry, block_of, entries_of}
+use Rattle.journal.specs.Record.{entries_of}
 use Rattle.journal.proofs.BatchEntries.{length_of_batch, entry_of_batch}
 use Rattle.journal.proofs.Format1Laws as layout
 use Rattle.journal.specs.declared.head.Head.{Head as HeadOf}
@@ -32,49 +29,14 @@ use Rattle.redo_log.specs.Turns.{counts_of, IsHeadTurn, IsNextTurn}
 use Rattle.redo_log.proofs.LogRules.{IsLog, made_is}
 use Rattle.std.proofs.lemmas.List.{get_or_past}
 
--- a good write holds the bytes, and a refused one may
-pub either_way : {P Q : Type 0} (result : Result (Unit {0}) MediumFault) → OnOk result P → OnErr result (Q ⊎ P) → Q ⊎ P
-either_way result ok err = grind (arith, ok, err)
-
 -- what steps of a log leave, by what a cut leaves of it
 pub leaves_log : {log : LogValue} {old new : State} → ((view : View) → HoldsView log old view → view.ours ≡ true
     → LeavesOnly (MayLeave old.size log view) old new) → SparesFrom (sectors_of log.shape) old new
     → LooksOnly (λ s. s < first_home log.shape) old new → LeavesLog log old new
 leaves_log cuts spares looks = let moments = weaker _ (λ _. Unit {0}) _ _ (λ image left. tt) spares.moments in search rules
 
--- a write, good or refused
-pub write_makes : (place : ℕ) (bytes written : List ℕ) (old new : State) (result : Result (Unit {0}) MediumFault) → IsSound old
-    → written ≡ bytes → OnOk result (Holds place written old.content new.content)
-    → OnErr result (Stays old.content new.content ⊎ Holds place written old.content new.content)
-    → Gains place written old.may_leave new.may_leave → Passes fault.Write result old new → MakesCall (Write place bytes) result old new
-write_makes place bytes written old new result sound same ok err sets passes =
-    let spares = λ (first : ℕ) (below : place < first).
-    spared_write first old new place written sound below passes sets (either_way result ok err) in
-    rw (← same) (search rules)
-
--- a flush, good or refused
-pub flush_makes : (old new : State) (result : Result (Unit {0}) MediumFault) → IsSound old → OnOk result (Only old.content new.may_leave)
-    → Stays old.content new.content → Within new.may_leave old.may_leave → Passes fault.Flush result old new
-    → MakesCall Flush result old new
-flush_makes old new result sound ok content sets passes = record {
-  done = on_ok_weaker result (λ only. (content, only)) ok;
-  adds = sets;
-  passes = passes;
-  spares = λ first below. spared_silent first old new sound passes content sets;
-}
-
--- there is a commit behind the blocks
-pub parts_more : (format : LogFormat) (n : ℕ) → n + 1 ≤ (layout_of format).parts n
-parts_more format n = grind arith
-
 -- the data places stand behind the descriptors, and before the commit
 module _ (numbers bytes : List ℕ) (i p : ℕ) (below : i < length numbers) where
-  block_is : block_of (entries_of numbers bytes) i ≡ slice_range bytes (512 * i) (512 * i + 512)
-  block_is = ap (λ (e : Entry). e.1) (entry_of_batch i numbers bytes (0, []) below)
-
-  many : length (entries_of numbers bytes) ≡ length numbers
-  many = length_of_batch numbers bytes
-
   pub data_offset : (format : LogFormat) → p + 1 + length numbers ≡ (layout_of format).parts (length numbers) + i
       → (layout_of format).offset (length numbers) p ≡ first_data_of format + i
   data_offset One is = grind (arith, layout.parts)
@@ -82,9 +44,9 @@ module _ (numbers bytes : List ℕ) (i p : ℕ) (below : i < length numbers) whe
 
   pub data_part : (format : LogFormat) (stamp : ℕ) → p + 1 + length numbers ≡ (layout_of format).parts (length numbers) + i
       → placed format stamp (slice_range bytes (512 * i) (512 * i + 512)) ≡ (layout_of format).part stamp (entries_of numbers bytes) p
-  data_part One stamp is = let i_is : p - 1 ≡ i = omega (arith, is) in grind (arith, layout.parts, block_is, many)
+  data_part One stamp is = let i_is : p - 1 ≡ i = omega (arith, is) in grind (arith, layout.parts, entry_of_batch, length_of_batch)
   data_part Two stamp is =
-      let i_is : p - (length (entries_of numbers bytes) + 29) / 30 ≡ i = omega (arith, is, many) in grind (arith, layout.parts, block_is, many)
+      let i_is : p - (length numbers + 29) / 30 ≡ i = omega (arith, is) in grind (arith, layout.parts, entry_of_batch, length_of_batch)
 
 -- the early parts have a flush, where there are any
 pub flush_of_is : (e : ℕ) → ((e ≡ 0) × (flush_of e ≡ 0)) ⊎ ((0 < e) × (flush_of e ≡ 1))

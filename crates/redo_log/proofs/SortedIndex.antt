@@ -7,10 +7,10 @@ use Rattle.std.specs.List.{filter, AllPairs, remove_range, flat_map}
 use Rattle.std.specs.List.Sorted.{IsNonDecreasingBy, IsPartitionPoint}
 use Rattle.std.specs.Ordering.{nat_cmp, ordering_index}
 use Rattle.std.proofs.lemmas.Bool.Decides.{nat_tests}
-use Rattle.std.proofs.lemmas.List.Elements.{All-filter, All-cons, All-append, All-from_get_or, All-contains, All-map}
+use Rattle.std.proofs.lemmas.List.Elements.{All-filter, All-cons, All-from_get_or, All-contains, All-map}
 use Rattle.std.proofs.lemmas.List.Elements.{Contains-append_left, Contains-append_right, Contains-get_or}
 use Rattle.redo_log.specs.declared.index.Copied.{Copied}
-use Rattle.redo_log.specs.Index.{look, outside, block_at, IsSorted, Enters, Finds, IsIndex}
+use Rattle.redo_log.specs.Index.{look, outside, IsSorted, Enters, Finds, IsIndex}
 use Rattle.std.proofs.lemmas.Bool.{cases_eq, cases_lt, eq-eqb, ne_eqb, eqb-true}
 use Rattle.std.proofs.lemmas.List.{drop-set, take_more, take-set-le, get_or_append_left, get_or-append-add, get_or-take}
 use Rattle.std.proofs.lemmas.List.{get_or_at, length-set, length-take-le, length-map, get_or-map, get_or_default}
@@ -23,21 +23,21 @@ use Rattle.std.proofs.lemmas.Map.Keys.{IsDistinct-from_apart}
 use Rattle.std.proofs.lemmas.Map.Made.{length-le_from_is_member}
 use Rattle.std.proofs.lemmas.Map.Views.{Contains-from_any, list_any-from_Contains}
 use Rattle.std.proofs.Math.Nat.{mul-le-mul_left}
-use Rattle.std.proofs.Math.Seq.{get_or-append_seam}
-use Rattle.journal.proofs.Wholeness.{other_slot}
+use Rattle.std.proofs.Math.Seq.{get_or-append_seam, get_or-append_right}
+use Rattle.journal.proofs.Slots.{other_slot}
 
 -- no entry
 abbrev pub blank : Copied
 blank = record { block = 0; slot = 0; place = 0 }
 
 -- a block that no entry has is not found
-look-absent : (index : List Copied) (block : ℕ) → ((i : ℕ) → i < length index → block_at index i ≢ block) → look index block ≡ None
+look-absent : (index : List Copied) (block : ℕ) → ((i : ℕ) → i < length index → (get_or index i blank).block ≢ block) → look index block ≡ None
 look-absent [] block none = refl
 look-absent (c ∷ index) block none =
     grind (arith, nat_tests, none 0 (omega arith), look-absent index block (λ j less. none (suc j) (omega arith)))
 
 -- the block is found at its place
-pub look_found : (index : List Copied) → IsSorted index → (at block : ℕ) → at < length index → block_at index at ≡ block
+pub look_found : (index : List Copied) → IsSorted index → (at block : ℕ) → at < length index → (get_or index at blank).block ≡ block
     → look index block ≡ Some ((get_or index at blank).slot, (get_or index at blank).place)
 look_found [] sorted at block below is = absurd (omega (arith, below))
 look_found (c ∷ index) sorted at block below is =
@@ -86,11 +86,9 @@ pub record IsMerging (old : List Copied) (slot : ℕ) (numbers : List ℕ) (left
 -- some pairs, and then some more that each of them goes with
 pairs_append : {X : Type 0} (R : X → X → Type 0) (front back : List X) → AllPairs R front → AllPairs R back
     → All (λ x. All (R x) back) front → AllPairs R (front ++ back)
-pairs_append R [] back of_front of_back across = of_back
-pairs_append R (x ∷ front) back of_front of_back across = AllPairs-cons R x (front ++ back)
-    (All-append (R x) front back (λ i d less. of_front 0 (suc i) d (omega arith) (omega arith)) (across 0 x (omega arith)))
-    (pairs_append R front back (λ i j d less below. of_front (suc i) (suc j) d (omega arith) (omega arith)) of_back
-    (λ i d less. across (suc i) d (omega arith)))
+pairs_append R front back of_front of_back across i j d less below =
+    grind (arith, get_or_append_left front back d, get_or-append_right front back, length-append front back, of_front i j d,
+    of_back (i - length front) (j - length front) d, λ (low : i < length front). across i d low (j - length front) d)
 
 -- an entry between others is found for its own block alone
 look_other : (front back : List Copied) (e : Copied) (b : ℕ) → e.block ≢ b → look (front ++ e ∷ back) b ≡ look (front ++ back) b
@@ -103,8 +101,8 @@ entry_of slot numbers place = record { block = slice_index numbers place; slot =
 
 -- of the first `was` entries `left` are left where this block enters: all, which have smaller blocks, or the last one has this block
 abbrev AreLeft : List Copied → ℕ → ℕ → ℕ → Type 0
-AreLeft index block was left = ((left ≡ was) × (0 < was → block_at index (was - 1) < block))
-    ⊎ ((was ≡ left + 1) × (block_at index left ≡ block))
+AreLeft index block was left = ((left ≡ was) × (0 < was → (get_or index (was - 1) blank).block < block))
+    ⊎ ((was ≡ left + 1) × ((get_or index left blank).block ≡ block))
 
 -- a number of the record goes behind those that are left, and before others
 module _ {old : List Copied} {slot : ℕ} {numbers : List ℕ} (index back : List Copied) (was left place : ℕ) (fits : was ≤ length index)
@@ -130,22 +128,17 @@ module _ {old : List Copied} {slot : ℕ} {numbers : List ℕ} (index back : Lis
   put_sorted = pairs_append (λ x. Above x.block) (take left index) (e ∷ back)
       (λ i j d less below. grind (arith, get_or-take left index i d, get_or-take left index j d, front_rises i j d, below, long, ends))
       (AllPairs-cons (λ x. Above x.block) e back above (λ i j d less below.
-      let front = take was index in
-      let up = entered.sorted (length front + i) (length front + j) d in
-      grind (arith, get_or-append-add front back, up, length-append front back, below)))
+          let front = take was index in
+          let up = entered.sorted (length front + i) (length front + j) d in
+          grind (arith, get_or-append-add front back, up, length-append front back, below)))
       (λ i d less. All-cons (Above (get_or (take left index) i d).block) e back (low i d less)
-      (λ j f inside. omega (arith, low i d less, above j f inside)))
+          (λ j f inside. omega (arith, low i d less, above j f inside)))
 
   put_found : look (take left index ++ e ∷ back) e.block ≡ Some (slot, place)
   put_found =
       let all = take left index ++ e ∷ back in
-      grind (
-        arith,
-        look_found all put_sorted left e.block,
-        get_or_at (take left index) e back blank left,
-        length-append (take left index) (e ∷ back),
-        long,
-      )
+      grind (arith, look_found all put_sorted left e.block, get_or_at (take left index) e back blank left,
+      length-append (take left index) (e ∷ back), long)
 
   -- only an older entry with its block goes
   put_other : (b : ℕ) → e.block ≢ b → look (take left index ++ e ∷ back) b ≡ look (take was index ++ back) b
@@ -187,16 +180,13 @@ module _ {old : List Copied} {slot : ℕ} {numbers : List ℕ} (rising : IsRisin
 
   -- the last entry that is left, above all numbers that are left
   pub entry_moves : (was left place till to : ℕ) (index : List Copied) → was ≡ left + 1 → till ≡ to + 1
-      → (0 < place → slice_index numbers (place - 1) < block_at index left) → IsMerging old slot numbers was place till index
+      → (0 < place → slice_index numbers (place - 1) < (get_or index left blank).block) → IsMerging old slot numbers was place till index
       → IsMerging old slot numbers left place to (set index to (get_or index left blank))
   entry_moves was left place till to index one_less room over merged =
       let c = get_or index left blank in
       let moved : remove_range index was till ≡ take left index ++ c ∷ drop till index =
-      rw (
-        one_less,
-        take_more index left blank (omega (arith, merged.room, merged.inside, one_less)),
-        append_assoc (take left index) (c ∷ []) (drop till index),
-      ) refl in
+      rw (one_less, take_more index left blank (omega (arith, merged.room, merged.inside, one_less)),
+      append_assoc (take left index) (c ∷ []) (drop till index)) refl in
       goes was place left place till to index c room (omega arith) (omega arith) (omega (arith, merged.room, one_less, room)) over merged
       (rw moved at merged.enters)
 
@@ -228,18 +218,11 @@ record_room slots stamp most records index is free small room count few enough =
     let f : Copied → ℕ = λ c. c.block in
     let each = All-map (Contains (all_of records)) f index
     (All-from_get_or (λ c. Contains (all_of records) c.block) index blank (λ i below.
-    let n = rw (look_found index is.sorted i (block_at index i) below refl) at (is.finds (block_at index i)) in
-    in_all records n.age (block_at index i) n.waits
+    let n = rw (look_found index is.sorted i ((get_or index i blank).block) below refl) at (is.finds ((get_or index i blank).block)) in
+    in_all records n.age ((get_or index i blank).block) n.waits
     (rw n.named at (Contains-get_or (get_or records n.age []) (get_or index i blank).place 0 n.inside)))) in
-    let apart = IsDistinct-from_apart eqb (map f index) (λ i j d less inside. grind (
-      arith,
-      nat_tests,
-      length-map index f,
-      get_or-map f index i blank d,
-      get_or-map f index j blank d,
-      is.sorted i j blank,
-      inside,
-    )) in
+    let apart = IsDistinct-from_apart eqb (map f index) (λ i j d less inside. grind (arith, nat_tests, length-map index f,
+    get_or-map f index i blank d, get_or-map f index j blank d, is.sorted i j blank, inside)) in
     let all = length-le_from_is_member nat_eq_equiv (map f index) (all_of records) apart
     (λ q some. list_any-from_Contains nat_eq_equiv q (all_of records)
     (All-contains (Contains (all_of records)) (map f index) q each (Contains-from_any eqb-true q (map f index) some))) in

@@ -1,7 +1,7 @@
 -- A log's fields, what a caller sees of them, and how far its records have come.
 use Rattle.std.specs.Prelude.{◌≡◌, ◌⊎◌, ℕ, zero, suc, ◌≤◌, ◌<◌, ◌^◌, ◌+◌, ◌*◌, ◌-◌, List, [], ◌∷◌}
 use Rattle.std.specs.Prelude.{length, get_or, drop, sum_by, All, Bool, Option, Some, None}
-use Rattle.std.specs.Prelude.{if◌then◌else◌, nat_lt, ◌==◌, map, vec_capacity}
+use Rattle.std.specs.Prelude.{if◌then◌else◌, nat_lt, ◌==◌, MatchOption, map, vec_capacity}
 use Rattle.journal.specs.declared.log_format.LogFormat.{LogFormat}
 use Rattle.journal.specs.Places.{Shape, limit_of}
 use Rattle.journal.specs.Sectors.{IsRising}
@@ -92,12 +92,6 @@ abbrev pub IsOldest : List (List ℕ) → ℕ → Type 0
 IsOldest [] turned = turned ≡ 0
 IsOldest (numbers ∷ newer) turned = turned < length numbers + 2
 
--- the record under way may have come so far
-abbrev pub IsUnderWay : Shape → List ℕ → Option ℕ → Type 0
-IsUnderWay shape numbers None = numbers ≡ []
-IsUnderWay shape numbers (Some made) =
-    AreInside shape numbers × (made < steps_for shape.format (length numbers))
-
 -- ---- a log's fields
 
 -- the block numbers of each of these records, or the first bytes of its blocks
@@ -125,7 +119,9 @@ pub record Invariant (log : Inside) : Type 0 where
   pub each : All (AreInside (shape_of log.sizes)) (lists_of log.waiting.items)
   pub fits : length (lists_of log.waiting.items) + begun_at log.made ≤ log.sizes.slots
   pub oldest : IsOldest (lists_of log.waiting.items) log.turned
-  pub record_under_way : IsUnderWay (shape_of log.sizes) log.under_way.items log.made
+  pub record_under_way : MatchOption log.made (log.under_way.items ≡ [])
+      (λ made. AreInside (shape_of log.sizes) log.under_way.items
+      × (made < steps_for log.sizes.format (length log.under_way.items)))
   -- the record that went home ahead is retired, or it is the oldest one, whose blocks are home
   pub ahead_is : (log.homed < log.head) ⊎ ((log.homed ≡ log.head) × (0 < length log.waiting.items)
       × (length (get_or (lists_of log.waiting.items) 0 []) ≤ log.turned))

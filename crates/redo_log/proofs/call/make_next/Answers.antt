@@ -1,4 +1,4 @@
-use Rattle.std.proofs.Common.{ℕ, ◌<◌, length, refl, arith}
+use Rattle.std.proofs.Common.{ℕ, ◌<◌, length, refl, arith, rules}
 use Rattle.journal.specs.Formats.{shape_of, layout_of}
 use Rattle.journal.specs.Record.{entries_of}
 use Rattle.journal.specs.Layout.{part_at}
@@ -8,7 +8,6 @@ use Rattle.redo_log.specs.Shown.{written_at}
 use Rattle.redo_log.specs.Calls.{Write, Flush}
 use Rattle.redo_log.proofs.HeldLog.{before_home}
 use Rattle.redo_log.proofs.LogRules.{sizes_sized}
-use Rattle.redo_log.proofs.RecordSteps.{flush_makes}
 use Rattle.redo_log.proofs.call.make_next.Goals as goal
 
 pub returns-then-is_flush_due-clause-makes : goal.returns-then-is_flush_due-clause-makes
@@ -18,8 +17,7 @@ returns-then-is_flush_due-clause-makes g c =
       call = Flush;
       next = rw (length_of_batch c.args.numbers.now c.args.bytes.now) (λ _. refl, λ not. absurd (not (due.0 c.if-is_flush_due.true)));
       inside = tt;
-      makes = flush_makes _ _ _ (g.met.M.Medium.sound c.args.m.now) c.flush.ensures.ok c.flush.ensures.content c.flush.ensures.sets
-          c.flush.ensures.passes;
+      makes = search rules;
     }
 
 pub returns-clause-makes : goal.returns-clause-makes

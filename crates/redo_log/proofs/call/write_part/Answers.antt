@@ -1,10 +1,10 @@
-use Rattle.std.proofs.Common.{◌≡◌, ◌+◌, ◌-◌, ◌<◌, length, arith}
+use Rattle.std.proofs.Common.{◌≡◌, ◌+◌, ◌-◌, ◌<◌, length, arith, rules}
 use Rattle.journal.specs.Formats.{shape_of, layout_of}
 use Rattle.journal.specs.Layout.{part_at}
 use Rattle.journal.proofs.Formats.{laws_of, most_is}
 use Rattle.redo_log.proofs.HeldLog.{before_home}
 use Rattle.redo_log.proofs.LogRules.{sizes_sized}
-use Rattle.redo_log.proofs.RecordSteps.{parts_more, data_offset, data_part}
+use Rattle.redo_log.proofs.RecordSteps.{data_offset, data_part}
 use Rattle.redo_log.proofs.call.write_part.Given as given
 use Rattle.redo_log.proofs.call.write_part.Goals as goal
 use Rattle.redo_log.proofs.call.write_part.Goals.{After-slot_place}
@@ -27,7 +27,7 @@ returns-then-p-first-clause-makes g c =
     let bytes = c.args.bytes.now in
     let i = c.args.p - (c.parts.result - 1 - length numbers) in
     let is : c.args.p + 1 + length numbers ≡ (layout_of sizes.format).parts (length numbers) + i =
-    omega (arith, c.parts.ensures, parts_more sizes.format (length numbers), c.if-first-p.true) in
+    grind (arith, c.parts.ensures, c.if-first-p.true) in
     let offset = data_offset numbers bytes i c.args.p c.if-p-first.true sizes.format is in
     let place : c.copy_place-place.result ≡ part_at (layout_of sizes.format) (shape_of sizes) c.args.stamp (length numbers) c.args.p =
     rw (c.copy_place-place.ensures, c.slot_of-slot.ensures, offset) (omega arith) in
@@ -38,3 +38,6 @@ overflow_add-slot_place g c = grind (arith, before g c, c.args.sizes.now.home_is
 
 pub write-requires : goal.write-requires
 write-requires g c = omega (arith, before g (goal.at.write-requires g c).After-slot_place, c.requires.inside.1)
+
+pub returns-clause-makes : goal.returns-clause-makes
+returns-clause-makes g c = search rules

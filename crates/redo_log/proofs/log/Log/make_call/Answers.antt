@@ -1,11 +1,10 @@
-use Rattle.std.proofs.Common.{◌≡◌, ◌≢◌, ◌+◌, length, arith, rules}
+use Rattle.std.proofs.Common.{◌≡◌, ◌+◌, length, arith, rules}
 use Rattle.std.proofs.lemmas.Bool.Decides.{nat_tests}
-use Rattle.medium.specs.declared.fault.MediumFault.TheVariants as fault
 use Rattle.medium.proofs.SectorsRead.{no_looks}
 use Rattle.medium.proofs.SparedSectors.{spared_behind}
 use Rattle.journal.specs.Places.{first_home}
 use Rattle.journal.specs.Record.{entries_of}
-use Rattle.redo_log.specs.Calls.{Call, MakesNext, fault_of}
+use Rattle.redo_log.specs.Calls.{MakesNext}
 use Rattle.redo_log.specs.Held.{made_of}
 use Rattle.redo_log.specs.Shown.{shown, lists_of}
 use Rattle.redo_log.proofs.RecordSteps.{step_flushed, leaves_log}
@@ -13,9 +12,6 @@ use Rattle.redo_log.proofs.LogRules.{log_is, many_lists}
 use Rattle.redo_log.proofs.HeldLog.{dead_held}
 use Rattle.redo_log.proofs.StoreFacts.{step_leaves, counted_held, counted_whole}
 use Rattle.redo_log.proofs.log.Log.make_call.Goals as goal
-
-no_read : (call : Call) → fault_of call ≢ fault.Read
-no_read call e = grind (arith, e)
 
 pub returns : goal.returns
 returns g c =
@@ -37,7 +33,7 @@ returns g c =
     let bytes = c.args.bytes.now in
     let left = leaves_log (λ view holds. step_leaves is live some sound holds bytes c.requires.numbers c.requires.bytes here)
     (spared_behind _ _ _ _ (omega arith) (made.spares (first_home log.shape) here.inside))
-    (no_looks _ _ _ (made.passes.looked_stays (no_read here.call))) in
+    (no_looks _ _ _ (made.passes.looked_stays (λ e. grind (arith, e)))) in
     record {
       passes =
           let flushed = step_flushed is some bytes c.requires.numbers c.requires.bytes here.call here.next made.passes in

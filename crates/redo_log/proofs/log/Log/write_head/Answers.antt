@@ -3,8 +3,8 @@ use Rattle.std.proofs.lemmas.Result.{on_ok_weaker}
 use Rattle.medium.proofs.SectorsRead.{no_looks}
 use Rattle.medium.proofs.SparedSectors.{spared_write}
 use Rattle.redo_log.specs.Value.{of_oldest}
-use Rattle.redo_log.proofs.HeldLog.{one_write}
-use Rattle.redo_log.proofs.RecordSteps.{either_way, leaves_log}
+use Rattle.redo_log.proofs.OneSector.{one_write}
+use Rattle.redo_log.proofs.RecordSteps.{leaves_log}
 use Rattle.redo_log.proofs.LogRules.{log_is}
 use Rattle.redo_log.proofs.HeldLog.{dead_held}
 use Rattle.redo_log.proofs.RetireTurns.{head_leaves, retired_held, ahead_held}
@@ -25,7 +25,7 @@ returns g c =
     let adds = rw c.encode.ensures.spelled at (one_write 1 c.encode.result _ sound _ passes c.write.ensures.sets) in
     let left = leaves_log (λ view holds. head_leaves is live owed sound holds one h stamp _ adds)
     (spared_write _ _ _ _ _ sound (omega (arith, is.sized.behind)) passes c.write.ensures.sets
-    (either_way c.write.result c.write.ensures.ok c.write.ensures.err)) (no_looks _ _ _ (passes.looked_stays (λ e. cc e))) in
+    (grind (arith, c.write.ensures.ok, c.write.ensures.err))) (no_looks _ _ _ (passes.looked_stays (λ e. cc e))) in
     record {
       passes = search (rules, arith);
       leaves = left;
