@@ -1,6 +1,6 @@
 -- The crash argument, for every layout: what the writing of a record leaves, and its retiring while another is written.
-use Rattle.std.proofs.Common.{◌≡◌, ◌≢◌, ◌⊎◌, inl, inr, ℕ, ◌+◌, ◌*◌, ◌-◌, ◌%◌, ◌<◌, ◌≤◌, List, length, arith, rules, [], ◌∷◌, ◌++◌}
-use Rattle.std.proofs.Common.{length-append, get_or, drop, sym, ◌∙◌, refl, length-drop, get_or-drop, drop-cons}
+use Rattle.std.proofs.Common.{◌≡◌, ◌≢◌, ◌⊎◌, inl, inr, ℕ, ◌+◌, ◌*◌, ◌-◌, ◌%◌, ◌<◌, ◌≤◌, List, length, arith, rules, [], ◌∷◌, length-append}
+use Rattle.std.proofs.Common.{get_or, drop, refl, length-drop, get_or-drop, drop-cons}
 use Rattle.std.proofs.lemmas.Bool.{cases_eq, cases_lt}
 use Rattle.std.proofs.lemmas.Nat.{mod_below}
 use Rattle.std.proofs.lemmas.List.{get_or_append_left}
@@ -155,18 +155,13 @@ module _ (L : Layout) (laws : Laws L) (v : View) (slots : HasSlots L v) where
   other_written {before} {image} k {durable} other is same early write g =
       let below : k < L.parts (length v.under_way) = omega arith in
       let stays = part_stays {p = last L v} write below (omega arith) (λ e. omega arith) in
-      let free = part_or_free before k durable (last L v) g (omega arith) in
-      let none = last_free image (rw stays (grind (arith, free))) in
+      let none = last_free image (grind (arith, part_or_free before k durable (last L v) g (omega arith), stays)) in
       let keeps = keeps_stays before image _ (L.part (stamp_of v) other k) (inside k below) write g.stored.keeps in
       let carries : CarriesBelowIn L v.shape image (stamp_of v + 1) = λ slot o t low small carries.
       let place : ℕ = 2 + L.slot_sectors * slot + o in
       let mine = one_part other is slot o t k (image place) small in
-      let others = carries_below before k durable g slot o t low small in
-      grind (arith, cases_eq place (at L v k), write.here, write.elsewhere, mine, others) in
+      grind (arith, cases_eq place (at L v k), write.here, write.elsewhere, mine, carries_below before k durable g slot o t low small) in
       grind (arith, slots.room)
-
-  longer : length (v.records ++ v.under_way ∷ []) ≡ length v.records + 1
-  longer = length-append v.records (v.under_way ∷ [])
 
   -- with all its parts in its slot the record is whole, and the image keeps it with the durable ones
   pub Stored-durable : {image : Image} {count : ℕ} → L.parts (length v.under_way) ≤ count → Stored L v count image
@@ -177,7 +172,8 @@ module _ (L : Layout) (laws : Laws L) (v : View) (slots : HasSlots L v) where
       let more = with_records-append v.records v.under_way (home_of v.shape image) in
       let laid = with_blocks-same v.under_way (with_records v.records (home_of v.shape image)) v.array in
       let old = get_or_append_left v.records (v.under_way ∷ []) [] in
-      grind (arith, cases_lt, s.keeps, longer, get_or-append_seam v.records v.under_way [] [])
+      let longer = length-append v.records (v.under_way ∷ []) in
+      grind (arith, cases_lt, s.keeps, get_or-append_seam v.records v.under_way [] [])
 
   -- the record under way is not whole, or all its parts are written, and it is, with its blocks: a cut leaves what it may
   pub guarded_leaves : (image : Image) (k durable : ℕ) → (L.parts (length v.under_way) ≤ k → L.early (length v.under_way) ≤ durable)
@@ -199,7 +195,7 @@ module _ (L : Layout) (laws : Laws L) (v : View) (slots : HasSlots L v) where
               | inl there ↦
                   let keeps = Stored-durable {count = k} all (record { keeps = g.stored.keeps; parts = λ p low small. there p small }) in
                   let none = none_carried L laws v.shape slots.some image (stamp_of v + 1) carries in
-                  let found : Found L (with_record v) image = grind (arith, longer, slots.room, carries) in
+                  let found : Found L (with_record v) image = grind (arith, length-append, slots.room, carries) in
                   inr (all, found)
               | inr one ↦
                   without (λ whole.
@@ -237,14 +233,10 @@ module _ (L : Layout) (laws : Laws L) (v : View) (behind : 2 + L.slot_sectors * 
       → (KeepsView L v before → KeepsView L (record v { head = head; records = records }) image)
       → IsKept L v (record v { head = head; records = records }) before image
   kept head records next log keeps =
-      let stored : (count : ℕ) → Stored L v count before → Stored L (record v { head = head; records = records }) count image =
-      λ count s. record {
-        keeps = keeps s.keeps;
-        parts = λ p low small.
-            let inside = laws.inside (length v.under_way) p few small in
-            rw (next, log (at L v p) (omega arith) (omega (arith, slot_inside L laws v.shape (stamp_of v) s.keeps.super.some_slots, inside)))
-            (s.parts p low small);
-      } in
+      let stored : (count : ℕ) → Stored L v count before → Stored L (record v { head = head; records = records }) count image = λ count s.
+      let stays = λ (p : ℕ) (small : p < L.parts (length v.under_way)). log (at L v p) (omega arith)
+      (omega (arith, slot_inside L laws v.shape (stamp_of v) s.keeps.super.some_slots, laws.inside (length v.under_way) p few small)) in
+      grind (arith, keeps s.keeps, s.parts, next) in
       record {
         stored = stored _;
         guarded = λ g. record {

@@ -261,11 +261,9 @@ module _ {log : LogValue} {m : State} {view : View} (hv : HoldsView log m view) 
         let L = layout_of log.shape.format in
         let n = length view.under_way in
         let slots : 0 < left → HasSlots (layout_of log.shape.format) (image_view log.shape log.head view) = λ some.
-        let left_now : 0 < log.steps_left = omega (arith, some, fewer) in
         let under_way = record_entries log.shape (log.head + length view.records) log.under_way view.under_way is.sized
-        (rw many at (is.record_is left_now)) hv.under_way hv.sized in
-        let room : length view.records < log.shape.slots = omega (arith, many, is.room left_now) in
-        search rules in
+        (rw many at (is.record_is (omega (arith, some, fewer)))) hv.under_way hv.sized in
+        search (rules, arith, many, is.room) in
         let steps = ap (λ (k : ℕ). steps_for log.shape.format k) under_count ∙ steps_are log.shape.format n in
         let left_one = one_left (L.early n) (L.parts n) ((laws_of log.shape.format).last_is_late n) made in
         let short : L.parts n ≤ written_of log.shape view made → left ≤ 2 = λ all.

@@ -1,6 +1,6 @@
 -- Each turn that retires the oldest durable record: what the log and its medium hold after it.
-use Rattle.std.proofs.Common.{◌≡◌, ◌≢◌, inl, inr, ℕ, ◌+◌, ◌-◌, ◌<◌, ◌≤◌, List, [], ◌∷◌, length, get_or, drop, refl, ◌∙◌, ap, subst, arith}
-use Rattle.std.proofs.Common.{⊎_elim, rules, length-drop, add-zero, true, false, map, slice_index, drop-cons}
+use Rattle.std.proofs.Common.{⊎_elim, ◌⊎◌, ◌≡◌, ◌≢◌, inl, inr, ℕ, ◌+◌, ◌-◌, ◌<◌, ◌≤◌, List, [], ◌∷◌, length, get_or, drop, refl, arith}
+use Rattle.std.proofs.Common.{rules, length-drop, add-zero, true, false, map, slice_index, drop-cons}
 use Rattle.std.proofs.lemmas.Bool.{cases_eq, cases_lt}
 use Rattle.std.proofs.lemmas.List.{drop-map, length-map}
 use Rattle.std.proofs.Math.ListN.{get_or-map}
@@ -8,10 +8,9 @@ use Rattle.medium.specs.Medium.{State, Image, Holds, Gains, IsSound}
 use Rattle.medium.specs.Moments.{EachCut, LeavesOnly}
 use Rattle.medium.proofs.Moments.{each_write, each_flush, quiet_leaves, content_has}
 use Rattle.journal.specs.declared.head.Head.{Head as HeadOf}
-use Rattle.journal.specs.Places.{sectors_of, first_home, first_data_of}
-use Rattle.journal.specs.Sectors.{IsRising, IsHead}
-use Rattle.journal.specs.Record.{Entry, Hides, numbers_of}
-use Rattle.journal.specs.Layout.{Layout, slot_at, Laws}
+use Rattle.journal.specs.Places.{sectors_of, first_home}
+use Rattle.journal.specs.Record.{Entry, numbers_of}
+use Rattle.journal.specs.Layout.{Layout, Laws}
 use Rattle.journal.specs.Formats.{layout_of, IsWhole}
 use Rattle.journal.specs.Staged.{IsHomed, with_less}
 use Rattle.journal.specs.Staged as staged
@@ -21,9 +20,9 @@ use Rattle.journal.proofs.Overlay.{records-hide}
 use Rattle.journal.proofs.Engine.{IsWholeIn-same, IsKept, kept_home, kept_head, HasSlots-less}
 use Rattle.redo_log.specs.declared.turn.Turn.{Turn}
 use Rattle.redo_log.specs.declared.turn.Turn.TheVariants.{Flush, Head}
-use Rattle.redo_log.specs.Value.{LogValue, Ahead, IsSentHome, IsRetireStepped, of_oldest, ahead_of, settled, first_kept}
+use Rattle.redo_log.specs.Value.{LogValue, Ahead, IsSentHome, IsRetireStepped, of_oldest, ahead_of, settled}
 use Rattle.redo_log.specs.Calls.{WritesOnly}
-use Rattle.redo_log.specs.Turns.{head_bytes, MayTurn, IsTurned, IsNextTurn}
+use Rattle.redo_log.specs.Turns.{head_bytes, MayTurn, IsTurned, IsNextTurn, IsHeadTurn}
 use Rattle.redo_log.specs.Held.{View, view_retired, made_of, turned_of, needed_of, image_view, MayLeave, Safe, AreHome, HasHead, IsGuarded}
 use Rattle.redo_log.specs.Held.{HoldsView}
 use Rattle.redo_log.proofs.HeldLog.{moments_have, Stands, hides_behind, front, has_before, guard_logged, newest, with_newest, same_head}
@@ -58,16 +57,14 @@ module _ {log : LogValue} (is : IsLog log) (live : log.dead ≡ false) (owed : 0
 
   -- ---- the head is written past it
   module _ (one : of_oldest log ≡ 1) (h : HeadOf) (stamp_is : h.stamp ≡ log.head + 1) (new : State) where
-    head_now : IsHead (log.head + 1) (head_bytes h.stamp)
-    head_now = rw (← stamp_is) (record { spelled = refl; least = h.least; most = h.most })
-
     one_now : view.ours ≡ true → EachCut (λ image. Safe log.shape log.head view (made_of log) image × IsHomed v image) old
     one_now ours image cut =
         let g = hv.guards live ours image cut in
         let f = g.flushed (needs_one log one) in (newest g f.0, f.1)
 
     past : {before image : Image} → IsHomed v before → Holds 1 (head_bytes h.stamp) before image → IsKept L v (with_less v) before image
-    past homed write = kept_head L laws v is.sized.behind fit waits head_now homed write
+    past homed write =
+        kept_head L laws v is.sized.behind fit waits (rw (← stamp_is) (record { spelled = refl; least = h.least; most = h.most })) homed write
 
     stands_past : Stands log.shape (log.head + 1) (view_retired 1 view) log.steps_left (made_of log)
     stands_past =
@@ -160,15 +157,12 @@ module _ {log : LogValue} (is : IsLog log) (live : log.dead ≡ false) (owed : 0
           (kept_is log.shape.format view.records view.under_way log.firsts hv.firsts 0 t waits inside) _ refl in
           (rw brought at (rw copies at adds), λ done. rw brought at (rw copies at done))
 
-      hides : Hides view.records block.0
-      hides = records-hide view.records 0 (turned_of log) waits inside
-
       home_each : view.ours ≡ true → (mid : State) → Gains to block.1 old.may_leave mid.may_leave → {left : ℕ} → left ≢ 1
           → EachCut (HasHead log.shape log.head view (made_of log) left) mid
       home_each ours mid gains not = each_write _ _ old mid to block.1 sound gains (hv.guards live ours)
           (λ image g. same_head g g.safe (λ one. absurd (not one)))
           (λ before image write g. same_head g
-          ((kept_home L laws (front g) is.sized.behind fit block.0 (hides_behind g.passed view.records block.0 hides) write).guarded g.safe)
+          ((kept_home L laws (front g) is.sized.behind fit block.0 (hides_behind g.passed _ _ (records-hide view.records 0 _ waits inside)) write).guarded g.safe)
           (λ one. absurd (not one)))
 
       home_held : (ahead : Ahead) → needed_of (record log { retire_steps_left = log.retire_steps_left - 1; ahead = ahead }) ≢ 1
@@ -179,7 +173,7 @@ module _ {log : LogValue} (is : IsLog log) (live : log.dead ≡ false) (owed : 0
           let write = brings.1 done in
           goes_on hv is log.steps_left (log.retire_steps_left - 1) ahead new (omega arith) same_size live
           (record {
-            stored = (kept_home L laws v is.sized.behind fit block.0 hides write).stored s.stored;
+            stored = (kept_home L laws v is.sized.behind fit block.0 (records-hide view.records 0 _ waits inside) write).stored s.stored;
             copied = λ j low high.
                 let up = (rw (named hv 0) at (is.each 0 [] (one_waits is owed)).rising) j (turned_of log) in
                 let number = λ (i : ℕ). get_or-map (λ (e : Entry). e.0) oldest i (0, []) in
@@ -192,16 +186,11 @@ module _ {log : LogValue} (is : IsLog log) (live : log.dead ≡ false) (owed : 0
     -- so a block goes home, the blocks are flushed, or the head goes past the record
     by_turn : {P : Type 0} → (2 < of_oldest log → P) → (of_oldest log ≡ 2 → turn ≡ Flush → P)
         → (of_oldest log ≡ 1 → (h : HeadOf) → turn ≡ Head h → h.stamp ≡ log.head + 1 → P) → P
-    by_turn home flush head = elim (cases_lt 2 (of_oldest log)) [
-      | inl below ↦ home below
-      | inr few ↦ elim (cases_eq (of_oldest log) 2) [
-        | inl two ↦ flush two (next.flush (omega (arith, two)))
-        | inr not ↦
-            let one : of_oldest log ≡ 1 = omega (arith, not, few, owed) in
-            let h = head_turn (log.head + 1) turn (next.head (omega (arith, one))) in
-            head one h.0 h.1 h.2
-      ]
-    ]
+    by_turn home flush head =
+        let which : (2 < of_oldest log) ⊎ ((of_oldest log ≡ 2) × (turn ≡ Flush)) ⊎ ((of_oldest log ≡ 1) × IsHeadTurn (log.head + 1) turn) =
+        grind (arith, cases_lt 2 (of_oldest log), next.flush, next.head, owed) in
+        let past = λ (h : (h : HeadOf) × (turn ≡ Head h) × (h.stamp ≡ log.head + 1)) (one : of_oldest log ≡ 1). head one h.0 h.1 h.2 in
+        ⊎_elim home (⊎_elim (λ two. flush two.0 two.1) (λ one. past (head_turn (log.head + 1) turn one.1) one.0)) which
 
     -- at each moment a cut leaves what it might leave before
     pub turn_leaves : view.ours ≡ true → LeavesOnly (MayLeave old.size log view) old new

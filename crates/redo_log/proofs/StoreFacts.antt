@@ -33,7 +33,6 @@ use Rattle.std.proofs.lemmas.Bool.{cases_eq, cases_lt}
 use Rattle.medium.specs.declared.fault.MediumFault.{MediumFault}
 use Rattle.journal.specs.Layout.{Layout, part_at, Laws, IsRecordOf}
 use Rattle.journal.specs.Formats.{layout_of}
-use Rattle.journal.specs.Staged.{HasSlots}
 use Rattle.journal.specs.Staged as staged
 use Rattle.redo_log.specs.declared.progress.Progress.{Progress}
 use Rattle.redo_log.specs.declared.progress.Progress.TheVariants.{More, Durable}
@@ -107,25 +106,20 @@ begun_holds log m view numbers bytes holds room batch =
     let needs : needed_of log ≡ needed_of next = ap (λ (l : ℕ). needed_at log.ahead log.head (log.head + length log.waiting) l) same in
     let turned : turned_of log ≡ turned_of next = omega (arith, same) in
     let made : made_of next ≡ 0 = omega (arith, made_is next (steps_some log.shape.format (length numbers))) in
-    record {
-      fits = holds.fits;
-      durable = holds.durable;
-      under_way = sym (numbers_of_batch numbers bytes);
-      next = omega (arith, holds.next, ap (λ (l : List ℕ). stamps_of l) room.none_under_way, one_stamp numbers batch.some);
-      few = holds.few;
-      sized = sized_batch numbers bytes batch.size;
-      firsts = begun_kept log.shape.format view.records view.under_way E log.firsts holds.firsts none_yet
-          (omega (arith, many, batch.some));
-      leaves = λ ours image cut. grind (arith, holds.leaves ours image cut, room.no_steps, behind);
-      stores = λ live. record {
-        stored = keeps_stored (with_begun E view) made (holds.stores live).stored.keeps;
-        copied = λ i low high. (holds.stores live).copied i (omega (arith, low, turned)) high;
-      };
-      guards = λ live ours image cut.
-          let g = holds.guards live ours image cut in
-          let idle = safe_rests (with_passed g.passed view) (none_made log room.no_steps) g.safe in
-          same_head g (rests_safe (with_passed g.passed (with_begun E view)) made idle) (λ is. g.flushed (needs ∙ is));
-    }
+    let under = numbers_of_batch numbers bytes in
+    let stamps = ap (λ (l : List ℕ). stamps_of l) room.none_under_way in
+    let one = one_stamp numbers batch.some in
+    let sized = sized_batch numbers bytes batch.size in
+    let firsts = begun_kept log.shape.format view.records view.under_way E log.firsts holds.firsts none_yet (omega (arith, many, batch.some)) in
+    let leaves : view.ours ≡ true → EachCut (MayLeave m.size next (with_begun E view)) m = λ ours image cut.
+    grind (arith, holds.leaves ours image cut, room.no_steps, behind) in
+    let stores : log.dead ≡ false → IsStored next (with_begun E view) m = λ live.
+    let stored = keeps_stored (with_begun E view) made (holds.stores live).stored.keeps in search (rules, arith, (holds.stores live).copied) in
+    let guards : log.dead ≡ false → view.ours ≡ true → IsGuarded next (with_begun E view) m = λ live ours image cut.
+    let g = holds.guards live ours image cut in
+    let idle = safe_rests (with_passed g.passed view) (none_made log room.no_steps) g.safe in
+    same_head g (rests_safe (with_passed g.passed (with_begun E view)) made idle) (λ is. g.flushed (needs ∙ is)) in
+    search (rules, arith, holds)
 
 -- ---- each step of the record under way
 
