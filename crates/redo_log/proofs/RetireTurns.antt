@@ -37,20 +37,11 @@ module _ {log : LogValue} (is : IsLog log) (live : log.dead ≡ false) (owed : 0
   abbrev oldest : List Entry
   oldest = get_or view.records 0 []
 
-  abbrev L : Layout
-  L = layout_of log.shape.format
-
-  abbrev laws : Laws (layout_of log.shape.format)
-  laws = laws_of log.shape.format
-
   abbrev v : staged.View
   v = image_view log.shape log.head view
 
   waits : 0 < length view.records
   waits = omega (arith, many hv, one_waits is owed)
-
-  stands : Stands log.shape log.head view log.steps_left (made_of log)
-  stands = stands_now hv is
 
   fit : length view.under_way ≤ (layout_of log.shape.format).most
   fit = omega (arith, is.few, under_count hv, most_is log.shape.format)
@@ -62,26 +53,27 @@ module _ {log : LogValue} (is : IsLog log) (live : log.dead ≡ false) (owed : 0
         let g = hv.guards live ours image cut in
         let f = g.flushed (needs_one log one) in (newest g f.0, f.1)
 
-    past : {before image : Image} → IsHomed v before → Holds 1 (head_bytes h.stamp) before image → IsKept L v (with_less v) before image
+    past : {before image : Image} → IsHomed v before → Holds 1 (head_bytes h.stamp) before image → IsKept (layout_of log.shape.format) v (with_less v) before image
     past homed write =
-        kept_head L laws v is.sized.behind fit waits (rw (← stamp_is) (record { spelled = refl; least = h.least; most = h.most })) homed write
+        kept_head _ (laws_of log.shape.format) v is.sized.behind fit waits (rw (← stamp_is) (record { spelled = refl; least = h.least; most = h.most })) homed write
 
     stands_past : Stands log.shape (log.head + 1) (view_retired 1 view) log.steps_left (made_of log)
     stands_past =
-        let slots = λ (some : 0 < log.steps_left). HasSlots-less L v (stands.slots some) waits in
+        let stands = stands_now hv is in
+        let slots = λ (some : 0 < log.steps_left). HasSlots-less _ v (stands.slots some) waits in
         search (rules, arith, stands, length-drop 1 view.records)
 
     -- at each moment a cut leaves what it might leave before, and with the new head the same array
     pub head_leaves : WritesOnly 1 (head_bytes h.stamp) old new → view.ours ≡ true → LeavesOnly (MayLeave old.size log view) old new
     head_leaves adds ours = moments_have (MayLeave old.size log view) 1 (head_bytes h.stamp) old new adds
         (λ mid gains. each_write _ _ old mid 1 (head_bytes h.stamp) sound gains (one_now ours)
-        (λ image both. guard_leaves log {retire = 0} hv.fits stands (with_newest both.0 (λ none. absurd (omega (arith, none)))))
+        (λ image both. guard_leaves log {retire = 0} hv.fits (stands_now hv is) (with_newest both.0 (λ none. absurd (omega (arith, none)))))
         (λ before image write both.
         let g = with_newest {retire = 0} ((past both.1 write).guarded both.0) (λ none. absurd (omega (arith, none))) in
         elim (guard_logged (retired_of log) hv.fits stands_past g) [
           | inl rest ↦ inr (inr (waits, omega (arith, one), rest))
           | inr more ↦
-              let first = IsWholeIn-same L laws log.shape is.sized.some before image
+              let first = IsWholeIn-same _ (laws_of log.shape.format) log.shape is.sized.some before image
               (λ x low high. write.elsewhere x (λ e. omega (arith, low, e))) log.head oldest (rw add-zero at (both.0.stored.keeps.whole 0 waits)) in
               inr (inl (more.0, more.1, rw (drop-cons view.records 0 [] waits) (has_before oldest first more.2)))
         ]))
@@ -128,8 +120,7 @@ module _ {log : LogValue} (is : IsLog log) (live : log.dead ≡ false) (owed : 0
           safe = rw (← drop-cons view.records 0 [] waits) both.0;
           flushed = λ is. absurd (needs_more is);
         })
-        (λ before image write both. with_newest ((past both.1 write).guarded both.0)
-        (λ is. absurd (needs_more is))))
+        (λ before image write both. with_newest ((past both.1 write).guarded both.0) (λ is. absurd (needs_more is))))
 
   -- ---- the next turn of the oldest record
   module _ (turn : Turn) (next : IsNextTurn log.shape log.head (get_or log.waiting 0 []) log.firsts (turned_of log) turn) (new : State)
@@ -162,7 +153,7 @@ module _ {log : LogValue} (is : IsLog log) (live : log.dead ≡ false) (owed : 0
       home_each ours mid gains not = each_write _ _ old mid to block.1 sound gains (hv.guards live ours)
           (λ image g. same_head g g.safe (λ one. absurd (not one)))
           (λ before image write g. same_head g
-          ((kept_home L laws (front g) is.sized.behind fit block.0 (hides_behind g.passed _ _ (records-hide view.records 0 _ waits inside)) write).guarded g.safe)
+          ((kept_home _ (laws_of log.shape.format) (front g) is.sized.behind fit block.0 (hides_behind g.passed _ _ (records-hide view.records 0 _ waits inside)) write).guarded g.safe)
           (λ one. absurd (not one)))
 
       home_held : (ahead : Ahead) → needed_of (record log { retire_steps_left = log.retire_steps_left - 1; ahead = ahead }) ≢ 1
@@ -173,7 +164,7 @@ module _ {log : LogValue} (is : IsLog log) (live : log.dead ≡ false) (owed : 0
           let write = brings.1 done in
           goes_on hv is log.steps_left (log.retire_steps_left - 1) ahead new (omega arith) same_size live
           (record {
-            stored = (kept_home L laws v is.sized.behind fit block.0 (records-hide view.records 0 _ waits inside) write).stored s.stored;
+            stored = (kept_home _ (laws_of log.shape.format) v is.sized.behind fit block.0 (records-hide view.records 0 _ waits inside) write).stored s.stored;
             copied = λ j low high.
                 let up = (rw (named hv 0) at (is.each 0 [] (one_waits is owed)).rising) j (turned_of log) in
                 let number = λ (i : ℕ). get_or-map (λ (e : Entry). e.0) oldest i (0, []) in
@@ -196,7 +187,7 @@ module _ {log : LogValue} (is : IsLog log) (live : log.dead ≡ false) (owed : 0
     pub turn_leaves : view.ours ≡ true → LeavesOnly (MayLeave old.size log view) old new
     turn_leaves ours = by_turn
         (λ below. moments_have (MayLeave old.size log view) (to below) (block below).1 old new (brings below).0
-        (λ mid gains image cut. guard_leaves log {retire = 0} hv.fits stands (home_each below ours mid gains (omega arith) image cut)))
+        (λ mid gains image cut. guard_leaves log {retire = 0} hv.fits (stands_now hv is) (home_each below ours mid gains (omega arith) image cut)))
         (λ two flush. quiet_leaves (MayLeave old.size log view) old new sound (hv.leaves ours) (rw flush at adds))
         (λ one h head stamp. head_leaves one h stamp new (rw head at adds) ours)
 
@@ -229,10 +220,7 @@ module _ {log : LogValue} (is : IsLog log) (live : log.dead ≡ false) (owed : 0
 
       -- so it does ahead
       pub sent_held : 2 < of_oldest log → IsSentHome log then → HoldsView then new view
-      sent_held below home = elim (cases_lt 3 (of_oldest log)) [
-        | inl more ↦ rw (home.more more) (goes_home below)
-        | inr few ↦
-            let last : of_oldest log ≡ 3 = omega (arith, few, below) in
-            rw (home.last last) (home_held below (ahead_of log)
-            (λ one. omega (arith, needed_one (ahead_of log) log.head (log.head + length log.waiting) _ one, last)) same_size done)
-      ]
+      sent_held below home =
+          let ahead = λ (last : of_oldest log ≡ 3). home_held below (ahead_of log)
+          (λ one. omega (arith, needed_one (ahead_of log) log.head (log.head + length log.waiting) _ one, last)) same_size done in
+          grind (arith, cases_lt 3 (of_oldest log), home.more, home.last, ahead, goes_home below)
