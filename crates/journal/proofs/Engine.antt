@@ -203,8 +203,7 @@ module _ (L : Layout) (laws : Laws L) (v : View) (slots : HasSlots L v) where
                   let count = laws.count v.shape.blocks (stamp_of v) whole.0 v.under_way (record_of whole.1) slots.under_way in
                   let same : length whole.0 ≡ length v.under_way =
                   grind (arith, count, whole.1.there (L.parts n - 1), laws.some_parts n, laws.last, commit.1) in
-                  late_carries L laws v.shape image (stamp_of v) whole.0 one.0 whole.1 (rw same one.1)
-                  (rw same (omega (arith, early all, one.3.0))) (rw same one.3.1))
+                  grind (arith, late_carries L laws v.shape image (stamp_of v) whole.0 one.0 whole.1, early all, one.1, one.3))
             ]
       ]
 

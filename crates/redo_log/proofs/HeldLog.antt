@@ -1,7 +1,6 @@
 -- What guards a log against a cut, and what a log and its medium hold together.
-use Rattle.std.proofs.Common.{◌≡◌, ◌⊎◌, inl, inr, ⊎_elim, ℕ, ◌+◌, ◌<◌, ◌≤◌, List, [], ◌∷◌, ◌++◌, length, arith, rules, zero, suc, get_or}
-use Rattle.std.proofs.Common.{refl, ap, length-append, append_assoc, add-zero, ◌-◌, ◌∙◌, ◌^◌, ◌*◌, ◌%◌, Result, get_or-append-add, map}
-use Rattle.std.proofs.Common.{Bool, true, false, All}
+use Rattle.std.proofs.Common.{◌≡◌, ◌⊎◌, inl, inr, ⊎_elim, ℕ, ◌+◌, ◌<◌, ◌≤◌, List, [], ◌∷◌, ◌++◌, length, arith, rules, get_or, refl, ap}
+use Rattle.std.proofs.Common.{length-append, append_assoc, ◌-◌, ◌∙◌, ◌^◌, ◌*◌, ◌%◌, Result, get_or-append-add, map, Bool, true, false, All}
 use Rattle.std.proofs.lemmas.Bool.{cases_lt, cases_eq}
 use Rattle.std.proofs.lemmas.List.{nil_from_length, length-map}
 use Rattle.std.proofs.Math.ListN.{get_or-map}
@@ -23,7 +22,7 @@ use Rattle.journal.proofs.Formats.{laws_of, most_is}
 use Rattle.journal.proofs.SectorNumbers.{IsHead-one}
 use Rattle.journal.proofs.Engine.{rests_found, rests_begun, begun_rests, guarded_leaves}
 use Rattle.redo_log.specs.Value.{LogValue, Ahead, of_oldest, steps_of, steps_for, died}
-use Rattle.redo_log.specs.Shown.{IsSized, needed_at, IsRecord}
+use Rattle.redo_log.specs.Shown.{IsSized, IsRecord}
 use Rattle.redo_log.specs.Held.{View, HasView, with_record, with_begun, image_view, written_of, Stores, Safe, HasDurable, HasUnderWay}
 use Rattle.redo_log.specs.Held.{MayLeave, with_passed, HasHead, made_of, turned_of, needed_of, IsStored, IsGuarded, HoldsView}
 use Rattle.redo_log.specs.Steps.{LeavesLog}
@@ -86,14 +85,10 @@ has_view {stamp = stamp} {head = head} passed view fits behind found =
 -- with a record in front of them whole it has that one too
 pub has_before : {size : ℕ} {shape : Shape} {head : ℕ} (first : List Entry) {view : View} {image : Image} → IsWhole shape image head first
     → HasView size shape (head + 1) view image → HasView size shape head (with_passed (first ∷ []) view) image
-has_before {shape = shape} {head = head} first {view} {image = image} whole has =
+has_before {head = head} first {view} whole has =
     let next : head + 1 + length view.records + 1 ≡ head + length (first ∷ view.records) + 1 = omega arith in
-    record { whole = each; ours = rw next at has.ours }
-  where
-    each : (j : ℕ) → j < length (first ∷ view.records) → IsWhole shape image (head + j) (get_or (first ∷ view.records) j [])
-    each zero below = rw add-zero whole
-    each (suc j) below =
-        let here : head + suc j ≡ head + 1 + j = omega arith in rw here (has.whole j (omega (arith, below)))
+    let behind = λ (j : ℕ). get_or-append-add (first ∷ []) view.records (j - 1) [] in
+    record { whole = λ j below. grind (arith, cases_eq j 0, behind j, whole, has.whole (j - 1)); ours = rw next at has.ours }
 
 module _ {shape : Shape} {head : ℕ} {view : View} {made retire : ℕ} {image : Image} where
   -- the newest head is there
@@ -146,18 +141,16 @@ module _ {size : ℕ} (log : LogValue) {view : View} {made retire : ℕ} (fits :
   -- the durable records are whole, or with the one under way, whichever head is there
   pub guard_logged : HasDurable size log view image ⊎ HasUnderWay size log view image
   guard_logged =
-      let L = layout_of log.shape.format in
-      let n : ℕ = length view.under_way in
       let front_stands = stands_front g stands in
       elim (cases_lt 0 log.steps_left) [
         | inl some ↦ ⊎_elim
             (λ rest. inl (has_view g.passed view fits g.behind rest))
             (λ both. inr (some, stands.short both.0, has_view g.passed (with_record view) fits g.behind (rw append_assoc at both.1)))
-            (guarded_leaves L (laws_of log.shape.format) (front g) (front_stands.slots some) image _ _
-            (all_flushed (L.early n) (L.parts n) ((laws_of log.shape.format).last_is_late n) made) g.safe)
+            (guarded_leaves _ (laws_of log.shape.format) (front g) (front_stands.slots some) image _ _
+            (all_flushed _ _ ((laws_of log.shape.format).last_is_late (length view.under_way)) made) g.safe)
         | inr none ↦
             let rests = safe_rests (with_passed g.passed view) (stands.none (omega arith)) g.safe in
-            inl (has_view g.passed view fits g.behind (rests_found L (laws_of log.shape.format) (front g) front_stands.few rests))
+            inl (has_view g.passed view fits g.behind (rests_found _ (laws_of log.shape.format) (front g) front_stands.few rests))
       ]
 
   pub guard_leaves : MayLeave size log view image
@@ -211,10 +204,6 @@ record_entries shape stamp numbers entries sized rec is full =
 pub counts_of : {waiting : List (List ℕ)} (records : List (List Entry)) → waiting ≡ map (λ r. numbers_of r) records → (j : ℕ)
     → length (get_or waiting j []) ≡ length (get_or records j [])
 counts_of records is j = count_of _ _ (rw is (get_or-map (λ r. numbers_of r) records j []))
-
--- where one retire step is left of the oldest record it needs one
-pub needs_one : (log : LogValue) → of_oldest log ≡ 1 → needed_of log ≡ 1
-needs_one log one = ap (λ (l : ℕ). needed_at log.ahead log.head (log.head + length log.waiting) l) one
 
 -- where it needs one its blocks are home
 pub all_turned : (log : LogValue) → needed_of log ≡ 1 → length (get_or log.waiting 0 []) ≤ turned_of log

@@ -10,7 +10,6 @@ use Rattle.medium.proofs.Moments.{each_write, each_flush, quiet_leaves, content_
 use Rattle.journal.specs.declared.head.Head.{Head as HeadOf}
 use Rattle.journal.specs.Places.{sectors_of, first_home}
 use Rattle.journal.specs.Record.{Entry, numbers_of}
-use Rattle.journal.specs.Layout.{Layout, Laws}
 use Rattle.journal.specs.Formats.{layout_of, IsWhole}
 use Rattle.journal.specs.Staged.{IsHomed, with_less}
 use Rattle.journal.specs.Staged as staged
@@ -26,8 +25,7 @@ use Rattle.redo_log.specs.Turns.{head_bytes, MayTurn, IsTurned, IsNextTurn, IsHe
 use Rattle.redo_log.specs.Held.{View, view_retired, made_of, turned_of, needed_of, image_view, MayLeave, Safe, AreHome, HasHead, IsGuarded}
 use Rattle.redo_log.specs.Held.{HoldsView}
 use Rattle.redo_log.proofs.HeldLog.{moments_have, Stands, hides_behind, front, has_before, guard_logged, newest, with_newest, same_head}
-use Rattle.redo_log.proofs.HeldLog.{safe_here, guard_leaves, Stores-stays, needs_one, many, named, count, under_count, stands_now, goes_on}
-use Rattle.redo_log.proofs.HeldLog.{counts_of}
+use Rattle.redo_log.proofs.HeldLog.{safe_here, guard_leaves, Stores-stays, many, named, count, under_count, stands_now, goes_on, counts_of}
 use Rattle.redo_log.proofs.LogRules.{needed_one, IsLog, retired_of, one_waits, nothing_home, not_homed}
 use Rattle.redo_log.proofs.NewestCopy.{kept_is, retired_kept}
 use Rattle.redo_log.proofs.RecordSteps.{head_turn}
@@ -51,11 +49,11 @@ module _ {log : LogValue} (is : IsLog log) (live : log.dead ≡ false) (owed : 0
     one_now : view.ours ≡ true → EachCut (λ image. Safe log.shape log.head view (made_of log) image × IsHomed v image) old
     one_now ours image cut =
         let g = hv.guards live ours image cut in
-        let f = g.flushed (needs_one log one) in (newest g f.0, f.1)
+        let f = g.flushed (grind (arith, one)) in (newest g f.0, f.1)
 
     past : {before image : Image} → IsHomed v before → Holds 1 (head_bytes h.stamp) before image → IsKept (layout_of log.shape.format) v (with_less v) before image
     past homed write =
-        kept_head _ (laws_of log.shape.format) v is.sized.behind fit waits (rw (← stamp_is) (record { spelled = refl; least = h.least; most = h.most })) homed write
+        kept_head _ (laws_of _) v is.sized.behind fit waits (rw (← stamp_is) (record { spelled = refl; least = h.least; most = h.most })) homed write
 
     stands_past : Stands log.shape (log.head + 1) (view_retired 1 view) log.steps_left (made_of log)
     stands_past =
@@ -73,7 +71,7 @@ module _ {log : LogValue} (is : IsLog log) (live : log.dead ≡ false) (owed : 0
         elim (guard_logged (retired_of log) hv.fits stands_past g) [
           | inl rest ↦ inr (inr (waits, omega (arith, one), rest))
           | inr more ↦
-              let first = IsWholeIn-same _ (laws_of log.shape.format) log.shape is.sized.some before image
+              let first = IsWholeIn-same _ (laws_of _) log.shape is.sized.some before image
               (λ x low high. write.elsewhere x (λ e. omega (arith, low, e))) log.head oldest (rw add-zero at (both.0.stored.keeps.whole 0 waits)) in
               inr (inl (more.0, more.1, rw (drop-cons view.records 0 [] waits) (has_before oldest first more.2)))
         ]))
@@ -153,7 +151,7 @@ module _ {log : LogValue} (is : IsLog log) (live : log.dead ≡ false) (owed : 0
       home_each ours mid gains not = each_write _ _ old mid to block.1 sound gains (hv.guards live ours)
           (λ image g. same_head g g.safe (λ one. absurd (not one)))
           (λ before image write g. same_head g
-          ((kept_home _ (laws_of log.shape.format) (front g) is.sized.behind fit block.0 (hides_behind g.passed _ _ (records-hide view.records 0 _ waits inside)) write).guarded g.safe)
+          ((kept_home _ (laws_of _) (front g) is.sized.behind fit block.0 (hides_behind g.passed _ _ (records-hide view.records 0 _ waits inside)) write).guarded g.safe)
           (λ one. absurd (not one)))
 
       home_held : (ahead : Ahead) → needed_of (record log { retire_steps_left = log.retire_steps_left - 1; ahead = ahead }) ≢ 1
@@ -164,7 +162,7 @@ module _ {log : LogValue} (is : IsLog log) (live : log.dead ≡ false) (owed : 0
           let write = brings.1 done in
           goes_on hv is log.steps_left (log.retire_steps_left - 1) ahead new (omega arith) same_size live
           (record {
-            stored = (kept_home _ (laws_of log.shape.format) v is.sized.behind fit block.0 (records-hide view.records 0 _ waits inside) write).stored s.stored;
+            stored = (kept_home _ (laws_of _) v is.sized.behind fit block.0 (records-hide view.records 0 _ waits inside) write).stored s.stored;
             copied = λ j low high.
                 let up = (rw (named hv 0) at (is.each 0 [] (one_waits is owed)).rising) j (turned_of log) in
                 let number = λ (i : ℕ). get_or-map (λ (e : Entry). e.0) oldest i (0, []) in

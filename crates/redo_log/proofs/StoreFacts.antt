@@ -22,7 +22,7 @@ use Rattle.redo_log.specs.Held.{HasDurable, HasHead, AreHome}
 use Rattle.redo_log.proofs.RecordSteps.{steps_some, steps_are, due_or_not, last_call, not_last, early_written, part_written}
 use Rattle.redo_log.proofs.LogRules.{needed_covered, one_stamp, made_is, none_made, IsLog, durable_of, durable_alone, durable_more}
 use Rattle.redo_log.proofs.HeldLog.{rests_safe, safe_rests, keeps_stored, with_newest, same_head, put_head, put_safe, has_view}
-use Rattle.redo_log.proofs.HeldLog.{Stores-stays, count, under_count, going_held, Stands, stands_idle, same_stamp, front, stands_front}
+use Rattle.redo_log.proofs.HeldLog.{Stores-stays, count, under_count, going_held, Stands, stands_idle, same_stamp, stands_front}
 use Rattle.redo_log.proofs.HeldLog.{guard_logged, guard_leaves, safe_here, all_turned, counts_of, many, stands_then, stands_now, goes_on}
 use Rattle.redo_log.proofs.HeldLog.{record_entries, before_home}
 use Rattle.redo_log.proofs.NewestCopy.{none_kept, begun_kept, durable_kept}
@@ -31,7 +31,7 @@ pub use Rattle.redo_log.proofs.NewestCopy.{home_is}
 use Rattle.std.proofs.lemmas.Result.{on_ok_weaker}
 use Rattle.std.proofs.lemmas.Bool.{cases_eq, cases_lt}
 use Rattle.medium.specs.declared.fault.MediumFault.{MediumFault}
-use Rattle.journal.specs.Layout.{Layout, part_at, Laws, IsRecordOf}
+use Rattle.journal.specs.Layout.{Layout, part_at, IsRecordOf}
 use Rattle.journal.specs.Formats.{layout_of}
 use Rattle.journal.specs.Staged as staged
 use Rattle.redo_log.specs.declared.progress.Progress.{Progress}
@@ -128,15 +128,8 @@ module _ {log : LogValue} (is : IsLog log) (live : log.dead ≡ false) (some : 0
   abbrev L : Layout
   L = layout_of log.shape.format
 
-  abbrev laws : Laws L
-  laws = laws_of log.shape.format
-
   abbrev n : ℕ
   n = length view.under_way
-
-  -- the log, as images see it
-  abbrev v : staged.View
-  v = image_view log.shape log.head view
 
   -- the stamp of the record
   abbrev stamp : ℕ
@@ -185,39 +178,35 @@ module _ {log : LogValue} (is : IsLog log) (live : log.dead ≡ false) (some : 0
       early_flushed : 1 < log.steps_left → IsFlushDue L n (made_of log) → IsDone here.call old new → HoldsView more_log new view
       early_flushed more due done =
           let wrote = rw (flushes due) at done in
-          let few = not_last _ _ (laws.last_is_late n) (made_of log) (omega (arith, made_is log some, more, all_steps, is.most_left)) in
+          let few = not_last _ _ ((laws_of log.shape.format).last_is_late n) (made_of log) (omega (arith, made_is log some, more, all_steps, is.most_left)) in
           let early : (0 < L.early n) × (made_of log ≡ L.early n) = grind (arith, due, few) in
-          let after = early_written _ _ (laws.last_is_late n) (made_of log) (made_of more_log) (then_made more) early.0 early.1 in
+          let after = early_written _ _ ((laws_of log.shape.format).last_is_late n) (made_of log) (made_of more_log) (then_made more) early.0 early.1 in
           let s = hv.stores live in
           goes_on hv is (log.steps_left - 1) log.retire_steps_left log.ahead new (omega arith) here.makes.passes.size_stays live
           (Stores-stays s (made_of more_log) (turned_of log) new.content wrote.0 (omega (arith, after.0)) (λ i low high. low))
-          (λ ours.
-          let g = hv.guards live ours in
-          each_flush _ old.content new wrote.1 (with_newest
-          (rw (after.0, after.1) (record { stored = s.stored; carries = (safe_here sound s g).carries }))
+          (λ ours. each_flush _ old.content new wrote.1 (with_newest
+          (rw (after.0, after.1) (record { stored = s.stored; carries = (safe_here sound s (hv.guards live ours)).carries }))
           (λ one i inside. s.copied i (omega (arith, inside, all_turned log one, count hv 0)) inside)))
 
       -- ---- a flush of all parts: the record is durable
       all_flushed : log.steps_left ≡ 1 → IsDone here.call old new → HoldsView (durable_of log) new (with_record view)
       all_flushed last done =
-          let all = last_call _ _ (laws.last_is_late n) (made_of log) (omega (arith, made_is log some, is.most_left, some, all_steps))
+          let all = last_call _ _ ((laws_of log.shape.format).last_is_late n) (made_of log) (omega (arith, made_is log some, is.most_left, some, all_steps))
           (omega (arith, made_is log some, is.most_left, last, all_steps)) in
           let wrote = rw (flushes (inr all)) at done in
           let longer = length-append view.records (view.under_way ∷ []) in
           let fits : sectors_of log.shape ≤ new.size = omega (arith, here.makes.passes.size_stays, hv.fits) in
           let still : new.content ≡ old.content = λ i s. wrote.0 s i in
-          let alone = λ (none : length view.records ≡ 0). durable_alone log is some (many hv ∙ none) in
-          let waits = λ (more : 0 < length view.records). durable_more log (omega (arith, many hv, more)) in
           let s = hv.stores live in
           let durable : log.waiting ++ log.under_way ∷ [] ≡ map (λ r. numbers_of r) (view.records ++ view.under_way ∷ []) =
           rw (hv.durable, hv.under_way) (sym (map-append (λ r. numbers_of r) view.records (view.under_way ∷ []))) in
           let copied : AreHome log.shape (get_or (view.records ++ view.under_way ∷ []) 0 []) (turned_of (durable_of log)) old.content =
           let first = get_or_append_left view.records (view.under_way ∷ []) [] 0 in
-          λ i low high. grind (arith, cases_eq (length view.records) 0, alone, waits, s.copied i, first) in
-          let keeps = Stored-durable L laws v (stands.slots some) all s.stored in
+          λ i low high. grind (arith, cases_eq (length view.records) 0, durable_alone log is some, durable_more log, many hv, s.copied i, first) in
+          let keeps = Stored-durable _ (laws_of _) _ (stands.slots some) all s.stored in
           let next : log.head + length view.records + 1 ≡ log.head + length (view.records ++ view.under_way ∷ []) = omega (arith, longer) in
           let guards : view.ours ≡ true → IsGuarded (durable_of log) (with_record view) new = λ ours.
-          let carries = rw next at (carries_below L laws v (stands.slots some) old.content _ _ (safe_here sound s (hv.guards live ours))) in
+          let carries = rw next at (carries_below _ (laws_of _) _ (stands.slots some) old.content _ _ (safe_here sound s (hv.guards live ours))) in
           each_flush _ old.content new wrote.1 (with_newest (rests_safe (with_record view) refl (record { keeps = keeps; carries = carries }))
           (λ one i inside. copied i (omega (arith, inside, all_turned (durable_of log) one, counts_of (view.records ++ view.under_way ∷ []) durable 0)) inside)) in
           let one = one_stamp log.under_way (is.record_is some).numbers_are.some in
@@ -249,12 +238,12 @@ module _ {log : LogValue} (is : IsLog log) (live : log.dead ≡ false) (some : 0
         -- the write leaves the blocks at home
         at_home : {before image : Image} → Holds place part before image → (b : ℕ) → image (log.shape.home + b) ≡ before (log.shape.home + b)
         at_home write b =
-            let low = before_home log.shape is.sized stamp (L.offset n k) (laws.inside n k (stands.slots some).under_way.fit.few small) in
+            let low = before_home log.shape is.sized stamp (L.offset n k) ((laws_of log.shape.format).inside n k (stands.slots some).under_way.fit.few small) in
             write.elsewhere _ (λ e. omega (arith, e, low))
 
         after : (next : ℕ) → next ≡ made_of log + 1 → (written_of log.shape view next ≡ k + 1)
             × (flushed_of log.shape view next ≡ flushed_of log.shape view (made_of log))
-        after next one = part_written _ _ (laws.last_is_late n) (made_of log) next one (grind (arith, not))
+        after next one = part_written _ _ ((laws_of log.shape.format).last_is_late n) (made_of log) next one (grind (arith, not))
 
         -- with the last part in it the record has this one's
         part_each : part ≡ L.part stamp view.under_way k → view.ours ≡ true → (then : ℕ) → then ≡ made_of log + 1
@@ -264,8 +253,7 @@ module _ {log : LogValue} (is : IsLog log) (live : log.dead ≡ false) (some : 0
             each_write _ _ old new place part sound adds (hv.guards live ours)
             (λ image g. same_head g (rw (now.0, now.1) (Guarded-lost k g.safe)) g.flushed)
             (λ before image write g. same_head g
-            (rw (now.0, now.1) (Guarded-write L laws (front g) ((stands_front g stands).slots some) k small
-            (rw (mine, same_stamp g) at write) g.safe))
+            (rw (now.0, now.1) (Guarded-write _ (laws_of _) _ ((stands_front g stands).slots some) k small (rw (mine, same_stamp g) at write) g.safe))
             (λ one. let homed = g.flushed one in (homed.0, λ i below. at_home write _ ∙ homed.1 i below)))
 
         part_leaves : view.ours ≡ true → EachCut (MayLeave old.size log view) new
@@ -274,15 +262,14 @@ module _ {log : LogValue} (is : IsLog log) (live : log.dead ≡ false) (some : 0
               each_write _ (MayLeave old.size log view) old new place part sound adds (hv.guards live ours)
               (λ image g. guard_leaves log hv.fits stands g)
               (λ before image write g.
-              inl (has_view g.passed view hv.fits g.behind (other_written L laws (front g) ((stands_front g stands).slots some) {before = before}
+              inl (has_view g.passed view hv.fits g.behind (other_written _ (laws_of _) _ ((stands_front g stands).slots some) {before = before}
               k other (rw (same_stamp g) at other_is) other_count early (rw (← (same_stamp g)) write) g.safe)))
           | inr last ↦
               let stands_then = stands_then hv is log.steps_left (made_of log + 1) (omega arith) (λ none. absurd (omega (arith, none, some)))
               (λ _. omega (arith, made_is log some)) in
               let k_is : L.parts n - 1 ≡ k = omega (arith, small, last) in
-              let mine = rw (other_count, k_is) at (laws.last_part stamp other view.under_way other_count) in
-              λ image cut.
-              guard_leaves log hv.fits stands_then (part_each mine ours (made_of log + 1) refl image cut)
+              let mine = rw (other_count, k_is) at ((laws_of log.shape.format).last_part stamp other view.under_way other_count) in
+              λ image cut. guard_leaves log hv.fits stands_then (part_each mine ours (made_of log + 1) refl image cut)
         ]
 
         part_written_now : 1 < log.steps_left → view.under_way ≡ other → IsDone here.call old new → HoldsView more_log new view
@@ -293,7 +280,7 @@ module _ {log : LogValue} (is : IsLog log) (live : log.dead ≡ false) (some : 0
             let now = after (made_of more_log) (then_made more) in
             goes_on hv is (log.steps_left - 1) log.retire_steps_left log.ahead new (omega arith) here.makes.passes.size_stays live
             (record {
-              stored = Stored-write L laws v (stands.slots some) k small (λ p low not. omega (arith, low, now.0, not)) (rw mine at write) s.stored;
+              stored = Stored-write _ (laws_of _) _ (stands.slots some) k small (λ p low not. omega (arith, low, now.0, not)) (rw mine at write) s.stored;
               copied = λ i low high. at_home write _ ∙ s.copied i low high;
             })
             (λ ours. part_each mine ours (made_of more_log) (then_made more))
