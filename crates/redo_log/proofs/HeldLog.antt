@@ -15,9 +15,8 @@ use Rattle.journal.specs.Places.{Shape, sectors_of, first_home}
 use Rattle.journal.specs.Sectors.{IsHead}
 use Rattle.journal.specs.Record.{Entry, with_blocks, Hides, numbers_of}
 use Rattle.journal.specs.Formats.{layout_of, IsWhole}
-use Rattle.journal.specs.Staged.{KeepsView, Found, Stored, HasSlots, Resting, IsHomed}
+use Rattle.journal.specs.Staged.{KeepsView, Found, Stored, HasSlots, Resting, IsHomed, View as ImageView}
 use Rattle.journal.specs.Layout.{IsRecordOf}
-use Rattle.journal.specs.Staged as staged
 use Rattle.journal.proofs.Formats.{laws_of, most_is}
 use Rattle.journal.proofs.SectorNumbers.{IsHead-one}
 use Rattle.journal.proofs.Engine.{rests_found, rests_begun, begun_rests, guarded_leaves}
@@ -123,7 +122,7 @@ module _ {shape : Shape} {head : ℕ} {view : View} {made retire : ℕ} {image :
     same_stamp = omega (arith, g.behind, length-append g.passed view.records)
 
     -- the view with them, as images see it
-    abbrev pub front : staged.View
+    abbrev pub front : ImageView
     front = image_view shape g.stamp (with_passed g.passed view)
 
     -- and all stand in slots of their own

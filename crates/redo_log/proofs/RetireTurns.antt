@@ -11,12 +11,11 @@ use Rattle.journal.specs.declared.head.Head.{Head as HeadOf}
 use Rattle.journal.specs.Places.{sectors_of, first_home}
 use Rattle.journal.specs.Record.{Entry, numbers_of}
 use Rattle.journal.specs.Formats.{layout_of, IsWhole}
-use Rattle.journal.specs.Staged.{IsHomed, with_less}
-use Rattle.journal.specs.Staged as staged
+use Rattle.journal.specs.Staged.{IsHomed, with_less, HasSlots, View as ImageView}
 use Rattle.journal.proofs.CopiedBlock.{begun_is}
 use Rattle.journal.proofs.Formats.{laws_of, most_is}
 use Rattle.journal.proofs.Overlay.{records-hide}
-use Rattle.journal.proofs.Engine.{IsWholeIn-same, IsKept, kept_home, kept_head, HasSlots-less}
+use Rattle.journal.proofs.Engine.{IsWholeIn-same, IsKept, kept_home, kept_head}
 use Rattle.redo_log.specs.declared.turn.Turn.{Turn}
 use Rattle.redo_log.specs.declared.turn.Turn.TheVariants.{Flush, Head}
 use Rattle.redo_log.specs.Value.{LogValue, Ahead, IsSentHome, IsRetireStepped, of_oldest, ahead_of, settled}
@@ -35,7 +34,7 @@ module _ {log : LogValue} (is : IsLog log) (live : log.dead ≡ false) (owed : 0
   abbrev oldest : List Entry
   oldest = get_or view.records 0 []
 
-  abbrev v : staged.View
+  abbrev v : ImageView
   v = image_view log.shape log.head view
 
   waits : 0 < length view.records
@@ -58,8 +57,11 @@ module _ {log : LogValue} (is : IsLog log) (live : log.dead ≡ false) (owed : 0
     stands_past : Stands log.shape (log.head + 1) (view_retired 1 view) log.steps_left (made_of log)
     stands_past =
         let stands = stands_now hv is in
-        let slots = λ (some : 0 < log.steps_left). HasSlots-less _ v (stands.slots some) waits in
-        search (rules, arith, stands, length-drop 1 view.records)
+        let fewer = length-drop 1 view.records in
+        let same : log.head + 1 + length (drop 1 view.records) ≡ log.head + length view.records = omega (arith, fewer, waits) in
+        let slots : 0 < log.steps_left → HasSlots (layout_of log.shape.format) (with_less v) = λ some.
+        grind (arith, stands.slots some, fewer, same) in
+        search (rules, arith, stands, fewer)
 
     -- at each moment a cut leaves what it might leave before, and with the new head the same array
     pub head_leaves : WritesOnly 1 (head_bytes h.stamp) old new → view.ours ≡ true → LeavesOnly (MayLeave old.size log view) old new

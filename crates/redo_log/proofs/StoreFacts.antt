@@ -1,6 +1,6 @@
 -- What a store on top of a log cites, and each step of the record under way: what the log and its medium hold after it.
-use Rattle.std.proofs.Common.{◌≡◌, ◌≢◌, ◌⊎◌, inl, ℕ, ◌+◌, ◌-◌, ◌<◌, ◌≤◌, List, [], ◌∷◌, ◌++◌, length, drop, refl, sym, ◌∙◌, ap, arith}
-use Rattle.std.proofs.Common.{rules, length-append, length-drop, inr, ◌*◌, get_or, Bool, true, false, map, Result, OnOk}
+use Rattle.std.proofs.Common.{◌≡◌, ◌≢◌, ◌⊎◌, inl, ℕ, ◌+◌, ◌-◌, ◌<◌, ◌≤◌, List, [], ◌∷◌, ◌++◌, length, refl, sym, ◌∙◌, ap, arith, rules}
+use Rattle.std.proofs.Common.{length-append, inr, ◌*◌, get_or, Bool, true, false, map, Result, OnOk}
 use Rattle.std.proofs.lemmas.List.{nil_from_length, map-append, get_or_append_left}
 use Rattle.medium.specs.Medium.{State, Image, CutLeaves, IsSound, Holds, Gains}
 use Rattle.medium.specs.Moments.{EachCut, LeavesOnly}
@@ -17,15 +17,15 @@ use Rattle.redo_log.specs.Value.{LogValue, HasRoom, IsCovered, retire_steps_of, 
 use Rattle.redo_log.specs.Value.{IsBatch, steps_of, steps_for, IsStepped}
 use Rattle.redo_log.specs.Shown.{needed_at, flush_of}
 use Rattle.redo_log.specs.Held.{View, resting_view, IsStored, IsGuarded, HasNoRecord, with_begun, made_of, turned_of, needed_of, MayLeave}
-use Rattle.redo_log.specs.Held.{Safe, stamps_of, with_passed, image_view, HoldsView, with_record, view_stepped, written_of, flushed_of}
-use Rattle.redo_log.specs.Held.{HasDurable, HasHead, AreHome}
+use Rattle.redo_log.specs.Held.{Safe, with_passed, image_view, HoldsView, with_record, view_stepped, written_of, flushed_of, HasDurable}
+use Rattle.redo_log.specs.Held.{HasHead, AreHome}
 use Rattle.redo_log.proofs.RecordSteps.{steps_some, steps_are, due_or_not, last_call, not_last, early_written, part_written}
-use Rattle.redo_log.proofs.LogRules.{needed_covered, one_stamp, made_is, none_made, IsLog, durable_of, durable_alone, durable_more}
+use Rattle.redo_log.proofs.LogRules.{needed_covered, made_is, none_made, IsLog, durable_of, durable_alone, durable_more}
 use Rattle.redo_log.proofs.HeldLog.{rests_safe, safe_rests, keeps_stored, with_newest, same_head, put_head, put_safe, has_view}
 use Rattle.redo_log.proofs.HeldLog.{Stores-stays, count, under_count, going_held, Stands, stands_idle, same_stamp, stands_front}
 use Rattle.redo_log.proofs.HeldLog.{guard_logged, guard_leaves, safe_here, all_turned, counts_of, many, stands_then, stands_now, goes_on}
 use Rattle.redo_log.proofs.HeldLog.{record_entries, before_home}
-use Rattle.redo_log.proofs.NewestCopy.{none_kept, begun_kept, durable_kept}
+use Rattle.redo_log.proofs.NewestCopy.{durable_kept}
 pub use Rattle.redo_log.proofs.HeldLog.{quiet_held, put_head}
 pub use Rattle.redo_log.proofs.NewestCopy.{home_is}
 use Rattle.std.proofs.lemmas.Result.{on_ok_weaker}
@@ -33,7 +33,6 @@ use Rattle.std.proofs.lemmas.Bool.{cases_eq, cases_lt}
 use Rattle.medium.specs.declared.fault.MediumFault.{MediumFault}
 use Rattle.journal.specs.Layout.{Layout, part_at, IsRecordOf}
 use Rattle.journal.specs.Formats.{layout_of}
-use Rattle.journal.specs.Staged as staged
 use Rattle.redo_log.specs.declared.progress.Progress.{Progress}
 use Rattle.redo_log.specs.declared.progress.Progress.TheVariants.{More, Durable}
 use Rattle.redo_log.specs.Calls.{Write, Flush, IsDone, MakesNext, IsNextCall, IsFlushDue}
@@ -43,9 +42,7 @@ pub idle_holds : (shape : Shape) (next : ℕ) (array : Array) (ours : Bool) (m :
     → Keeps shape m.content next [] array → (ours ≡ true → EachCut (HasNoRecord shape next array) m)
     → HoldsView (idle_from shape next) m (resting_view array ours)
 idle_holds shape next array ours m fits keeps fresh =
-    let log = idle_from shape next in
     let view : View = resting_view array ours in
-    let firsts = none_kept shape.format in
     let leaves : ours ≡ true → EachCut (MayLeave m.size (idle_from shape next) (resting_view array ours)) m = λ is image cut.
     inl (has_view [] view fits (omega arith) (rests_found _ (laws_of shape.format) (image_view shape next view) (omega arith) (fresh is image cut))) in
     let stores : IsStored (idle_from shape next) (resting_view array ours) m =
@@ -85,9 +82,6 @@ pub may_leave_ours : (size : ℕ) (log : LogValue) (view : View) (image : Image)
     ⊎ ((0 < log.steps_left) × IsOurs size log.shape image (with_blocks view.under_way view.array) (log.head + length view.records + 2))
 may_leave_ours size log view image found =
     let longer = length-append view.records (view.under_way ∷ []) in
-    let both : log.head + length (view.records ++ view.under_way ∷ []) + 1 ≡ log.head + length view.records + 2 = omega (arith, longer) in
-    let less : 0 < length view.records → log.head + 1 + length (drop 1 view.records) + 1 ≡ log.head + length view.records + 1 =
-    λ some. omega (arith, length-drop 1 view.records, some) in
     grind (arith, found)
 
 -- a record is begun in a log with room
@@ -104,13 +98,9 @@ begun_holds log m view numbers bytes holds room batch =
     let behind : behind_oldest next ≡ behind_oldest log + retire_steps_of numbers = omega (arith, none) in
     let same : of_oldest log ≡ of_oldest next = omega (arith, behind) in
     let needs : needed_of log ≡ needed_of next = ap (λ (l : ℕ). needed_at log.ahead log.head (log.head + length log.waiting) l) same in
-    let turned : turned_of log ≡ turned_of next = omega (arith, same) in
     let made : made_of next ≡ 0 = omega (arith, made_is next (steps_some log.shape.format (length numbers))) in
     let under = numbers_of_batch numbers bytes in
-    let stamps = ap (λ (l : List ℕ). stamps_of l) room.none_under_way in
-    let one = one_stamp numbers batch.some in
     let sized = sized_batch numbers bytes batch.size in
-    let firsts = begun_kept log.shape.format view.records view.under_way E log.firsts holds.firsts none_yet (omega (arith, many, batch.some)) in
     let leaves : view.ours ≡ true → EachCut (MayLeave m.size next (with_begun E view)) m = λ ours image cut.
     grind (arith, holds.leaves ours image cut, room.no_steps, behind) in
     let stores : log.dead ≡ false → IsStored next (with_begun E view) m = λ live.
@@ -209,7 +199,6 @@ module _ {log : LogValue} (is : IsLog log) (live : log.dead ≡ false) (some : 0
           let carries = rw next at (carries_below _ (laws_of _) _ (stands.slots some) old.content _ _ (safe_here sound s (hv.guards live ours))) in
           each_flush _ old.content new wrote.1 (with_newest (rests_safe (with_record view) refl (record { keeps = keeps; carries = carries }))
           (λ one i inside. copied i (omega (arith, inside, all_turned (durable_of log) one, counts_of (view.records ++ view.under_way ∷ []) durable 0)) inside)) in
-          let one = one_stamp log.under_way (is.record_is some).numbers_are.some in
           let few : length (view.records ++ view.under_way ∷ []) ≤ log.shape.slots = omega (arith, (stands.slots some).room, longer) in
           let firsts = durable_kept log.shape.format view.records view.under_way log.firsts hv.firsts (omega (arith, (stands.slots some).under_way.fit.some)) in
           let leaves : view.ours ≡ true → EachCut (MayLeave new.size (durable_of log) (with_record view)) new =
