@@ -94,7 +94,6 @@ module _ (L : Layout) (laws : Laws L) (v : View) (slots : HasSlots L v) where
       → 2 + L.slot_sectors * slot + o ≡ part_at L v.shape (stamp_of v) (length es) p → bytes ≡ L.part (stamp_of v) es p
       → L.carries o t bytes → t ≡ stamp_of v
   one_part es is slot o t p bytes small below place there carries =
-      let low = laws.inside (length es) p is.fit.few below in
       let apart = other_sector L.slot_sectors slot (stamp_of v % v.shape.slots) o (L.offset (length es) p) in
       grind (arith, cases_eq slot (stamp_of v % v.shape.slots), apart, laws.one_stamp v.shape.blocks (stamp_of v) t es p is below)
 
@@ -165,8 +164,7 @@ module _ (L : Layout) (laws : Laws L) (v : View) (slots : HasSlots L v) where
       let more = with_records-append v.records v.under_way (home_of v.shape image) in
       let laid = with_blocks-same v.under_way (with_records v.records (home_of v.shape image)) v.array in
       let old = get_or_append_left v.records (v.under_way ∷ []) [] in
-      let longer = length-append v.records (v.under_way ∷ []) in
-      grind (arith, cases_lt, s.keeps, get_or-append_seam v.records v.under_way [] [])
+      grind (arith, cases_lt, length-append, s.keeps, get_or-append_seam v.records v.under_way [] [])
 
   -- the record under way is not whole, or all its parts are written, and it is, with its blocks: a cut leaves what it may
   pub guarded_leaves : (image : Image) (k durable : ℕ) → (L.parts (length v.under_way) ≤ k → L.early (length v.under_way) ≤ durable)

@@ -195,7 +195,6 @@ record_entries shape stamp numbers entries sized rec is full =
     let count : length numbers ≡ length entries = count_of numbers entries is in
     let now = rw is at rec.numbers_are in
     let few : length entries ≤ (layout_of shape.format).most = omega (arith, count, now.few, most_is shape.format) in
-    let some : 1 ≤ length entries = omega (arith, count, rec.numbers_are.some) in
     let small : All (λ b. b < 2 ^ 31) (numbers_of entries) = λ j d below. omega (arith, now.inside j d below, sized.small) in
     search (rules, arith, rec.most)
 
@@ -232,7 +231,6 @@ module _ {log : LogValue} {m : State} {view : View} (hv : HoldsView log m view) 
       → (dead ≡ false → view.ours ≡ true → IsGuarded (going log left retire ahead dead) view new)
       → HoldsView (going log left retire ahead dead) new view
   going_held left retire ahead dead new same leaves stores guards =
-      let fits : sectors_of log.shape ≤ new.size = omega (arith, same, hv.fits) in
       let leaves_now = λ (ours : view.ours ≡ true). rw (← same) at (leaves ours) in search rules
 
   -- a dead log and its medium hold what a cut may leave

@@ -169,7 +169,6 @@ module _ {log : LogValue} (is : IsLog log) (live : log.dead ≡ false) (owed : 0
                 let up = (rw (named hv 0) at (is.each 0 [] (one_waits is owed)).rising) j (turned_of log) in
                 let number = λ (i : ℕ). get_or-map (λ (e : Entry). e.0) oldest i (0, []) in
                 let long = length-map oldest (λ (e : Entry). e.0) in
-                let less : j ≤ turned_of log = omega (arith, low, below, is.owed_most) in
                 grind (arith, cases_eq j (turned_of log), write, s.copied j, up, long, number j, number (turned_of log), inside);
           })
           (λ ours. home_each ours new brings.0.sets not)
