@@ -48,15 +48,12 @@ stands_idle few idle none = search (rules, arith)
 module _ {shape : Shape} {head : ℕ} (view : View) {made : ℕ} {image : Image} (none : made ≡ 0) where
   -- where no call of a record is made, an image at rest is safe
   pub rests_safe : Resting (layout_of shape.format) (image_view shape head view) image → Safe shape head view made image
-  rests_safe rests =
-      let nothing = none_written ((layout_of shape.format).early (length view.under_way)) made none in
-      rw (nothing.0, nothing.1) (rests_begun rests)
+  rests_safe rests = grind (arith, none_written, none, rests_begun {v = image_view shape head view} rests)
 
   -- and what keeps the view stores it
   pub keeps_stored : KeepsView (layout_of shape.format) (image_view shape head view) image
       → Stored (layout_of shape.format) (image_view shape head view) (written_of shape view made) image
-  keeps_stored keeps =
-      let nothing = none_written ((layout_of shape.format).early (length view.under_way)) made none in search (rules, arith, nothing)
+  keeps_stored keeps = grind (arith, none_written, none, keeps)
 
   -- a safe one rests
   pub safe_rests : Safe shape head view made image → Resting (layout_of shape.format) (image_view shape head view) image
@@ -75,9 +72,7 @@ has_view {stamp = stamp} {head = head} passed view fits behind found =
     let longer = length-append passed view.records in
     let next : stamp + length (passed ++ view.records) + 1 ≡ head + length view.records + 1 = omega (arith, behind, longer) in
     record {
-      whole = λ j below.
-          let here : stamp + (length passed + j) ≡ head + j = omega (arith, behind) in
-          rw (here, get_or-append-add passed view.records j []) at (found.keeps.whole (length passed + j) (omega (arith, below, longer)));
+      whole = λ j below. grind (arith, found.keeps.whole (length passed + j), get_or-append-add passed view.records j []);
       ours = let carries = rw next at found.carries in search (rules, found.keeps, found.ends, found.few, next);
     }
 
@@ -99,9 +94,7 @@ module _ {shape : Shape} {head : ℕ} {view : View} {made retire : ℕ} {image :
   module _ (g : HasHead shape head view made retire image) where
     -- it is where none was passed
     pub newest : g.passed ≡ [] → Safe shape head view made image
-    newest none =
-        let same : g.stamp ≡ head = omega (arith, g.behind, ap (λ (l : List (List Entry)). length l) none) in
-        rw (same, none) at g.safe
+    newest none = grind (arith, none, g.behind, g.safe)
 
     -- and where the image has its bytes
     pub safe_at : IsHead head (image 1) → Safe shape head view made image
@@ -194,9 +187,8 @@ pub record_entries : (shape : Shape) (stamp : ℕ) (numbers : List ℕ) (entries
 record_entries shape stamp numbers entries sized rec is full =
     let count : length numbers ≡ length entries = count_of numbers entries is in
     let now = rw is at rec.numbers_are in
-    let few : length entries ≤ (layout_of shape.format).most = omega (arith, count, now.few, most_is shape.format) in
     let small : All (λ b. b < 2 ^ 31) (numbers_of entries) = λ j d below. omega (arith, now.inside j d below, sized.small) in
-    search (rules, arith, rec.most)
+    search (rules, arith, rec.most, now.few, most_is shape.format)
 
 -- so have those of records
 pub counts_of : {waiting : List (List ℕ)} (records : List (List Entry)) → waiting ≡ map (λ r. numbers_of r) records → (j : ℕ)

@@ -45,8 +45,7 @@ idle_holds shape next array ours m fits keeps fresh =
     let view : View = resting_view array ours in
     let leaves : ours ≡ true → EachCut (MayLeave m.size (idle_from shape next) (resting_view array ours)) m = λ is image cut.
     inl (has_view [] view fits (omega arith) (rests_found _ (laws_of shape.format) (image_view shape next view) (omega arith) (fresh is image cut))) in
-    let stores : IsStored (idle_from shape next) (resting_view array ours) m =
-    record { stored = keeps_stored view refl keeps; copied = λ i low high. absurd (omega (arith, high)) } in
+    let stored = keeps_stored view refl keeps in
     let guards : ours ≡ true → IsGuarded (idle_from shape next) (resting_view array ours) m =
     λ is image cut. with_newest (rests_safe view refl (fresh is image cut)) (λ none. absurd (omega (arith, none))) in
     search (rules, arith)
@@ -59,9 +58,8 @@ died_holds log m view holds =
 -- a flush that was made stands for the one that the oldest record needs
 pub settled_holds : (log : LogValue) (m : State) (view : View) → HoldsView log m view → IsCovered log → HoldsView (settled log) m view
 settled_holds log m view holds covered =
-    let one : of_oldest (settled log) ≡ 1 = omega (arith, covered.flushes) in
-    let needs : needed_of log ≡ needed_of (settled log) =
-    rw (covered.flushes, one) (needed_covered log.ahead log.head (log.head + length log.waiting) covered.oldest covered.since) in
+    let covers = needed_covered log.ahead log.head (log.head + length log.waiting) covered.oldest covered.since in
+    let needs : needed_of log ≡ needed_of (settled log) = grind (arith, covered.flushes, covers) in
     going_held holds log.steps_left (log.retire_steps_left - 1) log.ahead log.dead m refl
     (λ ours image cut. grind (arith, covered.flushes, holds.leaves ours image cut))
     (λ live. Stores-stays (holds.stores live) (made_of log) (turned_of (settled log)) m.content (λ s. refl) (omega arith)
@@ -81,8 +79,7 @@ pub may_leave_ours : (size : ℕ) (log : LogValue) (view : View) (image : Image)
     → IsOurs size log.shape image view.array (log.head + length view.records + 1)
     ⊎ ((0 < log.steps_left) × IsOurs size log.shape image (with_blocks view.under_way view.array) (log.head + length view.records + 2))
 may_leave_ours size log view image found =
-    let longer = length-append view.records (view.under_way ∷ []) in
-    grind (arith, found)
+    grind (arith, found, length-append view.records (view.under_way ∷ []))
 
 -- a record is begun in a log with room
 pub begun_holds : (log : LogValue) (m : State) (view : View) (numbers bytes : List ℕ) → HoldsView log m view → HasRoom log
@@ -92,12 +89,10 @@ begun_holds log m view numbers bytes holds room batch =
     let E : List Entry = entries_of numbers bytes in
     let next : LogValue = begun numbers (firsts_of (entries_of numbers bytes)) log in
     let many : length (entries_of numbers bytes) ≡ length numbers = length_of_batch numbers bytes in
-    let none = ap (λ (l : List ℕ). retire_steps_of l) room.none_under_way in
     let none_yet : view.under_way ≡ [] =
     nil_from_length view.under_way (omega (arith, under_count holds, ap (λ (l : List ℕ). length l) room.none_under_way)) in
-    let behind : behind_oldest next ≡ behind_oldest log + retire_steps_of numbers = omega (arith, none) in
-    let same : of_oldest log ≡ of_oldest next = omega (arith, behind) in
-    let needs : needed_of log ≡ needed_of next = ap (λ (l : ℕ). needed_at log.ahead log.head (log.head + length log.waiting) l) same in
+    let behind : behind_oldest next ≡ behind_oldest log + retire_steps_of numbers = grind (arith, room.none_under_way) in
+    let needs : needed_of log ≡ needed_of next = grind (arith, behind) in
     let made : made_of next ≡ 0 = omega (arith, made_is next (steps_some log.shape.format (length numbers))) in
     let under = numbers_of_batch numbers bytes in
     let sized = sized_batch numbers bytes batch.size in
