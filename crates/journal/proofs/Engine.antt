@@ -231,8 +231,7 @@ module _ (L : Layout) (laws : Laws L) (v : View) (behind : 2 + L.slot_sectors * 
         guarded = λ g. record {
           stored = stored _ g.stored;
           carries = λ slot o low small.
-              rw (next, log (2 + L.slot_sectors * slot + o) (omega arith) (in_log L.slot_sectors slot v.shape.slots o low small))
-              (g.carries slot o low small);
+              grind (arith, next, log (2 + L.slot_sectors * slot + o), in_log L.slot_sectors slot v.shape.slots o low small, g.carries slot o);
         };
       }
 

@@ -98,9 +98,7 @@ module _ {shape : Shape} {head : ℕ} {view : View} {made retire : ℕ} {image :
 
     -- and where the image has its bytes
     pub safe_at : IsHead head (image 1) → Safe shape head view made image
-    safe_at here =
-        let one = IsHead-one head g.stamp (image 1) here g.safe.stored.keeps.head_is in
-        newest (nil_from_length g.passed (omega (arith, g.behind, one)))
+    safe_at here = newest (nil_from_length g.passed (omega (arith, g.behind, IsHead-one head _ _ here g.safe.stored.keeps.head_is)))
 
     -- the head stays the one that it was, whatever record is under way
     pub same_head : {new : Image} {entries : List Entry} {next left : ℕ}
@@ -243,10 +241,8 @@ module _ {log : LogValue} {m : State} {view : View} (hv : HoldsView log m view) 
         (rw many at (is.record_is (omega (arith, some, fewer)))) hv.under_way hv.sized in
         search (rules, arith, many, is.room) in
         let steps = ap (λ (k : ℕ). steps_for log.shape.format k) under_count ∙ steps_are log.shape.format n in
-        let left_one = one_left (L.early n) (L.parts n) ((laws_of log.shape.format).last_is_late n) made in
-        let short : L.parts n ≤ written_of log.shape view made → left ≤ 2 = λ all.
-        grind (arith, is.most_left, fewer, steps, left_one all, some_made) in
-        search rules
+        let left_one = one_left _ _ ((laws_of log.shape.format).last_is_late n) made in
+        grind (arith, slots, is.most_left, steps, left_one, some_made)
 
     pub stands_now : Stands log.shape log.head view log.steps_left (made_of log)
     stands_now = stands_then log.steps_left (made_of log) (omega arith) (none_made log) (λ some. omega (arith, made_is log some))

@@ -1,6 +1,6 @@
 -- Each turn that retires the oldest durable record: what the log and its medium hold after it.
-use Rattle.std.proofs.Common.{⊎_elim, ◌⊎◌, ◌≡◌, ◌≢◌, inl, inr, ℕ, ◌+◌, ◌-◌, ◌<◌, ◌≤◌, List, [], ◌∷◌, length, get_or, drop, refl, arith}
-use Rattle.std.proofs.Common.{rules, length-drop, add-zero, true, false, map, slice_index, drop-cons}
+use Rattle.std.proofs.Common.{⊎_elim, ◌⊎◌, ◌≡◌, ◌≢◌, ℕ, ◌+◌, ◌-◌, ◌<◌, ◌≤◌, List, [], ◌∷◌, length, get_or, drop, refl, arith, rules}
+use Rattle.std.proofs.Common.{length-drop, add-zero, true, false, map, slice_index, drop-cons}
 use Rattle.std.proofs.lemmas.Bool.{cases_eq, cases_lt}
 use Rattle.std.proofs.lemmas.List.{drop-map, length-map}
 use Rattle.std.proofs.Math.ListN.{get_or-map}
@@ -21,8 +21,8 @@ use Rattle.redo_log.specs.declared.turn.Turn.TheVariants.{Flush, Head}
 use Rattle.redo_log.specs.Value.{LogValue, Ahead, IsSentHome, IsRetireStepped, of_oldest, ahead_of, settled}
 use Rattle.redo_log.specs.Calls.{WritesOnly}
 use Rattle.redo_log.specs.Turns.{head_bytes, MayTurn, IsTurned, IsNextTurn, IsHeadTurn}
-use Rattle.redo_log.specs.Held.{View, view_retired, made_of, turned_of, needed_of, image_view, MayLeave, Safe, AreHome, HasHead, IsGuarded}
-use Rattle.redo_log.specs.Held.{HoldsView}
+use Rattle.redo_log.specs.Held.{View, with_record, view_retired, made_of, turned_of, needed_of, image_view, MayLeave, Safe, AreHome}
+use Rattle.redo_log.specs.Held.{HasHead, IsGuarded, HoldsView}
 use Rattle.redo_log.proofs.HeldLog.{moments_have, Stands, hides_behind, front, has_before, guard_logged, newest, with_newest, same_head}
 use Rattle.redo_log.proofs.HeldLog.{safe_here, guard_leaves, Stores-stays, many, named, count, under_count, stands_now, goes_on, counts_of}
 use Rattle.redo_log.proofs.LogRules.{needed_one, IsLog, retired_of, one_waits, nothing_home, not_homed}
@@ -66,17 +66,14 @@ module _ {log : LogValue} (is : IsLog log) (live : log.dead ≡ false) (owed : 0
     -- at each moment a cut leaves what it might leave before, and with the new head the same array
     pub head_leaves : WritesOnly 1 (head_bytes h.stamp) old new → view.ours ≡ true → LeavesOnly (MayLeave old.size log view) old new
     head_leaves adds ours = moments_have (MayLeave old.size log view) 1 (head_bytes h.stamp) old new adds
-        (λ mid gains. each_write _ _ old mid 1 (head_bytes h.stamp) sound gains (one_now ours)
+        (λ mid gains. each_write _ (MayLeave old.size log view) old mid 1 (head_bytes h.stamp) sound gains (one_now ours)
         (λ image both. guard_leaves log {retire = 0} hv.fits (stands_now hv is) (with_newest both.0 (λ none. absurd (omega (arith, none)))))
         (λ before image write both.
         let g = with_newest {retire = 0} ((past both.1 write).guarded both.0) (λ none. absurd (omega (arith, none))) in
-        elim (guard_logged (retired_of log) hv.fits stands_past g) [
-          | inl rest ↦ inr (inr (waits, omega (arith, one), rest))
-          | inr more ↦
-              let first = IsWholeIn-same _ (laws_of _) log.shape is.sized.some before image
-              (λ x low high. write.elsewhere x (λ e. omega (arith, low, e))) log.head oldest (rw add-zero at (both.0.stored.keeps.whole 0 waits)) in
-              inr (inl (more.0, more.1, rw (drop-cons view.records 0 [] waits) (has_before oldest first more.2)))
-        ]))
+        let first = IsWholeIn-same _ (laws_of _) log.shape is.sized.some before image
+        (λ x low high. write.elsewhere x (λ e. omega (arith, low, e))) log.head oldest (rw add-zero at (both.0.stored.keeps.whole 0 waits)) in
+        let more = has_before {size = old.size} oldest {view = with_record (view_retired 1 view)} first in
+        grind (arith, guard_logged (retired_of log) hv.fits stands_past g, more, drop-cons view.records 0 [] waits, one)))
 
     -- then the log has one record less, where this guards it
     past_held : new.size ≡ old.size → Holds 1 (head_bytes h.stamp) old.content new.content

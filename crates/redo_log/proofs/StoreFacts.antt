@@ -13,9 +13,9 @@ use Rattle.journal.specs.Standing.{Keeps, IsOurs}
 use Rattle.journal.proofs.BatchEntries.{numbers_of_batch, length_of_batch, sized_batch}
 use Rattle.journal.proofs.Engine.{rests_found, Guarded-lost, Guarded-write, Stored-write, other_written, Stored-durable, carries_below}
 use Rattle.journal.proofs.Formats.{laws_of}
-use Rattle.redo_log.specs.Value.{LogValue, HasRoom, IsCovered, retire_steps_of, behind_oldest, of_oldest, idle_from, begun, died, settled}
-use Rattle.redo_log.specs.Value.{IsBatch, steps_of, steps_for, IsStepped}
-use Rattle.redo_log.specs.Shown.{needed_at, flush_of}
+use Rattle.redo_log.specs.Value.{LogValue, HasRoom, IsCovered, retire_steps_of, behind_oldest, idle_from, begun, died, settled, IsBatch}
+use Rattle.redo_log.specs.Value.{steps_of, steps_for, IsStepped}
+use Rattle.redo_log.specs.Shown.{flush_of}
 use Rattle.redo_log.specs.Held.{View, resting_view, IsStored, IsGuarded, HasNoRecord, with_begun, made_of, turned_of, needed_of, MayLeave}
 use Rattle.redo_log.specs.Held.{Safe, with_passed, image_view, HoldsView, with_record, view_stepped, written_of, flushed_of, HasDurable}
 use Rattle.redo_log.specs.Held.{HasHead, AreHome}
@@ -253,7 +253,7 @@ module _ {log : LogValue} (is : IsLog log) (live : log.dead ≡ false) (some : 0
               (λ _. omega (arith, made_is log some)) in
               let k_is : L.parts n - 1 ≡ k = omega (arith, small, last) in
               let mine = rw (other_count, k_is) at ((laws_of log.shape.format).last_part stamp other view.under_way other_count) in
-              λ image cut. guard_leaves log hv.fits stands_then (part_each mine ours (made_of log + 1) refl image cut)
+              λ image cut. guard_leaves log hv.fits stands_then (part_each mine ours _ refl image cut)
         ]
 
         part_written_now : 1 < log.steps_left → view.under_way ≡ other → IsDone here.call old new → HoldsView more_log new view
