@@ -1,6 +1,6 @@
 -- The crash argument, for every layout: what the writing of a record leaves, and its retiring while another is written.
-use Rattle.std.proofs.Common.{◌≡◌, ◌≢◌, ◌⊎◌, inl, inr, ℕ, ◌+◌, ◌*◌, ◌-◌, ◌%◌, ◌<◌, ◌≤◌, List, length, arith, rules, [], ◌∷◌, ◌++◌}
-use Rattle.std.proofs.Common.{length-append, get_or, drop, sym, ◌∙◌, refl, length-drop, get_or-drop, drop-cons}
+use Rattle.std.proofs.Common.{◌≡◌, ◌≢◌, ◌⊎◌, inl, inr, ℕ, ◌+◌, ◌*◌, ◌-◌, ◌%◌, ◌<◌, ◌≤◌, List, length, arith, rules, [], ◌∷◌, length-append}
+use Rattle.std.proofs.Common.{get_or, drop, refl, length-drop, get_or-drop, drop-cons}
 use Rattle.std.proofs.lemmas.Bool.{cases_eq, cases_lt}
 use Rattle.std.proofs.lemmas.Nat.{mod_below}
 use Rattle.std.proofs.lemmas.List.{get_or_append_left}
@@ -70,14 +70,6 @@ pub Guarded-lost : {L : Layout} {v : View} {image : Image} (k : ℕ) {durable : 
 Guarded-lost k g = grind (arith, g.stored, g.carries)
 
 module _ (L : Layout) (laws : Laws L) (v : View) (slots : HasSlots L v) where
-  -- where the last part of the record under way does not carry its stamp, it is not whole
-  pub last_free : (image : Image) → IsFree L (stamp_of v) (L.offset (length v.under_way) (last L v)) (image (at L v (last L v)))
-      → ¬ HasWholeIn L v.shape image (stamp_of v)
-  last_free image free = last_free_none L laws v.shape image (stamp_of v) (rw (← (laws.last (length v.under_way))) free)
-
-  slot_below : stamp_of v % v.shape.slots < v.shape.slots
-  slot_below = mod_below (stamp_of v) v.shape.slots slots.some
-
   inside : (p : ℕ) → p < L.parts (length v.under_way) → L.offset (length v.under_way) p < L.slot_sectors
   inside p below = laws.inside (length v.under_way) p slots.under_way.fit.few below
 
@@ -86,7 +78,7 @@ module _ (L : Layout) (laws : Laws L) (v : View) (slots : HasSlots L v) where
       → Holds (slot_at L v.shape (stamp_of v) + o) bytes before image → KeepsView L v before → KeepsView L v image
   keeps_stays before image o bytes small write k =
       let slot = stamp_of v % v.shape.slots in
-      let low = in_log L.slot_sectors slot v.shape.slots o slot_below small in
+      let low = in_log L.slot_sectors slot v.shape.slots o (mod_below (stamp_of v) v.shape.slots slots.some) small in
       let apart = λ (j x : ℕ). other_sector L.slot_sectors ((v.head + j) % v.shape.slots) slot (x - slot_at L v.shape (v.head + j)) o in
       let near = λ (j : ℕ). other_slot (v.head + j) (stamp_of v) v.shape.slots in
       Keeps-same L laws v.shape before image v.head v.records v.array (write.elsewhere 0 (λ e. omega arith))
@@ -100,7 +92,6 @@ module _ (L : Layout) (laws : Laws L) (v : View) (slots : HasSlots L v) where
       → 2 + L.slot_sectors * slot + o ≡ part_at L v.shape (stamp_of v) (length es) p → bytes ≡ L.part (stamp_of v) es p
       → L.carries o t bytes → t ≡ stamp_of v
   one_part es is slot o t p bytes small below place there carries =
-      let low = laws.inside (length es) p is.fit.few below in
       let apart = other_sector L.slot_sectors slot (stamp_of v % v.shape.slots) o (L.offset (length es) p) in
       grind (arith, cases_eq slot (stamp_of v % v.shape.slots), apart, laws.one_stamp v.shape.blocks (stamp_of v) t es p is below)
 
@@ -117,7 +108,7 @@ module _ (L : Layout) (laws : Laws L) (v : View) (slots : HasSlots L v) where
       ⊎ IsFree L (stamp_of v) (L.offset (length v.under_way) p) (image (at L v p))
   part_or_free image so_far durable p g below =
       let same = λ (q : ℕ). laws.apart (length v.under_way) q p slots.under_way.fit.few in
-      let here = g.carries (stamp_of v % v.shape.slots) (L.offset (length v.under_way) p) slot_below (inside p below) in
+      let here = g.carries (stamp_of v % v.shape.slots) _ (mod_below (stamp_of v) v.shape.slots slots.some) (inside p below) in
       grind (arith, here, same)
 
   -- a part that was not written now
@@ -153,18 +144,14 @@ module _ (L : Layout) (laws : Laws L) (v : View) (slots : HasSlots L v) where
   other_written {before} {image} k {durable} other is same early write g =
       let below : k < L.parts (length v.under_way) = omega arith in
       let stays = part_stays {p = last L v} write below (omega arith) (λ e. omega arith) in
-      let free = part_or_free before k durable (last L v) g (omega arith) in
-      let none = last_free image (rw stays (grind (arith, free))) in
+      let or_free = part_or_free before k durable (last L v) g (omega arith) in
+      let none = last_free_none L laws v.shape image (stamp_of v) (rw (← (laws.last (length v.under_way))) (grind (arith, or_free, stays))) in
       let keeps = keeps_stays before image _ (L.part (stamp_of v) other k) (inside k below) write g.stored.keeps in
       let carries : CarriesBelowIn L v.shape image (stamp_of v + 1) = λ slot o t low small carries.
       let place : ℕ = 2 + L.slot_sectors * slot + o in
       let mine = one_part other is slot o t k (image place) small in
-      let others = carries_below before k durable g slot o t low small in
-      grind (arith, cases_eq place (at L v k), write.here, write.elsewhere, mine, others) in
+      grind (arith, cases_eq place (at L v k), write.here, write.elsewhere, mine, carries_below before k durable g slot o t low small) in
       grind (arith, slots.room)
-
-  longer : length (v.records ++ v.under_way ∷ []) ≡ length v.records + 1
-  longer = length-append v.records (v.under_way ∷ [])
 
   -- with all its parts in its slot the record is whole, and the image keeps it with the durable ones
   pub Stored-durable : {image : Image} {count : ℕ} → L.parts (length v.under_way) ≤ count → Stored L v count image
@@ -175,7 +162,7 @@ module _ (L : Layout) (laws : Laws L) (v : View) (slots : HasSlots L v) where
       let more = with_records-append v.records v.under_way (home_of v.shape image) in
       let laid = with_blocks-same v.under_way (with_records v.records (home_of v.shape image)) v.array in
       let old = get_or_append_left v.records (v.under_way ∷ []) [] in
-      grind (arith, cases_lt, s.keeps, longer, get_or-append_seam v.records v.under_way [] [])
+      grind (arith, cases_lt, length-append, s.keeps, get_or-append_seam v.records v.under_way [] [])
 
   -- the record under way is not whole, or all its parts are written, and it is, with its blocks: a cut leaves what it may
   pub guarded_leaves : (image : Image) (k durable : ℕ) → (L.parts (length v.under_way) ≤ k → L.early (length v.under_way) ≤ durable)
@@ -186,7 +173,7 @@ module _ (L : Layout) (laws : Laws L) (v : View) (slots : HasSlots L v) where
       let without : ¬ HasWholeIn L v.shape image (stamp_of v) → MayLeave L v k image = λ not.
       inl (record { keeps = g.stored.keeps; few = omega (arith, slots.room); ends = λ room. not; carries = carries }) in
       elim (or_free (last L v) (omega (arith, laws.some_parts (length v.under_way)))) [
-        | inr free ↦ without (last_free image free)
+        | inr free ↦ without (last_free_none L laws v.shape image (stamp_of v) (rw (← (laws.last (length v.under_way))) free))
         | inl commit ↦
             let all : L.parts (length v.under_way) ≤ k = omega (arith, commit.0) in
             elim (all_or_first
@@ -197,25 +184,23 @@ module _ (L : Layout) (laws : Laws L) (v : View) (slots : HasSlots L v) where
               | inl there ↦
                   let keeps = Stored-durable {count = k} all (record { keeps = g.stored.keeps; parts = λ p low small. there p small }) in
                   let none = none_carried L laws v.shape slots.some image (stamp_of v + 1) carries in
-                  let found : Found L (with_record v) image = grind (arith, longer, slots.room, carries) in
-                  inr (all, found)
+                  inr (all, grind (arith, length-append, slots.room, carries))
               | inr one ↦
                   without (λ whole.
                   let n = length whole.0 in
                   let count = laws.count v.shape.blocks (stamp_of v) whole.0 v.under_way (record_of whole.1) slots.under_way in
                   let same : length whole.0 ≡ length v.under_way =
                   grind (arith, count, whole.1.there (L.parts n - 1), laws.some_parts n, laws.last, commit.1) in
-                  late_carries L laws v.shape image (stamp_of v) whole.0 one.0 whole.1 (rw same one.1)
-                  (rw same (omega (arith, early all, one.3.0))) (rw same one.3.1))
+                  grind (arith, late_carries L laws v.shape image (stamp_of v) whole.0 one.0 whole.1, early all, one.1, one.3))
             ]
       ]
 
-module _ (L : Layout) (laws : Laws L) (shape : Shape) (some : 1 ≤ shape.slots) (before image : Image)
-    (same : (x : ℕ) → 2 ≤ x → x < 2 + L.slot_sectors * shape.slots → image x ≡ before x) where
-  -- where the log stays, whole records stay
-  pub IsWholeIn-same : (stamp : ℕ) (entries : List Entry) → IsWholeIn L shape before stamp entries → IsWholeIn L shape image stamp entries
-  IsWholeIn-same stamp entries w = IsWhole-same L laws shape before image stamp entries
-      (λ x from to. same x (omega arith) (omega (arith, slot_inside L laws shape stamp some))) w
+-- where the log stays, whole records stay
+pub IsWholeIn-same : (L : Layout) → Laws L → (shape : Shape) → 1 ≤ shape.slots → (before image : Image)
+    → Agree 2 (2 + L.slot_sectors * shape.slots) image before → (stamp : ℕ) (entries : List Entry)
+    → IsWholeIn L shape before stamp entries → IsWholeIn L shape image stamp entries
+IsWholeIn-same L laws shape some before image same stamp entries =
+    IsWhole-same L laws shape before image stamp entries (λ x from to. same x (omega arith) (omega (arith, slot_inside L laws shape stamp some)))
 
 -- where this view becomes that one, the record under way stays as far as it is written
 pub record IsKept (L : Layout) (v w : View) (before image : Image) : Type 0 where
@@ -235,21 +220,16 @@ module _ (L : Layout) (laws : Laws L) (v : View) (behind : 2 + L.slot_sectors * 
       → (KeepsView L v before → KeepsView L (record v { head = head; records = records }) image)
       → IsKept L v (record v { head = head; records = records }) before image
   kept head records next log keeps =
-      let stored : (count : ℕ) → Stored L v count before → Stored L (record v { head = head; records = records }) count image =
-      λ count s. record {
-        keeps = keeps s.keeps;
-        parts = λ p low small.
-            let inside = laws.inside (length v.under_way) p few small in
-            rw (next, log (at L v p) (omega arith) (omega (arith, slot_inside L laws v.shape (stamp_of v) s.keeps.super.some_slots, inside)))
-            (s.parts p low small);
-      } in
+      let stored : (count : ℕ) → Stored L v count before → Stored L (record v { head = head; records = records }) count image = λ count s.
+      let stays = λ (p : ℕ) (small : p < L.parts (length v.under_way)). log (at L v p) (omega arith)
+      (omega (arith, slot_inside L laws v.shape (stamp_of v) s.keeps.super.some_slots, laws.inside (length v.under_way) p few small)) in
+      grind (arith, keeps s.keeps, s.parts, next) in
       record {
         stored = stored _;
         guarded = λ g. record {
           stored = stored _ g.stored;
           carries = λ slot o low small.
-              rw (next, log (2 + L.slot_sectors * slot + o) (omega arith) (in_log L.slot_sectors slot v.shape.slots o low small))
-              (g.carries slot o low small);
+              grind (arith, next, log (2 + L.slot_sectors * slot + o), in_log L.slot_sectors slot v.shape.slots o low small, g.carries slot o);
         };
       }
 
@@ -278,9 +258,3 @@ module _ (L : Layout) (laws : Laws L) (v : View) (behind : 2 + L.slot_sectors * 
       let others = with_records-same (drop 1 v.records) (home_of v.shape image) (with_blocks (get_or v.records 0 []) (home_of v.shape before)) in
       let here = drop-cons v.records 0 [] waits in
       grind (arith, write.here, write.elsewhere, g))
-
--- with the oldest record retired one slot more is free
-pub HasSlots-less : (L : Layout) (v : View) → HasSlots L v → 0 < length v.records → HasSlots L (with_less v)
-HasSlots-less L v slots waits =
-    let fewer = length-drop 1 v.records in
-    let same : stamp_of (with_less v) ≡ stamp_of v = omega (arith, fewer, waits) in grind (arith, slots.room, fewer, same)

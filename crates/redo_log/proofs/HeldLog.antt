@@ -1,7 +1,6 @@
 -- What guards a log against a cut, and what a log and its medium hold together.
-use Rattle.std.proofs.Common.{◌≡◌, ◌⊎◌, inl, inr, ⊎_elim, ℕ, ◌+◌, ◌<◌, ◌≤◌, List, [], ◌∷◌, ◌++◌, length, arith, rules, zero, suc, get_or}
-use Rattle.std.proofs.Common.{refl, ap, length-append, append_assoc, add-zero, ◌-◌, ◌∙◌, ◌^◌, ◌*◌, ◌%◌, Result, get_or-append-add, map}
-use Rattle.std.proofs.Common.{Bool, true, false, All}
+use Rattle.std.proofs.Common.{◌≡◌, ◌⊎◌, inl, inr, ⊎_elim, ℕ, ◌+◌, ◌<◌, ◌≤◌, List, [], ◌∷◌, ◌++◌, length, arith, rules, get_or, refl, ap}
+use Rattle.std.proofs.Common.{length-append, append_assoc, ◌-◌, ◌∙◌, ◌^◌, ◌*◌, ◌%◌, Result, get_or-append-add, map, Bool, true, false, All}
 use Rattle.std.proofs.lemmas.Bool.{cases_lt, cases_eq}
 use Rattle.std.proofs.lemmas.List.{nil_from_length, length-map}
 use Rattle.std.proofs.Math.ListN.{get_or-map}
@@ -16,14 +15,13 @@ use Rattle.journal.specs.Places.{Shape, sectors_of, first_home}
 use Rattle.journal.specs.Sectors.{IsHead}
 use Rattle.journal.specs.Record.{Entry, with_blocks, Hides, numbers_of}
 use Rattle.journal.specs.Formats.{layout_of, IsWhole}
-use Rattle.journal.specs.Staged.{KeepsView, Found, Stored, HasSlots, Resting, IsHomed}
+use Rattle.journal.specs.Staged.{KeepsView, Found, Stored, HasSlots, Resting, IsHomed, View as ImageView}
 use Rattle.journal.specs.Layout.{IsRecordOf}
-use Rattle.journal.specs.Staged as staged
 use Rattle.journal.proofs.Formats.{laws_of, most_is}
 use Rattle.journal.proofs.SectorNumbers.{IsHead-one}
 use Rattle.journal.proofs.Engine.{rests_found, rests_begun, begun_rests, guarded_leaves}
 use Rattle.redo_log.specs.Value.{LogValue, Ahead, of_oldest, steps_of, steps_for, died}
-use Rattle.redo_log.specs.Shown.{IsSized, needed_at, IsRecord}
+use Rattle.redo_log.specs.Shown.{IsSized, IsRecord}
 use Rattle.redo_log.specs.Held.{View, HasView, with_record, with_begun, image_view, written_of, Stores, Safe, HasDurable, HasUnderWay}
 use Rattle.redo_log.specs.Held.{MayLeave, with_passed, HasHead, made_of, turned_of, needed_of, IsStored, IsGuarded, HoldsView}
 use Rattle.redo_log.specs.Steps.{LeavesLog}
@@ -50,15 +48,12 @@ stands_idle few idle none = search (rules, arith)
 module _ {shape : Shape} {head : ℕ} (view : View) {made : ℕ} {image : Image} (none : made ≡ 0) where
   -- where no call of a record is made, an image at rest is safe
   pub rests_safe : Resting (layout_of shape.format) (image_view shape head view) image → Safe shape head view made image
-  rests_safe rests =
-      let nothing = none_written ((layout_of shape.format).early (length view.under_way)) made none in
-      rw (nothing.0, nothing.1) (rests_begun rests)
+  rests_safe rests = grind (arith, none_written, none, rests_begun {v = image_view shape head view} rests)
 
   -- and what keeps the view stores it
   pub keeps_stored : KeepsView (layout_of shape.format) (image_view shape head view) image
       → Stored (layout_of shape.format) (image_view shape head view) (written_of shape view made) image
-  keeps_stored keeps =
-      let nothing = none_written ((layout_of shape.format).early (length view.under_way)) made none in search (rules, arith, nothing)
+  keeps_stored keeps = grind (arith, none_written, none, keeps)
 
   -- a safe one rests
   pub safe_rests : Safe shape head view made image → Resting (layout_of shape.format) (image_view shape head view) image
@@ -77,23 +72,17 @@ has_view {stamp = stamp} {head = head} passed view fits behind found =
     let longer = length-append passed view.records in
     let next : stamp + length (passed ++ view.records) + 1 ≡ head + length view.records + 1 = omega (arith, behind, longer) in
     record {
-      whole = λ j below.
-          let here : stamp + (length passed + j) ≡ head + j = omega (arith, behind) in
-          rw (here, get_or-append-add passed view.records j []) at (found.keeps.whole (length passed + j) (omega (arith, below, longer)));
+      whole = λ j below. grind (arith, found.keeps.whole (length passed + j), get_or-append-add passed view.records j []);
       ours = let carries = rw next at found.carries in search (rules, found.keeps, found.ends, found.few, next);
     }
 
 -- with a record in front of them whole it has that one too
 pub has_before : {size : ℕ} {shape : Shape} {head : ℕ} (first : List Entry) {view : View} {image : Image} → IsWhole shape image head first
     → HasView size shape (head + 1) view image → HasView size shape head (with_passed (first ∷ []) view) image
-has_before {shape = shape} {head = head} first {view} {image = image} whole has =
+has_before {head = head} first {view} whole has =
     let next : head + 1 + length view.records + 1 ≡ head + length (first ∷ view.records) + 1 = omega arith in
-    record { whole = each; ours = rw next at has.ours }
-  where
-    each : (j : ℕ) → j < length (first ∷ view.records) → IsWhole shape image (head + j) (get_or (first ∷ view.records) j [])
-    each zero below = rw add-zero whole
-    each (suc j) below =
-        let here : head + suc j ≡ head + 1 + j = omega arith in rw here (has.whole j (omega (arith, below)))
+    let behind = λ (j : ℕ). get_or-append-add (first ∷ []) view.records (j - 1) [] in
+    record { whole = λ j below. grind (arith, cases_eq j 0, behind j, whole, has.whole (j - 1)); ours = rw next at has.ours }
 
 module _ {shape : Shape} {head : ℕ} {view : View} {made retire : ℕ} {image : Image} where
   -- the newest head is there
@@ -105,15 +94,11 @@ module _ {shape : Shape} {head : ℕ} {view : View} {made retire : ℕ} {image :
   module _ (g : HasHead shape head view made retire image) where
     -- it is where none was passed
     pub newest : g.passed ≡ [] → Safe shape head view made image
-    newest none =
-        let same : g.stamp ≡ head = omega (arith, g.behind, ap (λ (l : List (List Entry)). length l) none) in
-        rw (same, none) at g.safe
+    newest none = grind (arith, none, g.behind, g.safe)
 
     -- and where the image has its bytes
     pub safe_at : IsHead head (image 1) → Safe shape head view made image
-    safe_at here =
-        let one = IsHead-one head g.stamp (image 1) here g.safe.stored.keeps.head_is in
-        newest (nil_from_length g.passed (omega (arith, g.behind, one)))
+    safe_at here = newest (nil_from_length g.passed (omega (arith, g.behind, IsHead-one head _ _ here g.safe.stored.keeps.head_is)))
 
     -- the head stays the one that it was, whatever record is under way
     pub same_head : {new : Image} {entries : List Entry} {next left : ℕ}
@@ -128,7 +113,7 @@ module _ {shape : Shape} {head : ℕ} {view : View} {made retire : ℕ} {image :
     same_stamp = omega (arith, g.behind, length-append g.passed view.records)
 
     -- the view with them, as images see it
-    abbrev pub front : staged.View
+    abbrev pub front : ImageView
     front = image_view shape g.stamp (with_passed g.passed view)
 
     -- and all stand in slots of their own
@@ -146,18 +131,16 @@ module _ {size : ℕ} (log : LogValue) {view : View} {made retire : ℕ} (fits :
   -- the durable records are whole, or with the one under way, whichever head is there
   pub guard_logged : HasDurable size log view image ⊎ HasUnderWay size log view image
   guard_logged =
-      let L = layout_of log.shape.format in
-      let n : ℕ = length view.under_way in
       let front_stands = stands_front g stands in
       elim (cases_lt 0 log.steps_left) [
         | inl some ↦ ⊎_elim
             (λ rest. inl (has_view g.passed view fits g.behind rest))
             (λ both. inr (some, stands.short both.0, has_view g.passed (with_record view) fits g.behind (rw append_assoc at both.1)))
-            (guarded_leaves L (laws_of log.shape.format) (front g) (front_stands.slots some) image _ _
-            (all_flushed (L.early n) (L.parts n) ((laws_of log.shape.format).last_is_late n) made) g.safe)
+            (guarded_leaves _ (laws_of log.shape.format) (front g) (front_stands.slots some) image _ _
+            (all_flushed _ _ ((laws_of log.shape.format).last_is_late (length view.under_way)) made) g.safe)
         | inr none ↦
             let rests = safe_rests (with_passed g.passed view) (stands.none (omega arith)) g.safe in
-            inl (has_view g.passed view fits g.behind (rests_found L (laws_of log.shape.format) (front g) front_stands.few rests))
+            inl (has_view g.passed view fits g.behind (rests_found _ (laws_of log.shape.format) (front g) front_stands.few rests))
       ]
 
   pub guard_leaves : MayLeave size log view image
@@ -202,19 +185,13 @@ pub record_entries : (shape : Shape) (stamp : ℕ) (numbers : List ℕ) (entries
 record_entries shape stamp numbers entries sized rec is full =
     let count : length numbers ≡ length entries = count_of numbers entries is in
     let now = rw is at rec.numbers_are in
-    let few : length entries ≤ (layout_of shape.format).most = omega (arith, count, now.few, most_is shape.format) in
-    let some : 1 ≤ length entries = omega (arith, count, rec.numbers_are.some) in
     let small : All (λ b. b < 2 ^ 31) (numbers_of entries) = λ j d below. omega (arith, now.inside j d below, sized.small) in
-    search (rules, arith, rec.most)
+    search (rules, arith, rec.most, now.few, most_is shape.format)
 
 -- so have those of records
 pub counts_of : {waiting : List (List ℕ)} (records : List (List Entry)) → waiting ≡ map (λ r. numbers_of r) records → (j : ℕ)
     → length (get_or waiting j []) ≡ length (get_or records j [])
 counts_of records is j = count_of _ _ (rw is (get_or-map (λ r. numbers_of r) records j []))
-
--- where one retire step is left of the oldest record it needs one
-pub needs_one : (log : LogValue) → of_oldest log ≡ 1 → needed_of log ≡ 1
-needs_one log one = ap (λ (l : ℕ). needed_at log.ahead log.head (log.head + length log.waiting) l) one
 
 -- where it needs one its blocks are home
 pub all_turned : (log : LogValue) → needed_of log ≡ 1 → length (get_or log.waiting 0 []) ≤ turned_of log
@@ -244,7 +221,6 @@ module _ {log : LogValue} {m : State} {view : View} (hv : HoldsView log m view) 
       → (dead ≡ false → view.ours ≡ true → IsGuarded (going log left retire ahead dead) view new)
       → HoldsView (going log left retire ahead dead) new view
   going_held left retire ahead dead new same leaves stores guards =
-      let fits : sectors_of log.shape ≤ new.size = omega (arith, same, hv.fits) in
       let leaves_now = λ (ours : view.ours ≡ true). rw (← same) at (leaves ours) in search rules
 
   -- a dead log and its medium hold what a cut may leave
@@ -261,16 +237,12 @@ module _ {log : LogValue} {m : State} {view : View} (hv : HoldsView log m view) 
         let L = layout_of log.shape.format in
         let n = length view.under_way in
         let slots : 0 < left → HasSlots (layout_of log.shape.format) (image_view log.shape log.head view) = λ some.
-        let left_now : 0 < log.steps_left = omega (arith, some, fewer) in
         let under_way = record_entries log.shape (log.head + length view.records) log.under_way view.under_way is.sized
-        (rw many at (is.record_is left_now)) hv.under_way hv.sized in
-        let room : length view.records < log.shape.slots = omega (arith, many, is.room left_now) in
-        search rules in
+        (rw many at (is.record_is (omega (arith, some, fewer)))) hv.under_way hv.sized in
+        search (rules, arith, many, is.room) in
         let steps = ap (λ (k : ℕ). steps_for log.shape.format k) under_count ∙ steps_are log.shape.format n in
-        let left_one = one_left (L.early n) (L.parts n) ((laws_of log.shape.format).last_is_late n) made in
-        let short : L.parts n ≤ written_of log.shape view made → left ≤ 2 = λ all.
-        grind (arith, is.most_left, fewer, steps, left_one all, some_made) in
-        search rules
+        let left_one = one_left _ _ ((laws_of log.shape.format).last_is_late n) made in
+        grind (arith, slots, is.most_left, steps, left_one, some_made)
 
     pub stands_now : Stands log.shape log.head view log.steps_left (made_of log)
     stands_now = stands_then log.steps_left (made_of log) (omega arith) (none_made log) (λ some. omega (arith, made_is log some))

@@ -1,6 +1,6 @@
 -- Each turn that retires the oldest durable record: what the log and its medium hold after it.
-use Rattle.std.proofs.Common.{◌≡◌, ◌≢◌, inl, inr, ℕ, ◌+◌, ◌-◌, ◌<◌, ◌≤◌, List, [], ◌∷◌, length, get_or, drop, refl, arith}
-use Rattle.std.proofs.Common.{rules, length-drop, add-zero, true, false, map, slice_index, drop-cons}
+use Rattle.std.proofs.Common.{⊎_elim, ◌⊎◌, ◌≡◌, ◌≢◌, ℕ, ◌+◌, ◌-◌, ◌<◌, ◌≤◌, List, [], ◌∷◌, length, get_or, drop, refl, arith, rules}
+use Rattle.std.proofs.Common.{length-drop, add-zero, true, false, map, slice_index, drop-cons}
 use Rattle.std.proofs.lemmas.Bool.{cases_eq, cases_lt}
 use Rattle.std.proofs.lemmas.List.{drop-map, length-map}
 use Rattle.std.proofs.Math.ListN.{get_or-map}
@@ -9,26 +9,22 @@ use Rattle.medium.specs.Moments.{EachCut, LeavesOnly}
 use Rattle.medium.proofs.Moments.{each_write, each_flush, quiet_leaves, content_has}
 use Rattle.journal.specs.declared.head.Head.{Head as HeadOf}
 use Rattle.journal.specs.Places.{sectors_of, first_home}
-use Rattle.journal.specs.Sectors.{IsHead}
-use Rattle.journal.specs.Record.{Entry, Hides, numbers_of}
-use Rattle.journal.specs.Layout.{Layout, Laws}
+use Rattle.journal.specs.Record.{Entry, numbers_of}
 use Rattle.journal.specs.Formats.{layout_of, IsWhole}
-use Rattle.journal.specs.Staged.{IsHomed, with_less}
-use Rattle.journal.specs.Staged as staged
+use Rattle.journal.specs.Staged.{IsHomed, with_less, HasSlots, View as ImageView}
 use Rattle.journal.proofs.SectorsRead.{begun_is}
 use Rattle.journal.proofs.Formats.{laws_of, most_is}
 use Rattle.journal.proofs.Wholeness.{records-hide}
-use Rattle.journal.proofs.Engine.{IsWholeIn-same, IsKept, kept_home, kept_head, HasSlots-less}
+use Rattle.journal.proofs.Engine.{IsWholeIn-same, IsKept, kept_home, kept_head}
 use Rattle.redo_log.specs.declared.turn.Turn.{Turn}
 use Rattle.redo_log.specs.declared.turn.Turn.TheVariants.{Flush, Head}
 use Rattle.redo_log.specs.Value.{LogValue, Ahead, IsSentHome, IsRetireStepped, of_oldest, ahead_of, settled}
 use Rattle.redo_log.specs.Calls.{WritesOnly}
-use Rattle.redo_log.specs.Turns.{head_bytes, MayTurn, IsTurned, IsNextTurn}
-use Rattle.redo_log.specs.Held.{View, view_retired, made_of, turned_of, needed_of, image_view, MayLeave, Safe, AreHome, HasHead, IsGuarded}
-use Rattle.redo_log.specs.Held.{HoldsView}
+use Rattle.redo_log.specs.Turns.{head_bytes, MayTurn, IsTurned, IsNextTurn, IsHeadTurn}
+use Rattle.redo_log.specs.Held.{View, with_record, view_retired, made_of, turned_of, needed_of, image_view, MayLeave, Safe, AreHome}
+use Rattle.redo_log.specs.Held.{HasHead, IsGuarded, HoldsView}
 use Rattle.redo_log.proofs.HeldLog.{moments_have, Stands, hides_behind, front, has_before, guard_logged, newest, with_newest, same_head}
-use Rattle.redo_log.proofs.HeldLog.{safe_here, guard_leaves, Stores-stays, needs_one, many, named, count, under_count, stands_now, goes_on}
-use Rattle.redo_log.proofs.HeldLog.{counts_of}
+use Rattle.redo_log.proofs.HeldLog.{safe_here, guard_leaves, Stores-stays, many, named, count, under_count, stands_now, goes_on, counts_of}
 use Rattle.redo_log.proofs.LogRules.{needed_one, IsLog, retired_of, one_waits, nothing_home, not_homed}
 use Rattle.redo_log.proofs.NewestCopy.{kept_is, retired_kept}
 use Rattle.redo_log.proofs.RecordSteps.{head_turn}
@@ -38,56 +34,46 @@ module _ {log : LogValue} (is : IsLog log) (live : log.dead ≡ false) (owed : 0
   abbrev oldest : List Entry
   oldest = get_or view.records 0 []
 
-  abbrev L : Layout
-  L = layout_of log.shape.format
-
-  abbrev laws : Laws (layout_of log.shape.format)
-  laws = laws_of log.shape.format
-
-  abbrev v : staged.View
+  abbrev v : ImageView
   v = image_view log.shape log.head view
 
   waits : 0 < length view.records
   waits = omega (arith, many hv, one_waits is owed)
-
-  stands : Stands log.shape log.head view log.steps_left (made_of log)
-  stands = stands_now hv is
 
   fit : length view.under_way ≤ (layout_of log.shape.format).most
   fit = omega (arith, is.few, under_count hv, most_is log.shape.format)
 
   -- ---- the head is written past it
   module _ (one : of_oldest log ≡ 1) (h : HeadOf) (stamp_is : h.stamp ≡ log.head + 1) (new : State) where
-    head_now : IsHead (log.head + 1) (head_bytes h.stamp)
-    head_now = rw (← stamp_is) (record { spelled = refl; least = h.least; most = h.most })
-
     one_now : view.ours ≡ true → EachCut (λ image. Safe log.shape log.head view (made_of log) image × IsHomed v image) old
     one_now ours image cut =
         let g = hv.guards live ours image cut in
-        let f = g.flushed (needs_one log one) in (newest g f.0, f.1)
+        let f = g.flushed (grind (arith, one)) in (newest g f.0, f.1)
 
-    past : {before image : Image} → IsHomed v before → Holds 1 (head_bytes h.stamp) before image → IsKept L v (with_less v) before image
-    past homed write = kept_head L laws v is.sized.behind fit waits head_now homed write
+    past : {before image : Image} → IsHomed v before → Holds 1 (head_bytes h.stamp) before image → IsKept (layout_of log.shape.format) v (with_less v) before image
+    past homed write =
+        kept_head _ (laws_of _) v is.sized.behind fit waits (rw (← stamp_is) (record { spelled = refl; least = h.least; most = h.most })) homed write
 
     stands_past : Stands log.shape (log.head + 1) (view_retired 1 view) log.steps_left (made_of log)
     stands_past =
-        let slots = λ (some : 0 < log.steps_left). HasSlots-less L v (stands.slots some) waits in
-        search (rules, arith, stands, length-drop 1 view.records)
+        let stands = stands_now hv is in
+        let fewer = length-drop 1 view.records in
+        let same : log.head + 1 + length (drop 1 view.records) ≡ log.head + length view.records = omega (arith, fewer, waits) in
+        let slots : 0 < log.steps_left → HasSlots (layout_of log.shape.format) (with_less v) = λ some.
+        grind (arith, stands.slots some, fewer, same) in
+        search (rules, arith, stands, fewer)
 
     -- at each moment a cut leaves what it might leave before, and with the new head the same array
     pub head_leaves : WritesOnly 1 (head_bytes h.stamp) old new → view.ours ≡ true → LeavesOnly (MayLeave old.size log view) old new
     head_leaves adds ours = moments_have (MayLeave old.size log view) 1 (head_bytes h.stamp) old new adds
-        (λ mid gains. each_write _ _ old mid 1 (head_bytes h.stamp) sound gains (one_now ours)
-        (λ image both. guard_leaves log {retire = 0} hv.fits stands (with_newest both.0 (λ none. absurd (omega (arith, none)))))
+        (λ mid gains. each_write _ (MayLeave old.size log view) old mid 1 (head_bytes h.stamp) sound gains (one_now ours)
+        (λ image both. guard_leaves log {retire = 0} hv.fits (stands_now hv is) (with_newest both.0 (λ none. absurd (omega (arith, none)))))
         (λ before image write both.
         let g = with_newest {retire = 0} ((past both.1 write).guarded both.0) (λ none. absurd (omega (arith, none))) in
-        elim (guard_logged (retired_of log) hv.fits stands_past g) [
-          | inl rest ↦ inr (inr (waits, omega (arith, one), rest))
-          | inr more ↦
-              let first = IsWholeIn-same L laws log.shape is.sized.some before image
-              (λ x low high. write.elsewhere x (λ e. omega (arith, low, e))) log.head oldest (rw add-zero at (both.0.stored.keeps.whole 0 waits)) in
-              inr (inl (more.0, more.1, rw (drop-cons view.records 0 [] waits) (has_before oldest first more.2)))
-        ]))
+        let first = IsWholeIn-same _ (laws_of _) log.shape is.sized.some before image
+        (λ x low high. write.elsewhere x (λ e. omega (arith, low, e))) log.head oldest (rw add-zero at (both.0.stored.keeps.whole 0 waits)) in
+        let more = has_before {size = old.size} oldest {view = with_record (view_retired 1 view)} first in
+        grind (arith, guard_logged (retired_of log) hv.fits stands_past g, more, drop-cons view.records 0 [] waits, one)))
 
     -- then the log has one record less, where this guards it
     past_held : new.size ≡ old.size → Holds 1 (head_bytes h.stamp) old.content new.content
@@ -131,8 +117,7 @@ module _ {log : LogValue} (is : IsLog log) (live : log.dead ≡ false) (owed : 0
           safe = rw (← drop-cons view.records 0 [] waits) both.0;
           flushed = λ is. absurd (needs_more is);
         })
-        (λ before image write both. with_newest ((past both.1 write).guarded both.0)
-        (λ is. absurd (needs_more is))))
+        (λ before image write both. with_newest ((past both.1 write).guarded both.0) (λ is. absurd (needs_more is))))
 
   -- ---- the next turn of the oldest record
   module _ (turn : Turn) (next : IsNextTurn log.shape log.head (get_or log.waiting 0 []) log.firsts (turned_of log) turn) (new : State)
@@ -160,15 +145,12 @@ module _ {log : LogValue} (is : IsLog log) (live : log.dead ≡ false) (owed : 0
           (kept_is log.shape.format view.records view.under_way log.firsts hv.firsts 0 t waits inside) _ refl in
           (rw brought at (rw copies at adds), λ done. rw brought at (rw copies at done))
 
-      hides : Hides view.records block.0
-      hides = records-hide view.records 0 (turned_of log) waits inside
-
       home_each : view.ours ≡ true → (mid : State) → Gains to block.1 old.may_leave mid.may_leave → {left : ℕ} → left ≢ 1
           → EachCut (HasHead log.shape log.head view (made_of log) left) mid
       home_each ours mid gains not = each_write _ _ old mid to block.1 sound gains (hv.guards live ours)
           (λ image g. same_head g g.safe (λ one. absurd (not one)))
           (λ before image write g. same_head g
-          ((kept_home L laws (front g) is.sized.behind fit block.0 (hides_behind g.passed view.records block.0 hides) write).guarded g.safe)
+          ((kept_home _ (laws_of _) (front g) is.sized.behind fit block.0 (hides_behind g.passed _ _ (records-hide view.records 0 _ waits inside)) write).guarded g.safe)
           (λ one. absurd (not one)))
 
       home_held : (ahead : Ahead) → needed_of (record log { retire_steps_left = log.retire_steps_left - 1; ahead = ahead }) ≢ 1
@@ -179,12 +161,11 @@ module _ {log : LogValue} (is : IsLog log) (live : log.dead ≡ false) (owed : 0
           let write = brings.1 done in
           goes_on hv is log.steps_left (log.retire_steps_left - 1) ahead new (omega arith) same_size live
           (record {
-            stored = (kept_home L laws v is.sized.behind fit block.0 hides write).stored s.stored;
+            stored = (kept_home _ (laws_of _) v is.sized.behind fit block.0 (records-hide view.records 0 _ waits inside) write).stored s.stored;
             copied = λ j low high.
                 let up = (rw (named hv 0) at (is.each 0 [] (one_waits is owed)).rising) j (turned_of log) in
                 let number = λ (i : ℕ). get_or-map (λ (e : Entry). e.0) oldest i (0, []) in
                 let long = length-map oldest (λ (e : Entry). e.0) in
-                let less : j ≤ turned_of log = omega (arith, low, below, is.owed_most) in
                 grind (arith, cases_eq j (turned_of log), write, s.copied j, up, long, number j, number (turned_of log), inside);
           })
           (λ ours. home_each ours new brings.0.sets not)
@@ -192,22 +173,17 @@ module _ {log : LogValue} (is : IsLog log) (live : log.dead ≡ false) (owed : 0
     -- so a block goes home, the blocks are flushed, or the head goes past the record
     by_turn : {P : Type 0} → (2 < of_oldest log → P) → (of_oldest log ≡ 2 → turn ≡ Flush → P)
         → (of_oldest log ≡ 1 → (h : HeadOf) → turn ≡ Head h → h.stamp ≡ log.head + 1 → P) → P
-    by_turn home flush head = elim (cases_lt 2 (of_oldest log)) [
-      | inl below ↦ home below
-      | inr few ↦ elim (cases_eq (of_oldest log) 2) [
-        | inl two ↦ flush two (next.flush (omega (arith, two)))
-        | inr not ↦
-            let one : of_oldest log ≡ 1 = omega (arith, not, few, owed) in
-            let h = head_turn (log.head + 1) turn (next.head (omega (arith, one))) in
-            head one h.0 h.1 h.2
-      ]
-    ]
+    by_turn home flush head =
+        let which : (2 < of_oldest log) ⊎ ((of_oldest log ≡ 2) × (turn ≡ Flush)) ⊎ ((of_oldest log ≡ 1) × IsHeadTurn (log.head + 1) turn) =
+        grind (arith, cases_lt 2 (of_oldest log), next.flush, next.head, owed) in
+        let past = λ (h : (h : HeadOf) × (turn ≡ Head h) × (h.stamp ≡ log.head + 1)) (one : of_oldest log ≡ 1). head one h.0 h.1 h.2 in
+        ⊎_elim home (⊎_elim (λ two. flush two.0 two.1) (λ one. past (head_turn (log.head + 1) turn one.1) one.0)) which
 
     -- at each moment a cut leaves what it might leave before
     pub turn_leaves : view.ours ≡ true → LeavesOnly (MayLeave old.size log view) old new
     turn_leaves ours = by_turn
         (λ below. moments_have (MayLeave old.size log view) (to below) (block below).1 old new (brings below).0
-        (λ mid gains image cut. guard_leaves log {retire = 0} hv.fits stands (home_each below ours mid gains (omega arith) image cut)))
+        (λ mid gains image cut. guard_leaves log {retire = 0} hv.fits (stands_now hv is) (home_each below ours mid gains (omega arith) image cut)))
         (λ two flush. quiet_leaves (MayLeave old.size log view) old new sound (hv.leaves ours) (rw flush at adds))
         (λ one h head stamp. head_leaves one h stamp new (rw head at adds) ours)
 
@@ -240,10 +216,7 @@ module _ {log : LogValue} (is : IsLog log) (live : log.dead ≡ false) (owed : 0
 
       -- so it does ahead
       pub sent_held : 2 < of_oldest log → IsSentHome log then → HoldsView then new view
-      sent_held below home = elim (cases_lt 3 (of_oldest log)) [
-        | inl more ↦ rw (home.more more) (goes_home below)
-        | inr few ↦
-            let last : of_oldest log ≡ 3 = omega (arith, few, below) in
-            rw (home.last last) (home_held below (ahead_of log)
-            (λ one. omega (arith, needed_one (ahead_of log) log.head (log.head + length log.waiting) _ one, last)) same_size done)
-      ]
+      sent_held below home =
+          let ahead = λ (last : of_oldest log ≡ 3). home_held below (ahead_of log)
+          (λ one. omega (arith, needed_one (ahead_of log) log.head (log.head + length log.waiting) _ one, last)) same_size done in
+          grind (arith, cases_lt 3 (of_oldest log), home.more, home.last, ahead, goes_home below)

@@ -1,6 +1,6 @@
 -- What a store on top of a log cites, and each step of the record under way: what the log and its medium hold after it.
-use Rattle.std.proofs.Common.{◌≡◌, ◌≢◌, ◌⊎◌, inl, ℕ, ◌+◌, ◌-◌, ◌<◌, ◌≤◌, List, [], ◌∷◌, ◌++◌, length, drop, refl, sym, ◌∙◌, ap, arith}
-use Rattle.std.proofs.Common.{rules, length-append, length-drop, inr, ◌*◌, get_or, Bool, true, false, map, Result, OnOk}
+use Rattle.std.proofs.Common.{◌≡◌, ◌≢◌, ◌⊎◌, inl, ℕ, ◌+◌, ◌-◌, ◌<◌, ◌≤◌, List, [], ◌∷◌, ◌++◌, length, refl, sym, ◌∙◌, ap, arith, rules}
+use Rattle.std.proofs.Common.{length-append, inr, ◌*◌, get_or, Bool, true, false, map, Result, OnOk}
 use Rattle.std.proofs.lemmas.List.{nil_from_length, map-append, get_or_append_left}
 use Rattle.medium.specs.Medium.{State, Image, CutLeaves, IsSound, Holds, Gains}
 use Rattle.medium.specs.Moments.{EachCut, LeavesOnly}
@@ -13,28 +13,26 @@ use Rattle.journal.specs.Standing.{Keeps, IsOurs}
 use Rattle.journal.proofs.BatchEntries.{numbers_of_batch, length_of_batch, sized_batch}
 use Rattle.journal.proofs.Engine.{rests_found, Guarded-lost, Guarded-write, Stored-write, other_written, Stored-durable, carries_below}
 use Rattle.journal.proofs.Formats.{laws_of}
-use Rattle.redo_log.specs.Value.{LogValue, HasRoom, IsCovered, retire_steps_of, behind_oldest, of_oldest, idle_from, begun, died, settled}
-use Rattle.redo_log.specs.Value.{IsBatch, steps_of, steps_for, IsStepped}
-use Rattle.redo_log.specs.Shown.{needed_at, flush_of}
+use Rattle.redo_log.specs.Value.{LogValue, HasRoom, IsCovered, retire_steps_of, behind_oldest, idle_from, begun, died, settled, IsBatch}
+use Rattle.redo_log.specs.Value.{steps_of, steps_for, IsStepped}
+use Rattle.redo_log.specs.Shown.{flush_of}
 use Rattle.redo_log.specs.Held.{View, resting_view, IsStored, IsGuarded, HasNoRecord, with_begun, made_of, turned_of, needed_of, MayLeave}
-use Rattle.redo_log.specs.Held.{Safe, stamps_of, with_passed, image_view, HoldsView, with_record, view_stepped, written_of, flushed_of}
-use Rattle.redo_log.specs.Held.{HasDurable, HasHead, AreHome}
+use Rattle.redo_log.specs.Held.{Safe, with_passed, image_view, HoldsView, with_record, view_stepped, written_of, flushed_of, HasDurable}
+use Rattle.redo_log.specs.Held.{HasHead, AreHome}
 use Rattle.redo_log.proofs.RecordSteps.{steps_some, steps_are, due_or_not, last_call, not_last, early_written, part_written}
-use Rattle.redo_log.proofs.LogRules.{needed_covered, one_stamp, made_is, none_made, IsLog, durable_of, durable_alone, durable_more}
+use Rattle.redo_log.proofs.LogRules.{needed_covered, made_is, none_made, IsLog, durable_of, durable_alone, durable_more}
 use Rattle.redo_log.proofs.HeldLog.{rests_safe, safe_rests, keeps_stored, with_newest, same_head, put_head, put_safe, has_view}
-use Rattle.redo_log.proofs.HeldLog.{Stores-stays, count, under_count, going_held, Stands, stands_idle, same_stamp, front, stands_front}
+use Rattle.redo_log.proofs.HeldLog.{Stores-stays, count, under_count, going_held, Stands, stands_idle, same_stamp, stands_front}
 use Rattle.redo_log.proofs.HeldLog.{guard_logged, guard_leaves, safe_here, all_turned, counts_of, many, stands_then, stands_now, goes_on}
 use Rattle.redo_log.proofs.HeldLog.{record_entries, before_home}
-use Rattle.redo_log.proofs.NewestCopy.{none_kept, begun_kept, durable_kept}
+use Rattle.redo_log.proofs.NewestCopy.{durable_kept}
 pub use Rattle.redo_log.proofs.HeldLog.{quiet_held, put_head}
 pub use Rattle.redo_log.proofs.NewestCopy.{home_is}
 use Rattle.std.proofs.lemmas.Result.{on_ok_weaker}
 use Rattle.std.proofs.lemmas.Bool.{cases_eq, cases_lt}
 use Rattle.medium.specs.declared.fault.MediumFault.{MediumFault}
-use Rattle.journal.specs.Layout.{Layout, part_at, Laws, IsRecordOf}
+use Rattle.journal.specs.Layout.{Layout, part_at, IsRecordOf}
 use Rattle.journal.specs.Formats.{layout_of}
-use Rattle.journal.specs.Staged.{HasSlots}
-use Rattle.journal.specs.Staged as staged
 use Rattle.redo_log.specs.declared.progress.Progress.{Progress}
 use Rattle.redo_log.specs.declared.progress.Progress.TheVariants.{More, Durable}
 use Rattle.redo_log.specs.Calls.{Write, Flush, IsDone, MakesNext, IsNextCall, IsFlushDue}
@@ -44,13 +42,10 @@ pub idle_holds : (shape : Shape) (next : ℕ) (array : Array) (ours : Bool) (m :
     → Keeps shape m.content next [] array → (ours ≡ true → EachCut (HasNoRecord shape next array) m)
     → HoldsView (idle_from shape next) m (resting_view array ours)
 idle_holds shape next array ours m fits keeps fresh =
-    let log = idle_from shape next in
     let view : View = resting_view array ours in
-    let firsts = none_kept shape.format in
     let leaves : ours ≡ true → EachCut (MayLeave m.size (idle_from shape next) (resting_view array ours)) m = λ is image cut.
     inl (has_view [] view fits (omega arith) (rests_found _ (laws_of shape.format) (image_view shape next view) (omega arith) (fresh is image cut))) in
-    let stores : IsStored (idle_from shape next) (resting_view array ours) m =
-    record { stored = keeps_stored view refl keeps; copied = λ i low high. absurd (omega (arith, high)) } in
+    let stored = keeps_stored view refl keeps in
     let guards : ours ≡ true → IsGuarded (idle_from shape next) (resting_view array ours) m =
     λ is image cut. with_newest (rests_safe view refl (fresh is image cut)) (λ none. absurd (omega (arith, none))) in
     search (rules, arith)
@@ -63,9 +58,8 @@ died_holds log m view holds =
 -- a flush that was made stands for the one that the oldest record needs
 pub settled_holds : (log : LogValue) (m : State) (view : View) → HoldsView log m view → IsCovered log → HoldsView (settled log) m view
 settled_holds log m view holds covered =
-    let one : of_oldest (settled log) ≡ 1 = omega (arith, covered.flushes) in
-    let needs : needed_of log ≡ needed_of (settled log) =
-    rw (covered.flushes, one) (needed_covered log.ahead log.head (log.head + length log.waiting) covered.oldest covered.since) in
+    let covers = needed_covered log.ahead log.head (log.head + length log.waiting) covered.oldest covered.since in
+    let needs : needed_of log ≡ needed_of (settled log) = grind (arith, covered.flushes, covers) in
     going_held holds log.steps_left (log.retire_steps_left - 1) log.ahead log.dead m refl
     (λ ours image cut. grind (arith, covered.flushes, holds.leaves ours image cut))
     (λ live. Stores-stays (holds.stores live) (made_of log) (turned_of (settled log)) m.content (λ s. refl) (omega arith)
@@ -85,11 +79,7 @@ pub may_leave_ours : (size : ℕ) (log : LogValue) (view : View) (image : Image)
     → IsOurs size log.shape image view.array (log.head + length view.records + 1)
     ⊎ ((0 < log.steps_left) × IsOurs size log.shape image (with_blocks view.under_way view.array) (log.head + length view.records + 2))
 may_leave_ours size log view image found =
-    let longer = length-append view.records (view.under_way ∷ []) in
-    let both : log.head + length (view.records ++ view.under_way ∷ []) + 1 ≡ log.head + length view.records + 2 = omega (arith, longer) in
-    let less : 0 < length view.records → log.head + 1 + length (drop 1 view.records) + 1 ≡ log.head + length view.records + 1 =
-    λ some. omega (arith, length-drop 1 view.records, some) in
-    grind (arith, found)
+    grind (arith, found, length-append view.records (view.under_way ∷ []))
 
 -- a record is begun in a log with room
 pub begun_holds : (log : LogValue) (m : State) (view : View) (numbers bytes : List ℕ) → HoldsView log m view → HasRoom log
@@ -99,33 +89,22 @@ begun_holds log m view numbers bytes holds room batch =
     let E : List Entry = entries_of numbers bytes in
     let next : LogValue = begun numbers (firsts_of (entries_of numbers bytes)) log in
     let many : length (entries_of numbers bytes) ≡ length numbers = length_of_batch numbers bytes in
-    let none = ap (λ (l : List ℕ). retire_steps_of l) room.none_under_way in
     let none_yet : view.under_way ≡ [] =
     nil_from_length view.under_way (omega (arith, under_count holds, ap (λ (l : List ℕ). length l) room.none_under_way)) in
-    let behind : behind_oldest next ≡ behind_oldest log + retire_steps_of numbers = omega (arith, none) in
-    let same : of_oldest log ≡ of_oldest next = omega (arith, behind) in
-    let needs : needed_of log ≡ needed_of next = ap (λ (l : ℕ). needed_at log.ahead log.head (log.head + length log.waiting) l) same in
-    let turned : turned_of log ≡ turned_of next = omega (arith, same) in
+    let behind : behind_oldest next ≡ behind_oldest log + retire_steps_of numbers = grind (arith, room.none_under_way) in
+    let needs : needed_of log ≡ needed_of next = grind (arith, behind) in
     let made : made_of next ≡ 0 = omega (arith, made_is next (steps_some log.shape.format (length numbers))) in
-    record {
-      fits = holds.fits;
-      durable = holds.durable;
-      under_way = sym (numbers_of_batch numbers bytes);
-      next = omega (arith, holds.next, ap (λ (l : List ℕ). stamps_of l) room.none_under_way, one_stamp numbers batch.some);
-      few = holds.few;
-      sized = sized_batch numbers bytes batch.size;
-      firsts = begun_kept log.shape.format view.records view.under_way E log.firsts holds.firsts none_yet
-          (omega (arith, many, batch.some));
-      leaves = λ ours image cut. grind (arith, holds.leaves ours image cut, room.no_steps, behind);
-      stores = λ live. record {
-        stored = keeps_stored (with_begun E view) made (holds.stores live).stored.keeps;
-        copied = λ i low high. (holds.stores live).copied i (omega (arith, low, turned)) high;
-      };
-      guards = λ live ours image cut.
-          let g = holds.guards live ours image cut in
-          let idle = safe_rests (with_passed g.passed view) (none_made log room.no_steps) g.safe in
-          same_head g (rests_safe (with_passed g.passed (with_begun E view)) made idle) (λ is. g.flushed (needs ∙ is));
-    }
+    let under = numbers_of_batch numbers bytes in
+    let sized = sized_batch numbers bytes batch.size in
+    let leaves : view.ours ≡ true → EachCut (MayLeave m.size next (with_begun E view)) m = λ ours image cut.
+    grind (arith, holds.leaves ours image cut, room.no_steps, behind) in
+    let stores : log.dead ≡ false → IsStored next (with_begun E view) m = λ live.
+    let stored = keeps_stored (with_begun E view) made (holds.stores live).stored.keeps in search (rules, arith, (holds.stores live).copied) in
+    let guards : log.dead ≡ false → view.ours ≡ true → IsGuarded next (with_begun E view) m = λ live ours image cut.
+    let g = holds.guards live ours image cut in
+    let idle = safe_rests (with_passed g.passed view) (none_made log room.no_steps) g.safe in
+    same_head g (rests_safe (with_passed g.passed (with_begun E view)) made idle) (λ is. g.flushed (needs ∙ is)) in
+    search (rules, arith, holds)
 
 -- ---- each step of the record under way
 
@@ -134,15 +113,8 @@ module _ {log : LogValue} (is : IsLog log) (live : log.dead ≡ false) (some : 0
   abbrev L : Layout
   L = layout_of log.shape.format
 
-  abbrev laws : Laws L
-  laws = laws_of log.shape.format
-
   abbrev n : ℕ
   n = length view.under_way
-
-  -- the log, as images see it
-  abbrev v : staged.View
-  v = image_view log.shape log.head view
 
   -- the stamp of the record
   abbrev stamp : ℕ
@@ -191,42 +163,37 @@ module _ {log : LogValue} (is : IsLog log) (live : log.dead ≡ false) (some : 0
       early_flushed : 1 < log.steps_left → IsFlushDue L n (made_of log) → IsDone here.call old new → HoldsView more_log new view
       early_flushed more due done =
           let wrote = rw (flushes due) at done in
-          let few = not_last _ _ (laws.last_is_late n) (made_of log) (omega (arith, made_is log some, more, all_steps, is.most_left)) in
+          let few = not_last _ _ ((laws_of log.shape.format).last_is_late n) (made_of log) (omega (arith, made_is log some, more, all_steps, is.most_left)) in
           let early : (0 < L.early n) × (made_of log ≡ L.early n) = grind (arith, due, few) in
-          let after = early_written _ _ (laws.last_is_late n) (made_of log) (made_of more_log) (then_made more) early.0 early.1 in
+          let after = early_written _ _ ((laws_of log.shape.format).last_is_late n) (made_of log) (made_of more_log) (then_made more) early.0 early.1 in
           let s = hv.stores live in
           goes_on hv is (log.steps_left - 1) log.retire_steps_left log.ahead new (omega arith) here.makes.passes.size_stays live
           (Stores-stays s (made_of more_log) (turned_of log) new.content wrote.0 (omega (arith, after.0)) (λ i low high. low))
-          (λ ours.
-          let g = hv.guards live ours in
-          each_flush _ old.content new wrote.1 (with_newest
-          (rw (after.0, after.1) (record { stored = s.stored; carries = (safe_here sound s g).carries }))
+          (λ ours. each_flush _ old.content new wrote.1 (with_newest
+          (rw (after.0, after.1) (record { stored = s.stored; carries = (safe_here sound s (hv.guards live ours)).carries }))
           (λ one i inside. s.copied i (omega (arith, inside, all_turned log one, count hv 0)) inside)))
 
       -- ---- a flush of all parts: the record is durable
       all_flushed : log.steps_left ≡ 1 → IsDone here.call old new → HoldsView (durable_of log) new (with_record view)
       all_flushed last done =
-          let all = last_call _ _ (laws.last_is_late n) (made_of log) (omega (arith, made_is log some, is.most_left, some, all_steps))
+          let all = last_call _ _ ((laws_of log.shape.format).last_is_late n) (made_of log) (omega (arith, made_is log some, is.most_left, some, all_steps))
           (omega (arith, made_is log some, is.most_left, last, all_steps)) in
           let wrote = rw (flushes (inr all)) at done in
           let longer = length-append view.records (view.under_way ∷ []) in
           let fits : sectors_of log.shape ≤ new.size = omega (arith, here.makes.passes.size_stays, hv.fits) in
           let still : new.content ≡ old.content = λ i s. wrote.0 s i in
-          let alone = λ (none : length view.records ≡ 0). durable_alone log is some (many hv ∙ none) in
-          let waits = λ (more : 0 < length view.records). durable_more log (omega (arith, many hv, more)) in
           let s = hv.stores live in
           let durable : log.waiting ++ log.under_way ∷ [] ≡ map (λ r. numbers_of r) (view.records ++ view.under_way ∷ []) =
           rw (hv.durable, hv.under_way) (sym (map-append (λ r. numbers_of r) view.records (view.under_way ∷ []))) in
           let copied : AreHome log.shape (get_or (view.records ++ view.under_way ∷ []) 0 []) (turned_of (durable_of log)) old.content =
           let first = get_or_append_left view.records (view.under_way ∷ []) [] 0 in
-          λ i low high. grind (arith, cases_eq (length view.records) 0, alone, waits, s.copied i, first) in
-          let keeps = Stored-durable L laws v (stands.slots some) all s.stored in
+          λ i low high. grind (arith, cases_eq (length view.records) 0, durable_alone log is some, durable_more log, many hv, s.copied i, first) in
+          let keeps = Stored-durable _ (laws_of _) _ (stands.slots some) all s.stored in
           let next : log.head + length view.records + 1 ≡ log.head + length (view.records ++ view.under_way ∷ []) = omega (arith, longer) in
           let guards : view.ours ≡ true → IsGuarded (durable_of log) (with_record view) new = λ ours.
-          let carries = rw next at (carries_below L laws v (stands.slots some) old.content _ _ (safe_here sound s (hv.guards live ours))) in
+          let carries = rw next at (carries_below _ (laws_of _) _ (stands.slots some) old.content _ _ (safe_here sound s (hv.guards live ours))) in
           each_flush _ old.content new wrote.1 (with_newest (rests_safe (with_record view) refl (record { keeps = keeps; carries = carries }))
           (λ one i inside. copied i (omega (arith, inside, all_turned (durable_of log) one, counts_of (view.records ++ view.under_way ∷ []) durable 0)) inside)) in
-          let one = one_stamp log.under_way (is.record_is some).numbers_are.some in
           let few : length (view.records ++ view.under_way ∷ []) ≤ log.shape.slots = omega (arith, (stands.slots some).room, longer) in
           let firsts = durable_kept log.shape.format view.records view.under_way log.firsts hv.firsts (omega (arith, (stands.slots some).under_way.fit.some)) in
           let leaves : view.ours ≡ true → EachCut (MayLeave new.size (durable_of log) (with_record view)) new =
@@ -255,12 +222,12 @@ module _ {log : LogValue} (is : IsLog log) (live : log.dead ≡ false) (some : 0
         -- the write leaves the blocks at home
         at_home : {before image : Image} → Holds place part before image → (b : ℕ) → image (log.shape.home + b) ≡ before (log.shape.home + b)
         at_home write b =
-            let low = before_home log.shape is.sized stamp (L.offset n k) (laws.inside n k (stands.slots some).under_way.fit.few small) in
+            let low = before_home log.shape is.sized stamp (L.offset n k) ((laws_of log.shape.format).inside n k (stands.slots some).under_way.fit.few small) in
             write.elsewhere _ (λ e. omega (arith, e, low))
 
         after : (next : ℕ) → next ≡ made_of log + 1 → (written_of log.shape view next ≡ k + 1)
             × (flushed_of log.shape view next ≡ flushed_of log.shape view (made_of log))
-        after next one = part_written _ _ (laws.last_is_late n) (made_of log) next one (grind (arith, not))
+        after next one = part_written _ _ ((laws_of log.shape.format).last_is_late n) (made_of log) next one (grind (arith, not))
 
         -- with the last part in it the record has this one's
         part_each : part ≡ L.part stamp view.under_way k → view.ours ≡ true → (then : ℕ) → then ≡ made_of log + 1
@@ -270,8 +237,7 @@ module _ {log : LogValue} (is : IsLog log) (live : log.dead ≡ false) (some : 0
             each_write _ _ old new place part sound adds (hv.guards live ours)
             (λ image g. same_head g (rw (now.0, now.1) (Guarded-lost k g.safe)) g.flushed)
             (λ before image write g. same_head g
-            (rw (now.0, now.1) (Guarded-write L laws (front g) ((stands_front g stands).slots some) k small
-            (rw (mine, same_stamp g) at write) g.safe))
+            (rw (now.0, now.1) (Guarded-write _ (laws_of _) _ ((stands_front g stands).slots some) k small (rw (mine, same_stamp g) at write) g.safe))
             (λ one. let homed = g.flushed one in (homed.0, λ i below. at_home write _ ∙ homed.1 i below)))
 
         part_leaves : view.ours ≡ true → EachCut (MayLeave old.size log view) new
@@ -280,15 +246,14 @@ module _ {log : LogValue} (is : IsLog log) (live : log.dead ≡ false) (some : 0
               each_write _ (MayLeave old.size log view) old new place part sound adds (hv.guards live ours)
               (λ image g. guard_leaves log hv.fits stands g)
               (λ before image write g.
-              inl (has_view g.passed view hv.fits g.behind (other_written L laws (front g) ((stands_front g stands).slots some) {before = before}
+              inl (has_view g.passed view hv.fits g.behind (other_written _ (laws_of _) _ ((stands_front g stands).slots some) {before = before}
               k other (rw (same_stamp g) at other_is) other_count early (rw (← (same_stamp g)) write) g.safe)))
           | inr last ↦
               let stands_then = stands_then hv is log.steps_left (made_of log + 1) (omega arith) (λ none. absurd (omega (arith, none, some)))
               (λ _. omega (arith, made_is log some)) in
               let k_is : L.parts n - 1 ≡ k = omega (arith, small, last) in
-              let mine = rw (other_count, k_is) at (laws.last_part stamp other view.under_way other_count) in
-              λ image cut.
-              guard_leaves log hv.fits stands_then (part_each mine ours (made_of log + 1) refl image cut)
+              let mine = rw (other_count, k_is) at ((laws_of log.shape.format).last_part stamp other view.under_way other_count) in
+              λ image cut. guard_leaves log hv.fits stands_then (part_each mine ours _ refl image cut)
         ]
 
         part_written_now : 1 < log.steps_left → view.under_way ≡ other → IsDone here.call old new → HoldsView more_log new view
@@ -299,7 +264,7 @@ module _ {log : LogValue} (is : IsLog log) (live : log.dead ≡ false) (some : 0
             let now = after (made_of more_log) (then_made more) in
             goes_on hv is (log.steps_left - 1) log.retire_steps_left log.ahead new (omega arith) here.makes.passes.size_stays live
             (record {
-              stored = Stored-write L laws v (stands.slots some) k small (λ p low not. omega (arith, low, now.0, not)) (rw mine at write) s.stored;
+              stored = Stored-write _ (laws_of _) _ (stands.slots some) k small (λ p low not. omega (arith, low, now.0, not)) (rw mine at write) s.stored;
               copied = λ i low high. at_home write _ ∙ s.copied i low high;
             })
             (λ ours. part_each mine ours (made_of more_log) (then_made more))

@@ -3,7 +3,7 @@ use Rattle.std.proofs.lemmas.Result.{on_ok_weaker}
 use Rattle.medium.proofs.SectorsRead.{no_looks}
 use Rattle.medium.proofs.SparedSectors.{spared_write}
 use Rattle.redo_log.specs.Value.{of_oldest}
-use Rattle.redo_log.proofs.OneSector.{one_write}
+use Rattle.redo_log.proofs.HeldLog.{one_write}
 use Rattle.redo_log.proofs.RecordSteps.{leaves_log}
 use Rattle.redo_log.proofs.LogRules.{log_is}
 use Rattle.redo_log.proofs.HeldLog.{dead_held}
