@@ -1,7 +1,6 @@
 -- A whole recovery: a flush, reads, copies and the new head; what it leaves up to each of its exits, and why it is refused.
-use Rattle.std.proofs.Common.{◌≡◌, ◌⊎◌, inl, inr, ⊎_elim, ℕ, ◌+◌, ◌*◌, ◌<◌, ◌≤◌, ◌^◌, List, [], length, get_or, sym, ◌∙◌, ap, subst, arith}
-use Rattle.std.proofs.Common.{rules, mul-le-mul_left, refl}
-use Rattle.std.specs.Prelude.{min, Result}
+use Rattle.std.proofs.Common.{◌≡◌, ◌⊎◌, inl, inr, ⊎_elim, ℕ, ◌+◌, ◌*◌, ◌<◌, ◌≤◌, ◌^◌, List, [], length, get_or, sym}
+use Rattle.std.proofs.Common.{◌∙◌, ap, subst, arith, rules, mul-le-mul_left, refl, min, Result}
 use Rattle.medium.specs.Medium.{State, Image, CutLeaves, Stays, Within, Only, Passes, LooksOnly, IsSound}
 use Rattle.medium.specs.Moments.{EachCut, IsFlushed, LeavesOnly, IsQuiet, SparesFrom}
 use Rattle.medium.specs.Sent.{SendsUpTo}
@@ -24,18 +23,18 @@ use Rattle.journal.proofs.SectorNumbers.{IsSuper-one}
 use Rattle.journal.proofs.Formats.{laws_of}
 use Rattle.journal.proofs.Wholeness.{CarriesBelow-agree}
 use Rattle.journal.proofs.StandingLaws.{Stood, StandsFor-shape, count_stands, heads, counts, StandsFor-one}
-use Rattle.recovery.specs.Calls.{copy_calls, most_calls_of, most_reads_of, most_start_of, most_start_sends, AreCopied, IsHomeInRecords}
-use Rattle.recovery.specs.Calls.{HasNewHead, Copies, Writes, HoldsLog}
-use Rattle.recovery.specs.Causes.{WritesNothing, HasFewSlots, IsRefusalBy, IsDeviceFault}
-use Rattle.recovery.specs.Inspected.{AreTriesOf, IsSurvey, SurveysAtMost, IsLookCause}
-use Rattle.recovery.specs.Recovered.{IsOursInEither, MigrationLeaves, most_migration_sends, IsRecoveryRefusal, IsRecoveredAtLeast}
-use Rattle.recovery.specs.Recovered.{IsRecoveredFrom, IsFresh, IsOursForSome, IsOursWithNext, StandsForOneOf}
-use Rattle.recovery.specs.Recovered.{StandsForSome, LeavesAtLeast, StartLeaves}
+use Rattle.recovery.specs.Calls.{copy_calls, most_calls_of, most_reads_of, most_start_of, most_start_sends, AreCopied}
+use Rattle.recovery.specs.Calls.{IsHomeInRecords, HasNewHead, Copies, Writes, HoldsLog}
+use Rattle.recovery.specs.Causes.{WritesNothing, HasFewSlots, IsRefusalBy, IsDeviceFault, AreTriesOf, IsSurvey}
+use Rattle.recovery.specs.Causes.{SurveysAtMost, IsLookCause}
+use Rattle.recovery.specs.Recovered.{IsOursInEither, MigrationLeaves, most_migration_sends, IsRecoveryRefusal}
+use Rattle.recovery.specs.Recovered.{IsRecoveredAtLeast, IsRecoveredFrom, IsFresh, IsOursForSome, IsOursWithNext}
+use Rattle.recovery.specs.Recovered.{StandsForOneOf, StandsForSome, LeavesAtLeast, StartLeaves}
 use Rattle.recovery.specs.declared.found.Found.{Found}
 use Rattle.recovery.specs.declared.start_fault.StartFault.{StartFault}
 use Rattle.recovery.specs.declared.start_fault.StartFault.TheVariants.{NoMemory, StampsUsedUp, LogTooSmall, Read, Write, Flush}
-use Rattle.recovery.proofs.CopiedRecords.{log_ends, not_in_log, spared_by, AreSame, copies_ours, fresh_ours}
-use Rattle.recovery.proofs.JoinedCalls.{quiet_before, quiet_after, looked_on}
+use Rattle.recovery.proofs.JoinedCalls.{log_ends, not_in_log, spared_by, AreSame, copies_ours, fresh_ours, quiet_before}
+use Rattle.recovery.proofs.JoinedCalls.{quiet_after, looked_on}
 use Rattle.medium.specs.declared.fault.MediumFault.TheVariants as medium
 use Rattle.journal.proofs.FaultLaws.{HasFault-stands}
 
@@ -154,16 +153,16 @@ module _ (least : ℕ) {old mid seen : State} {result : Result (Unit {0}) Medium
   back P h = quiet_before P old mid flushed h
 
   quiet : IsQuiet old seen
-  quiet = quiet_joined old mid seen flushed known.reads.quiet
+  quiet = quiet_joined old mid seen flushed known.reads.only.quiet
 
   same : seen.content ≡ old.content
   same = λ i s. quiet.content_stays s i
 
   one_sent : SendsUpTo 1 old seen
-  one_sent = omega (arith, flush_sends old mid known.passes, none_sent mid seen known.reads.reads)
+  one_sent = omega (arith, flush_sends old mid known.passes, none_sent mid seen known.reads.only.reads)
 
   wrote_nothing : WritesNothing old seen
-  wrote_nothing = search (rules, quiet, known.reads.reads, known.passes.others_made, known.passes.made_is)
+  wrote_nothing = search (rules, quiet, known.reads.only.reads, known.passes.others_made, known.passes.made_is)
 
   -- from the first good flush up to the first write there is one image
   seen_after : Only old.content mid.may_leave → (shape : Shape) (array : Array) (next : ℕ) → IsOurs old.size shape old.content array next
@@ -172,7 +171,7 @@ module _ (least : ℕ) {old mid seen : State} {result : Result (Unit {0}) Medium
       let here = rw (← known.passes.calls_are) at since in
       let is = only_image old.content mid.may_leave only image
       (⊎_elim (λ was. known.sound_mid.only_now image was) (λ now. now)
-      (known.reads.quiet.nothing_else mid.calls image (omega arith) here)) in
+      (known.reads.only.quiet.nothing_else mid.calls image (omega arith) here)) in
       inl (rw is ours)
 
   -- the flush and the survey
@@ -187,7 +186,7 @@ module _ (least : ℕ) {old mid seen : State} {result : Result (Unit {0}) Medium
       (known.reads.most shape (quiet_after (λ n i. image.HasShape n shape i) old mid flushed has)) (omega arith) (omega arith) in
       let looks = λ (near : ℕ) (holds : HoldsLog near old.size old.content). looks_joined (λ s. s < near) old mid seen
       (no_looks _ old mid (known.passes.looked_stays (λ e. cc e)))
-      (known.reads.looks near (quiet_after (λ n i. HoldsLog near n i) old mid flushed holds)) in
+      (known.reads.only.looks near (quiet_after (λ n i. HoldsLog near n i) old mid flushed holds)) in
       search (rules, cuts, seen_after, known.only, moments, known.passes.calls_are, most, one_sent, looks, spared_quiet, quiet, known.sound)
 
   -- a refusal by the survey is one by the flush and it
@@ -236,7 +235,7 @@ module _ (least : ℕ) {old mid seen : State} {result : Result (Unit {0}) Medium
     copied_ours ours =
         let f = matches ours.stands in
         weaker _ _ _ _ (λ image cut. copies_ours ours found.head found.count f.0 f.1 image
-        (λ x. ⊎_elim (λ left. inl (known.only begun x (image x) (known.reads.quiet.sets_shrink x (image x) left)))
+        (λ x. ⊎_elim (λ left. inl (known.only begun x (image x) (known.reads.only.quiet.sets_shrink x (image x) left)))
         (λ home. inr (rw same at home)) (cut x))) copying.moments
 
     -- nothing behind the image is at home
@@ -259,13 +258,11 @@ module _ (least : ℕ) {old mid seen : State} {result : Result (Unit {0}) Medium
     sent_few : SendsUpTo (limit_of found.sizes.format * found.sizes.slots + 1) old copied
     sent_few = omega (arith, mul-le-mul_left (limit_of found.sizes.format) at_old.count.few, one_sent, copying.sent)
 
-    most : (most_start_of found.sizes.format * found.sizes.slots ≤ 738 * 64)
-        × (most_start_sends found.sizes.format found.sizes.slots ≤ most_start_sends Two 64)
-    most = most_of found.sizes.format found.sizes.slots found.sizes.most_slots
-
     -- at any moment from the first write on each image is ours for the contents
     pub copies_leave : LeavesAtLeast least old copied
-    copies_leave = start_on known.sound served survey_leaves begun
+    copies_leave =
+        let most = most_of found.sizes.format found.sizes.slots found.sizes.most_slots in
+        start_on known.sound served survey_leaves begun
         (λ array next ours. weaker _ _ _ _ (λ image o. inl o) (copied_ours ours)) copied_spares copying.looks
         (few copied.calls 0 (omega arith) (omega arith)) most.0 (omega (arith, sent_few)) most.1
 
@@ -302,7 +299,9 @@ module _ (least : ℕ) {old mid seen : State} {result : Result (Unit {0}) Medium
       -- the copies, and perhaps the new head
       pub moves_leave : {new : State} {moves : Result (Unit {0}) MediumFault} → Writes (λ image. CutLeaves copied.may_leave image
           ⊎ HasNewHead (found.head + found.count + 1) copied.content image) 2 3 copied new moves → LeavesAtLeast least old new
-      moves_leave {new = new} moves = start_on known.sound served copies_leave (omega (arith, begun, copying.moments.later))
+      moves_leave {new = new} moves =
+          let most = most_of found.sizes.format found.sizes.slots found.sizes.most_slots in
+          start_on known.sound served copies_leave (omega (arith, begun, copying.moments.later))
           (λ array next ours. weaker _ _ _ _ (λ image either. ⊎_elim (λ cut. inl (at_exit _ seen copied sound (copied_ours ours) image cut))
           (λ moved. inr (fresh_ours at_old.shape.fits (moved_fresh ours moved))) either) moves.moments)
           (spared_behind 2 (sectors_of shape) copied new (omega arith) moves.spares)
@@ -310,15 +309,11 @@ module _ (least : ℕ) {old mid seen : State} {result : Result (Unit {0}) Medium
           (omega (arith, sent_few, moves.sent)) most.1
 
       module _ (new : State) (head : HasNewHead (found.head + found.count + 1) copied.content new.content) (durable : IsFlushed new) where
-        pub recovery_fresh : (other : Shape) (array : Array) (next : ℕ) → IsOurs old.size other old.content array next
-            → EachCut (IsFresh other array next) new
-        recovery_fresh other array next ours image cut =
-            let is = IsSuper-one other shape (old.content 0) ours.stands.keeps.super at_old.shape.super in
-            rw (is, only_image new.content new.may_leave durable image cut) (moved_fresh (rw is at ours) head)
-
-        pub recovery_from : new.calls ≡ copied.calls + 3
+        pub recovery_done : new.calls ≡ copied.calls + 3
             → IsRecoveredAtLeast least old new (record { sizes = found.sizes; next = found.head + found.count + 1 })
-        recovery_from last =
+            × ((other : Shape) (array : Array) (next : ℕ) → IsOurs old.size other old.content array next
+            → EachCut (IsFresh other array next) new)
+        recovery_done last =
             let s = stood.stands in
             let ends = log_ends shape at_old.shape.super.home_is in
             let from : IsRecoveredFrom old new (record { sizes = found.sizes; next = found.head + found.count + 1 }) = record {
@@ -333,10 +328,13 @@ module _ (least : ℕ) {old mid seen : State} {result : Result (Unit {0}) Medium
               calls = tries_moved found.sizes.format shape old.content s.head (min (length s.records + 1) found.sizes.slots)
                   (mid.calls + 2) seen.calls (old.calls + 6 + copy_calls found.sizes.format s.records) new.calls
                   (copy_calls found.sizes.format s.records + 3) (omega (arith, known.passes.calls_are))
-                  (omega (arith, (all_copied s).exact, last))
-                  (rw (stood.head_is, stood.count_is) at_old.exact);
-            } in
-            record { from = from; room = at_old.room }
+                  (omega (arith, (all_copied s).exact, last)) (rw (stood.head_is, stood.count_is) at_old.exact);
+            } in (
+              record { from = from; room = at_old.room },
+              λ other array next ours image cut.
+                  let is = IsSuper-one other shape (old.content 0) ours.stands.keeps.super at_old.shape.super in
+                  rw (is, only_image new.content new.may_leave durable image cut) (moved_fresh (rw is at ours) head),
+            )
 
 -- a recovery is a part of a migration
 start_migrates : (format : LogFormat) (slots old new : ℕ) → new ≤ old + most_start_sends format slots

@@ -1,12 +1,11 @@
 //! The copying of the whole records home.
-ghost use Rattle.std.specs.Prelude.{◌≡◌, ◌<◌, ◌≤◌, ◌+◌, ◌*◌, ◌^◌, ◌++◌};
-ghost use Rattle.std.specs.Prelude.{List, ℕ, OnOk, length, [], ◌∷◌, get_or, slice_index, drop};
+ghost use Rattle.std.specs.Prelude.{◌≡◌, ◌<◌, ◌≤◌, ◌+◌, ◌*◌, ◌^◌, ◌++◌, List, ℕ, OnOk, length, []};
+ghost use Rattle.std.specs.Prelude.{◌∷◌, get_or, slice_index, drop};
 ghost use Rattle.journal.specs.Places.{first_home, sectors_of, limit_of};
 ghost use Rattle.journal.specs.Formats.{shape_of, IsWhole, HasWhole};
 ghost use Rattle.journal.specs.Record.{Entry};
-ghost use Rattle.recovery.specs.Calls.{Copies};
-ghost use Rattle.recovery.specs.Calls.{most_calls_of, IsHomeOf, IsHomeInRecord, IsHomeInRecords};
-ghost use Rattle.recovery.specs.Calls.{AreBlocks, AreCopied};
+ghost use Rattle.recovery.specs.Calls.{Copies, most_calls_of, IsHomeOf, IsHomeInRecord};
+ghost use Rattle.recovery.specs.Calls.{IsHomeInRecords, AreBlocks, AreCopied};
 ghost use Rattle.journal.specs.Reading.{data_at};
 
 use crate::found::Found;

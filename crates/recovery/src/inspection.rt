@@ -1,6 +1,6 @@
 //! A look at an image, which changes nothing.
 ghost use Rattle.std.specs.Prelude.{IfOk, IfErr};
-ghost use Rattle.recovery.specs.Inspected.{IsInspected, OnlyLooks, IsLookRefusal};
+ghost use Rattle.recovery.specs.Causes.{IsInspected, OnlyLooks, IsLookRefusal};
 
 use crate::StartFault;
 use crate::record::count_waiting;

@@ -5,9 +5,8 @@ ghost use Rattle.medium.specs.Moments.{EachCut};
 ghost use Rattle.spec.specs.Blocks.{Array};
 ghost use Rattle.journal.specs.Places.{Shape};
 ghost use Rattle.journal.specs.Standing.{IsOurs};
-ghost use Rattle.recovery.specs.Recovered.{IsRecoveredFrom, IsRecoveryRefusal};
-ghost use Rattle.recovery.specs.Recovered.{IsFresh, RecoveryLeaves};
-ghost use Rattle.recovery.specs.Recovered.{IsRecoveredAtLeast, LeavesAtLeast};
+ghost use Rattle.recovery.specs.Recovered.{IsRecoveredFrom, IsRecoveryRefusal, IsFresh};
+ghost use Rattle.recovery.specs.Recovered.{RecoveryLeaves, IsRecoveredAtLeast, LeavesAtLeast};
 ghost use Rattle.recovery.specs.Causes.{IsRefusalBy, WritesNothing};
 
 use crate::copies::copy_records;

@@ -24,19 +24,15 @@ at_block g c =
     (mod_below c.args.stamp sizes.slots sizes.some_slots) (omega (arith, inside, c.requires.blocks.few)) in
     (inside, from, omega (arith, from, low), rw c.deref.ensures.0 at c.home_of.ensures)
 
-pub copy_sector-requires-clause-from_inside : goal.copy_sector-requires-clause-from_inside
-copy_sector-requires-clause-from_inside g c =
-    omega (
-      arith,
-      (at_block g (goal.at.copy_sector-requires-clause-from_inside g c).After-first).2,
-      c.requires.fits,
-      c.loop-i.invariant.copies.moments.size_stays,
-    )
-
-pub copy_sector-requires-clause-to_inside : goal.copy_sector-requires-clause-to_inside
-copy_sector-requires-clause-to_inside g c =
-    let at = at_block g (goal.at.copy_sector-requires-clause-to_inside g c).After-first in
-    omega (arith, at.3, c.requires.blocks.inside c.loop-i.i 0 at.0, c.requires.fits, c.loop-i.invariant.copies.moments.size_stays)
+pub copy_sector-requires : goal.copy_sector-requires
+copy_sector-requires g c =
+    let at = at_block g (goal.at.copy_sector-requires g c).After-first in
+    let size = c.loop-i.invariant.copies.moments.size_stays in
+    record {
+      from_inside = omega (arith, at.2, c.requires.fits, size);
+      to_inside = omega (arith, at.3, c.requires.blocks.inside c.loop-i.i 0 at.0, c.requires.fits, size);
+      few = omega (arith, c.first.ensures.few);
+    }
 
 pub returns-in_err-copy_sector-clause-copies : goal.returns-in_err-copy_sector-clause-copies
 returns-in_err-copy_sector-clause-copies g c =

@@ -1,5 +1,5 @@
-use Rattle.std.proofs.Common.{◌≡◌, ◌∙◌, ◌+◌, ◌*◌, ◌++◌, ◌≤◌, List, [], ℕ, length, drop, get_or, refl, ap, subst, arith, rules}
-use Rattle.std.specs.Prelude.{Some}
+use Rattle.std.proofs.Common.{◌≡◌, ◌∙◌, ◌+◌, ◌*◌, ◌++◌, ◌≤◌, List, [], ℕ, length, drop, get_or, refl, ap, subst, arith}
+use Rattle.std.proofs.Common.{rules, Some}
 use Rattle.std.proofs.lemmas.Result.{on_ok_weaker}
 use Rattle.medium.specs.Medium.{Image}
 use Rattle.journal.specs.declared.log_format.LogFormat.{LogFormat}
@@ -11,8 +11,7 @@ use Rattle.journal.specs.Reading.{record_reads_of, data_at, IsReadFor, FindsReco
 use Rattle.journal.proofs.Formats.{most_is}
 use Rattle.journal.proofs.Overlay.{with_blocks-copied}
 use Rattle.recovery.specs.Calls.{AreBlocks, IsHomeOf, calls_of, most_calls_of}
-use Rattle.recovery.proofs.CopiedRecords.{number_of, long_as}
-use Rattle.recovery.proofs.JoinedCalls.{none_copies, copies_on}
+use Rattle.recovery.proofs.JoinedCalls.{number_of, long_as, none_copies, copies_on}
 use Rattle.recovery.proofs.copies.copy_record.Given as given
 use Rattle.recovery.proofs.copies.copy_record.Goals as goal
 use Rattle.recovery.proofs.copies.copy_record.Goals.{Then-branch}

@@ -1,5 +1,4 @@
-use Rattle.std.proofs.Common.{◌+◌, ◌∙◌, arith, rules, ap, replicate}
-use Rattle.std.specs.Prelude.{OnOk}
+use Rattle.std.proofs.Common.{◌+◌, ◌∙◌, arith, rules, ap, replicate, OnOk}
 use Rattle.journal.specs.Places.{new_shape, sectors_of, first_home}
 use Rattle.recovery.specs.Formatted.{IsMade, FormatLeaves, WritesImage}
 use Rattle.recovery.proofs.JoinedCalls.{image_made}

@@ -8,7 +8,7 @@ use Rattle.journal.specs.ImageFaults.{HasShape}
 use Rattle.journal.proofs.Formats.{laws_of}
 use Rattle.journal.proofs.Wholeness.{IsWhole-one}
 use Rattle.journal.proofs.StandingLaws.{count_stands}
-use Rattle.recovery.specs.Inspected.{AreCounts, IsInspected}
+use Rattle.recovery.specs.Causes.{AreCounts, IsInspected}
 use Rattle.recovery.specs.declared.inspection.Inspection.{Inspection}
 use Rattle.recovery.proofs.WholeRecovery.{served_look}
 use Rattle.recovery.proofs.JoinedCalls.{quiet_before, records_read}
@@ -37,18 +37,20 @@ pub returns-in_err-sizes-clause-err : goal.returns-in_err-sizes-clause-err
 returns-in_err-sizes-clause-err g c =
     search (rules, c.in_err-sizes.ensures.err, served_look _ _ c.in_err-sizes.field-0.0 c.in_err-sizes.ensures.err)
 
-pub returns-clause-ok : goal.returns-clause-ok
-returns-clause-ok g c =
+pub returns : goal.returns
+returns g c =
     let sizes = c.in_ok-sizes.sizes in
     let waiting = c.in_ok-waiting.waiting in
-    counts_stand _ (record { sizes = sizes; head = c.in_ok-sizes.head; waiting = waiting }) c.in_ok-sizes.ensures.ok.0
-    c.in_ok-sizes.ensures.ok.1 (quiet_before (λ n i. AreCounts (shape_of sizes) i c.in_ok-sizes.head waiting.items) _ _
-    c.read_head.ensures.quiet c.in_ok-waiting.ensures.finds.1)
-
-pub returns-clause-looks : goal.returns-clause-looks
-returns-clause-looks g c =
-    search (rules, records_read c.in_ok-sizes.sizes c.in_ok-sizes.ensures.ok.0 c.read_head.ensures c.count_waiting.ensures)
+    let counts = quiet_before (λ n i. AreCounts (shape_of sizes) i c.in_ok-sizes.head waiting.items) _ _ c.read_head.ensures.quiet
+    c.in_ok-waiting.ensures.finds.1 in
+    record {
+      ok = counts_stand _ (record { sizes = sizes; head = c.in_ok-sizes.head; waiting = waiting }) c.in_ok-sizes.ensures.ok.0
+          c.in_ok-sizes.ensures.ok.1 counts;
+      err = tt;
+      looks = (records_read sizes c.in_ok-sizes.ensures.ok.0 c.read_head.ensures c.count_waiting.ensures).only;
+      follows = search (rules, g.met.M.Medium.follows_through);
+    }
 
 pub returns-in_err-waiting-clause-looks : goal.returns-in_err-waiting-clause-looks
 returns-in_err-waiting-clause-looks g c =
-    search (rules, records_read c.in_ok-sizes.sizes c.in_ok-sizes.ensures.ok.0 c.read_head.ensures c.count_waiting.ensures)
+    (records_read c.in_ok-sizes.sizes c.in_ok-sizes.ensures.ok.0 c.read_head.ensures c.count_waiting.ensures).only

@@ -1,5 +1,4 @@
-use Rattle.std.proofs.Common.{◌+◌, ap, arith}
-use Rattle.std.specs.Prelude.{OnOk}
+use Rattle.std.proofs.Common.{◌+◌, ap, arith, OnOk}
 use Rattle.journal.specs.Places.{first_home, new_shape}
 use Rattle.recovery.specs.Formatted.{IsLaid, LayingLeaves}
 use Rattle.recovery.proofs.JoinedCalls.{image_made}

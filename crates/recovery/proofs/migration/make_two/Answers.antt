@@ -1,5 +1,5 @@
-use Rattle.std.proofs.Common.{◌≡◌, ◌≢◌, ◌⊎◌, inl, inr, ⊎_elim, ℕ, ◌+◌, ◌*◌, ◌-◌, ◌≤◌, ap, subst, ◌∙◌, rules, arith, Result}
-use Rattle.std.specs.Prelude.{replicate}
+use Rattle.std.proofs.Common.{◌≡◌, ◌≢◌, ◌⊎◌, inl, inr, ⊎_elim, ℕ, ◌+◌, ◌*◌, ◌-◌, ◌≤◌, ap, subst, ◌∙◌, rules, arith}
+use Rattle.std.proofs.Common.{Result, replicate}
 use Rattle.medium.specs.Medium.{State, Image}
 use Rattle.medium.specs.declared.fault.MediumFault.{MediumFault}
 use Rattle.medium.proofs.Moments.{at_exit}
@@ -10,8 +10,7 @@ use Rattle.journal.specs.Formats.{layout_of, shape_of}
 use Rattle.journal.proofs.Formats.{laws_of}
 use Rattle.recovery.specs.Calls.{Writes, IsBetween}
 use Rattle.recovery.specs.Recovered.{StaysFresh, IsFresh}
-use Rattle.recovery.proofs.CopiedRecords.{log_ends, zeros_fresh}
-use Rattle.recovery.proofs.JoinedCalls.{wider, writes_on, clear_writes, through_writes}
+use Rattle.recovery.proofs.JoinedCalls.{log_ends, zeros_fresh, wider, writes_on, clear_writes, through_writes}
 use Rattle.recovery.proofs.migration.make_two.Given as given
 use Rattle.recovery.proofs.migration.make_two.Goals as goal
 use Rattle.recovery.proofs.migration.make_two.Goals.{After-clear, After-move_head, After-write_through}
@@ -100,19 +99,13 @@ made g c =
 
 pub returns-in_err-clear-clause-writes : goal.returns-in_err-clear-clause-writes
 returns-in_err-clear-clause-writes g c =
-    search (
-      rules,
-      still (shape_of c.args.found.now.sizes) c.requires.least
-          (wiped g (goal.at.returns-in_err-clear-clause-writes g c).After-clear),
-    )
+    let so = wiped g (goal.at.returns-in_err-clear-clause-writes g c).After-clear in
+    search (rules, still (shape_of c.args.found.now.sizes) c.requires.least so)
 
 pub returns-in_err-move_head-clause-writes : goal.returns-in_err-move_head-clause-writes
 returns-in_err-move_head-clause-writes g c =
-    search (
-      rules,
-      still (shape_of c.args.found.now.sizes) c.requires.least
-          (headed g (goal.at.returns-in_err-move_head-clause-writes g c).After-move_head),
-    )
+    let so = headed g (goal.at.returns-in_err-move_head-clause-writes g c).After-move_head in
+    search (rules, still (shape_of c.args.found.now.sizes) c.requires.least so)
 
 pub returns-in_err-write_through-clause-writes : goal.returns-in_err-write_through-clause-writes
 returns-in_err-write_through-clause-writes g c =

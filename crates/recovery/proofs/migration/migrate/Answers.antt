@@ -1,4 +1,4 @@
-use Rattle.std.proofs.Common.{◌≡◌, inl, inr, ⊎_elim, ℕ, ◌+◌, ◌*◌, ◌<◌, length, refl, ◌∙◌, arith, rules, min, Result}
+use Rattle.std.proofs.Common.{◌≡◌, inl, inr, ⊎_elim, ℕ, ◌+◌, ◌*◌, ◌<◌, ◌≤◌, length, refl, ◌∙◌, arith, rules, min, Result}
 use Rattle.std.proofs.lemmas.Result.{err_from_is_err_and}
 use Rattle.medium.specs.Medium.{State, IsSound}
 use Rattle.medium.specs.Moments.{EachCut, LeavesOnly}
@@ -18,12 +18,12 @@ use Rattle.journal.specs.Standing.{IsOurs}
 use Rattle.journal.proofs.StandingLaws.{StandsFor-one, StandsFor-shape}
 use Rattle.recovery.specs.Calls.{Writes, copy_calls}
 use Rattle.recovery.specs.Causes.{start_fault_of, IsRefusedCall}
-use Rattle.recovery.specs.Recovered.{IsRecoveredAtLeast, IsFresh, LeavesAtLeast}
-use Rattle.recovery.specs.Recovered.{CanMigrate, IsMadeTwo, IsMigratedFrom, IsMigrationRefusal, StaysFresh, IsOursInEither, MigrationLeaves}
+use Rattle.recovery.specs.Recovered.{IsRecoveredAtLeast, IsFresh, LeavesAtLeast, CanMigrate, IsMadeTwo, IsMigratedFrom}
+use Rattle.recovery.specs.Recovered.{IsMigrationRefusal, StaysFresh, IsOursInEither, MigrationLeaves}
 use Rattle.recovery.specs.Recovered.{most_migration_sends}
 use Rattle.recovery.specs.declared.recovered.Recovered.{Recovered}
 use Rattle.recovery.proofs.WholeRecovery.{recovery_leaves, served_slots, start_on}
-use Rattle.recovery.proofs.CopiedRecords.{log_ends, AreSame, zeros_fresh, fresh_ours}
+use Rattle.recovery.proofs.JoinedCalls.{log_ends, AreSame, zeros_fresh, fresh_ours}
 use Rattle.recovery.proofs.migration.migrate.Given as given
 use Rattle.recovery.proofs.migration.migrate.Goals as goal
 use Rattle.recovery.proofs.migration.migrate.Goals.{After-make_two}
@@ -97,6 +97,10 @@ module _ {old mid : State} {found : Recovered} (start : IsRecoveredAtLeast 5 old
         pub migrated_from : new.calls ≡ mid.calls + (found.sizes.home + 3) → IsMigratedFrom old new answer
         migrated_from counted =
             let stood = start.from.stood in
+            let ends = log_ends shape stood.keeps.super.home_is in
+            let behind = λ (x : ℕ) (past : sectors_of shape ≤ x). making.spares.content x (omega (arith, past))
+            ∙ start.from.elsewhere x (λ e. omega (arith, e, past, ends)) (inr past) in
+            let ours = fresh_ours stood.fits (here_fresh start.from.array (λ b below. refl)) in
             rw is.1 (record {
               shape = shape;
               could = can_migrate;
@@ -106,9 +110,8 @@ module _ {old mid : State} {found : Recovered} (start : IsRecoveredAtLeast 5 old
               stamp_left = start.from.stamp_left;
               made = is.2;
               home = kept_home;
-              behind = λ x past. making.spares.content x (omega (arith, past))
-                  ∙ start.from.elsewhere x (λ e. omega (arith, e, past, log_ends shape stood.keeps.super.home_is)) (inr past);
-              ours = fresh_ours stood.fits (here_fresh start.from.array (λ b below. refl));
+              behind = behind;
+              ours = ours;
               calls = omega (arith, tried, counted, home_is);
             })
 
@@ -142,18 +145,14 @@ returns-in_err-make_two-clause-err g c =
 pub returns-in_err-make_two-clause-leaves : goal.returns-in_err-make_two-clause-leaves
 returns-in_err-make_two-clause-leaves g c = makes g (goal.at.returns-in_err-make_two-clause-leaves g c).After-make_two
 
-pub returns-in_ok-make_two-clause-leaves : goal.returns-in_ok-make_two-clause-leaves
-returns-in_ok-make_two-clause-leaves g c = makes g (goal.at.returns-in_ok-make_two-clause-leaves g c).After-make_two
-
-pub returns-in_ok-make_two-clause-ok : goal.returns-in_ok-make_two-clause-ok
-returns-in_ok-make_two-clause-ok g c =
+pub returns-in_ok-make_two : goal.returns-in_ok-make_two
+returns-in_ok-make_two g c =
+    let start = c.in_ok-found.ensures.ok in
+    let one = c.migrates.ensures.0 c.if-migrates.true in
     let done = c.in_ok-make_two.ensures in
-    migrated_from c.in_ok-found.ensures.ok (c.migrates.ensures.0 c.if-migrates.true) c.make_two.ensures.writes _ done.ok done.writes.exact
-
-pub returns-in_ok-make_two-clause-fresh : goal.returns-in_ok-make_two-clause-fresh
-returns-in_ok-make_two-clause-fresh g c =
-    migrated_fresh c.in_ok-found.ensures.ok (c.migrates.ensures.0 c.if-migrates.true) c.make_two.ensures.writes c.in_ok-make_two.field-0
-    c.in_ok-make_two.ensures.ok
+    let from = migrated_from start one c.make_two.ensures.writes c.in_ok-make_two.field-0 done.ok done.writes.exact in
+    let fresh = migrated_fresh start one c.make_two.ensures.writes c.in_ok-make_two.field-0 done.ok in
+    search (rules, from, fresh, makes g (goal.at.returns-in_ok-make_two g c).After-make_two, g.met.M.Medium.follows_through)
 
 pub returns-else-migrates-clause-fresh : goal.returns-else-migrates-clause-fresh
 returns-else-migrates-clause-fresh g c shape array next ours =

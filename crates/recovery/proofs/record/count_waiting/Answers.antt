@@ -1,5 +1,5 @@
 use Rattle.std.proofs.Common.{◌≡◌, ◌+◌, ◌<◌, ◌≤◌, ℕ, inl, inr, List, ◌∷◌, ◌++◌, [], length, refl, arith, rules, min}
-use Rattle.std.specs.Prelude.{slice_index}
+use Rattle.std.proofs.Common.{slice_index}
 use Rattle.std.proofs.lemmas.Bool.{cases_lt}
 use Rattle.std.proofs.lemmas.List.{length-append, get_or_append_left, get_or_push}
 use Rattle.std.proofs.lemmas.List.Sums.{sum_by_push}
@@ -13,8 +13,9 @@ use Rattle.journal.specs.Places.{Shape}
 use Rattle.journal.specs.Layout.{slot_at}
 use Rattle.journal.specs.Format2.{format2}
 use Rattle.recovery.specs.Calls.{most_reads_of}
-use Rattle.recovery.specs.Inspected.{IsTryTwo, IsTryOf, AreTriesOf, AreTries, HasCount, AreCounts}
-use Rattle.recovery.proofs.JoinedCalls.{quiet_before, quiet_after, each_once_more, looks_on}
+use Rattle.recovery.specs.Causes.{IsTryTwo, IsTryOf, AreTriesOf, AreTries, HasCount, AreCounts}
+use Rattle.journal.proofs.SectorsRead.{looks_on}
+use Rattle.recovery.proofs.JoinedCalls.{quiet_before, quiet_after, each_once_more}
 use Rattle.recovery.proofs.record.count_waiting.Given as given
 use Rattle.recovery.proofs.record.count_waiting.Goals as goal
 use Rattle.recovery.proofs.record.count_waiting.Goals.{In_ok-count}
@@ -31,8 +32,7 @@ each_pushed P xs x j long each last k below = elim (cases_lt k j) [
 no_tries : (format : LogFormat) (shape : Shape) (image : Image) (first at : ℕ) → AreTriesOf format shape image first 0 at at
 no_tries One shape image first at = omega arith
 no_tries Two shape image first at =
-    let none : at ≡ at + 0 = omega arith in
-    record { reads = []; many = refl; each = λ j below. absurd (omega (arith, below)); after_is = none }
+    record { reads = []; many = refl; each = λ j below. absurd (omega arith); after_is = omega arith }
 
 -- one more
 tries_more : (format : LogFormat) (shape : Shape) (image : Image) (first j old mid new : ℕ)

@@ -4,7 +4,7 @@ use Rattle.medium.specs.Medium.{Holds, Stays}
 use Rattle.medium.specs.Moments.{StaysWithin}
 use Rattle.medium.proofs.Moments.{started_within, gains_within, goes_on_within}
 use Rattle.recovery.specs.Calls.{cleared_at, IsBetween}
-use Rattle.recovery.proofs.CopiedRecords.{sets_within}
+use Rattle.recovery.proofs.JoinedCalls.{sets_within}
 use Rattle.recovery.proofs.sectors.clear.Given as given
 use Rattle.recovery.proofs.sectors.clear.Goals as goal
 use Rattle.recovery.proofs.sectors.clear.Goals.{After-write}
@@ -45,13 +45,9 @@ loop-sector-preserved g c =
       | inl is ↦ ap (g.M.Medium.state c.write.new.self).content is ∙ wrote.here
       | inr not ↦ wrote.elsewhere x not ∙ inv.zeros x low (omega (arith, high, not))
     ] in
-    search (
-      rules,
-      zeros,
-      one_more g (goal.at.loop-sector-preserved g c).After-write (inr wrote),
-      g.met.M.Medium.follows_through,
-      c.write.ensures.passes.looked_stays (λ e. cc e) ∙ inv.follows.looks.looked_stays,
-    )
+    let more = one_more g (goal.at.loop-sector-preserved g c).After-write (inr wrote) in
+    let looked = c.write.ensures.passes.looked_stays (λ e. cc e) ∙ inv.follows.looks.looked_stays in
+    search (rules, zeros, more, g.met.M.Medium.follows_through, looked)
 
 pub returns-in_err-write-clause-clears : goal.returns-in_err-write-clause-clears
 returns-in_err-write-clause-clears g c =
