@@ -28,7 +28,7 @@ use Rattle.recovery.specs.Calls.{IsHomeInRecords, HasNewHead, Copies, Writes, Ho
 use Rattle.recovery.specs.Causes.{WritesNothing, HasFewSlots, IsRefusalBy, IsDeviceFault, AreTriesOf, IsSurvey}
 use Rattle.recovery.specs.Causes.{SurveysAtMost, IsLookCause}
 use Rattle.recovery.specs.Recovered.{IsOursInEither, MigrationLeaves, most_migration_sends, IsRecoveryRefusal}
-use Rattle.recovery.specs.Recovered.{IsRecoveredAtLeast, IsRecoveredFrom, IsFresh, IsOursForSome, IsOursWithNext}
+use Rattle.recovery.specs.Recovered.{IsRecoveredFrom, IsFresh, IsOursForSome, IsOursWithNext}
 use Rattle.recovery.specs.Recovered.{StandsForOneOf, StandsForSome, LeavesAtLeast, StartLeaves}
 use Rattle.recovery.specs.declared.found.Found.{Found}
 use Rattle.recovery.specs.declared.start_fault.StartFault.{StartFault}
@@ -71,10 +71,6 @@ tries_moved : (format : LogFormat) (shape : Shape) (image : Image) (first tries 
     → after ≡ new + more → AreTriesOf format shape image first tries old new → AreTriesOf format shape image first tries before after
 tries_moved One shape image first tries old new before after more e f t = omega (arith, e, f, t)
 tries_moved Two shape image first tries old new before after more e f t = search (rules, t.each, t.after_is)
-
-tries_late : (format : LogFormat) (shape : Shape) (image : Image) (first tries before after : ℕ)
-    → AreTriesOf format shape image first tries before after → before ≤ after
-tries_late format shape image first tries before after t = grind (arith, t)
 
 -- how many calls a whole recovery makes at most
 most_start : (format : LogFormat) (slots old mid seen new count : ℕ) → mid ≡ old + 1 → seen ≤ mid + 2 + most_reads_of format * slots
@@ -227,7 +223,7 @@ module _ (least : ℕ) {old mid seen : State} {result : Result (Unit {0}) Medium
 
     -- a survey follows a good flush
     begun : old.calls + 2 ≤ seen.calls
-    begun = omega (arith, tries_late found.sizes.format _ _ _ _ _ _ survey.exact, known.passes.calls_are)
+    begun = let exact = survey.exact in grind (arith, exact, known.passes.calls_are)
 
     -- each sector is as it was, or is the home of a block that is copied
     copied_ours : {array : Array} {next : ℕ} → IsOurs old.size shape old.content array next
@@ -310,27 +306,27 @@ module _ (least : ℕ) {old mid seen : State} {result : Result (Unit {0}) Medium
 
       module _ (new : State) (head : HasNewHead (found.head + found.count + 1) copied.content new.content) (durable : IsFlushed new) where
         pub recovery_done : new.calls ≡ copied.calls + 3
-            → IsRecoveredAtLeast least old new (record { sizes = found.sizes; next = found.head + found.count + 1 })
-            × ((other : Shape) (array : Array) (next : ℕ) → IsOurs old.size other old.content array next
-            → EachCut (IsFresh other array next) new)
+            → IsRecoveredFrom old new (record { sizes = found.sizes; next = found.head + found.count + 1 })
+            × (¬ HasFewSlots least old.size old.content) × ((other : Shape) (array : Array) (next : ℕ)
+            → IsOurs old.size other old.content array next → EachCut (IsFresh other array next) new)
         recovery_done last =
             let s = stood.stands in
-            let ends = log_ends shape at_old.shape.super.home_is in
-            let from : IsRecoveredFrom old new (record { sizes = found.sizes; next = found.head + found.count + 1 }) = record {
-              array = stood.array;
-              stood = s;
-              stamp_left = at_old.stamp_left;
-              flushed = durable;
-              head = head.head;
-              home = λ b below. head.elsewhere (first_home shape + b) (λ e. omega (arith, e, ends)) ∙ copied_home s b below;
-              elsewhere = λ x not other. head.elsewhere x not
-                  ∙ ⊎_elim (copied_log x) (λ past. copied_spares.content x past ∙ quiet.content_stays x) other;
-              calls = tries_moved found.sizes.format shape old.content s.head (min (length s.records + 1) found.sizes.slots)
-                  (mid.calls + 2) seen.calls (old.calls + 6 + copy_calls found.sizes.format s.records) new.calls
-                  (copy_calls found.sizes.format s.records + 3) (omega (arith, known.passes.calls_are))
-                  (omega (arith, (all_copied s).exact, last)) (rw (stood.head_is, stood.count_is) at_old.exact);
-            } in (
-              record { from = from; room = at_old.room },
+            let ends = log_ends shape at_old.shape.super.home_is in (
+              record {
+                array = stood.array;
+                stood = s;
+                stamp_left = at_old.stamp_left;
+                flushed = durable;
+                head = head.head;
+                home = λ b below. head.elsewhere (first_home shape + b) (λ e. omega (arith, e, ends)) ∙ copied_home s b below;
+                elsewhere = λ x not other. head.elsewhere x not
+                    ∙ ⊎_elim (copied_log x) (λ past. copied_spares.content x past ∙ quiet.content_stays x) other;
+                calls = tries_moved found.sizes.format shape old.content s.head (min (length s.records + 1) found.sizes.slots)
+                    (mid.calls + 2) seen.calls (old.calls + 6 + copy_calls found.sizes.format s.records) new.calls
+                    (copy_calls found.sizes.format s.records + 3) (omega (arith, known.passes.calls_are))
+                    (omega (arith, (all_copied s).exact, last)) (rw (stood.head_is, stood.count_is) at_old.exact);
+              },
+              at_old.room,
               λ other array next ours image cut.
                   let is = IsSuper-one other shape (old.content 0) ours.stands.keeps.super at_old.shape.super in
                   rw (is, only_image new.content new.may_leave durable image cut) (moved_fresh (rw is at ours) head),

@@ -84,22 +84,17 @@ IsDeviceFault fault = (kind : MediumFault) × (fault ≡ start_fault_of kind)
 
 -- of the record of a stamp in the slot of format 2 that begins at this sector
 module _ (image : Image) (at stamp : ℕ) where
-  -- How many sectors are read behind a commit of count blocks: descriptors up to the first bad
-  -- one; or all of them, where they name no such blocks; or all of them, and data places up to the
-  -- first bad one.
-  abbrev pub IsReadBehind : ℕ → ℕ → ℕ → Type 0
-  IsReadBehind blocks count reads =
-      IsReadInVain image at stamp blocks count reads
-      ⊎ (NamesBlocks image at stamp blocks count × (places : ℕ)
-      × ReadsUpToBad (HasPlace image at stamp) count places
-      × (reads ≡ descriptors_of count + places))
-
-  -- how many are read in all: the commit, and where it is there, what is read behind it
+  -- How many sectors are read in all: the commit, and where it is there, descriptors up to the first
+  -- bad one; or all of them, where they name no such blocks; or all of them, and data places up to
+  -- the first bad one.
   abbrev pub IsReadInSlot : ℕ → ℕ → Type 0
   IsReadInSlot blocks reads =
       (((count : ℕ) → ¬ IsCommitted image at stamp count) × (reads ≡ 1))
       ⊎ ((count : ℕ) × IsCommitted image at stamp count × (behind : ℕ)
-      × IsReadBehind blocks count behind × (reads ≡ 1 + behind))
+      × (IsReadInVain image at stamp blocks count behind
+      ⊎ (NamesBlocks image at stamp blocks count × (places : ℕ)
+      × ReadsUpToBad (HasPlace image at stamp) count places
+      × (behind ≡ descriptors_of count + places))) × (reads ≡ 1 + behind))
 
   -- So many sectors, and no other number of them, are read to tell whether the record is whole.
   pub record IsTryTwo (blocks reads : ℕ) : Type 0 where

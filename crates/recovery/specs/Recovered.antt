@@ -134,11 +134,6 @@ pub record IsRecoveryRefusal (old new : State) (fault : StartFault) : Type 0 whe
   pub served : (shape : Shape) (array : Array) (next : ℕ)
       → StandsFor old.size shape old.content array next → next < 2 ^ 63 → IsDeviceFault fault
 
--- A recovery that wants at least this many slots in a log of format 1 found them.
-pub record IsRecoveredAtLeast (least : ℕ) (old new : State) (answer : Recovered) : Type 0 where
-  pub from : IsRecoveredFrom old new answer
-  pub room : ¬ HasFewSlots least old.size old.content
-
 -- a log of format 1 in which a slot of format 2 has room
 pub record CanMigrate (shape : Shape) : Type 0 where
   pub one : shape.format ≡ One

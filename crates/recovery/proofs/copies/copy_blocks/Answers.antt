@@ -6,12 +6,11 @@ use Rattle.journal.specs.Formats.{layout_of, shape_of}
 use Rattle.journal.specs.Reading.{data_at}
 use Rattle.journal.proofs.SectorsRead.{place_before}
 use Rattle.recovery.proofs.JoinedCalls.{copies_on}
-use Rattle.recovery.proofs.copies.copy_blocks.Given as given
 use Rattle.recovery.proofs.copies.copy_blocks.Goals as goal
 use Rattle.recovery.proofs.copies.copy_blocks.Goals.{After-first}
 
 -- the sector that is read has the data of the block and stands in the log, and the one that is written is its home
-at_block : (g : given.Over) (c : After-first g) → (c.loop-i.i < length c.args.read.now.numbers.items)
+at_block : (g : _) (c : After-first g) → (c.loop-i.i < length c.args.read.now.numbers.items)
     × (c.copy_place.result ≡ data_at (shape_of c.args.sizes.now) c.args.stamp c.loop-i.i)
     × (c.copy_place.result < first_home (shape_of c.args.sizes.now))
     × (c.home_of.result ≡ first_home (shape_of c.args.sizes.now) + get_or c.args.read.now.numbers.items c.loop-i.i 0)

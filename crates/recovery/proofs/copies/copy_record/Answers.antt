@@ -12,7 +12,6 @@ use Rattle.journal.proofs.Formats.{most_is}
 use Rattle.journal.proofs.Overlay.{with_blocks-copied}
 use Rattle.recovery.specs.Calls.{AreBlocks, IsHomeOf, calls_of, most_calls_of}
 use Rattle.recovery.proofs.JoinedCalls.{number_of, long_as, none_copies, copies_on}
-use Rattle.recovery.proofs.copies.copy_record.Given as given
 use Rattle.recovery.proofs.copies.copy_record.Goals as goal
 use Rattle.recovery.proofs.copies.copy_record.Goals.{Then-branch}
 
@@ -27,12 +26,12 @@ most_copied : (format : LogFormat) (n : ℕ) → n ≤ limit_of format → recor
 most_copied format n few = grind arith
 
 -- what was found of the record
-found : (g : given.Over) (c : Then-branch g) → FindsRecord (shape_of c.args.sizes.now) c.args.stamp (g.M.Medium.state c.args.m.now)
+found : (g : _) (c : Then-branch g) → FindsRecord (shape_of c.args.sizes.now) c.args.stamp (g.M.Medium.state c.args.m.now)
     (g.M.Medium.state c.read_record.new.m) (Some c.read_record.new.to)
 found g c = rw c.if-branch.true at c.in_ok-read_record.ensures.finds
 
 -- the numbers that were read are those of blocks
-blocks : (g : given.Over) (c : Then-branch g) → AreBlocks (shape_of c.args.sizes.now) c.read_record.new.to.numbers.items
+blocks : (g : _) (c : Then-branch g) → AreBlocks (shape_of c.args.sizes.now) c.read_record.new.to.numbers.items
 blocks g c =
     let entries = c.requires.whole.0 in
     let fit = c.requires.whole.1.fit in

@@ -11,7 +11,6 @@ use Rattle.journal.proofs.Formats.{laws_of}
 use Rattle.recovery.specs.Calls.{Writes, IsBetween}
 use Rattle.recovery.specs.Recovered.{StaysFresh, IsFresh}
 use Rattle.recovery.proofs.JoinedCalls.{log_ends, zeros_fresh, wider, writes_on, clear_writes, through_writes}
-use Rattle.recovery.proofs.migration.make_two.Given as given
 use Rattle.recovery.proofs.migration.make_two.Goals as goal
 use Rattle.recovery.proofs.migration.make_two.Goals.{After-clear, After-move_head, After-write_through}
 
@@ -43,7 +42,7 @@ still : {X : Type 0} {before : Image} {next end count : ℕ} {old new : State} {
 still shape least so = wider _ _ (λ image is array fresh. inl (still_fresh least is fresh)) (omega arith) so
 
 -- while the log is wiped
-wiped : (g : given.Over) (c : After-clear g) → Writes
+wiped : (g : _) (c : After-clear g) → Writes
     (IsWiped (shape_of c.args.found.now.sizes) c.args.found.now.next (g.M.Medium.state c.args.m.now).content)
     c.args.found.now.sizes.home (c.args.found.now.sizes.home - 2) (g.M.Medium.state c.args.m.now) (g.M.Medium.state c.clear.new.m)
     c.clear.result
@@ -56,7 +55,7 @@ wiped g c =
     ))
 
 -- and the head is written
-headed : (g : given.Over) (c : After-move_head g) → Writes
+headed : (g : _) (c : After-move_head g) → Writes
     (IsWiped (shape_of c.args.found.now.sizes) c.args.found.now.next (g.M.Medium.state c.args.m.now).content)
     c.args.found.now.sizes.home (c.args.found.now.sizes.home + 1) (g.M.Medium.state c.args.m.now) (g.M.Medium.state c.move_head.new.m)
     c.move_head.result
@@ -71,7 +70,7 @@ headed g c =
     (omega (arith, ends)) c.move_head.ensures.writes) (omega (arith, ends)) (search rules) (search (rules, arith, ends))
 
 -- and the super of format 2
-made : (g : given.Over) (c : After-write_through g) → Writes
+made : (g : _) (c : After-write_through g) → Writes
     (StaysFresh (shape_of c.args.found.now.sizes) c.args.found.now.next (g.M.Medium.state c.args.m.now).content)
     c.args.found.now.sizes.home (c.args.found.now.sizes.home + 3) (g.M.Medium.state c.args.m.now)
     (g.M.Medium.state c.write_through.new.m) c.write_through.result

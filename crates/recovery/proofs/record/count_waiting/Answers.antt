@@ -16,7 +16,6 @@ use Rattle.recovery.specs.Calls.{most_reads_of}
 use Rattle.recovery.specs.Causes.{IsTryTwo, IsTryOf, AreTriesOf, AreTries, HasCount, AreCounts}
 use Rattle.journal.proofs.SectorsRead.{looks_on}
 use Rattle.recovery.proofs.JoinedCalls.{quiet_before, quiet_after, each_once_more}
-use Rattle.recovery.proofs.record.count_waiting.Given as given
 use Rattle.recovery.proofs.record.count_waiting.Goals as goal
 use Rattle.recovery.proofs.record.count_waiting.Goals.{In_ok-count}
 
@@ -48,7 +47,7 @@ tries_more Two shape image first j old mid new before last = record {
 }
 
 -- one stamp more was tried
-one_more : (g : given.Over) (c : In_ok-count g) → AreTries (shape_of c.args.sizes.now) (g.M.Medium.state c.args.m.now).content
+one_more : (g : _) (c : In_ok-count g) → AreTries (shape_of c.args.sizes.now) (g.M.Medium.state c.args.m.now).content
     c.args.head (c.loop-j.j + 1) (g.M.Medium.state c.args.m.now).calls (g.M.Medium.state c.count_blocks.new.m).calls
 one_more g c =
     let shape = shape_of c.args.sizes.now in

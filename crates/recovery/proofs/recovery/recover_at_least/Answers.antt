@@ -5,17 +5,16 @@ use Rattle.journal.specs.Formats.{shape_of, HasWhole}
 use Rattle.recovery.specs.Recovered.{LeavesAtLeast}
 use Rattle.recovery.proofs.JoinedCalls.{log_ends, quiet_after}
 use Rattle.recovery.proofs.WholeRecovery.{IsSurveyed, survey_leaves, copies_leave, moves_leave, recovery_done, refusal}
-use Rattle.recovery.proofs.recovery.recover_at_least.Given as given
 use Rattle.recovery.proofs.recovery.recover_at_least.Goals as goal
 use Rattle.recovery.proofs.recovery.recover_at_least.Goals.{After-inspect, After-move_head}
 
 -- the flush and the survey
-survey : (g : given.Over) (c : After-inspect g)
+survey : (g : _) (c : After-inspect g)
     → IsSurveyed c.flush.result (g.M.Medium.state c.args.m.now) (g.M.Medium.state c.flush.new.self) (g.M.Medium.state c.inspect.new.m)
 survey g c = search (rules, g.met.M.Medium.sound)
 
 -- and the copies and the new head
-moved : (g : given.Over) (c : After-move_head g)
+moved : (g : _) (c : After-move_head g)
     → LeavesAtLeast c.args.least (g.M.Medium.state c.args.m.now) (g.M.Medium.state c.move_head.new.m)
 moved g c = moves_leave c.args.least (survey g (goal.at.After-move_head g c).After-inspect) c.in_ok-found.ensures.ok
     (g.met.M.Medium.sound c.copy_records.new.m) c.copy_records.ensures.copies c.in_ok-copy_records.ensures.done c.move_head.ensures.writes

@@ -5,12 +5,11 @@ use Rattle.medium.specs.Moments.{StaysWithin}
 use Rattle.medium.proofs.Moments.{started_within, gains_within, goes_on_within}
 use Rattle.recovery.specs.Calls.{cleared_at, IsBetween}
 use Rattle.recovery.proofs.JoinedCalls.{sets_within}
-use Rattle.recovery.proofs.sectors.clear.Given as given
 use Rattle.recovery.proofs.sectors.clear.Goals as goal
 use Rattle.recovery.proofs.sectors.clear.Goals.{After-write}
 
 -- what is left while one sector more is cleared, and what the others hold
-one_more : (g : given.Over) (c : After-write g)
+one_more : (g : _) (c : After-write g)
     → Stays (g.M.Medium.state c.loop-sector.m).content (g.M.Medium.state c.write.new.self).content
     ⊎ Holds c.loop-sector.sector (replicate 512 0) (g.M.Medium.state c.loop-sector.m).content (g.M.Medium.state c.write.new.self).content
     → StaysWithin (cleared_at (IsBetween c.args.from c.args.end) (g.M.Medium.state c.args.m.now).may_leave)

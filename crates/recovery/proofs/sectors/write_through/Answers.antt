@@ -2,12 +2,11 @@ use Rattle.std.proofs.Common.{◌≢◌, ℕ, inl, ⊎_elim, ◌∙◌, rules}
 use Rattle.medium.specs.Moments.{LeavesOnly}
 use Rattle.medium.proofs.Moments.{one_call, goes_on, after_write, shrunk}
 use Rattle.recovery.specs.Calls.{WithOrWithout}
-use Rattle.recovery.proofs.sectors.write_through.Given as given
 use Rattle.recovery.proofs.sectors.write_through.Goals as goal
 use Rattle.recovery.proofs.sectors.write_through.Goals.{After-write}
 
 -- the write
-written : (g : given.Over) (c : After-write g)
+written : (g : _) (c : After-write g)
     → LeavesOnly (WithOrWithout c.args.place c.args.sector.now (g.M.Medium.state c.args.m.now).may_leave) (g.M.Medium.state c.args.m.now)
     (g.M.Medium.state c.write.new.self)
 written g c =

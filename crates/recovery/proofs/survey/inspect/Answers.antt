@@ -6,12 +6,11 @@ use Rattle.journal.proofs.SectorNumbers.{IsSuper-one}
 use Rattle.journal.proofs.StandingLaws.{count_stands}
 use Rattle.recovery.specs.Causes.{HasFewSlots}
 use Rattle.recovery.proofs.JoinedCalls.{records_read}
-use Rattle.recovery.proofs.survey.inspect.Given as given
 use Rattle.recovery.proofs.survey.inspect.Goals as goal
 use Rattle.recovery.proofs.survey.inspect.Goals.{After-len-count}
 
 -- the count is that of the image as it was, and the log has slots enough
-counted : (g : given.Over) (c : After-len-count g)
+counted : (g : _) (c : After-len-count g)
     → IsCount (shape_of c.in_ok-sizes.sizes) (g.M.Medium.state c.args.m.now).content c.in_ok-sizes.head c.len-count.result
     × (¬ HasFewSlots c.args.least (g.M.Medium.state c.args.m.now).size (g.M.Medium.state c.args.m.now).content)
 counted g c =
