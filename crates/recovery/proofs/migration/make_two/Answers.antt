@@ -1,7 +1,6 @@
 use Rattle.std.proofs.Common.{◌≡◌, ◌≢◌, ◌⊎◌, inl, inr, ⊎_elim, ℕ, ◌+◌, ◌*◌, ◌-◌, ◌≤◌, ap, subst, ◌∙◌, rules, arith}
 use Rattle.std.proofs.Common.{Result, replicate}
 use Rattle.medium.specs.Medium.{State, Image}
-use Rattle.medium.specs.declared.fault.MediumFault.{MediumFault}
 use Rattle.medium.proofs.Moments.{at_exit}
 use Rattle.spec.specs.Blocks.{Array}
 use Rattle.journal.specs.Places.{Shape, first_home, migrated}
@@ -37,7 +36,7 @@ still_fresh {shape = shape} {before = before} {image = image} least wiped fresh 
     }
 
 -- so where an image may have become format 2
-still : {X : Type 0} {before : Image} {next end count : ℕ} {old new : State} {result : Result X MediumFault} (shape : Shape) → 1 ≤ next
+still : {X : Type 0} {before : Image} {next end count : ℕ} {old new : State} {result : Result X _} (shape : Shape) → 1 ≤ next
     → Writes (IsWiped shape next before) end count old new result → Writes (StaysFresh shape next before) end count old new result
 still shape least so = wider _ _ (λ image is array fresh. inl (still_fresh least is fresh)) (omega arith) so
 
