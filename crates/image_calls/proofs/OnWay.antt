@@ -11,8 +11,8 @@ use Rattle.journal.specs.Places.{Shape, first_home, sectors_of, new_shape}
 use Rattle.journal.specs.Record.{home_of}
 use Rattle.journal.specs.Standing.{IsOurs}
 use Rattle.recovery.specs.Calls.{cleared_at, WithOrWithout, IsBetween}
-use Rattle.recovery.specs.Formatted.{FormatLeaves, AreSizes, IsNoneOrNew, IsMidway, ImageLeaves, IsLaid}
-use Rattle.recovery.specs.Formatted.{LayingLeaves}
+use Rattle.recovery.specs.Calls.{FormatLeaves, AreSizes, IsNoneOrNew, IsMidway, ImageLeaves, IsLaid}
+use Rattle.recovery.specs.Calls.{LayingLeaves}
 use Rattle.recovery.proofs.JoinedCalls.{sets_within, through_spares, clear_spares}
 use Rattle.image_calls.specs.Parts.{IsUnderWay, IsMadeAnew}
 

@@ -23,7 +23,8 @@ use Rattle.journal.specs.Staged.{View, Resting}
 use Rattle.journal.proofs.Engine.{rests_found}
 use Rattle.journal.proofs.Overlay.{with_records-same, records-hide}
 use Rattle.recovery.specs.Calls.{IsHomeOf, IsHomeInRecord, IsHomeInRecords, Copies, freed_at, most_reads_of, LooksAtLog}
-use Rattle.recovery.specs.Calls.{WritesAllPass, FollowsBy, Writes, cleared_at, WithOrWithout, IsBetween}
+use Rattle.recovery.specs.Calls.{WritesAllPass, FollowsBy, Writes, cleared_at, WithOrWithout, IsBetween, IsNoneOrNew}
+use Rattle.recovery.specs.Calls.{IsMidway, ImageLeaves, IsMade, IsWritten, IsNoneOrWritten, WritesImage}
 use Rattle.recovery.specs.Recovered.{IsFresh}
 use Rattle.medium.specs.declared.fault.MediumFault.{MediumFault}
 use Rattle.medium.proofs.CallsSent.{none_sent}
@@ -36,7 +37,6 @@ use Rattle.recovery.specs.declared.start_fault.StartFault.{StartFault}
 use Rattle.journal.proofs.SectorNumbers.{IsSuper-one}
 use Rattle.std.proofs.lemmas.Result.{on_ok_weaker}
 use Rattle.medium.specs.declared.fault.MediumFault.TheVariants.{Read, Flush}
-use Rattle.recovery.specs.Formatted.{IsNoneOrNew, IsMidway, ImageLeaves, IsMade, IsWritten, IsNoneOrWritten, WritesImage}
 
 -- what a cut may leave in one sector an image has there that it may leave
 image_with : (m : State) (s : ℕ) (c : List ℕ) → IsSound m → m.may_leave s c

@@ -5,7 +5,6 @@ use Rattle.medium.specs.Medium.{State, Image, CutLeaves, Stays, Within, Only, Pa
 use Rattle.medium.specs.Moments.{EachCut, IsFlushed, LeavesOnly, IsQuiet, SparesFrom}
 use Rattle.medium.specs.Sent.{SendsUpTo}
 use Rattle.medium.specs.declared.fault.MediumFault.{MediumFault}
-use Rattle.medium.specs.declared.fault.MediumFault.TheVariants.{Flush}
 use Rattle.spec.specs.Blocks.{Array}
 use Rattle.medium.proofs.CallsSent.{none_sent, flush_sends}
 use Rattle.medium.proofs.Moments.{joined_same, weaker, at_exit, only_image, quiet_call, quiet_joined, quiet_leaves}
@@ -28,8 +27,8 @@ use Rattle.recovery.specs.Calls.{IsHomeInRecords, HasNewHead, Copies, Writes, Ho
 use Rattle.recovery.specs.Causes.{WritesNothing, HasFewSlots, IsRefusalBy, IsDeviceFault, AreTriesOf, IsSurvey}
 use Rattle.recovery.specs.Causes.{SurveysAtMost, IsLookCause}
 use Rattle.recovery.specs.Recovered.{IsOursInEither, MigrationLeaves, most_migration_sends, IsRecoveryRefusal}
-use Rattle.recovery.specs.Recovered.{IsRecoveredFrom, IsFresh, IsOursForSome, IsOursWithNext}
-use Rattle.recovery.specs.Recovered.{StandsForOneOf, StandsForSome, LeavesAtLeast, StartLeaves}
+use Rattle.recovery.specs.Recovered.{IsRecoveredFrom, IsFresh, IsOursForSome, IsOursWithNext, StandsForOneOf}
+use Rattle.recovery.specs.Recovered.{StandsForSome, LeavesAtLeast, StartLeaves}
 use Rattle.recovery.specs.declared.found.Found.{Found}
 use Rattle.recovery.specs.declared.start_fault.StartFault.{StartFault}
 use Rattle.recovery.specs.declared.start_fault.StartFault.TheVariants.{NoMemory, StampsUsedUp, LogTooSmall, Read, Write, Flush}
@@ -85,7 +84,7 @@ most_of format slots few = (grind arith, grind arith)
 -- a flush was made, and behind a good one a survey
 pub record IsSurveyed (result : Result (Unit {0}) MediumFault) (old mid seen : State) : Type 0 where
   pub sound : IsSound old
-  pub passes : Passes Flush result old mid
+  pub passes : Passes medium.Flush result old mid
   pub content : Stays old.content mid.content
   pub sets : Within mid.may_leave old.may_leave
   pub sound_mid : IsSound mid

@@ -1,4 +1,3 @@
 pub mod Calls
 pub mod Causes
-pub mod Formatted
 pub mod Recovered

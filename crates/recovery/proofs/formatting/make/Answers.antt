@@ -1,6 +1,6 @@
 use Rattle.std.proofs.Common.{◌+◌, ◌∙◌, arith, rules, ap, replicate, OnOk}
 use Rattle.journal.specs.Places.{new_shape, sectors_of, first_home}
-use Rattle.recovery.specs.Formatted.{IsMade, FormatLeaves, WritesImage}
+use Rattle.recovery.specs.Calls.{IsMade, FormatLeaves, WritesImage}
 use Rattle.recovery.proofs.JoinedCalls.{image_made}
 use Rattle.recovery.proofs.formatting.make.Goals as goal
 use Rattle.recovery.proofs.formatting.make.Goals.{After-write_image}

@@ -3,8 +3,7 @@ use Rattle.std.proofs.lemmas.Result.{on_ok_weaker}
 use Rattle.medium.specs.Medium.{Image, Holds, CutLeaves}
 use Rattle.medium.proofs.Moments.{at_exit}
 use Rattle.journal.specs.Formats.{shape_of}
-use Rattle.recovery.specs.Calls.{Writes}
-use Rattle.recovery.specs.Formatted.{IsWritten, IsNoneOrWritten}
+use Rattle.recovery.specs.Calls.{Writes, IsWritten, IsNoneOrWritten}
 use Rattle.recovery.proofs.JoinedCalls.{wider, writes_on, through_writes, clear_writes, made_image}
 use Rattle.recovery.proofs.formatting.write_image.Goals as goal
 use Rattle.recovery.proofs.formatting.write_image.Goals.{After-write_through, After-clear, After-write_through-2}
