@@ -39,13 +39,10 @@ use Rattle.journal.proofs.FaultLaws.{HasFault-stands}
 
 -- a look at contents that stand for something is refused by the device
 pub served_look : (old new : State) (fault : StartFault) → IsLookCause old new fault → Stands old.size old.content → IsDeviceFault fault
-served_look old new Read h s = (medium.Read, refl)
-served_look old new Write h s = (medium.Write, refl)
-served_look old new Flush h s = (medium.Flush, refl)
 served_look old new NoMemory h s = absurd h
 served_look old new fault h s =
     let faultless = λ (f : image.ImageFault) (h : image.HasFault old.size old.content f). HasFault-stands old.size old.content f h s in
-    absurd (search (rules, faultless))
+    search (rules, faultless, h)
 
 -- and so is a start, with a stamp left and enough slots
 module _ (least : ℕ) (old new : State) (shape : Shape) (array : Array) (next : ℕ) (s : StandsFor old.size shape old.content array next)
