@@ -33,7 +33,6 @@ use Rattle.journal.specs.declared.super_sector.Super.{Super}
 use Rattle.journal.specs.ImageFaults.{HasShape}
 use Rattle.journal.specs.Reading.{IsRefusedCall, LooksUp}
 use Rattle.recovery.specs.Causes.{SurveysAtMost, LooksAtFirst}
-use Rattle.recovery.specs.declared.start_fault.StartFault.{StartFault}
 use Rattle.journal.proofs.SectorNumbers.{IsSuper-one}
 use Rattle.std.proofs.lemmas.Result.{on_ok_weaker}
 use Rattle.medium.specs.declared.fault.MediumFault.TheVariants.{Read, Flush}
@@ -221,7 +220,7 @@ head_looked {old} {mid} {new} sizes has quiet looks passes content sets head =
 
 -- the super and the head are read, and then what shows whether records are whole
 pub records_read : {M X Y : Type 0} {state : M → State} {Follows : M → M → Type 0} {Has : State → Y → Type 0}
-    {F : State → State → X → Type 0} {old mid new : M} {first : Result Y StartFault} {result : Result X MediumFault} (sizes : Super)
+    {F : State → State → X → Type 0} {old mid new : M} {first : Result Y _} {result : Result X MediumFault} (sizes : Super)
     → HasShape (state old).size (shape_of sizes) (state old).content → LooksAtFirst state Follows Has 2 old mid first
     → LooksUp state Follows (most_reads_of sizes.format * sizes.slots) (λ s. s < first_home (shape_of sizes)) F mid new result
     → SurveysAtMost (state old) (state new)

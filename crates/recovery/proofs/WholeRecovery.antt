@@ -29,7 +29,6 @@ use Rattle.recovery.specs.Causes.{SurveysAtMost, IsLookCause}
 use Rattle.recovery.specs.Recovered.{IsOursInEither, MigrationLeaves, most_migration_sends, IsRecoveryRefusal}
 use Rattle.recovery.specs.Recovered.{IsRecoveredFrom, IsFresh, IsOursForSome, IsOursWithNext, StandsForOneOf}
 use Rattle.recovery.specs.Recovered.{StandsForSome, LeavesAtLeast, StartLeaves}
-use Rattle.recovery.specs.declared.found.Found.{Found}
 use Rattle.recovery.specs.declared.start_fault.StartFault.{StartFault}
 use Rattle.recovery.specs.declared.start_fault.StartFault.TheVariants.{NoMemory, StampsUsedUp, LogTooSmall, Read, Write, Flush}
 use Rattle.recovery.proofs.JoinedCalls.{log_ends, not_in_log, spared_by, AreSame, copies_ours, fresh_ours, quiet_before}
@@ -191,7 +190,7 @@ module _ (least : ℕ) {old mid seen : State} {result : Result (Unit {0}) Medium
       let same = λ (f : image.ImageFault). back (λ n i. image.HasFault n i f) in
       search (rules, same, wrote_nothing)
 
-  module _ {copied : State} {found : Found} {copies : Result (Unit {0}) MediumFault}
+  module _ {copied : State} {found : _} {copies : Result (Unit {0}) MediumFault}
       (survey : IsSurvey least mid.size mid.content mid.calls seen.calls found) (sound : IsSound copied)
       (copying : Copies (IsHomeInRecords (shape_of found.sizes) seen.content found.head found.count)
       (λ s. s < first_home (shape_of found.sizes)) (most_calls_of found.sizes.format * found.count)

@@ -66,14 +66,11 @@ returns-clause-image g c =
     let before = headed g at.After-write_through-2 in
     let head = c.in_ok-write_through-2.ensures.done.1 in
     let none = at_exit _ _ _ (g.met.M.Medium.sound c.write_through-2.new.m) before.moments in
-    let super : Writes (IsNoneOrWritten (shape_of c.args.sizes.now) c.args.end
-    (g.M.Medium.state c.args.m.now).content) c.args.end 2 (g.M.Medium.state c.write_through-2.new.m)
-    (g.M.Medium.state c.write_through-3.new.m) c.write_through-3.result =
-    through_writes (g.met.M.Medium.sound c.write_through-3.new.m) (omega (arith, home, c.requires.log)) last.writes last.follows
-    (λ image cut. inl (none image cut)) (λ was image cut holds. inr (written g at.After-write_through-3 image
-    (record { here = holds.here; elsewhere = λ t not. holds.elsewhere t not ∙ head t (was t) (cut t) }))) in
     made_image (first g at.After-write_through) c.in_ok-write_through.ensures.writes.exact
-    (writes_on {most = c.args.end + 3} {result = c.write_through-3.result} (wider _ _ (λ image is. inl is) (omega arith) before) super
+    (writes_on {most = c.args.end + 3} {result = c.write_through-3.result} (wider _ _ (λ image is. inl is) (omega arith) before)
+    (through_writes (g.met.M.Medium.sound c.write_through-3.new.m) (omega (arith, home, c.requires.log)) last.writes last.follows
+    (λ image cut. inl (none image cut)) (λ was image cut holds. inr (written g at.After-write_through-3 image
+    (record { here = holds.here; elsewhere = λ t not. holds.elsewhere t not ∙ head t (was t) (cut t) }))))
     (omega arith) (search rules) (search (rules, arith))) (omega arith) (search rules) (search (rules, arith))
     (on_ok_weaker c.write_through-3.result (λ done. (written g at.After-write_through-3 _ done.0, done.1)) last.done)
 

@@ -4,7 +4,6 @@ use Rattle.medium.specs.Medium.{State, IsSound}
 use Rattle.medium.specs.Moments.{EachCut, LeavesOnly}
 use Rattle.spec.specs.Blocks.{Array}
 use Rattle.medium.specs.Sent.{SendsUpTo}
-use Rattle.medium.specs.declared.fault.MediumFault.{MediumFault}
 use Rattle.medium.specs.declared.fault.MediumFault.TheVariants as medium
 use Rattle.medium.proofs.Moments.{weaker, only_image}
 use Rattle.medium.proofs.SectorsRead.{no_looks}
@@ -27,7 +26,8 @@ use Rattle.recovery.proofs.JoinedCalls.{log_ends, AreSame, zeros_fresh, fresh_ou
 use Rattle.recovery.proofs.migration.migrate.Goals as goal
 use Rattle.recovery.proofs.migration.migrate.Goals.{After-make_two}
 
-module _ {old mid : State} {found : Recovered} (start : IsRecoveredFrom old mid found × (¬ HasFewSlots 5 old.size old.content)) (one : found.sizes.format ≡ One) where
+module _ {old mid : State} {found : _} (start : IsRecoveredFrom old mid found × (¬ HasFewSlots 5 old.size old.content))
+    (one : found.sizes.format ≡ One) where
   abbrev shape : Shape
   shape = shape_of found.sizes
 
@@ -47,7 +47,7 @@ module _ {old mid : State} {found : Recovered} (start : IsRecoveredFrom old mid 
   home_is : found.sizes.home ≡ 2 + 50 * found.sizes.slots
   home_is = let home = rw one at found.sizes.home_is in omega (arith, home)
 
-  module _ {new : State} {made : Result Recovered MediumFault}
+  module _ {new : State} {made : Result Recovered _}
       (making : Writes (StaysFresh (shape_of found.sizes) found.next mid.content) found.sizes.home (found.sizes.home + 3) mid new made)
     where
       -- the home sectors hold what recovery left there
@@ -115,7 +115,7 @@ module _ {old mid : State} {found : Recovered} (start : IsRecoveredFrom old mid 
             })
 
 -- such a call refuses a start
-call_refuses : (old new : State) (kind : MediumFault) → IsRefusedCall old new kind → IsMigrationRefusal old new (start_fault_of kind)
+call_refuses : (old new : State) (kind : _) → IsRefusedCall old new kind → IsMigrationRefusal old new (start_fault_of kind)
 call_refuses old new medium.Read h = search rules
 call_refuses old new kind h = search rules
 
