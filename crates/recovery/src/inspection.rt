@@ -27,6 +27,7 @@ pub struct Inspection {
 /// # Errors
 /// The faults of the image that `recover` names, in the same order. That no stamp is left is none
 /// here: it says nothing of what the image stands for.
+#[tactic(auto, using(crate::proofs::WholeRecovery::served_look))]
 pub fn inspect<M: Medium>(m: &mut M) -> Result<Inspection, StartFault>
     ensures ok { IfOk result (IsInspected (M.state m.old)) }
     ensures err { IfErr result (IsLookRefusal (M.state m.old) (M.state m.new)) }

@@ -42,11 +42,6 @@ returns-in_err-read_record-clause-copies g c =
     none_copies (g.met.M.Medium.sound c.args.m.now) c.read_record.ensures (omega (arith, most_copied c.args.sizes.now.format 0))
     (search rules)
 
--- there is a record
-pub returns-else-branch : goal.returns-else-branch
-returns-else-branch g c =
-    absurd ((rw c.if-branch.false at c.in_ok-read_record.ensures.finds).all c.requires.whole.0 c.requires.whole.1)
-
 pub returns-then-branch-clause-copies : goal.returns-then-branch-clause-copies
 returns-then-branch-clause-copies g c =
     let at = (goal.at.returns-then-branch-clause-copies g c).Then-branch in

@@ -6,13 +6,8 @@ use Rattle.journal.proofs.Formats.{laws_of}
 use Rattle.journal.proofs.Wholeness.{IsWhole-one}
 use Rattle.journal.proofs.StandingLaws.{count_stands}
 use Rattle.recovery.specs.Causes.{AreCounts}
-use Rattle.recovery.proofs.WholeRecovery.{served_look}
 use Rattle.recovery.proofs.JoinedCalls.{quiet_before, records_read}
 use Rattle.recovery.proofs.inspection.inspect.Goals as goal
-
-pub returns-in_err-sizes-clause-err : goal.returns-in_err-sizes-clause-err
-returns-in_err-sizes-clause-err g c =
-    search (rules, c.in_err-sizes.ensures.err, served_look _ _ c.in_err-sizes.field-0.0 c.in_err-sizes.ensures.err)
 
 pub returns : goal.returns
 returns g c =

@@ -1,7 +1,7 @@
 use Rattle.std.proofs.Common.{◌≡◌, inl, inr, ⊎_elim, ℕ, ◌+◌, ◌*◌, ◌<◌, ◌≤◌, length, refl, ◌∙◌, arith, rules, min, Result}
 use Rattle.std.proofs.lemmas.Result.{err_from_is_err_and}
 use Rattle.medium.specs.Medium.{State, IsSound}
-use Rattle.medium.specs.Moments.{EachCut, LeavesOnly}
+use Rattle.medium.specs.Moments.{EachCut}
 use Rattle.spec.specs.Blocks.{Array}
 use Rattle.medium.specs.Sent.{SendsUpTo}
 use Rattle.medium.specs.declared.fault.MediumFault.TheVariants as medium
@@ -18,8 +18,7 @@ use Rattle.journal.proofs.StandingLaws.{StandsFor-one, StandsFor-shape}
 use Rattle.recovery.specs.Calls.{Writes, copy_calls}
 use Rattle.recovery.specs.Causes.{HasFewSlots, start_fault_of, IsRefusedCall}
 use Rattle.recovery.specs.Recovered.{IsRecoveredFrom, IsFresh, LeavesAtLeast, CanMigrate, IsMadeTwo, IsMigratedFrom}
-use Rattle.recovery.specs.Recovered.{IsMigrationRefusal, StaysFresh, IsOursInEither, MigrationLeaves}
-use Rattle.recovery.specs.Recovered.{most_migration_sends}
+use Rattle.recovery.specs.Recovered.{IsMigrationRefusal, StaysFresh, MigrationLeaves, most_migration_sends}
 use Rattle.recovery.specs.declared.recovered.Recovered.{Recovered}
 use Rattle.recovery.proofs.WholeRecovery.{recovery_leaves, served_slots, start_on}
 use Rattle.recovery.proofs.JoinedCalls.{log_ends, AreSame, zeros_fresh, fresh_ours}
@@ -54,31 +53,27 @@ module _ {old mid : State} {found : _} (start : IsRecoveredFrom old mid found ×
       kept_home : AreSame (shape_of found.sizes) (home_of shape new.content) start.0.array
       kept_home b below = making.spares.content (first_home shape + b) (omega arith) ∙ start.0.home b below
 
-      module _ (sound_old : IsSound old) (sound_mid : IsSound mid)
-          (fresh : (shape : Shape) (array : Array) (next : ℕ) → IsOurs old.size shape old.content array next
-          → EachCut (IsFresh shape array next) mid) where
-        -- each image is ours for the contents
-        leaves_ours : (array : Array) (next : ℕ) → IsOurs old.size shape old.content array next
-            → LeavesOnly (IsOursInEither old.size shape array next) mid new
-        leaves_ours array next ours =
-            let same = (StandsFor-one _ _ _ _ _ _ _ _ _ ours.stands start.0.stood).1 in
-            let fits = start.0.stood.fits in
-            let before = fresh shape array found.next (rw same at ours) mid.content sound_mid.holds_content in
-            rw same (weaker _ _ _ _ (λ image either. ⊎_elim (λ was. inl (inr (fresh_ours fits was)))
-            (λ two. inr (can_migrate, fresh_ours fits two)) (either array before)) making.moments)
-
-        pub migration_leaves : LeavesAtLeast 5 old mid → MigrationLeaves old new
-        migration_leaves before =
-            let has = StandsFor-shape old.size shape old.content start.0.array found.next start.0.stood in
-            let most = rw one at (before.most shape has) in
-            let sends : SendsUpTo (most_migration_sends One found.sizes.slots) old new =
-            let most = rw one at (before.sends.most shape has) in omega (arith, most, making.sent, home_is) in
-            start_on {shape = shape} sound_old (search (rules, start.0.stood, start.0.stamp_left, start.1))
-            (recovery_leaves old mid before) (omega (arith, tried)) leaves_ours
-            (spared_behind (first_home shape) (sectors_of shape) mid new (omega arith) making.spares)
-            (no_looks _ mid new making.reads.looked_stays)
-            (omega (arith, most, making.calls, home_is, found.sizes.most_slots)) (omega arith)
-            (rw one sends) (rw one (omega (arith, found.sizes.most_slots)))
+      pub migration_leaves : IsSound old → IsSound mid → ((shape : Shape) (array : Array) (next : ℕ)
+          → IsOurs old.size shape old.content array next → EachCut (IsFresh shape array next) mid) → LeavesAtLeast 5 old mid
+          → MigrationLeaves old new
+      migration_leaves sound_old sound_mid fresh before =
+          let stood = start.0.stood in
+          let has = StandsFor-shape old.size shape old.content start.0.array found.next stood in
+          let most = rw one at (before.most shape has) in
+          let sends : SendsUpTo (most_migration_sends One found.sizes.slots) old new =
+          let most = rw one at (before.sends.most shape has) in omega (arith, most, making.sent, home_is) in
+          start_on {shape = shape} sound_old (search (rules, stood, start.0.stamp_left, start.1)) (recovery_leaves old mid before)
+          (omega (arith, tried))
+          -- each image is ours for the contents
+          (λ array next ours.
+          let same = (StandsFor-one _ _ _ _ _ _ _ _ _ ours.stands stood).1 in
+          let before = fresh shape array found.next (rw same at ours) mid.content sound_mid.holds_content in
+          rw same (weaker _ _ _ _ (λ image either. ⊎_elim (λ was. inl (inr (fresh_ours stood.fits was)))
+          (λ two. inr (can_migrate, fresh_ours stood.fits two)) (either array before)) making.moments))
+          (spared_behind (first_home shape) (sectors_of shape) mid new (omega arith) making.spares)
+          (no_looks _ mid new making.reads.looked_stays)
+          (omega (arith, most, making.calls, home_is, found.sizes.most_slots)) (omega arith)
+          (rw one sends) (rw one (omega (arith, found.sizes.most_slots)))
 
       module _ (answer : Recovered) (is : (shape_of answer.sizes ≡ migrated shape) × (answer.next ≡ found.next)
           × IsMadeTwo shape found.next new) where
