@@ -81,33 +81,30 @@ module _ {old mid : State} {found : _} (start : IsRecoveredFrom old mid found ×
         here_fresh array same = zeros_fresh (migrated shape) array found.next new.content is.2.super is.2.head is.2.zeros
             (λ b below. kept_home b below ∙ same b below)
 
-        pub migrated_fresh : (other : Shape) (array : Array) (next : ℕ) → IsOurs old.size other old.content array next
-            → EachCut (IsFresh (shape_of answer.sizes) array next) new
-        migrated_fresh other array next ours image cut =
-            let same = StandsFor-one old.size old.size shape other old.content start.0.array array found.next next
-            start.0.stood ours.stands in
-            rw (only_image new.content new.may_leave is.2.flushed image cut, is.0, ← same.1) (here_fresh array same.2)
-
-        pub migrated_from : new.calls ≡ mid.calls + (found.sizes.home + 3) → IsMigratedFrom old new answer
+        pub migrated_from : new.calls ≡ mid.calls + (found.sizes.home + 3)
+            → IsMigratedFrom old new answer × ((other : Shape) (array : Array) (next : ℕ) → IsOurs old.size other old.content array next
+            → EachCut (IsFresh (shape_of answer.sizes) array next) new)
         migrated_from counted =
             let stood = start.0.stood in
-            let ends = log_ends shape stood.keeps.super.home_is in
-            let behind = λ (x : ℕ) (past : sectors_of shape ≤ x). making.spares.content x (omega (arith, past))
-            ∙ start.0.elsewhere x (λ e. omega (arith, e, past, ends)) (inr past) in
-            let ours = fresh_ours stood.fits (here_fresh start.0.array (λ b below. refl)) in
-            rw is.1 (record {
-              shape = shape;
-              could = can_migrate;
-              sizes_are = is.0;
-              array = start.0.array;
-              stood = stood;
-              stamp_left = start.0.stamp_left;
-              made = is.2;
-              home = kept_home;
-              behind = behind;
-              ours = ours;
-              calls = omega (arith, tried, counted, home_is);
-            })
+            let ends = log_ends shape stood.keeps.super.home_is in (
+              rw is.1 (record {
+                shape = shape;
+                could = can_migrate;
+                sizes_are = is.0;
+                array = start.0.array;
+                stood = stood;
+                stamp_left = start.0.stamp_left;
+                made = is.2;
+                home = kept_home;
+                behind = λ x past. making.spares.content x (omega (arith, past))
+                    ∙ start.0.elsewhere x (λ e. omega (arith, e, past, ends)) (inr past);
+                ours = fresh_ours stood.fits (here_fresh start.0.array (λ b below. refl));
+                calls = omega (arith, tried, counted, home_is);
+              }),
+              λ other array next ours image cut.
+                  let same = StandsFor-one old.size old.size shape other old.content start.0.array array found.next next stood ours.stands in
+                  rw (only_image new.content new.may_leave is.2.flushed image cut, is.0, ← same.1) (here_fresh array same.2),
+            )
 
 -- such a call refuses a start
 call_refuses : (old new : State) (kind : _) → IsRefusedCall old new kind → IsMigrationRefusal old new (start_fault_of kind)
@@ -141,12 +138,10 @@ returns-in_err-make_two-clause-leaves g c = makes g (goal.at.returns-in_err-make
 
 pub returns-in_ok-make_two : goal.returns-in_ok-make_two
 returns-in_ok-make_two g c =
-    let start = c.in_ok-found.ensures.ok in
-    let one = c.migrates.ensures.0 c.if-migrates.true in
     let done = c.in_ok-make_two.ensures in
-    let from = migrated_from start one c.make_two.ensures.writes c.in_ok-make_two.field-0 done.ok done.writes.exact in
-    let fresh = migrated_fresh start one c.make_two.ensures.writes c.in_ok-make_two.field-0 done.ok in
-    search (rules, from, fresh, makes g (goal.at.returns-in_ok-make_two g c).After-make_two, g.met.M.Medium.follows_through)
+    let from = migrated_from c.in_ok-found.ensures.ok (c.migrates.ensures.0 c.if-migrates.true) c.make_two.ensures.writes
+    c.in_ok-make_two.field-0 done.ok done.writes.exact in
+    search (rules, from, makes g (goal.at.returns-in_ok-make_two g c).After-make_two, g.met.M.Medium.follows_through)
 
 pub returns-else-migrates-clause-fresh : goal.returns-else-migrates-clause-fresh
 returns-else-migrates-clause-fresh g c shape array next ours =
