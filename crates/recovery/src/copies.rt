@@ -71,6 +71,7 @@ fn copy_blocks<M: Medium>(
 }
 
 // Copies the record of this stamp home, which is whole. What is read of it goes through `read`.
+#[tactic(auto, using(crate::proofs::JoinedCalls::none_copies))]
 fn copy_record<M: Medium>(
     m: &mut M,
     sizes: &Super,
