@@ -65,7 +65,7 @@ recovery_refused old new fault h =
 tries_moved : (format : LogFormat) (shape : Shape) (image : Image) (first tries old new before after more : ℕ) → before ≡ old + more
     → after ≡ new + more → AreTriesOf format shape image first tries old new → AreTriesOf format shape image first tries before after
 tries_moved One shape image first tries old new before after more e f t = omega (arith, e, f, t)
-tries_moved Two shape image first tries old new before after more e f t = search (rules, t.each, t.after_is)
+tries_moved Two shape image first tries old new before after more e f t = (t.0, t.1, t.2, omega (arith, e, f, t.3))
 
 -- how many calls a whole recovery makes at most
 most_start : (format : LogFormat) (slots old mid seen new count : ℕ) → mid ≡ old + 1 → seen ≤ mid + 2 + most_reads_of format * slots

@@ -101,16 +101,6 @@ module _ (image : Image) (at stamp : ℕ) where
     pub is : IsReadInSlot blocks reads
     pub only : (other : ℕ) → IsReadInSlot blocks other → other ≡ reads
 
--- As many stamps as `tries` says are tried from the first on, by a number of reads for each.
-pub record AreTriesTwo (shape : Shape) (image : Image) (first tries before after : ℕ)
-    : Type 0 where
-  pub reads : List ℕ
-  pub many : length reads ≡ tries
-  pub each : (j : ℕ) → j < tries
-      → IsTryTwo image (slot_at format2 shape (first + j)) (first + j) shape.blocks
-      (slice_index reads j)
-  pub after_is : after ≡ before + sum reads
-
 -- By the try of a stamp one count of calls becomes another: by two reads in format 1.
 abbrev pub IsTryOf : LogFormat → Shape → Image → ℕ → ℕ → ℕ → Type 0
 IsTryOf One shape image stamp before after = after ≡ before + 2
@@ -118,11 +108,14 @@ IsTryOf Two shape image stamp before after =
     (reads : ℕ) × IsTryTwo image (slot_at format2 shape stamp) stamp shape.blocks reads
     × (after ≡ before + reads)
 
--- so by tries of this many stamps from the first on: by two reads each in format 1
+-- so by tries of this many stamps from the first on, by a number of reads for each: by two reads
+-- each in format 1
 abbrev pub AreTriesOf : LogFormat → Shape → Image → ℕ → ℕ → ℕ → ℕ → Type 0
 AreTriesOf One shape image first tries before after = after ≡ before + 2 * tries
 AreTriesOf Two shape image first tries before after =
-    AreTriesTwo shape image first tries before after
+    (reads : List ℕ) × (length reads ≡ tries)
+    × ((j : ℕ) → j < tries → IsTryTwo image (slot_at format2 shape (first + j)) (first + j)
+    shape.blocks (slice_index reads j)) × (after ≡ before + sum reads)
 
 -- the image is of this shape
 abbrev pub AreTries : Shape → Image → ℕ → ℕ → ℕ → ℕ → Type 0

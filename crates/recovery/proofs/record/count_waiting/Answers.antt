@@ -29,21 +29,20 @@ each_pushed P xs x j long each last k below = elim (cases_lt k j) [
 -- none so far
 no_tries : (format : LogFormat) (shape : Shape) (image : Image) (first at : ℕ) → AreTriesOf format shape image first 0 at at
 no_tries One shape image first at = omega arith
-no_tries Two shape image first at =
-    record { reads = []; many = refl; each = λ j below. absurd (omega arith); after_is = omega arith }
+no_tries Two shape image first at = ([], refl, λ j below. absurd (omega arith), omega arith)
 
 -- one more
 tries_more : (format : LogFormat) (shape : Shape) (image : Image) (first j old mid new : ℕ)
     → AreTriesOf format shape image first j old mid → IsTryOf format shape image (first + j) mid new
     → AreTriesOf format shape image first (j + 1) old new
 tries_more One shape image first j old mid new before last = omega (arith, before, last)
-tries_more Two shape image first j old mid new before last = record {
-  reads = before.reads ++ last.0 ∷ [];
-  many = omega (arith, before.many, length-append before.reads (last.0 ∷ []));
-  each = each_pushed (λ k n. IsTryTwo image (slot_at format2 shape (first + k)) (first + k) shape.blocks n) before.reads last.0 j
-      before.many before.each last.1;
-  after_is = omega (arith, before.after_is, last.2, sum_by_push (λ x. x) before.reads last.0);
-}
+tries_more Two shape image first j old mid new before last = (
+  before.0 ++ last.0 ∷ [],
+  omega (arith, before.1, length-append before.0 (last.0 ∷ [])),
+  each_pushed (λ k n. IsTryTwo image (slot_at format2 shape (first + k)) (first + k) shape.blocks n) before.0 last.0 j before.1 before.2
+      last.1,
+  omega (arith, before.3, last.2, sum_by_push (λ x. x) before.0 last.0),
+)
 
 -- all that were counted
 counts_made : (shape : Shape) (image : Image) (head j : ℕ) (counts : List ℕ) → length counts ≡ j → j ≤ shape.slots
@@ -75,11 +74,6 @@ loop-j-preserved g c =
       rw c.push.ensures.items
           (each_pushed (λ k n. HasCount shape old.content (c.args.head + k) n) c.loop-j.waiting.items n j inv.finds.1 inv.finds.2 finds.1),
     )
-
-pub returns-in_err-count : goal.returns-in_err-count
-returns-in_err-count g c = looks_on g.met.M.Medium.follows_through c.loop-j.invariant c.count_blocks.ensures
-    (each_once_more (most_reads_of c.args.sizes.now.format) c.loop-j.j c.args.sizes.now.slots c.loop-j-test.true)
-    (search rules) (search rules)
 
 pub returns-in-None : goal.returns-in-None
 returns-in-None g c =
