@@ -7,7 +7,7 @@ use Rattle.window.specs.Window.{Window, state_of, kept_out, ComesAfter, CoversDe
 use Rattle.window.specs.Looks.{near_in_sight, none_missed}
 use Rattle.journal.specs.Places.{Shape, first_home, slot_sectors_of}
 use Rattle.recovery.specs.Calls.{MakesNoRead}
-use Rattle.recovery.specs.Formatted.{IsLaid, LayingLeaves}
+use Rattle.recovery.specs.Calls.{IsLaid, LayingLeaves}
 use Rattle.recovery.specs.Causes.{start_fault_of}
 use Rattle.recovery.specs.Recovered.{IsMigrationBy, IsMigrationRefusal, IsMigrationCause, MigrationLeaves}
 use Rattle.recovery.specs.declared.start_fault.StartFault.TheVariants as start

@@ -11,7 +11,7 @@ use Rattle.window.specs.WindowLaws.{is_sound, comes_after_through}
 use Rattle.journal.specs.Places.{Shape, sectors_of, slot_sectors_of}
 use Rattle.journal.specs.Sectors.{IsSuper, IsHead}
 use Rattle.journal.specs.Standing.{IsOurs}
-use Rattle.recovery.specs.Formatted.{FormatLeaves, IsMidway}
+use Rattle.recovery.specs.Calls.{FormatLeaves, IsMidway}
 use Rattle.image_calls.specs.Parts.{IsUnderWay, IsMadeAnew, IsOnWay, KeepsOnWay, FailsOnWay, SendsPart}
 use Rattle.image_calls.specs.Images.{WaitFor}
 use Rattle.image_calls.specs.Formats.{IsFormatting, HasRoom, LetsGo, MakesParts}

@@ -1,5 +1,5 @@
 -- From one part of a format to the next.
-use Rattle.std.proofs.Common.{◌≡◌, ◌≢◌, inl, inr, ⊎_elim, ℕ, ◌+◌, ◌-◌, ◌<◌, ◌≤◌, List, refl, sym, ◌∙◌, subst, arith}
+use Rattle.std.proofs.Common.{◌≡◌, ◌≢◌, inl, inr, ⊎_elim, ℕ, ◌+◌, ◌-◌, ◌<◌, ◌≤◌, List, refl, sym, ◌∙◌, subst, arith, rules}
 use Rattle.std.proofs.lemmas.Bool.{cases_lt}
 use Rattle.std.specs.Prelude.{replicate}
 use Rattle.medium.specs.Medium.{State, Image, CutLeaves, Holds, IsSound}
@@ -11,9 +11,9 @@ use Rattle.journal.specs.Places.{Shape, first_home, sectors_of, new_shape}
 use Rattle.journal.specs.Record.{home_of}
 use Rattle.journal.specs.Standing.{IsOurs}
 use Rattle.recovery.specs.Calls.{cleared_at, WithOrWithout, IsBetween}
-use Rattle.recovery.specs.Formatted.{FormatLeaves, AreSizes, IsNoneOrNew, IsMidway, IsLaid, LayingLeaves}
-use Rattle.recovery.proofs.CopiedRecords.{sets_within}
-use Rattle.recovery.proofs.JoinedCalls.{first_leaves, clear_spares}
+use Rattle.recovery.specs.Calls.{FormatLeaves, AreSizes, IsNoneOrNew, IsMidway, ImageLeaves, IsLaid}
+use Rattle.recovery.specs.Calls.{LayingLeaves}
+use Rattle.recovery.proofs.JoinedCalls.{sets_within, through_spares, clear_spares}
 use Rattle.image_calls.specs.Parts.{IsUnderWay, IsMadeAnew}
 
 abbrev ZEROS : List ℕ
@@ -21,6 +21,16 @@ ZEROS = replicate 512 0
 
 abbrev pub BLANK : Array
 BLANK b = replicate 512 0
+
+-- the super is being cleared
+first_leaves : (shape : Shape) (array : Array) (end : ℕ) (old first : State) → 2 ≤ end → (zeros : List ℕ) → zeros ≡ replicate 512 0
+    → IsSound first → ((x : ℕ) → x ≢ 0 → first.content x ≡ old.content x) → LeavesOnly (WithOrWithout 0 zeros old.may_leave) old first
+    → first.calls ≤ old.calls + 2 → first.looked ≡ old.looked → ImageLeaves shape array end old first
+first_leaves shape array end old first some zeros are sound elsewhere moments few looked = search (
+  rules,
+  weaker _ (IsMidway shape array old) _ _ (λ image either. ⊎_elim inl (λ w. inr (inl (w.2.here ∙ are))) either) moments,
+  through_spares end 0 zeros old first (omega (arith, some)) sound elsewhere moments,
+)
 
 -- the super was taken away
 pub begun : (shape : Shape) (old new : State) → shape ≡ new_shape shape.format shape.blocks shape.slots → AreSizes old.size shape

@@ -4,7 +4,7 @@ use Rattle.medium.specs.Medium.{State, Image}
 use Rattle.medium.specs.Sent.{SendsUpTo}
 use Rattle.journal.specs.Places.{Shape, first_home, sectors_of, new_shape}
 use Rattle.journal.specs.Formats.{shape_of}
-use Rattle.recovery.specs.Formatted.{IsFormatted, FormatLeaves, AreSizes}
+use Rattle.recovery.specs.Calls.{IsFormatted, FormatLeaves, AreSizes}
 use Rattle.recovery.specs.Calls.{MakesNoRead}
 use Rattle.image_calls.specs.declared.plan.Plan.{Plan}
 

@@ -2,7 +2,7 @@
 ghost use Rattle.std.specs.Prelude.{◌+◌, ◌*◌, ◌<◌, ◌≤◌, Some, OnErr, IfOk, IfErr, MatchOption};
 ghost use Rattle.journal.specs.Places.{new_shape, slot_sectors_of, sectors_of};
 ghost use Rattle.journal.specs.Formats.{shape_of};
-ghost use Rattle.recovery.specs.Formatted.{IsFormatCause};
+ghost use Rattle.recovery.specs.Calls.{IsFormatCause};
 ghost use Rattle.image_calls.specs.Parts.{IsBegun, KeepsOnWay, FailsOnWay, GoesPart};
 ghost use Rattle.image_calls.specs.Parts.{parts_left};
 

@@ -13,7 +13,7 @@ use Rattle.journal.specs.Formats.{shape_of}
 use Rattle.journal.specs.declared.super_sector.Super.{Super}
 use Rattle.journal.proofs.SectorNumbers.{IsSuper-one}
 use Rattle.recovery.specs.Causes.{IsDeviceFault, IsCause, IsRefusalBy, MakesReadsAlone, WritesNothing, start_fault_of}
-use Rattle.recovery.specs.Inspected.{IsLookCause}
+use Rattle.recovery.specs.Causes.{IsLookCause}
 use Rattle.recovery.specs.Calls.{HoldsLog, LooksAtLog}
 use Rattle.recovery.specs.declared.start_fault.StartFault.{StartFault}
 use Rattle.window.specs.Window.{Window, state_of, fresh, IsServed}

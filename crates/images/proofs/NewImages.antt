@@ -9,8 +9,8 @@ use Rattle.mirror.proofs.Asked.{after-append}
 use Rattle.journal.specs.Places.{Shape, first_home, sectors_of}
 use Rattle.journal.specs.Sectors.{IsSuper, IsHead}
 use Rattle.journal.specs.Standing.{IsOurs}
-use Rattle.recovery.specs.Formatted.{IsNoneOrNew}
-use Rattle.recovery.proofs.CopiedRecords.{zeros_ours}
+use Rattle.recovery.specs.Calls.{IsNoneOrNew}
+use Rattle.recovery.proofs.JoinedCalls.{zeros_ours}
 use Rattle.device_file.specs.Copied.{some_writes}
 use Rattle.images.specs.CopyLaws.{IsImageOf, MakeImageOf, array_of}
 use Rattle.images.specs.NewImage.{emptied, making, MakeNewImage}

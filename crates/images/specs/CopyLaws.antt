@@ -9,7 +9,7 @@ use Rattle.journal.specs.Places.{Shape, first_home, sectors_of}
 use Rattle.journal.specs.Sectors.{IsSuper, IsHead}
 use Rattle.journal.specs.Standing.{IsOurs}
 use Rattle.window.specs.Window.{Window, state_of}
-use Rattle.recovery.specs.Formatted.{IsNoneOrNew}
+use Rattle.recovery.specs.Calls.{IsNoneOrNew}
 use Rattle.device_file.specs.Copied.{some_writes}
 use Rattle.device_file.specs.Reads.{AreReadFrom}
 use Rattle.device_file.specs.declared.opening.FirstSectors.{FirstSectors}

@@ -8,7 +8,7 @@ use Rattle.mirror.specs.declared.call.DeviceCall.TheVariants.{Write, Flush}
 use Rattle.journal.specs.Places.{Shape, sectors_of}
 use Rattle.journal.specs.Sectors.{IsSuper, IsHead}
 use Rattle.journal.specs.Standing.{IsOurs}
-use Rattle.recovery.specs.Formatted.{IsNoneOrNew}
+use Rattle.recovery.specs.Calls.{IsNoneOrNew}
 use Rattle.device_file.specs.Asked.{Told}
 use Rattle.device_file.specs.declared.fault.FileCall.TheVariants as call
 use Rattle.device_file.specs.declared.fault.FileFault.{FileFault}

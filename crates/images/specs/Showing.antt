@@ -4,8 +4,7 @@ use Rattle.std.specs.Io.KnownBytes.{Appends, Keeps}
 use Rattle.journal.specs.Sectors.{version_of}
 use Rattle.journal.specs.declared.super_sector.Super.{Super}
 use Rattle.window.specs.Window.{Window, state_of, ComesAfter}
-use Rattle.recovery.specs.Causes.{IsDeviceFault}
-use Rattle.recovery.specs.Inspected.{IsInspected, IsLookRefusal}
+use Rattle.recovery.specs.Causes.{IsDeviceFault, IsInspected, IsLookRefusal}
 use Rattle.recovery.specs.declared.inspection.Inspection.{Inspection}
 use Rattle.recovery.specs.declared.start_fault.StartFault.{StartFault}
 use Rattle.device_file.specs.declared.opening.FirstSectors.{FirstSectors}

@@ -1,30 +1,159 @@
--- Calls, and then others: what they are together, and what is left at each moment of them.
-use Rattle.std.proofs.Common.{◌≡◌, inl, inr, ⊎_elim, ℕ, ◌+◌, ◌*◌, ◌<◌, ◌≤◌, ◌∙◌, Result, Ok, arith, rules, mul-le-mul_left, ◌≢◌}
-use Rattle.std.proofs.Common.{◌⊎◌, ◌-◌, List}
-use Rattle.std.specs.Prelude.{IfOk, IfErr, replicate, OnOk}
-use Rattle.medium.specs.Medium.{State, Image, CutLeaves, LooksOnly, IsSound, Holds, Stays, Within, Passes}
-use Rattle.medium.specs.Moments.{IsQuiet, EachCut, IsFlushed, LeavesOnly, StaysWithin, SparesFrom}
+-- Calls, and then others: what they are together, and what is left at each moment of them; and records that are copied home.
+use Rattle.std.proofs.Common.{◌≡◌, inl, inr, ℕ, ◌+◌, ◌*◌, ◌<◌, ◌≤◌, List, [], length, get_or, refl, ◌∙◌, ap, subst, ◌⊎◌}
+use Rattle.std.proofs.Common.{⊎_elim, replicate, sym, arith, rules, Result, Ok, mul-le-mul_left, ◌≢◌, ◌-◌, IfOk, IfErr}
+use Rattle.std.proofs.Common.{OnOk}
+use Rattle.std.proofs.Math.ListN.{get_or-map}
+use Rattle.std.proofs.lemmas.Bool.{cases_eq}
+use Rattle.std.proofs.lemmas.List.{length-map}
+use Rattle.medium.specs.Medium.{State, Image, Sets, CutLeaves, Within, IsSound, LooksOnly, Holds, Stays, Passes}
+use Rattle.medium.specs.Moments.{LeavesOnly, StaysWithin, SparesFrom, IsQuiet, EachCut, IsFlushed}
+use Rattle.medium.proofs.Moments.{at_exit, updated, updated_here, updated_elsewhere, quiet_joined, quiet_leaves}
+use Rattle.medium.proofs.Moments.{started_within, joined_same, weaker, quiet_call}
+use Rattle.medium.proofs.SparedSectors.{HasSpared, spared_joined, spared_behind, spared_quiet}
+use Rattle.spec.specs.Blocks.{Array}
+use Rattle.journal.specs.Places.{Shape, first_home, sectors_of, IsFirstHome}
+use Rattle.journal.specs.Record.{Entry, numbers_of, with_records, home_of, Hides}
+use Rattle.journal.specs.Formats.{layout_of, IsWhole, HasWhole, CarriesBelow, shape_of}
+use Rattle.journal.proofs.Formats.{laws_of, sectors_are}
+use Rattle.journal.proofs.Wholeness.{IsWhole-one, IsWhole-same, slot_inside, CarriesBelow-agree}
+use Rattle.journal.specs.Sectors.{IsSuper, IsHead}
+use Rattle.journal.specs.Standing.{IsOurs, Keeps}
+use Rattle.journal.proofs.Apart.{in_log}
+use Rattle.journal.specs.Staged.{View, Resting}
+use Rattle.journal.proofs.Engine.{rests_found}
+use Rattle.journal.proofs.Overlay.{with_records-same, records-hide}
+use Rattle.recovery.specs.Calls.{IsHomeOf, IsHomeInRecord, IsHomeInRecords, Copies, freed_at, most_reads_of, LooksAtLog}
+use Rattle.recovery.specs.Calls.{WritesAllPass, FollowsBy, Writes, cleared_at, WithOrWithout, IsBetween, IsNoneOrNew}
+use Rattle.recovery.specs.Calls.{IsMidway, ImageLeaves, IsMade, IsWritten, IsNoneOrWritten, WritesImage}
+use Rattle.recovery.specs.Recovered.{IsFresh}
 use Rattle.medium.specs.declared.fault.MediumFault.{MediumFault}
 use Rattle.medium.proofs.CallsSent.{none_sent}
-use Rattle.medium.proofs.Moments.{quiet_joined, quiet_leaves, started_within, joined_same, weaker, quiet_call}
 use Rattle.medium.proofs.SectorsRead.{no_looks, looks_joined, looks_wider, looks_below, look_below}
 use Rattle.journal.specs.declared.super_sector.Super.{Super}
-use Rattle.journal.specs.Places.{Shape, first_home, sectors_of}
-use Rattle.journal.specs.Standing.{HasShape, IsOurs}
-use Rattle.journal.specs.Formats.{shape_of}
+use Rattle.journal.specs.ImageFaults.{HasShape}
 use Rattle.journal.specs.Reading.{IsRefusedCall, LooksUp}
-use Rattle.recovery.specs.Calls.{Copies, freed_at, most_reads_of, LooksAtLog, WritesAllPass, FollowsBy, Writes, cleared_at}
-use Rattle.recovery.specs.Calls.{WithOrWithout, IsBetween}
-use Rattle.recovery.specs.Inspected.{SurveysAtMost, LooksAtFirst}
-use Rattle.recovery.specs.declared.start_fault.StartFault.{StartFault}
+use Rattle.recovery.specs.Causes.{SurveysAtMost, LooksAtFirst}
 use Rattle.journal.proofs.SectorNumbers.{IsSuper-one}
-use Rattle.recovery.proofs.CopiedRecords.{sets_within, spared_by, AreSame, zeros_ours}
 use Rattle.std.proofs.lemmas.Result.{on_ok_weaker}
 use Rattle.medium.specs.declared.fault.MediumFault.TheVariants.{Read, Flush}
-use Rattle.medium.proofs.SparedSectors.{spared_joined, spared_behind, spared_quiet}
-use Rattle.spec.specs.Blocks.{Array}
-use Rattle.journal.specs.Record.{home_of}
-use Rattle.recovery.specs.Formatted.{IsNoneOrNew, IsMidway, ImageLeaves, IsMade, IsWritten, IsNoneOrWritten, WritesImage}
+
+-- what a cut may leave in one sector an image has there that it may leave
+image_with : (m : State) (s : ℕ) (c : List ℕ) → IsSound m → m.may_leave s c
+    → (image : Image) × CutLeaves m.may_leave image × (image s ≡ c)
+image_with m s c sound left = (
+  updated m.content s c,
+  λ t. elim (cases_eq t s) [
+    | inl is ↦ rw (updated_here m.content s c t is, is) left
+    | inr not ↦ rw (updated_elsewhere m.content s c t not) (sound.holds_content t)
+  ],
+  updated_here m.content s c s refl,
+)
+
+-- a bound on the images is one on the sets
+pub sets_within : (bound : Sets) (old new : State) → IsSound new → StaysWithin bound old new → Within new.may_leave bound
+sets_within bound old new sound within s c left =
+    let w = image_with new s c sound left in rw w.2 at (at_exit (CutLeaves bound) old new sound within w.0 w.1 s)
+
+-- what each image spares at each moment, the sets spare
+pub spared_by : (first : ℕ) (old new : State) → IsSound new → ((s : ℕ) → first ≤ s → new.content s ≡ old.content s)
+    → LeavesOnly (HasSpared first old) old new → SparesFrom first old new
+spared_by first old new sound content moments =
+    let sets = λ (s : ℕ) (c : List ℕ) (le : first ≤ s) (left : new.may_leave s c). let w = image_with new s c sound left in
+    rw w.2 at (at_exit (HasSpared first old) old new sound moments w.0 w.1 s le) in
+    record { content = content; sets = sets; moments = moments }
+
+-- the i-th number is that of the i-th block
+pub number_of : (entries : List Entry) (numbers : List ℕ) (i : ℕ) → numbers ≡ numbers_of entries
+    → get_or numbers i 0 ≡ (get_or entries i (0, [])).0
+number_of entries numbers i names =
+    let f : Entry → ℕ = λ e. e.0 in rw names (get_or-map f entries i (0, []))
+
+pub long_as : (entries : List Entry) (numbers : List ℕ) → numbers ≡ numbers_of entries → length numbers ≡ length entries
+long_as entries numbers names = let f : Entry → ℕ = λ e. e.0 in ap (λ (l : List ℕ). length l) names ∙ length-map entries f
+
+-- the log ends before home
+pub log_ends : (shape : Shape) → IsFirstHome shape.format shape.slots shape.home
+    → 2 + (layout_of shape.format).slot_sectors * shape.slots ≤ first_home shape
+log_ends shape home = let same = ap (λ (n : ℕ). n * shape.slots) (sectors_are shape.format) in omega (arith, same, home.0)
+
+-- a record is the same in images with the same log
+pub whole_same : (shape : Shape) (before image : Image) (stamp : ℕ) (entries : List Entry) → 1 ≤ shape.slots
+    → IsFirstHome shape.format shape.slots shape.home → ((y : ℕ) → y < first_home shape → image y ≡ before y)
+    → IsWhole shape before stamp entries → IsWhole shape image stamp entries
+whole_same shape before image stamp entries some home log w =
+    IsWhole-same (layout_of shape.format) (laws_of shape.format) shape before image stamp entries (λ x low high.
+    log x (omega (arith, high, slot_inside (layout_of shape.format) (laws_of shape.format) shape stamp some, log_ends shape home))) w
+
+-- home is behind the log
+pub not_in_log : (shape : Shape) (image : Image) (head count x : ℕ) → x < first_home shape → ¬ IsHomeInRecords shape image head count x
+not_in_log shape image head count x below home = let is = home.2.2.2 in omega (arith, is)
+
+-- two arrays have the same blocks
+abbrev pub AreSame : Shape → Array → Array → Type 0
+AreSame shape a c = (b : ℕ) → b < shape.blocks → a b ≡ c b
+
+-- copies of its records at home change nothing of what an image stands for
+pub copies_ours : {size : ℕ} {shape : Shape} {start : Image} {array : Array} {next : ℕ} (ours : IsOurs size shape start array next)
+    (head count : ℕ) → head ≡ ours.stands.head → count ≡ length ours.stands.records → (image : Image)
+    → ((x : ℕ) → (image x ≡ start x) ⊎ IsHomeInRecords shape start head count x) → IsOurs size shape image array next
+copies_ours {shape = shape} {start = start} {array = array} {next = next} ours head count head_is count_is image each =
+    let records = ours.stands.records in
+    let super = ours.stands.keeps.super in
+    let ends = log_ends shape super.home_is in
+    let log : (x : ℕ) → x < first_home shape → image x ≡ start x =
+    λ x below. ⊎_elim (λ same. same) (λ home. absurd (not_in_log shape start head count x below home)) (each x) in
+    let whole = λ (stamp : ℕ) (es : List Entry). whole_same shape start image stamp es super.some_slots super.home_is log in
+    -- a block that is copied is hidden by the records
+    let home : (b : ℕ) → with_records records (home_of shape image) b ≡ with_records records (home_of shape start) b =
+    λ b. ⊎_elim (with_records-same records (home_of shape image) (home_of shape start) b) (λ copied.
+    let h = rw (head_is, count_is) at copied in
+    let es = get_or records h.0 [] in
+    let here = subst (λ (es : List Entry). IsHomeOf shape (numbers_of es) (first_home shape + b)) (IsWhole-one (layout_of shape.format)
+    (laws_of shape.format) shape start _ h.2.0 es h.2.1 (ours.stands.keeps.whole h.0 h.1)) h.2.2 in
+    let hides = records-hide records h.0 here.0 h.1 (omega (arith, here.1, long_as es (numbers_of es) refl)) in
+    subst (Hides records) (omega (arith, here.2, number_of es (numbers_of es) here.0 refl)) hides
+    (home_of shape image) (home_of shape start)) (each (first_home shape + b)) in
+    let keeps : Keeps shape image ours.stands.head records array = record {
+      super = rw (log 0 (omega (arith, ends))) super;
+      head_is = rw (log 1 (omega (arith, ends))) ours.stands.keeps.head_is;
+      whole = λ j below. whole _ _ (ours.stands.keeps.whole j below);
+      blocks = λ b below. home b ∙ ours.stands.keeps.blocks b below;
+    } in
+    let ends_there = λ (less : length records < shape.slots) (w : HasWhole shape image (ours.stands.head + length records)).
+    ours.stands.ends less (w.0, whole_same shape image start _ w.0 super.some_slots super.home_is (λ x below. sym (log x below)) w.1) in
+    let carries = CarriesBelow-agree (layout_of shape.format) (laws_of shape.format) shape start image next
+    (λ x low high. log x (omega (arith, ends))) ours.carries in
+    search (rules, keeps, ours.stands.few, ends_there, ours.stands.next_is, ours.stands.fits, carries)
+
+-- no record waits in a log of zeros
+pub zeros_fresh : (shape : Shape) (array : Array) (next : ℕ) (image : Image) → IsSuper shape (image 0) → IsHead next (image 1)
+    → ((x : ℕ) → 2 ≤ x → x < first_home shape → image x ≡ replicate 512 0)
+    → AreSame shape (home_of shape image) array → IsFresh shape array next image
+zeros_fresh shape array next image super head zeros home =
+    let L = layout_of shape.format in
+    let carries : CarriesBelow shape image next = λ slot o stamp low small carries.
+    let inside = in_log L.slot_sectors slot shape.slots o low small in
+    let here = zeros (2 + L.slot_sectors * slot + o) (omega arith) (omega (arith, inside, log_ends shape super.home_is)) in
+    omega (arith, (laws_of shape.format).zeros o stamp (rw here at carries), head.least) in
+    search (rules, home, carries)
+
+-- an image in which no record waits is ours, with the stamp behind
+pub fresh_ours : {size : ℕ} {shape : Shape} {array : Array} {next : ℕ} {image : Image} → sectors_of shape ≤ size
+    → IsFresh shape array next image → IsOurs size shape image array (next + 1)
+fresh_ours {shape = shape} {array = array} {next = next} {image = image} fits f =
+    let view : View = record { shape = shape; head = next; records = []; under_way = []; array = array } in
+    let rests : Resting (layout_of shape.format) view image = search (rules, arith, f.carries) in
+    let found = rests_found (layout_of shape.format) (laws_of shape.format) view (omega arith) rests in
+    search (rules, arith, found.keeps, found.carries)
+
+-- an image of zeros behind a super and a head is ours, for what it has at home
+pub zeros_ours : (size : ℕ) (shape : Shape) (array : Array) (image : Image) → sectors_of shape ≤ size → IsSuper shape (image 0)
+    → IsHead 1 (image 1) → ((x : ℕ) → 2 ≤ x → x < first_home shape → image x ≡ replicate 512 0)
+    → AreSame shape (home_of shape image) array → IsOurs size shape image array 2
+zeros_ours size shape array image fits super head zeros home =
+    fresh_ours fits (zeros_fresh shape array 1 image super head zeros home)
+
+-- ---- calls, and then others
 
 -- what holds of a medium's size and contents after calls that wrote nothing held before them
 pub quiet_before : (P : ℕ → Image → Type 0) (old mid : State) → IsQuiet old mid → P mid.size mid.content → P old.size old.content
@@ -35,22 +164,6 @@ quiet_before P old mid quiet h =
 -- and what held before them holds after them
 pub quiet_after : (P : ℕ → Image → Type 0) (old mid : State) → IsQuiet old mid → P old.size old.content → P mid.size mid.content
 quiet_after P old mid quiet = quiet_before (λ n i. P n i → P mid.size mid.content) old mid quiet (λ h. h)
-
--- reads
-pub looks_on : {M X Y Z : Type 0} {state : M → State} {Follows : M → M → Type 0} {few many most : ℕ} {places : ℕ → Type 0}
-    {F : State → State → X → Type 0} {G : State → State → Y → Type 0} {H : State → State → Z → Type 0} {old mid new : M}
-    {one : Result X MediumFault} {two : Result Y MediumFault} {result : Result Z MediumFault}
-    → ((a b c : M) → Follows a b → Follows b c → Follows a c) → LooksUp state Follows few places F old mid one
-    → LooksUp state Follows many places G mid new two → few + many ≤ most → IfErr result (IsRefusedCall (state old) (state new))
-    → IfOk result (H (state old) (state new)) → LooksUp state Follows most places H old new result
-looks_on through first second fit cause finds = search (
-  rules,
-  quiet_joined _ _ _ first.passes.quiet second.passes.quiet,
-  first.passes.reads,
-  second.passes.reads,
-  through _ _ _ first.follows.0 second.follows.0,
-  looks_joined _ _ _ _ first.follows.1 second.follows.1,
-)
 
 -- copies
 pub copies_on : {X Y Z : Type 0} {more all P Q : ℕ → Type 0} {few many most less much sends : ℕ} {old mid new : State}
@@ -107,7 +220,7 @@ head_looked {old} {mid} {new} sizes has quiet looks passes content sets head =
 
 -- the super and the head are read, and then what shows whether records are whole
 pub records_read : {M X Y : Type 0} {state : M → State} {Follows : M → M → Type 0} {Has : State → Y → Type 0}
-    {F : State → State → X → Type 0} {old mid new : M} {first : Result Y StartFault} {result : Result X MediumFault} (sizes : Super)
+    {F : State → State → X → Type 0} {old mid new : M} {first : Result Y _} {result : Result X MediumFault} (sizes : Super)
     → HasShape (state old).size (shape_of sizes) (state old).content → LooksAtFirst state Follows Has 2 old mid first
     → LooksUp state Follows (most_reads_of sizes.format * sizes.slots) (λ s. s < first_home (shape_of sizes)) F mid new result
     → SurveysAtMost (state old) (state new)
@@ -140,16 +253,6 @@ clear_spares first end old new sound elsewhere within =
     (weaker _ _ _ _
     (λ image cut s le. ⊎_elim (λ was. was) (λ zeros. absurd (omega (arith, le, zeros.0.1))) (cut s)) within)
 
--- the super is being cleared
-pub first_leaves : (shape : Shape) (array : Array) (end : ℕ) (old first : State) → 2 ≤ end → (zeros : List ℕ) → zeros ≡ replicate 512 0
-    → IsSound first → ((x : ℕ) → x ≢ 0 → first.content x ≡ old.content x) → LeavesOnly (WithOrWithout 0 zeros old.may_leave) old first
-    → first.calls ≤ old.calls + 2 → first.looked ≡ old.looked → ImageLeaves shape array end old first
-first_leaves shape array end old first some zeros are sound elsewhere moments few looked = search (
-  rules,
-  weaker _ (IsMidway shape array old) _ _ (λ image either. ⊎_elim inl (λ w. inr (inl (w.2.here ∙ are))) either) moments,
-  through_spares end 0 zeros old first (omega (arith, some)) sound elsewhere moments,
-)
-
 module _ {P : Image → Type 0} where
   -- what is weaker is left too, and sectors behind those that are spared are spared
   pub wider : {X : Type 0} {end count : ℕ} {old new : State} {result : Result X MediumFault} (Q : Image → Type 0) (far : ℕ)
@@ -161,12 +264,9 @@ module _ {P : Image → Type 0} where
       {two : Result Y MediumFault} {result : Result Z MediumFault} → Writes P end few old mid one → Writes P end many mid new two
       → few + many ≤ most → IfErr result (IsRefusedCall old new) → OnOk result (new.calls ≡ old.calls + most)
       → Writes P end most old new result
-  writes_on first second fit cause exact = search (
-    rules,
-    joined_same _ _ _ _ first.moments second.moments,
-    spared_joined _ _ _ _ first.spares second.spares,
-    second.reads.looked_stays ∙ first.reads.looked_stays,
-  )
+  writes_on first second fit cause exact =
+      let spares = spared_joined _ _ _ _ first.spares second.spares in
+      search (rules, joined_same _ _ _ _ first.moments second.moments, spares, second.reads.looked_stays ∙ first.reads.looked_stays)
 
   -- a flush
   pub flush_writes : {end : ℕ} {old new : State} {result : Result (Unit {0}) MediumFault} → IsSound old → Passes Flush result old new
@@ -183,11 +283,9 @@ module _ {P : Image → Type 0} where
         → FollowsBy state Follows 2 old new → EachCut P (state old)
         → ((before image : Image) → CutLeaves (state old).may_leave before → Holds place bytes before image → P image)
         → Writes P end 2 (state old) (state new) result
-    through_writes below wrote follows stays changes = search (
-      rules,
-      weaker _ P _ _ (λ image either. ⊎_elim (stays image) (λ w. changes w.0 image w.1 w.2) either) wrote.moments,
-      through_spares _ _ _ _ _ below sound wrote.elsewhere wrote.moments,
-    )
+    through_writes below wrote follows stays changes =
+        let each = weaker _ P _ _ (λ image either. ⊎_elim (stays image) (λ w. changes w.0 image w.1 w.2) either) wrote.moments in
+        search (rules, each, through_spares _ _ _ _ _ below sound wrote.elsewhere wrote.moments)
 
     -- sectors are cleared
     pub clear_writes : {first : ℕ} → WritesAllPass (IsBetween first end)
@@ -195,11 +293,8 @@ module _ {P : Image → Type 0} where
         → FollowsBy state Follows (end - first) old new
         → ((image : Image) → CutLeaves (cleared_at (IsBetween first end) (state old).may_leave) image → P image)
         → Writes P end (end - first) (state old) (state new) result
-    clear_writes clears follows each = search (
-      rules,
-      weaker _ P _ _ each clears.moments,
-      clear_spares _ _ _ _ sound clears.elsewhere clears.moments,
-    )
+    clear_writes clears follows each =
+        search (rules, weaker _ P _ _ each clears.moments, clear_spares _ _ _ _ sound clears.elsewhere clears.moments)
 
 -- the super was cleared by the first two calls, and since then there is none, or the new one
 pub made_image : {X Y : Type 0} {shape : Shape} {end many : ℕ} {old mid new : State} {one : Result X MediumFault}

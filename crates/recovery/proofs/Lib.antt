@@ -1,3 +1,2 @@
-pub mod CopiedRecords
 pub mod JoinedCalls
 pub mod WholeRecovery

@@ -1,12 +1,10 @@
 -- A whole recovery: a flush, reads, copies and the new head; what it leaves up to each of its exits, and why it is refused.
-use Rattle.std.proofs.Common.{◌≡◌, ◌⊎◌, inl, inr, ⊎_elim, ℕ, ◌+◌, ◌*◌, ◌<◌, ◌≤◌, ◌^◌, List, [], length, get_or, sym, ◌∙◌, ap, subst, arith}
-use Rattle.std.proofs.Common.{rules, mul-le-mul_left, refl}
-use Rattle.std.specs.Prelude.{min, Result}
+use Rattle.std.proofs.Common.{◌≡◌, ◌⊎◌, inl, inr, ⊎_elim, ℕ, ◌+◌, ◌*◌, ◌<◌, ◌≤◌, ◌^◌, List, [], length, get_or, sym}
+use Rattle.std.proofs.Common.{◌∙◌, ap, subst, arith, rules, mul-le-mul_left, refl, min, Result}
 use Rattle.medium.specs.Medium.{State, Image, CutLeaves, Stays, Within, Only, Passes, LooksOnly, IsSound}
 use Rattle.medium.specs.Moments.{EachCut, IsFlushed, LeavesOnly, IsQuiet, SparesFrom}
 use Rattle.medium.specs.Sent.{SendsUpTo}
 use Rattle.medium.specs.declared.fault.MediumFault.{MediumFault}
-use Rattle.medium.specs.declared.fault.MediumFault.TheVariants.{Flush}
 use Rattle.spec.specs.Blocks.{Array}
 use Rattle.medium.proofs.CallsSent.{none_sent, flush_sends}
 use Rattle.medium.proofs.Moments.{joined_same, weaker, at_exit, only_image, quiet_call, quiet_joined, quiet_leaves}
@@ -19,35 +17,31 @@ use Rattle.journal.specs.Sectors.{IsHead}
 use Rattle.journal.specs.Formats.{shape_of, layout_of, IsWhole}
 use Rattle.journal.specs.Record.{Entry, with_records, home_of}
 use Rattle.journal.specs.Standing.{StandsFor, IsOurs, Stands}
-use Rattle.journal.specs.Standing as image
+use Rattle.journal.specs.ImageFaults as image
 use Rattle.journal.proofs.SectorNumbers.{IsSuper-one}
 use Rattle.journal.proofs.Formats.{laws_of}
 use Rattle.journal.proofs.Wholeness.{CarriesBelow-agree}
 use Rattle.journal.proofs.StandingLaws.{Stood, StandsFor-shape, count_stands, heads, counts, StandsFor-one}
-use Rattle.journal.proofs.StandingLaws.{HasFault-stands}
-use Rattle.recovery.specs.Calls.{copy_calls, most_calls_of, most_reads_of, most_start_of, most_start_sends, AreCopied, IsHomeInRecords}
-use Rattle.recovery.specs.Calls.{HasNewHead, Copies, Writes, HoldsLog}
-use Rattle.recovery.specs.Causes.{WritesNothing, HasFewSlots, IsRefusalBy, IsDeviceFault}
-use Rattle.recovery.specs.Inspected.{AreTriesOf, IsSurvey, SurveysAtMost, IsLookCause}
-use Rattle.recovery.specs.Recovered.{IsOursInEither, MigrationLeaves, most_migration_sends, IsRecoveryRefusal, IsRecoveredAtLeast}
+use Rattle.recovery.specs.Calls.{copy_calls, most_calls_of, most_reads_of, most_start_of, most_start_sends, AreCopied}
+use Rattle.recovery.specs.Calls.{IsHomeInRecords, HasNewHead, Copies, Writes, HoldsLog}
+use Rattle.recovery.specs.Causes.{WritesNothing, HasFewSlots, IsRefusalBy, IsDeviceFault, AreTriesOf, IsSurvey}
+use Rattle.recovery.specs.Causes.{SurveysAtMost, IsLookCause}
+use Rattle.recovery.specs.Recovered.{IsOursInEither, MigrationLeaves, most_migration_sends, IsRecoveryRefusal}
 use Rattle.recovery.specs.Recovered.{IsRecoveredFrom, IsFresh, IsOursForSome, IsOursWithNext, StandsForOneOf}
 use Rattle.recovery.specs.Recovered.{StandsForSome, LeavesAtLeast, StartLeaves}
-use Rattle.recovery.specs.declared.found.Found.{Found}
 use Rattle.recovery.specs.declared.start_fault.StartFault.{StartFault}
 use Rattle.recovery.specs.declared.start_fault.StartFault.TheVariants.{NoMemory, StampsUsedUp, LogTooSmall, Read, Write, Flush}
-use Rattle.recovery.proofs.CopiedRecords.{log_ends, not_in_log, spared_by, AreSame, copies_ours, fresh_ours}
-use Rattle.recovery.proofs.JoinedCalls.{quiet_before, quiet_after, looked_on}
+use Rattle.recovery.proofs.JoinedCalls.{log_ends, not_in_log, spared_by, AreSame, copies_ours, fresh_ours, quiet_before}
+use Rattle.recovery.proofs.JoinedCalls.{quiet_after, looked_on}
 use Rattle.medium.specs.declared.fault.MediumFault.TheVariants as medium
+use Rattle.journal.proofs.FaultLaws.{HasFault-stands}
 
 -- a look at contents that stand for something is refused by the device
 pub served_look : (old new : State) (fault : StartFault) → IsLookCause old new fault → Stands old.size old.content → IsDeviceFault fault
-served_look old new Read h s = (medium.Read, refl)
-served_look old new Write h s = (medium.Write, refl)
-served_look old new Flush h s = (medium.Flush, refl)
 served_look old new NoMemory h s = absurd h
 served_look old new fault h s =
     let faultless = λ (f : image.ImageFault) (h : image.HasFault old.size old.content f). HasFault-stands old.size old.content f h s in
-    absurd (search (rules, faultless))
+    search (rules, faultless, h)
 
 -- and so is a start, with a stamp left and enough slots
 module _ (least : ℕ) (old new : State) (shape : Shape) (array : Array) (next : ℕ) (s : StandsFor old.size shape old.content array next)
@@ -71,11 +65,7 @@ recovery_refused old new fault h =
 tries_moved : (format : LogFormat) (shape : Shape) (image : Image) (first tries old new before after more : ℕ) → before ≡ old + more
     → after ≡ new + more → AreTriesOf format shape image first tries old new → AreTriesOf format shape image first tries before after
 tries_moved One shape image first tries old new before after more e f t = omega (arith, e, f, t)
-tries_moved Two shape image first tries old new before after more e f t = search (rules, t.each, t.after_is)
-
-tries_late : (format : LogFormat) (shape : Shape) (image : Image) (first tries before after : ℕ)
-    → AreTriesOf format shape image first tries before after → before ≤ after
-tries_late format shape image first tries before after t = grind (arith, t)
+tries_moved Two shape image first tries old new before after more e f t = (t.0, t.1, t.2, omega (arith, e, f, t.3))
 
 -- how many calls a whole recovery makes at most
 most_start : (format : LogFormat) (slots old mid seen new count : ℕ) → mid ≡ old + 1 → seen ≤ mid + 2 + most_reads_of format * slots
@@ -90,7 +80,7 @@ most_of format slots few = (grind arith, grind arith)
 -- a flush was made, and behind a good one a survey
 pub record IsSurveyed (result : Result (Unit {0}) MediumFault) (old mid seen : State) : Type 0 where
   pub sound : IsSound old
-  pub passes : Passes Flush result old mid
+  pub passes : Passes medium.Flush result old mid
   pub content : Stays old.content mid.content
   pub sets : Within mid.may_leave old.may_leave
   pub sound_mid : IsSound mid
@@ -154,16 +144,16 @@ module _ (least : ℕ) {old mid seen : State} {result : Result (Unit {0}) Medium
   back P h = quiet_before P old mid flushed h
 
   quiet : IsQuiet old seen
-  quiet = quiet_joined old mid seen flushed known.reads.quiet
+  quiet = quiet_joined old mid seen flushed known.reads.only.quiet
 
   same : seen.content ≡ old.content
   same = λ i s. quiet.content_stays s i
 
   one_sent : SendsUpTo 1 old seen
-  one_sent = omega (arith, flush_sends old mid known.passes, none_sent mid seen known.reads.reads)
+  one_sent = omega (arith, flush_sends old mid known.passes, none_sent mid seen known.reads.only.reads)
 
   wrote_nothing : WritesNothing old seen
-  wrote_nothing = search (rules, quiet, known.reads.reads, known.passes.others_made, known.passes.made_is)
+  wrote_nothing = search (rules, quiet, known.reads.only.reads, known.passes.others_made, known.passes.made_is)
 
   -- from the first good flush up to the first write there is one image
   seen_after : Only old.content mid.may_leave → (shape : Shape) (array : Array) (next : ℕ) → IsOurs old.size shape old.content array next
@@ -172,7 +162,7 @@ module _ (least : ℕ) {old mid seen : State} {result : Result (Unit {0}) Medium
       let here = rw (← known.passes.calls_are) at since in
       let is = only_image old.content mid.may_leave only image
       (⊎_elim (λ was. known.sound_mid.only_now image was) (λ now. now)
-      (known.reads.quiet.nothing_else mid.calls image (omega arith) here)) in
+      (known.reads.only.quiet.nothing_else mid.calls image (omega arith) here)) in
       inl (rw is ours)
 
   -- the flush and the survey
@@ -187,7 +177,7 @@ module _ (least : ℕ) {old mid seen : State} {result : Result (Unit {0}) Medium
       (known.reads.most shape (quiet_after (λ n i. image.HasShape n shape i) old mid flushed has)) (omega arith) (omega arith) in
       let looks = λ (near : ℕ) (holds : HoldsLog near old.size old.content). looks_joined (λ s. s < near) old mid seen
       (no_looks _ old mid (known.passes.looked_stays (λ e. cc e)))
-      (known.reads.looks near (quiet_after (λ n i. HoldsLog near n i) old mid flushed holds)) in
+      (known.reads.only.looks near (quiet_after (λ n i. HoldsLog near n i) old mid flushed holds)) in
       search (rules, cuts, seen_after, known.only, moments, known.passes.calls_are, most, one_sent, looks, spared_quiet, quiet, known.sound)
 
   -- a refusal by the survey is one by the flush and it
@@ -200,7 +190,7 @@ module _ (least : ℕ) {old mid seen : State} {result : Result (Unit {0}) Medium
       let same = λ (f : image.ImageFault). back (λ n i. image.HasFault n i f) in
       search (rules, same, wrote_nothing)
 
-  module _ {copied : State} {found : Found} {copies : Result (Unit {0}) MediumFault}
+  module _ {copied : State} {found : _} {copies : Result (Unit {0}) MediumFault}
       (survey : IsSurvey least mid.size mid.content mid.calls seen.calls found) (sound : IsSound copied)
       (copying : Copies (IsHomeInRecords (shape_of found.sizes) seen.content found.head found.count)
       (λ s. s < first_home (shape_of found.sizes)) (most_calls_of found.sizes.format * found.count)
@@ -228,7 +218,7 @@ module _ (least : ℕ) {old mid seen : State} {result : Result (Unit {0}) Medium
 
     -- a survey follows a good flush
     begun : old.calls + 2 ≤ seen.calls
-    begun = omega (arith, tries_late found.sizes.format _ _ _ _ _ _ survey.exact, known.passes.calls_are)
+    begun = let exact = survey.exact in grind (arith, exact, known.passes.calls_are)
 
     -- each sector is as it was, or is the home of a block that is copied
     copied_ours : {array : Array} {next : ℕ} → IsOurs old.size shape old.content array next
@@ -236,7 +226,7 @@ module _ (least : ℕ) {old mid seen : State} {result : Result (Unit {0}) Medium
     copied_ours ours =
         let f = matches ours.stands in
         weaker _ _ _ _ (λ image cut. copies_ours ours found.head found.count f.0 f.1 image
-        (λ x. ⊎_elim (λ left. inl (known.only begun x (image x) (known.reads.quiet.sets_shrink x (image x) left)))
+        (λ x. ⊎_elim (λ left. inl (known.only begun x (image x) (known.reads.only.quiet.sets_shrink x (image x) left)))
         (λ home. inr (rw same at home)) (cut x))) copying.moments
 
     -- nothing behind the image is at home
@@ -259,13 +249,11 @@ module _ (least : ℕ) {old mid seen : State} {result : Result (Unit {0}) Medium
     sent_few : SendsUpTo (limit_of found.sizes.format * found.sizes.slots + 1) old copied
     sent_few = omega (arith, mul-le-mul_left (limit_of found.sizes.format) at_old.count.few, one_sent, copying.sent)
 
-    most : (most_start_of found.sizes.format * found.sizes.slots ≤ 738 * 64)
-        × (most_start_sends found.sizes.format found.sizes.slots ≤ most_start_sends Two 64)
-    most = most_of found.sizes.format found.sizes.slots found.sizes.most_slots
-
     -- at any moment from the first write on each image is ours for the contents
     pub copies_leave : LeavesAtLeast least old copied
-    copies_leave = start_on known.sound served survey_leaves begun
+    copies_leave =
+        let most = most_of found.sizes.format found.sizes.slots found.sizes.most_slots in
+        start_on known.sound served survey_leaves begun
         (λ array next ours. weaker _ _ _ _ (λ image o. inl o) (copied_ours ours)) copied_spares copying.looks
         (few copied.calls 0 (omega arith) (omega arith)) most.0 (omega (arith, sent_few)) most.1
 
@@ -302,7 +290,9 @@ module _ (least : ℕ) {old mid seen : State} {result : Result (Unit {0}) Medium
       -- the copies, and perhaps the new head
       pub moves_leave : {new : State} {moves : Result (Unit {0}) MediumFault} → Writes (λ image. CutLeaves copied.may_leave image
           ⊎ HasNewHead (found.head + found.count + 1) copied.content image) 2 3 copied new moves → LeavesAtLeast least old new
-      moves_leave {new = new} moves = start_on known.sound served copies_leave (omega (arith, begun, copying.moments.later))
+      moves_leave {new = new} moves =
+          let most = most_of found.sizes.format found.sizes.slots found.sizes.most_slots in
+          start_on known.sound served copies_leave (omega (arith, begun, copying.moments.later))
           (λ array next ours. weaker _ _ _ _ (λ image either. ⊎_elim (λ cut. inl (at_exit _ seen copied sound (copied_ours ours) image cut))
           (λ moved. inr (fresh_ours at_old.shape.fits (moved_fresh ours moved))) either) moves.moments)
           (spared_behind 2 (sectors_of shape) copied new (omega arith) moves.spares)
@@ -310,33 +300,32 @@ module _ (least : ℕ) {old mid seen : State} {result : Result (Unit {0}) Medium
           (omega (arith, sent_few, moves.sent)) most.1
 
       module _ (new : State) (head : HasNewHead (found.head + found.count + 1) copied.content new.content) (durable : IsFlushed new) where
-        pub recovery_fresh : (other : Shape) (array : Array) (next : ℕ) → IsOurs old.size other old.content array next
-            → EachCut (IsFresh other array next) new
-        recovery_fresh other array next ours image cut =
-            let is = IsSuper-one other shape (old.content 0) ours.stands.keeps.super at_old.shape.super in
-            rw (is, only_image new.content new.may_leave durable image cut) (moved_fresh (rw is at ours) head)
-
-        pub recovery_from : new.calls ≡ copied.calls + 3
-            → IsRecoveredAtLeast least old new (record { sizes = found.sizes; next = found.head + found.count + 1 })
-        recovery_from last =
+        pub recovery_done : new.calls ≡ copied.calls + 3
+            → IsRecoveredFrom old new (record { sizes = found.sizes; next = found.head + found.count + 1 })
+            × (¬ HasFewSlots least old.size old.content) × ((other : Shape) (array : Array) (next : ℕ)
+            → IsOurs old.size other old.content array next → EachCut (IsFresh other array next) new)
+        recovery_done last =
             let s = stood.stands in
-            let ends = log_ends shape at_old.shape.super.home_is in
-            let from : IsRecoveredFrom old new (record { sizes = found.sizes; next = found.head + found.count + 1 }) = record {
-              array = stood.array;
-              stood = s;
-              stamp_left = at_old.stamp_left;
-              flushed = durable;
-              head = head.head;
-              home = λ b below. head.elsewhere (first_home shape + b) (λ e. omega (arith, e, ends)) ∙ copied_home s b below;
-              elsewhere = λ x not other. head.elsewhere x not
-                  ∙ ⊎_elim (copied_log x) (λ past. copied_spares.content x past ∙ quiet.content_stays x) other;
-              calls = tries_moved found.sizes.format shape old.content s.head (min (length s.records + 1) found.sizes.slots)
-                  (mid.calls + 2) seen.calls (old.calls + 6 + copy_calls found.sizes.format s.records) new.calls
-                  (copy_calls found.sizes.format s.records + 3) (omega (arith, known.passes.calls_are))
-                  (omega (arith, (all_copied s).exact, last))
-                  (rw (stood.head_is, stood.count_is) at_old.exact);
-            } in
-            record { from = from; room = at_old.room }
+            let ends = log_ends shape at_old.shape.super.home_is in (
+              record {
+                array = stood.array;
+                stood = s;
+                stamp_left = at_old.stamp_left;
+                flushed = durable;
+                head = head.head;
+                home = λ b below. head.elsewhere (first_home shape + b) (λ e. omega (arith, e, ends)) ∙ copied_home s b below;
+                elsewhere = λ x not other. head.elsewhere x not
+                    ∙ ⊎_elim (copied_log x) (λ past. copied_spares.content x past ∙ quiet.content_stays x) other;
+                calls = tries_moved found.sizes.format shape old.content s.head (min (length s.records + 1) found.sizes.slots)
+                    (mid.calls + 2) seen.calls (old.calls + 6 + copy_calls found.sizes.format s.records) new.calls
+                    (copy_calls found.sizes.format s.records + 3) (omega (arith, known.passes.calls_are))
+                    (omega (arith, (all_copied s).exact, last)) (rw (stood.head_is, stood.count_is) at_old.exact);
+              },
+              at_old.room,
+              λ other array next ours image cut.
+                  let is = IsSuper-one other shape (old.content 0) ours.stands.keeps.super at_old.shape.super in
+                  rw (is, only_image new.content new.may_leave durable image cut) (moved_fresh (rw is at ours) head),
+            )
 
 -- a recovery is a part of a migration
 start_migrates : (format : LogFormat) (slots old new : ℕ) → new ≤ old + most_start_sends format slots

@@ -1,18 +1,33 @@
--- Why a start is refused.
-use Rattle.std.specs.Prelude.{◌≡◌, ℕ, ◌<◌, ◌+◌}
+-- What is found of an image before the first write, by how many reads, and why a start is refused.
+use Rattle.std.specs.Prelude.{◌≡◌, ◌⊎◌, ℕ, ◌+◌, ◌*◌, ◌^◌, ◌<◌, ◌≤◌, min, List, length, sum}
+use Rattle.std.specs.Prelude.{slice_index, Result, IfOk, IfErr, map, OnOk}
 use Rattle.medium.specs.Medium.{State, Image}
 use Rattle.medium.specs.Moments.{IsQuiet}
-use Rattle.medium.specs.declared.fault.MediumFault.{MediumFault}
-use Rattle.medium.specs.declared.fault.MediumFault.TheVariants as medium
-use Rattle.journal.specs.declared.log_format.LogFormat.TheVariants.{One}
-use Rattle.journal.specs.Places.{Shape}
-use Rattle.journal.specs.Sectors.{IsHead}
-pub use Rattle.journal.specs.Reading.{IsRefusedCall, MakesReadsAlone}
-use Rattle.journal.specs.Standing as image
+use Rattle.journal.specs.declared.log_format.LogFormat.{LogFormat}
+use Rattle.journal.specs.declared.log_format.LogFormat.TheVariants.{One, Two}
+use Rattle.journal.specs.Places.{Shape, slot_sectors_of, sectors_of}
+use Rattle.journal.specs.Formats.{shape_of, IsWhole}
+use Rattle.journal.specs.Sectors.{IsHead, IsSuper, IsSuperFault}
+use Rattle.journal.specs.SectorsTwo.{descriptors_of}
+use Rattle.journal.specs.Reading.{ReadsUpToBad, IsCommitted, HasPlace, NamesBlocks, IsReadInVain}
+use Rattle.journal.specs.Layout.{slot_at}
+use Rattle.journal.specs.Format2.{format2}
+use Rattle.journal.specs.Record.{Entry}
+use Rattle.journal.specs.Standing.{IsCount, StandsFor, Stands}
+use Rattle.recovery.specs.Calls.{most_reads_of, LooksAtLog}
+use Rattle.recovery.specs.declared.found.Found.{Found}
 use Rattle.recovery.specs.declared.start_fault.StartFault.{StartFault}
+use Rattle.spec.specs.Blocks.{Array}
+use Rattle.medium.specs.declared.fault.MediumFault.TheVariants as medium
+use Rattle.journal.specs.declared.super_fault.SuperFault.TheVariants.{Magic, Version, Rest, Sizes}
+use Rattle.journal.specs.ImageFaults.{HasShape}
+use Rattle.journal.specs.ImageFaults as image
+use Rattle.recovery.specs.declared.inspection.Inspection.{Inspection}
 use Rattle.recovery.specs.declared.start_fault.StartFault.TheVariants.{Read, Write, Flush, BadSuper}
 use Rattle.recovery.specs.declared.start_fault.StartFault.TheVariants.{BadVersion, BadSize, BadHead}
 use Rattle.recovery.specs.declared.start_fault.StartFault.TheVariants.{StampsUsedUp, LogTooSmall}
+use Rattle.medium.specs.declared.fault.MediumFault.{MediumFault}
+pub use Rattle.journal.specs.Reading.{IsRefusedCall, MakesReadsAlone}
 
 -- the start's name for a call that the medium refused
 abbrev pub start_fault_of : MediumFault → StartFault
@@ -48,7 +63,7 @@ IsCause old new fault = IsCauseBy WritesNothing old new fault
 -- The image has a good super of format 1 and a good head, but its log has fewer slots than these.
 pub record HasFewSlots (least size : ℕ) (content : Image) : Type 0 where
   pub shape : Shape
-  pub has : image.HasShape size shape content
+  pub has : HasShape size shape content
   pub head : ℕ
   pub head_is : IsHead head (content 1)
   pub one : shape.format ≡ One
@@ -66,3 +81,129 @@ IsRefusalBy least Calls old new fault = IsCauseBy Calls old new fault
 -- the medium refused a call
 abbrev pub IsDeviceFault : StartFault → Type 0
 IsDeviceFault fault = (kind : MediumFault) × (fault ≡ start_fault_of kind)
+
+-- of the record of a stamp in the slot of format 2 that begins at this sector
+module _ (image : Image) (at stamp : ℕ) where
+  -- How many sectors are read in all: the commit, and where it is there, descriptors up to the first
+  -- bad one; or all of them, where they name no such blocks; or all of them, and data places up to
+  -- the first bad one.
+  abbrev pub IsReadInSlot : ℕ → ℕ → Type 0
+  IsReadInSlot blocks reads =
+      (((count : ℕ) → ¬ IsCommitted image at stamp count) × (reads ≡ 1))
+      ⊎ ((count : ℕ) × IsCommitted image at stamp count × (behind : ℕ)
+      × (IsReadInVain image at stamp blocks count behind
+      ⊎ (NamesBlocks image at stamp blocks count × (places : ℕ)
+      × ReadsUpToBad (HasPlace image at stamp) count places
+      × (behind ≡ descriptors_of count + places))) × (reads ≡ 1 + behind))
+
+  -- So many sectors, and no other number of them, are read to tell whether the record is whole.
+  pub record IsTryTwo (blocks reads : ℕ) : Type 0 where
+    pub is : IsReadInSlot blocks reads
+    pub only : (other : ℕ) → IsReadInSlot blocks other → other ≡ reads
+
+-- By the try of a stamp one count of calls becomes another: by two reads in format 1.
+abbrev pub IsTryOf : LogFormat → Shape → Image → ℕ → ℕ → ℕ → Type 0
+IsTryOf One shape image stamp before after = after ≡ before + 2
+IsTryOf Two shape image stamp before after =
+    (reads : ℕ) × IsTryTwo image (slot_at format2 shape stamp) stamp shape.blocks reads
+    × (after ≡ before + reads)
+
+-- so by tries of this many stamps from the first on, by a number of reads for each: by two reads
+-- each in format 1
+abbrev pub AreTriesOf : LogFormat → Shape → Image → ℕ → ℕ → ℕ → ℕ → Type 0
+AreTriesOf One shape image first tries before after = after ≡ before + 2 * tries
+AreTriesOf Two shape image first tries before after =
+    (reads : List ℕ) × (length reads ≡ tries)
+    × ((j : ℕ) → j < tries → IsTryTwo image (slot_at format2 shape (first + j)) (first + j)
+    shape.blocks (slice_index reads j)) × (after ≡ before + sum reads)
+
+-- the image is of this shape
+abbrev pub AreTries : Shape → Image → ℕ → ℕ → ℕ → ℕ → Type 0
+AreTries shape image first tries before after =
+    AreTriesOf shape.format shape image first tries before after
+
+-- the record of this stamp is whole, and has count blocks
+abbrev pub HasCount : Shape → Image → ℕ → ℕ → Type 0
+HasCount shape image stamp count =
+    (entries : List Entry) × IsWhole shape image stamp entries × (count ≡ length entries)
+
+-- As many records as there are counts are whole from the head on, without a gap, and at most as
+-- many as there are slots; and each has as many blocks as its count says.
+pub record AreCounts (shape : Shape) (image : Image) (head : ℕ) (counts : List ℕ) : Type 0 where
+  pub is : IsCount shape image head (length counts)
+  pub each : (j : ℕ) → j < length counts → HasCount shape image (head + j) (slice_index counts j)
+
+-- A survey of a medium of `size` sectors wants at least this many slots in a log of format 1, and
+-- found this: the image has none of the faults. It read the super, the head and, for each stamp
+-- that it tried, what shows whether its record is whole.
+pub record IsSurvey (least size : ℕ) (image : Image) (before after : ℕ) (found : Found)
+    : Type 0 where
+  pub shape : HasShape size (shape_of found.sizes) image
+  pub head : IsHead found.head (image 1)
+  pub count : IsCount (shape_of found.sizes) image found.head found.count
+  pub stamp_left : found.head + found.count + 1 < 2 ^ 63
+  pub room : ¬ HasFewSlots least size image
+  pub exact : AreTries (shape_of found.sizes) image found.head
+      (min (found.count + 1) found.sizes.slots) (before + 2) after
+
+-- The answer is what the contents stand for: their sizes, their head, and of each record that waits
+-- there, in order of the stamps, how many blocks it has.
+pub record IsInspected (old : State) (answer : Inspection) : Type 0 where
+  pub array : Array
+  pub next : ℕ
+  pub stood : StandsFor old.size (shape_of answer.sizes) old.content array next
+  pub head_is : answer.head ≡ stood.head
+  pub counts_are : answer.waiting.items ≡ map (λ entries. length entries) stood.records
+
+-- A look only reads: the super, the head and, for each of 64 slots at most, all of its sectors and
+-- one of them again. Whatever the image, each read names a sector of its log.
+pub record OnlyLooks (old new : State) : Type 0 where
+  pub quiet : IsQuiet old new
+  pub reads : MakesReadsAlone old new
+  pub calls : new.calls ≤ old.calls + 2 + (slot_sectors_of Two + 1) * 64
+  pub looks : LooksAtLog old new
+
+-- A survey only looks, and where the image has a super, at most at its slots.
+pub record SurveysAtMost (old new : State) : Type 0 where
+  pub only : OnlyLooks old new
+  pub most : (shape : Shape) → HasShape old.size shape old.content
+      → new.calls ≤ old.calls + 2 + most_reads_of shape.format * shape.slots
+
+-- Why a look is refused: the medium refused a call, or the image has this fault. A stamp for the
+-- next record is not asked for.
+abbrev pub IsLookCause : State → State → StartFault → Type 0
+IsLookCause old new Read = IsRefusedCall old new medium.Read
+IsLookCause old new Write = IsRefusedCall old new medium.Write
+IsLookCause old new Flush = IsRefusedCall old new medium.Flush
+IsLookCause old new BadSuper = image.HasFault old.size old.content image.BadSuper
+IsLookCause old new BadVersion = image.HasFault old.size old.content image.BadVersion
+IsLookCause old new BadSize = image.HasFault old.size old.content image.BadSize
+IsLookCause old new BadHead = image.HasFault old.size old.content image.BadHead
+IsLookCause old new fault = ⊥
+
+-- The first sectors are looked at, by this many reads where Ok, and no more than that where
+-- refused: what they have, and why not.
+pub record LooksAtFirst {M X : Type 0} (state : M → State) (Follows : M → M → Type 0)
+    (Has : State → X → Type 0) (count : ℕ) (old new : M) (result : Result X StartFault)
+    : Type 0 where
+  pub quiet : IsQuiet (state old) (state new)
+  pub reads : MakesReadsAlone (state old) (state new)
+  pub calls : (state new).calls ≤ (state old).calls + count
+  pub exact : OnOk result ((state new).calls ≡ (state old).calls + count)
+  pub looks : LooksAtLog (state old) (state new)
+  pub ok : IfOk result (Has (state old))
+  pub err : IfErr result (IsLookCause (state old) (state new))
+  pub follows : Follows old new
+
+-- what is wrong with a super on a medium of `size` sectors
+abbrev pub IsSuperCause : ℕ → List ℕ → StartFault → Type 0
+IsSuperCause size sector BadSuper = IsSuperFault Magic sector ⊎ IsSuperFault Rest sector
+IsSuperCause size sector BadVersion = IsSuperFault Version sector
+IsSuperCause size sector BadSize = IsSuperFault Sizes sector
+    ⊎ ((shape : Shape) × IsSuper shape sector × (size < sectors_of shape))
+IsSuperCause size sector fault = ⊥
+
+-- Contents that stand for something are refused by the device alone.
+pub record IsLookRefusal (old new : State) (fault : StartFault) : Type 0 where
+  pub cause : IsLookCause old new fault
+  pub served : Stands old.size old.content → IsDeviceFault fault

@@ -13,7 +13,7 @@ use Rattle.journal.specs.Sectors.{IsSuper, IsHead}
 use Rattle.journal.specs.Standing.{StandsFor, IsOurs, HasShape}
 use Rattle.recovery.specs.Calls.{copy_calls, most_start_of, most_start_sends, LooksAtLog}
 use Rattle.recovery.specs.Causes.{HasFewSlots, IsCause, IsDeviceFault, WritesNothing, IsRefusalBy}
-use Rattle.recovery.specs.Inspected.{AreTries}
+use Rattle.recovery.specs.Causes.{AreTries}
 use Rattle.recovery.specs.declared.recovered.Recovered.{Recovered}
 use Rattle.recovery.specs.declared.start_fault.StartFault.{StartFault}
 
@@ -132,11 +132,6 @@ pub record IsRecoveryRefusal (old new : State) (fault : StartFault) : Type 0 whe
   pub cause : IsCause old new fault
   pub served : (shape : Shape) (array : Array) (next : ℕ)
       → StandsFor old.size shape old.content array next → next < 2 ^ 63 → IsDeviceFault fault
-
--- A recovery that wants at least this many slots in a log of format 1 found them.
-pub record IsRecoveredAtLeast (least : ℕ) (old new : State) (answer : Recovered) : Type 0 where
-  pub from : IsRecoveredFrom old new answer
-  pub room : ¬ HasFewSlots least old.size old.content
 
 -- a log of format 1 in which a slot of format 2 has room
 pub record CanMigrate (shape : Shape) : Type 0 where

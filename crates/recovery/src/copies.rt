@@ -1,12 +1,11 @@
 //! The copying of the whole records home.
-ghost use Rattle.std.specs.Prelude.{◌≡◌, ◌<◌, ◌≤◌, ◌+◌, ◌*◌, ◌^◌, ◌++◌};
-ghost use Rattle.std.specs.Prelude.{List, ℕ, OnOk, length, [], ◌∷◌, get_or, slice_index, drop};
+ghost use Rattle.std.specs.Prelude.{◌≡◌, ◌<◌, ◌≤◌, ◌+◌, ◌*◌, ◌^◌, ◌++◌, List, ℕ, OnOk, length, []};
+ghost use Rattle.std.specs.Prelude.{◌∷◌, get_or, slice_index, drop};
 ghost use Rattle.journal.specs.Places.{first_home, sectors_of, limit_of};
 ghost use Rattle.journal.specs.Formats.{shape_of, IsWhole, HasWhole};
 ghost use Rattle.journal.specs.Record.{Entry};
-ghost use Rattle.recovery.specs.Calls.{Copies};
-ghost use Rattle.recovery.specs.Calls.{most_calls_of, IsHomeOf, IsHomeInRecord, IsHomeInRecords};
-ghost use Rattle.recovery.specs.Calls.{AreBlocks, AreCopied};
+ghost use Rattle.recovery.specs.Calls.{Copies, most_calls_of, IsHomeOf, IsHomeInRecord};
+ghost use Rattle.recovery.specs.Calls.{IsHomeInRecords, AreBlocks, AreCopied};
 ghost use Rattle.journal.specs.Reading.{data_at};
 
 use crate::found::Found;
@@ -72,6 +71,7 @@ fn copy_blocks<M: Medium>(
 }
 
 // Copies the record of this stamp home, which is whole. What is read of it goes through `read`.
+#[tactic(auto, using(crate::proofs::JoinedCalls::none_copies))]
 fn copy_record<M: Medium>(
     m: &mut M,
     sizes: &Super,

@@ -3,9 +3,8 @@ ghost use Rattle.std.specs.Prelude.{◌≡◌, ◌<◌, ◌≤◌, ◌+◌, ◌*
 ghost use Rattle.journal.specs.declared.log_format.LogFormat.TheVariants.{One, Two};
 ghost use Rattle.journal.specs.Places.{new_shape, sectors_of, slot_sectors_of};
 ghost use Rattle.journal.specs.Formats.{shape_of};
-ghost use Rattle.recovery.specs.Calls.{CallsUpTo};
-ghost use Rattle.recovery.specs.Formatted.{AreSizes, IsFormatted, FormatLeaves, IsFormatCause};
-ghost use Rattle.recovery.specs.Formatted.{Formats, WritesImage};
+ghost use Rattle.recovery.specs.Calls.{CallsUpTo, AreSizes, IsFormatted, FormatLeaves};
+ghost use Rattle.recovery.specs.Calls.{IsFormatCause, Formats, WritesImage};
 
 use crate::FormatFault;
 use crate::sectors::{clear, write_through};

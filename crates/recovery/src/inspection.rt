@@ -1,6 +1,6 @@
 //! A look at an image, which changes nothing.
 ghost use Rattle.std.specs.Prelude.{IfOk, IfErr};
-ghost use Rattle.recovery.specs.Inspected.{IsInspected, OnlyLooks, IsLookRefusal};
+ghost use Rattle.recovery.specs.Causes.{IsInspected, OnlyLooks, IsLookRefusal};
 
 use crate::StartFault;
 use crate::record::count_waiting;
@@ -27,6 +27,7 @@ pub struct Inspection {
 /// # Errors
 /// The faults of the image that `recover` names, in the same order. That no stamp is left is none
 /// here: it says nothing of what the image stands for.
+#[tactic(auto, using(crate::proofs::WholeRecovery::served_look))]
 pub fn inspect<M: Medium>(m: &mut M) -> Result<Inspection, StartFault>
     ensures ok { IfOk result (IsInspected (M.state m.old)) }
     ensures err { IfErr result (IsLookRefusal (M.state m.old) (M.state m.new)) }

@@ -1,7 +1,7 @@
 //! The laying of a log before blocks that stay.
 ghost use Rattle.std.specs.Prelude.{◌≡◌, ◌+◌, ◌*◌, OnOk, IfErr};
 ghost use Rattle.journal.specs.Places.{new_shape, first_home};
-ghost use Rattle.recovery.specs.Formatted.{IsLaid, LayingLeaves, IsFormatCause, CallsWithoutReads};
+ghost use Rattle.recovery.specs.Calls.{IsLaid, LayingLeaves, IsFormatCause, CallsWithoutReads};
 
 use crate::FormatFault;
 use crate::formatting::{sizes_of, write_image};

@@ -5,8 +5,7 @@ ghost use Rattle.spec.specs.Blocks.{Array};
 ghost use Rattle.journal.specs.Places.{Shape, sectors_of, migrated};
 ghost use Rattle.journal.specs.Formats.{shape_of};
 ghost use Rattle.journal.specs.Standing.{IsOurs};
-ghost use Rattle.recovery.specs.Recovered.{IsFresh};
-ghost use Rattle.recovery.specs.Recovered.{CanMigrate, IsMigrationBy, IsMigrationRefusal};
+ghost use Rattle.recovery.specs.Recovered.{IsFresh, CanMigrate, IsMigrationBy, IsMigrationRefusal};
 ghost use Rattle.recovery.specs.Recovered.{MigrationLeaves, IsMadeTwo, StaysFresh};
 ghost use Rattle.recovery.specs.Calls.{Writes};
 

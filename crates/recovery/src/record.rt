@@ -1,11 +1,11 @@
 //! The records that are whole.
-ghost use Rattle.std.specs.Prelude.{◌≡◌, ◌≤◌, ◌<◌, ◌+◌, ◌*◌, ◌^◌, true, false, MatchOption};
-ghost use Rattle.std.specs.Prelude.{length, min};
+ghost use Rattle.std.specs.Prelude.{◌≡◌, ◌≤◌, ◌<◌, ◌+◌, ◌*◌, ◌^◌, true, false, MatchOption, length};
+ghost use Rattle.std.specs.Prelude.{min};
 ghost use Rattle.journal.specs.Places.{first_home, sectors_of};
 ghost use Rattle.journal.specs.Formats.{shape_of, HasWhole};
 ghost use Rattle.journal.specs.Reading.{LooksUp};
 ghost use Rattle.recovery.specs.Calls.{most_reads_of};
-ghost use Rattle.recovery.specs.Inspected.{AreTries, AreCounts, IsTryOf, HasCount};
+ghost use Rattle.recovery.specs.Causes.{AreTries, AreCounts, IsTryOf, HasCount};
 
 use arrayvec::ArrayVec;
 use journal::{Record, Super, are_stamped, read_record};
@@ -13,6 +13,7 @@ use medium::{Medium, MediumFault};
 
 /// Reads how many blocks each of the whole records has that follow from the head on, by as many
 /// calls as show it.
+#[tactic(auto, using(journal::proofs::SectorsRead::looks_on, crate::proofs::JoinedCalls::each_once_more))]
 pub(crate) fn count_waiting<M: Medium>(
     m: &mut M,
     sizes: &Super,

@@ -2,8 +2,8 @@
 ghost use Rattle.std.specs.Prelude.{◌≡◌, ◌<◌, ◌≤◌, ◌-◌, ℕ, OnOk, replicate};
 ghost use Rattle.medium.specs.Medium.{Holds, CutLeaves};
 ghost use Rattle.medium.specs.Moments.{IsFlushed};
-ghost use Rattle.recovery.specs.Calls.{FollowsBy, WritesAllPass};
-ghost use Rattle.recovery.specs.Calls.{WithOrWithout, IsBetween, cleared_at};
+ghost use Rattle.recovery.specs.Calls.{FollowsBy, WritesAllPass, WithOrWithout, IsBetween};
+ghost use Rattle.recovery.specs.Calls.{cleared_at};
 
 use medium::{Medium, MediumFault};
 

@@ -6,8 +6,8 @@ ghost use Rattle.journal.specs.Formats.{shape_of};
 ghost use Rattle.journal.specs.Standing.{HasShape};
 ghost use Rattle.journal.specs.Sectors.{IsSuper, IsHead};
 ghost use Rattle.medium.specs.Moments.{IsQuiet};
-ghost use Rattle.recovery.specs.Causes.{IsRefusalBy};
-ghost use Rattle.recovery.specs.Inspected.{IsSuperCause, LooksAtFirst, IsSurvey, SurveysAtMost};
+ghost use Rattle.recovery.specs.Causes.{IsRefusalBy, IsSuperCause, LooksAtFirst, IsSurvey};
+ghost use Rattle.recovery.specs.Causes.{SurveysAtMost};
 
 use crate::StartFault;
 use crate::found::Found;

@@ -4,7 +4,7 @@ use Rattle.std.specs.Prelude.{◌≡◌, ℕ, ◌+◌, Bool, true, List, None, r
 use Rattle.medium.specs.Sim.{Sim, state_of, IsCut}
 use Rattle.journal.specs.declared.log_format.LogFormat.TheVariants.{Two}
 use Rattle.journal.specs.Places.{limit_of}
-use Rattle.recovery.specs.Formatted.{Shape, IsFormatted}
+use Rattle.recovery.specs.Calls.{Shape, IsFormatted}
 use Rattle.recovery.specs.Recovered.{IsMigratedFrom}
 use Rattle.recovery.specs.declared.recovered.Recovered.{Recovered}
 use Rattle.spec.specs.Book.{Book, opened}

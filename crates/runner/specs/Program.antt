@@ -11,7 +11,7 @@ use Rattle.medium.specs.Power.{powered}
 use Rattle.medium.specs.Tally.{none}
 use Rattle.journal.specs.declared.log_format.LogFormat.{LogFormat}
 use Rattle.journal.specs.Places.{new_shape, sectors_of}
-use Rattle.recovery.specs.Formatted.{AreSizes, IsFormatted}
+use Rattle.recovery.specs.Calls.{AreSizes, IsFormatted}
 use Rattle.recovery.specs.Recovered.{IsMigrationBy, IsMigrationCause, MigrationLeaves}
 use Rattle.recovery.specs.declared.recovered.Recovered.{Recovered}
 use Rattle.spec.specs.Packets.{bytes_of}

@@ -3,7 +3,7 @@ ghost use Rattle.std.specs.Prelude.{◌≡◌, ◌⊎◌, ◌↔◌, ℕ, List, 
 ghost use Rattle.std.specs.Prelude.{MatchResult};
 ghost use Rattle.journal.specs.Places.{new_shape, sectors_of};
 ghost use Rattle.medium.specs.ImageFile.{IsImage};
-ghost use Rattle.recovery.specs.Formatted.{AreSizes, IsFormatted};
+ghost use Rattle.recovery.specs.Calls.{AreSizes, IsFormatted};
 ghost use Rattle.runner.specs.Program.{AreImageSizes, IsJustOpened, IsMade, simulated};
 
 use crate::read::{ReadFault, read_to_limit};

@@ -1,6 +1,6 @@
 use Rattle.std.proofs.Common.{ℕ, sym, ap, refl, subst}
 use Rattle.journal.specs.Places.{Shape, new_shape, first_home}
-use Rattle.recovery.specs.Formatted.{AreSizes}
+use Rattle.recovery.specs.Calls.{AreSizes}
 use Rattle.image_calls.specs.Parts.{IsUnderWay}
 use Rattle.image_calls.proofs.OnWay.{begun}
 use Rattle.image_calls.proofs.part.begin_format.Goals as goal

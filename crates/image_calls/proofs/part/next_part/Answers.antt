@@ -1,6 +1,6 @@
 use Rattle.std.proofs.Common.{◌≡◌, ◌∙◌, sym, ap, subst, arith}
 use Rattle.journal.specs.Places.{Shape, new_shape, first_home, sectors_of}
-use Rattle.recovery.specs.Formatted.{IsLaid, LayingLeaves}
+use Rattle.recovery.specs.Calls.{IsLaid, LayingLeaves}
 use Rattle.image_calls.proofs.OnWay.{cleared, made}
 use Rattle.image_calls.proofs.part.next_part.Goals as goal
 

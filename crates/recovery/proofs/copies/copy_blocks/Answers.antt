@@ -6,12 +6,11 @@ use Rattle.journal.specs.Formats.{layout_of, shape_of}
 use Rattle.journal.specs.Reading.{data_at}
 use Rattle.journal.proofs.SectorsRead.{place_before}
 use Rattle.recovery.proofs.JoinedCalls.{copies_on}
-use Rattle.recovery.proofs.copies.copy_blocks.Given as given
 use Rattle.recovery.proofs.copies.copy_blocks.Goals as goal
 use Rattle.recovery.proofs.copies.copy_blocks.Goals.{After-first}
 
 -- the sector that is read has the data of the block and stands in the log, and the one that is written is its home
-at_block : (g : given.Over) (c : After-first g) → (c.loop-i.i < length c.args.read.now.numbers.items)
+at_block : (g : _) (c : After-first g) → (c.loop-i.i < length c.args.read.now.numbers.items)
     × (c.copy_place.result ≡ data_at (shape_of c.args.sizes.now) c.args.stamp c.loop-i.i)
     × (c.copy_place.result < first_home (shape_of c.args.sizes.now))
     × (c.home_of.result ≡ first_home (shape_of c.args.sizes.now) + get_or c.args.read.now.numbers.items c.loop-i.i 0)
@@ -24,19 +23,15 @@ at_block g c =
     (mod_below c.args.stamp sizes.slots sizes.some_slots) (omega (arith, inside, c.requires.blocks.few)) in
     (inside, from, omega (arith, from, low), rw c.deref.ensures.0 at c.home_of.ensures)
 
-pub copy_sector-requires-clause-from_inside : goal.copy_sector-requires-clause-from_inside
-copy_sector-requires-clause-from_inside g c =
-    omega (
-      arith,
-      (at_block g (goal.at.copy_sector-requires-clause-from_inside g c).After-first).2,
-      c.requires.fits,
-      c.loop-i.invariant.copies.moments.size_stays,
-    )
-
-pub copy_sector-requires-clause-to_inside : goal.copy_sector-requires-clause-to_inside
-copy_sector-requires-clause-to_inside g c =
-    let at = at_block g (goal.at.copy_sector-requires-clause-to_inside g c).After-first in
-    omega (arith, at.3, c.requires.blocks.inside c.loop-i.i 0 at.0, c.requires.fits, c.loop-i.invariant.copies.moments.size_stays)
+pub copy_sector-requires : goal.copy_sector-requires
+copy_sector-requires g c =
+    let at = at_block g (goal.at.copy_sector-requires g c).After-first in
+    let size = c.loop-i.invariant.copies.moments.size_stays in
+    record {
+      from_inside = omega (arith, at.2, c.requires.fits, size);
+      to_inside = omega (arith, at.3, c.requires.blocks.inside c.loop-i.i 0 at.0, c.requires.fits, size);
+      few = omega (arith, c.first.ensures.few);
+    }
 
 pub returns-in_err-copy_sector-clause-copies : goal.returns-in_err-copy_sector-clause-copies
 returns-in_err-copy_sector-clause-copies g c =

@@ -1,5 +1,5 @@
-use Rattle.std.proofs.Common.{◌≡◌, ◌∙◌, ◌+◌, ◌*◌, ◌++◌, ◌≤◌, List, [], ℕ, length, drop, get_or, refl, ap, subst, arith, rules}
-use Rattle.std.specs.Prelude.{Some}
+use Rattle.std.proofs.Common.{◌≡◌, ◌∙◌, ◌+◌, ◌*◌, ◌++◌, ◌≤◌, List, [], ℕ, length, drop, get_or, refl, ap, subst, arith}
+use Rattle.std.proofs.Common.{rules, Some}
 use Rattle.std.proofs.lemmas.Result.{on_ok_weaker}
 use Rattle.medium.specs.Medium.{Image}
 use Rattle.journal.specs.declared.log_format.LogFormat.{LogFormat}
@@ -7,15 +7,12 @@ use Rattle.journal.specs.declared.record.Record.{Record}
 use Rattle.journal.specs.Places.{Shape, first_home, limit_of}
 use Rattle.journal.specs.Record.{numbers_of, home_of}
 use Rattle.journal.specs.Formats.{shape_of}
-use Rattle.journal.specs.Reading.{record_reads_of, data_at, IsReadFor, FindsRecord}
+use Rattle.journal.specs.Reading.{record_reads_of, data_at, IsReadFor}
 use Rattle.journal.proofs.Formats.{most_is}
-use Rattle.journal.proofs.Wholeness.{with_blocks-copied}
-use Rattle.recovery.specs.Calls.{AreBlocks, IsHomeOf, calls_of, most_calls_of}
-use Rattle.recovery.proofs.CopiedRecords.{number_of, long_as}
-use Rattle.recovery.proofs.JoinedCalls.{none_copies, copies_on}
-use Rattle.recovery.proofs.copies.copy_record.Given as given
+use Rattle.journal.proofs.Overlay.{with_blocks-copied}
+use Rattle.recovery.specs.Calls.{IsHomeOf, calls_of, most_calls_of}
+use Rattle.recovery.proofs.JoinedCalls.{number_of, long_as, none_copies, copies_on}
 use Rattle.recovery.proofs.copies.copy_record.Goals as goal
-use Rattle.recovery.proofs.copies.copy_record.Goals.{Then-branch}
 
 -- as many calls as it takes
 calls_made : (format : LogFormat) (shape : Shape) (image : Image) (stamp : ℕ) (read : Record) (n reads old mid new : ℕ)
@@ -27,39 +24,22 @@ calls_made format shape image stamp read n reads old mid new is long first last 
 most_copied : (format : LogFormat) (n : ℕ) → n ≤ limit_of format → record_reads_of format + 2 * n ≤ most_calls_of format
 most_copied format n few = grind arith
 
--- what was found of the record
-found : (g : given.Over) (c : Then-branch g) → FindsRecord (shape_of c.args.sizes.now) c.args.stamp (g.M.Medium.state c.args.m.now)
-    (g.M.Medium.state c.read_record.new.m) (Some c.read_record.new.to)
-found g c = rw c.if-branch.true at c.in_ok-read_record.ensures.finds
-
 -- the numbers that were read are those of blocks
-blocks : (g : given.Over) (c : Then-branch g) → AreBlocks (shape_of c.args.sizes.now) c.read_record.new.to.numbers.items
-blocks g c =
+pub copy_blocks-requires-clause-blocks : goal.copy_blocks-requires-clause-blocks
+copy_blocks-requires-clause-blocks g c =
     let entries = c.requires.whole.0 in
     let fit = c.requires.whole.1.fit in
-    rw ((found g c).all entries c.requires.whole.1).numbers_are
+    let finds = rw c.if-branch.true at c.in_ok-read_record.ensures.finds in
+    rw (finds.all entries c.requires.whole.1).numbers_are
     (search (rules, long_as entries (numbers_of entries) refl, most_is c.args.sizes.now.format, fit.rising, fit.inside))
-
-pub copy_blocks-requires-clause-blocks : goal.copy_blocks-requires-clause-blocks
-copy_blocks-requires-clause-blocks g c = blocks g (goal.at.copy_blocks-requires-clause-blocks g c).Then-branch
-
-pub returns-in_err-read_record-clause-copies : goal.returns-in_err-read_record-clause-copies
-returns-in_err-read_record-clause-copies g c =
-    none_copies (g.met.M.Medium.sound c.args.m.now) c.read_record.ensures (omega (arith, most_copied c.args.sizes.now.format 0))
-    (search rules)
-
--- there is a record
-pub returns-else-branch : goal.returns-else-branch
-returns-else-branch g c =
-    absurd ((rw c.if-branch.false at c.in_ok-read_record.ensures.finds).all c.requires.whole.0 c.requires.whole.1)
 
 pub returns-then-branch-clause-copies : goal.returns-then-branch-clause-copies
 returns-then-branch-clause-copies g c =
-    let at = (goal.at.returns-then-branch-clause-copies g c).Then-branch in
     let shape = shape_of c.args.sizes.now in
     let whole = c.requires.whole in
-    let is = (found g at).all whole.0 whole.1 in
-    let few = (blocks g at).few in
+    let is = (rw c.if-branch.true at c.in_ok-read_record.ensures.finds).all whole.0 whole.1 in
+    let few : length c.read_record.new.to.numbers.items ≤ limit_of shape.format =
+    omega (arith, long_as whole.0 _ is.numbers_are, most_is shape.format, whole.1.fit.few) in
     copies_on {less = 0} (g.met.M.Medium.sound c.read_record.new.m)
     (λ x h. (whole.0, whole.1, subst (λ (l : List ℕ). IsHomeOf shape l x) is.numbers_are h)) (λ s below. below)
     (none_copies (g.met.M.Medium.sound c.args.m.now) c.read_record.ensures (omega arith) c.read_record.ensures.passes.cause)
@@ -67,7 +47,7 @@ returns-then-branch-clause-copies g c =
 
 pub returns-then-branch-clause-done : goal.returns-then-branch-clause-done
 returns-then-branch-clause-done g c entries all =
-    let finds = found g (goal.at.returns-then-branch-clause-done g c).Then-branch in
+    let finds = rw c.if-branch.true at c.in_ok-read_record.ensures.finds in
     let shape = shape_of c.args.sizes.now in
     let ns = c.read_record.new.to.numbers.items in
     let its = finds.all entries all in

@@ -5,10 +5,8 @@ use Rattle.journal.specs.Places.{first_home}
 use Rattle.journal.specs.Record.{Entry, with_records, home_of}
 use Rattle.journal.specs.Formats.{shape_of}
 use Rattle.recovery.specs.Calls.{calls_of, copy_calls, IsHomeInRecord, IsHomeInRecords}
-use Rattle.journal.proofs.Wholeness.{with_blocks-same, with_records-append}
-use Rattle.recovery.proofs.CopiedRecords.{not_in_log, whole_same}
-use Rattle.recovery.proofs.JoinedCalls.{each_once_more, copies_on}
-use Rattle.recovery.proofs.copies.copy_records.Given as given
+use Rattle.journal.proofs.Overlay.{with_blocks-same, with_records-append}
+use Rattle.recovery.proofs.JoinedCalls.{not_in_log, whole_same, each_once_more, copies_on}
 use Rattle.recovery.proofs.copies.copy_records.Goals as goal
 use Rattle.recovery.proofs.copies.copy_records.Goals.{In-loop-j}
 
@@ -19,13 +17,13 @@ copy_calls-append format [] entries = omega arith
 copy_calls-append format (r ∷ records) entries = let more = copy_calls-append format records entries in omega (arith, more)
 
 -- the log is as it was
-same_log : (g : given.Over) (c : In-loop-j g) (y : ℕ) → y < first_home (shape_of c.args.found.now.sizes)
+same_log : (g : _) (c : In-loop-j g) (y : ℕ) → y < first_home (shape_of c.args.found.now.sizes)
     → (g.M.Medium.state c.loop-j.m).content y ≡ (g.M.Medium.state c.args.m.now).content y
 same_log g c y below = c.loop-j.invariant.copies.elsewhere y
     (not_in_log (shape_of c.args.found.now.sizes) _ c.args.found.now.head c.args.found.now.count y below)
 
 -- where a block of this record is at home, one of the records is
-in_records : (g : given.Over) (c : In-loop-j g) (x : ℕ)
+in_records : (g : _) (c : In-loop-j g) (x : ℕ)
     → IsHomeInRecord (shape_of c.args.found.now.sizes) (g.M.Medium.state c.loop-j.m).content (c.args.found.now.head + c.loop-j.j) x
     → IsHomeInRecords (shape_of c.args.found.now.sizes) (g.M.Medium.state c.args.m.now).content c.args.found.now.head
     c.args.found.now.count x

@@ -1,14 +1,12 @@
-use Rattle.std.proofs.Common.{◌+◌, ◌∙◌, arith, rules, ap, replicate}
-use Rattle.std.specs.Prelude.{OnOk}
+use Rattle.std.proofs.Common.{◌+◌, ◌∙◌, arith, rules, ap, replicate, OnOk}
 use Rattle.journal.specs.Places.{new_shape, sectors_of, first_home}
-use Rattle.recovery.specs.Formatted.{IsMade, FormatLeaves, WritesImage}
+use Rattle.recovery.specs.Calls.{IsMade, FormatLeaves, WritesImage}
 use Rattle.recovery.proofs.JoinedCalls.{image_made}
-use Rattle.recovery.proofs.formatting.make.Given as given
 use Rattle.recovery.proofs.formatting.make.Goals as goal
 use Rattle.recovery.proofs.formatting.make.Goals.{After-write_image}
 
 -- an image of the sizes that were wanted is made, with blocks of zeros
-made : (g : given.Over) (c : After-write_image g) → let shape = new_shape c.args.format c.args.blocks c.args.slots in
+made : (g : _) (c : After-write_image g) → let shape = new_shape c.args.format c.args.blocks c.args.slots in
     WritesImage shape (sectors_of shape) (g.M.Medium.state c.args.m.now) (g.M.Medium.state c.write_image.new.m) c.write_image.result
     × OnOk c.write_image.result (IsMade shape (λ b. replicate 512 0) (sectors_of shape) (g.M.Medium.state c.args.m.now)
     (g.M.Medium.state c.write_image.new.m))

@@ -3,16 +3,14 @@ use Rattle.std.proofs.lemmas.Result.{on_ok_weaker}
 use Rattle.medium.specs.Medium.{Image, Holds, CutLeaves}
 use Rattle.medium.proofs.Moments.{at_exit}
 use Rattle.journal.specs.Formats.{shape_of}
-use Rattle.recovery.specs.Calls.{Writes}
-use Rattle.recovery.specs.Formatted.{IsWritten, IsNoneOrWritten}
+use Rattle.recovery.specs.Calls.{Writes, IsWritten, IsNoneOrWritten}
 use Rattle.recovery.proofs.JoinedCalls.{wider, writes_on, through_writes, clear_writes, made_image}
-use Rattle.recovery.proofs.formatting.write_image.Given as given
 use Rattle.recovery.proofs.formatting.write_image.Goals as goal
 use Rattle.recovery.proofs.formatting.write_image.Goals.{After-write_through, After-clear, After-write_through-2}
 use Rattle.recovery.proofs.formatting.write_image.Goals.{After-write_through-3}
 
 -- the super is cleared
-first : (g : given.Over) (c : After-write_through g) → Writes (λ image. CutLeaves (g.M.Medium.state c.args.m.now).may_leave image
+first : (g : _) (c : After-write_through g) → Writes (λ image. CutLeaves (g.M.Medium.state c.args.m.now).may_leave image
     ⊎ IsNoneOrWritten (shape_of c.args.sizes.now) c.args.end (g.M.Medium.state c.args.m.now).content image) c.args.end 2
     (g.M.Medium.state c.args.m.now) (g.M.Medium.state c.write_through.new.m) c.write_through.result
 first g c =
@@ -22,7 +20,7 @@ first g c =
     (λ image cut. inl cut) (λ was image cut holds. inr (inl holds.here))
 
 -- while the log is cleared there is none: sector 0 has zeros
-cleared : (g : given.Over) (c : After-clear g) → Writes (λ image. image 0 ≡ replicate 512 0) c.args.end (c.args.end - 1)
+cleared : (g : _) (c : After-clear g) → Writes (λ image. image 0 ≡ replicate 512 0) c.args.end (c.args.end - 1)
     (g.M.Medium.state c.write_through.new.m) (g.M.Medium.state c.clear.new.m) c.clear.result
 cleared g c =
     let done = c.in_ok-write_through.ensures.done in
@@ -30,7 +28,7 @@ cleared g c =
     (λ image cut. ⊎_elim (λ was. done.1 0 (image 0) was ∙ done.0.here) (λ zeros. absurd (omega (arith, zeros.0.0))) (cut 0))
 
 -- nor while the head is written
-headed : (g : given.Over) (c : After-write_through-2 g) → Writes (λ image. image 0 ≡ replicate 512 0) c.args.end (c.args.end + 1)
+headed : (g : _) (c : After-write_through-2 g) → Writes (λ image. image 0 ≡ replicate 512 0) c.args.end (c.args.end + 1)
     (g.M.Medium.state c.write_through.new.m) (g.M.Medium.state c.write_through-2.new.m) c.write_through-2.result
 headed g c =
     let home = c.args.sizes.now.home_is.0 in
@@ -43,7 +41,7 @@ headed g c =
     (search (rules, arith, home, c.requires.log))
 
 -- an image with the super then has the head, zeros up to the end, and behind it what was there
-written : (g : given.Over) (c : After-write_through-3 g) (image : Image)
+written : (g : _) (c : After-write_through-3 g) (image : Image)
     → Holds 0 c.encode-2.result (g.M.Medium.state c.write_through-2.new.m).content image
     → IsWritten (shape_of c.args.sizes.now) c.args.end (g.M.Medium.state c.args.m.now).content image
 written g c image holds =
@@ -68,14 +66,11 @@ returns-clause-image g c =
     let before = headed g at.After-write_through-2 in
     let head = c.in_ok-write_through-2.ensures.done.1 in
     let none = at_exit _ _ _ (g.met.M.Medium.sound c.write_through-2.new.m) before.moments in
-    let super : Writes (IsNoneOrWritten (shape_of c.args.sizes.now) c.args.end
-    (g.M.Medium.state c.args.m.now).content) c.args.end 2 (g.M.Medium.state c.write_through-2.new.m)
-    (g.M.Medium.state c.write_through-3.new.m) c.write_through-3.result =
-    through_writes (g.met.M.Medium.sound c.write_through-3.new.m) (omega (arith, home, c.requires.log)) last.writes last.follows
-    (λ image cut. inl (none image cut)) (λ was image cut holds. inr (written g at.After-write_through-3 image
-    (record { here = holds.here; elsewhere = λ t not. holds.elsewhere t not ∙ head t (was t) (cut t) }))) in
     made_image (first g at.After-write_through) c.in_ok-write_through.ensures.writes.exact
-    (writes_on {most = c.args.end + 3} {result = c.write_through-3.result} (wider _ _ (λ image is. inl is) (omega arith) before) super
+    (writes_on {most = c.args.end + 3} {result = c.write_through-3.result} (wider _ _ (λ image is. inl is) (omega arith) before)
+    (through_writes (g.met.M.Medium.sound c.write_through-3.new.m) (omega (arith, home, c.requires.log)) last.writes last.follows
+    (λ image cut. inl (none image cut)) (λ was image cut holds. inr (written g at.After-write_through-3 image
+    (record { here = holds.here; elsewhere = λ t not. holds.elsewhere t not ∙ head t (was t) (cut t) }))))
     (omega arith) (search rules) (search (rules, arith))) (omega arith) (search rules) (search (rules, arith))
     (on_ok_weaker c.write_through-3.result (λ done. (written g at.After-write_through-3 _ done.0, done.1)) last.done)
 

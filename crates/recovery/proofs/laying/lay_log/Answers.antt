@@ -1,14 +1,12 @@
-use Rattle.std.proofs.Common.{◌+◌, ap, arith}
-use Rattle.std.specs.Prelude.{OnOk}
+use Rattle.std.proofs.Common.{◌+◌, ap, arith, OnOk}
 use Rattle.journal.specs.Places.{first_home, new_shape}
-use Rattle.recovery.specs.Formatted.{IsLaid, LayingLeaves}
+use Rattle.recovery.specs.Calls.{IsLaid, LayingLeaves}
 use Rattle.recovery.proofs.JoinedCalls.{image_made}
-use Rattle.recovery.proofs.laying.lay_log.Given as given
 use Rattle.recovery.proofs.laying.lay_log.Goals as goal
 use Rattle.recovery.proofs.laying.lay_log.Goals.{After-write_image}
 
 -- an image is made around what home held
-made : (g : given.Over) (c : After-write_image g) → let shape = new_shape c.args.format c.args.blocks c.args.slots in
+made : (g : _) (c : After-write_image g) → let shape = new_shape c.args.format c.args.blocks c.args.slots in
     OnOk c.write_image.result (IsLaid shape (g.M.Medium.state c.args.m.now) (g.M.Medium.state c.write_image.new.m))
     × LayingLeaves shape (g.M.Medium.state c.args.m.now) (g.M.Medium.state c.write_image.new.m)
 made g c =

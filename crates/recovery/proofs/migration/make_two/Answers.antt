@@ -1,7 +1,6 @@
-use Rattle.std.proofs.Common.{◌≡◌, ◌≢◌, ◌⊎◌, inl, inr, ⊎_elim, ℕ, ◌+◌, ◌*◌, ◌-◌, ◌≤◌, ap, subst, ◌∙◌, rules, arith, Result}
-use Rattle.std.specs.Prelude.{replicate}
+use Rattle.std.proofs.Common.{◌≡◌, ◌≢◌, ◌⊎◌, inl, inr, ⊎_elim, ℕ, ◌+◌, ◌*◌, ◌-◌, ◌≤◌, ap, subst, ◌∙◌, rules, arith}
+use Rattle.std.proofs.Common.{Result, replicate}
 use Rattle.medium.specs.Medium.{State, Image}
-use Rattle.medium.specs.declared.fault.MediumFault.{MediumFault}
 use Rattle.medium.proofs.Moments.{at_exit}
 use Rattle.spec.specs.Blocks.{Array}
 use Rattle.journal.specs.Places.{Shape, first_home, migrated}
@@ -10,9 +9,7 @@ use Rattle.journal.specs.Formats.{layout_of, shape_of}
 use Rattle.journal.proofs.Formats.{laws_of}
 use Rattle.recovery.specs.Calls.{Writes, IsBetween}
 use Rattle.recovery.specs.Recovered.{StaysFresh, IsFresh}
-use Rattle.recovery.proofs.CopiedRecords.{log_ends, zeros_fresh}
-use Rattle.recovery.proofs.JoinedCalls.{wider, writes_on, clear_writes, through_writes}
-use Rattle.recovery.proofs.migration.make_two.Given as given
+use Rattle.recovery.proofs.JoinedCalls.{log_ends, zeros_fresh, wider, writes_on, clear_writes, through_writes}
 use Rattle.recovery.proofs.migration.make_two.Goals as goal
 use Rattle.recovery.proofs.migration.make_two.Goals.{After-clear, After-move_head, After-write_through}
 
@@ -39,12 +36,12 @@ still_fresh {shape = shape} {before = before} {image = image} least wiped fresh 
     }
 
 -- so where an image may have become format 2
-still : {X : Type 0} {before : Image} {next end count : ℕ} {old new : State} {result : Result X MediumFault} (shape : Shape) → 1 ≤ next
+still : {X : Type 0} {before : Image} {next end count : ℕ} {old new : State} {result : Result X _} (shape : Shape) → 1 ≤ next
     → Writes (IsWiped shape next before) end count old new result → Writes (StaysFresh shape next before) end count old new result
 still shape least so = wider _ _ (λ image is array fresh. inl (still_fresh least is fresh)) (omega arith) so
 
 -- while the log is wiped
-wiped : (g : given.Over) (c : After-clear g) → Writes
+wiped : (g : _) (c : After-clear g) → Writes
     (IsWiped (shape_of c.args.found.now.sizes) c.args.found.now.next (g.M.Medium.state c.args.m.now).content)
     c.args.found.now.sizes.home (c.args.found.now.sizes.home - 2) (g.M.Medium.state c.args.m.now) (g.M.Medium.state c.clear.new.m)
     c.clear.result
@@ -57,7 +54,7 @@ wiped g c =
     ))
 
 -- and the head is written
-headed : (g : given.Over) (c : After-move_head g) → Writes
+headed : (g : _) (c : After-move_head g) → Writes
     (IsWiped (shape_of c.args.found.now.sizes) c.args.found.now.next (g.M.Medium.state c.args.m.now).content)
     c.args.found.now.sizes.home (c.args.found.now.sizes.home + 1) (g.M.Medium.state c.args.m.now) (g.M.Medium.state c.move_head.new.m)
     c.move_head.result
@@ -72,7 +69,7 @@ headed g c =
     (omega (arith, ends)) c.move_head.ensures.writes) (omega (arith, ends)) (search rules) (search (rules, arith, ends))
 
 -- and the super of format 2
-made : (g : given.Over) (c : After-write_through g) → Writes
+made : (g : _) (c : After-write_through g) → Writes
     (StaysFresh (shape_of c.args.found.now.sizes) c.args.found.now.next (g.M.Medium.state c.args.m.now).content)
     c.args.found.now.sizes.home (c.args.found.now.sizes.home + 3) (g.M.Medium.state c.args.m.now)
     (g.M.Medium.state c.write_through.new.m) c.write_through.result
@@ -100,19 +97,13 @@ made g c =
 
 pub returns-in_err-clear-clause-writes : goal.returns-in_err-clear-clause-writes
 returns-in_err-clear-clause-writes g c =
-    search (
-      rules,
-      still (shape_of c.args.found.now.sizes) c.requires.least
-          (wiped g (goal.at.returns-in_err-clear-clause-writes g c).After-clear),
-    )
+    let so = wiped g (goal.at.returns-in_err-clear-clause-writes g c).After-clear in
+    search (rules, still (shape_of c.args.found.now.sizes) c.requires.least so)
 
 pub returns-in_err-move_head-clause-writes : goal.returns-in_err-move_head-clause-writes
 returns-in_err-move_head-clause-writes g c =
-    search (
-      rules,
-      still (shape_of c.args.found.now.sizes) c.requires.least
-          (headed g (goal.at.returns-in_err-move_head-clause-writes g c).After-move_head),
-    )
+    let so = headed g (goal.at.returns-in_err-move_head-clause-writes g c).After-move_head in
+    search (rules, still (shape_of c.args.found.now.sizes) c.requires.least so)
 
 pub returns-in_err-write_through-clause-writes : goal.returns-in_err-write_through-clause-writes
 returns-in_err-write_through-clause-writes g c =

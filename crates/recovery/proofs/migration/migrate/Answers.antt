@@ -1,10 +1,9 @@
-use Rattle.std.proofs.Common.{◌≡◌, inl, inr, ⊎_elim, ℕ, ◌+◌, ◌*◌, ◌<◌, length, refl, ◌∙◌, arith, rules, min, Result}
+use Rattle.std.proofs.Common.{◌≡◌, inl, inr, ⊎_elim, ℕ, ◌+◌, ◌*◌, ◌<◌, ◌≤◌, length, refl, ◌∙◌, arith, rules, min, Result}
 use Rattle.std.proofs.lemmas.Result.{err_from_is_err_and}
 use Rattle.medium.specs.Medium.{State, IsSound}
-use Rattle.medium.specs.Moments.{EachCut, LeavesOnly}
+use Rattle.medium.specs.Moments.{EachCut}
 use Rattle.spec.specs.Blocks.{Array}
 use Rattle.medium.specs.Sent.{SendsUpTo}
-use Rattle.medium.specs.declared.fault.MediumFault.{MediumFault}
 use Rattle.medium.specs.declared.fault.MediumFault.TheVariants as medium
 use Rattle.medium.proofs.Moments.{weaker, only_image}
 use Rattle.medium.proofs.SectorsRead.{no_looks}
@@ -17,108 +16,103 @@ use Rattle.journal.proofs.SectorNumbers.{IsSuper-one}
 use Rattle.journal.specs.Standing.{IsOurs}
 use Rattle.journal.proofs.StandingLaws.{StandsFor-one, StandsFor-shape}
 use Rattle.recovery.specs.Calls.{Writes, copy_calls}
-use Rattle.recovery.specs.Causes.{start_fault_of, IsRefusedCall}
-use Rattle.recovery.specs.Recovered.{IsRecoveredAtLeast, IsFresh, LeavesAtLeast}
-use Rattle.recovery.specs.Recovered.{CanMigrate, IsMadeTwo, IsMigratedFrom, IsMigrationRefusal, StaysFresh, IsOursInEither, MigrationLeaves}
-use Rattle.recovery.specs.Recovered.{most_migration_sends}
+use Rattle.recovery.specs.Causes.{HasFewSlots, start_fault_of, IsRefusedCall}
+use Rattle.recovery.specs.Recovered.{IsRecoveredFrom, IsFresh, LeavesAtLeast, CanMigrate, IsMadeTwo, IsMigratedFrom}
+use Rattle.recovery.specs.Recovered.{IsMigrationRefusal, StaysFresh, MigrationLeaves, most_migration_sends}
 use Rattle.recovery.specs.declared.recovered.Recovered.{Recovered}
 use Rattle.recovery.proofs.WholeRecovery.{recovery_leaves, served_slots, start_on}
-use Rattle.recovery.proofs.CopiedRecords.{log_ends, AreSame, zeros_fresh, fresh_ours}
-use Rattle.recovery.proofs.migration.migrate.Given as given
+use Rattle.recovery.proofs.JoinedCalls.{log_ends, AreSame, zeros_fresh, fresh_ours}
 use Rattle.recovery.proofs.migration.migrate.Goals as goal
 use Rattle.recovery.proofs.migration.migrate.Goals.{After-make_two}
 
-module _ {old mid : State} {found : Recovered} (start : IsRecoveredAtLeast 5 old mid found) (one : found.sizes.format ≡ One) where
+module _ {old mid : State} {found : _} (start : IsRecoveredFrom old mid found × (¬ HasFewSlots 5 old.size old.content))
+    (one : found.sizes.format ≡ One) where
   abbrev shape : Shape
   shape = shape_of found.sizes
 
   -- there is room for a slot of format 2
   pub can_migrate : CanMigrate (shape_of found.sizes)
   can_migrate =
-      let has = StandsFor-shape old.size shape old.content start.from.array found.next start.from.stood in
-      let few = λ (few : found.sizes.slots < 5). start.room (search (rules, has, few)) in
+      let has = StandsFor-shape old.size shape old.content start.0.array found.next start.0.stood in
+      let few = λ (few : found.sizes.slots < 5). start.1 (search (rules, has, few)) in
       record { one = one; room = omega (arith, few) }
 
   -- the calls of a recovery of format 1
-  tried : mid.calls ≡ old.calls + 6 + copy_calls One start.from.stood.records
-      + 2 * min (length start.from.stood.records + 1) found.sizes.slots
-  tried = let calls = rw one at start.from.calls in omega (arith, calls)
+  tried : mid.calls ≡ old.calls + 6 + copy_calls One start.0.stood.records
+      + 2 * min (length start.0.stood.records + 1) found.sizes.slots
+  tried = let calls = rw one at start.0.calls in omega (arith, calls)
 
   -- home begins behind the log
   home_is : found.sizes.home ≡ 2 + 50 * found.sizes.slots
   home_is = let home = rw one at found.sizes.home_is in omega (arith, home)
 
-  module _ {new : State} {made : Result Recovered MediumFault}
+  module _ {new : State} {made : Result Recovered _}
       (making : Writes (StaysFresh (shape_of found.sizes) found.next mid.content) found.sizes.home (found.sizes.home + 3) mid new made)
     where
       -- the home sectors hold what recovery left there
-      kept_home : AreSame (shape_of found.sizes) (home_of shape new.content) start.from.array
-      kept_home b below = making.spares.content (first_home shape + b) (omega arith) ∙ start.from.home b below
+      kept_home : AreSame (shape_of found.sizes) (home_of shape new.content) start.0.array
+      kept_home b below = making.spares.content (first_home shape + b) (omega arith) ∙ start.0.home b below
 
-      module _ (sound_old : IsSound old) (sound_mid : IsSound mid)
-          (fresh : (shape : Shape) (array : Array) (next : ℕ) → IsOurs old.size shape old.content array next
-          → EachCut (IsFresh shape array next) mid) where
-        -- each image is ours for the contents
-        leaves_ours : (array : Array) (next : ℕ) → IsOurs old.size shape old.content array next
-            → LeavesOnly (IsOursInEither old.size shape array next) mid new
-        leaves_ours array next ours =
-            let same = (StandsFor-one _ _ _ _ _ _ _ _ _ ours.stands start.from.stood).1 in
-            let fits = start.from.stood.fits in
-            let before = fresh shape array found.next (rw same at ours) mid.content sound_mid.holds_content in
-            rw same (weaker _ _ _ _ (λ image either. ⊎_elim (λ was. inl (inr (fresh_ours fits was)))
-            (λ two. inr (can_migrate, fresh_ours fits two)) (either array before)) making.moments)
-
-        pub migration_leaves : LeavesAtLeast 5 old mid → MigrationLeaves old new
-        migration_leaves before =
-            let has = StandsFor-shape old.size shape old.content start.from.array found.next start.from.stood in
-            let most = rw one at (before.most shape has) in
-            let sends : SendsUpTo (most_migration_sends One found.sizes.slots) old new =
-            let most = rw one at (before.sends.most shape has) in omega (arith, most, making.sent, home_is) in
-            start_on {shape = shape} sound_old (search (rules, start.from.stood, start.from.stamp_left, start.room))
-            (recovery_leaves old mid before) (omega (arith, tried)) leaves_ours
-            (spared_behind (first_home shape) (sectors_of shape) mid new (omega arith) making.spares)
-            (no_looks _ mid new making.reads.looked_stays)
-            (omega (arith, most, making.calls, home_is, found.sizes.most_slots)) (omega arith)
-            (rw one sends) (rw one (omega (arith, found.sizes.most_slots)))
+      pub migration_leaves : IsSound old → IsSound mid → ((shape : Shape) (array : Array) (next : ℕ)
+          → IsOurs old.size shape old.content array next → EachCut (IsFresh shape array next) mid) → LeavesAtLeast 5 old mid
+          → MigrationLeaves old new
+      migration_leaves sound_old sound_mid fresh before =
+          let stood = start.0.stood in
+          let has = StandsFor-shape old.size shape old.content start.0.array found.next stood in
+          let most = rw one at (before.most shape has) in
+          let sends : SendsUpTo (most_migration_sends One found.sizes.slots) old new =
+          let most = rw one at (before.sends.most shape has) in omega (arith, most, making.sent, home_is) in
+          start_on {shape = shape} sound_old (search (rules, stood, start.0.stamp_left, start.1)) (recovery_leaves old mid before)
+          (omega (arith, tried))
+          -- each image is ours for the contents
+          (λ array next ours.
+          let same = (StandsFor-one _ _ _ _ _ _ _ _ _ ours.stands stood).1 in
+          let before = fresh shape array found.next (rw same at ours) mid.content sound_mid.holds_content in
+          rw same (weaker _ _ _ _ (λ image either. ⊎_elim (λ was. inl (inr (fresh_ours stood.fits was)))
+          (λ two. inr (can_migrate, fresh_ours stood.fits two)) (either array before)) making.moments))
+          (spared_behind (first_home shape) (sectors_of shape) mid new (omega arith) making.spares)
+          (no_looks _ mid new making.reads.looked_stays)
+          (omega (arith, most, making.calls, home_is, found.sizes.most_slots)) (omega arith)
+          (rw one sends) (rw one (omega (arith, found.sizes.most_slots)))
 
       module _ (answer : Recovered) (is : (shape_of answer.sizes ≡ migrated shape) × (answer.next ≡ found.next)
           × IsMadeTwo shape found.next new) where
-        here_fresh : (array : Array) → AreSame shape start.from.array array → IsFresh (migrated shape) array found.next new.content
+        here_fresh : (array : Array) → AreSame shape start.0.array array → IsFresh (migrated shape) array found.next new.content
         here_fresh array same = zeros_fresh (migrated shape) array found.next new.content is.2.super is.2.head is.2.zeros
             (λ b below. kept_home b below ∙ same b below)
 
-        pub migrated_fresh : (other : Shape) (array : Array) (next : ℕ) → IsOurs old.size other old.content array next
-            → EachCut (IsFresh (shape_of answer.sizes) array next) new
-        migrated_fresh other array next ours image cut =
-            let same = StandsFor-one old.size old.size shape other old.content start.from.array array found.next next
-            start.from.stood ours.stands in
-            rw (only_image new.content new.may_leave is.2.flushed image cut, is.0, ← same.1) (here_fresh array same.2)
-
-        pub migrated_from : new.calls ≡ mid.calls + (found.sizes.home + 3) → IsMigratedFrom old new answer
+        pub migrated_from : new.calls ≡ mid.calls + (found.sizes.home + 3)
+            → IsMigratedFrom old new answer × ((other : Shape) (array : Array) (next : ℕ) → IsOurs old.size other old.content array next
+            → EachCut (IsFresh (shape_of answer.sizes) array next) new)
         migrated_from counted =
-            let stood = start.from.stood in
-            rw is.1 (record {
-              shape = shape;
-              could = can_migrate;
-              sizes_are = is.0;
-              array = start.from.array;
-              stood = stood;
-              stamp_left = start.from.stamp_left;
-              made = is.2;
-              home = kept_home;
-              behind = λ x past. making.spares.content x (omega (arith, past))
-                  ∙ start.from.elsewhere x (λ e. omega (arith, e, past, log_ends shape stood.keeps.super.home_is)) (inr past);
-              ours = fresh_ours stood.fits (here_fresh start.from.array (λ b below. refl));
-              calls = omega (arith, tried, counted, home_is);
-            })
+            let stood = start.0.stood in
+            let ends = log_ends shape stood.keeps.super.home_is in (
+              rw is.1 (record {
+                shape = shape;
+                could = can_migrate;
+                sizes_are = is.0;
+                array = start.0.array;
+                stood = stood;
+                stamp_left = start.0.stamp_left;
+                made = is.2;
+                home = kept_home;
+                behind = λ x past. making.spares.content x (omega (arith, past))
+                    ∙ start.0.elsewhere x (λ e. omega (arith, e, past, ends)) (inr past);
+                ours = fresh_ours stood.fits (here_fresh start.0.array (λ b below. refl));
+                calls = omega (arith, tried, counted, home_is);
+              }),
+              λ other array next ours image cut.
+                  let same = StandsFor-one old.size old.size shape other old.content start.0.array array found.next next stood ours.stands in
+                  rw (only_image new.content new.may_leave is.2.flushed image cut, is.0, ← same.1) (here_fresh array same.2),
+            )
 
 -- such a call refuses a start
-call_refuses : (old new : State) (kind : MediumFault) → IsRefusedCall old new kind → IsMigrationRefusal old new (start_fault_of kind)
+call_refuses : (old new : State) (kind : _) → IsRefusedCall old new kind → IsMigrationRefusal old new (start_fault_of kind)
 call_refuses old new medium.Read h = search rules
 call_refuses old new kind h = search rules
 
 -- format 2 is made, good or refused
-makes : (g : given.Over) (c : After-make_two g) → MigrationLeaves (g.M.Medium.state c.args.m.now) (g.M.Medium.state c.make_two.new.m)
+makes : (g : _) (c : After-make_two g) → MigrationLeaves (g.M.Medium.state c.args.m.now) (g.M.Medium.state c.make_two.new.m)
 makes g c = migration_leaves c.in_ok-found.ensures.ok (c.migrates.ensures.0 c.if-migrates.true) c.make_two.ensures.writes
     (g.met.M.Medium.sound c.args.m.now) (g.met.M.Medium.sound c.recover_at_least.new.m) c.in_ok-found.ensures.fresh
     c.recover_at_least.ensures.leaves
@@ -142,20 +136,14 @@ returns-in_err-make_two-clause-err g c =
 pub returns-in_err-make_two-clause-leaves : goal.returns-in_err-make_two-clause-leaves
 returns-in_err-make_two-clause-leaves g c = makes g (goal.at.returns-in_err-make_two-clause-leaves g c).After-make_two
 
-pub returns-in_ok-make_two-clause-leaves : goal.returns-in_ok-make_two-clause-leaves
-returns-in_ok-make_two-clause-leaves g c = makes g (goal.at.returns-in_ok-make_two-clause-leaves g c).After-make_two
-
-pub returns-in_ok-make_two-clause-ok : goal.returns-in_ok-make_two-clause-ok
-returns-in_ok-make_two-clause-ok g c =
+pub returns-in_ok-make_two : goal.returns-in_ok-make_two
+returns-in_ok-make_two g c =
     let done = c.in_ok-make_two.ensures in
-    migrated_from c.in_ok-found.ensures.ok (c.migrates.ensures.0 c.if-migrates.true) c.make_two.ensures.writes _ done.ok done.writes.exact
-
-pub returns-in_ok-make_two-clause-fresh : goal.returns-in_ok-make_two-clause-fresh
-returns-in_ok-make_two-clause-fresh g c =
-    migrated_fresh c.in_ok-found.ensures.ok (c.migrates.ensures.0 c.if-migrates.true) c.make_two.ensures.writes c.in_ok-make_two.field-0
-    c.in_ok-make_two.ensures.ok
+    let from = migrated_from c.in_ok-found.ensures.ok (c.migrates.ensures.0 c.if-migrates.true) c.make_two.ensures.writes
+    c.in_ok-make_two.field-0 done.ok done.writes.exact in
+    search (rules, from, makes g (goal.at.returns-in_ok-make_two g c).After-make_two, g.met.M.Medium.follows_through)
 
 pub returns-else-migrates-clause-fresh : goal.returns-else-migrates-clause-fresh
 returns-else-migrates-clause-fresh g c shape array next ours =
-    rw (← IsSuper-one shape (shape_of c.in_ok-found.found.sizes) _ ours.stands.keeps.super c.in_ok-found.ensures.ok.from.stood.keeps.super)
+    rw (← IsSuper-one shape (shape_of c.in_ok-found.found.sizes) _ ours.stands.keeps.super c.in_ok-found.ensures.ok.0.stood.keeps.super)
     (c.in_ok-found.ensures.fresh shape array next ours)

@@ -2,12 +2,11 @@ use Rattle.std.proofs.Common.{◌⊎◌, inl, inr, ◌∙◌, arith, rules}
 use Rattle.medium.specs.Medium.{CutLeaves}
 use Rattle.recovery.specs.Calls.{HasNewHead, Writes}
 use Rattle.recovery.proofs.JoinedCalls.{flush_writes, through_writes, writes_on}
-use Rattle.recovery.proofs.new_head.move_head.Given as given
 use Rattle.recovery.proofs.new_head.move_head.Goals as goal
 use Rattle.recovery.proofs.new_head.move_head.Goals.{After-flush}
 
 -- the first flush
-flushed : (g : given.Over) (c : After-flush g) → Writes (λ image. CutLeaves (g.M.Medium.state c.args.m.now).may_leave image
+flushed : (g : _) (c : After-flush g) → Writes (λ image. CutLeaves (g.M.Medium.state c.args.m.now).may_leave image
     ⊎ HasNewHead c.args.stamp (g.M.Medium.state c.args.m.now).content image) 2 1 (g.M.Medium.state c.args.m.now)
     (g.M.Medium.state c.flush.new.self) c.flush.result
 flushed g c =

@@ -1,5 +1,5 @@
-use Rattle.std.proofs.Common.{◌≡◌, ◌⊎◌, ◌∙◌, inl, inr, ◌+◌, ◌<◌, ◌≤◌, length, refl, sym, arith, rules}
-use Rattle.std.specs.Prelude.{ℕ, Option, Some, None, MatchOption}
+use Rattle.std.proofs.Common.{◌≡◌, ◌⊎◌, ◌∙◌, inl, inr, ◌+◌, ◌<◌, ◌≤◌, length, refl, sym, arith, rules, ⊎_elim, ℕ}
+use Rattle.std.proofs.Common.{Option, None, Some, MatchOption}
 use Rattle.medium.specs.Medium.{Image}
 use Rattle.journal.specs.declared.log_format.LogFormat.{LogFormat}
 use Rattle.journal.specs.declared.log_format.LogFormat.TheVariants.{One, Two}
@@ -12,9 +12,9 @@ use Rattle.journal.specs.Formats.{shape_of, HasWhole}
 use Rattle.journal.proofs.SectorsRead.{stamped_whole}
 use Rattle.journal.proofs.SlotTwo.{each_there, commit_count, untrue}
 use Rattle.recovery.specs.Calls.{most_reads_of}
-use Rattle.recovery.specs.Inspected.{IsReadInSlot, IsTryTwo, IsTryOf}
-use Rattle.recovery.proofs.CopiedRecords.{long_as}
-use Rattle.recovery.proofs.JoinedCalls.{looks_on}
+use Rattle.recovery.specs.Causes.{IsReadInSlot, IsTryTwo, IsTryOf}
+use Rattle.recovery.proofs.JoinedCalls.{long_as}
+use Rattle.journal.proofs.SectorsRead.{looks_on}
 use Rattle.recovery.proofs.record.count_blocks.Goals as goal
 
 -- there is one first bad one
@@ -22,21 +22,17 @@ stops_once : (good : ℕ → Type 0) (many a b : ℕ) → StopsAtBad good many a
 stops_once good many a b x y =
     grind (arith, x.before y.first, y.before x.first, x.bad, y.bad, x.reads_are, y.reads_are)
 
-up_to_once : (good : ℕ → Type 0) (many a b : ℕ) → ReadsUpToBad good many a → ReadsUpToBad good many b → a ≡ b
-up_to_once good many a b x y = grind (arith, stops_once good many a b)
-
 -- and so of the reads behind a commit, where what is named has all its descriptors
 behind_once : (named place : ℕ → Type 0) (names : Type 0) (many count a b : ℕ) → (names → (j : ℕ) → j < many → named j)
     → (StopsAtBad named many a ⊎ (((j : ℕ) → j < many → named j) × (¬ names) × (a ≡ many)))
     ⊎ (names × (places : ℕ) × ReadsUpToBad place count places × (a ≡ many + places))
     → (StopsAtBad named many b ⊎ (((j : ℕ) → j < many → named j) × (¬ names) × (b ≡ many)))
     ⊎ (names × (places : ℕ) × ReadsUpToBad place count places × (b ≡ many + places)) → a ≡ b
-behind_once named place names many count a b there x y = grind (arith, stops_once named many a b, there, up_to_once place count)
+behind_once named place names many count a b there x y = grind (arith, stops_once named many a b, there, stops_once place count)
 
 module _ (image : Image) (at stamp blocks : ℕ) where
   in_slot_once : (a b : ℕ) → IsReadInSlot image at stamp blocks a → IsReadInSlot image at stamp blocks b → a ≡ b
-  in_slot_once a b (inl x) (inl y) = x.1 ∙ sym y.1
-  in_slot_once a b (inl x) (inr y) = absurd (x.0 y.0 y.1)
+  in_slot_once a b (inl x) y = grind (arith, x.0)
   in_slot_once a b (inr x) (inl y) = absurd (y.0 x.0 x.1)
   in_slot_once a b (inr x) (inr y) =
       let bytes = image (at + 248) in
@@ -53,9 +49,8 @@ module _ (image : Image) (at stamp blocks : ℕ) where
 try_missed : (format : LogFormat) (shape : Shape) (image : Image) (stamp reads before after : ℕ)
     → IsReadFor format shape image stamp None reads → after ≡ before + reads → IsTryOf format shape image stamp before after
 try_missed One shape image stamp reads before after is made = omega (arith, is, made)
-try_missed Two shape image stamp reads before after (inl none) made = (reads, try_made image _ stamp _ reads (inl none), made)
-try_missed Two shape image stamp reads before after (inr bad) made =
-    (reads, try_made image _ stamp _ reads (inr (bad.0, bad.1, bad.2, inl bad.3, bad.4)), made)
+try_missed Two shape image stamp reads before after is made =
+    (reads, try_made image _ stamp _ reads (⊎_elim inl (λ bad. inr (bad.0, bad.1, bad.2, inl bad.3, bad.4)) is), made)
 
 -- and one that is there, once its data places were asked for the stamp
 try_read : (format : LogFormat) (shape : Shape) (image : Image) (stamp : ℕ) (read : Record) (reads places before mid after : ℕ)

@@ -1,5 +1,5 @@
 use Rattle.std.proofs.Common.{◌≡◌, ◌+◌, ◌<◌, ◌≤◌, ℕ, inl, inr, List, ◌∷◌, ◌++◌, [], length, refl, arith, rules, min}
-use Rattle.std.specs.Prelude.{slice_index}
+use Rattle.std.proofs.Common.{slice_index}
 use Rattle.std.proofs.lemmas.Bool.{cases_lt}
 use Rattle.std.proofs.lemmas.List.{length-append, get_or_append_left, get_or_push}
 use Rattle.std.proofs.lemmas.List.Sums.{sum_by_push}
@@ -13,11 +13,10 @@ use Rattle.journal.specs.Places.{Shape}
 use Rattle.journal.specs.Layout.{slot_at}
 use Rattle.journal.specs.Format2.{format2}
 use Rattle.recovery.specs.Calls.{most_reads_of}
-use Rattle.recovery.specs.Inspected.{IsTryTwo, IsTryOf, AreTriesOf, AreTries, HasCount, AreCounts}
-use Rattle.recovery.proofs.JoinedCalls.{quiet_before, quiet_after, each_once_more, looks_on}
-use Rattle.recovery.proofs.record.count_waiting.Given as given
+use Rattle.recovery.specs.Causes.{IsTryTwo, IsTryOf, AreTriesOf, HasCount, AreCounts}
+use Rattle.journal.proofs.SectorsRead.{looks_on}
+use Rattle.recovery.proofs.JoinedCalls.{each_once_more}
 use Rattle.recovery.proofs.record.count_waiting.Goals as goal
-use Rattle.recovery.proofs.record.count_waiting.Goals.{In_ok-count}
 
 -- what holds of each place of a list, and of one more, holds of each of the list with one more
 each_pushed : (P : ℕ → ℕ → Type 0) (xs : List ℕ) (x j : ℕ) → length xs ≡ j → ((k : ℕ) → k < j → P k (slice_index xs k)) → P j x
@@ -30,32 +29,20 @@ each_pushed P xs x j long each last k below = elim (cases_lt k j) [
 -- none so far
 no_tries : (format : LogFormat) (shape : Shape) (image : Image) (first at : ℕ) → AreTriesOf format shape image first 0 at at
 no_tries One shape image first at = omega arith
-no_tries Two shape image first at =
-    let none : at ≡ at + 0 = omega arith in
-    record { reads = []; many = refl; each = λ j below. absurd (omega (arith, below)); after_is = none }
+no_tries Two shape image first at = ([], refl, λ j below. absurd (omega arith), omega arith)
 
 -- one more
 tries_more : (format : LogFormat) (shape : Shape) (image : Image) (first j old mid new : ℕ)
     → AreTriesOf format shape image first j old mid → IsTryOf format shape image (first + j) mid new
     → AreTriesOf format shape image first (j + 1) old new
 tries_more One shape image first j old mid new before last = omega (arith, before, last)
-tries_more Two shape image first j old mid new before last = record {
-  reads = before.reads ++ last.0 ∷ [];
-  many = omega (arith, before.many, length-append before.reads (last.0 ∷ []));
-  each = each_pushed (λ k n. IsTryTwo image (slot_at format2 shape (first + k)) (first + k) shape.blocks n) before.reads last.0 j
-      before.many before.each last.1;
-  after_is = omega (arith, before.after_is, last.2, sum_by_push (λ x. x) before.reads last.0);
-}
-
--- one stamp more was tried
-one_more : (g : given.Over) (c : In_ok-count g) → AreTries (shape_of c.args.sizes.now) (g.M.Medium.state c.args.m.now).content
-    c.args.head (c.loop-j.j + 1) (g.M.Medium.state c.args.m.now).calls (g.M.Medium.state c.count_blocks.new.m).calls
-one_more g c =
-    let shape = shape_of c.args.sizes.now in
-    let inv = c.loop-j.invariant in
-    let same : (g.M.Medium.state c.loop-j.m).content ≡ (g.M.Medium.state c.args.m.now).content =
-    λ i s. inv.passes.quiet.content_stays s i in
-    tries_more shape.format shape _ c.args.head c.loop-j.j _ _ _ inv.finds.0 (rw same at c.in_ok-count.ensures.finds.0)
+tries_more Two shape image first j old mid new before last = (
+  before.0 ++ last.0 ∷ [],
+  omega (arith, before.1, length-append before.0 (last.0 ∷ [])),
+  each_pushed (λ k n. IsTryTwo image (slot_at format2 shape (first + k)) (first + k) shape.blocks n) before.0 last.0 j before.1 before.2
+      last.1,
+  omega (arith, before.3, last.2, sum_by_push (λ x. x) before.0 last.0),
+)
 
 -- all that were counted
 counts_made : (shape : Shape) (image : Image) (head j : ℕ) (counts : List ℕ) → length counts ≡ j → j ≤ shape.slots
@@ -79,19 +66,14 @@ loop-j-preserved g c =
     let inv = c.loop-j.invariant in
     let j = c.loop-j.j in
     let n = c.in-Some.count in
-    let here = quiet_before (λ _ i. HasCount shape i (c.args.head + j) n) old _ inv.passes.quiet
-    (rw c.in-Some.is at c.in_ok-count.ensures.finds.1) in
+    let same : (g.M.Medium.state c.loop-j.m).content ≡ old.content = λ i s. inv.passes.quiet.content_stays s i in
+    let finds = rw (same, c.in-Some.is) at c.in_ok-count.ensures.finds in
     looks_on g.met.M.Medium.follows_through inv c.count_blocks.ensures (omega arith) tt (
-      one_more g (goal.at.loop-j-preserved g c).In_ok-count,
+      tries_more shape.format shape _ c.args.head j _ _ _ inv.finds.0 finds.0,
       rw c.push.ensures.items (omega (arith, length-append c.loop-j.waiting.items (n ∷ []), inv.finds.1)),
       rw c.push.ensures.items
-          (each_pushed (λ k n. HasCount shape old.content (c.args.head + k) n) c.loop-j.waiting.items n j inv.finds.1 inv.finds.2 here),
+          (each_pushed (λ k n. HasCount shape old.content (c.args.head + k) n) c.loop-j.waiting.items n j inv.finds.1 inv.finds.2 finds.1),
     )
-
-pub returns-in_err-count : goal.returns-in_err-count
-returns-in_err-count g c = looks_on g.met.M.Medium.follows_through c.loop-j.invariant c.count_blocks.ensures
-    (each_once_more (most_reads_of c.args.sizes.now.format) c.loop-j.j c.args.sizes.now.slots c.loop-j-test.true)
-    (search rules) (search rules)
 
 pub returns-in-None : goal.returns-in-None
 returns-in-None g c =
@@ -99,13 +81,15 @@ returns-in-None g c =
     let old = g.M.Medium.state c.args.m.now in
     let inv = c.loop-j.invariant in
     let below = c.loop-j-test.true in
+    let same : (g.M.Medium.state c.loop-j.m).content ≡ old.content = λ i s. inv.passes.quiet.content_stays s i in
+    let finds = rw (same, c.in-None.is) at c.in_ok-count.ensures.finds in
+    let more = tries_more shape.format shape _ c.args.head c.loop-j.j _ _ _ inv.finds.0 finds.0 in
     let many : c.loop-j.j + 1 ≡ min (length c.loop-j.waiting.items + 1) c.args.sizes.now.slots = omega (arith, below, inv.finds.1) in
     let are = counts_made shape old.content c.args.head c.loop-j.j c.loop-j.waiting.items inv.finds.1 (omega (arith, below)) inv.finds.2
-    (λ less w. (rw c.in-None.is at c.in_ok-count.ensures.finds.1)
-    (quiet_after (λ n i. HasWhole shape i (c.args.head + c.loop-j.j)) old _ inv.passes.quiet w)) in
+    (λ less. finds.1) in
     looks_on g.met.M.Medium.follows_through inv c.count_blocks.ensures
     (each_once_more (most_reads_of c.args.sizes.now.format) c.loop-j.j c.args.sizes.now.slots below) tt
-    (search (rules, are, rw many at (one_more g (goal.at.returns-in-None g c).In_ok-count)))
+    (search (rules, are, rw many at more))
 
 pub returns : goal.returns
 returns g c =

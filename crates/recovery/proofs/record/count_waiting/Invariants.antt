@@ -3,7 +3,7 @@ use Rattle.journal.specs.Places.{first_home}
 use Rattle.journal.specs.Reading.{LooksUp}
 use Rattle.journal.specs.Formats.{shape_of}
 use Rattle.recovery.specs.Calls.{most_reads_of}
-use Rattle.recovery.specs.Inspected.{AreTries, HasCount}
+use Rattle.recovery.specs.Causes.{AreTries, HasCount}
 use Rattle.recovery.proofs.record.count_waiting.Given as goal
 
 abbrev pub invariant-loop-j : goal.invariant-loop-j

@@ -3,20 +3,18 @@ use Rattle.medium.proofs.Moments.{quiet_start}
 use Rattle.medium.proofs.SectorsRead.{no_looks}
 use Rattle.journal.specs.Formats.{shape_of, HasWhole}
 use Rattle.recovery.specs.Recovered.{LeavesAtLeast}
-use Rattle.recovery.proofs.CopiedRecords.{log_ends}
-use Rattle.recovery.proofs.JoinedCalls.{quiet_after}
-use Rattle.recovery.proofs.WholeRecovery.{IsSurveyed, survey_leaves, copies_leave, moves_leave, recovery_fresh, recovery_from, refusal}
-use Rattle.recovery.proofs.recovery.recover_at_least.Given as given
+use Rattle.recovery.proofs.JoinedCalls.{log_ends, quiet_after}
+use Rattle.recovery.proofs.WholeRecovery.{IsSurveyed, survey_leaves, copies_leave, moves_leave, recovery_done, refusal}
 use Rattle.recovery.proofs.recovery.recover_at_least.Goals as goal
 use Rattle.recovery.proofs.recovery.recover_at_least.Goals.{After-inspect, After-move_head}
 
 -- the flush and the survey
-survey : (g : given.Over) (c : After-inspect g)
+survey : (g : _) (c : After-inspect g)
     → IsSurveyed c.flush.result (g.M.Medium.state c.args.m.now) (g.M.Medium.state c.flush.new.self) (g.M.Medium.state c.inspect.new.m)
 survey g c = search (rules, g.met.M.Medium.sound)
 
 -- and the copies and the new head
-moved : (g : given.Over) (c : After-move_head g)
+moved : (g : _) (c : After-move_head g)
     → LeavesAtLeast c.args.least (g.M.Medium.state c.args.m.now) (g.M.Medium.state c.move_head.new.m)
 moved g c = moves_leave c.args.least (survey g (goal.at.After-move_head g c).After-inspect) c.in_ok-found.ensures.ok
     (g.met.M.Medium.sound c.copy_records.new.m) c.copy_records.ensures.copies c.in_ok-copy_records.ensures.done c.move_head.ensures.writes
@@ -24,7 +22,7 @@ moved g c = moves_leave c.args.least (survey g (goal.at.After-move_head g c).Aft
 pub copy_records-requires-clause-whole : goal.copy_records-requires-clause-whole
 copy_records-requires-clause-whole g c j below =
     quiet_after (λ n i. HasWhole (shape_of c.in_ok-found.found.sizes) i (c.in_ok-found.found.head + j)) _ _
-    c.inspect.ensures.reads.quiet (c.in_ok-found.ensures.ok.count.whole j below)
+    c.inspect.ensures.reads.only.quiet (c.in_ok-found.ensures.ok.count.whole j below)
 
 pub move_head-requires-clause-inside : goal.move_head-requires-clause-inside
 move_head-requires-clause-inside g c =
@@ -38,14 +36,11 @@ returns-in_err-flush-clause-leaves g c =
     search (rules, quiet_start mid, no_looks, g.met.M.Medium.sound) in
     survey_leaves c.args.least known
 
-pub returns-in_err-found-clause-leaves : goal.returns-in_err-found-clause-leaves
-returns-in_err-found-clause-leaves g c =
-    survey_leaves c.args.least (survey g (goal.at.returns-in_err-found-clause-leaves g c).After-inspect)
-
-pub returns-in_err-found-clause-err : goal.returns-in_err-found-clause-err
-returns-in_err-found-clause-err g c =
-    let known = survey g (goal.at.returns-in_err-found-clause-err g c).After-inspect in
-    search (rules, refusal c.args.least known c.in_err-found.field-0.0 c.in_err-found.ensures.err)
+pub returns-in_err-found : goal.returns-in_err-found
+returns-in_err-found g c =
+    let known = survey g (goal.at.returns-in_err-found g c).After-inspect in
+    let refused = refusal c.args.least known c.in_err-found.field-0.0 c.in_err-found.ensures.err in
+    search (rules, survey_leaves c.args.least known, refused, g.met.M.Medium.follows_through)
 
 pub returns-in_err-copy_records-clause-leaves : goal.returns-in_err-copy_records-clause-leaves
 returns-in_err-copy_records-clause-leaves g c =
@@ -55,19 +50,11 @@ returns-in_err-copy_records-clause-leaves g c =
 pub returns-in_err-move_head-clause-leaves : goal.returns-in_err-move_head-clause-leaves
 returns-in_err-move_head-clause-leaves g c = moved g (goal.at.returns-in_err-move_head-clause-leaves g c).After-move_head
 
-pub returns-clause-leaves : goal.returns-clause-leaves
-returns-clause-leaves g c = moved g (goal.at.returns-clause-leaves g c).After-move_head
-
-pub returns-clause-ok : goal.returns-clause-ok
-returns-clause-ok g c =
+pub returns : goal.returns
+returns g c =
+    let at = goal.at.returns g c in
     let moves = c.in_ok-move_head.ensures in
-    recovery_from c.args.least (survey g (goal.at.returns-clause-ok g c).After-inspect) c.in_ok-found.ensures.ok
-    (g.met.M.Medium.sound c.copy_records.new.m) c.copy_records.ensures.copies c.in_ok-copy_records.ensures.done
-    (g.M.Medium.state c.move_head.new.m) moves.done.0 moves.done.1 moves.writes.exact
-
-pub returns-clause-fresh : goal.returns-clause-fresh
-returns-clause-fresh g c =
-    let moves = c.in_ok-move_head.ensures in
-    recovery_fresh c.args.least (survey g (goal.at.returns-clause-fresh g c).After-inspect) c.in_ok-found.ensures.ok
-    (g.met.M.Medium.sound c.copy_records.new.m) c.copy_records.ensures.copies c.in_ok-copy_records.ensures.done
-    (g.M.Medium.state c.move_head.new.m) moves.done.0 moves.done.1
+    let both = recovery_done c.args.least (survey g at.After-inspect) c.in_ok-found.ensures.ok (g.met.M.Medium.sound c.copy_records.new.m)
+    c.copy_records.ensures.copies c.in_ok-copy_records.ensures.done (g.M.Medium.state c.move_head.new.m) moves.done.0 moves.done.1
+    moves.writes.exact in
+    search (rules, both, moved g at.After-move_head, g.met.M.Medium.follows_through)

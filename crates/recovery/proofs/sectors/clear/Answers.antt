@@ -4,13 +4,12 @@ use Rattle.medium.specs.Medium.{Holds, Stays}
 use Rattle.medium.specs.Moments.{StaysWithin}
 use Rattle.medium.proofs.Moments.{started_within, gains_within, goes_on_within}
 use Rattle.recovery.specs.Calls.{cleared_at, IsBetween}
-use Rattle.recovery.proofs.CopiedRecords.{sets_within}
-use Rattle.recovery.proofs.sectors.clear.Given as given
+use Rattle.recovery.proofs.JoinedCalls.{sets_within}
 use Rattle.recovery.proofs.sectors.clear.Goals as goal
 use Rattle.recovery.proofs.sectors.clear.Goals.{After-write}
 
 -- what is left while one sector more is cleared, and what the others hold
-one_more : (g : given.Over) (c : After-write g)
+one_more : (g : _) (c : After-write g)
     → Stays (g.M.Medium.state c.loop-sector.m).content (g.M.Medium.state c.write.new.self).content
     ⊎ Holds c.loop-sector.sector (replicate 512 0) (g.M.Medium.state c.loop-sector.m).content (g.M.Medium.state c.write.new.self).content
     → StaysWithin (cleared_at (IsBetween c.args.from c.args.end) (g.M.Medium.state c.args.m.now).may_leave)
@@ -45,13 +44,9 @@ loop-sector-preserved g c =
       | inl is ↦ ap (g.M.Medium.state c.write.new.self).content is ∙ wrote.here
       | inr not ↦ wrote.elsewhere x not ∙ inv.zeros x low (omega (arith, high, not))
     ] in
-    search (
-      rules,
-      zeros,
-      one_more g (goal.at.loop-sector-preserved g c).After-write (inr wrote),
-      g.met.M.Medium.follows_through,
-      c.write.ensures.passes.looked_stays (λ e. cc e) ∙ inv.follows.looks.looked_stays,
-    )
+    let more = one_more g (goal.at.loop-sector-preserved g c).After-write (inr wrote) in
+    let looked = c.write.ensures.passes.looked_stays (λ e. cc e) ∙ inv.follows.looks.looked_stays in
+    search (rules, zeros, more, g.met.M.Medium.follows_through, looked)
 
 pub returns-in_err-write-clause-clears : goal.returns-in_err-write-clause-clears
 returns-in_err-write-clause-clears g c =

@@ -2,12 +2,11 @@ use Rattle.std.proofs.Common.{◌≢◌, ℕ, inl, ⊎_elim, ◌∙◌, rules}
 use Rattle.medium.specs.Moments.{LeavesOnly}
 use Rattle.medium.proofs.Moments.{one_call, goes_on, after_write, shrunk}
 use Rattle.recovery.specs.Calls.{WithOrWithout}
-use Rattle.recovery.proofs.sectors.write_through.Given as given
 use Rattle.recovery.proofs.sectors.write_through.Goals as goal
 use Rattle.recovery.proofs.sectors.write_through.Goals.{After-write}
 
 -- the write
-written : (g : given.Over) (c : After-write g)
+written : (g : _) (c : After-write g)
     → LeavesOnly (WithOrWithout c.args.place c.args.sector.now (g.M.Medium.state c.args.m.now).may_leave) (g.M.Medium.state c.args.m.now)
     (g.M.Medium.state c.write.new.self)
 written g c =
@@ -16,11 +15,9 @@ written g c =
     (after_write _ sound _ c.args.place c.args.sector.now c.write.ensures.sets)
 
 pub returns-in_err-write-clause-writes : goal.returns-in_err-write-clause-writes
-returns-in_err-write-clause-writes g c = search (
-  rules,
-  written g (goal.at.returns-in_err-write-clause-writes g c).After-write,
-  λ (x : ℕ) (not : x ≢ c.args.place). ⊎_elim (λ stays. stays x) (λ holds. holds.elsewhere x not) c.in_err-write.ensures.err,
-)
+returns-in_err-write-clause-writes g c =
+    search (rules, written g (goal.at.returns-in_err-write-clause-writes g c).After-write, λ (x : ℕ) (not : x ≢ c.args.place).
+    ⊎_elim (λ stays. stays x) (λ holds. holds.elsewhere x not) c.in_err-write.ensures.err)
 
 pub returns-clause-writes : goal.returns-clause-writes
 returns-clause-writes g c =
@@ -28,8 +25,6 @@ returns-clause-writes g c =
     let mid = g.M.Medium.state c.write.new.self in
     let new = g.M.Medium.state c.flush.new.self in
     let each = after_write _ (g.met.M.Medium.sound c.args.m.now) _ c.args.place c.args.sector.now c.write.ensures.sets in
-    search (
-      rules,
-      goes_on _ _ mid new (written g (goal.at.returns-clause-writes g c).After-write) flushed.passes (shrunk _ mid new flushed.sets each),
-      λ (x : ℕ) (not : x ≢ c.args.place). flushed.content x ∙ c.in_ok-write.ensures.ok.elsewhere x not,
-    )
+    let moments = goes_on _ _ mid new (written g (goal.at.returns-clause-writes g c).After-write) flushed.passes
+    (shrunk _ mid new flushed.sets each) in
+    search (rules, moments, λ (x : ℕ) (not : x ≢ c.args.place). flushed.content x ∙ c.in_ok-write.ensures.ok.elsewhere x not)

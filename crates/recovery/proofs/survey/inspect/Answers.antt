@@ -6,12 +6,11 @@ use Rattle.journal.proofs.SectorNumbers.{IsSuper-one}
 use Rattle.journal.proofs.StandingLaws.{count_stands}
 use Rattle.recovery.specs.Causes.{HasFewSlots}
 use Rattle.recovery.proofs.JoinedCalls.{records_read}
-use Rattle.recovery.proofs.survey.inspect.Given as given
 use Rattle.recovery.proofs.survey.inspect.Goals as goal
 use Rattle.recovery.proofs.survey.inspect.Goals.{After-len-count}
 
 -- the count is that of the image as it was, and the log has slots enough
-counted : (g : given.Over) (c : After-len-count g)
+counted : (g : _) (c : After-len-count g)
     → IsCount (shape_of c.in_ok-sizes.sizes) (g.M.Medium.state c.args.m.now).content c.in_ok-sizes.head c.len-count.result
     × (¬ HasFewSlots c.args.least (g.M.Medium.state c.args.m.now).size (g.M.Medium.state c.args.m.now).content)
 counted g c =
@@ -25,32 +24,30 @@ counted g c =
           absurd (cc (c.if-has_few_slots.ensures.1 (rw one at both))),
     )
 
-pub returns-then-head-count-clause-reads : goal.returns-then-head-count-clause-reads
-returns-then-head-count-clause-reads g c =
-    records_read c.in_ok-sizes.sizes c.in_ok-sizes.ensures.ok.0 c.read_head.ensures c.count_waiting.ensures
-
-pub returns-else-head-count-clause-reads : goal.returns-else-head-count-clause-reads
-returns-else-head-count-clause-reads g c =
-    records_read c.in_ok-sizes.sizes c.in_ok-sizes.ensures.ok.0 c.read_head.ensures c.count_waiting.ensures
-
 pub returns-in_err-count_waiting-clause-reads : goal.returns-in_err-count_waiting-clause-reads
 returns-in_err-count_waiting-clause-reads g c =
     records_read c.in_ok-sizes.sizes c.in_ok-sizes.ensures.ok.0 c.read_head.ensures c.count_waiting.ensures
 
-pub returns-then-head-count-clause-ok : goal.returns-then-head-count-clause-ok
-returns-then-head-count-clause-ok g c =
+pub returns-then-head-count : goal.returns-then-head-count
+returns-then-head-count g c =
     let old = g.M.Medium.state c.args.m.now in
     let mid = g.M.Medium.state c.read_head.new.m in
     let same : mid.content ≡ old.content = λ i s. c.read_head.ensures.quiet.content_stays s i in
     let calls : mid.calls ≡ old.calls + 2 = c.in_ok-sizes.ensures.exact in
     let exact = rw (same, calls, ← c.len-count.ensures.value) at c.in_ok-count_waiting.ensures.finds.0 in
-    search (rules, counted g (goal.at.returns-then-head-count-clause-ok g c).After-len-count, exact)
+    let reads = records_read c.in_ok-sizes.sizes c.in_ok-sizes.ensures.ok.0 c.read_head.ensures c.count_waiting.ensures in
+    search (rules, reads, counted g (goal.at.returns-then-head-count g c).After-len-count, exact, g.met.M.Medium.follows_through)
 
-pub returns-else-head-count-clause-err : goal.returns-else-head-count-clause-err
-returns-else-head-count-clause-err g c =
+pub returns-else-head-count : goal.returns-else-head-count
+returns-else-head-count g c =
     let has = c.in_ok-sizes.ensures.ok.0 in
-    let known = counted g (goal.at.returns-else-head-count-clause-err g c).After-len-count in
+    let known = counted g (goal.at.returns-else-head-count g c).After-len-count in
     let s = count_stands _ (shape_of c.in_ok-sizes.sizes) _ c.in_ok-sizes.head c.len-count.result has.fits has.super
     c.in_ok-sizes.ensures.ok.1 known.0 in
     let all = records_read c.in_ok-sizes.sizes has c.read_head.ensures c.count_waiting.ensures in
-    (known.1, (_, s.array, _, s.stands, omega arith), all.quiet)
+    record {
+      reads = all;
+      ok = tt;
+      err = (known.1, (_, s.array, _, s.stands, omega arith), all.only.quiet);
+      follows = search (rules, g.met.M.Medium.follows_through);
+    }
