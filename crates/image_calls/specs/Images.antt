@@ -7,7 +7,7 @@ use Rattle.window.specs.Window.{Window, state_of, kept_out, ComesAfter, CoversDe
 use Rattle.journal.specs.Places.{Shape, first_home}
 use Rattle.recovery.specs.Calls.{HoldsLog}
 use Rattle.recovery.specs.Calls.{IsLaid, LayingLeaves, AreSizes}
-use Rattle.journal.specs.ImageFaults.{HasShape}
+use Rattle.journal.specs.Standing.{HasShape}
 use Rattle.recovery.specs.Recovered.{IsMigrationBy, IsMigrationRefusal, MigrationLeaves}
 use Rattle.recovery.specs.Recovered.{most_migration_sends}
 use Rattle.recovery.specs.declared.recovered.Recovered.{Recovered}

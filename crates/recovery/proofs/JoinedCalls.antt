@@ -1,6 +1,6 @@
 -- Calls, and then others: what they are together, and what is left at each moment of them; and records that are copied home.
 use Rattle.std.proofs.Common.{◌≡◌, inl, inr, ℕ, ◌+◌, ◌*◌, ◌<◌, ◌≤◌, List, [], length, get_or, refl, ◌∙◌, ap, subst, ◌⊎◌}
-use Rattle.std.proofs.Common.{⊎_elim, replicate, sym, arith, rules, Result, Ok, mul-le-mul_left, ◌≢◌, ◌-◌, IfOk, IfErr}
+use Rattle.std.proofs.Common.{⊎_elim, replicate, sym, arith, rules, Result, Ok, mul-le-mul_left, ◌≢◌, ◌-◌, IfErr}
 use Rattle.std.proofs.Common.{OnOk}
 use Rattle.std.proofs.Math.ListN.{get_or-map}
 use Rattle.std.proofs.lemmas.Bool.{cases_eq}
@@ -18,19 +18,19 @@ use Rattle.journal.proofs.Formats.{laws_of, sectors_are}
 use Rattle.journal.proofs.Wholeness.{IsWhole-one, IsWhole-same, slot_inside, CarriesBelow-agree}
 use Rattle.journal.specs.Sectors.{IsSuper, IsHead}
 use Rattle.journal.specs.Standing.{IsOurs, Keeps}
-use Rattle.journal.proofs.Apart.{in_log}
+use Rattle.journal.proofs.Wholeness.{in_log}
 use Rattle.journal.specs.Staged.{View, Resting}
 use Rattle.journal.proofs.Engine.{rests_found}
-use Rattle.journal.proofs.Overlay.{with_records-same, records-hide}
-use Rattle.recovery.specs.Calls.{IsHomeOf, IsHomeInRecord, IsHomeInRecords, Copies, freed_at, most_reads_of, LooksAtLog}
+use Rattle.journal.proofs.Wholeness.{with_records-same, records-hide}
+use Rattle.recovery.specs.Calls.{IsHomeOf, IsHomeInRecords, Copies, freed_at, most_reads_of, LooksAtLog}
 use Rattle.recovery.specs.Calls.{WritesAllPass, FollowsBy, Writes, cleared_at, WithOrWithout, IsBetween, IsNoneOrNew}
-use Rattle.recovery.specs.Calls.{IsMidway, ImageLeaves, IsMade, IsWritten, IsNoneOrWritten, WritesImage}
+use Rattle.recovery.specs.Calls.{ImageLeaves, IsMade, IsWritten, IsNoneOrWritten, WritesImage}
 use Rattle.recovery.specs.Recovered.{IsFresh}
 use Rattle.medium.specs.declared.fault.MediumFault.{MediumFault}
 use Rattle.medium.proofs.CallsSent.{none_sent}
 use Rattle.medium.proofs.SectorsRead.{no_looks, looks_joined, looks_wider, looks_below, look_below}
 use Rattle.journal.specs.declared.super_sector.Super.{Super}
-use Rattle.journal.specs.ImageFaults.{HasShape}
+use Rattle.journal.specs.Standing.{HasShape}
 use Rattle.journal.specs.Reading.{IsRefusedCall, LooksUp}
 use Rattle.recovery.specs.Causes.{SurveysAtMost, LooksAtFirst}
 use Rattle.journal.proofs.SectorNumbers.{IsSuper-one}

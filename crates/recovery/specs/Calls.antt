@@ -9,9 +9,9 @@ use Rattle.medium.specs.declared.fault.MediumFault.TheVariants.{Read}
 use Rattle.journal.specs.declared.log_format.LogFormat.{LogFormat}
 use Rattle.journal.specs.declared.log_format.LogFormat.TheVariants.{One, Two}
 use Rattle.journal.specs.Places.{limit_of, slot_sectors_of}
-use Rattle.journal.specs.ImageFaults.{HasShape}
+use Rattle.journal.specs.Standing.{HasShape}
 use Rattle.journal.specs.Sectors.{IsHead, IsRising, IsSuper}
-use Rattle.journal.specs.SectorsTwo.{descriptors_of}
+use Rattle.journal.specs.Format2.{descriptors_of}
 use Rattle.journal.specs.Record.{Entry, numbers_of, with_records, home_of}
 use Rattle.journal.specs.Formats.{IsWhole}
 use Rattle.journal.specs.Reading.{IsRefusedCall}

@@ -8,7 +8,7 @@ use Rattle.journal.specs.declared.log_format.LogFormat.TheVariants.{One, Two}
 use Rattle.journal.specs.Places.{Shape, slot_sectors_of, sectors_of}
 use Rattle.journal.specs.Formats.{shape_of, IsWhole}
 use Rattle.journal.specs.Sectors.{IsHead, IsSuper, IsSuperFault}
-use Rattle.journal.specs.SectorsTwo.{descriptors_of}
+use Rattle.journal.specs.Format2.{descriptors_of}
 use Rattle.journal.specs.Reading.{ReadsUpToBad, IsCommitted, HasPlace, NamesBlocks, IsReadInVain}
 use Rattle.journal.specs.Layout.{slot_at}
 use Rattle.journal.specs.Format2.{format2}
@@ -20,8 +20,8 @@ use Rattle.recovery.specs.declared.start_fault.StartFault.{StartFault}
 use Rattle.spec.specs.Blocks.{Array}
 use Rattle.medium.specs.declared.fault.MediumFault.TheVariants as medium
 use Rattle.journal.specs.declared.super_fault.SuperFault.TheVariants.{Magic, Version, Rest, Sizes}
-use Rattle.journal.specs.ImageFaults.{HasShape}
-use Rattle.journal.specs.ImageFaults as image
+use Rattle.journal.specs.Standing.{HasShape}
+use Rattle.journal.specs.Standing as image
 use Rattle.recovery.specs.declared.inspection.Inspection.{Inspection}
 use Rattle.recovery.specs.declared.start_fault.StartFault.TheVariants.{Read, Write, Flush, BadSuper}
 use Rattle.recovery.specs.declared.start_fault.StartFault.TheVariants.{BadVersion, BadSize, BadHead}

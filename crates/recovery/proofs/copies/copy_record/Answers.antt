@@ -9,7 +9,7 @@ use Rattle.journal.specs.Record.{numbers_of, home_of}
 use Rattle.journal.specs.Formats.{shape_of}
 use Rattle.journal.specs.Reading.{record_reads_of, data_at, IsReadFor}
 use Rattle.journal.proofs.Formats.{most_is}
-use Rattle.journal.proofs.Overlay.{with_blocks-copied}
+use Rattle.journal.proofs.Wholeness.{with_blocks-copied}
 use Rattle.recovery.specs.Calls.{IsHomeOf, calls_of, most_calls_of}
 use Rattle.recovery.proofs.JoinedCalls.{number_of, long_as, none_copies, copies_on}
 use Rattle.recovery.proofs.copies.copy_record.Goals as goal

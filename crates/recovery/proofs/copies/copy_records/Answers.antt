@@ -5,7 +5,7 @@ use Rattle.journal.specs.Places.{first_home}
 use Rattle.journal.specs.Record.{Entry, with_records, home_of}
 use Rattle.journal.specs.Formats.{shape_of}
 use Rattle.recovery.specs.Calls.{calls_of, copy_calls, IsHomeInRecord, IsHomeInRecords}
-use Rattle.journal.proofs.Overlay.{with_blocks-same, with_records-append}
+use Rattle.journal.proofs.Wholeness.{with_blocks-same, with_records-append}
 use Rattle.recovery.proofs.JoinedCalls.{not_in_log, whole_same, each_once_more, copies_on}
 use Rattle.recovery.proofs.copies.copy_records.Goals as goal
 use Rattle.recovery.proofs.copies.copy_records.Goals.{In-loop-j}
