@@ -7,7 +7,7 @@ use Rattle.std.proofs.lemmas.List.{length-map, ext_get_or}
 use Rattle.journal.specs.Sectors.{spelling, number_in, descriptor_mark, commit_mark, IsDescriptor, IsCommit}
 use Rattle.journal.specs.Record.{Entry, numbers_of, block_of}
 use Rattle.journal.specs.Layout.{by_part, AreEntries, IsWholeIn, IsRecordOf}
-use Rattle.journal.specs.Format1.{format1, Carries1, entry_in, record_in}
+use Rattle.journal.specs.Formats.{format1, Carries1, entry_in, record_in}
 use Rattle.journal.proofs.SectorNumbers.{descriptor_says, commit_says, descriptor_number}
 use Rattle.std.proofs.Math.ListN.{get_or-map}
 use Rattle.std.proofs.lemmas.List.Elements.{All-from_get_or}

@@ -174,9 +174,9 @@ numbers_of_chunk es j =
     rw (drop-map (λ (e : Entry). e.0) (30 * j) es, take-map (λ (e : Entry). e.0) 30 (drop (30 * j) es))
 
 -- one of some entries that follow each other
-module _ (es : List Entry) (many from i : ℕ) (few : i < many) where
-  pub part_at : {X : Type 0} (part : Entry → X) → get_or (map part (take many (drop from es))) i (part (0, [])) ≡ part (get_or es (from + i) (0, []))
-  part_at part = rw (get_or-map part (take many (drop from es)) i (0, [])) (grind (arith, common_steps))
+pub part_at : {X : Type 0} (es : List Entry) (many from i : ℕ) → i < many → (part : Entry → X)
+    → get_or (map part (take many (drop from es))) i (part (0, [])) ≡ part (get_or es (from + i) (0, []))
+part_at es many from i few part = rw (get_or-map part (take many (drop from es)) i (0, [])) (grind (arith, common_steps))
 
 -- in a record in the limits it is a descriptor
 pub descriptor_two : {blocks stamp : ℕ} {es : List Entry} (j : ℕ) → IsRecordOf format2 blocks stamp es → 30 * j < length es
@@ -189,7 +189,7 @@ descriptor_two {stamp = stamp} {es = es} j r used =
     let sized = All-take full 30 (drop (30 * j) es) (All-drop full (30 * j) es r.fit.sized) in
     let entries = entries_cut (numbers_of es) (numbers_of chunk) (firsts_of chunk) j (omega (arith, long, r.fit.few))
     (omega (arith, long)) r.fit.rising r.fit.small (numbers_of_chunk es j) (simp length-map)
-    (All-map (λ (l : List ℕ). length l ≡ 8) first chunk (λ i d below. length-take-le 8 (get_or chunk i d).1 (omega (arith, sized i d below)))) in
+    (All-map (λ (l : List ℕ). length l ≡ 8) first chunk (λ i d below. length-take-le 8 _ (omega (arith, sized i d below)))) in
     record { spelled = refl; least = r.least; most = r.below; entries = rw long at entries }
 
 -- descriptors that name count blocks are there
@@ -367,7 +367,7 @@ module _ (shape : Shape) (image : Image) (s n : ℕ) (committed : IsCommitTwo s 
       → IsWholeIn format2 shape image s (entries_at image (2 + 249 * (s % shape.slots)) n)
   whole_two rising inside =
       let smalls = All-from_get_or (λ (b : ℕ). b < 2147483648) (numbers_of found) 0 small in
-      let sizes = All-from_get_or (λ (e : Entry). length e.1 ≡ 512) found (0, []) (λ i below. (block_read i (omega (arith, below, long))).0) in
+      let sizes = All-from_get_or (λ (e : Entry). length e.1 ≡ 512) found (0, []) (λ i below. (block_read i (omega (arith, long))).0) in
       let fit : AreEntries 240 shape.blocks found = grind (arith, long, committed.some, committed.few, rising, inside, smalls, sizes) in
       record {
         fit = fit;

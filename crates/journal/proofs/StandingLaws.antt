@@ -110,7 +110,8 @@ all_or_not P each xs d =
 rising_or_not : (numbers : List ℕ) → Decided (IsRising numbers)
 rising_or_not numbers =
     let all = each_or_not (λ j. (i : ℕ) → i < j → get_or numbers i 0 < get_or numbers j 0) (length numbers)
-    (λ j. each_or_not (λ i. get_or numbers i 0 < get_or numbers j 0) j (λ i. grind (arith, cases_lt (get_or numbers i 0) (get_or numbers j 0)))) in
+    (λ j. each_or_not (λ i. get_or numbers i 0 < get_or numbers j 0) j
+    (λ i. grind (arith, cases_lt (get_or numbers i 0) (get_or numbers j 0)))) in
     search (rules, arith)
 
 -- a sector is a head or not

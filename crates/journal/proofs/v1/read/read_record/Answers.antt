@@ -1,10 +1,9 @@
 use Rattle.std.proofs.Common.{◌≡◌, ◌∙◌, ◌<◌, ◌+◌, ◌*◌, ◌%◌, ℕ, Result, IfOk, IfErr, [], refl, sym, rules, arith}
 use Rattle.medium.specs.Medium.{State}
-use Rattle.journal.specs.Formats.{shape_of}
+use Rattle.journal.specs.Formats.{shape_of, record_in}
 use Rattle.journal.specs.Record.{numbers_of}
 use Rattle.medium.specs.declared.fault.MediumFault.{MediumFault}
 use Rattle.journal.specs.Reading.{IsRefusedCall, LooksUp}
-use Rattle.journal.specs.Format1.{record_in}
 use Rattle.journal.proofs.SectorsRead.{read_is, within_one}
 use Rattle.journal.proofs.Format1Laws.{descriptor_there, commit_there, numbers_read, whole_in}
 use Rattle.journal.proofs.Wholeness.{as_format, of_format}
