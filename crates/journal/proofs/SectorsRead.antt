@@ -16,8 +16,8 @@ use Rattle.std.proofs.lemmas.Grind.{common_steps}
 use Rattle.journal.specs.declared.record.Record.{Record}
 use Rattle.journal.specs.Record.{Entry, numbers_of, block_of, begun_with, first_of}
 use Rattle.journal.specs.Layout.{slot_at, IsWholeIn}
-use Rattle.journal.specs.Format2.{firsts_of}
-use Rattle.journal.proofs.SlotTwo.{place_rest, place_there, placed}
+use Rattle.journal.specs.Format2.{firsts_of, place_bytes}
+use Rattle.journal.proofs.SlotTwo.{place_there, placed}
 use Rattle.journal.proofs.Formats.{laws_of}
 use Rattle.journal.proofs.Wholeness.{as_format}
 use Rattle.journal.proofs.Format1Laws.{place_there as place_there_one}
@@ -61,10 +61,11 @@ pub begun_is : (format : LogFormat) (shape : Shape) (image : Image) (stamp : ℕ
     → IsWholeIn (layout_of format) shape image stamp entries → (i : ℕ) → i < length entries → (first : Option (List ℕ))
     → first ≡ first_of format entries i → (sector : List ℕ)
     → sector ≡ image (slot_at (layout_of format) shape stamp + first_data_of format + i) → begun_with first sector ≡ block_of entries i
+unfolding place_bytes
 begun_is One shape image stamp entries w i below first is sector there =
     grind (arith, place_there_one shape image stamp entries w i below)
 begun_is Two shape image stamp entries w i below first is sector there =
-    let it = place_there shape image stamp entries w i below in grind (arith, common_steps, place_rest)
+    let it = place_there shape image stamp entries w i below in grind (arith, common_steps)
 
 -- what stands before the data places of these blocks has these first bytes of them
 abbrev pub firsts_before : LogFormat → List Entry → List (List ℕ)

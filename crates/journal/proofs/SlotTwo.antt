@@ -1,7 +1,7 @@
 -- What the sectors of a slot of format 2 say, and of which record, whole or not.
 use Rattle.std.proofs.Common.{◌≡◌, ℕ, ◌+◌, ◌*◌, ◌-◌, ◌^◌, ◌<◌, ◌≤◌, List, [], ◌∷◌, ◌++◌, length, get_or, take, drop}
 use Rattle.std.proofs.Common.{refl, sym, map, arith, rules, ◌∙◌, All, min, zip, slice_range, flat_map, ◌/◌, ◌%◌, ap}
-use Rattle.std.proofs.Common.{take-add}
+use Rattle.std.proofs.Common.{take-add, false, IsTrue}
 use Rattle.std.proofs.lemmas.List.{take_all, take_min, length-take, length-drop, append_assoc, append-nil, take_more}
 use Rattle.std.proofs.lemmas.List.{drop-drop, drop-take, ext_get_or, take-map, drop-map, length-map, length-take-le}
 use Rattle.std.proofs.lemmas.List.{take_at, get_or-take, get_or-drop, take-append-drop}
@@ -21,7 +21,6 @@ use Rattle.journal.specs.Layout.{AreEntries, IsRecordOf, IsWholeIn}
 use Rattle.std.proofs.lemmas.List.FromFn.{get_or-map-range_with_len, length-map-range_with_len, fill_by_all}
 use Rattle.medium.specs.Medium.{Image}
 use Rattle.journal.specs.Reading.{HasDescriptor, HasDescriptors, HasPlaces}
-use Rattle.std.specs.Prelude.{false, IsTrue, All}
 use Rattle.journal.specs.Places.{Shape}
 use Rattle.journal.proofs.Format1Laws.{parts}
 use Rattle.journal.proofs.Wholeness.{record_of}
@@ -31,16 +30,7 @@ pub place_says : (s : ℕ) (block : List ℕ) → s < 2 ^ 64 → number_in (plac
 unfolding number_in place_bytes
 place_says s block small = little_number-reads_back 8 s [] small
 
--- the bytes of a block behind its first 8
-pub place_rest : (s : ℕ) (block : List ℕ) → drop 8 (place_bytes s block) ≡ drop 8 block
-unfolding place_bytes
-place_rest s block = refl
-
 module _ (numbers : List ℕ) (firsts : List (List ℕ)) (each : length firsts ≡ length numbers) where
-  -- entry e
-  pub zipped : (e : ℕ) → e < length numbers → get_or (zip numbers firsts) e (0, []) ≡ (get_or numbers e 0, get_or firsts e [])
-  zipped e below = get_or-zip numbers firsts e (0, []) below (omega arith)
-
   pub length_zipped : length (zip numbers firsts) ≡ length numbers
   length_zipped = omega (arith, length-zip numbers firsts)
 
@@ -71,7 +61,7 @@ module _ (numbers : List ℕ) (firsts : List (List ℕ)) (each : length firsts �
         let x : Entry = (get_or numbers e 0, get_or firsts e []) in
         let first = take_all 8 (get_or firsts e []) (omega (arith, sized e [] (omega arith))) in
         let more = take_more es e (0, []) (omega (arith, length_zipped)) in
-        rw (more, zipped e below, flat_map-append entry_bytes (take e es) (x ∷ []))
+        rw (more, get_or-zip numbers firsts e (0, []) below (omega arith), flat_map-append entry_bytes (take e es) (x ∷ []))
         (simp (append_assoc, first) (rw (append-nil (get_or firsts e []))))
 
 -- a part of what rises rises
@@ -125,7 +115,7 @@ module _ {stamp count j : ℕ} {numbers : List ℕ} {firsts : List (List ℕ)} {
   entry_is : (e : ℕ) → e < length numbers → take 16 (drop (32 + 16 * e) bytes) ≡ entry_bytes (get_or numbers e 0, get_or firsts e [])
   unfolding padded
   entry_is e below =
-      rw (← (drop-drop (16 * e) 32 bytes), d.spelled, ← (zipped numbers firsts d.entries.each e below))
+      rw (← (drop-drop (16 * e) 32 bytes), d.spelled, ← (get_or-zip numbers firsts e (0, []) below (omega (arith, d.entries.each))))
       (piece_at entry_bytes 16 (zip numbers firsts) e (0, []) _ (omega (arith, length_zipped numbers firsts d.entries.each))
       (zipped_long numbers firsts d.entries.each d.entries.sized))
 
@@ -299,6 +289,7 @@ module _ (shape : Shape) (image : Image) (s : ℕ) (es : List Entry) (w : IsWhol
 
   -- it is the one that its slot spells
   pub record_read : es ≡ record_in image (2 + 249 * (s % shape.slots))
+  unfolding place_bytes
   record_read =
       let at : ℕ = 2 + 249 * (s % shape.slots) in
       let count = commit_count s (length es) (image (at + 248)) commit_whole in
@@ -314,7 +305,6 @@ module _ (shape : Shape) (image : Image) (s : ℕ) (es : List Entry) (w : IsWhol
         part_at es 30 (30 * (i / 30)) (i % 30) (omega arith) (λ e. take 8 e.1),
         split,
         place_there i inside,
-        place_rest s (block_of es i),
         take-append-drop 8 (block_of es i),
       ))
 
