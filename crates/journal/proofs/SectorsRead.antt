@@ -28,12 +28,9 @@ pub place_before : (format : LogFormat) (slots home slot i : ℕ) → IsFirstHom
 place_before format slots home slot i first low inside = grind (arith, first)
 
 -- a slot ends before home
-module _ (sizes : Super) (stamp slot : ℕ) (is : slot ≡ stamp % sizes.slots) where
-  pub within_one : sizes.format ≡ One → 2 + 50 * slot + 50 ≤ sizes.home
-  within_one one = grind (arith, sizes.home_is, mod_below stamp sizes.slots sizes.some_slots)
-
-  pub within_two : sizes.format ≡ Two → 2 + 249 * slot + 249 ≤ sizes.home
-  within_two two = grind (arith, sizes.home_is, mod_below stamp sizes.slots sizes.some_slots)
+pub within : (sizes : Super) (stamp slot : ℕ) {format : LogFormat} → slot ≡ stamp % sizes.slots → sizes.format ≡ format
+    → 2 + (layout_of format).slot_sectors * slot + (layout_of format).slot_sectors ≤ sizes.home
+within sizes stamp slot is same = grind (arith, sizes.home_is, mod_below stamp sizes.slots sizes.some_slots)
 
 -- reads, and then others
 pub looks_on : {M X Y Z : Type 0} {state : M → State} {Follows : M → M → Type 0} {few many most : ℕ} {places : ℕ → Type 0}

@@ -107,11 +107,6 @@ module _ {stamp count j : ℕ} {numbers : List ℕ} {firsts : List (List ℕ)} {
     little_number-reads_back 8 j [] (omega (arith, d.entries.few, d.entries.used)),
   )
 
-  -- how many entries these numbers say
-  pub here_is : {here many index : ℕ} → here ≡ min 30 (many - 30 * index) → many ≡ number_in bytes 2 → index ≡ number_in bytes 3
-      → here ≡ entries_here count j
-  here_is is a b = cc (is, a, b, header_says.1, header_says.2)
-
   entry_is : (e : ℕ) → e < length numbers → take 16 (drop (32 + 16 * e) bytes) ≡ entry_bytes (get_or numbers e 0, get_or firsts e [])
   unfolding padded
   entry_is e below =
