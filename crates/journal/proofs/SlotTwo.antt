@@ -47,8 +47,7 @@ module _ (numbers : List ℕ) (firsts : List (List ℕ)) (each : length firsts �
     pub length_so_far : (before : List ℕ) (e : ℕ) → length before ≡ 32 → e ≤ length numbers
         → length (before ++ flat_map entry_bytes (take e (zip numbers firsts))) ≡ 32 + 16 * e
     length_so_far before e count inside =
-        let all = All-take (λ (x : Entry). length (entry_bytes x) ≡ 16) e (zip numbers firsts) zipped_long in
-        let long = length_pieces entry_bytes 16 (take e (zip numbers firsts)) all in
+        let long = length_pieces entry_bytes 16 _ (All-take (λ (x : Entry). length (entry_bytes x) ≡ 16) e (zip numbers firsts) zipped_long) in
         grind (arith, common_steps, length_zipped)
 
     -- one entry more
@@ -305,11 +304,10 @@ module _ (shape : Shape) (image : Image) (s : ℕ) (es : List Entry) (w : IsWhol
 
   -- a commit there counts its blocks, and their descriptors are there
   module _ (n : ℕ) (commit : IsCommitTwo s n (image (2 + 249 * (s % shape.slots) + 248))) where
-    pub counted : length es ≡ n
-    counted = sym (commit_count s (length es) _ commit_whole) ∙ commit_count s n _ commit
-
     pub described_whole : (j : ℕ) → j < descriptors_of n → HasDescriptor image (2 + 249 * (s % shape.slots)) s n j
-    described_whole j below = (_, _, rw counted at (descriptor_whole j (omega (arith, below, counted))))
+    described_whole j below =
+        let counted : length es ≡ n = cc (commit_count s (length es) _ commit_whole, commit_count s n _ commit) in
+        (_, _, rw counted at (descriptor_whole j (omega (arith, below))))
 
 -- a slot that says so has a whole record
 module _ (shape : Shape) (image : Image) (s n : ℕ) (committed : IsCommitTwo s n (image (2 + 249 * (s % shape.slots) + 248)))
