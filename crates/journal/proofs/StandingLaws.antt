@@ -106,14 +106,6 @@ all_or_not P each xs d =
     let all = each_or_not (λ k. P (get_or xs k d)) (length xs) (λ k. each (get_or xs k d)) in
     search (rules, All-from_get_or P xs d)
 
--- numbers rise or not
-rising_or_not : (numbers : List ℕ) → Decided (IsRising numbers)
-rising_or_not numbers =
-    let all = each_or_not (λ j. (i : ℕ) → i < j → get_or numbers i 0 < get_or numbers j 0) (length numbers)
-    (λ j. each_or_not (λ i. get_or numbers i 0 < get_or numbers j 0) j
-    (λ i. grind (arith, cases_lt (get_or numbers i 0) (get_or numbers j 0)))) in
-    search (rules, arith)
-
 -- a sector is a head or not
 pub head_or_not : (bytes : List ℕ) → Decided ((stamp : ℕ) × IsHead stamp bytes)
 head_or_not bytes =
@@ -137,7 +129,10 @@ whole_or_not : (L : Layout) (laws : Laws L) (shape : Shape) (image : Image) (sta
     → Decided (HasWholeIn L shape image stamp)
 whole_or_not L laws shape image stamp =
     let es : List Entry = L.read image (slot_at L shape stamp) in
-    let rising = rising_or_not (numbers_of es) in
+    let number : ℕ → ℕ = λ i. get_or (numbers_of es) i 0 in
+    let all = each_or_not (λ j. (i : ℕ) → i < j → number i < number j) (length (numbers_of es))
+    (λ j. each_or_not (λ i. number i < number j) j (λ i. grind (arith, cases_lt (number i) (number j)))) in
+    let rising : Decided (IsRising (numbers_of es)) = search (rules, arith) in
     let inside = all_or_not (λ b. b < shape.blocks) (λ b. grind (arith, cases_lt b shape.blocks)) (numbers_of es) 0 in
     let small = all_or_not (λ b. b < 2 ^ 31) (λ b. grind (arith, cases_lt b (2 ^ 31))) (numbers_of es) 0 in
     let sized = all_or_not (λ e. length e.1 ≡ 512) (λ e. cases_eq (length e.1) 512) es (0, []) in

@@ -13,8 +13,7 @@ invariant_of-descriptor c =
     let used = c.has_entries.ensures.0 (search rules) in
     let rising = rw c.deref-else-not-are_small.ensures.0 at (c.are_rising.ensures.0 (search rules)) in
     let small = rw c.deref.ensures.0 at (c.are_small.ensures.0 (search rules)) in
-    let inside : (i : ℕ) → i < c.count_here-here.result → 40 + 16 * i + 8 ≤ length c.args.sector.now = λ i below. omega (arith, below) in
-    let sized = sized_from _ (λ i. 40 + 16 * i) inside c.firsts_at-firsts.ensures in
+    let sized = sized_from c.args.sector.now (λ i. 40 + 16 * i) (λ i below. omega (arith, below)) c.firsts_at-firsts.ensures in
     search rules
 
 pub returns-then-eq-clause-all : goal.returns-then-eq-clause-all
