@@ -47,7 +47,7 @@ module _ (numbers : List ℕ) (firsts : List (List ℕ)) (each : length firsts �
     pub length_so_far : (before : List ℕ) (e : ℕ) → length before ≡ 32 → e ≤ length numbers
         → length (before ++ flat_map entry_bytes (take e (zip numbers firsts))) ≡ 32 + 16 * e
     length_so_far before e count inside =
-        let long = length_pieces entry_bytes 16 _ (All-take (λ (x : Entry). length (entry_bytes x) ≡ 16) e (zip numbers firsts) zipped_long) in
+        let long = length_pieces entry_bytes 16 _ (All-take (λ (x : Entry). length (entry_bytes x) ≡ 16) e _ zipped_long) in
         grind (arith, common_steps, length_zipped)
 
     -- one entry more

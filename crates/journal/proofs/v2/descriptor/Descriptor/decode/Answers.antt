@@ -1,4 +1,4 @@
-use Rattle.std.proofs.Common.{◌≡◌, ◌+◌, ◌*◌, ◌<◌, ◌≤◌, ℕ, length, rules, arith, ◌-◌, min}
+use Rattle.std.proofs.Common.{◌≡◌, ◌+◌, ◌*◌, rules, arith, ◌-◌, min}
 use Rattle.journal.proofs.SlotTwo.{header_says, numbers_are, firsts_are, sized_from, IsDescriptorTwo-one}
 use Rattle.journal.proofs.v2.descriptor.Descriptor.decode.Goals as goal
 
