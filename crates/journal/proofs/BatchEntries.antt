@@ -38,11 +38,10 @@ sized_batch numbers bytes size i d below =
 
 -- the first bytes of the i-th block
 first_of_batch : (i : ℕ) (numbers bytes : List ℕ) → i < length numbers
-    → get_or (firsts_of (entries_of numbers bytes)) i [] ≡ slice_range bytes (512 * i) (512 * i + 8)
+    → take 8 (get_or (entries_of numbers bytes) i (0, [])).1 ≡ slice_range bytes (512 * i) (512 * i + 8)
 first_of_batch i numbers bytes below =
     let sizes : (512 * i + 512 - 512 * i ≡ 512) × (512 * i + 8 - 512 * i ≡ 8) = (omega arith, omega arith) in
-    rw (get_or-map (λ (e : Entry). take 8 e.1) (entries_of numbers bytes) i (0, []), entry_of_batch i numbers bytes (0, []) below, sizes.0, sizes.1)
-    (take-take 8 512 (drop (512 * i) bytes) (omega arith))
+    rw (entry_of_batch i numbers bytes (0, []) below, sizes.0, sizes.1) (take-take 8 512 (drop (512 * i) bytes) (omega arith))
 
 -- those of all of them
 pub all_firsts_of : (numbers bytes : List ℕ) (firsts : List (List ℕ)) (count : ℕ) → count ≡ length numbers → length firsts ≡ count
@@ -50,7 +49,8 @@ pub all_firsts_of : (numbers bytes : List ℕ) (firsts : List (List ℕ)) (count
     → firsts ≡ firsts_of (entries_of numbers bytes)
 all_firsts_of numbers bytes firsts count all many each =
     ext_get_or [] firsts _ (simp (length-map, length_of_batch) (omega (arith, many, all)))
-    (λ i below. grind (arith, many, all, each i, first_of_batch i numbers bytes))
+    (λ i below. let is = get_or-map (λ (e : Entry). take 8 e.1) (entries_of numbers bytes) i (0, []) in
+    grind (arith, many, all, each i, first_of_batch i numbers bytes))
 
 -- and of those of a descriptor
 pub firsts_of_batch : (numbers bytes : List ℕ) (firsts : List (List ℕ)) (j : ℕ)
@@ -64,8 +64,7 @@ firsts_of_batch numbers bytes firsts j count each =
     (λ i below.
     let few : i < 30 = omega (arith, count, length-take 30 (drop (30 * j) numbers)) in
     let inside : 30 * j + i < length numbers = omega (arith, count, length-take 30 (drop (30 * j) numbers), length-drop (30 * j) numbers) in
-    let whole = get_or-map (λ (e : Entry). take 8 e.1) es (30 * j + i) (0, []) in
-    each i (omega (arith, count)) ∙ sym (part_at es 30 (30 * j) i few (λ e. take 8 e.1) ∙ sym whole ∙ first_of_batch (30 * j + i) numbers bytes inside))
+    each i (omega (arith, count)) ∙ sym (part_at es 30 (30 * j) i few (λ e. take 8 e.1) ∙ first_of_batch (30 * j + i) numbers bytes inside))
 
 pub ruleset batch =
     (numbers_of_batch, length_of_batch, entry_of_batch, firsts_of_batch, numbers_of_chunk)

@@ -7,7 +7,7 @@ use Rattle.std.proofs.lemmas.List.{length-map, ext_get_or}
 use Rattle.journal.specs.Sectors.{spelling, number_in, descriptor_mark, commit_mark, IsDescriptor, IsCommit}
 use Rattle.journal.specs.Record.{Entry, numbers_of, block_of}
 use Rattle.journal.specs.Layout.{by_part, AreEntries, IsWholeIn, IsRecordOf}
-use Rattle.journal.specs.Format1.{format1, Carries1, entry_in, record_in}
+use Rattle.journal.specs.Formats.{format1, Carries1, entry_in, record_in}
 use Rattle.journal.proofs.SectorNumbers.{descriptor_says, commit_says, descriptor_number}
 use Rattle.std.proofs.Math.ListN.{get_or-map}
 use Rattle.std.proofs.lemmas.List.Elements.{All-from_get_or}
@@ -71,10 +71,9 @@ module _ (image : Image) (at : ℕ) {stamp : ℕ} {numbers : List ℕ} (d : IsDe
   -- its block numbers
   pub numbers_read : numbers_of (record_in image at) ≡ numbers
   numbers_read =
-      let first : Entry → ℕ = λ e. e.0 in
-      let long = length-map (record_in image at) first in
+      let long = length-map (record_in image at) (λ (e : Entry). e.0) in
       ext_get_or 0 _ numbers (long ∙ many) (λ i below.
-      rw (get_or-map first (record_in image at) i (0, []), entry_read i (omega (arith, long, many))))
+      rw (get_or-map (λ (e : Entry). e.0) (record_in image at) i (0, []), entry_read i (omega (arith, long, many))))
 
 module _ (shape : Shape) (image : Image) (s : ℕ) (es : List Entry) (w : IsWholeIn format1 shape image s es) where
   pub descriptor_there : IsDescriptor s (numbers_of es) (image (2 + 50 * (s % shape.slots)))

@@ -13,8 +13,7 @@ use Rattle.journal.proofs.Format1Laws.{parts, ends_carry, carried1, commit_of, r
 use Rattle.journal.specs.declared.log_format.LogFormat.{LogFormat}
 use Rattle.journal.specs.declared.log_format.LogFormat.TheVariants.{One, Two}
 use Rattle.journal.specs.Places.{limit_of, slot_sectors_of}
-use Rattle.journal.specs.Format1.{format1}
-use Rattle.journal.specs.Formats.{layout_of}
+use Rattle.journal.specs.Formats.{format1, layout_of}
 
 pub commit_two : {blocks s : ℕ} {entries : List Entry} → IsRecordOf format2 blocks s entries
     → IsCommitTwo s (length entries) (spelling (commit_mark ∷ s ∷ length entries ∷ []))

@@ -16,8 +16,8 @@ use Rattle.std.proofs.lemmas.Grind.{common_steps}
 use Rattle.journal.specs.declared.record.Record.{Record}
 use Rattle.journal.specs.Record.{Entry, numbers_of, block_of, begun_with, first_of}
 use Rattle.journal.specs.Layout.{slot_at, IsWholeIn}
-use Rattle.journal.specs.Format2.{firsts_of}
-use Rattle.journal.proofs.SlotTwo.{place_rest, place_there, placed}
+use Rattle.journal.specs.Format2.{firsts_of, place_bytes}
+use Rattle.journal.proofs.SlotTwo.{place_there, placed}
 use Rattle.journal.proofs.Formats.{laws_of}
 use Rattle.journal.proofs.Wholeness.{as_format}
 use Rattle.journal.proofs.Format1Laws.{place_there as place_there_one}
@@ -28,12 +28,9 @@ pub place_before : (format : LogFormat) (slots home slot i : ℕ) → IsFirstHom
 place_before format slots home slot i first low inside = grind (arith, first)
 
 -- a slot ends before home
-module _ (sizes : Super) (stamp slot : ℕ) (is : slot ≡ stamp % sizes.slots) where
-  pub within_one : sizes.format ≡ One → 2 + 50 * slot + 50 ≤ sizes.home
-  within_one one = grind (arith, sizes.home_is, mod_below stamp sizes.slots sizes.some_slots)
-
-  pub within_two : sizes.format ≡ Two → 2 + 249 * slot + 249 ≤ sizes.home
-  within_two two = grind (arith, sizes.home_is, mod_below stamp sizes.slots sizes.some_slots)
+pub within : (sizes : Super) (stamp slot : ℕ) {format : LogFormat} → slot ≡ stamp % sizes.slots → sizes.format ≡ format
+    → 2 + (layout_of format).slot_sectors * slot + (layout_of format).slot_sectors ≤ sizes.home
+within sizes stamp slot is same = grind (arith, sizes.home_is, mod_below stamp sizes.slots sizes.some_slots)
 
 -- reads, and then others
 pub looks_on : {M X Y Z : Type 0} {state : M → State} {Follows : M → M → Type 0} {few many most : ℕ} {places : ℕ → Type 0}
@@ -61,10 +58,11 @@ pub begun_is : (format : LogFormat) (shape : Shape) (image : Image) (stamp : ℕ
     → IsWholeIn (layout_of format) shape image stamp entries → (i : ℕ) → i < length entries → (first : Option (List ℕ))
     → first ≡ first_of format entries i → (sector : List ℕ)
     → sector ≡ image (slot_at (layout_of format) shape stamp + first_data_of format + i) → begun_with first sector ≡ block_of entries i
+unfolding place_bytes
 begun_is One shape image stamp entries w i below first is sector there =
     grind (arith, place_there_one shape image stamp entries w i below)
 begun_is Two shape image stamp entries w i below first is sector there =
-    let it = place_there shape image stamp entries w i below in grind (arith, common_steps, place_rest)
+    let it = place_there shape image stamp entries w i below in grind (arith, common_steps)
 
 -- what stands before the data places of these blocks has these first bytes of them
 abbrev pub firsts_before : LogFormat → List Entry → List (List ℕ)

@@ -1,7 +1,7 @@
 -- What the sectors of a slot of format 2 say, and of which record, whole or not.
 use Rattle.std.proofs.Common.{◌≡◌, ℕ, ◌+◌, ◌*◌, ◌-◌, ◌^◌, ◌<◌, ◌≤◌, List, [], ◌∷◌, ◌++◌, length, get_or, take, drop}
 use Rattle.std.proofs.Common.{refl, sym, map, arith, rules, ◌∙◌, All, min, zip, slice_range, flat_map, ◌/◌, ◌%◌, ap}
-use Rattle.std.proofs.Common.{take-add}
+use Rattle.std.proofs.Common.{take-add, false, IsTrue}
 use Rattle.std.proofs.lemmas.List.{take_all, take_min, length-take, length-drop, append_assoc, append-nil, take_more}
 use Rattle.std.proofs.lemmas.List.{drop-drop, drop-take, ext_get_or, take-map, drop-map, length-map, length-take-le}
 use Rattle.std.proofs.lemmas.List.{take_at, get_or-take, get_or-drop, take-append-drop}
@@ -21,7 +21,6 @@ use Rattle.journal.specs.Layout.{AreEntries, IsRecordOf, IsWholeIn}
 use Rattle.std.proofs.lemmas.List.FromFn.{get_or-map-range_with_len, length-map-range_with_len, fill_by_all}
 use Rattle.medium.specs.Medium.{Image}
 use Rattle.journal.specs.Reading.{HasDescriptor, HasDescriptors, HasPlaces}
-use Rattle.std.specs.Prelude.{false, IsTrue, All}
 use Rattle.journal.specs.Places.{Shape}
 use Rattle.journal.proofs.Format1Laws.{parts}
 use Rattle.journal.proofs.Wholeness.{record_of}
@@ -31,16 +30,7 @@ pub place_says : (s : ℕ) (block : List ℕ) → s < 2 ^ 64 → number_in (plac
 unfolding number_in place_bytes
 place_says s block small = little_number-reads_back 8 s [] small
 
--- the bytes of a block behind its first 8
-pub place_rest : (s : ℕ) (block : List ℕ) → drop 8 (place_bytes s block) ≡ drop 8 block
-unfolding place_bytes
-place_rest s block = refl
-
 module _ (numbers : List ℕ) (firsts : List (List ℕ)) (each : length firsts ≡ length numbers) where
-  -- entry e
-  pub zipped : (e : ℕ) → e < length numbers → get_or (zip numbers firsts) e (0, []) ≡ (get_or numbers e 0, get_or firsts e [])
-  zipped e below = get_or-zip numbers firsts e (0, []) below (omega arith)
-
   pub length_zipped : length (zip numbers firsts) ≡ length numbers
   length_zipped = omega (arith, length-zip numbers firsts)
 
@@ -57,8 +47,7 @@ module _ (numbers : List ℕ) (firsts : List (List ℕ)) (each : length firsts �
     pub length_so_far : (before : List ℕ) (e : ℕ) → length before ≡ 32 → e ≤ length numbers
         → length (before ++ flat_map entry_bytes (take e (zip numbers firsts))) ≡ 32 + 16 * e
     length_so_far before e count inside =
-        let all = All-take (λ (x : Entry). length (entry_bytes x) ≡ 16) e (zip numbers firsts) zipped_long in
-        let long = length_pieces entry_bytes 16 (take e (zip numbers firsts)) all in
+        let long = length_pieces entry_bytes 16 _ (All-take (λ (x : Entry). length (entry_bytes x) ≡ 16) e _ zipped_long) in
         grind (arith, common_steps, length_zipped)
 
     -- one entry more
@@ -71,7 +60,7 @@ module _ (numbers : List ℕ) (firsts : List (List ℕ)) (each : length firsts �
         let x : Entry = (get_or numbers e 0, get_or firsts e []) in
         let first = take_all 8 (get_or firsts e []) (omega (arith, sized e [] (omega arith))) in
         let more = take_more es e (0, []) (omega (arith, length_zipped)) in
-        rw (more, zipped e below, flat_map-append entry_bytes (take e es) (x ∷ []))
+        rw (more, get_or-zip numbers firsts e (0, []) below (omega arith), flat_map-append entry_bytes (take e es) (x ∷ []))
         (simp (append_assoc, first) (rw (append-nil (get_or firsts e []))))
 
 -- a part of what rises rises
@@ -117,15 +106,10 @@ module _ {stamp count j : ℕ} {numbers : List ℕ} {firsts : List (List ℕ)} {
     little_number-reads_back 8 j [] (omega (arith, d.entries.few, d.entries.used)),
   )
 
-  -- how many entries these numbers say
-  pub here_is : {here many index : ℕ} → here ≡ min 30 (many - 30 * index) → many ≡ number_in bytes 2 → index ≡ number_in bytes 3
-      → here ≡ entries_here count j
-  here_is is a b = cc (is, a, b, header_says.1, header_says.2)
-
   entry_is : (e : ℕ) → e < length numbers → take 16 (drop (32 + 16 * e) bytes) ≡ entry_bytes (get_or numbers e 0, get_or firsts e [])
   unfolding padded
   entry_is e below =
-      rw (← (drop-drop (16 * e) 32 bytes), d.spelled, ← (zipped numbers firsts d.entries.each e below))
+      rw (← (drop-drop (16 * e) 32 bytes), d.spelled, ← (get_or-zip numbers firsts e (0, []) below (omega (arith, d.entries.each))))
       (piece_at entry_bytes 16 (zip numbers firsts) e (0, []) _ (omega (arith, length_zipped numbers firsts d.entries.each))
       (zipped_long numbers firsts d.entries.each d.entries.sized))
 
@@ -174,9 +158,9 @@ numbers_of_chunk es j =
     rw (drop-map (λ (e : Entry). e.0) (30 * j) es, take-map (λ (e : Entry). e.0) 30 (drop (30 * j) es))
 
 -- one of some entries that follow each other
-module _ (es : List Entry) (many from i : ℕ) (few : i < many) where
-  pub part_at : {X : Type 0} (part : Entry → X) → get_or (map part (take many (drop from es))) i (part (0, [])) ≡ part (get_or es (from + i) (0, []))
-  part_at part = rw (get_or-map part (take many (drop from es)) i (0, [])) (grind (arith, common_steps))
+pub part_at : {X : Type 0} (es : List Entry) (many from i : ℕ) → i < many → (part : Entry → X)
+    → get_or (map part (take many (drop from es))) i (part (0, [])) ≡ part (get_or es (from + i) (0, []))
+part_at es many from i few part = rw (get_or-map part (take many (drop from es)) i (0, [])) (grind (arith, common_steps))
 
 -- in a record in the limits it is a descriptor
 pub descriptor_two : {blocks stamp : ℕ} {es : List Entry} (j : ℕ) → IsRecordOf format2 blocks stamp es → 30 * j < length es
@@ -189,7 +173,7 @@ descriptor_two {stamp = stamp} {es = es} j r used =
     let sized = All-take full 30 (drop (30 * j) es) (All-drop full (30 * j) es r.fit.sized) in
     let entries = entries_cut (numbers_of es) (numbers_of chunk) (firsts_of chunk) j (omega (arith, long, r.fit.few))
     (omega (arith, long)) r.fit.rising r.fit.small (numbers_of_chunk es j) (simp length-map)
-    (All-map (λ (l : List ℕ). length l ≡ 8) first chunk (λ i d below. length-take-le 8 (get_or chunk i d).1 (omega (arith, sized i d below)))) in
+    (All-map (λ (l : List ℕ). length l ≡ 8) first chunk (λ i d below. length-take-le 8 _ (omega (arith, sized i d below)))) in
     record { spelled = refl; least = r.least; most = r.below; entries = rw long at entries }
 
 -- descriptors that name count blocks are there
@@ -299,6 +283,7 @@ module _ (shape : Shape) (image : Image) (s : ℕ) (es : List Entry) (w : IsWhol
 
   -- it is the one that its slot spells
   pub record_read : es ≡ record_in image (2 + 249 * (s % shape.slots))
+  unfolding place_bytes
   record_read =
       let at : ℕ = 2 + 249 * (s % shape.slots) in
       let count = commit_count s (length es) (image (at + 248)) commit_whole in
@@ -314,17 +299,15 @@ module _ (shape : Shape) (image : Image) (s : ℕ) (es : List Entry) (w : IsWhol
         part_at es 30 (30 * (i / 30)) (i % 30) (omega arith) (λ e. take 8 e.1),
         split,
         place_there i inside,
-        place_rest s (block_of es i),
         take-append-drop 8 (block_of es i),
       ))
 
   -- a commit there counts its blocks, and their descriptors are there
   module _ (n : ℕ) (commit : IsCommitTwo s n (image (2 + 249 * (s % shape.slots) + 248))) where
-    pub counted : length es ≡ n
-    counted = sym (commit_count s (length es) _ commit_whole) ∙ commit_count s n _ commit
-
     pub described_whole : (j : ℕ) → j < descriptors_of n → HasDescriptor image (2 + 249 * (s % shape.slots)) s n j
-    described_whole j below = (_, _, rw counted at (descriptor_whole j (omega (arith, below, counted))))
+    described_whole j below =
+        let counted : length es ≡ n = cc (commit_count s (length es) _ commit_whole, commit_count s n _ commit) in
+        (_, _, rw counted at (descriptor_whole j (omega (arith, below))))
 
 -- a slot that says so has a whole record
 module _ (shape : Shape) (image : Image) (s n : ℕ) (committed : IsCommitTwo s n (image (2 + 249 * (s % shape.slots) + 248)))
@@ -367,7 +350,7 @@ module _ (shape : Shape) (image : Image) (s n : ℕ) (committed : IsCommitTwo s 
       → IsWholeIn format2 shape image s (entries_at image (2 + 249 * (s % shape.slots)) n)
   whole_two rising inside =
       let smalls = All-from_get_or (λ (b : ℕ). b < 2147483648) (numbers_of found) 0 small in
-      let sizes = All-from_get_or (λ (e : Entry). length e.1 ≡ 512) found (0, []) (λ i below. (block_read i (omega (arith, below, long))).0) in
+      let sizes = All-from_get_or (λ (e : Entry). length e.1 ≡ 512) found (0, []) (λ i below. (block_read i (omega (arith, long))).0) in
       let fit : AreEntries 240 shape.blocks found = grind (arith, long, committed.some, committed.few, rising, inside, smalls, sizes) in
       record {
         fit = fit;

@@ -106,13 +106,6 @@ all_or_not P each xs d =
     let all = each_or_not (λ k. P (get_or xs k d)) (length xs) (λ k. each (get_or xs k d)) in
     search (rules, All-from_get_or P xs d)
 
--- numbers rise or not
-rising_or_not : (numbers : List ℕ) → Decided (IsRising numbers)
-rising_or_not numbers =
-    let all = each_or_not (λ j. (i : ℕ) → i < j → get_or numbers i 0 < get_or numbers j 0) (length numbers)
-    (λ j. each_or_not (λ i. get_or numbers i 0 < get_or numbers j 0) j (λ i. grind (arith, cases_lt (get_or numbers i 0) (get_or numbers j 0)))) in
-    search (rules, arith)
-
 -- a sector is a head or not
 pub head_or_not : (bytes : List ℕ) → Decided ((stamp : ℕ) × IsHead stamp bytes)
 head_or_not bytes =
@@ -128,30 +121,26 @@ super_or_not bytes =
     let s : Shape = shape_in bytes in
     let spelled = same_or_not bytes (spelling (super_mark ∷ version_of s.format ∷ s.blocks ∷ s.slots ∷ 2 ∷ s.home ∷ [])) in
     let here : Decided (IsSuper s bytes) = search (rules, arith, cases_lt) in
-    let one : ((shape : Shape) × IsSuper shape bytes) → IsSuper s bytes =
-    λ w. subst (λ (x : Shape). IsSuper x bytes) (sym (shape_is w.1)) w.1 in
+    let one = λ (w : (shape : Shape) × IsSuper shape bytes). rw (← (shape_is w.1)) at w.1 in
     search (rules, one)
-
--- blocks make a record or not
-entries_or_not : (most blocks : ℕ) (es : List Entry) → Decided (AreEntries most blocks es)
-entries_or_not most blocks es =
-    let rising = rising_or_not (numbers_of es) in
-    let inside = all_or_not (λ b. b < blocks) (λ b. grind (arith, cases_lt b blocks)) (numbers_of es) 0 in
-    let small = all_or_not (λ b. b < 2 ^ 31) (λ b. grind (arith, cases_lt b (2 ^ 31))) (numbers_of es) 0 in
-    let sized = all_or_not (λ e. length e.1 ≡ 512) (λ e. cases_eq (length e.1) 512) es (0, []) in
-    search (rules, arith, cases_lt 0 (length es), cases_lt most (length es))
 
 -- a record is whole or not
 whole_or_not : (L : Layout) (laws : Laws L) (shape : Shape) (image : Image) (stamp : ℕ)
     → Decided (HasWholeIn L shape image stamp)
 whole_or_not L laws shape image stamp =
     let es : List Entry = L.read image (slot_at L shape stamp) in
-    let fit = entries_or_not L.most shape.blocks es in
+    let number : ℕ → ℕ = λ i. get_or (numbers_of es) i 0 in
+    let all = each_or_not (λ j. (i : ℕ) → i < j → number i < number j) (length (numbers_of es))
+    (λ j. each_or_not (λ i. number i < number j) j (λ i. grind (arith, cases_lt (number i) (number j)))) in
+    let rising : Decided (IsRising (numbers_of es)) = search (rules, arith) in
+    let inside = all_or_not (λ b. b < shape.blocks) (λ b. grind (arith, cases_lt b shape.blocks)) (numbers_of es) 0 in
+    let small = all_or_not (λ b. b < 2 ^ 31) (λ b. grind (arith, cases_lt b (2 ^ 31))) (numbers_of es) 0 in
+    let sized = all_or_not (λ e. length e.1 ≡ 512) (λ e. cases_eq (length e.1) 512) es (0, []) in
+    let fit : Decided (AreEntries L.most shape.blocks es) = search (rules, arith, cases_lt 0 (length es), cases_lt L.most (length es)) in
     let there = each_or_not (λ p. image (part_at L shape stamp (length es) p) ≡ L.part stamp es p) (L.parts (length es))
     (λ p. same_or_not (image (part_at L shape stamp (length es) p)) (L.part stamp es p)) in
     let here : Decided (IsWholeIn L shape image stamp es) = search (rules, arith, cases_lt 0 stamp, cases_lt stamp (2 ^ 63 - 1)) in
-    let one : HasWholeIn L shape image stamp → IsWholeIn L shape image stamp es =
-    λ w. subst (IsWholeIn L shape image stamp) (laws.read shape image stamp w.0 w.1) w.1 in
+    let one = λ (w : HasWholeIn L shape image stamp). rw (laws.read shape image stamp w.0 w.1) at w.1 in
     search (rules, one)
 
 -- each image has a count of whole records from each stamp on

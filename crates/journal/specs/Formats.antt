@@ -1,14 +1,45 @@
--- The layouts of the two formats, whole records in an image of either, and the shape of a super.
-use Rattle.std.specs.Prelude.{ℕ, List}
+-- Format 1 as a layout, whole records of either format in an image, and the shape of a super.
+use Rattle.std.specs.Prelude.{◌<◌, ◌≤◌, ℕ, ◌+◌, List, [], ◌∷◌, length, map}
+use Rattle.std.specs.List.{range_with_len}
 use Rattle.medium.specs.Medium.{Image}
+use Rattle.journal.specs.Sectors.{spelling, number_in, descriptor_mark, commit_mark, IsDescriptor}
+use Rattle.journal.specs.Sectors.{IsCommit}
+use Rattle.journal.specs.Record.{Entry, numbers_of, block_of}
+use Rattle.journal.specs.Layout.{Layout, by_part, IsWholeIn, CarriesBelowIn}
 use Rattle.journal.specs.declared.log_format.LogFormat.{LogFormat}
 use Rattle.journal.specs.declared.log_format.LogFormat.TheVariants.{One, Two}
 use Rattle.journal.specs.Places.{Shape}
-use Rattle.journal.specs.Record.{Entry}
-use Rattle.journal.specs.Layout.{Layout, IsWholeIn, CarriesBelowIn}
-use Rattle.journal.specs.Format1.{format1}
 use Rattle.journal.specs.Format2.{format2}
 use Rattle.journal.specs.declared.super_sector.Super.{Super}
+
+-- at this offset of a slot these bytes carry this stamp: data places carry none
+pub record Carries1 (o stamp : ℕ) (bytes : List ℕ) : Type 0 where
+  pub descriptor : o < 1 → (numbers : List ℕ) × IsDescriptor stamp numbers bytes
+  pub place : 1 ≤ o → 49 ≤ o
+  pub commit : 49 ≤ o → (count : ℕ) × IsCommit stamp count bytes
+
+-- the i-th entry of the record that may stand in the slot from this sector on
+abbrev pub entry_in : Image → ℕ → ℕ → Entry
+entry_in image at i = (number_in (image at) (3 + i), image (at + 1 + i))
+
+-- the only record that may be whole there
+abbrev pub record_in : Image → ℕ → List Entry
+record_in image at = map (entry_in image at) (range_with_len 0 (number_in (image at) 2))
+
+abbrev pub format1 : Layout
+format1 = record {
+  slot_sectors = 50;
+  most = 48;
+  parts = λ n. n + 2;
+  early = λ n. n + 1;
+  offset = by_part (λ i. i) (λ i. 1 + i) 49 1;
+  part = λ stamp entries.
+      by_part
+      (λ i. spelling (descriptor_mark ∷ stamp ∷ length (numbers_of entries) ∷ numbers_of entries))
+      (block_of entries) (spelling (commit_mark ∷ stamp ∷ length entries ∷ [])) 1 (length entries);
+  carries = Carries1;
+  read = record_in;
+}
 
 -- how records lie in the slots of a log of this format
 abbrev pub layout_of : LogFormat → Layout

@@ -1,7 +1,6 @@
 pub mod Places
 pub mod Sectors
 pub mod Layout
-pub mod Format1
 pub mod Format2
 pub mod Formats
 pub mod Reading

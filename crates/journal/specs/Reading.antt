@@ -134,23 +134,20 @@ pub record IsRead (shape : Shape) (image : Image) (stamp : ℕ) (entries : List 
       ++ drop (length (get_or read.firsts.items i [])) (image (data_at shape stamp i))
       ≡ block_of entries i
 
--- How many sectors of the slot of format 2 that begins here are read to find this: the commit, and
--- where it is there, the descriptors.
-abbrev pub IsReadForTwo : Image → ℕ → ℕ → ℕ → Option Record → ℕ → Type 0
-IsReadForTwo image at stamp blocks None reads =
-    (((count : ℕ) → ¬ IsCommitted image at stamp count) × (reads ≡ 1))
-    ⊎ ((count : ℕ) × IsCommitted image at stamp count × (behind : ℕ)
-    × IsReadInVain image at stamp blocks count behind × (reads ≡ 1 + behind))
-IsReadForTwo image at stamp blocks (Some read) reads =
-    IsCommitted image at stamp (length read.numbers.items)
-    × NamesBlocks image at stamp blocks (length read.numbers.items)
-    × (reads ≡ 1 + descriptors_of (length read.numbers.items))
-
--- how many sectors are read to find this; two in format 1
+-- How many sectors are read to find this: two in format 1; in format 2 the commit, and where it is
+-- there, the descriptors.
 abbrev pub IsReadFor : LogFormat → Shape → Image → ℕ → Option Record → ℕ → Type 0
 IsReadFor One shape image stamp found reads = reads ≡ 2
-IsReadFor Two shape image stamp found reads =
-    IsReadForTwo image (slot_at format2 shape stamp) stamp shape.blocks found reads
+IsReadFor Two shape image stamp None reads =
+    (((count : ℕ) → ¬ IsCommitted image (slot_at format2 shape stamp) stamp count) × (reads ≡ 1))
+    ⊎ ((count : ℕ) × IsCommitted image (slot_at format2 shape stamp) stamp count × (behind : ℕ)
+    × IsReadInVain image (slot_at format2 shape stamp) stamp shape.blocks count behind
+    × (reads ≡ 1 + behind))
+IsReadFor Two shape image stamp (Some read) reads =
+    IsCommitted image (slot_at format2 shape stamp) stamp (length read.numbers.items)
+    × NamesBlocks image (slot_at format2 shape stamp) stamp shape.blocks
+    (length read.numbers.items)
+    × (reads ≡ 1 + descriptors_of (length read.numbers.items))
 
 -- what a reader found that fills a record: the record, where it answers that it is there
 abbrev pub found_in : Bool → Record → Option Record

@@ -1,7 +1,7 @@
 //! The sectors of a record of format 1: a descriptor, data places and a commit.
 ghost use Rattle.std.specs.Prelude.{◌≡◌, ◌≤◌, ◌<◌, ◌-◌, ◌^◌, ◌+◌, ◌*◌, length, slice_range};
 ghost use Rattle.journal.specs.Record.{entries_of, CanWrite};
-ghost use Rattle.journal.specs.Format1.{format1};
+ghost use Rattle.journal.specs.Formats.{format1};
 
 use crate::Part;
 use crate::v1::{COMMIT, Commit, Descriptor, FIRST_DATA};

@@ -9,4 +9,5 @@ pub returns : goal.returns
 unfolding spelling
 returns c numbers count is =
     rw (flat_map-append (little_bytes 8) numbers (c.args.number ∷ []))
-    (c.append_number.ensures (flat_map (little_bytes 8) numbers) (omega (arith, count, length_pieces (little_bytes 8) 8 numbers (λ i d below. refl))) is)
+    (c.append_number.ensures (flat_map (little_bytes 8) numbers)
+    (omega (arith, count, length_pieces (little_bytes 8) 8 numbers (λ i d below. refl))) is)

@@ -1,11 +1,10 @@
 use Rattle.std.proofs.Common.{◌≡◌, ◌∙◌, ◌<◌, ◌+◌, ◌*◌, ◌%◌, ℕ, Result, IfOk, IfErr, [], refl, sym, rules, arith}
 use Rattle.medium.specs.Medium.{State}
-use Rattle.journal.specs.Formats.{shape_of}
+use Rattle.journal.specs.Formats.{shape_of, record_in}
 use Rattle.journal.specs.Record.{numbers_of}
 use Rattle.medium.specs.declared.fault.MediumFault.{MediumFault}
 use Rattle.journal.specs.Reading.{IsRefusedCall, LooksUp}
-use Rattle.journal.specs.Format1.{record_in}
-use Rattle.journal.proofs.SectorsRead.{read_is, within_one}
+use Rattle.journal.proofs.SectorsRead.{read_is, within}
 use Rattle.journal.proofs.Format1Laws.{descriptor_there, commit_there, numbers_read, whole_in}
 use Rattle.journal.proofs.Wholeness.{as_format, of_format}
 use Rattle.medium.proofs.SectorsRead.{looks_joined, look_below}
@@ -19,7 +18,7 @@ joined : (g : given.Over) (c : After-read-2 g) {Z : Type 0} {H : State → State
     → IfOk result (H (g.M.Medium.state c.args.m.now) (g.M.Medium.state c.read-2.new.self))
     → LooksUp g.M.Medium.state g.M.Medium.follows 2 (λ s. s < c.args.sizes.now.home) H c.args.m.now c.read-2.new.self result
 joined g c result cause finds =
-    let ends = within_one c.args.sizes.now c.args.stamp _ c.slot_of-slot.ensures c.requires.format in
+    let ends = within c.args.sizes.now c.args.stamp _ c.slot_of-slot.ensures c.requires.format in
     let first = look_below c.args.sizes.now.home _ _ _ (omega (arith, ends, c.place_of.ensures)) c.read.ensures.follows.1 in
     let last = look_below c.args.sizes.now.home _ _ _ (omega (arith, ends, c.commit_place.ensures)) c.read-2.ensures.follows.1 in
     record {
@@ -56,7 +55,7 @@ returns g c =
     let listed : c.append.new.self.numbers.items ≡ found = rw (c.append.ensures.numbers, c.clear.ensures.numbers) c.deref.ensures.0 in
     let none : c.append.new.self.firsts.items ≡ [] = rw (c.append.ensures.firsts, c.clear.ensures.firsts) in
     let sound = g.met.M.Medium.sound c.args.m.now in
-    let ends = within_one c.args.sizes.now c.args.stamp _ refl c.requires.format in
+    let ends = within c.args.sizes.now c.args.stamp _ refl c.requires.format in
     joined g after _ tt (record {
       some = λ stamped. (
         record_in image at,

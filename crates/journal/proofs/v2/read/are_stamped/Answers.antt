@@ -1,19 +1,19 @@
 use Rattle.std.proofs.Common.{◌≡◌, ◌+◌, ◌*◌, inr, refl, rules, arith}
 use Rattle.medium.specs.Medium.{Image}
 use Rattle.journal.specs.Reading.{HasPlace, StopsAtBad}
-use Rattle.journal.proofs.SectorsRead.{looks_on, looks_within, within_two}
+use Rattle.journal.proofs.SectorsRead.{looks_on, looks_within, within}
 use Rattle.journal.proofs.SlotTwo.{untrue}
 use Rattle.journal.proofs.v2.read.are_stamped.Goals as goal
 
 pub returns-in_err-has_stamp : goal.returns-in_err-has_stamp
 returns-in_err-has_stamp g c =
-    let ends = within_two c.args.sizes.now c.args.stamp _ c.slot_of-slot.ensures c.requires.format in
+    let ends = within c.args.sizes.now c.args.stamp _ c.slot_of-slot.ensures c.requires.format in
     looks_on g.met.M.Medium.follows_through c.loop-i.invariant (looks_within ends c.has_stamp.ensures) (omega arith)
     (search rules) (search rules)
 
 pub returns-then-not-branch : goal.returns-then-not-branch
 returns-then-not-branch g c =
-    let ends = within_two c.args.sizes.now c.args.stamp _ c.slot_of-slot.ensures c.requires.format in
+    let ends = within c.args.sizes.now c.args.stamp _ c.slot_of-slot.ensures c.requires.format in
     let inv = c.loop-i.invariant in
     let i = c.loop-i.i in
     let image : Image = (g.M.Medium.state c.args.m.now).content in
@@ -29,7 +29,7 @@ returns-then-not-branch g c =
 
 pub loop-i-preserved : goal.loop-i-preserved
 loop-i-preserved g c =
-    let ends = within_two c.args.sizes.now c.args.stamp _ c.slot_of-slot.ensures c.requires.format in
+    let ends = within c.args.sizes.now c.args.stamp _ c.slot_of-slot.ensures c.requires.format in
     let inv = c.loop-i.invariant in
     let same : (g.M.Medium.state c.loop-i.m).content ≡ (g.M.Medium.state c.args.m.now).content =
     λ j s. inv.passes.quiet.content_stays s j in

@@ -3,7 +3,7 @@ use Rattle.std.proofs.lemmas.List.{map-append, take_all}
 use Rattle.medium.specs.Medium.{Image}
 use Rattle.journal.specs.Record.{Entry}
 use Rattle.journal.specs.Format2.{chunk_of, entries_at}
-use Rattle.journal.specs.Reading.{HasDescriptor}
+use Rattle.journal.specs.Reading.{HasDescriptor, AreNamed}
 use Rattle.journal.proofs.SlotTwo.{take_chunk, read_long, chunk_numbers, chunk_firsts}
 use Rattle.journal.proofs.SectorsRead.{looks_on}
 use Rattle.journal.proofs.v2.read.read_descriptors.Goals as goal
@@ -37,14 +37,9 @@ returns g c =
     let all = take_all (30 * c.loop-j.j) es (omega (arith, read_long old.content at c.args.count, c.descriptors-j-end.ensures)) in
     let there : (j : ℕ) → j < (c.args.count + 29) / 30 → HasDescriptor old.content at c.args.stamp c.args.count j =
     λ j below. inv.there j (omega (arith, below, c.loop-j-test.false, c.descriptors-j-end.ensures)) in
-    record {
-      passes = search rules;
-      finds = (
-        record { there = there; numbers_are = rw all at inv.numbers; firsts_are = rw all at inv.firsts },
-        omega (arith, inv.looked.finds, c.descriptors-j-end.ensures),
-      );
-      follows = search rules;
-    }
+    let named : AreNamed old.content at c.args.stamp c.args.count c.loop-j.to =
+    record { there = there; numbers_are = rw all at inv.numbers; firsts_are = rw all at inv.firsts } in
+    search (rules, arith)
 
 pub returns-in_default : goal.returns-in_default
 returns-in_default g c =

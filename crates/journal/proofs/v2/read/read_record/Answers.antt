@@ -3,7 +3,7 @@ use Rattle.medium.specs.Medium.{Image}
 use Rattle.journal.specs.Format2.{descriptors_of, entries_at}
 use Rattle.journal.specs.Formats.{shape_of}
 use Rattle.journal.specs.Reading.{NamesBlocks}
-use Rattle.journal.proofs.SectorsRead.{read_is, within_two, looks_on, looks_within}
+use Rattle.journal.proofs.SectorsRead.{read_is, within, looks_on, looks_within}
 use Rattle.journal.proofs.SlotTwo.{commit_count, numbers_long, named, named_alone, untrue, commit_whole}
 use Rattle.journal.proofs.SlotTwo.{described_whole, record_read, whole_two}
 use Rattle.journal.proofs.Wholeness.{as_format, of_format}
@@ -12,7 +12,7 @@ use Rattle.journal.proofs.v2.read.read_record.Goals as goal
 pub returns-in_default : goal.returns-in_default
 returns-in_default g c =
     let two = c.requires.format in
-    let ends = within_two c.args.sizes.now c.args.stamp _ c.slot_of-slot.ensures two in
+    let ends = within c.args.sizes.now c.args.stamp _ c.slot_of-slot.ensures two in
     let none = rw (c.in_default.is, c.slot_of-slot.ensures) at c.in_ok-count.ensures.finds in
     record {
       passes = search rules;
@@ -29,7 +29,7 @@ returns-then-not-branch g c =
     let image : Image = (g.M.Medium.state c.args.m.now).content in
     let two = c.requires.format in
     let is = c.slot_of-slot.ensures in
-    let ends = within_two c.args.sizes.now c.args.stamp _ is two in
+    let ends = within c.args.sizes.now c.args.stamp _ is two in
     let same : (g.M.Medium.state c.read_count.new.m).content ≡ image = λ i x. c.read_count.ensures.passes.quiet.content_stays x i in
     let commit = rw (c.in-Some.is, is) at c.in_ok-count.ensures.finds in
     let stop = rw (c.if-not-branch.true, same, is) at c.in_ok-read_descriptors.ensures.finds in
@@ -50,7 +50,7 @@ returns-then-are_blocks g c =
     let image : Image = (g.M.Medium.state c.args.m.now).content in
     let two = c.requires.format in
     let is = c.slot_of-slot.ensures in
-    let ends = within_two c.args.sizes.now c.args.stamp _ is two in
+    let ends = within c.args.sizes.now c.args.stamp _ is two in
     let same : (g.M.Medium.state c.read_count.new.m).content ≡ image = λ i x. c.read_count.ensures.passes.quiet.content_stays x i in
     let commit = rw (c.in-Some.is, is) at c.in_ok-count.ensures.finds in
     let says = rw (c.if-not-branch.false, same, is) at c.in_ok-read_descriptors.ensures.finds in
@@ -82,7 +82,7 @@ returns-else-are_blocks g c =
     let image : Image = (g.M.Medium.state c.args.m.now).content in
     let two = c.requires.format in
     let is = c.slot_of-slot.ensures in
-    let ends = within_two c.args.sizes.now c.args.stamp _ is two in
+    let ends = within c.args.sizes.now c.args.stamp _ is two in
     let same : (g.M.Medium.state c.read_count.new.m).content ≡ image = λ i x. c.read_count.ensures.passes.quiet.content_stays x i in
     let commit = rw (c.in-Some.is, is) at c.in_ok-count.ensures.finds in
     let says = rw (c.if-not-branch.false, same, is) at c.in_ok-read_descriptors.ensures.finds in
@@ -95,11 +95,12 @@ returns-else-are_blocks g c =
       all = λ entries whole.
           let one = rw (commit_count s n _ commit.1) at (record_read _ _ _ _ (as_format two whole)) in
           untrue (not (rw one at whole.fit.rising, rw one at whole.fit.inside));
-      exact = (1 + descriptors_of n, rw two (inr (n, commit.1, descriptors_of n, inr (says.0.there, none, refl), refl)), omega (arith, says.1, commit.0));
+      exact = (1 + descriptors_of n, rw two (inr (n, commit.1, descriptors_of n, inr (says.0.there, none, refl), refl)),
+          omega (arith, says.1, commit.0));
     })
 
 pub returns-in_err-read_descriptors : goal.returns-in_err-read_descriptors
 returns-in_err-read_descriptors g c =
-    let ends = within_two c.args.sizes.now c.args.stamp _ c.slot_of-slot.ensures c.requires.format in
+    let ends = within c.args.sizes.now c.args.stamp _ c.slot_of-slot.ensures c.requires.format in
     looks_on g.met.M.Medium.follows_through (looks_within ends c.read_count.ensures) (looks_within ends c.read_descriptors.ensures)
     (omega arith) (search rules) (search rules)

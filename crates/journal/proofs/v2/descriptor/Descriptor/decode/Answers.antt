@@ -1,10 +1,11 @@
-use Rattle.std.proofs.Common.{◌≡◌, ◌+◌, ◌*◌, ◌<◌, ◌≤◌, ℕ, length, rules, arith, ◌∙◌}
-use Rattle.journal.proofs.SlotTwo.{header_says, here_is, numbers_are, firsts_are, sized_from, IsDescriptorTwo-one}
+use Rattle.std.proofs.Common.{◌≡◌, ◌+◌, ◌*◌, rules, arith, ◌-◌, min}
+use Rattle.journal.proofs.SlotTwo.{header_says, numbers_are, firsts_are, sized_from, IsDescriptorTwo-one}
 use Rattle.journal.proofs.v2.descriptor.Descriptor.decode.Goals as goal
 
 pub returns-then-not-are_small-clause-all : goal.returns-then-not-are_small-clause-all
 returns-then-not-are_small-clause-all c stamp count j numbers firsts d =
-    let here = here_is d c.count_here-here.ensures c.number_at-count.ensures.is c.number_at-index.ensures.is in
+    let says = header_says d in
+    let here : c.count_here-here.result ≡ min 30 (count - 30 * j) = cc (says.1, says.2) in
     grind (arith, numbers_are d here c.numbers_at-numbers.ensures, d.entries.small, d.entries.rising)
 
 pub invariant_of-descriptor : goal.invariant_of-descriptor
@@ -12,8 +13,7 @@ invariant_of-descriptor c =
     let used = c.has_entries.ensures.0 (search rules) in
     let rising = rw c.deref-else-not-are_small.ensures.0 at (c.are_rising.ensures.0 (search rules)) in
     let small = rw c.deref.ensures.0 at (c.are_small.ensures.0 (search rules)) in
-    let inside : (i : ℕ) → i < c.count_here-here.result → 40 + 16 * i + 8 ≤ length c.args.sector.now = λ i below. omega (arith, below) in
-    let sized = sized_from _ (λ i. 40 + 16 * i) inside c.firsts_at-firsts.ensures in
+    let sized = sized_from c.args.sector.now (λ i. 40 + 16 * i) (λ i below. omega (arith, below)) c.firsts_at-firsts.ensures in
     search rules
 
 pub returns-then-eq-clause-all : goal.returns-then-eq-clause-all
@@ -23,15 +23,9 @@ returns-then-eq-clause-all c stamp count j numbers firsts d =
 
 pub returns-else-eq-clause-all : goal.returns-else-eq-clause-all
 returns-else-eq-clause-all c stamp count j numbers firsts d =
-    let here = here_is d c.count_here-here.ensures c.number_at-count.ensures.is c.number_at-index.ensures.is in
     let says = header_says d in
-    let e : c.encode.result ≡ c.args.sector.now = cc (
-      c.encode.ensures.spelled,
-      c.number_at-stamp.ensures.is ∙ says.0,
-      c.number_at-count.ensures.is ∙ says.1,
-      c.number_at-index.ensures.is ∙ says.2,
-      numbers_are d here c.numbers_at-numbers.ensures,
-      firsts_are d here c.firsts_at-firsts.ensures,
-      d.spelled,
-    ) in
+    let here : c.count_here-here.result ≡ min 30 (count - 30 * j) = cc (says.1, says.2) in
+    let same = numbers_are d here c.numbers_at-numbers.ensures in
+    let first = firsts_are d here c.firsts_at-firsts.ensures in
+    let e : c.encode.result ≡ c.args.sector.now = cc (c.encode.ensures.spelled, says.0, says.1, says.2, same, first, d.spelled) in
     search rules

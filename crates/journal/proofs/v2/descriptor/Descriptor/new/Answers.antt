@@ -1,4 +1,4 @@
-use Rattle.std.proofs.Common.{◌+◌, ◌*◌, ◌<◌, ◌≤◌, ℕ, List, length, drop, ap, arith, length-take, length-drop, rules}
+use Rattle.std.proofs.Common.{◌+◌, ◌*◌, ℕ, List, length, drop, ap, arith, length-take, length-drop, rules}
 use Rattle.journal.proofs.SlotTwo.{items_here, sized_from, entries_cut}
 use Rattle.journal.proofs.v2.descriptor.Descriptor.new.Goals as goal
 
@@ -6,14 +6,11 @@ pub invariant_of-result : goal.invariant_of-result
 invariant_of-result c =
     let numbers = c.args.numbers.now in
     let from : ℕ = 30 * c.args.index in
-    let here = c.count_here-here.ensures in
-    let count = c.firsts_in.ensures.count in
-    let items = items_here c.list_of.result.items numbers from c.count_here-here.result here c.list_of.ensures in
+    let items = items_here c.list_of.result.items numbers from _ c.count_here-here.ensures c.list_of.ensures in
     let long = ap (λ (l : List ℕ). length l) items in
-    let inside : (i : ℕ) → i < c.count_here-here.result → 512 * (from + i) + 8 ≤ length c.args.bytes.now =
-    λ i below. omega (arith, below, here, c.requires.size) in
-    let sized = sized_from _ (λ i. 512 * (from + i)) inside c.firsts_in.ensures in
+    let sized = sized_from c.args.bytes.now (λ i. 512 * (from + i))
+    (λ i below. omega (arith, below, c.count_here-here.ensures, c.requires.size)) c.firsts_in.ensures in
     let entries = entries_cut numbers c.list_of.result.items c.firsts_in.result.items c.args.index c.requires.few c.requires.used
     c.requires.rising c.requires.small items
-    (omega (arith, here, count, long, length-take 30 (drop from numbers), length-drop from numbers)) sized in
+    (omega (arith, c.firsts_in.ensures.count, long, length-take 30 (drop from numbers), length-drop from numbers)) sized in
     search rules
