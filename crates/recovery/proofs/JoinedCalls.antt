@@ -30,8 +30,9 @@ use Rattle.medium.specs.declared.fault.MediumFault.{MediumFault}
 use Rattle.medium.proofs.CallsSent.{none_sent}
 use Rattle.medium.proofs.SectorsRead.{no_looks, looks_joined, looks_wider, looks_below, look_below}
 use Rattle.journal.specs.declared.super_sector.Super.{Super}
+use Rattle.journal.specs.declared.log_format.LogFormat.{LogFormat}
 use Rattle.journal.specs.ImageFaults.{HasShape}
-use Rattle.journal.specs.Reading.{IsRefusedCall, LooksUp}
+use Rattle.journal.specs.Reading.{IsRefusedCall, LooksUp, record_reads_of, stamp_reads_of}
 use Rattle.recovery.specs.Causes.{SurveysAtMost, LooksAtFirst}
 use Rattle.journal.proofs.SectorNumbers.{IsSuper-one}
 use Rattle.std.proofs.lemmas.Result.{on_ok_weaker}
@@ -203,6 +204,11 @@ pub looked_on : (shape : Shape) (old mid new : State) → HasShape old.size shap
     → LooksOnly (λ s. s < first_home shape) mid new → LooksAtLog old new
 looked_on shape old mid new has first last near holds =
     looks_joined (λ s. s < near) old mid new (first near holds) (looks_below (first_home shape) near mid new (holds.log shape has) last)
+
+-- the reads of a record and those of its data places
+pub most_tried : (format : LogFormat) (count : ℕ) → count ≤ 240
+    → record_reads_of format + stamp_reads_of format count ≤ most_reads_of format
+most_tried format count few = grind arith
 
 -- the super is read
 pub super_looked : (old new : State) → LooksOnly (λ s. s ≡ 0) old new → LooksAtLog old new
