@@ -1,6 +1,6 @@
 -- Calls, and then others: what they are together, and what is left at each moment of them; and records that are copied home.
 use Rattle.std.proofs.Common.{◌≡◌, inl, inr, ℕ, ◌+◌, ◌*◌, ◌<◌, ◌≤◌, List, [], length, get_or, refl, ◌∙◌, ap, subst, ◌⊎◌}
-use Rattle.std.proofs.Common.{⊎_elim, replicate, sym, arith, rules, Result, Ok, mul-le-mul_left, ◌≢◌, ◌-◌, IfOk, IfErr}
+use Rattle.std.proofs.Common.{⊎_elim, replicate, sym, arith, rules, Result, Ok, mul-le-mul_left, ◌≢◌, ◌-◌, IfErr}
 use Rattle.std.proofs.Common.{OnOk}
 use Rattle.std.proofs.Math.ListN.{get_or-map}
 use Rattle.std.proofs.lemmas.Bool.{cases_eq}
@@ -22,9 +22,9 @@ use Rattle.journal.proofs.Apart.{in_log}
 use Rattle.journal.specs.Staged.{View, Resting}
 use Rattle.journal.proofs.Engine.{rests_found}
 use Rattle.journal.proofs.Overlay.{with_records-same, records-hide}
-use Rattle.recovery.specs.Calls.{IsHomeOf, IsHomeInRecord, IsHomeInRecords, Copies, freed_at, most_reads_of, LooksAtLog}
+use Rattle.recovery.specs.Calls.{IsHomeOf, IsHomeInRecords, Copies, freed_at, most_reads_of, LooksAtLog}
 use Rattle.recovery.specs.Calls.{WritesAllPass, FollowsBy, Writes, cleared_at, WithOrWithout, IsBetween, IsNoneOrNew}
-use Rattle.recovery.specs.Calls.{IsMidway, ImageLeaves, IsMade, IsWritten, IsNoneOrWritten, WritesImage}
+use Rattle.recovery.specs.Calls.{ImageLeaves, IsMade, IsWritten, IsNoneOrWritten, WritesImage}
 use Rattle.recovery.specs.Recovered.{IsFresh}
 use Rattle.medium.specs.declared.fault.MediumFault.{MediumFault}
 use Rattle.medium.proofs.CallsSent.{none_sent}
@@ -243,7 +243,7 @@ pub reads_none : (old new : State) {fault : MediumFault} {result : Result (Unit 
 reads_none old new call other = call.looked_stays other
 
 -- a sector before these is written
-through_spares : (first place : ℕ) (bytes : List ℕ) (old new : State) → place < first → IsSound new
+pub through_spares : (first place : ℕ) (bytes : List ℕ) (old new : State) → place < first → IsSound new
     → ((x : ℕ) → x ≢ place → new.content x ≡ old.content x) → LeavesOnly (WithOrWithout place bytes old.may_leave) old new
     → SparesFrom first old new
 through_spares first place bytes old new below sound elsewhere moments =
