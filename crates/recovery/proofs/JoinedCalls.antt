@@ -1,7 +1,6 @@
 -- Calls, and then others: what they are together, and what is left at each moment of them; and records that are copied home.
 use Rattle.std.proofs.Common.{◌≡◌, inl, inr, ℕ, ◌+◌, ◌*◌, ◌<◌, ◌≤◌, List, [], length, get_or, refl, ◌∙◌, ap, subst, ◌⊎◌}
-use Rattle.std.proofs.Common.{⊎_elim, replicate, sym, arith, rules, Result, Ok, mul-le-mul_left, ◌≢◌, ◌-◌, IfErr}
-use Rattle.std.proofs.Common.{OnOk}
+use Rattle.std.proofs.Common.{⊎_elim, replicate, sym, arith, rules, Result, Ok, mul-le-mul_left, ◌≢◌, ◌-◌, IfErr, OnOk}
 use Rattle.std.proofs.Math.ListN.{get_or-map}
 use Rattle.std.proofs.lemmas.Bool.{cases_eq}
 use Rattle.std.proofs.lemmas.List.{length-map}
@@ -22,9 +21,9 @@ use Rattle.journal.proofs.Apart.{in_log}
 use Rattle.journal.specs.Staged.{View, Resting}
 use Rattle.journal.proofs.Engine.{rests_found}
 use Rattle.journal.proofs.Overlay.{with_records-same, records-hide}
-use Rattle.recovery.specs.Calls.{IsHomeOf, IsHomeInRecords, Copies, freed_at, most_reads_of, LooksAtLog}
-use Rattle.recovery.specs.Calls.{WritesAllPass, FollowsBy, Writes, cleared_at, WithOrWithout, IsBetween, IsNoneOrNew}
-use Rattle.recovery.specs.Calls.{ImageLeaves, IsMade, IsWritten, IsNoneOrWritten, WritesImage}
+use Rattle.recovery.specs.Calls.{IsHomeOf, IsHomeInRecords, Copies, freed_at, most_reads_of, LooksAtLog, WritesAllPass}
+use Rattle.recovery.specs.Calls.{FollowsBy, Writes, cleared_at, WithOrWithout, IsBetween, IsNoneOrNew, ImageLeaves}
+use Rattle.recovery.specs.Calls.{IsMade, IsWritten, IsNoneOrWritten, WritesImage}
 use Rattle.recovery.specs.Recovered.{IsFresh}
 use Rattle.medium.specs.declared.fault.MediumFault.{MediumFault}
 use Rattle.medium.proofs.CallsSent.{none_sent}
