@@ -39,7 +39,6 @@ pub(crate) fn count_waiting<M: Medium>(
 }
 
 // Reads how many blocks the record of a stamp has, if it is whole, by as many calls as show it.
-#[tactic(auto, using(journal::proofs::SectorsRead::looks_on, crate::proofs::JoinedCalls::most_tried))]
 fn count_blocks<M: Medium>(m: &mut M, sizes: &Super, stamp: u64) -> Result<Option<u8>, MediumFault>
     requires { sectors_of (shape_of sizes.now) ≤ (M.state m.old).size }
     ensures { LooksUp M.state M.follows (most_reads_of sizes.now.format)

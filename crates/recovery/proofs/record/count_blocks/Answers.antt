@@ -76,6 +76,12 @@ returns-then-not-branch g c =
     let finds = rw c.if-not-branch.true at c.in_ok-read_record.ensures.finds in
     search (rules, try_missed shape.format shape _ c.args.stamp finds.exact.0 _ _ finds.exact.1 finds.exact.2, finds.all)
 
+pub returns-in_err-are_stamped : goal.returns-in_err-are_stamped
+returns-in_err-are_stamped g c =
+    let few : length c.read_record.new.to.numbers.items ≤ 240 = search rules in
+    looks_on g.met.M.Medium.follows_through c.read_record.ensures c.are_stamped.ensures
+    (most_tried c.args.sizes.now.format c.len-count.result (omega (arith, few, c.len-count.ensures.value))) (search rules) (search rules)
+
 pub returns : goal.returns
 returns g c =
     let shape = shape_of c.args.sizes.now in
