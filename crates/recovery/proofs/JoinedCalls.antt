@@ -153,8 +153,6 @@ pub zeros_ours : (size : ℕ) (shape : Shape) (array : Array) (image : Image) �
 zeros_ours size shape array image fits super head zeros home =
     fresh_ours fits (zeros_fresh shape array 1 image super head zeros home)
 
--- ---- calls, and then others
-
 -- what holds of a medium's size and contents after calls that wrote nothing held before them
 pub quiet_before : (P : ℕ → Image → Type 0) (old mid : State) → IsQuiet old mid → P mid.size mid.content → P old.size old.content
 quiet_before P old mid quiet h =

@@ -183,12 +183,11 @@ module _ (least : ℕ) {old mid seen : State} {result : Result (Unit {0}) Medium
   -- a refusal by the survey is one by the flush and it
   pub refusal : (fault : StartFault) → IsRefusalBy least IsQuiet mid seen fault → IsRefusalBy least WritesNothing old seen fault
   refusal NoMemory h = h
-  refusal StampsUsedUp h =
-      (back (λ n i. ¬ HasFewSlots least n i) h.0, back (λ n i. image.HasNoStampLeft n i) h.1, wrote_nothing)
-  refusal LogTooSmall h = (back (λ n i. HasFewSlots least n i) h.0, wrote_nothing)
   refusal fault h =
       let same = λ (f : image.ImageFault). back (λ n i. image.HasFault n i f) in
-      search (rules, same, wrote_nothing)
+      let few = back (λ n i. HasFewSlots least n i) in
+      let enough = back (λ n i. ¬ HasFewSlots least n i) in
+      search (rules, same, few, enough, back (λ n i. image.HasNoStampLeft n i), wrote_nothing)
 
   module _ {copied : State} {found : _} {copies : Result (Unit {0}) MediumFault}
       (survey : IsSurvey least mid.size mid.content mid.calls seen.calls found) (sound : IsSound copied)
