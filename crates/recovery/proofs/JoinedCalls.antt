@@ -1,7 +1,6 @@
 -- Calls, and then others: what they are together, and what is left at each moment of them; and records that are copied home.
 use Rattle.std.proofs.Common.{◌≡◌, inl, inr, ℕ, ◌+◌, ◌*◌, ◌<◌, ◌≤◌, List, [], length, get_or, refl, ◌∙◌, ap, subst, ◌⊎◌}
-use Rattle.std.proofs.Common.{⊎_elim, replicate, sym, arith, rules, Result, Ok, mul-le-mul_left, ◌≢◌, ◌-◌, IfErr}
-use Rattle.std.proofs.Common.{OnOk}
+use Rattle.std.proofs.Common.{⊎_elim, replicate, sym, arith, rules, Result, Ok, mul-le-mul_left, ◌≢◌, ◌-◌, IfErr, OnOk}
 use Rattle.std.proofs.Math.ListN.{get_or-map}
 use Rattle.std.proofs.lemmas.Bool.{cases_eq}
 use Rattle.std.proofs.lemmas.List.{length-map}
@@ -18,20 +17,21 @@ use Rattle.journal.proofs.Formats.{laws_of, sectors_are}
 use Rattle.journal.proofs.Wholeness.{IsWhole-one, IsWhole-same, slot_inside, CarriesBelow-agree}
 use Rattle.journal.specs.Sectors.{IsSuper, IsHead}
 use Rattle.journal.specs.Standing.{IsOurs, Keeps}
-use Rattle.journal.proofs.Wholeness.{in_log}
+use Rattle.journal.proofs.Apart.{in_log}
 use Rattle.journal.specs.Staged.{View, Resting}
 use Rattle.journal.proofs.Engine.{rests_found}
-use Rattle.journal.proofs.Wholeness.{with_records-same, records-hide}
-use Rattle.recovery.specs.Calls.{IsHomeOf, IsHomeInRecords, Copies, freed_at, most_reads_of, LooksAtLog}
-use Rattle.recovery.specs.Calls.{WritesAllPass, FollowsBy, Writes, cleared_at, WithOrWithout, IsBetween, IsNoneOrNew}
-use Rattle.recovery.specs.Calls.{ImageLeaves, IsMade, IsWritten, IsNoneOrWritten, WritesImage}
+use Rattle.journal.proofs.Overlay.{with_records-same, records-hide}
+use Rattle.recovery.specs.Calls.{IsHomeOf, IsHomeInRecords, Copies, freed_at, most_reads_of, LooksAtLog, WritesAllPass}
+use Rattle.recovery.specs.Calls.{FollowsBy, Writes, cleared_at, WithOrWithout, IsBetween, IsNoneOrNew, ImageLeaves}
+use Rattle.recovery.specs.Calls.{IsMade, IsWritten, IsNoneOrWritten, WritesImage}
 use Rattle.recovery.specs.Recovered.{IsFresh}
 use Rattle.medium.specs.declared.fault.MediumFault.{MediumFault}
 use Rattle.medium.proofs.CallsSent.{none_sent}
 use Rattle.medium.proofs.SectorsRead.{no_looks, looks_joined, looks_wider, looks_below, look_below}
 use Rattle.journal.specs.declared.super_sector.Super.{Super}
-use Rattle.journal.specs.Standing.{HasShape}
-use Rattle.journal.specs.Reading.{IsRefusedCall, LooksUp}
+use Rattle.journal.specs.declared.log_format.LogFormat.{LogFormat}
+use Rattle.journal.specs.ImageFaults.{HasShape}
+use Rattle.journal.specs.Reading.{IsRefusedCall, LooksUp, record_reads_of, stamp_reads_of}
 use Rattle.recovery.specs.Causes.{SurveysAtMost, LooksAtFirst}
 use Rattle.journal.proofs.SectorNumbers.{IsSuper-one}
 use Rattle.std.proofs.lemmas.Result.{on_ok_weaker}
@@ -153,8 +153,6 @@ pub zeros_ours : (size : ℕ) (shape : Shape) (array : Array) (image : Image) �
 zeros_ours size shape array image fits super head zeros home =
     fresh_ours fits (zeros_fresh shape array 1 image super head zeros home)
 
--- ---- calls, and then others
-
 -- what holds of a medium's size and contents after calls that wrote nothing held before them
 pub quiet_before : (P : ℕ → Image → Type 0) (old mid : State) → IsQuiet old mid → P mid.size mid.content → P old.size old.content
 quiet_before P old mid quiet h =
@@ -204,6 +202,11 @@ pub looked_on : (shape : Shape) (old mid new : State) → HasShape old.size shap
 looked_on shape old mid new has first last near holds =
     looks_joined (λ s. s < near) old mid new (first near holds) (looks_below (first_home shape) near mid new (holds.log shape has) last)
 
+-- the reads of a record and those of its data places
+pub most_tried : (format : LogFormat) (count : ℕ) → count ≤ 240
+    → record_reads_of format + stamp_reads_of format count ≤ most_reads_of format
+most_tried format count few = grind arith
+
 -- the super is read
 pub super_looked : (old new : State) → LooksOnly (λ s. s ≡ 0) old new → LooksAtLog old new
 super_looked old new look near holds = look_below near old new 0 holds.some look
@@ -237,7 +240,7 @@ pub reads_none : (old new : State) {fault : MediumFault} {result : Result (Unit 
 reads_none old new call other = call.looked_stays other
 
 -- a sector before these is written
-through_spares : (first place : ℕ) (bytes : List ℕ) (old new : State) → place < first → IsSound new
+pub through_spares : (first place : ℕ) (bytes : List ℕ) (old new : State) → place < first → IsSound new
     → ((x : ℕ) → x ≢ place → new.content x ≡ old.content x) → LeavesOnly (WithOrWithout place bytes old.may_leave) old new
     → SparesFrom first old new
 through_spares first place bytes old new below sound elsewhere moments =

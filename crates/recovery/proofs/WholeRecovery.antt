@@ -183,12 +183,11 @@ module _ (least : ℕ) {old mid seen : State} {result : Result (Unit {0}) Medium
   -- a refusal by the survey is one by the flush and it
   pub refusal : (fault : StartFault) → IsRefusalBy least IsQuiet mid seen fault → IsRefusalBy least WritesNothing old seen fault
   refusal NoMemory h = h
-  refusal StampsUsedUp h =
-      (back (λ n i. ¬ HasFewSlots least n i) h.0, back (λ n i. image.HasNoStampLeft n i) h.1, wrote_nothing)
-  refusal LogTooSmall h = (back (λ n i. HasFewSlots least n i) h.0, wrote_nothing)
   refusal fault h =
       let same = λ (f : image.ImageFault). back (λ n i. image.HasFault n i f) in
-      search (rules, same, wrote_nothing)
+      let few = back (λ n i. HasFewSlots least n i) in
+      let enough = back (λ n i. ¬ HasFewSlots least n i) in
+      search (rules, same, few, enough, back (λ n i. image.HasNoStampLeft n i), wrote_nothing)
 
   module _ {copied : State} {found : _} {copies : Result (Unit {0}) MediumFault}
       (survey : IsSurvey least mid.size mid.content mid.calls seen.calls found) (sound : IsSound copied)
@@ -229,12 +228,12 @@ module _ (least : ℕ) {old mid seen : State} {result : Result (Unit {0}) Medium
         (λ x. ⊎_elim (λ left. inl (known.only begun x (image x) (known.reads.only.quiet.sets_shrink x (image x) left)))
         (λ home. inr (rw same at home)) (cut x))) copying.moments
 
-    -- nothing behind the image is at home
-    apart : (x : ℕ) → sectors_of (shape_of found.sizes) ≤ x → ¬ IsHomeInRecords shape seen.content found.head found.count x
-    apart x past home = omega (arith, home.2.1.fit.inside home.2.2.0 0 home.2.2.1, home.2.2.2, past)
-
     copied_spares : SparesFrom (sectors_of (shape_of found.sizes)) seen copied
-    copied_spares = spared_by (sectors_of shape) seen copied sound (λ s le. copying.elsewhere s (apart s le))
+    copied_spares =
+        -- nothing behind the image is at home
+        let apart : (x : ℕ) → sectors_of shape ≤ x → ¬ IsHomeInRecords shape seen.content found.head found.count x =
+        λ x past home. omega (arith, home.2.1.fit.inside home.2.2.0 0 home.2.2.1, home.2.2.2, past) in
+        spared_by (sectors_of shape) seen copied sound (λ s le. copying.elsewhere s (apart s le))
         (weaker _ _ _ _ (λ image cut s le. ⊎_elim (λ was. was) (λ place. absurd (apart s le place)) (cut s)) copying.moments)
 
     copied_log : (x : ℕ) → x < first_home (shape_of found.sizes) → copied.content x ≡ old.content x

@@ -8,7 +8,7 @@ use Rattle.journal.specs.declared.log_format.LogFormat.TheVariants.{One, Two}
 use Rattle.journal.specs.Places.{Shape, slot_sectors_of, sectors_of}
 use Rattle.journal.specs.Formats.{shape_of, IsWhole}
 use Rattle.journal.specs.Sectors.{IsHead, IsSuper, IsSuperFault}
-use Rattle.journal.specs.Format2.{descriptors_of}
+use Rattle.journal.specs.SectorsTwo.{descriptors_of}
 use Rattle.journal.specs.Reading.{ReadsUpToBad, IsCommitted, HasPlace, NamesBlocks, IsReadInVain}
 use Rattle.journal.specs.Layout.{slot_at}
 use Rattle.journal.specs.Format2.{format2}
@@ -20,8 +20,7 @@ use Rattle.recovery.specs.declared.start_fault.StartFault.{StartFault}
 use Rattle.spec.specs.Blocks.{Array}
 use Rattle.medium.specs.declared.fault.MediumFault.TheVariants as medium
 use Rattle.journal.specs.declared.super_fault.SuperFault.TheVariants.{Magic, Version, Rest, Sizes}
-use Rattle.journal.specs.Standing.{HasShape}
-use Rattle.journal.specs.Standing as image
+use Rattle.journal.specs.ImageFaults as image
 use Rattle.recovery.specs.declared.inspection.Inspection.{Inspection}
 use Rattle.recovery.specs.declared.start_fault.StartFault.TheVariants.{Read, Write, Flush, BadSuper}
 use Rattle.recovery.specs.declared.start_fault.StartFault.TheVariants.{BadVersion, BadSize, BadHead}
@@ -63,7 +62,7 @@ IsCause old new fault = IsCauseBy WritesNothing old new fault
 -- The image has a good super of format 1 and a good head, but its log has fewer slots than these.
 pub record HasFewSlots (least size : ℕ) (content : Image) : Type 0 where
   pub shape : Shape
-  pub has : HasShape size shape content
+  pub has : image.HasShape size shape content
   pub head : ℕ
   pub head_is : IsHead head (content 1)
   pub one : shape.format ≡ One
@@ -136,14 +135,14 @@ pub record AreCounts (shape : Shape) (image : Image) (head : ℕ) (counts : List
 -- A survey of a medium of `size` sectors wants at least this many slots in a log of format 1, and
 -- found this: the image has none of the faults. It read the super, the head and, for each stamp
 -- that it tried, what shows whether its record is whole.
-pub record IsSurvey (least size : ℕ) (image : Image) (before after : ℕ) (found : Found)
+pub record IsSurvey (least size : ℕ) (content : Image) (before after : ℕ) (found : Found)
     : Type 0 where
-  pub shape : HasShape size (shape_of found.sizes) image
-  pub head : IsHead found.head (image 1)
-  pub count : IsCount (shape_of found.sizes) image found.head found.count
+  pub shape : image.HasShape size (shape_of found.sizes) content
+  pub head : IsHead found.head (content 1)
+  pub count : IsCount (shape_of found.sizes) content found.head found.count
   pub stamp_left : found.head + found.count + 1 < 2 ^ 63
-  pub room : ¬ HasFewSlots least size image
-  pub exact : AreTries (shape_of found.sizes) image found.head
+  pub room : ¬ HasFewSlots least size content
+  pub exact : AreTries (shape_of found.sizes) content found.head
       (min (found.count + 1) found.sizes.slots) (before + 2) after
 
 -- The answer is what the contents stand for: their sizes, their head, and of each record that waits
@@ -166,7 +165,7 @@ pub record OnlyLooks (old new : State) : Type 0 where
 -- A survey only looks, and where the image has a super, at most at its slots.
 pub record SurveysAtMost (old new : State) : Type 0 where
   pub only : OnlyLooks old new
-  pub most : (shape : Shape) → HasShape old.size shape old.content
+  pub most : (shape : Shape) → image.HasShape old.size shape old.content
       → new.calls ≤ old.calls + 2 + most_reads_of shape.format * shape.slots
 
 -- Why a look is refused: the medium refused a call, or the image has this fault. A stamp for the

@@ -27,11 +27,8 @@ pub copy_sector-requires : goal.copy_sector-requires
 copy_sector-requires g c =
     let at = at_block g (goal.at.copy_sector-requires g c).After-first in
     let size = c.loop-i.invariant.copies.moments.size_stays in
-    record {
-      from_inside = omega (arith, at.2, c.requires.fits, size);
-      to_inside = omega (arith, at.3, c.requires.blocks.inside c.loop-i.i 0 at.0, c.requires.fits, size);
-      few = omega (arith, c.first.ensures.few);
-    }
+    let inside = c.requires.blocks.inside c.loop-i.i 0 at.0 in
+    search (rules, arith, at.2, at.3, inside, c.requires.fits, size, c.first.ensures.few)
 
 pub returns-in_err-copy_sector-clause-copies : goal.returns-in_err-copy_sector-clause-copies
 returns-in_err-copy_sector-clause-copies g c =

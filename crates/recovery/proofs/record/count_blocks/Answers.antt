@@ -5,15 +5,16 @@ use Rattle.journal.specs.declared.log_format.LogFormat.{LogFormat}
 use Rattle.journal.specs.declared.log_format.LogFormat.TheVariants.{One, Two}
 use Rattle.journal.specs.declared.record.Record.{Record}
 use Rattle.journal.specs.Places.{Shape}
-use Rattle.journal.specs.Format2.{descriptors_of}
+use Rattle.journal.specs.SectorsTwo.{descriptors_of}
 use Rattle.journal.specs.Reading.{StopsAtBad, ReadsUpToBad, HasDescriptor, HasPlace, NamesBlocks, IsReadFor}
-use Rattle.journal.specs.Reading.{IsReadForStamps, record_reads_of, stamp_reads_of}
+use Rattle.journal.specs.Reading.{IsReadForStamps}
 use Rattle.journal.specs.Formats.{shape_of, HasWhole}
-use Rattle.journal.proofs.SectorsRead.{stamped_whole}
-use Rattle.journal.proofs.SlotTwo.{each_there, commit_count, untrue}
-use Rattle.recovery.specs.Calls.{most_reads_of}
+use Rattle.journal.proofs.CopiedBlock.{stamped_whole}
+use Rattle.journal.proofs.DescribedNumbers.{each_there}
+use Rattle.journal.proofs.EntriesTwo.{commit_count}
+use Rattle.journal.proofs.SlotTwo.{untrue}
 use Rattle.recovery.specs.Causes.{IsReadInSlot, IsTryTwo, IsTryOf}
-use Rattle.recovery.proofs.JoinedCalls.{long_as}
+use Rattle.recovery.proofs.JoinedCalls.{long_as, most_tried}
 use Rattle.journal.proofs.SectorsRead.{looks_on}
 use Rattle.recovery.proofs.record.count_blocks.Goals as goal
 
@@ -63,11 +64,6 @@ try_read Two shape image stamp read reads places before mid after is made asked 
     let slot : IsReadInSlot image _ stamp _ (reads + places) =
     inr (n, is.0, descriptors_of n + places, inr (is.1, places, asked, refl), omega (arith, is.2)) in
     (reads + places, try_made image _ stamp _ (reads + places) slot, omega (arith, made, more))
-
--- the reads of a record and those of its data places
-most_tried : (format : LogFormat) (count : ℕ) → count ≤ 240
-    → record_reads_of format + stamp_reads_of format count ≤ most_reads_of format
-most_tried format count few = grind arith
 
 -- what is so of an option, where this is
 option_weaker : {P Q : Type 0} {R S : ℕ → Type 0} (o : Option ℕ) → (P → Q) → ((n : ℕ) → R n → S n) → MatchOption o P R → MatchOption o Q S

@@ -32,9 +32,7 @@ move_head-requires-clause-inside g c =
 pub returns-in_err-flush-clause-leaves : goal.returns-in_err-flush-clause-leaves
 returns-in_err-flush-clause-leaves g c =
     let mid = g.M.Medium.state c.flush.new.self in
-    let known : IsSurveyed c.flush.result (g.M.Medium.state c.args.m.now) mid mid =
-    search (rules, quiet_start mid, no_looks, g.met.M.Medium.sound) in
-    survey_leaves c.args.least known
+    survey_leaves c.args.least {mid = mid} {result = c.flush.result} (search (rules, quiet_start mid, no_looks, g.met.M.Medium.sound))
 
 pub returns-in_err-found : goal.returns-in_err-found
 returns-in_err-found g c =

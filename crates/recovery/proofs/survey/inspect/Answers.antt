@@ -45,9 +45,4 @@ returns-else-head-count g c =
     let s = count_stands _ (shape_of c.in_ok-sizes.sizes) _ c.in_ok-sizes.head c.len-count.result has.fits has.super
     c.in_ok-sizes.ensures.ok.1 known.0 in
     let all = records_read c.in_ok-sizes.sizes has c.read_head.ensures c.count_waiting.ensures in
-    record {
-      reads = all;
-      ok = tt;
-      err = (known.1, (_, s.array, _, s.stands, omega arith), all.only.quiet);
-      follows = search (rules, g.met.M.Medium.follows_through);
-    }
+    search (rules, all, known.1, s.stands, all.only.quiet, g.met.M.Medium.follows_through)
