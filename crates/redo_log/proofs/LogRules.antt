@@ -84,13 +84,11 @@ sizes_sized sizes =
 pub many_lists : (records : List (ArrayVec ℕ)) → length (lists_of records) ≡ length records
 many_lists records = let f : ArrayVec ℕ → List ℕ = λ r. r.items in length-map records f
 
-module _ (i : Inside) {log : LogValue} (is : shown i ≡ log) where
-  pub log_is : Invariant i → IsLog log
-  log_is inv =
-      let record_is : 0 < (shown i).steps_left
-      → IsRecord (shown i).shape (i.head + length (shown i).waiting) i.under_way.items =
-      λ some. grind (arith, inv.each, many_lists i.waiting.items) in
-      rw (← is) (grind (arith, inv.each, many_lists i.waiting.items, record_is, sizes_sized i.sizes))
+pub log_is : (i : Inside) {log : LogValue} → shown i ≡ log → Invariant i → IsLog log
+log_is i is inv =
+    let record_is : 0 < (shown i).steps_left → IsRecord (shown i).shape (i.head + length (shown i).waiting) i.under_way.items =
+    λ some. grind (arith, inv.each, many_lists i.waiting.items) in
+    rw (← is) (grind (arith, inv.each, many_lists i.waiting.items, record_is, sizes_sized i.sizes))
 
 -- ---- the oldest record, as others come and go
 
@@ -103,22 +101,14 @@ steps_of_all : (waiting : List (List ℕ))
     → sum_by retire_steps_of waiting ≡ retire_steps_of (get_or waiting 0 []) + sum_by retire_steps_of (drop 1 waiting)
 steps_of_all waiting = grind (arith, sum_by-cons retire_steps_of)
 
--- records of which `left` steps are left of the oldest need no more than this
-few_owed : (shape : Shape) (most : ℕ) → limit_of shape.format + 2 ≤ most → (waiting : List (List ℕ)) → All (AreInside shape) waiting
-    → (left : ℕ) → (length waiting ≡ 0 → left ≡ 0) → left ≤ length (get_or waiting 0 []) + 2
-    → left + sum_by retire_steps_of (drop 1 waiting) ≤ most * length waiting
-few_owed shape most few waiting each left none within =
-    grind (arith, sum_by-le retire_steps_of most (drop 1 waiting) (λ i d below. grind (arith, each (suc i) d)), each 0 [])
-
 -- with one more a log with room owes no more than its slots may need
 pub few_begun : {log : LogValue} → IsLog log → HasRoom log → (numbers : List ℕ) → length numbers ≤ limit_of log.shape.format
     → log.retire_steps_left + retire_steps_of numbers ≤ most_retire_steps log.shape.format * log.shape.slots
 few_begun {log} is room numbers few =
     let most = limit_of log.shape.format + 2 in
     let all : most * (length log.waiting + 1) ≤ most * log.shape.slots = mul-le-mul_left most (omega (arith, is.taken, room.free)) in
-    let owed = few_owed log.shape most (omega arith) log.waiting is.each (of_oldest log) (λ none. omega (arith, is.alone none))
-    is.owed_most in
-    grind (arith, owed, all, few, room.none_under_way)
+    let newer = sum_by-le retire_steps_of most (drop 1 log.waiting) (λ i d below. grind (arith, is.each (suc i) d)) in
+    grind (arith, newer, all, is.each 0 [], is.alone, is.owed_most, few, room.none_under_way)
 
 module _ (log : LogValue) where
   -- the record that is durable now is the oldest one, and no turn of it is made

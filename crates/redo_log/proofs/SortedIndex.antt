@@ -142,13 +142,10 @@ module _ {old : List Copied} {slot : ℕ} {numbers : List ℕ} (index back : Lis
 
   -- only an older entry with its block goes
   put_other : (b : ℕ) → e.block ≢ b → look (take left index ++ e ∷ back) b ≡ look (take was index ++ back) b
-  put_other b not = look_other (take left index) back e b not ∙ elim ends [
-    | inl all ↦ rw all.0 refl
-    | inr one ↦
-        let c = get_or index left blank in
-        rw (one.0, take_more index left blank (omega arith), append_assoc (take left index) (c ∷ []) back)
-        (sym (look_other (take left index) back c b (λ same. not (sym one.1 ∙ same))))
-  ]
+  put_other b not =
+      let c = get_or index left blank in
+      grind (arith, look_other (take left index) back e b not, take_more index left blank, append_assoc (take left index) (c ∷ []) back,
+      look_other (take left index) back c b, ends)
 
   pub put_enters : Enters slot numbers place old (take left index ++ e ∷ back)
   put_enters = record {

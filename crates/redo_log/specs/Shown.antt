@@ -87,25 +87,17 @@ pub record IsRecord (shape : Shape) (stamp : ℕ) (numbers : List ℕ) : Type 0 
   pub most : stamp < 2 ^ 63 - 1
   pub numbers_are : AreInside shape numbers
 
--- the oldest durable record may have come so far
-abbrev pub IsOldest : List (List ℕ) → ℕ → Type 0
-IsOldest [] turned = turned ≡ 0
-IsOldest (numbers ∷ newer) turned = turned < length numbers + 2
-
 -- ---- a log's fields
 
 -- the block numbers of each of these records, or the first bytes of its blocks
 abbrev pub lists_of : {X : Type 0} → List (ArrayVec X) → List (List X)
 lists_of records = map (λ r. r.items) records
 
--- what was done ahead
-abbrev pub ahead_in : Inside → Ahead
-ahead_in log = record { home = log.homed; before = log.before }
-
 -- what a caller sees of the fields
 abbrev pub shown : Inside → LogValue
-shown log = value_at (ahead_in log) (shape_of log.sizes) log.head (lists_of log.waiting.items)
-    log.turned (lists_of log.firsts.items) log.under_way.items log.made log.dead
+shown log = value_at (record { home = log.homed; before = log.before }) (shape_of log.sizes) log.head
+    (lists_of log.waiting.items) log.turned (lists_of log.firsts.items) log.under_way.items log.made
+    log.dead
 
 -- what is true of the fields of every log
 pub record Invariant (log : Inside) : Type 0 where
@@ -118,7 +110,8 @@ pub record Invariant (log : Inside) : Type 0 where
   pub index_is : IsIndex log.sizes.slots log.head (lists_of log.waiting.items) log.index.items
   pub each : All (AreInside (shape_of log.sizes)) (lists_of log.waiting.items)
   pub fits : length (lists_of log.waiting.items) + begun_at log.made ≤ log.sizes.slots
-  pub oldest : IsOldest (lists_of log.waiting.items) log.turned
+  pub oldest : log.turned < length (get_or (lists_of log.waiting.items) 0 []) + 2
+  pub none_turned : length log.waiting.items ≡ 0 → log.turned ≡ 0
   pub record_under_way : MatchOption log.made (log.under_way.items ≡ [])
       (λ made. AreInside (shape_of log.sizes) log.under_way.items
       × (made < steps_for log.sizes.format (length log.under_way.items)))

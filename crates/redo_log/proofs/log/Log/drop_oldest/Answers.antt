@@ -3,7 +3,7 @@ use Rattle.std.proofs.lemmas.List.{drop-map}
 use Rattle.arrayvec.specs.ArrayVec.{ArrayVec}
 use Rattle.journal.specs.Formats.{shape_of}
 use Rattle.redo_log.specs.Value.{LogValue}
-use Rattle.redo_log.specs.Shown.{lists_of, ahead_in, AreInside}
+use Rattle.redo_log.specs.Shown.{lists_of, AreInside}
 use Rattle.redo_log.proofs.SortedIndex.{index_fewer}
 use Rattle.std.proofs.lemmas.List.Elements.{All-drop}
 use Rattle.redo_log.proofs.LogRules.{many_lists, log_is, one_waits, retired_of, retired_value}
@@ -32,6 +32,6 @@ returns c =
     let i = c.self.inside in
     let some = rw (← c.self.view_is) at (one_waits (log_is i c.self.view_is c.self.invariant) (omega (arith, c.requires))) in
     let is = rw (← lists_less i.waiting.items c.pop_front.ensures.rest, ← lists_less i.firsts.items c.pop_front-2.ensures.rest) at
-    (retired_value (ahead_in i) (shape_of i.sizes) i.head (lists_of i.waiting.items) i.turned (lists_of i.firsts.items) i.under_way.items i.made i.dead
-    c.self.invariant.each some ∙ ap (λ (v : LogValue). retired_of v) c.self.view_is) in
+    (retired_value (record { home = i.homed; before = i.before }) (shape_of i.sizes) i.head (lists_of i.waiting.items) i.turned (lists_of i.firsts.items)
+    i.under_way.items i.made i.dead c.self.invariant.each some ∙ ap (λ (v : LogValue). retired_of v) c.self.view_is) in
     search (rules, arith)
