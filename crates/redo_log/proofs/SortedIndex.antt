@@ -259,9 +259,9 @@ module _ (records : List (List ℕ)) (numbers : List ℕ) (b : ℕ)
       }
 
 -- the index with the copies of a record behind the others
-pub index_more : (slots stamp : ℕ) (records : List (List ℕ)) (numbers : List ℕ) (old new : List Copied) → IsIndex slots stamp records old
+pub index_more : {slots stamp : ℕ} {records : List (List ℕ)} {numbers : List ℕ} {old new : List Copied} → IsIndex slots stamp records old
     → Enters ((stamp + length records) % slots) numbers 0 old new → IsIndex slots stamp (records ++ numbers ∷ []) new
-index_more slots stamp records numbers old new is enters = record {
+index_more {slots} {stamp} {records} {numbers} {old} is enters = record {
   sorted = enters.sorted;
   finds = λ b. elim (enters.finds b) [
     | inr none ↦ rw none.1 (found_more records numbers b none.0 slots stamp (look old b) (is.finds b))
@@ -302,11 +302,11 @@ found_fewer slots stamp numbers records b (Some copy) few n = aged n.age refl
         })
 
 -- the index without the copies of the oldest record
-pub index_fewer : (slots stamp : ℕ) (waiting : List (List ℕ)) (old new : List Copied)
+pub index_fewer : {slots stamp : ℕ} {waiting : List (List ℕ)} {old new : List Copied}
     → IsIndex slots stamp waiting old → 0 < length waiting → length waiting ≤ slots → IsSorted new
     → ((b : ℕ) → look new b ≡ outside (stamp % slots) (look old b)) → IsIndex slots (stamp + 1) (drop 1 waiting) new
-index_fewer slots stamp [] old new is some few sorted looks = absurd (omega arith)
-index_fewer slots stamp (numbers ∷ newer) old new is some few sorted looks = record {
+index_fewer {waiting = []} is some few sorted looks = absurd (omega arith)
+index_fewer {slots} {stamp} {waiting = numbers ∷ newer} {old} is some few sorted looks = record {
   sorted = sorted;
   finds = λ b. rw (looks b) (found_fewer slots stamp numbers newer b (look old b) few (is.finds b));
 }

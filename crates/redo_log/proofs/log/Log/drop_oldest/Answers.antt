@@ -17,14 +17,12 @@ lists_less {X} records is = let f : ArrayVec X → List X = λ r. r.items in rw 
 pub invariant_of-self : goal.invariant_of-self
 invariant_of-self c =
     let i = c.self.inside in
-    let waiting = lists_of i.waiting.items in
     let some = rw (← c.self.view_is) at (one_waits (log_is i c.self.view_is c.self.invariant) (omega (arith, c.requires))) in
     let many = many_lists i.waiting.items in
     let less = lists_less i.waiting.items c.pop_front.ensures.rest in
-    let index = rw (← less) at (index_fewer i.sizes.slots i.head waiting i.index.items c.drop_slot.new.index.items
-    c.self.invariant.index_is some (omega (arith, c.self.invariant.fits))
+    let index = rw (← less) at (index_fewer c.self.invariant.index_is some (omega (arith, c.self.invariant.fits))
     c.drop_slot.ensures.sorted (rw c.slot_of.ensures at c.drop_slot.ensures.looks)) in
-    let each = rw (← less) at (All-drop (AreInside (shape_of i.sizes)) 1 waiting c.self.invariant.each) in
+    let each = rw (← less) at (All-drop (AreInside (shape_of i.sizes)) 1 _ c.self.invariant.each) in
     search (rules, arith)
 
 pub returns : goal.returns
