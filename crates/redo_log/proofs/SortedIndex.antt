@@ -176,10 +176,10 @@ module _ {old : List Copied} {slot : ℕ} {numbers : List ℕ} (rising : IsRisin
       }
 
   -- the last entry that is left, above all numbers that are left
-  pub entry_moves : (was left place till to : ℕ) (index : List Copied) → was ≡ left + 1 → till ≡ to + 1
+  pub entry_moves : {was left place till to : ℕ} {index : List Copied} → was ≡ left + 1 → till ≡ to + 1
       → (0 < place → slice_index numbers (place - 1) < (get_or index left blank).block) → IsMerging old slot numbers was place till index
       → IsMerging old slot numbers left place to (set index to (get_or index left blank))
-  entry_moves was left place till to index one_less room over merged =
+  entry_moves {was} {left} {place} {till} {to} {index} one_less room over merged =
       let c = get_or index left blank in
       let moved : remove_range index was till ≡ take left index ++ c ∷ drop till index =
       rw (one_less, take_more index left blank (omega (arith, merged.room, merged.inside, one_less)),
@@ -188,10 +188,10 @@ module _ {old : List Copied} {slot : ℕ} {numbers : List ℕ} (rising : IsRisin
       (rw moved at merged.enters)
 
   -- the last number that is left, above all entries that are left then
-  pub number_enters : (was left before place till to : ℕ) (index : List Copied) → before ≡ place + 1 → till ≡ to + 1
+  pub number_enters : {was left before place till to : ℕ} {index : List Copied} → before ≡ place + 1 → till ≡ to + 1
       → AreLeft index (slice_index numbers place) was left → IsMerging old slot numbers was before till index
       → IsMerging old slot numbers left place to (set index to (entry_of slot numbers place))
-  number_enters was left before place till to index one_less room ends merged =
+  number_enters {was} {left} {before} {place} {till} {to} {index} one_less room ends merged =
       let fits : was ≤ length index = omega (arith, merged.room, merged.inside) in
       let inside : place < length numbers = omega (arith, merged.places, one_less) in
       goes was before left place till to index (entry_of slot numbers place) room (omega (arith, ends)) (omega arith)
@@ -208,10 +208,10 @@ in_all (r ∷ records) zero b below there = Contains-append_left r (all_of recor
 in_all (r ∷ records) (suc age) b below there = Contains-append_right r (all_of records) b (in_all records age b (omega arith) there)
 
 -- there is room for as many entries more as a record may have blocks: each entry has a block of its own, which the records have
-pub record_room : (slots stamp most : ℕ) (records : List (List ℕ)) (index : List Copied) → IsIndex slots stamp records index
+pub record_room : {slots stamp : ℕ} {records : List (List ℕ)} {index : List Copied} (most : ℕ) → IsIndex slots stamp records index
     → length records < slots → All (λ r. length r ≤ most) records → (room count : ℕ) → count ≤ most → most * slots ≤ room
     → length index + count ≤ room
-record_room slots stamp most records index is free small room count few enough =
+record_room {slots} {stamp} {records} {index} most is free small room count few enough =
     let f : Copied → ℕ = λ c. c.block in
     let each = All-map (Contains (all_of records)) f index
     (All-from_get_or (λ c. Contains (all_of records) c.block) index blank (λ i below.
@@ -236,12 +236,9 @@ module _ (records : List (List ℕ)) (numbers : List ℕ) (b : ℕ)
   none_more : (least : ℕ) → ((age : ℕ) → least ≤ age → age < length records → ¬ Contains (get_or records age []) b)
       → (age : ℕ) → least ≤ age → age < length (records ++ numbers ∷ [])
       → ¬ Contains (get_or (records ++ numbers ∷ []) age []) b
-  none_more least none age later below = elim (cases_lt age (length records)) [
-    | inl old ↦ rw (get_or_append_left records (numbers ∷ []) [] age old) (none age later old)
-    | inr last ↦
-        rw (get_or_at records numbers [] [] age (omega (arith, below, last, longer)))
-        (λ there. unnamed there.0 (omega arith) there.1 (get_or_default numbers there.0 0 b there.1 ∙ there.2))
-  ]
+  none_more least none age later below there =
+      grind (arith, cases_lt age (length records), get_or_append_left records (numbers ∷ []) [] age, none age later,
+      get_or_at records numbers [] [] age, longer, unnamed there.0, get_or_default numbers there.0 0 b)
 
   -- and the newest copy stays it
   found_more : (slots stamp : ℕ) (found : Option (ℕ × ℕ)) → Finds slots stamp records b found

@@ -29,6 +29,6 @@ pub enter_record-requires-clause-fits : goal.enter_record-requires-clause-fits
 enter_record-requires-clause-fits c =
     let i = c.self.inside in
     let ring = rw c.in-Some.is at c.self.invariant in
-    record_room i.sizes.slots i.head (limit_of i.sizes.format) (lists_of i.waiting.items) i.index.items c.self.invariant.index_is
-    (omega (arith, ring.fits)) (λ age d below. (ring.each age d below).few) (vec_capacity i.index) (length c.args.numbers.now)
+    record_room (limit_of i.sizes.format) c.self.invariant.index_is (omega (arith, ring.fits))
+    (λ age d below. (ring.each age d below).few) (vec_capacity i.index) (length c.args.numbers.now)
     (rw (rw (← c.self.view_is) at c.requires.1) ring.record_under_way.0.few) c.self.invariant.index_room
