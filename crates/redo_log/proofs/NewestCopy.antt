@@ -71,7 +71,8 @@ with_records-none : (records : List (List Entry)) (a : Array) (b : ℕ)
     → ((age : ℕ) → age < length (named records) → ¬ Contains (get_or (named records) age []) b) → with_records records a b ≡ a b
 with_records-none [] a b none = refl
 with_records-none (r ∷ records) a b none =
-    grind (arith, with_records-none records (with_blocks r a) b (λ age below. none (suc age) (omega arith)), with_blocks-none r a b (none 0 (omega arith)))
+    with_records-none records (with_blocks r a) b (λ age below. none (suc age) (omega arith))
+    ∙ with_blocks-none r a b (none 0 (omega arith))
 
 -- the newest record that names the block gives it
 with_records-at : (records : List (List Entry)) (a : Array) (b age i : ℕ) → age < length (named records)

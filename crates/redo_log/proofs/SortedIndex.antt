@@ -31,7 +31,8 @@ abbrev pub blank : Copied
 blank = record { block = 0; slot = 0; place = 0 }
 
 -- a block that no entry has is not found
-look-absent : (index : List Copied) (block : ℕ) → ((i : ℕ) → i < length index → (get_or index i blank).block ≢ block) → look index block ≡ None
+look-absent : (index : List Copied) (block : ℕ) → ((i : ℕ) → i < length index → (get_or index i blank).block ≢ block)
+    → look index block ≡ None
 look-absent [] block none = refl
 look-absent (c ∷ index) block none =
     grind (arith, nat_tests, none 0 (omega arith), look-absent index block (λ j less. none (suc j) (omega arith)))

@@ -30,6 +30,6 @@ returns c =
     let i = c.self.inside in
     let some = rw (← c.self.view_is) at (one_waits (log_is i c.self.view_is c.self.invariant) (omega (arith, c.requires))) in
     let is = rw (← lists_less i.waiting.items c.pop_front.ensures.rest, ← lists_less i.firsts.items c.pop_front-2.ensures.rest) at
-    (retired_value (record { home = i.homed; before = i.before }) (shape_of i.sizes) i.head (lists_of i.waiting.items) i.turned (lists_of i.firsts.items)
-    i.under_way.items i.made i.dead c.self.invariant.each some ∙ ap (λ (v : LogValue). retired_of v) c.self.view_is) in
+    (retired_value (record { home = i.homed; before = i.before }) (shape_of i.sizes) i.head (lists_of i.waiting.items)
+    i.turned (lists_of i.firsts.items) i.under_way.items i.made i.dead c.self.invariant.each some ∙ ap (λ (v : LogValue). retired_of v) c.self.view_is) in
     search (rules, arith)
