@@ -193,11 +193,11 @@ module _ {old : List Copied} {slot : ℕ} {numbers : List ℕ} (rising : IsRisin
       → AreLeft index (slice_index numbers place) was left → IsMerging old slot numbers was before till index
       → IsMerging old slot numbers left place to (set index to (entry_of slot numbers place))
   number_enters {was} {left} {before} {place} {till} {to} {index} one_less room ends merged =
-      let fits : was ≤ length index = omega (arith, merged.room, merged.inside) in
       let inside : place < length numbers = omega (arith, merged.places, one_less) in
       goes was before left place till to index (entry_of slot numbers place) room (omega (arith, ends)) (omega arith)
       (omega (arith, merged.room, one_less, room, ends)) (λ some. rising (place - 1) place (omega arith) inside) merged
-      (put_enters index (drop till index) was left place fits inside (rw one_less at merged.enters) ends (merged.over place (omega arith)))
+      (put_enters index (drop till index) was left place (omega (arith, merged.room, merged.inside)) inside
+      (rw one_less at merged.enters) ends (merged.over place (omega arith)))
 
 -- the block numbers of all records
 abbrev all_of : List (List ℕ) → List ℕ
