@@ -96,10 +96,6 @@ look_other : (front back : List Copied) (e : Copied) (b : ℕ) → e.block ≢ b
 look_other [] back e b not = grind (arith, nat_tests, not)
 look_other (c ∷ front) back e b not = grind (arith, nat_tests, look_other front back e b not)
 
--- the entry of a number of the record
-abbrev pub entry_of : ℕ → List ℕ → ℕ → Copied
-entry_of slot numbers place = record { block = slice_index numbers place; slot = slot; place = place }
-
 -- of the first `was` entries `left` are left where this block enters: all, which have smaller blocks, or the last one has this block
 abbrev AreLeft : List Copied → ℕ → ℕ → ℕ → Type 0
 AreLeft index block was left = ((left ≡ was) × (0 < was → (get_or index (was - 1) blank).block < block))
@@ -109,8 +105,9 @@ AreLeft index block was left = ((left ≡ was) × (0 < was → (get_or index (wa
 module _ {old : List Copied} {slot : ℕ} {numbers : List ℕ} (index back : List Copied) (was left place : ℕ) (fits : was ≤ length index)
     (inside : place < length numbers) (entered : Enters slot numbers (place + 1) old (take was index ++ back))
     (ends : AreLeft index (slice_index numbers place) was left) (above : All (Above (slice_index numbers place)) back) where
+  -- its entry
   abbrev e : Copied
-  e = entry_of slot numbers place
+  e = record { block = slice_index numbers place; slot = slot; place = place }
 
   front_rises : (i j : ℕ) (d : Copied) → i < j → j < was → (get_or index i d).block < (get_or index j d).block
   front_rises i j d less below =
@@ -162,10 +159,10 @@ module _ {old : List Copied} {slot : ℕ} {numbers : List ℕ} (index back : Lis
 
 module _ {old : List Copied} {slot : ℕ} {numbers : List ℕ} (rising : IsRising numbers) where
   -- an entry goes to the end of the room, above all numbers that are left
-  goes : (was before left place till to : ℕ) (index : List Copied) (c : Copied) → till ≡ to + 1 → left ≤ was → place ≤ before
+  goes : {was before left place till to : ℕ} {index : List Copied} (c : Copied) → till ≡ to + 1 → left ≤ was → place ≤ before
       → left + place ≤ to → (0 < place → slice_index numbers (place - 1) < c.block) → IsMerging old slot numbers was before till index
       → Enters slot numbers place old (take left index ++ c ∷ drop till index) → IsMerging old slot numbers left place to (set index to c)
-  goes was before left place till to index c room fewer less enough last merged enters =
+  goes {was} {before} {left} {place} {till} {to} {index} c room fewer less enough last merged enters =
       let below : to < length index = omega (arith, room, merged.inside) in
       record {
         places = omega (arith, less, merged.places);
@@ -185,19 +182,19 @@ module _ {old : List Copied} {slot : ℕ} {numbers : List ℕ} (rising : IsRisin
       let moved : remove_range index was till ≡ take left index ++ c ∷ drop till index =
       rw (one_less, take_more index left blank (omega (arith, merged.room, merged.inside, one_less)),
       append_assoc (take left index) (c ∷ []) (drop till index)) refl in
-      goes was place left place till to index c room (omega arith) (omega arith) (omega (arith, merged.room, one_less, room)) over merged
-      (rw moved at merged.enters)
+      goes c room (omega arith) (omega arith) (omega (arith, merged.room, one_less, room)) over merged (rw moved at merged.enters)
 
   -- the last number that is left, above all entries that are left then
   pub number_enters : {was left before place till to : ℕ} {index : List Copied} → before ≡ place + 1 → till ≡ to + 1
       → AreLeft index (slice_index numbers place) was left → IsMerging old slot numbers was before till index
-      → IsMerging old slot numbers left place to (set index to (entry_of slot numbers place))
+      → IsMerging old slot numbers left place to (set index to
+      (record { block = slice_index numbers place; slot = slot; place = place }))
   number_enters {was} {left} {before} {place} {till} {to} {index} one_less room ends merged =
       let inside : place < length numbers = omega (arith, merged.places, one_less) in
-      goes was before left place till to index (entry_of slot numbers place) room (omega (arith, ends)) (omega arith)
-      (omega (arith, merged.room, one_less, room, ends)) (λ some. rising (place - 1) place (omega arith) inside) merged
-      (put_enters index (drop till index) was left place (omega (arith, merged.room, merged.inside)) inside
-      (rw one_less at merged.enters) ends (merged.over place (omega arith)))
+      goes _ room (omega (arith, ends)) (omega arith) (omega (arith, merged.room, one_less, room, ends))
+      (λ some. rising (place - 1) place (omega arith) inside) merged
+      (put_enters index (drop till index) was left place (omega (arith, merged.room, merged.inside)) inside (rw one_less at merged.enters) ends
+      (merged.over place (omega arith)))
 
 -- the block numbers of all records
 abbrev all_of : List (List ℕ) → List ℕ
