@@ -3,10 +3,10 @@ use Rattle.std.proofs.Common.{◌≡◌, ◌⊎◌, ℕ, ◌+◌, ◌-◌, ◌%�
 use Rattle.std.proofs.Common.{rules, ◌≢◌, suc, ◌*◌, ◌≤◌, get_or}
 use Rattle.std.proofs.Math.Nat.{mod-add-mod, mod-eq-sub-mod, mod-eq_of_lt, mul-le-mul_left}
 use Rattle.std.proofs.lemmas.Bool.Decides.{nat_tests}
-use Rattle.std.specs.Prelude.{Option, All, Bool, sum_by}
+use Rattle.std.specs.Prelude.{All, sum_by}
 use Rattle.arrayvec.specs.ArrayVec.{ArrayVec}
-use Rattle.journal.specs.Places.{Shape, limit_of}
-use Rattle.redo_log.specs.Value.{retire_steps_of, Ahead, AllFirsts, LogValue, HasRoom, most_retire_steps, steps_of}
+use Rattle.journal.specs.Places.{limit_of}
+use Rattle.redo_log.specs.Value.{retire_steps_of, Ahead, LogValue, HasRoom, most_retire_steps, steps_of}
 use Rattle.redo_log.specs.Value.{behind_oldest, of_oldest}
 use Rattle.redo_log.specs.Shown.{AreInside, needed_at, value_at, IsRecord, IsSized, lists_of, shown, Invariant}
 use Rattle.std.proofs.lemmas.List.{length-map}
@@ -129,9 +129,7 @@ module _ (log : LogValue) where
   not_homed one = grind (arith, steps_of_all (drop 1 log.waiting), one)
 
 -- as fields have it, the log with the oldest record retired
-pub retired_value : (ahead : Ahead) (shape : Shape) (head : ℕ) (waiting : List (List ℕ)) (turned : ℕ) (kept : AllFirsts) (items : List ℕ)
-    (writing : Option ℕ) (dead : Bool) → All (AreInside shape) waiting → 0 < length waiting
-    → value_at ahead shape (head + 1) (drop 1 waiting) 0 (drop 1 kept) items writing dead
-    ≡ retired_of (value_at ahead shape head waiting turned kept items writing dead)
-retired_value ahead shape head waiting turned kept items writing dead each some =
-    grind (arith, each 1 [], steps_of_all (drop 1 waiting))
+pub retired_value : (i : Inside) {log : LogValue} → shown i ≡ log → Invariant i → 0 < length (lists_of i.waiting.items)
+    → value_at (record { home = i.homed; before = i.before }) (shape_of i.sizes) (i.head + 1) (drop 1 (lists_of i.waiting.items))
+    0 (drop 1 (lists_of i.firsts.items)) i.under_way.items i.made i.dead ≡ retired_of log
+retired_value i is inv some = rw (← is) (grind (arith, inv.each 1 [], steps_of_all (drop 1 (lists_of i.waiting.items))))

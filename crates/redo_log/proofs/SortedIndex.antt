@@ -193,8 +193,8 @@ module _ {old : List Copied} {slot : ℕ} {numbers : List ℕ} (rising : IsRisin
       let inside : place < length numbers = omega (arith, merged.places, one_less) in
       goes _ room (omega (arith, ends)) (omega arith) (omega (arith, merged.room, one_less, room, ends))
       (λ some. rising (place - 1) place (omega arith) inside) merged
-      (put_enters index (drop till index) was left place (omega (arith, merged.room, merged.inside)) inside (rw one_less at merged.enters) ends
-      (merged.over place (omega arith)))
+      (put_enters index (drop till index) was left place (omega (arith, merged.room, merged.inside)) inside
+      (rw one_less at merged.enters) ends (merged.over place (omega arith)))
 
 -- the block numbers of all records
 abbrev all_of : List (List ℕ) → List ℕ
