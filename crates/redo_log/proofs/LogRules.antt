@@ -3,10 +3,10 @@ use Rattle.std.proofs.Common.{◌≡◌, ◌⊎◌, ℕ, ◌+◌, ◌-◌, ◌%�
 use Rattle.std.proofs.Common.{rules, ◌≢◌, suc, ◌*◌, ◌≤◌, get_or}
 use Rattle.std.proofs.Math.Nat.{mod-add-mod, mod-eq-sub-mod, mod-eq_of_lt, mul-le-mul_left}
 use Rattle.std.proofs.lemmas.Bool.Decides.{nat_tests}
-use Rattle.std.specs.Prelude.{Option, All, Bool, sum_by}
+use Rattle.std.specs.Prelude.{All, sum_by}
 use Rattle.arrayvec.specs.ArrayVec.{ArrayVec}
-use Rattle.journal.specs.Places.{Shape, limit_of}
-use Rattle.redo_log.specs.Value.{retire_steps_of, Ahead, AllFirsts, LogValue, HasRoom, most_retire_steps, steps_of}
+use Rattle.journal.specs.Places.{limit_of}
+use Rattle.redo_log.specs.Value.{retire_steps_of, Ahead, LogValue, HasRoom, most_retire_steps, steps_of}
 use Rattle.redo_log.specs.Value.{behind_oldest, of_oldest}
 use Rattle.redo_log.specs.Shown.{AreInside, needed_at, value_at, IsRecord, IsSized, lists_of, shown, Invariant}
 use Rattle.std.proofs.lemmas.List.{length-map}
@@ -84,13 +84,11 @@ sizes_sized sizes =
 pub many_lists : (records : List (ArrayVec ℕ)) → length (lists_of records) ≡ length records
 many_lists records = let f : ArrayVec ℕ → List ℕ = λ r. r.items in length-map records f
 
-module _ (i : Inside) {log : LogValue} (is : shown i ≡ log) where
-  pub log_is : Invariant i → IsLog log
-  log_is inv =
-      let record_is : 0 < (shown i).steps_left
-      → IsRecord (shown i).shape (i.head + length (shown i).waiting) i.under_way.items =
-      λ some. grind (arith, inv.each, many_lists i.waiting.items) in
-      rw (← is) (grind (arith, inv.each, many_lists i.waiting.items, record_is, sizes_sized i.sizes))
+pub log_is : (i : Inside) {log : LogValue} → shown i ≡ log → Invariant i → IsLog log
+log_is i is inv =
+    let record_is : 0 < (shown i).steps_left → IsRecord (shown i).shape (i.head + length (shown i).waiting) i.under_way.items =
+    λ some. grind (arith, inv.each, many_lists i.waiting.items) in
+    rw (← is) (grind (arith, inv.each, many_lists i.waiting.items, record_is, sizes_sized i.sizes))
 
 -- ---- the oldest record, as others come and go
 
@@ -103,22 +101,14 @@ steps_of_all : (waiting : List (List ℕ))
     → sum_by retire_steps_of waiting ≡ retire_steps_of (get_or waiting 0 []) + sum_by retire_steps_of (drop 1 waiting)
 steps_of_all waiting = grind (arith, sum_by-cons retire_steps_of)
 
--- records of which `left` steps are left of the oldest need no more than this
-few_owed : (shape : Shape) (most : ℕ) → limit_of shape.format + 2 ≤ most → (waiting : List (List ℕ)) → All (AreInside shape) waiting
-    → (left : ℕ) → (length waiting ≡ 0 → left ≡ 0) → left ≤ length (get_or waiting 0 []) + 2
-    → left + sum_by retire_steps_of (drop 1 waiting) ≤ most * length waiting
-few_owed shape most few waiting each left none within =
-    grind (arith, sum_by-le retire_steps_of most (drop 1 waiting) (λ i d below. grind (arith, each (suc i) d)), each 0 [])
-
 -- with one more a log with room owes no more than its slots may need
 pub few_begun : {log : LogValue} → IsLog log → HasRoom log → (numbers : List ℕ) → length numbers ≤ limit_of log.shape.format
     → log.retire_steps_left + retire_steps_of numbers ≤ most_retire_steps log.shape.format * log.shape.slots
 few_begun {log} is room numbers few =
     let most = limit_of log.shape.format + 2 in
     let all : most * (length log.waiting + 1) ≤ most * log.shape.slots = mul-le-mul_left most (omega (arith, is.taken, room.free)) in
-    let owed = few_owed log.shape most (omega arith) log.waiting is.each (of_oldest log) (λ none. omega (arith, is.alone none))
-    is.owed_most in
-    grind (arith, owed, all, few, room.none_under_way)
+    let newer = sum_by-le retire_steps_of most (drop 1 log.waiting) (λ i d below. grind (arith, is.each (suc i) d)) in
+    grind (arith, newer, all, is.each 0 [], is.alone, is.owed_most, few, room.none_under_way)
 
 module _ (log : LogValue) where
   -- the record that is durable now is the oldest one, and no turn of it is made
@@ -139,9 +129,7 @@ module _ (log : LogValue) where
   not_homed one = grind (arith, steps_of_all (drop 1 log.waiting), one)
 
 -- as fields have it, the log with the oldest record retired
-pub retired_value : (ahead : Ahead) (shape : Shape) (head : ℕ) (waiting : List (List ℕ)) (turned : ℕ) (kept : AllFirsts) (items : List ℕ)
-    (writing : Option ℕ) (dead : Bool) → All (AreInside shape) waiting → 0 < length waiting
-    → value_at ahead shape (head + 1) (drop 1 waiting) 0 (drop 1 kept) items writing dead
-    ≡ retired_of (value_at ahead shape head waiting turned kept items writing dead)
-retired_value ahead shape head waiting turned kept items writing dead each some =
-    grind (arith, each 1 [], steps_of_all (drop 1 waiting))
+pub retired_value : (i : Inside) {log : LogValue} → shown i ≡ log → Invariant i → 0 < length (lists_of i.waiting.items)
+    → value_at (record { home = i.homed; before = i.before }) (shape_of i.sizes) (i.head + 1) (drop 1 (lists_of i.waiting.items))
+    0 (drop 1 (lists_of i.firsts.items)) i.under_way.items i.made i.dead ≡ retired_of log
+retired_value i is inv some = rw (← is) (grind (arith, inv.each 1 [], steps_of_all (drop 1 (lists_of i.waiting.items))))

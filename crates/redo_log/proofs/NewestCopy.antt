@@ -71,7 +71,8 @@ with_records-none : (records : List (List Entry)) (a : Array) (b : ℕ)
     → ((age : ℕ) → age < length (named records) → ¬ Contains (get_or (named records) age []) b) → with_records records a b ≡ a b
 with_records-none [] a b none = refl
 with_records-none (r ∷ records) a b none =
-    grind (arith, with_records-none records (with_blocks r a) b (λ age below. none (suc age) (omega arith)), with_blocks-none r a b (none 0 (omega arith)))
+    with_records-none records (with_blocks r a) b (λ age below. none (suc age) (omega arith))
+    ∙ with_blocks-none r a b (none 0 (omega arith))
 
 -- the newest record that names the block gives it
 with_records-at : (records : List (List Entry)) (a : Array) (b age i : ℕ) → age < length (named records)
@@ -101,13 +102,13 @@ module _ (log : LogValue) (m : State) (view : View) (holds : HoldsView log m vie
       × (first_kept log.firsts copy.age place ≡ first_of log.shape.format (get_or view.records copy.age []) place)
   copy_is is b slot place copy =
       let each = is.each copy.age [] copy.waits in
+      let newest = rw holds.durable at copy in
       let waits : copy.age < length view.records = omega (arith, copy.waits, many holds) in
       let inside : place < length (get_or view.records copy.age []) = omega (arith, copy.inside, count holds copy.age) in (
         inside,
         (holds.stores live).stored.keeps.whole copy.age waits,
-        sym (with_records-at view.records (home_of log.shape m.content) b copy.age place (rw holds.durable at copy.waits)
-            (rw holds.durable at each.rising) (rw holds.durable at copy.inside) (rw holds.durable at copy.named)
-            (rw holds.durable at copy.newest))
+        sym (with_records-at view.records (home_of log.shape m.content) b copy.age place newest.waits
+            (rw holds.durable at each.rising) newest.inside newest.named newest.newest)
             ∙ (holds.stores live).stored.keeps.blocks b (omega (arith, each.inside place 0 copy.inside, copy.named)),
         kept_is log.shape.format view.records view.under_way log.firsts holds.firsts copy.age place waits inside,
       )

@@ -9,7 +9,8 @@ use Rattle.journal.specs.Layout.{Layout}
 use Rattle.journal.specs.Formats.{layout_of}
 use Rattle.redo_log.specs.Value.{steps_for, most_steps, LogValue, of_oldest, next_calls, next_sends, turns_sends}
 use Rattle.redo_log.specs.Value.{sends_of_oldest, most_retire_sends, next_turn_flushes, step_flushes, next_step_flushes}
-use Rattle.redo_log.specs.Shown.{flush_of, written_at, flushed_at}
+use Rattle.redo_log.specs.declared.log.Log.TheInside.{Inside}
+use Rattle.redo_log.specs.Shown.{shown, Invariant, flush_of, written_at, flushed_at}
 use Rattle.redo_log.specs.Calls.{IsFlushDue, Flush, placed, CallsUpTo, Call, fault_of, IsNextCall}
 use Rattle.std.specs.Prelude.{slice_range, true}
 use Rattle.medium.specs.Medium.{State, Passes, LooksOnly}
@@ -26,7 +27,7 @@ use Rattle.redo_log.specs.declared.turn.Turn.TheVariants.{Copy, Flush, Head}
 use Rattle.redo_log.specs.Steps.{CountsStep, LeavesLog}
 use Rattle.redo_log.specs.Held.{View, HoldsView, MayLeave, turned_of, made_of}
 use Rattle.redo_log.specs.Turns.{counts_of, IsHeadTurn, IsNextTurn}
-use Rattle.redo_log.proofs.LogRules.{IsLog, made_is}
+use Rattle.redo_log.proofs.LogRules.{IsLog, made_is, log_is}
 use Rattle.std.proofs.lemmas.List.{get_or_past}
 
 -- what steps of a log leave, by what a cut leaves of it
@@ -151,6 +152,8 @@ sends_few zero = grind arith
 sends_few (suc left) = grind (arith, sends_few left)
 
 -- those of the oldest record of a log
-pub few_of_oldest : {log : LogValue} → IsLog log → sends_of_oldest log ≤ most_retire_sends log.shape.format
-few_of_oldest {log} is =
+pub few_of_oldest : (i : Inside) (log : LogValue) → Invariant i → shown i ≡ log
+    → sends_of_oldest log ≤ most_retire_sends log.shape.format
+few_of_oldest i log inv same =
+    let is = log_is i same inv in
     grind (arith, sends_few (of_oldest log), is.owed_most, is.each 0 [], get_or_past log.waiting 0 [])

@@ -24,14 +24,15 @@ use Rattle.std.proofs.lemmas.Map.Made.{length-le_from_is_member}
 use Rattle.std.proofs.lemmas.Map.Views.{Contains-from_any, list_any-from_Contains}
 use Rattle.std.proofs.Math.Nat.{mul-le-mul_left}
 use Rattle.std.proofs.Math.Seq.{get_or-append_seam, get_or-append_right}
-use Rattle.journal.proofs.Wholeness.{other_slot}
+use Rattle.journal.proofs.Slots.{other_slot}
 
 -- no entry
 abbrev pub blank : Copied
 blank = record { block = 0; slot = 0; place = 0 }
 
 -- a block that no entry has is not found
-look-absent : (index : List Copied) (block : ℕ) → ((i : ℕ) → i < length index → (get_or index i blank).block ≢ block) → look index block ≡ None
+look-absent : (index : List Copied) (block : ℕ) → ((i : ℕ) → i < length index → (get_or index i blank).block ≢ block)
+    → look index block ≡ None
 look-absent [] block none = refl
 look-absent (c ∷ index) block none =
     grind (arith, nat_tests, none 0 (omega arith), look-absent index block (λ j less. none (suc j) (omega arith)))
@@ -87,24 +88,13 @@ pub record IsMerging (old : List Copied) (slot : ℕ) (numbers : List ℕ) (left
 pairs_append : {X : Type 0} (R : X → X → Type 0) (front back : List X) → AllPairs R front → AllPairs R back
     → All (λ x. All (R x) back) front → AllPairs R (front ++ back)
 pairs_append R front back of_front of_back across i j d less below =
-    grind (
-      arith,
-      get_or_append_left front back d,
-      get_or-append_right front back,
-      length-append front back,
-      of_front i j d,
-      of_back (i - length front) (j - length front) d,
-      λ (low : i < length front). across i d low (j - length front) d,
-    )
+    grind (arith, get_or_append_left front back d, get_or-append_right front back, length-append front back, of_front i j d,
+    of_back (i - length front) (j - length front) d, λ (low : i < length front). across i d low (j - length front) d)
 
 -- an entry between others is found for its own block alone
 look_other : (front back : List Copied) (e : Copied) (b : ℕ) → e.block ≢ b → look (front ++ e ∷ back) b ≡ look (front ++ back) b
 look_other [] back e b not = grind (arith, nat_tests, not)
 look_other (c ∷ front) back e b not = grind (arith, nat_tests, look_other front back e b not)
-
--- the entry of a number of the record
-abbrev pub entry_of : ℕ → List ℕ → ℕ → Copied
-entry_of slot numbers place = record { block = slice_index numbers place; slot = slot; place = place }
 
 -- of the first `was` entries `left` are left where this block enters: all, which have smaller blocks, or the last one has this block
 abbrev AreLeft : List Copied → ℕ → ℕ → ℕ → Type 0
@@ -115,8 +105,9 @@ AreLeft index block was left = ((left ≡ was) × (0 < was → (get_or index (wa
 module _ {old : List Copied} {slot : ℕ} {numbers : List ℕ} (index back : List Copied) (was left place : ℕ) (fits : was ≤ length index)
     (inside : place < length numbers) (entered : Enters slot numbers (place + 1) old (take was index ++ back))
     (ends : AreLeft index (slice_index numbers place) was left) (above : All (Above (slice_index numbers place)) back) where
+  -- its entry
   abbrev e : Copied
-  e = entry_of slot numbers place
+  e = record { block = slice_index numbers place; slot = slot; place = place }
 
   front_rises : (i j : ℕ) (d : Copied) → i < j → j < was → (get_or index i d).block < (get_or index j d).block
   front_rises i j d less below =
@@ -135,32 +126,24 @@ module _ {old : List Copied} {slot : ℕ} {numbers : List ℕ} (index back : Lis
   put_sorted = pairs_append (λ x. Above x.block) (take left index) (e ∷ back)
       (λ i j d less below. grind (arith, get_or-take left index i d, get_or-take left index j d, front_rises i j d, below, long, ends))
       (AllPairs-cons (λ x. Above x.block) e back above (λ i j d less below.
-      let front = take was index in
-      let up = entered.sorted (length front + i) (length front + j) d in
-      grind (arith, get_or-append-add front back, up, length-append front back, below)))
+          let front = take was index in
+          let up = entered.sorted (length front + i) (length front + j) d in
+          grind (arith, get_or-append-add front back, up, length-append front back, below)))
       (λ i d less. All-cons (Above (get_or (take left index) i d).block) e back (low i d less)
-      (λ j f inside. omega (arith, low i d less, above j f inside)))
+          (λ j f inside. omega (arith, low i d less, above j f inside)))
 
   put_found : look (take left index ++ e ∷ back) e.block ≡ Some (slot, place)
   put_found =
       let all = take left index ++ e ∷ back in
-      grind (
-        arith,
-        look_found all put_sorted left e.block,
-        get_or_at (take left index) e back blank left,
-        length-append (take left index) (e ∷ back),
-        long,
-      )
+      grind (arith, look_found all put_sorted left e.block, get_or_at (take left index) e back blank left,
+      length-append (take left index) (e ∷ back), long)
 
   -- only an older entry with its block goes
   put_other : (b : ℕ) → e.block ≢ b → look (take left index ++ e ∷ back) b ≡ look (take was index ++ back) b
-  put_other b not = look_other (take left index) back e b not ∙ elim ends [
-    | inl all ↦ rw all.0 refl
-    | inr one ↦
-        let c = get_or index left blank in
-        rw (one.0, take_more index left blank (omega arith), append_assoc (take left index) (c ∷ []) back)
-        (sym (look_other (take left index) back c b (λ same. not (sym one.1 ∙ same))))
-  ]
+  put_other b not =
+      let c = get_or index left blank in
+      grind (arith, look_other (take left index) back e b not, take_more index left blank, append_assoc (take left index) (c ∷ []) back,
+      look_other (take left index) back c b, ends)
 
   pub put_enters : Enters slot numbers place old (take left index ++ e ∷ back)
   put_enters = record {
@@ -176,10 +159,10 @@ module _ {old : List Copied} {slot : ℕ} {numbers : List ℕ} (index back : Lis
 
 module _ {old : List Copied} {slot : ℕ} {numbers : List ℕ} (rising : IsRising numbers) where
   -- an entry goes to the end of the room, above all numbers that are left
-  goes : (was before left place till to : ℕ) (index : List Copied) (c : Copied) → till ≡ to + 1 → left ≤ was → place ≤ before
+  goes : {was before left place till to : ℕ} {index : List Copied} (c : Copied) → till ≡ to + 1 → left ≤ was → place ≤ before
       → left + place ≤ to → (0 < place → slice_index numbers (place - 1) < c.block) → IsMerging old slot numbers was before till index
       → Enters slot numbers place old (take left index ++ c ∷ drop till index) → IsMerging old slot numbers left place to (set index to c)
-  goes was before left place till to index c room fewer less enough last merged enters =
+  goes {was} {before} {left} {place} {till} {to} {index} c room fewer less enough last merged enters =
       let below : to < length index = omega (arith, room, merged.inside) in
       record {
         places = omega (arith, less, merged.places);
@@ -191,30 +174,27 @@ module _ {old : List Copied} {slot : ℕ} {numbers : List ℕ} (rising : IsRisin
       }
 
   -- the last entry that is left, above all numbers that are left
-  pub entry_moves : (was left place till to : ℕ) (index : List Copied) → was ≡ left + 1 → till ≡ to + 1
+  pub entry_moves : {was left place till to : ℕ} {index : List Copied} → was ≡ left + 1 → till ≡ to + 1
       → (0 < place → slice_index numbers (place - 1) < (get_or index left blank).block) → IsMerging old slot numbers was place till index
       → IsMerging old slot numbers left place to (set index to (get_or index left blank))
-  entry_moves was left place till to index one_less room over merged =
+  entry_moves {was} {left} {place} {till} {to} {index} one_less room over merged =
       let c = get_or index left blank in
       let moved : remove_range index was till ≡ take left index ++ c ∷ drop till index =
-      rw (
-        one_less,
-        take_more index left blank (omega (arith, merged.room, merged.inside, one_less)),
-        append_assoc (take left index) (c ∷ []) (drop till index),
-      ) refl in
-      goes was place left place till to index c room (omega arith) (omega arith) (omega (arith, merged.room, one_less, room)) over merged
-      (rw moved at merged.enters)
+      rw (one_less, take_more index left blank (omega (arith, merged.room, merged.inside, one_less)),
+      append_assoc (take left index) (c ∷ []) (drop till index)) refl in
+      goes c room (omega arith) (omega arith) (omega (arith, merged.room, one_less, room)) over merged (rw moved at merged.enters)
 
   -- the last number that is left, above all entries that are left then
-  pub number_enters : (was left before place till to : ℕ) (index : List Copied) → before ≡ place + 1 → till ≡ to + 1
+  pub number_enters : {was left before place till to : ℕ} {index : List Copied} → before ≡ place + 1 → till ≡ to + 1
       → AreLeft index (slice_index numbers place) was left → IsMerging old slot numbers was before till index
-      → IsMerging old slot numbers left place to (set index to (entry_of slot numbers place))
-  number_enters was left before place till to index one_less room ends merged =
-      let fits : was ≤ length index = omega (arith, merged.room, merged.inside) in
+      → IsMerging old slot numbers left place to (set index to
+      (record { block = slice_index numbers place; slot = slot; place = place }))
+  number_enters {was} {left} {before} {place} {till} {to} {index} one_less room ends merged =
       let inside : place < length numbers = omega (arith, merged.places, one_less) in
-      goes was before left place till to index (entry_of slot numbers place) room (omega (arith, ends)) (omega arith)
-      (omega (arith, merged.room, one_less, room, ends)) (λ some. rising (place - 1) place (omega arith) inside) merged
-      (put_enters index (drop till index) was left place fits inside (rw one_less at merged.enters) ends (merged.over place (omega arith)))
+      goes _ room (omega (arith, ends)) (omega arith) (omega (arith, merged.room, one_less, room, ends))
+      (λ some. rising (place - 1) place (omega arith) inside) merged
+      (put_enters index (drop till index) was left place (omega (arith, merged.room, merged.inside)) inside
+      (rw one_less at merged.enters) ends (merged.over place (omega arith)))
 
 -- the block numbers of all records
 abbrev all_of : List (List ℕ) → List ℕ
@@ -226,25 +206,18 @@ in_all (r ∷ records) zero b below there = Contains-append_left r (all_of recor
 in_all (r ∷ records) (suc age) b below there = Contains-append_right r (all_of records) b (in_all records age b (omega arith) there)
 
 -- there is room for as many entries more as a record may have blocks: each entry has a block of its own, which the records have
-pub record_room : (slots stamp most : ℕ) (records : List (List ℕ)) (index : List Copied) → IsIndex slots stamp records index
+pub record_room : {slots stamp : ℕ} {records : List (List ℕ)} {index : List Copied} (most : ℕ) → IsIndex slots stamp records index
     → length records < slots → All (λ r. length r ≤ most) records → (room count : ℕ) → count ≤ most → most * slots ≤ room
     → length index + count ≤ room
-record_room slots stamp most records index is free small room count few enough =
+record_room {slots} {stamp} {records} {index} most is free small room count few enough =
     let f : Copied → ℕ = λ c. c.block in
     let each = All-map (Contains (all_of records)) f index
     (All-from_get_or (λ c. Contains (all_of records) c.block) index blank (λ i below.
     let n = rw (look_found index is.sorted i ((get_or index i blank).block) below refl) at (is.finds ((get_or index i blank).block)) in
     in_all records n.age ((get_or index i blank).block) n.waits
     (rw n.named at (Contains-get_or (get_or records n.age []) (get_or index i blank).place 0 n.inside)))) in
-    let apart = IsDistinct-from_apart eqb (map f index) (λ i j d less inside. grind (
-      arith,
-      nat_tests,
-      length-map index f,
-      get_or-map f index i blank d,
-      get_or-map f index j blank d,
-      is.sorted i j blank,
-      inside,
-    )) in
+    let apart = IsDistinct-from_apart eqb (map f index) (λ i j d less inside. grind (arith, nat_tests, length-map index f,
+    get_or-map f index i blank d, get_or-map f index j blank d, is.sorted i j blank, inside)) in
     let all = length-le_from_is_member nat_eq_equiv (map f index) (all_of records) apart
     (λ q some. list_any-from_Contains nat_eq_equiv q (all_of records)
     (All-contains (Contains (all_of records)) (map f index) q each (Contains-from_any eqb-true q (map f index) some))) in
@@ -261,12 +234,9 @@ module _ (records : List (List ℕ)) (numbers : List ℕ) (b : ℕ)
   none_more : (least : ℕ) → ((age : ℕ) → least ≤ age → age < length records → ¬ Contains (get_or records age []) b)
       → (age : ℕ) → least ≤ age → age < length (records ++ numbers ∷ [])
       → ¬ Contains (get_or (records ++ numbers ∷ []) age []) b
-  none_more least none age later below = elim (cases_lt age (length records)) [
-    | inl old ↦ rw (get_or_append_left records (numbers ∷ []) [] age old) (none age later old)
-    | inr last ↦
-        rw (get_or_at records numbers [] [] age (omega (arith, below, last, longer)))
-        (λ there. unnamed there.0 (omega arith) there.1 (get_or_default numbers there.0 0 b there.1 ∙ there.2))
-  ]
+  none_more least none age later below there =
+      grind (arith, cases_lt age (length records), get_or_append_left records (numbers ∷ []) [] age, none age later,
+      get_or_at records numbers [] [] age, longer, unnamed there.0, get_or_default numbers there.0 0 b)
 
   -- and the newest copy stays it
   found_more : (slots stamp : ℕ) (found : Option (ℕ × ℕ)) → Finds slots stamp records b found
@@ -284,9 +254,9 @@ module _ (records : List (List ℕ)) (numbers : List ℕ) (b : ℕ)
       }
 
 -- the index with the copies of a record behind the others
-pub index_more : (slots stamp : ℕ) (records : List (List ℕ)) (numbers : List ℕ) (old new : List Copied) → IsIndex slots stamp records old
+pub index_more : {slots stamp : ℕ} {records : List (List ℕ)} {numbers : List ℕ} {old new : List Copied} → IsIndex slots stamp records old
     → Enters ((stamp + length records) % slots) numbers 0 old new → IsIndex slots stamp (records ++ numbers ∷ []) new
-index_more slots stamp records numbers old new is enters = record {
+index_more {slots} {stamp} {records} {numbers} {old} is enters = record {
   sorted = enters.sorted;
   finds = λ b. elim (enters.finds b) [
     | inr none ↦ rw none.1 (found_more records numbers b none.0 slots stamp (look old b) (is.finds b))
@@ -327,11 +297,11 @@ found_fewer slots stamp numbers records b (Some copy) few n = aged n.age refl
         })
 
 -- the index without the copies of the oldest record
-pub index_fewer : (slots stamp : ℕ) (waiting : List (List ℕ)) (old new : List Copied)
+pub index_fewer : {slots stamp : ℕ} {waiting : List (List ℕ)} {old new : List Copied}
     → IsIndex slots stamp waiting old → 0 < length waiting → length waiting ≤ slots → IsSorted new
     → ((b : ℕ) → look new b ≡ outside (stamp % slots) (look old b)) → IsIndex slots (stamp + 1) (drop 1 waiting) new
-index_fewer slots stamp [] old new is some few sorted looks = absurd (omega arith)
-index_fewer slots stamp (numbers ∷ newer) old new is some few sorted looks = record {
+index_fewer {waiting = []} is some few sorted looks = absurd (omega arith)
+index_fewer {slots} {stamp} {waiting = numbers ∷ newer} {old} is some few sorted looks = record {
   sorted = sorted;
   finds = λ b. rw (looks b) (found_fewer slots stamp numbers newer b (look old b) few (is.finds b));
 }

@@ -115,6 +115,7 @@ impl Log {
 
     /// Whether a record may be begun: none is under way, and a slot is free, which those of the
     /// durable records are not until they are retired.
+    #[tactic(auto, using(crate::proofs::RecordSteps::few_of_oldest))]
     pub fn has_room(&self) -> bool
         ensures room { IsTrue result ↔ HasRoom self.now }
         ensures full { result ≡ false → 0 < self.now.steps_left + length self.now.waiting }

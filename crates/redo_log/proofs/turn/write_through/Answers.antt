@@ -4,7 +4,6 @@ use Rattle.redo_log.proofs.turn.write_through.Goals as goal
 
 pub returns-clause-writes : goal.returns-clause-writes
 returns-clause-writes g c =
-    let adds = two_calls c.args.place c.args.sector.now (g.M.Medium.state c.args.m.now) (g.met.M.Medium.sound c.args.m.now)
-    (g.M.Medium.state c.write.new.self) (g.M.Medium.state c.flush.new.self) c.write.ensures.passes c.flush.ensures.passes
-    c.write.ensures.sets (λ s b left. c.write.ensures.sets s b (c.flush.ensures.sets s b left)) in
+    let adds = two_calls c.args.place c.args.sector.now _ (g.met.M.Medium.sound c.args.m.now) _ _ c.write.ensures.passes
+    c.flush.ensures.passes c.write.ensures.sets (λ s b left. c.write.ensures.sets s b (c.flush.ensures.sets s b left)) in
     search rules

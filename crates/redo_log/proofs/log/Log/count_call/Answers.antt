@@ -20,8 +20,8 @@ invariant_of-self-2 c =
     let stamp : i.head + c.len.result ≡ i.head + length records = omega (arith, c.len.ensures, many_lists i.waiting.items) in
     let ring = rw c.in-Some.is at c.self.invariant in
     let each = rw (← waiting) at (All-push (AreInside (shape_of i.sizes)) records i.under_way.items ring.each ring.record_under_way.0) in
-    let index = rw (← waiting) at (index_more i.sizes.slots i.head records i.under_way.items i.index.items c.enter_record.new.index.items
-    c.self.invariant.index_is (rw (numbers, c.slot_of.ensures, stamp) at c.enter_record.ensures.enters)) in
+    let index = rw (← waiting) at (index_more c.self.invariant.index_is
+    (rw (numbers, c.slot_of.ensures, stamp) at c.enter_record.ensures.enters)) in
     let longer = rw (← waiting) at (length-append records (i.under_way.items ∷ [])) in
     search (rules, arith)
 
@@ -29,6 +29,6 @@ pub enter_record-requires-clause-fits : goal.enter_record-requires-clause-fits
 enter_record-requires-clause-fits c =
     let i = c.self.inside in
     let ring = rw c.in-Some.is at c.self.invariant in
-    record_room i.sizes.slots i.head (limit_of i.sizes.format) (lists_of i.waiting.items) i.index.items c.self.invariant.index_is
-    (omega (arith, ring.fits)) (λ age d below. (ring.each age d below).few) (vec_capacity i.index) (length c.args.numbers.now)
+    record_room (limit_of i.sizes.format) c.self.invariant.index_is (omega (arith, ring.fits))
+    (λ age d below. (ring.each age d below).few) (vec_capacity i.index) (length c.args.numbers.now)
     (rw (rw (← c.self.view_is) at c.requires.1) ring.record_under_way.0.few) c.self.invariant.index_room
