@@ -42,14 +42,12 @@ module _ (L : Layout) (laws : Laws L) (shape : Shape) where
       → IsFree L stamp (L.slot_sectors - 1) (image (slot_at L shape stamp + (L.slot_sectors - 1))) → ¬ HasWholeIn L shape image stamp
   last_free_none image stamp free whole =
       let n = length whole.0 in
-      let late = late_carries image stamp whole.0 (L.parts n - 1) whole.1 in
-      grind (arith, late, laws.some_parts n, laws.last_is_late n, laws.last n, free)
+      grind (arith, late_carries image stamp whole.0 (L.parts n - 1) whole.1, laws.some_parts n, laws.last_is_late n, laws.last n, free)
 
   -- behind the stamps that the log carries no record is whole
   none_carried : 1 ≤ shape.slots → (image : Image) (end : ℕ) → CarriesBelowIn L shape image end → ¬ HasWholeIn L shape image end
   none_carried some image end c =
-      let low = mod_below end shape.slots some in
-      last_free_none image end (λ t. c (end % shape.slots) (L.slot_sectors - 1) t low
+      last_free_none image end (λ t. c (end % shape.slots) (L.slot_sectors - 1) t (mod_below end shape.slots some)
       (omega (arith, laws.inside 0 0 (omega arith) (laws.some_parts 0))))
 
 -- an image at rest stands for its array
@@ -110,8 +108,7 @@ module _ (L : Layout) (laws : Laws L) (v : View) (slots : HasSlots L v) where
       ⊎ IsFree L (stamp_of v) (L.offset (length v.under_way) p) (image (at L v p))
   part_or_free image so_far durable p g below =
       let same = λ (q : ℕ). laws.apart (length v.under_way) q p slots.under_way.fit.few in
-      let here = g.carries (stamp_of v % v.shape.slots) _ (mod_below (stamp_of v) v.shape.slots slots.some) (inside p below) in
-      grind (arith, here, same)
+      grind (arith, g.carries (stamp_of v % v.shape.slots) _ (mod_below (stamp_of v) v.shape.slots slots.some) (inside p below), same)
 
   -- a part that was not written now
   part_stays : {before image : Image} {k p : ℕ} {bytes : List ℕ} → Holds (at L v k) bytes before image
@@ -125,9 +122,8 @@ module _ (L : Layout) (laws : Laws L) (v : View) (slots : HasSlots L v) where
       → Stored L v count before → Stored L v next image
   Stored-write {before} {image} k {next = next} below others write s =
       let keeps = keeps_stays before image _ (bytes_of L v k) (inside k below) write s.keeps in
-      let stays = λ (p : ℕ). part_stays {p = p} write below in
       let parts : HasParts L v.shape (stamp_of v) v.under_way next image = λ p low small.
-      grind (arith, cases_eq p k, write.here, stays p small, others p low, s.parts p) in
+      grind (arith, cases_eq p k, write.here, part_stays {p = p} write below small, others p low, s.parts p) in
       search rules
 
   -- part k reached the medium

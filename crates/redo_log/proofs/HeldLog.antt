@@ -80,9 +80,8 @@ has_view {stamp = stamp} {head = head} passed view fits behind found =
 pub has_before : {size : ℕ} {shape : Shape} {head : ℕ} (first : List Entry) {view : View} {image : Image} → IsWhole shape image head first
     → HasView size shape (head + 1) view image → HasView size shape head (with_passed (first ∷ []) view) image
 has_before {head = head} first {view} whole has =
-    let next : head + 1 + length view.records + 1 ≡ head + length (first ∷ view.records) + 1 = omega arith in
     let behind = λ (j : ℕ). get_or-append-add (first ∷ []) view.records (j - 1) [] in
-    record { whole = λ j below. grind (arith, cases_eq j 0, behind j, whole, has.whole (j - 1)); ours = rw next at has.ours }
+    record { whole = λ j below. grind (arith, cases_eq j 0, behind j, whole, has.whole (j - 1)); ours = grind (arith, has.ours) }
 
 module _ {shape : Shape} {head : ℕ} {view : View} {made retire : ℕ} {image : Image} where
   -- the newest head is there
@@ -241,8 +240,7 @@ module _ {log : LogValue} {m : State} {view : View} (hv : HoldsView log m view) 
         (rw many at (is.record_is (omega (arith, some, fewer)))) hv.under_way hv.sized in
         search (rules, arith, many, is.room) in
         let steps = ap (λ (k : ℕ). steps_for log.shape.format k) under_count ∙ steps_are log.shape.format n in
-        let left_one = one_left _ _ ((laws_of log.shape.format).last_is_late n) made in
-        grind (arith, slots, is.most_left, steps, left_one, some_made)
+        grind (arith, slots, is.most_left, steps, one_left _ _ ((laws_of log.shape.format).last_is_late n) made, some_made)
 
     pub stands_now : Stands log.shape log.head view log.steps_left (made_of log)
     stands_now = stands_then log.steps_left (made_of log) (omega arith) (none_made log) (λ some. omega (arith, made_is log some))

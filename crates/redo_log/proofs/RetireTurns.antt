@@ -58,9 +58,8 @@ module _ {log : LogValue} (is : IsLog log) (live : log.dead ≡ false) (owed : 0
     stands_past =
         let stands = stands_now hv is in
         let fewer = length-drop 1 view.records in
-        let same : log.head + 1 + length (drop 1 view.records) ≡ log.head + length view.records = omega (arith, fewer, waits) in
         let slots : 0 < log.steps_left → HasSlots (layout_of log.shape.format) (with_less v) = λ some.
-        grind (arith, stands.slots some, fewer, same) in
+        grind (arith, stands.slots some, fewer, waits) in
         search (rules, arith, stands, fewer)
 
     -- at each moment a cut leaves what it might leave before, and with the new head the same array
@@ -88,8 +87,7 @@ module _ {log : LogValue} (is : IsLog log) (live : log.dead ≡ false) (owed : 0
         let leaves : view.ours ≡ true → EachCut (MayLeave new.size (retired_of log) (view_retired 1 view)) new =
         λ ours image cut. guard_leaves (retired_of log) fits stands_past (guards ours image cut) in
         let s = hv.stores live in
-        let homed : IsHomed v old.content = λ i inside. s.copied i (omega (arith, inside, one, count hv 0)) inside in
-        let stored = (past homed wrote).stored s.stored in
+        let stored = (past (λ i inside. s.copied i (omega (arith, inside, one, count hv 0)) inside) wrote).stored s.stored in
         let copied : AreHome log.shape (get_or (drop 1 view.records) 0 []) (turned_of (retired_of log)) new.content =
         λ i low high. absurd (nothing_home log i low (omega (arith, high, counts_of (drop 1 view.records) durable 0))) in
         search (rules, arith)
@@ -101,8 +99,7 @@ module _ {log : LogValue} (is : IsLog log) (live : log.dead ≡ false) (owed : 0
     -- so a log that counts it holds what the medium does
     pub retired_held : (then : LogValue) → IsRetireStepped log then → HoldsView (retired_of log) new (view_retired 1 view)
         → HoldsView then new (view_retired (then.head - log.head) view)
-    retired_held then stepped held =
-        let past : log.head + 1 - log.head ≡ 1 = omega arith in rw (stepped.last (omega (arith, one, stepped.some)), past) held
+    retired_held then stepped held = grind (arith, one, stepped.some, stepped.last, held)
 
     -- where it is not flushed yet, a slot is free besides the one that is passed
     pub ahead_held : log.next - log.head < log.shape.slots → new.size ≡ old.size → Gains 1 (head_bytes h.stamp) old.may_leave new.may_leave

@@ -44,7 +44,7 @@ pub idle_holds : (shape : Shape) (next : ℕ) (array : Array) (ours : Bool) (m :
 idle_holds shape next array ours m fits keeps fresh =
     let view : View = resting_view array ours in
     let leaves : ours ≡ true → EachCut (MayLeave m.size (idle_from shape next) (resting_view array ours)) m = λ is image cut.
-    inl (has_view [] view fits (omega arith) (rests_found _ (laws_of shape.format) (image_view shape next view) (omega arith) (fresh is image cut))) in
+    inl (has_view [] view fits (omega arith) (rests_found _ (laws_of _) (image_view shape next view) (omega arith) (fresh is image cut))) in
     let stored = keeps_stored view refl keeps in
     let guards : ours ≡ true → IsGuarded (idle_from shape next) (resting_view array ours) m =
     λ is image cut. with_newest (rests_safe view refl (fresh is image cut)) (λ none. absurd (omega (arith, none))) in
@@ -92,7 +92,6 @@ begun_holds log m view numbers bytes holds room batch =
     let none_yet : view.under_way ≡ [] =
     nil_from_length view.under_way (omega (arith, under_count holds, ap (λ (l : List ℕ). length l) room.none_under_way)) in
     let behind : behind_oldest next ≡ behind_oldest log + retire_steps_of numbers = grind (arith, room.none_under_way) in
-    let needs : needed_of log ≡ needed_of next = grind (arith, behind) in
     let made : made_of next ≡ 0 = omega (arith, made_is next (steps_some log.shape.format (length numbers))) in
     let under = numbers_of_batch numbers bytes in
     let sized = sized_batch numbers bytes batch.size in
@@ -103,7 +102,7 @@ begun_holds log m view numbers bytes holds room batch =
     let guards : log.dead ≡ false → view.ours ≡ true → IsGuarded next (with_begun E view) m = λ live ours image cut.
     let g = holds.guards live ours image cut in
     let idle = safe_rests (with_passed g.passed view) (none_made log room.no_steps) g.safe in
-    same_head g (rests_safe (with_passed g.passed (with_begun E view)) made idle) (λ is. g.flushed (needs ∙ is)) in
+    same_head g (rests_safe (with_passed g.passed (with_begun E view)) made idle) (λ is. g.flushed (grind (arith, behind, is))) in
     search (rules, arith, holds)
 
 -- ---- each step of the record under way
@@ -189,10 +188,9 @@ module _ {log : LogValue} (is : IsLog log) (live : log.dead ≡ false) (some : 0
           let first = get_or_append_left view.records (view.under_way ∷ []) [] 0 in
           λ i low high. grind (arith, cases_eq (length view.records) 0, durable_alone log is some, durable_more log, many hv, s.copied i, first) in
           let keeps = Stored-durable _ (laws_of _) _ (stands.slots some) all s.stored in
-          let next : log.head + length view.records + 1 ≡ log.head + length (view.records ++ view.under_way ∷ []) = omega (arith, longer) in
           let guards : view.ours ≡ true → IsGuarded (durable_of log) (with_record view) new = λ ours.
-          let carries = rw next at (carries_below _ (laws_of _) _ (stands.slots some) old.content _ _ (safe_here sound s (hv.guards live ours))) in
-          each_flush _ old.content new wrote.1 (with_newest (rests_safe (with_record view) refl (record { keeps = keeps; carries = carries }))
+          let carries = carries_below _ (laws_of _) _ (stands.slots some) old.content _ _ (safe_here sound s (hv.guards live ours)) in
+          each_flush _ old.content new wrote.1 (with_newest (rests_safe (with_record view) refl (grind (arith, keeps, carries, longer)))
           (λ one i inside. copied i (omega (arith, inside, all_turned (durable_of log) one, counts_of (view.records ++ view.under_way ∷ []) durable 0)) inside)) in
           let few : length (view.records ++ view.under_way ∷ []) ≤ log.shape.slots = omega (arith, (stands.slots some).room, longer) in
           let firsts = durable_kept log.shape.format view.records view.under_way log.firsts hv.firsts (omega (arith, (stands.slots some).under_way.fit.some)) in
