@@ -130,17 +130,15 @@ module _ {size : ℕ} (log : LogValue) {view : View} {made retire : ℕ} (fits :
   -- the durable records are whole, or with the one under way, whichever head is there
   pub guard_logged : HasDurable size log view image ⊎ HasUnderWay size log view image
   guard_logged =
+      let laws = laws_of log.shape.format in
       let front_stands = stands_front g stands in
-      elim (cases_lt 0 log.steps_left) [
-        | inl some ↦ ⊎_elim
-            (λ rest. inl (has_view g.passed view fits g.behind rest))
-            (λ both. inr (some, stands.short both.0, has_view g.passed (with_record view) fits g.behind (rw append_assoc at both.1)))
-            (guarded_leaves _ (laws_of log.shape.format) (front g) (front_stands.slots some) image _ _
-            (all_flushed _ _ ((laws_of log.shape.format).last_is_late (length view.under_way)) made) g.safe)
-        | inr none ↦
-            let rests = safe_rests (with_passed g.passed view) (stands.none (omega arith)) g.safe in
-            inl (has_view g.passed view fits g.behind (rests_found _ (laws_of log.shape.format) (front g) front_stands.few rests))
-      ]
+      let rests = λ (none : log.steps_left ≡ 0).
+      rests_found _ laws (front g) front_stands.few (safe_rests (with_passed g.passed view) (stands.none none) g.safe) in
+      let leaves = λ (some : 0 < log.steps_left). guarded_leaves _ laws (front g) (front_stands.slots some) image _ _
+      (all_flushed _ _ (laws.last_is_late (length view.under_way)) made) g.safe in
+      let here = has_view {shape = log.shape} g.passed view {image = image} fits g.behind in
+      let then = has_view {shape = log.shape} g.passed (with_record view) {image = image} fits g.behind in
+      grind (arith, cases_lt 0 log.steps_left, rests, leaves, stands.short, append_assoc, here, then)
 
   pub guard_leaves : MayLeave size log view image
   guard_leaves = ⊎_elim inl (λ both. inr (inl both)) guard_logged
@@ -173,16 +171,12 @@ module _ {shape : Shape} {head : ℕ} {view : View} {made turned retire : ℕ} {
 
 -- ---- what a log and its medium hold
 
--- as many entries as block numbers
-pub count_of : (numbers : List ℕ) (entries : List Entry) → numbers ≡ numbers_of entries → length numbers ≡ length entries
-count_of numbers entries is = rw is (length-map entries (λ e. e.0))
-
 -- blocks of 512 bytes under these numbers are a record
 pub record_entries : (shape : Shape) (stamp : ℕ) (numbers : List ℕ) (entries : List Entry) → IsSized shape → IsRecord shape stamp numbers
     → numbers ≡ numbers_of entries → All (λ (e : Entry). length e.1 ≡ 512) entries
     → IsRecordOf (layout_of shape.format) shape.blocks stamp entries
 record_entries shape stamp numbers entries sized rec is full =
-    let count : length numbers ≡ length entries = count_of numbers entries is in
+    let count : length numbers ≡ length entries = rw is (length-map entries (λ e. e.0)) in
     let now = rw is at rec.numbers_are in
     let small : All (λ b. b < 2 ^ 31) (numbers_of entries) = λ j d below. omega (arith, now.inside j d below, sized.small) in
     search (rules, arith, rec.most, now.few, most_is shape.format)
@@ -190,11 +184,7 @@ record_entries shape stamp numbers entries sized rec is full =
 -- so have those of records
 pub counts_of : {waiting : List (List ℕ)} (records : List (List Entry)) → waiting ≡ map (λ r. numbers_of r) records → (j : ℕ)
     → length (get_or waiting j []) ≡ length (get_or records j [])
-counts_of records is j = count_of _ _ (rw is (get_or-map (λ r. numbers_of r) records j []))
-
--- where it needs one its blocks are home
-pub all_turned : (log : LogValue) → needed_of log ≡ 1 → length (get_or log.waiting 0 []) ≤ turned_of log
-all_turned log one = omega (arith, needed_one log.ahead log.head (log.head + length log.waiting) (of_oldest log) one)
+counts_of records is j = rw (is, get_or-map (λ r. numbers_of r) records j []) (length-map (get_or records j []) (λ e. e.0))
 
 -- the same records, with other counts
 abbrev pub going : LogValue → ℕ → ℕ → Ahead → Bool → LogValue
@@ -212,7 +202,7 @@ module _ {log : LogValue} {m : State} {view : View} (hv : HoldsView log m view) 
   count = counts_of view.records hv.durable
 
   pub under_count : length log.under_way ≡ length view.under_way
-  under_count = count_of log.under_way view.under_way hv.under_way
+  under_count = rw hv.under_way (length-map view.under_way (λ e. e.0))
 
   pub going_held : (left retire : ℕ) (ahead : Ahead) (dead : Bool) (new : State) → new.size ≡ m.size
       → (view.ours ≡ true → EachCut (MayLeave m.size (going log left retire ahead dead) view) new)

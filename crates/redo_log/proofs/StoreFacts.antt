@@ -13,17 +13,17 @@ use Rattle.journal.specs.Standing.{Keeps, IsOurs}
 use Rattle.journal.proofs.BatchEntries.{numbers_of_batch, length_of_batch, sized_batch}
 use Rattle.journal.proofs.Engine.{rests_found, Guarded-lost, Guarded-write, Stored-write, other_written, Stored-durable, carries_below}
 use Rattle.journal.proofs.Formats.{laws_of}
-use Rattle.redo_log.specs.Value.{LogValue, HasRoom, IsCovered, retire_steps_of, behind_oldest, idle_from, begun, died, settled, IsBatch}
+use Rattle.redo_log.specs.Value.{LogValue, of_oldest, HasRoom, IsCovered, retire_steps_of, behind_oldest, idle_from, begun, died, settled, IsBatch}
 use Rattle.redo_log.specs.Value.{steps_of, steps_for, IsStepped}
 use Rattle.redo_log.specs.Shown.{flush_of}
 use Rattle.redo_log.specs.Held.{View, resting_view, IsStored, IsGuarded, HasNoRecord, with_begun, made_of, turned_of, needed_of, MayLeave}
 use Rattle.redo_log.specs.Held.{Safe, with_passed, image_view, HoldsView, with_record, view_stepped, written_of, flushed_of, HasDurable}
 use Rattle.redo_log.specs.Held.{HasHead, AreHome}
 use Rattle.redo_log.proofs.RecordSteps.{steps_some, steps_are, due_or_not, last_call, not_last, early_written, part_written}
-use Rattle.redo_log.proofs.LogRules.{needed_covered, made_is, none_made, IsLog, durable_of, durable_alone, durable_more}
+use Rattle.redo_log.proofs.LogRules.{needed_covered, needed_one, made_is, none_made, IsLog, durable_of, durable_alone, durable_more}
 use Rattle.redo_log.proofs.HeldLog.{rests_safe, safe_rests, keeps_stored, with_newest, same_head, put_head, put_safe, has_view}
 use Rattle.redo_log.proofs.HeldLog.{Stores-stays, count, under_count, going_held, Stands, stands_idle, same_stamp, stands_front}
-use Rattle.redo_log.proofs.HeldLog.{guard_logged, guard_leaves, safe_here, all_turned, counts_of, many, stands_then, stands_now, goes_on}
+use Rattle.redo_log.proofs.HeldLog.{guard_logged, guard_leaves, safe_here, counts_of, many, stands_then, stands_now, goes_on}
 use Rattle.redo_log.proofs.HeldLog.{record_entries, before_home}
 use Rattle.redo_log.proofs.NewestCopy.{durable_kept}
 pub use Rattle.redo_log.proofs.HeldLog.{quiet_held, put_head}
@@ -170,7 +170,7 @@ module _ {log : LogValue} (is : IsLog log) (live : log.dead ≡ false) (some : 0
           (Stores-stays s (made_of more_log) (turned_of log) new.content wrote.0 (omega (arith, after.0)) (λ i low high. low))
           (λ ours. each_flush _ old.content new wrote.1 (with_newest
           (rw (after.0, after.1) (record { stored = s.stored; carries = (safe_here sound s (hv.guards live ours)).carries }))
-          (λ one i inside. s.copied i (omega (arith, inside, all_turned log one, count hv 0)) inside)))
+          (λ one i inside. s.copied i (omega (arith, inside, needed_one log.ahead log.head _ (of_oldest log) one, count hv 0)) inside)))
 
       -- ---- a flush of all parts: the record is durable
       all_flushed : log.steps_left ≡ 1 → IsDone here.call old new → HoldsView (durable_of log) new (with_record view)
@@ -191,7 +191,7 @@ module _ {log : LogValue} (is : IsLog log) (live : log.dead ≡ false) (some : 0
           let guards : view.ours ≡ true → IsGuarded (durable_of log) (with_record view) new = λ ours.
           let carries = carries_below _ (laws_of _) _ (stands.slots some) old.content _ _ (safe_here sound s (hv.guards live ours)) in
           each_flush _ old.content new wrote.1 (with_newest (rests_safe (with_record view) refl (grind (arith, keeps, carries, longer)))
-          (λ one i inside. copied i (omega (arith, inside, all_turned (durable_of log) one, counts_of (view.records ++ view.under_way ∷ []) durable 0)) inside)) in
+          (λ one i inside. copied i (omega (arith, inside, needed_one log.ahead log.head _ (of_oldest (durable_of log)) one, counts_of (view.records ++ view.under_way ∷ []) durable 0)) inside)) in
           let few : length (view.records ++ view.under_way ∷ []) ≤ log.shape.slots = omega (arith, (stands.slots some).room, longer) in
           let firsts = durable_kept log.shape.format view.records view.under_way log.firsts hv.firsts (omega (arith, (stands.slots some).under_way.fit.some)) in
           let leaves : view.ours ≡ true → EachCut (MayLeave new.size (durable_of log) (with_record view)) new =
