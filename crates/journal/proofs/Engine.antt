@@ -143,7 +143,7 @@ module _ (L : Layout) (laws : Laws L) (v : View) (slots : HasSlots L v) where
       let below : k < L.parts (length v.under_way) = omega arith in
       let stays = part_stays {p = last L v} write below (omega arith) (λ e. omega arith) in
       let or_free = part_or_free before k durable (last L v) g (omega arith) in
-      let none = last_free_none L laws v.shape image (stamp_of v) (rw (← (laws.last (length v.under_way))) (grind (arith, or_free, stays))) in
+      let none = last_free_none L laws v.shape image (stamp_of v) (rw (← laws.last (length v.under_way)) (grind (arith, or_free, stays))) in
       let keeps = keeps_stays before image _ (L.part (stamp_of v) other k) (inside k below) write g.stored.keeps in
       let carries : CarriesBelowIn L v.shape image (stamp_of v + 1) = λ slot o t low small carries.
       let place : ℕ = 2 + L.slot_sectors * slot + o in
@@ -197,8 +197,8 @@ module _ (L : Layout) (laws : Laws L) (v : View) (slots : HasSlots L v) where
 pub IsWholeIn-same : (L : Layout) → Laws L → (shape : Shape) → 1 ≤ shape.slots → (before image : Image)
     → Agree 2 (2 + L.slot_sectors * shape.slots) image before → (stamp : ℕ) (entries : List Entry)
     → IsWholeIn L shape before stamp entries → IsWholeIn L shape image stamp entries
-IsWholeIn-same L laws shape some before image same stamp entries =
-    IsWhole-same L laws shape before image stamp entries (λ x from to. same x (omega arith) (omega (arith, slot_inside L laws shape stamp some)))
+IsWholeIn-same L laws shape some before image same stamp entries = IsWhole-same L laws shape before image stamp entries
+    (λ x from to. same x (omega arith) (omega (arith, slot_inside L laws shape stamp some)))
 
 -- where this view becomes that one, the record under way stays as far as it is written
 pub record IsKept (L : Layout) (v w : View) (before image : Image) : Type 0 where
@@ -227,7 +227,7 @@ module _ (L : Layout) (laws : Laws L) (v : View) (behind : 2 + L.slot_sectors * 
         guarded = λ g. record {
           stored = stored _ g.stored;
           carries = λ slot o low small.
-              grind (arith, next, log (2 + L.slot_sectors * slot + o), in_log L.slot_sectors slot v.shape.slots o low small, g.carries slot o);
+              grind (arith, next, log (2 + L.slot_sectors * slot + o), in_log _ slot _ o low small, g.carries slot o);
         };
       }
 
@@ -253,6 +253,6 @@ module _ (L : Layout) (laws : Laws L) (v : View) (behind : 2 + L.slot_sectors * 
       IsWholeIn-same L laws v.shape g.super.some_slots before image log (v.head + 1 + j) (get_or (drop 1 v.records) j [])
       (rw (get_or-drop 1 v.records j []) (grind (arith, g.whole (1 + j), fewer))) in
       let first = with_blocks-home (get_or v.records 0 []) (home_of v.shape before) in
-      let others = with_records-same (drop 1 v.records) (home_of v.shape image) (with_blocks (get_or v.records 0 []) (home_of v.shape before)) in
+      let others = with_records-same (drop 1 v.records) (home_of v.shape image) in
       let here = drop-cons v.records 0 [] waits in
       grind (arith, write.here, write.elsewhere, g))

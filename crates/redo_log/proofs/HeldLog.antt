@@ -252,7 +252,7 @@ pub quiet_held : (log : LogValue) (view : View) (old new : State) → IsQuiet ol
 quiet_held log view old new quiet holds =
     going_held holds log.steps_left log.retire_steps_left log.ahead log.dead new quiet.size_stays
     (λ ours. shrunk (MayLeave old.size log view) old new quiet.sets_shrink (holds.leaves ours))
-    (λ live. Stores-stays (holds.stores live) (made_of log) (turned_of log) new.content quiet.content_stays (omega arith) (λ i low high. low))
+    (λ live. Stores-stays (holds.stores live) _ _ new.content quiet.content_stays (omega arith) (λ i low high. low))
     (λ live ours. shrunk _ old new quiet.sets_shrink (holds.guards live ours))
 
 -- no call leaves what a cut may leave
@@ -267,7 +267,7 @@ leaves_none log m sound =
 pub before_home : (shape : Shape) → IsSized shape → (stamp o : ℕ) → o < (layout_of shape.format).slot_sectors
     → 2 + (layout_of shape.format).slot_sectors * (stamp % shape.slots) + o < shape.home
 before_home shape sized stamp o small =
-    let low = in_log _ (stamp % shape.slots) shape.slots o (mod_below stamp shape.slots sized.some) small in omega (arith, low, sized.behind)
+    let low = in_log _ _ shape.slots o (mod_below stamp shape.slots sized.some) small in omega (arith, low, sized.behind)
 
 module _ (place : ℕ) (bytes : List ℕ) (old : State) (sound : IsSound old) where
   -- a call that writes a sector
