@@ -117,11 +117,8 @@ module _ {shape : Shape} {head : ℕ} {view : View} {made retire : ℕ} {image :
 
     -- and all stand in slots of their own
     pub stands_front : {steps : ℕ} → Stands shape head view steps made → Stands shape g.stamp (with_passed g.passed view) steps made
-    stands_front {steps} stands =
-        let longer = length-append g.passed view.records in
-        let slots : 0 < steps → HasSlots (layout_of shape.format) front = λ some.
-        let under_way = rw same_stamp at (stands.slots some).under_way in grind (arith, stands.slots some, g.room, longer) in
-        search (rules, arith)
+    stands_front stands =
+        grind (arith, stands, stands.slots, g.room, same_stamp, length-append g.passed view.records)
 
 -- what guards a log says what a cut may leave
 module _ {size : ℕ} (log : LogValue) {view : View} {made retire : ℕ} (fits : sectors_of log.shape ≤ size)
@@ -178,8 +175,7 @@ pub record_entries : (shape : Shape) (stamp : ℕ) (numbers : List ℕ) (entries
 record_entries shape stamp numbers entries sized rec is full =
     let count : length numbers ≡ length entries = rw is (length-map entries (λ e. e.0)) in
     let now = rw is at rec.numbers_are in
-    let small : All (λ b. b < 2 ^ 31) (numbers_of entries) = λ j d below. omega (arith, now.inside j d below, sized.small) in
-    search (rules, arith, rec.most, now.few, most_is shape.format)
+    grind (arith, rec, now, sized.small, full, most_is shape.format)
 
 -- so have those of records
 pub counts_of : {waiting : List (List ℕ)} (records : List (List Entry)) → waiting ≡ map (λ r. numbers_of r) records → (j : ℕ)
@@ -225,12 +221,11 @@ module _ {log : LogValue} {m : State} {view : View} (hv : HoldsView log m view) 
     stands_then left made fewer none some_made =
         let L = layout_of log.shape.format in
         let n = length view.under_way in
-        let slots : 0 < left → HasSlots (layout_of log.shape.format) (image_view log.shape log.head view) = λ some.
-        let under_way = record_entries log.shape (log.head + length view.records) log.under_way view.under_way is.sized
+        let under_way = λ (some : 0 < left). record_entries log.shape (log.head + length view.records) log.under_way view.under_way is.sized
         (rw many at (is.record_is (omega (arith, some, fewer)))) hv.under_way hv.sized in
-        search (rules, arith, many, is.room) in
         let steps = ap (λ (k : ℕ). steps_for log.shape.format k) under_count ∙ steps_are log.shape.format n in
-        grind (arith, slots, is.most_left, steps, one_left _ _ ((laws_of log.shape.format).last_is_late n) made, some_made)
+        let one = one_left _ _ ((laws_of log.shape.format).last_is_late n) made in
+        grind (arith, many, is.room, is.sized, under_way, is.most_left, steps, one, some_made)
 
     pub stands_now : Stands log.shape log.head view log.steps_left (made_of log)
     stands_now = stands_then log.steps_left (made_of log) (omega arith) (none_made log) (λ some. omega (arith, made_is log some))

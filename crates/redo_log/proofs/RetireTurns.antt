@@ -57,11 +57,7 @@ module _ {log : LogValue} (is : IsLog log) (live : log.dead ≡ false) (owed : 0
 
     stands_past : Stands log.shape (log.head + 1) (view_retired 1 view) log.steps_left (made_of log)
     stands_past =
-        let stands = stands_now hv is in
-        let fewer = length-drop 1 view.records in
-        let slots : 0 < log.steps_left → HasSlots (layout_of log.shape.format) (with_less v) = λ some.
-        grind (arith, stands.slots some, fewer, waits) in
-        search (rules, arith, stands, fewer)
+        let stands = stands_now hv is in grind (arith, stands, stands.slots, length-drop 1 view.records, waits)
 
     -- at each moment a cut leaves what it might leave before, and with the new head the same array
     pub head_leaves : WritesOnly 1 (head_bytes h.stamp) old new → view.ours ≡ true → LeavesOnly (MayLeave old.size log view) old new
