@@ -45,7 +45,7 @@ module _ (L : Layout) (laws : Laws L) (shape : Shape) where
       grind (arith, late_carries image stamp whole.0 (L.parts n - 1) whole.1, laws.some_parts n, laws.last_is_late n, laws.last n, free)
 
   -- behind the stamps that the log carries no record is whole
-  none_carried : 1 ≤ shape.slots → (image : Image) (end : ℕ) → CarriesBelowIn L shape image end → ¬ HasWholeIn L shape image end
+  pub none_carried : 1 ≤ shape.slots → (image : Image) (end : ℕ) → CarriesBelowIn L shape image end → ¬ HasWholeIn L shape image end
   none_carried some image end c =
       last_free_none image end (λ t. c (end % shape.slots) (L.slot_sectors - 1) t (mod_below end shape.slots some)
       (omega (arith, laws.inside 0 0 (omega arith) (laws.some_parts 0))))
