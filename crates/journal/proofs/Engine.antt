@@ -40,14 +40,12 @@ module _ (L : Layout) (laws : Laws L) (shape : Shape) where
       → IsFree L stamp (L.slot_sectors - 1) (image (slot_at L shape stamp + (L.slot_sectors - 1))) → ¬ HasWholeIn L shape image stamp
   last_free_none image stamp free whole =
       let n = length whole.0 in
-      let late = late_carries image stamp whole.0 (L.parts n - 1) whole.1 in
-      grind (arith, late, laws.some_parts n, laws.last_is_late n, laws.last n, free)
+      grind (arith, late_carries image stamp whole.0 (L.parts n - 1) whole.1, laws.some_parts n, laws.last_is_late n, laws.last n, free)
 
   -- behind the stamps that the log carries no record is whole
   pub none_carried : 1 ≤ shape.slots → (image : Image) (end : ℕ) → CarriesBelowIn L shape image end → ¬ HasWholeIn L shape image end
   none_carried some image end c =
-      let low = mod_below end shape.slots some in
-      last_free_none image end (λ t. c (end % shape.slots) (L.slot_sectors - 1) t low
+      last_free_none image end (λ t. c (end % shape.slots) (L.slot_sectors - 1) t (mod_below end shape.slots some)
       (omega (arith, laws.inside 0 0 (omega arith) (laws.some_parts 0))))
 
 -- an image at rest stands for its array
@@ -108,8 +106,7 @@ module _ (L : Layout) (laws : Laws L) (v : View) (slots : HasSlots L v) where
       ⊎ IsFree L (stamp_of v) (L.offset (length v.under_way) p) (image (at L v p))
   part_or_free image so_far durable p g below =
       let same = λ (q : ℕ). laws.apart (length v.under_way) q p slots.under_way.fit.few in
-      let here = g.carries (stamp_of v % v.shape.slots) _ (mod_below (stamp_of v) v.shape.slots slots.some) (inside p below) in
-      grind (arith, here, same)
+      grind (arith, g.carries (stamp_of v % v.shape.slots) _ (mod_below (stamp_of v) v.shape.slots slots.some) (inside p below), same)
 
   -- a part that was not written now
   part_stays : {before image : Image} {k p : ℕ} {bytes : List ℕ} → Holds (at L v k) bytes before image
@@ -123,9 +120,8 @@ module _ (L : Layout) (laws : Laws L) (v : View) (slots : HasSlots L v) where
       → Stored L v count before → Stored L v next image
   Stored-write {before} {image} k {next = next} below others write s =
       let keeps = keeps_stays before image _ (bytes_of L v k) (inside k below) write s.keeps in
-      let stays = λ (p : ℕ). part_stays {p = p} write below in
       let parts : HasParts L v.shape (stamp_of v) v.under_way next image = λ p low small.
-      grind (arith, cases_eq p k, write.here, stays p small, others p low, s.parts p) in
+      grind (arith, cases_eq p k, write.here, part_stays {p = p} write below small, others p low, s.parts p) in
       search rules
 
   -- part k reached the medium
@@ -145,7 +141,7 @@ module _ (L : Layout) (laws : Laws L) (v : View) (slots : HasSlots L v) where
       let below : k < L.parts (length v.under_way) = omega arith in
       let stays = part_stays {p = last L v} write below (omega arith) (λ e. omega arith) in
       let or_free = part_or_free before k durable (last L v) g (omega arith) in
-      let none = last_free_none L laws v.shape image (stamp_of v) (rw (← (laws.last (length v.under_way))) (grind (arith, or_free, stays))) in
+      let none = last_free_none L laws v.shape image (stamp_of v) (rw (← laws.last (length v.under_way)) (grind (arith, or_free, stays))) in
       let keeps = keeps_stays before image _ (L.part (stamp_of v) other k) (inside k below) write g.stored.keeps in
       let carries : CarriesBelowIn L v.shape image (stamp_of v + 1) = λ slot o t low small carries.
       let place : ℕ = 2 + L.slot_sectors * slot + o in
@@ -199,8 +195,8 @@ module _ (L : Layout) (laws : Laws L) (v : View) (slots : HasSlots L v) where
 pub IsWholeIn-same : (L : Layout) → Laws L → (shape : Shape) → 1 ≤ shape.slots → (before image : Image)
     → Agree 2 (2 + L.slot_sectors * shape.slots) image before → (stamp : ℕ) (entries : List Entry)
     → IsWholeIn L shape before stamp entries → IsWholeIn L shape image stamp entries
-IsWholeIn-same L laws shape some before image same stamp entries =
-    IsWhole-same L laws shape before image stamp entries (λ x from to. same x (omega arith) (omega (arith, slot_inside L laws shape stamp some)))
+IsWholeIn-same L laws shape some before image same stamp entries = IsWhole-same L laws shape before image stamp entries
+    (λ x from to. same x (omega arith) (omega (arith, slot_inside L laws shape stamp some)))
 
 -- where this view becomes that one, the record under way stays as far as it is written
 pub record IsKept (L : Layout) (v w : View) (before image : Image) : Type 0 where
@@ -229,7 +225,7 @@ module _ (L : Layout) (laws : Laws L) (v : View) (behind : 2 + L.slot_sectors * 
         guarded = λ g. record {
           stored = stored _ g.stored;
           carries = λ slot o low small.
-              grind (arith, next, log (2 + L.slot_sectors * slot + o), in_log L.slot_sectors slot v.shape.slots o low small, g.carries slot o);
+              grind (arith, next, log (2 + L.slot_sectors * slot + o), in_log _ slot _ o low small, g.carries slot o);
         };
       }
 
@@ -255,6 +251,6 @@ module _ (L : Layout) (laws : Laws L) (v : View) (behind : 2 + L.slot_sectors * 
       IsWholeIn-same L laws v.shape g.super.some_slots before image log (v.head + 1 + j) (get_or (drop 1 v.records) j [])
       (rw (get_or-drop 1 v.records j []) (grind (arith, g.whole (1 + j), fewer))) in
       let first = with_blocks-home (get_or v.records 0 []) (home_of v.shape before) in
-      let others = with_records-same (drop 1 v.records) (home_of v.shape image) (with_blocks (get_or v.records 0 []) (home_of v.shape before)) in
+      let others = with_records-same (drop 1 v.records) (home_of v.shape image) in
       let here = drop-cons v.records 0 [] waits in
       grind (arith, write.here, write.elsewhere, g))

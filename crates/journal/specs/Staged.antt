@@ -70,12 +70,6 @@ module _ (L : Layout) (shape : Shape) (stamp : ℕ) (entries : List Entry) where
     pub place_is : sector ≡ part_at L shape stamp (length entries) part
     pub there : bytes ≡ L.part stamp entries part
 
-  -- each sector of the log is such a part, or it carries stamps below this one alone
-  abbrev pub CarriesSoFar : ℕ → Image → Type 0
-  CarriesSoFar so_far image = (slot o : ℕ) → slot < shape.slots → o < L.slot_sectors
-      → IsPart so_far (2 + L.slot_sectors * slot + o) (image (2 + L.slot_sectors * slot + o))
-      ⊎ IsFree L stamp o (image (2 + L.slot_sectors * slot + o))
-
 -- the durable records are there, and the first `count` parts of the record under way
 pub record Stored (L : Layout) (v : View) (count : ℕ) (image : Image) : Type 0 where
   pub keeps : KeepsView L v image
@@ -85,7 +79,10 @@ pub record Stored (L : Layout) (v : View) (count : ℕ) (image : Image) : Type 0
 -- other sector of the log carries its stamp or a later one.
 pub record Guarded (L : Layout) (v : View) (so_far durable : ℕ) (image : Image) : Type 0 where
   pub stored : Stored L v durable image
-  pub carries : CarriesSoFar L v.shape (stamp_of v) v.under_way so_far image
+  pub carries : (slot o : ℕ) → slot < v.shape.slots → o < L.slot_sectors
+      → IsPart L v.shape (stamp_of v) v.under_way so_far (2 + L.slot_sectors * slot + o)
+      (image (2 + L.slot_sectors * slot + o))
+      ⊎ IsFree L (stamp_of v) o (image (2 + L.slot_sectors * slot + o))
 
 -- a log of this view has room for one record more, the one under way
 pub record HasSlots (L : Layout) (v : View) : Type 0 where

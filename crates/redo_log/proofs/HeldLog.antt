@@ -80,9 +80,8 @@ has_view {stamp = stamp} {head = head} passed view fits behind found =
 pub has_before : {size : ℕ} {shape : Shape} {head : ℕ} (first : List Entry) {view : View} {image : Image} → IsWhole shape image head first
     → HasView size shape (head + 1) view image → HasView size shape head (with_passed (first ∷ []) view) image
 has_before {head = head} first {view} whole has =
-    let next : head + 1 + length view.records + 1 ≡ head + length (first ∷ view.records) + 1 = omega arith in
     let behind = λ (j : ℕ). get_or-append-add (first ∷ []) view.records (j - 1) [] in
-    record { whole = λ j below. grind (arith, cases_eq j 0, behind j, whole, has.whole (j - 1)); ours = rw next at has.ours }
+    record { whole = λ j below. grind (arith, cases_eq j 0, behind j, whole, has.whole (j - 1)); ours = grind (arith, has.ours) }
 
 module _ {shape : Shape} {head : ℕ} {view : View} {made retire : ℕ} {image : Image} where
   -- the newest head is there
@@ -118,11 +117,8 @@ module _ {shape : Shape} {head : ℕ} {view : View} {made retire : ℕ} {image :
 
     -- and all stand in slots of their own
     pub stands_front : {steps : ℕ} → Stands shape head view steps made → Stands shape g.stamp (with_passed g.passed view) steps made
-    stands_front {steps} stands =
-        let longer = length-append g.passed view.records in
-        let slots : 0 < steps → HasSlots (layout_of shape.format) front = λ some.
-        let under_way = rw same_stamp at (stands.slots some).under_way in grind (arith, stands.slots some, g.room, longer) in
-        search (rules, arith)
+    stands_front stands =
+        grind (arith, stands, stands.slots, g.room, same_stamp, length-append g.passed view.records)
 
 -- what guards a log says what a cut may leave
 module _ {size : ℕ} (log : LogValue) {view : View} {made retire : ℕ} (fits : sectors_of log.shape ≤ size)
@@ -131,17 +127,15 @@ module _ {size : ℕ} (log : LogValue) {view : View} {made retire : ℕ} (fits :
   -- the durable records are whole, or with the one under way, whichever head is there
   pub guard_logged : HasDurable size log view image ⊎ HasUnderWay size log view image
   guard_logged =
+      let laws = laws_of log.shape.format in
       let front_stands = stands_front g stands in
-      elim (cases_lt 0 log.steps_left) [
-        | inl some ↦ ⊎_elim
-            (λ rest. inl (has_view g.passed view fits g.behind rest))
-            (λ both. inr (some, stands.short both.0, has_view g.passed (with_record view) fits g.behind (rw append_assoc at both.1)))
-            (guarded_leaves _ (laws_of log.shape.format) (front g) (front_stands.slots some) image _ _
-            (all_flushed _ _ ((laws_of log.shape.format).last_is_late (length view.under_way)) made) g.safe)
-        | inr none ↦
-            let rests = safe_rests (with_passed g.passed view) (stands.none (omega arith)) g.safe in
-            inl (has_view g.passed view fits g.behind (rests_found _ (laws_of log.shape.format) (front g) front_stands.few rests))
-      ]
+      let rests = λ (none : log.steps_left ≡ 0).
+      rests_found _ laws (front g) front_stands.few (safe_rests (with_passed g.passed view) (stands.none none) g.safe) in
+      let leaves = λ (some : 0 < log.steps_left). guarded_leaves _ laws (front g) (front_stands.slots some) image _ _
+      (all_flushed _ _ (laws.last_is_late (length view.under_way)) made) g.safe in
+      let here = has_view {shape = log.shape} g.passed view {image = image} fits g.behind in
+      let then = has_view {shape = log.shape} g.passed (with_record view) {image = image} fits g.behind in
+      grind (arith, cases_lt 0 log.steps_left, rests, leaves, stands.short, append_assoc, here, then)
 
   pub guard_leaves : MayLeave size log view image
   guard_leaves = ⊎_elim inl (λ both. inr (inl both)) guard_logged
@@ -174,28 +168,19 @@ module _ {shape : Shape} {head : ℕ} {view : View} {made turned retire : ℕ} {
 
 -- ---- what a log and its medium hold
 
--- as many entries as block numbers
-pub count_of : (numbers : List ℕ) (entries : List Entry) → numbers ≡ numbers_of entries → length numbers ≡ length entries
-count_of numbers entries is = rw is (length-map entries (λ e. e.0))
-
 -- blocks of 512 bytes under these numbers are a record
 pub record_entries : (shape : Shape) (stamp : ℕ) (numbers : List ℕ) (entries : List Entry) → IsSized shape → IsRecord shape stamp numbers
     → numbers ≡ numbers_of entries → All (λ (e : Entry). length e.1 ≡ 512) entries
     → IsRecordOf (layout_of shape.format) shape.blocks stamp entries
 record_entries shape stamp numbers entries sized rec is full =
-    let count : length numbers ≡ length entries = count_of numbers entries is in
+    let count : length numbers ≡ length entries = rw is (length-map entries (λ e. e.0)) in
     let now = rw is at rec.numbers_are in
-    let small : All (λ b. b < 2 ^ 31) (numbers_of entries) = λ j d below. omega (arith, now.inside j d below, sized.small) in
-    search (rules, arith, rec.most, now.few, most_is shape.format)
+    grind (arith, rec, now, sized.small, full, most_is shape.format)
 
 -- so have those of records
 pub counts_of : {waiting : List (List ℕ)} (records : List (List Entry)) → waiting ≡ map (λ r. numbers_of r) records → (j : ℕ)
     → length (get_or waiting j []) ≡ length (get_or records j [])
-counts_of records is j = count_of _ _ (rw is (get_or-map (λ r. numbers_of r) records j []))
-
--- where it needs one its blocks are home
-pub all_turned : (log : LogValue) → needed_of log ≡ 1 → length (get_or log.waiting 0 []) ≤ turned_of log
-all_turned log one = omega (arith, needed_one log.ahead log.head (log.head + length log.waiting) (of_oldest log) one)
+counts_of records is j = rw (is, get_or-map (λ r. numbers_of r) records j []) (length-map (get_or records j []) (λ e. e.0))
 
 -- the same records, with other counts
 abbrev pub going : LogValue → ℕ → ℕ → Ahead → Bool → LogValue
@@ -213,7 +198,7 @@ module _ {log : LogValue} {m : State} {view : View} (hv : HoldsView log m view) 
   count = counts_of view.records hv.durable
 
   pub under_count : length log.under_way ≡ length view.under_way
-  under_count = count_of log.under_way view.under_way hv.under_way
+  under_count = rw hv.under_way (length-map view.under_way (λ e. e.0))
 
   pub going_held : (left retire : ℕ) (ahead : Ahead) (dead : Bool) (new : State) → new.size ≡ m.size
       → (view.ours ≡ true → EachCut (MayLeave m.size (going log left retire ahead dead) view) new)
@@ -236,13 +221,11 @@ module _ {log : LogValue} {m : State} {view : View} (hv : HoldsView log m view) 
     stands_then left made fewer none some_made =
         let L = layout_of log.shape.format in
         let n = length view.under_way in
-        let slots : 0 < left → HasSlots (layout_of log.shape.format) (image_view log.shape log.head view) = λ some.
-        let under_way = record_entries log.shape (log.head + length view.records) log.under_way view.under_way is.sized
+        let under_way = λ (some : 0 < left). record_entries log.shape (log.head + length view.records) log.under_way view.under_way is.sized
         (rw many at (is.record_is (omega (arith, some, fewer)))) hv.under_way hv.sized in
-        search (rules, arith, many, is.room) in
         let steps = ap (λ (k : ℕ). steps_for log.shape.format k) under_count ∙ steps_are log.shape.format n in
-        let left_one = one_left _ _ ((laws_of log.shape.format).last_is_late n) made in
-        grind (arith, slots, is.most_left, steps, left_one, some_made)
+        let one = one_left _ _ ((laws_of log.shape.format).last_is_late n) made in
+        grind (arith, many, is.room, is.sized, under_way, is.most_left, steps, one, some_made)
 
     pub stands_now : Stands log.shape log.head view log.steps_left (made_of log)
     stands_now = stands_then log.steps_left (made_of log) (omega arith) (none_made log) (λ some. omega (arith, made_is log some))
@@ -264,7 +247,7 @@ pub quiet_held : (log : LogValue) (view : View) (old new : State) → IsQuiet ol
 quiet_held log view old new quiet holds =
     going_held holds log.steps_left log.retire_steps_left log.ahead log.dead new quiet.size_stays
     (λ ours. shrunk (MayLeave old.size log view) old new quiet.sets_shrink (holds.leaves ours))
-    (λ live. Stores-stays (holds.stores live) (made_of log) (turned_of log) new.content quiet.content_stays (omega arith) (λ i low high. low))
+    (λ live. Stores-stays (holds.stores live) _ _ new.content quiet.content_stays (omega arith) (λ i low high. low))
     (λ live ours. shrunk _ old new quiet.sets_shrink (holds.guards live ours))
 
 -- no call leaves what a cut may leave
@@ -279,7 +262,7 @@ leaves_none log m sound =
 pub before_home : (shape : Shape) → IsSized shape → (stamp o : ℕ) → o < (layout_of shape.format).slot_sectors
     → 2 + (layout_of shape.format).slot_sectors * (stamp % shape.slots) + o < shape.home
 before_home shape sized stamp o small =
-    let low = in_log _ (stamp % shape.slots) shape.slots o (mod_below stamp shape.slots sized.some) small in omega (arith, low, sized.behind)
+    let low = in_log _ _ shape.slots o (mod_below stamp shape.slots sized.some) small in omega (arith, low, sized.behind)
 
 module _ (place : ℕ) (bytes : List ℕ) (old : State) (sound : IsSound old) where
   -- a call that writes a sector

@@ -50,18 +50,14 @@ module _ {log : LogValue} (is : IsLog log) (live : log.dead ≡ false) (owed : 0
         let g = hv.guards live ours image cut in
         let f = g.flushed (grind (arith, one)) in (newest g f.0, f.1)
 
-    past : {before image : Image} → IsHomed v before → Holds 1 (head_bytes h.stamp) before image → IsKept (layout_of log.shape.format) v (with_less v) before image
-    past homed write =
-        kept_head _ (laws_of _) v is.sized.behind fit waits (rw (← stamp_is) (record { spelled = refl; least = h.least; most = h.most })) homed write
+    past : {before image : Image} → IsHomed v before → Holds 1 (head_bytes h.stamp) before image
+        → IsKept (layout_of log.shape.format) v (with_less v) before image
+    past homed write = kept_head _ (laws_of _) v is.sized.behind fit waits
+        (rw (← stamp_is) (record { spelled = refl; least = h.least; most = h.most })) homed write
 
     stands_past : Stands log.shape (log.head + 1) (view_retired 1 view) log.steps_left (made_of log)
     stands_past =
-        let stands = stands_now hv is in
-        let fewer = length-drop 1 view.records in
-        let same : log.head + 1 + length (drop 1 view.records) ≡ log.head + length view.records = omega (arith, fewer, waits) in
-        let slots : 0 < log.steps_left → HasSlots (layout_of log.shape.format) (with_less v) = λ some.
-        grind (arith, stands.slots some, fewer, same) in
-        search (rules, arith, stands, fewer)
+        let stands = stands_now hv is in grind (arith, stands, stands.slots, length-drop 1 view.records, waits)
 
     -- at each moment a cut leaves what it might leave before, and with the new head the same array
     pub head_leaves : WritesOnly 1 (head_bytes h.stamp) old new → view.ours ≡ true → LeavesOnly (MayLeave old.size log view) old new
@@ -71,7 +67,7 @@ module _ {log : LogValue} (is : IsLog log) (live : log.dead ≡ false) (owed : 0
         (λ before image write both.
         let g = with_newest {retire = 0} ((past both.1 write).guarded both.0) (λ none. absurd (omega (arith, none))) in
         let first = IsWholeIn-same _ (laws_of _) log.shape is.sized.some before image
-        (λ x low high. write.elsewhere x (λ e. omega (arith, low, e))) log.head oldest (rw add-zero at (both.0.stored.keeps.whole 0 waits)) in
+        (λ x low high. write.elsewhere x (λ e. omega (arith, low, e))) _ _ (rw add-zero at (both.0.stored.keeps.whole 0 waits)) in
         let more = has_before {size = old.size} oldest {view = with_record (view_retired 1 view)} first in
         grind (arith, guard_logged (retired_of log) hv.fits stands_past g, more, drop-cons view.records 0 [] waits, one)))
 
@@ -88,8 +84,7 @@ module _ {log : LogValue} (is : IsLog log) (live : log.dead ≡ false) (owed : 0
         let leaves : view.ours ≡ true → EachCut (MayLeave new.size (retired_of log) (view_retired 1 view)) new =
         λ ours image cut. guard_leaves (retired_of log) fits stands_past (guards ours image cut) in
         let s = hv.stores live in
-        let homed : IsHomed v old.content = λ i inside. s.copied i (omega (arith, inside, one, count hv 0)) inside in
-        let stored = (past homed wrote).stored s.stored in
+        let stored = (past (λ i inside. s.copied i (omega (arith, inside, one, count hv 0)) inside) wrote).stored s.stored in
         let copied : AreHome log.shape (get_or (drop 1 view.records) 0 []) (turned_of (retired_of log)) new.content =
         λ i low high. absurd (nothing_home log i low (omega (arith, high, counts_of (drop 1 view.records) durable 0))) in
         search (rules, arith)
@@ -101,8 +96,7 @@ module _ {log : LogValue} (is : IsLog log) (live : log.dead ≡ false) (owed : 0
     -- so a log that counts it holds what the medium does
     pub retired_held : (then : LogValue) → IsRetireStepped log then → HoldsView (retired_of log) new (view_retired 1 view)
         → HoldsView then new (view_retired (then.head - log.head) view)
-    retired_held then stepped held =
-        let past : log.head + 1 - log.head ≡ 1 = omega arith in rw (stepped.last (omega (arith, one, stepped.some)), past) held
+    retired_held then stepped held = grind (arith, one, stepped.some, stepped.last, held)
 
     -- where it is not flushed yet, a slot is free besides the one that is passed
     pub ahead_held : log.next - log.head < log.shape.slots → new.size ≡ old.size → Gains 1 (head_bytes h.stamp) old.may_leave new.may_leave
@@ -150,7 +144,8 @@ module _ {log : LogValue} (is : IsLog log) (live : log.dead ≡ false) (owed : 0
       home_each ours mid gains not = each_write _ _ old mid to block.1 sound gains (hv.guards live ours)
           (λ image g. same_head g g.safe (λ one. absurd (not one)))
           (λ before image write g. same_head g
-          ((kept_home _ (laws_of _) (front g) is.sized.behind fit block.0 (hides_behind g.passed _ _ (records-hide view.records 0 _ waits inside)) write).guarded g.safe)
+          ((kept_home _ (laws_of _) (front g) is.sized.behind fit block.0
+          (hides_behind g.passed _ _ (records-hide view.records 0 _ waits inside)) write).guarded g.safe)
           (λ one. absurd (not one)))
 
       home_held : (ahead : Ahead) → needed_of (record log { retire_steps_left = log.retire_steps_left - 1; ahead = ahead }) ≢ 1
@@ -161,7 +156,7 @@ module _ {log : LogValue} (is : IsLog log) (live : log.dead ≡ false) (owed : 0
           let write = brings.1 done in
           goes_on hv is log.steps_left (log.retire_steps_left - 1) ahead new (omega arith) same_size live
           (record {
-            stored = (kept_home _ (laws_of _) v is.sized.behind fit block.0 (records-hide view.records 0 _ waits inside) write).stored s.stored;
+            stored = (kept_home _ (laws_of _) v is.sized.behind fit _ (records-hide view.records 0 _ waits inside) write).stored s.stored;
             copied = λ j low high.
                 let up = (rw (named hv 0) at (is.each 0 [] (one_waits is owed)).rising) j (turned_of log) in
                 let number = λ (i : ℕ). get_or-map (λ (e : Entry). e.0) oldest i (0, []) in
@@ -182,8 +177,8 @@ module _ {log : LogValue} (is : IsLog log) (live : log.dead ≡ false) (owed : 0
     -- at each moment a cut leaves what it might leave before
     pub turn_leaves : view.ours ≡ true → LeavesOnly (MayLeave old.size log view) old new
     turn_leaves ours = by_turn
-        (λ below. moments_have (MayLeave old.size log view) (to below) (block below).1 old new (brings below).0
-        (λ mid gains image cut. guard_leaves log {retire = 0} hv.fits (stands_now hv is) (home_each below ours mid gains (omega arith) image cut)))
+        (λ below. moments_have (MayLeave old.size log view) (to below) (block below).1 old new (brings below).0 (λ mid gains image cut.
+        guard_leaves log {retire = 0} hv.fits (stands_now hv is) (home_each below ours mid gains (omega arith) image cut)))
         (λ two flush. quiet_leaves (MayLeave old.size log view) old new sound (hv.leaves ours) (rw flush at adds))
         (λ one h head stamp. head_leaves one h stamp new (rw head at adds) ours)
 
@@ -204,7 +199,7 @@ module _ {log : LogValue} (is : IsLog log) (live : log.dead ≡ false) (owed : 0
           let there : length oldest ≤ turned_of log = omega (arith, two, count hv 0) in
           rw (stepped.more (omega (arith, two, stepped.some)), here)
           (goes_on hv is log.steps_left (log.retire_steps_left - 1) log.ahead new (omega arith) same_size live
-          (Stores-stays s (made_of log) (turned_of (settled log)) new.content wrote.0 (omega arith) (λ i low high. omega (arith, high, there)))
+          (Stores-stays s _ (turned_of (settled log)) new.content wrote.0 (omega arith) (λ i low high. omega (arith, high, there)))
           (λ ours. each_flush _ old.content new wrote.1 (with_newest (safe_here sound s (hv.guards live ours))
           (λ _ i inside. s.copied i (omega (arith, inside, there)) inside)))))
           (λ one h head stamp.

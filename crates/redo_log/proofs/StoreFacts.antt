@@ -13,17 +13,17 @@ use Rattle.journal.specs.Standing.{Keeps, IsOurs}
 use Rattle.journal.proofs.BatchEntries.{numbers_of_batch, length_of_batch, sized_batch}
 use Rattle.journal.proofs.Engine.{rests_found, Guarded-lost, Guarded-write, Stored-write, other_written, Stored-durable, carries_below}
 use Rattle.journal.proofs.Formats.{laws_of}
-use Rattle.redo_log.specs.Value.{LogValue, HasRoom, IsCovered, retire_steps_of, behind_oldest, idle_from, begun, died, settled, IsBatch}
-use Rattle.redo_log.specs.Value.{steps_of, steps_for, IsStepped}
+use Rattle.redo_log.specs.Value.{LogValue, of_oldest, HasRoom, IsCovered, retire_steps_of, behind_oldest, idle_from, begun, died, settled}
+use Rattle.redo_log.specs.Value.{IsBatch, steps_of, steps_for, IsStepped}
 use Rattle.redo_log.specs.Shown.{flush_of}
 use Rattle.redo_log.specs.Held.{View, resting_view, IsStored, IsGuarded, HasNoRecord, with_begun, made_of, turned_of, needed_of, MayLeave}
-use Rattle.redo_log.specs.Held.{Safe, with_passed, image_view, HoldsView, with_record, view_stepped, written_of, flushed_of, HasDurable}
-use Rattle.redo_log.specs.Held.{HasHead, AreHome}
+use Rattle.redo_log.specs.Held.{Safe, with_passed, image_view, HoldsView, with_record, view_stepped, written_of, HasDurable, HasHead}
+use Rattle.redo_log.specs.Held.{AreHome}
 use Rattle.redo_log.proofs.RecordSteps.{steps_some, steps_are, due_or_not, last_call, not_last, early_written, part_written}
-use Rattle.redo_log.proofs.LogRules.{needed_covered, made_is, none_made, IsLog, durable_of, durable_alone, durable_more}
+use Rattle.redo_log.proofs.LogRules.{needed_covered, needed_one, made_is, none_made, IsLog, durable_of, durable_alone, durable_more}
 use Rattle.redo_log.proofs.HeldLog.{rests_safe, safe_rests, keeps_stored, with_newest, same_head, put_head, put_safe, has_view}
 use Rattle.redo_log.proofs.HeldLog.{Stores-stays, count, under_count, going_held, Stands, stands_idle, same_stamp, stands_front}
-use Rattle.redo_log.proofs.HeldLog.{guard_logged, guard_leaves, safe_here, all_turned, counts_of, many, stands_then, stands_now, goes_on}
+use Rattle.redo_log.proofs.HeldLog.{guard_logged, guard_leaves, safe_here, counts_of, many, stands_then, stands_now, goes_on}
 use Rattle.redo_log.proofs.HeldLog.{record_entries, before_home}
 use Rattle.redo_log.proofs.NewestCopy.{durable_kept}
 pub use Rattle.redo_log.proofs.HeldLog.{quiet_held, put_head}
@@ -44,7 +44,7 @@ pub idle_holds : (shape : Shape) (next : ℕ) (array : Array) (ours : Bool) (m :
 idle_holds shape next array ours m fits keeps fresh =
     let view : View = resting_view array ours in
     let leaves : ours ≡ true → EachCut (MayLeave m.size (idle_from shape next) (resting_view array ours)) m = λ is image cut.
-    inl (has_view [] view fits (omega arith) (rests_found _ (laws_of shape.format) (image_view shape next view) (omega arith) (fresh is image cut))) in
+    inl (has_view [] view fits (omega arith) (rests_found _ (laws_of _) (image_view shape next view) (omega arith) (fresh is image cut))) in
     let stored = keeps_stored view refl keeps in
     let guards : ours ≡ true → IsGuarded (idle_from shape next) (resting_view array ours) m =
     λ is image cut. with_newest (rests_safe view refl (fresh is image cut)) (λ none. absurd (omega (arith, none))) in
@@ -62,8 +62,7 @@ settled_holds log m view holds covered =
     let needs : needed_of log ≡ needed_of (settled log) = grind (arith, covered.flushes, covers) in
     going_held holds log.steps_left (log.retire_steps_left - 1) log.ahead log.dead m refl
     (λ ours image cut. grind (arith, covered.flushes, holds.leaves ours image cut))
-    (λ live. Stores-stays (holds.stores live) (made_of log) (turned_of (settled log)) m.content (λ s. refl) (omega arith)
-    (λ i low high. omega (arith, high, covered.flushes, count holds 0)))
+    (λ live. Stores-stays (holds.stores live) _ _ m.content (λ s. refl) (omega arith) (λ i low high. omega (arith, covered.flushes, count holds 0)))
     (λ live ours. rw needs at (holds.guards live ours))
 
 -- whichever head an image has, it has the blocks of one that the log's guard speaks of
@@ -92,18 +91,17 @@ begun_holds log m view numbers bytes holds room batch =
     let none_yet : view.under_way ≡ [] =
     nil_from_length view.under_way (omega (arith, under_count holds, ap (λ (l : List ℕ). length l) room.none_under_way)) in
     let behind : behind_oldest next ≡ behind_oldest log + retire_steps_of numbers = grind (arith, room.none_under_way) in
-    let needs : needed_of log ≡ needed_of next = grind (arith, behind) in
     let made : made_of next ≡ 0 = omega (arith, made_is next (steps_some log.shape.format (length numbers))) in
     let under = numbers_of_batch numbers bytes in
     let sized = sized_batch numbers bytes batch.size in
     let leaves : view.ours ≡ true → EachCut (MayLeave m.size next (with_begun E view)) m = λ ours image cut.
     grind (arith, holds.leaves ours image cut, room.no_steps, behind) in
     let stores : log.dead ≡ false → IsStored next (with_begun E view) m = λ live.
-    let stored = keeps_stored (with_begun E view) made (holds.stores live).stored.keeps in search (rules, arith, (holds.stores live).copied) in
+    let stored = keeps_stored (with_begun E view) made (holds.stores live).stored.keeps in search (rules, arith, holds.stores live) in
     let guards : log.dead ≡ false → view.ours ≡ true → IsGuarded next (with_begun E view) m = λ live ours image cut.
     let g = holds.guards live ours image cut in
     let idle = safe_rests (with_passed g.passed view) (none_made log room.no_steps) g.safe in
-    same_head g (rests_safe (with_passed g.passed (with_begun E view)) made idle) (λ is. g.flushed (needs ∙ is)) in
+    same_head g (rests_safe (with_passed g.passed (with_begun E view)) made idle) (λ is. g.flushed (grind (arith, behind, is))) in
     search (rules, arith, holds)
 
 -- ---- each step of the record under way
@@ -123,6 +121,9 @@ module _ {log : LogValue} (is : IsLog log) (live : log.dead ≡ false) (some : 0
   -- how many parts of it are written
   abbrev k : ℕ
   k = written_of log.shape view (made_of log)
+
+  late : L.early n < L.parts n
+  late = (laws_of log.shape.format).last_is_late n
 
   -- the steps are those of the layout
   all_steps : steps_of log.shape.format log.under_way ≡ L.parts n + 1 + flush_of (L.early n)
@@ -163,20 +164,20 @@ module _ {log : LogValue} (is : IsLog log) (live : log.dead ≡ false) (some : 0
       early_flushed : 1 < log.steps_left → IsFlushDue L n (made_of log) → IsDone here.call old new → HoldsView more_log new view
       early_flushed more due done =
           let wrote = rw (flushes due) at done in
-          let few = not_last _ _ ((laws_of log.shape.format).last_is_late n) (made_of log) (omega (arith, made_is log some, more, all_steps, is.most_left)) in
+          let few = not_last _ _ late (made_of log) (omega (arith, made_is log some, more, all_steps, is.most_left)) in
           let early : (0 < L.early n) × (made_of log ≡ L.early n) = grind (arith, due, few) in
-          let after = early_written _ _ ((laws_of log.shape.format).last_is_late n) (made_of log) (made_of more_log) (then_made more) early.0 early.1 in
+          let after = early_written _ _ late (made_of log) (made_of more_log) (then_made more) early.0 early.1 in
           let s = hv.stores live in
           goes_on hv is (log.steps_left - 1) log.retire_steps_left log.ahead new (omega arith) here.makes.passes.size_stays live
           (Stores-stays s (made_of more_log) (turned_of log) new.content wrote.0 (omega (arith, after.0)) (λ i low high. low))
           (λ ours. each_flush _ old.content new wrote.1 (with_newest
           (rw (after.0, after.1) (record { stored = s.stored; carries = (safe_here sound s (hv.guards live ours)).carries }))
-          (λ one i inside. s.copied i (omega (arith, inside, all_turned log one, count hv 0)) inside)))
+          (λ one i inside. s.copied i (omega (arith, inside, needed_one log.ahead log.head _ (of_oldest log) one, count hv 0)) inside)))
 
       -- ---- a flush of all parts: the record is durable
       all_flushed : log.steps_left ≡ 1 → IsDone here.call old new → HoldsView (durable_of log) new (with_record view)
       all_flushed last done =
-          let all = last_call _ _ ((laws_of log.shape.format).last_is_late n) (made_of log) (omega (arith, made_is log some, is.most_left, some, all_steps))
+          let all = last_call _ _ late (made_of log) (omega (arith, made_is log some, is.most_left, some, all_steps))
           (omega (arith, made_is log some, is.most_left, last, all_steps)) in
           let wrote = rw (flushes (inr all)) at done in
           let longer = length-append view.records (view.under_way ∷ []) in
@@ -186,16 +187,17 @@ module _ {log : LogValue} (is : IsLog log) (live : log.dead ≡ false) (some : 0
           let durable : log.waiting ++ log.under_way ∷ [] ≡ map (λ r. numbers_of r) (view.records ++ view.under_way ∷ []) =
           rw (hv.durable, hv.under_way) (sym (map-append (λ r. numbers_of r) view.records (view.under_way ∷ []))) in
           let copied : AreHome log.shape (get_or (view.records ++ view.under_way ∷ []) 0 []) (turned_of (durable_of log)) old.content =
-          let first = get_or_append_left view.records (view.under_way ∷ []) [] 0 in
-          λ i low high. grind (arith, cases_eq (length view.records) 0, durable_alone log is some, durable_more log, many hv, s.copied i, first) in
+          let first = get_or_append_left view.records (view.under_way ∷ []) [] 0 in λ i low high.
+          grind (arith, cases_eq (length view.records) 0, durable_alone log is some, durable_more log, many hv, s.copied i, first) in
           let keeps = Stored-durable _ (laws_of _) _ (stands.slots some) all s.stored in
-          let next : log.head + length view.records + 1 ≡ log.head + length (view.records ++ view.under_way ∷ []) = omega (arith, longer) in
           let guards : view.ours ≡ true → IsGuarded (durable_of log) (with_record view) new = λ ours.
-          let carries = rw next at (carries_below _ (laws_of _) _ (stands.slots some) old.content _ _ (safe_here sound s (hv.guards live ours))) in
-          each_flush _ old.content new wrote.1 (with_newest (rests_safe (with_record view) refl (record { keeps = keeps; carries = carries }))
-          (λ one i inside. copied i (omega (arith, inside, all_turned (durable_of log) one, counts_of (view.records ++ view.under_way ∷ []) durable 0)) inside)) in
+          let carries = carries_below _ (laws_of _) _ (stands.slots some) old.content _ _ (safe_here sound s (hv.guards live ours)) in
+          each_flush _ old.content new wrote.1 (with_newest (rests_safe (with_record view) refl (grind (arith, keeps, carries, longer)))
+          (λ one i inside. copied i (omega (arith, inside, needed_one log.ahead log.head _ (of_oldest (durable_of log)) one,
+          counts_of (view.records ++ view.under_way ∷ []) durable 0)) inside)) in
           let few : length (view.records ++ view.under_way ∷ []) ≤ log.shape.slots = omega (arith, (stands.slots some).room, longer) in
-          let firsts = durable_kept log.shape.format view.records view.under_way log.firsts hv.firsts (omega (arith, (stands.slots some).under_way.fit.some)) in
+          let some_blocks : 0 < length view.under_way = (stands.slots some).under_way.fit.some in
+          let firsts = durable_kept log.shape.format view.records view.under_way log.firsts hv.firsts some_blocks in
           let leaves : view.ours ≡ true → EachCut (MayLeave new.size (durable_of log) (with_record view)) new =
           λ ours image cut. guard_leaves (durable_of log) fits (stands_idle few refl refl) (guards ours image cut) in
           let stores : IsStored (durable_of log) (with_record view) new =
@@ -220,24 +222,21 @@ module _ {log : LogValue} (is : IsLog log) (live : log.dead ≡ false) (some : 0
         adds = rw writes at here.makes.adds
 
         -- the write leaves the blocks at home
-        at_home : {before image : Image} → Holds place part before image → (b : ℕ) → image (log.shape.home + b) ≡ before (log.shape.home + b)
+        at_home : {was image : Image} → Holds place part was image → (b : ℕ) → image (log.shape.home + b) ≡ was (log.shape.home + b)
         at_home write b =
-            let low = before_home log.shape is.sized stamp (L.offset n k) ((laws_of log.shape.format).inside n k (stands.slots some).under_way.fit.few small) in
-            write.elsewhere _ (λ e. omega (arith, e, low))
-
-        after : (next : ℕ) → next ≡ made_of log + 1 → (written_of log.shape view next ≡ k + 1)
-            × (flushed_of log.shape view next ≡ flushed_of log.shape view (made_of log))
-        after next one = part_written _ _ ((laws_of log.shape.format).last_is_late n) (made_of log) next one (grind (arith, not))
+            let inside = (laws_of log.shape.format).inside n k (stands.slots some).under_way.fit.few small in
+            write.elsewhere _ (λ e. omega (arith, e, before_home log.shape is.sized stamp (L.offset n k) inside))
 
         -- with the last part in it the record has this one's
         part_each : part ≡ L.part stamp view.under_way k → view.ours ≡ true → (then : ℕ) → then ≡ made_of log + 1
             → EachCut (HasHead log.shape log.head view then (needed_of log)) new
         part_each mine ours then one =
-            let now = after then one in
+            let now = part_written _ _ late (made_of log) then one (grind (arith, not)) in
             each_write _ _ old new place part sound adds (hv.guards live ours)
             (λ image g. same_head g (rw (now.0, now.1) (Guarded-lost k g.safe)) g.flushed)
             (λ before image write g. same_head g
-            (rw (now.0, now.1) (Guarded-write _ (laws_of _) _ ((stands_front g stands).slots some) k small (rw (mine, same_stamp g) at write) g.safe))
+            (rw (now.0, now.1)
+            (Guarded-write _ (laws_of _) _ ((stands_front g stands).slots some) k small (rw (mine, same_stamp g) at write) g.safe))
             (λ one. let homed = g.flushed one in (homed.0, λ i below. at_home write _ ∙ homed.1 i below)))
 
         part_leaves : view.ours ≡ true → EachCut (MayLeave old.size log view) new
@@ -246,11 +245,11 @@ module _ {log : LogValue} (is : IsLog log) (live : log.dead ≡ false) (some : 0
               each_write _ (MayLeave old.size log view) old new place part sound adds (hv.guards live ours)
               (λ image g. guard_leaves log hv.fits stands g)
               (λ before image write g.
-              inl (has_view g.passed view hv.fits g.behind (other_written _ (laws_of _) _ ((stands_front g stands).slots some) {before = before}
-              k other (rw (same_stamp g) at other_is) other_count early (rw (← (same_stamp g)) write) g.safe)))
+              inl (has_view g.passed view hv.fits g.behind (other_written _ (laws_of _) _ ((stands_front g stands).slots some)
+              {before = before} k other (rw (same_stamp g) at other_is) other_count early (rw (← (same_stamp g)) write) g.safe)))
           | inr last ↦
-              let stands_then = stands_then hv is log.steps_left (made_of log + 1) (omega arith) (λ none. absurd (omega (arith, none, some)))
-              (λ _. omega (arith, made_is log some)) in
+              let stands_then = stands_then hv is log.steps_left (made_of log + 1) (omega arith)
+              (λ none. absurd (omega (arith, none, some))) (λ _. omega (arith, made_is log some)) in
               let k_is : L.parts n - 1 ≡ k = omega (arith, small, last) in
               let mine = rw (other_count, k_is) at ((laws_of log.shape.format).last_part stamp other view.under_way other_count) in
               λ image cut. guard_leaves log hv.fits stands_then (part_each mine ours _ refl image cut)
@@ -261,10 +260,10 @@ module _ {log : LogValue} (is : IsLog log) (live : log.dead ≡ false) (some : 0
             let write = rw writes at done in
             let s = hv.stores live in
             let mine : part ≡ L.part stamp view.under_way k = ap (λ (l : List Entry). L.part stamp l k) (sym named) in
-            let now = after (made_of more_log) (then_made more) in
+            let now = part_written _ _ late (made_of log) (made_of more_log) (then_made more) (grind (arith, not)) in
             goes_on hv is (log.steps_left - 1) log.retire_steps_left log.ahead new (omega arith) here.makes.passes.size_stays live
             (record {
-              stored = Stored-write _ (laws_of _) _ (stands.slots some) k small (λ p low not. omega (arith, low, now.0, not)) (rw mine at write) s.stored;
+              stored = Stored-write _ (laws_of _) _ (stands.slots some) k small (λ p low not. omega arith) (rw mine at write) s.stored;
               copied = λ i low high. at_home write _ ∙ s.copied i low high;
             })
             (λ ours. part_each mine ours (made_of more_log) (then_made more))

@@ -103,14 +103,10 @@ image_view shape head view = record {
   array = view.array;
 }
 
--- how many parts of the record under way are written after `made` calls, and how many are flushed
+-- how many parts of the record under way are written after `made` calls
 abbrev pub written_of : Shape → View → ℕ → ℕ
 written_of shape view made =
     written_at ((layout_of shape.format).early (length view.under_way)) made
-
-abbrev pub flushed_of : Shape → View → ℕ → ℕ
-flushed_of shape view made =
-    flushed_at ((layout_of shape.format).early (length view.under_way)) made
 
 -- What a medium stores of a log, where `made` calls of the record under way are made, and `turned`
 -- turns of the oldest.
@@ -125,7 +121,8 @@ pub record Stores (shape : Shape) (head : ℕ) (view : View) (made turned : ℕ)
 -- what a cut may leave of the log, with this head: each part of a record under way is there or not
 abbrev pub Safe : Shape → ℕ → View → ℕ → Image → Type 0
 Safe shape head view made image = Guarded (layout_of shape.format) (image_view shape head view)
-    (written_of shape view made) (flushed_of shape view made) image
+    (written_of shape view made)
+    (flushed_at ((layout_of shape.format).early (length view.under_way)) made) image
 
 -- these records, which the head went past, stand in front of the others
 abbrev pub with_passed : List (List Entry) → View → View
