@@ -1,4 +1,4 @@
--- For what an image stands, or what is wrong with it, and that this and the value of a sector is one.
+-- For what an image stands, or what is wrong with it, and that this is one, as is a sector's value.
 use Rattle.std.specs.Prelude.{◌≡◌, ℕ, List, ◌≤◌, ◌<◌, ◌+◌, length, ◌⊎◌, ◌^◌}
 use Rattle.journal.specs.Places.{Shape, sectors_of}
 use Rattle.journal.specs.Sectors.{IsSuper, IsHead, IsDescriptor, IsCommit, IsSuperFault}

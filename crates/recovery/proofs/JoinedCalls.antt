@@ -17,10 +17,10 @@ use Rattle.journal.proofs.Formats.{laws_of, sectors_are}
 use Rattle.journal.proofs.Wholeness.{IsWhole-one, IsWhole-same, slot_inside, CarriesBelow-agree}
 use Rattle.journal.specs.Sectors.{IsSuper, IsHead}
 use Rattle.journal.specs.Standing.{IsOurs, Keeps}
-use Rattle.journal.proofs.Apart.{in_log}
+use Rattle.journal.proofs.Wholeness.{in_log}
 use Rattle.journal.specs.Staged.{View, Resting}
 use Rattle.journal.proofs.Engine.{rests_found}
-use Rattle.journal.proofs.Overlay.{with_records-same, records-hide}
+use Rattle.journal.proofs.Wholeness.{with_records-same, records-hide}
 use Rattle.recovery.specs.Calls.{IsHomeOf, IsHomeInRecords, Copies, freed_at, most_reads_of, LooksAtLog, WritesAllPass}
 use Rattle.recovery.specs.Calls.{FollowsBy, Writes, cleared_at, WithOrWithout, IsBetween, IsNoneOrNew, ImageLeaves}
 use Rattle.recovery.specs.Calls.{IsMade, IsWritten, IsNoneOrWritten, WritesImage}
@@ -30,7 +30,7 @@ use Rattle.medium.proofs.CallsSent.{none_sent}
 use Rattle.medium.proofs.SectorsRead.{no_looks, looks_joined, looks_wider, looks_below, look_below}
 use Rattle.journal.specs.declared.super_sector.Super.{Super}
 use Rattle.journal.specs.declared.log_format.LogFormat.{LogFormat}
-use Rattle.journal.specs.ImageFaults.{HasShape}
+use Rattle.journal.specs.Standing.{HasShape}
 use Rattle.journal.specs.Reading.{IsRefusedCall, LooksUp, record_reads_of, stamp_reads_of}
 use Rattle.recovery.specs.Causes.{SurveysAtMost, LooksAtFirst}
 use Rattle.journal.proofs.SectorNumbers.{IsSuper-one}
@@ -193,8 +193,8 @@ none_made {places = places} {m = m} sound =
     search (rules, started_within (freed_at places m.may_leave) m sound (λ s c left. inl left), no_looks)
 
 -- the calls for a few and for one more
-pub each_once_more : (each few many : ℕ) → few < many → each * few + each ≤ each * many
-each_once_more each few many less = omega (arith, mul-le-mul_left {m = few + 1} {n = many} each (omega arith))
+pub once_more : (each few many : ℕ) → few < many → each * few + each ≤ each * many
+once_more each few many less = omega (arith, mul-le-mul_left {m = few + 1} {n = many} each (omega arith))
 
 -- calls that read sectors of the log, and then others that do
 pub looked_on : (shape : Shape) (old mid new : State) → HasShape old.size shape old.content → LooksAtLog old mid

@@ -8,7 +8,7 @@ use Rattle.journal.specs.declared.log_format.LogFormat.TheVariants.{One, Two}
 use Rattle.journal.specs.Places.{Shape, slot_sectors_of, sectors_of}
 use Rattle.journal.specs.Formats.{shape_of, IsWhole}
 use Rattle.journal.specs.Sectors.{IsHead, IsSuper, IsSuperFault}
-use Rattle.journal.specs.SectorsTwo.{descriptors_of}
+use Rattle.journal.specs.Format2.{descriptors_of}
 use Rattle.journal.specs.Reading.{ReadsUpToBad, IsCommitted, HasPlace, NamesBlocks, IsReadInVain}
 use Rattle.journal.specs.Layout.{slot_at}
 use Rattle.journal.specs.Format2.{format2}
@@ -83,9 +83,9 @@ IsDeviceFault fault = (kind : MediumFault) × (fault ≡ start_fault_of kind)
 
 -- of the record of a stamp in the slot of format 2 that begins at this sector
 module _ (image : Image) (at stamp : ℕ) where
-  -- How many sectors are read in all: the commit, and where it is there, descriptors up to the first
-  -- bad one; or all of them, where they name no such blocks; or all of them, and data places up to
-  -- the first bad one.
+  -- How many sectors are read in all: the commit, and where it is there, descriptors up to the
+  -- first bad one; or all of them, where they name no such blocks; or all of them, and data places
+  -- up to the first bad one.
   abbrev pub IsReadInSlot : ℕ → ℕ → Type 0
   IsReadInSlot blocks reads =
       (((count : ℕ) → ¬ IsCommitted image at stamp count) × (reads ≡ 1))

@@ -19,8 +19,7 @@ pub(crate) fn copy_sector<M: Medium>(
     to: u64,
     first: &[u8],
 ) -> Result<(), MediumFault>
-    requires from_inside { from < (M.state m.old).size }
-    requires to_inside { to < (M.state m.old).size }
+    requires inside { (from < (M.state m.old).size) × (to < (M.state m.old).size) }
     requires few { length first.now ≤ 512 }
     ensures done { OnOk result (((M.state m.new).content to
         ≡ first.now ++ drop (length first.now) ((M.state m.old).content from))

@@ -24,7 +24,7 @@ use Rattle.std.proofs.lemmas.Map.Made.{length-le_from_is_member}
 use Rattle.std.proofs.lemmas.Map.Views.{Contains-from_any, list_any-from_Contains}
 use Rattle.std.proofs.Math.Nat.{mul-le-mul_left}
 use Rattle.std.proofs.Math.Seq.{get_or-append_seam, get_or-append_right}
-use Rattle.journal.proofs.Slots.{other_slot}
+use Rattle.journal.proofs.Wholeness.{other_slot}
 
 -- no entry
 abbrev pub blank : Copied
@@ -88,8 +88,15 @@ pub record IsMerging (old : List Copied) (slot : ℕ) (numbers : List ℕ) (left
 pairs_append : {X : Type 0} (R : X → X → Type 0) (front back : List X) → AllPairs R front → AllPairs R back
     → All (λ x. All (R x) back) front → AllPairs R (front ++ back)
 pairs_append R front back of_front of_back across i j d less below =
-    grind (arith, get_or_append_left front back d, get_or-append_right front back, length-append front back, of_front i j d,
-    of_back (i - length front) (j - length front) d, λ (low : i < length front). across i d low (j - length front) d)
+    grind (
+      arith,
+      get_or_append_left front back d,
+      get_or-append_right front back,
+      length-append front back,
+      of_front i j d,
+      of_back (i - length front) (j - length front) d,
+      λ (low : i < length front). across i d low (j - length front) d,
+    )
 
 -- an entry between others is found for its own block alone
 look_other : (front back : List Copied) (e : Copied) (b : ℕ) → e.block ≢ b → look (front ++ e ∷ back) b ≡ look (front ++ back) b
@@ -126,24 +133,35 @@ module _ {old : List Copied} {slot : ℕ} {numbers : List ℕ} (index back : Lis
   put_sorted = pairs_append (λ x. Above x.block) (take left index) (e ∷ back)
       (λ i j d less below. grind (arith, get_or-take left index i d, get_or-take left index j d, front_rises i j d, below, long, ends))
       (AllPairs-cons (λ x. Above x.block) e back above (λ i j d less below.
-          let front = take was index in
-          let up = entered.sorted (length front + i) (length front + j) d in
-          grind (arith, get_or-append-add front back, up, length-append front back, below)))
+      let front = take was index in
+      let up = entered.sorted (length front + i) (length front + j) d in
+      grind (arith, get_or-append-add front back, up, length-append front back, below)))
       (λ i d less. All-cons (Above (get_or (take left index) i d).block) e back (low i d less)
-          (λ j f inside. omega (arith, low i d less, above j f inside)))
+      (λ j f inside. omega (arith, low i d less, above j f inside)))
 
   put_found : look (take left index ++ e ∷ back) e.block ≡ Some (slot, place)
   put_found =
       let all = take left index ++ e ∷ back in
-      grind (arith, look_found all put_sorted left e.block, get_or_at (take left index) e back blank left,
-      length-append (take left index) (e ∷ back), long)
+      grind (
+        arith,
+        look_found all put_sorted left e.block,
+        get_or_at (take left index) e back blank left,
+        length-append (take left index) (e ∷ back),
+        long,
+      )
 
   -- only an older entry with its block goes
   put_other : (b : ℕ) → e.block ≢ b → look (take left index ++ e ∷ back) b ≡ look (take was index ++ back) b
   put_other b not =
       let c = get_or index left blank in
-      grind (arith, look_other (take left index) back e b not, take_more index left blank, append_assoc (take left index) (c ∷ []) back,
-      look_other (take left index) back c b, ends)
+      grind (
+        arith,
+        look_other (take left index) back e b not,
+        take_more index left blank,
+        append_assoc (take left index) (c ∷ []) back,
+        look_other (take left index) back c b,
+        ends,
+      )
 
   pub put_enters : Enters slot numbers place old (take left index ++ e ∷ back)
   put_enters = record {
@@ -180,8 +198,11 @@ module _ {old : List Copied} {slot : ℕ} {numbers : List ℕ} (rising : IsRisin
   entry_moves {was} {left} {place} {till} {to} {index} one_less room over merged =
       let c = get_or index left blank in
       let moved : remove_range index was till ≡ take left index ++ c ∷ drop till index =
-      rw (one_less, take_more index left blank (omega (arith, merged.room, merged.inside, one_less)),
-      append_assoc (take left index) (c ∷ []) (drop till index)) refl in
+      rw (
+        one_less,
+        take_more index left blank (omega (arith, merged.room, merged.inside, one_less)),
+        append_assoc (take left index) (c ∷ []) (drop till index),
+      ) refl in
       goes c room (omega arith) (omega arith) (omega (arith, merged.room, one_less, room)) over merged (rw moved at merged.enters)
 
   -- the last number that is left, above all entries that are left then
@@ -216,8 +237,15 @@ record_room {slots} {stamp} {records} {index} most is free small room count few 
     let n = rw (look_found index is.sorted i ((get_or index i blank).block) below refl) at (is.finds ((get_or index i blank).block)) in
     in_all records n.age ((get_or index i blank).block) n.waits
     (rw n.named at (Contains-get_or (get_or records n.age []) (get_or index i blank).place 0 n.inside)))) in
-    let apart = IsDistinct-from_apart eqb (map f index) (λ i j d less inside. grind (arith, nat_tests, length-map index f,
-    get_or-map f index i blank d, get_or-map f index j blank d, is.sorted i j blank, inside)) in
+    let apart = IsDistinct-from_apart eqb (map f index) (λ i j d less inside. grind (
+      arith,
+      nat_tests,
+      length-map index f,
+      get_or-map f index i blank d,
+      get_or-map f index j blank d,
+      is.sorted i j blank,
+      inside,
+    )) in
     let all = length-le_from_is_member nat_eq_equiv (map f index) (all_of records) apart
     (λ q some. list_any-from_Contains nat_eq_equiv q (all_of records)
     (All-contains (Contains (all_of records)) (map f index) q each (Contains-from_any eqb-true q (map f index) some))) in
@@ -235,8 +263,16 @@ module _ (records : List (List ℕ)) (numbers : List ℕ) (b : ℕ)
       → (age : ℕ) → least ≤ age → age < length (records ++ numbers ∷ [])
       → ¬ Contains (get_or (records ++ numbers ∷ []) age []) b
   none_more least none age later below there =
-      grind (arith, cases_lt age (length records), get_or_append_left records (numbers ∷ []) [] age, none age later,
-      get_or_at records numbers [] [] age, longer, unnamed there.0, get_or_default numbers there.0 0 b)
+      grind (
+        arith,
+        cases_lt age (length records),
+        get_or_append_left records (numbers ∷ []) [] age,
+        none age later,
+        get_or_at records numbers [] [] age,
+        longer,
+        unnamed there.0,
+        get_or_default numbers there.0 0 b,
+      )
 
   -- and the newest copy stays it
   found_more : (slots stamp : ℕ) (found : Option (ℕ × ℕ)) → Finds slots stamp records b found

@@ -193,8 +193,12 @@ module _ {log : LogValue} (is : IsLog log) (live : log.dead ≡ false) (some : 0
           let guards : view.ours ≡ true → IsGuarded (durable_of log) (with_record view) new = λ ours.
           let carries = carries_below _ (laws_of _) _ (stands.slots some) old.content _ _ (safe_here sound s (hv.guards live ours)) in
           each_flush _ old.content new wrote.1 (with_newest (rests_safe (with_record view) refl (grind (arith, keeps, carries, longer)))
-          (λ one i inside. copied i (omega (arith, inside, needed_one log.ahead log.head _ (of_oldest (durable_of log)) one,
-          counts_of (view.records ++ view.under_way ∷ []) durable 0)) inside)) in
+          (λ one i inside. copied i (omega (
+            arith,
+            inside,
+            needed_one log.ahead log.head _ (of_oldest (durable_of log)) one,
+            counts_of (view.records ++ view.under_way ∷ []) durable 0,
+          )) inside)) in
           let few : length (view.records ++ view.under_way ∷ []) ≤ log.shape.slots = omega (arith, (stands.slots some).room, longer) in
           let some_blocks : 0 < length view.under_way = (stands.slots some).under_way.fit.some in
           let firsts = durable_kept log.shape.format view.records view.under_way log.firsts hv.firsts some_blocks in

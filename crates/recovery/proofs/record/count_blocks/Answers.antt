@@ -5,13 +5,13 @@ use Rattle.journal.specs.declared.log_format.LogFormat.{LogFormat}
 use Rattle.journal.specs.declared.log_format.LogFormat.TheVariants.{One, Two}
 use Rattle.journal.specs.declared.record.Record.{Record}
 use Rattle.journal.specs.Places.{Shape}
-use Rattle.journal.specs.SectorsTwo.{descriptors_of}
+use Rattle.journal.specs.Format2.{descriptors_of}
 use Rattle.journal.specs.Reading.{StopsAtBad, ReadsUpToBad, HasDescriptor, HasPlace, NamesBlocks, IsReadFor}
 use Rattle.journal.specs.Reading.{IsReadForStamps}
 use Rattle.journal.specs.Formats.{shape_of, HasWhole}
-use Rattle.journal.proofs.CopiedBlock.{stamped_whole}
-use Rattle.journal.proofs.DescribedNumbers.{each_there}
-use Rattle.journal.proofs.EntriesTwo.{commit_count}
+use Rattle.journal.proofs.SectorsRead.{stamped_whole}
+use Rattle.journal.proofs.SlotTwo.{each_there}
+use Rattle.journal.proofs.SlotTwo.{commit_count}
 use Rattle.journal.proofs.SlotTwo.{untrue}
 use Rattle.recovery.specs.Causes.{IsReadInSlot, IsTryTwo, IsTryOf}
 use Rattle.recovery.proofs.JoinedCalls.{long_as, most_tried}

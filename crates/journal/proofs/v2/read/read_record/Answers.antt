@@ -95,8 +95,11 @@ returns-else-are_blocks g c =
       all = λ entries whole.
           let one = rw (commit_count s n _ commit.1) at (record_read _ _ _ _ (as_format two whole)) in
           untrue (not (rw one at whole.fit.rising, rw one at whole.fit.inside));
-      exact = (1 + descriptors_of n, rw two (inr (n, commit.1, descriptors_of n, inr (says.0.there, none, refl), refl)),
-          omega (arith, says.1, commit.0));
+      exact = (
+        1 + descriptors_of n,
+        rw two (inr (n, commit.1, descriptors_of n, inr (says.0.there, none, refl), refl)),
+        omega (arith, says.1, commit.0),
+      );
     })
 
 pub returns-in_err-read_descriptors : goal.returns-in_err-read_descriptors
