@@ -83,9 +83,9 @@ IsDeviceFault fault = (kind : MediumFault) × (fault ≡ start_fault_of kind)
 
 -- of the record of a stamp in the slot of format 2 that begins at this sector
 module _ (image : Image) (at stamp : ℕ) where
-  -- How many sectors are read in all: the commit, and where it is there, descriptors up to the first
-  -- bad one; or all of them, where they name no such blocks; or all of them, and data places up to
-  -- the first bad one.
+  -- How many sectors are read in all: the commit, and where it is there, descriptors up to the
+  -- first bad one; or all of them, where they name no such blocks; or all of them, and data places
+  -- up to the first bad one.
   abbrev pub IsReadInSlot : ℕ → ℕ → Type 0
   IsReadInSlot blocks reads =
       (((count : ℕ) → ¬ IsCommitted image at stamp count) × (reads ≡ 1))
