@@ -204,9 +204,6 @@ module _ (least : ℕ) {old mid seen : State} {result : Result (Unit {0}) Medium
     stood : Stood old.size shape old.content found.head found.count
     stood = count_stands old.size shape old.content found.head found.count at_old.shape.fits at_old.shape.super at_old.head at_old.count
 
-    served : IsServed least old (shape_of found.sizes)
-    served = search (rules, stood.stands, at_old.stamp_left, at_old.room)
-
     -- the head and the count are those of all for which they stand
     matches : {array : Array} {next : ℕ} (s : StandsFor old.size shape old.content array next)
         → (found.head ≡ s.head) × (found.count ≡ length s.records)
@@ -252,7 +249,7 @@ module _ (least : ℕ) {old mid seen : State} {result : Result (Unit {0}) Medium
     pub copies_leave : LeavesAtLeast least old copied
     copies_leave =
         let most = most_of found.sizes.format found.sizes.slots found.sizes.most_slots in
-        start_on known.sound served survey_leaves begun
+        start_on {shape = shape} known.sound (search (rules, stood.stands, at_old.stamp_left, at_old.room)) survey_leaves begun
         (λ array next ours. weaker _ _ _ _ (λ image o. inl o) (copied_ours ours)) copied_spares copying.looks
         (few copied.calls 0 (omega arith) (omega arith)) most.0 (omega (arith, sent_few)) most.1
 
@@ -291,7 +288,8 @@ module _ (least : ℕ) {old mid seen : State} {result : Result (Unit {0}) Medium
           ⊎ HasNewHead (found.head + found.count + 1) copied.content image) 2 3 copied new moves → LeavesAtLeast least old new
       moves_leave {new = new} moves =
           let most = most_of found.sizes.format found.sizes.slots found.sizes.most_slots in
-          start_on known.sound served copies_leave (omega (arith, begun, copying.moments.later))
+          start_on {shape = shape} known.sound (search (rules, stood.stands, at_old.stamp_left, at_old.room)) copies_leave
+          (omega (arith, begun, copying.moments.later))
           (λ array next ours. weaker _ _ _ _ (λ image either. ⊎_elim (λ cut. inl (at_exit _ seen copied sound (copied_ours ours) image cut))
           (λ moved. inr (fresh_ours at_old.shape.fits (moved_fresh ours moved))) either) moves.moments)
           (spared_behind 2 (sectors_of shape) copied new (omega arith) moves.spares)

@@ -20,7 +20,7 @@ use Rattle.recovery.specs.declared.start_fault.StartFault.{StartFault}
 use Rattle.spec.specs.Blocks.{Array}
 use Rattle.medium.specs.declared.fault.MediumFault.TheVariants as medium
 use Rattle.journal.specs.declared.super_fault.SuperFault.TheVariants.{Magic, Version, Rest, Sizes}
-use Rattle.journal.specs.ImageFaults as image
+use Rattle.journal.specs.Standing as image
 use Rattle.recovery.specs.declared.inspection.Inspection.{Inspection}
 use Rattle.recovery.specs.declared.start_fault.StartFault.TheVariants.{Read, Write, Flush, BadSuper}
 use Rattle.recovery.specs.declared.start_fault.StartFault.TheVariants.{BadVersion, BadSize, BadHead}
