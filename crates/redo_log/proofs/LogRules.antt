@@ -77,8 +77,7 @@ one_waits {log} is owed = grind (arith, owed, is.alone)
 -- ---- what the fields make of it
 
 pub sizes_sized : (sizes : Super) → IsSized (shape_of sizes)
-sizes_sized sizes =
-    let behind = rw (← sectors_are sizes.format) at sizes.home_is.0 in search rules
+sizes_sized sizes = let behind = rw (← sectors_are sizes.format) at sizes.home_is.0 in search rules
 
 -- as many lists as records
 pub many_lists : (records : List (ArrayVec ℕ)) → length (lists_of records) ≡ length records
