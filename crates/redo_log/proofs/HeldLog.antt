@@ -1,6 +1,6 @@
 -- What guards a log against a cut, and what a log and its medium hold together.
 use Rattle.std.proofs.Common.{◌≡◌, ◌⊎◌, inl, inr, ⊎_elim, ℕ, ◌+◌, ◌<◌, ◌≤◌, List, [], ◌∷◌, ◌++◌, length, arith, rules, get_or, refl, ap}
-use Rattle.std.proofs.Common.{length-append, append_assoc, ◌-◌, ◌∙◌, ◌^◌, ◌*◌, ◌%◌, Result, get_or-append-add, map, Bool, true, false, All}
+use Rattle.std.proofs.Common.{length-append, append_assoc, ◌-◌, ◌∙◌, ◌*◌, ◌%◌, Result, get_or-append-add, map, Bool, true, false, All}
 use Rattle.std.proofs.lemmas.Bool.{cases_lt, cases_eq}
 use Rattle.std.proofs.lemmas.List.{nil_from_length, length-map}
 use Rattle.std.proofs.Math.ListN.{get_or-map}
@@ -20,13 +20,13 @@ use Rattle.journal.specs.Layout.{IsRecordOf}
 use Rattle.journal.proofs.Formats.{laws_of, most_is}
 use Rattle.journal.proofs.SectorNumbers.{IsHead-one}
 use Rattle.journal.proofs.Engine.{rests_found, rests_begun, begun_rests, guarded_leaves}
-use Rattle.redo_log.specs.Value.{LogValue, Ahead, of_oldest, steps_of, steps_for, died}
+use Rattle.redo_log.specs.Value.{LogValue, Ahead, steps_of, steps_for, died}
 use Rattle.redo_log.specs.Shown.{IsSized, IsRecord}
 use Rattle.redo_log.specs.Held.{View, HasView, with_record, with_begun, image_view, written_of, Stores, Safe, HasDurable, HasUnderWay}
-use Rattle.redo_log.specs.Held.{MayLeave, with_passed, HasHead, made_of, turned_of, needed_of, IsStored, IsGuarded, HoldsView}
+use Rattle.redo_log.specs.Held.{MayLeave, with_passed, HasHead, made_of, IsStored, IsGuarded, HoldsView}
 use Rattle.redo_log.specs.Steps.{LeavesLog}
 use Rattle.redo_log.proofs.RecordSteps.{all_flushed, none_written, steps_are, one_left}
-use Rattle.redo_log.proofs.LogRules.{needed_one, IsLog, made_is, none_made}
+use Rattle.redo_log.proofs.LogRules.{IsLog, made_is, none_made}
 use Rattle.std.proofs.lemmas.Nat.{mod_below}
 use Rattle.journal.proofs.Apart.{in_log}
 use Rattle.redo_log.specs.Calls.{gaining, WritesOnly}

@@ -11,7 +11,7 @@ use Rattle.journal.specs.declared.head.Head.{Head as HeadOf}
 use Rattle.journal.specs.Places.{sectors_of, first_home}
 use Rattle.journal.specs.Record.{Entry, numbers_of}
 use Rattle.journal.specs.Formats.{layout_of, IsWhole}
-use Rattle.journal.specs.Staged.{IsHomed, with_less, HasSlots, View as ImageView}
+use Rattle.journal.specs.Staged.{IsHomed, with_less, View as ImageView}
 use Rattle.journal.proofs.CopiedBlock.{begun_is}
 use Rattle.journal.proofs.Formats.{laws_of, most_is}
 use Rattle.journal.proofs.Overlay.{records-hide}
