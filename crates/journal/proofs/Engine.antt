@@ -7,7 +7,7 @@ use Rattle.std.proofs.lemmas.List.{get_or_append_left}
 use Rattle.std.proofs.Math.Seq.{get_or-append_seam}
 use Rattle.medium.specs.Medium.{Image, Holds}
 use Rattle.journal.specs.Places.{Shape}
-use Rattle.journal.specs.Record.{Entry, with_blocks, with_records, home_of, Agree, Hides}
+use Rattle.journal.specs.Record.{Entry, with_records, home_of, Agree, Hides}
 use Rattle.journal.specs.Layout.{Layout, IsWholeIn, HasWholeIn, CarriesBelowIn, IsFree, slot_at, part_at, Laws, IsRecordOf}
 use Rattle.journal.specs.Staged.{View, HasParts, stamp_of, KeepsView, Found, Stored, Guarded, HasSlots, Resting, with_record, MayLeave}
 use Rattle.journal.specs.Staged.{with_less, IsHomed}
