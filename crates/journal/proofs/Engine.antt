@@ -49,7 +49,8 @@ module _ (L : Layout) (laws : Laws L) (shape : Shape) where
       (omega (arith, laws.inside 0 0 (omega arith) (laws.some_parts 0))))
 
 -- an image at rest stands for its array
-pub rests_found : (L : Layout) → Laws L → (v : View) {image : Image} → length v.records ≤ v.shape.slots → Resting L v image → Found L v image
+pub rests_found : (L : Layout) → Laws L → (v : View) {image : Image} → length v.records ≤ v.shape.slots
+    → Resting L v image → Found L v image
 rests_found L laws v {image} few r =
     let none = none_carried L laws v.shape r.keeps.super.some_slots image (stamp_of v) r.carries in search (rules, arith, r.carries)
 
@@ -130,7 +131,13 @@ module _ (L : Layout) (laws : Laws L) (v : View) (slots : HasSlots L v) where
   Guarded-write {before} {image} k below write g = record {
     stored = Stored-write k below (λ p low not. low) write g.stored;
     carries = λ slot o low small.
-        grind (arith, cases_eq (2 + L.slot_sectors * slot + o) (at L v k), write.here, write.elsewhere, (Guarded-lost k g).carries slot o low small);
+        grind (
+          arith,
+          cases_eq (2 + L.slot_sectors * slot + o) (at L v k),
+          write.here,
+          write.elsewhere,
+          (Guarded-lost k g).carries slot o low small,
+        );
   }
 
   -- Where a part but the last one was written with other blocks in it, the record under way is not whole.

@@ -193,8 +193,8 @@ none_made {places = places} {m = m} sound =
     search (rules, started_within (freed_at places m.may_leave) m sound (λ s c left. inl left), no_looks)
 
 -- the calls for a few and for one more
-pub once_more : (each few many : ℕ) → few < many → each * few + each ≤ each * many
-once_more each few many less = omega (arith, mul-le-mul_left {m = few + 1} {n = many} each (omega arith))
+pub one_more : (each few many : ℕ) → few < many → each * few + each ≤ each * many
+one_more each few many less = omega (arith, mul-le-mul_left {m = few + 1} {n = many} each (omega arith))
 
 -- calls that read sectors of the log, and then others that do
 pub looked_on : (shape : Shape) (old mid new : State) → HasShape old.size shape old.content → LooksAtLog old mid

@@ -13,7 +13,7 @@ use medium::{Medium, MediumFault};
 
 /// Reads how many blocks each of the whole records has that follow from the head on, by as many
 /// calls as show it.
-#[tactic(auto, using(journal::proofs::SectorsRead::looks_on, crate::proofs::JoinedCalls::once_more))]
+#[tactic(auto, using(journal::proofs::SectorsRead::looks_on, crate::proofs::JoinedCalls::one_more))]
 pub(crate) fn count_waiting<M: Medium>(
     m: &mut M,
     sizes: &Super,

@@ -42,9 +42,9 @@ pub fn recover<M: Medium>(m: &mut M) -> Result<Recovered, StartFault>
 
 /// Recovers an image whose log, where it is of format 1, has at least `least` slots.
 pub(crate) fn recover_at_least<M: Medium>(m: &mut M, least: u64) -> Result<Recovered, StartFault>
-    ensures ok { IfOk result (IsRecoveredFrom (M.state m.old) (M.state m.new)) }
     // It found at least these slots in a log of format 1.
-    ensures room { OnOk result (¬ HasFewSlots least (M.state m.old).size (M.state m.old).content) }
+    ensures ok { IfOk result (λ answer. IsRecoveredFrom (M.state m.old) (M.state m.new) answer
+        × (¬ HasFewSlots least (M.state m.old).size (M.state m.old).content)) }
     ensures fresh { (shape : Shape) (array : Array) (next : ℕ)
         → IsOurs (M.state m.old).size shape (M.state m.old).content array next
         → OnOk result (EachCut (IsFresh shape array next) (M.state m.new)) }

@@ -163,7 +163,15 @@ module _ {shape : Shape} {head : ℕ} {view : View} {made turned retire : ℕ} {
   pub put_safe : {image : Image} → CutLeaves m.may_leave image → Safe shape head view made (put_head m image)
   put_safe {image} cut =
       let put : CutLeaves m.may_leave (put_head m image) = λ s.
-      grind (arith, cases_eq s 1, updated_here image 1 (m.content 1) s, updated_elsewhere image 1 (m.content 1) s, sound.holds_content 1, cut s) in
+      grind (
+        arith,
+        cases_eq s 1,
+        updated_here image 1 (m.content 1) s,
+        updated_elsewhere image 1
+            (m.content 1) s,
+        sound.holds_content 1,
+        cut s,
+      ) in
       safe_at (each (put_head m image) put) (rw (updated_here image 1 (m.content 1) 1 refl) s.stored.keeps.head_is)
 
 -- ---- what a log and its medium hold

@@ -1,4 +1,5 @@
--- The index, entries that are sorted by block: what a search finds, how a record's block numbers merge in, that there is room for them, and what it is then.
+-- The index, entries that are sorted by block: what a search finds, how a record's block numbers merge in, that
+-- there is room for them, and what it is then.
 use Rattle.std.proofs.Common.{◌≡◌, ◌≢◌, ℕ, suc, ◌-◌, ◌<◌, ◌≤◌, List, [], ◌∷◌, length, get_or, if◌then◌else◌, Some, None}
 use Rattle.std.proofs.Common.{Less, Greater, refl, arith, ◌⊎◌, inl, inr, ◌+◌, ◌++◌, take, drop, set, sym, ◌∙◌}
 use Rattle.std.proofs.Common.{append_assoc, rules, length-append, zero, ◌*◌, ◌%◌, Option, add-zero, eqb}

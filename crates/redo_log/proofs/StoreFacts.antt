@@ -62,7 +62,8 @@ settled_holds log m view holds covered =
     let needs : needed_of log ≡ needed_of (settled log) = grind (arith, covered.flushes, covers) in
     going_held holds log.steps_left (log.retire_steps_left - 1) log.ahead log.dead m refl
     (λ ours image cut. grind (arith, covered.flushes, holds.leaves ours image cut))
-    (λ live. Stores-stays (holds.stores live) _ _ m.content (λ s. refl) (omega arith) (λ i low high. omega (arith, covered.flushes, count holds 0)))
+    (λ live. Stores-stays (holds.stores live) _ _ m.content (λ s. refl) (omega arith)
+    (λ i low high. omega (arith, covered.flushes, count holds 0)))
     (λ live ours. rw needs at (holds.guards live ours))
 
 -- whichever head an image has, it has the blocks of one that the log's guard speaks of

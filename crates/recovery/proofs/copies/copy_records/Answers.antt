@@ -6,7 +6,7 @@ use Rattle.journal.specs.Record.{Entry, with_records, home_of}
 use Rattle.journal.specs.Formats.{shape_of}
 use Rattle.recovery.specs.Calls.{calls_of, copy_calls, IsHomeInRecord, IsHomeInRecords}
 use Rattle.journal.proofs.Wholeness.{with_blocks-same, with_records-append}
-use Rattle.recovery.proofs.JoinedCalls.{not_in_log, whole_same, once_more, copies_on}
+use Rattle.recovery.proofs.JoinedCalls.{not_in_log, whole_same, one_more, copies_on}
 use Rattle.recovery.proofs.copies.copy_records.Goals as goal
 use Rattle.recovery.proofs.copies.copy_records.Goals.{In-loop-j}
 
@@ -78,5 +78,5 @@ pub returns-in_err-copy_record-clause-copies : goal.returns-in_err-copy_record-c
 returns-in_err-copy_record-clause-copies g c =
     let less = c.loop-j-test.true in
     copies_on (g.met.M.Medium.sound c.loop-j.m) (in_records g (goal.at.returns-in_err-copy_record-clause-copies g c).In-loop-j)
-    (λ s below. below) c.loop-j.invariant.copies c.copy_record.ensures.copies (once_more _ _ _ less) (once_more _ _ _ less)
+    (λ s below. below) c.loop-j.invariant.copies c.copy_record.ensures.copies (one_more _ _ _ less) (one_more _ _ _ less)
     (search rules)

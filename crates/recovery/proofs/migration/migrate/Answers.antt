@@ -113,13 +113,13 @@ call_refuses old new kind h = search rules
 
 -- format 2 is made, good or refused
 makes : (g : _) (c : After-make_two g) → MigrationLeaves (g.M.Medium.state c.args.m.now) (g.M.Medium.state c.make_two.new.m)
-makes g c = migration_leaves (c.in_ok-found.ensures.ok, c.in_ok-found.ensures.room) (c.migrates.ensures.0 c.if-migrates.true)
+makes g c = migration_leaves c.in_ok-found.ensures.ok (c.migrates.ensures.0 c.if-migrates.true)
     c.make_two.ensures.writes (g.met.M.Medium.sound c.args.m.now) (g.met.M.Medium.sound c.recover_at_least.new.m)
     c.in_ok-found.ensures.fresh c.recover_at_least.ensures.leaves
 
 pub make_two-requires-clause-can : goal.make_two-requires-clause-can
 make_two-requires-clause-can g c =
-    can_migrate (c.in_ok-found.ensures.ok, c.in_ok-found.ensures.room) (c.migrates.ensures.0 c.if-migrates.true)
+    can_migrate c.in_ok-found.ensures.ok (c.migrates.ensures.0 c.if-migrates.true)
 
 pub returns-in_err-found-clause-err : goal.returns-in_err-found-clause-err
 returns-in_err-found-clause-err g c =
@@ -140,11 +140,11 @@ returns-in_err-make_two-clause-leaves g c = makes g (goal.at.returns-in_err-make
 pub returns-in_ok-make_two : goal.returns-in_ok-make_two
 returns-in_ok-make_two g c =
     let done = c.in_ok-make_two.ensures in
-    let from = migrated_from (c.in_ok-found.ensures.ok, c.in_ok-found.ensures.room) (c.migrates.ensures.0 c.if-migrates.true)
+    let from = migrated_from c.in_ok-found.ensures.ok (c.migrates.ensures.0 c.if-migrates.true)
     c.make_two.ensures.writes c.in_ok-make_two.field-0 done.ok done.writes.exact in
     search (rules, from, makes g (goal.at.returns-in_ok-make_two g c).After-make_two, g.met.M.Medium.follows_through)
 
 pub returns-else-migrates-clause-fresh : goal.returns-else-migrates-clause-fresh
 returns-else-migrates-clause-fresh g c shape array next ours =
-    rw (← IsSuper-one shape (shape_of c.in_ok-found.found.sizes) _ ours.stands.keeps.super c.in_ok-found.ensures.ok.stood.keeps.super)
+    rw (← IsSuper-one shape (shape_of c.in_ok-found.found.sizes) _ ours.stands.keeps.super c.in_ok-found.ensures.ok.0.stood.keeps.super)
     (c.in_ok-found.ensures.fresh shape array next ours)

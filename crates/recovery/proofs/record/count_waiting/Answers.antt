@@ -15,7 +15,7 @@ use Rattle.journal.specs.Format2.{format2}
 use Rattle.recovery.specs.Calls.{most_reads_of}
 use Rattle.recovery.specs.Causes.{IsTryTwo, IsTryOf, AreTriesOf, HasCount, AreCounts}
 use Rattle.journal.proofs.SectorsRead.{looks_on}
-use Rattle.recovery.proofs.JoinedCalls.{once_more}
+use Rattle.recovery.proofs.JoinedCalls.{one_more}
 use Rattle.recovery.proofs.record.count_waiting.Goals as goal
 
 -- what holds of each place of a list, and of one more, holds of each of the list with one more
@@ -88,7 +88,7 @@ returns-in-None g c =
     let are = counts_made shape old.content c.args.head c.loop-j.j c.loop-j.waiting.items inv.finds.1 (omega (arith, below)) inv.finds.2
     (λ less. finds.1) in
     looks_on g.met.M.Medium.follows_through inv c.count_blocks.ensures
-    (once_more (most_reads_of c.args.sizes.now.format) c.loop-j.j c.args.sizes.now.slots below) tt
+    (one_more (most_reads_of c.args.sizes.now.format) c.loop-j.j c.args.sizes.now.slots below) tt
     (search (rules, are, rw many at more))
 
 pub returns : goal.returns
