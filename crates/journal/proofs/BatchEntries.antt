@@ -63,8 +63,10 @@ firsts_of_batch numbers bytes firsts j count each =
     ext_get_or [] firsts _ (simp (length-map, length-take, length-drop, length_of_batch) (simp (length-take, length-drop) at count))
     (λ i below.
     let few : i < 30 = omega (arith, count, length-take 30 (drop (30 * j) numbers)) in
-    let inside : 30 * j + i < length numbers = omega (arith, count, length-take 30 (drop (30 * j) numbers), length-drop (30 * j) numbers) in
-    each i (omega (arith, count)) ∙ sym (part_at es 30 (30 * j) i few (λ e. take 8 e.1) ∙ first_of_batch (30 * j + i) numbers bytes inside))
+    let inside : 30 * j + i < length numbers =
+    omega (arith, count, length-take 30 (drop (30 * j) numbers), length-drop (30 * j) numbers) in
+    each i (omega (arith, count)) ∙ sym
+    (part_at es 30 (30 * j) i few (λ e. take 8 e.1) ∙ first_of_batch (30 * j + i) numbers bytes inside))
 
 pub ruleset batch =
     (numbers_of_batch, length_of_batch, entry_of_batch, firsts_of_batch, numbers_of_chunk)

@@ -30,7 +30,8 @@ last L v = L.parts (length v.under_way) - 1
 
 module _ (L : Layout) (laws : Laws L) (shape : Shape) where
   -- each part of a whole record that is not flushed early carries its stamp
-  pub late_carries : (image : Image) (stamp : ℕ) (es : List Entry) (p : ℕ) → IsWholeIn L shape image stamp es → p < L.parts (length es)
+  pub late_carries : (image : Image) (stamp : ℕ) (es : List Entry) (p : ℕ) → IsWholeIn L shape image stamp es
+      → p < L.parts (length es)
       → L.early (length es) ≤ p → ¬ IsFree L stamp (L.offset (length es) p) (image (part_at L shape stamp (length es) p))
   late_carries image stamp es p w below late free =
       grind (arith, laws.carries shape.blocks stamp es p (record_of w), w.there p below, free)
@@ -40,7 +41,15 @@ module _ (L : Layout) (laws : Laws L) (shape : Shape) where
       → IsFree L stamp (L.slot_sectors - 1) (image (slot_at L shape stamp + (L.slot_sectors - 1))) → ¬ HasWholeIn L shape image stamp
   last_free_none image stamp free whole =
       let n = length whole.0 in
-      grind (arith, late_carries image stamp whole.0 (L.parts n - 1) whole.1, laws.some_parts n, laws.last_is_late n, laws.last n, free)
+      grind (
+        arith,
+        late_carries image stamp whole.0
+            (L.parts n - 1) whole.1,
+        laws.some_parts n,
+        laws.last_is_late n,
+        laws.last n,
+        free,
+      )
 
   -- behind the stamps that the log carries no record is whole
   pub none_carried : 1 ≤ shape.slots → (image : Image) (end : ℕ) → CarriesBelowIn L shape image end → ¬ HasWholeIn L shape image end
@@ -78,7 +87,8 @@ module _ (L : Layout) (laws : Laws L) (v : View) (slots : HasSlots L v) where
   keeps_stays before image o bytes small write k =
       let slot = stamp_of v % v.shape.slots in
       let low = in_log L.slot_sectors slot v.shape.slots o (mod_below (stamp_of v) v.shape.slots slots.some) small in
-      let apart = λ (j x : ℕ). other_sector L.slot_sectors ((v.head + j) % v.shape.slots) slot (x - slot_at L v.shape (v.head + j)) o in
+      let apart = λ (j x : ℕ). other_sector L.slot_sectors ((v.head + j) % v.shape.slots) slot
+      (x - slot_at L v.shape (v.head + j)) o in
       let near = λ (j : ℕ). other_slot (v.head + j) (stamp_of v) v.shape.slots in
       Keeps-same L laws v.shape before image v.head v.records v.array (write.elsewhere 0 (λ e. omega arith))
       (write.elsewhere 1 (λ e. omega arith))
@@ -107,7 +117,12 @@ module _ (L : Layout) (laws : Laws L) (v : View) (slots : HasSlots L v) where
       ⊎ IsFree L (stamp_of v) (L.offset (length v.under_way) p) (image (at L v p))
   part_or_free image so_far durable p g below =
       let same = λ (q : ℕ). laws.apart (length v.under_way) q p slots.under_way.fit.few in
-      grind (arith, g.carries (stamp_of v % v.shape.slots) _ (mod_below (stamp_of v) v.shape.slots slots.some) (inside p below), same)
+      grind (
+        arith,
+        g.carries (stamp_of v % v.shape.slots) _ (mod_below (stamp_of v) v.shape.slots slots.some)
+            (inside p below),
+        same,
+      )
 
   -- a part that was not written now
   part_stays : {before image : Image} {k p : ℕ} {bytes : List ℕ} → Holds (at L v k) bytes before image
@@ -148,12 +163,14 @@ module _ (L : Layout) (laws : Laws L) (v : View) (slots : HasSlots L v) where
       let below : k < L.parts (length v.under_way) = omega arith in
       let stays = part_stays {p = last L v} write below (omega arith) (λ e. omega arith) in
       let or_free = part_or_free before k durable (last L v) g (omega arith) in
-      let none = last_free_none L laws v.shape image (stamp_of v) (rw (← laws.last (length v.under_way)) (grind (arith, or_free, stays))) in
+      let none = last_free_none L laws v.shape image (stamp_of v)
+      (rw (← laws.last (length v.under_way)) (grind (arith, or_free, stays))) in
       let keeps = keeps_stays before image _ (L.part (stamp_of v) other k) (inside k below) write g.stored.keeps in
       let carries : CarriesBelowIn L v.shape image (stamp_of v + 1) = λ slot o t low small carries.
       let place : ℕ = 2 + L.slot_sectors * slot + o in
       let mine = one_part other is slot o t k (image place) small in
-      grind (arith, cases_eq place (at L v k), write.here, write.elsewhere, mine, carries_below before k durable g slot o t low small) in
+      grind
+      (arith, cases_eq place (at L v k), write.here, write.elsewhere, mine, carries_below before k durable g slot o t low small) in
       grind (arith, slots.room)
 
   -- with all its parts in its slot the record is whole, and the image keeps it with the durable ones
@@ -185,7 +202,8 @@ module _ (L : Layout) (laws : Laws L) (v : View) (slots : HasSlots L v) where
             (L.parts (length v.under_way))
             (λ p small. grind (arith, cases_lt p durable, g.stored.parts p, or_free p small))) [
               | inl there ↦
-                  let keeps = Stored-durable {count = k} all (record { keeps = g.stored.keeps; parts = λ p low small. there p small }) in
+                  let keeps = Stored-durable {count = k} all
+                  (record { keeps = g.stored.keeps; parts = λ p low small. there p small }) in
                   let none = none_carried L laws v.shape slots.some image (stamp_of v + 1) carries in
                   inr (all, grind (arith, length-append, slots.room, carries))
               | inr one ↦
@@ -223,9 +241,15 @@ module _ (L : Layout) (laws : Laws L) (v : View) (behind : 2 + L.slot_sectors * 
       → (KeepsView L v before → KeepsView L (record v { head = head; records = records }) image)
       → IsKept L v (record v { head = head; records = records }) before image
   kept head records next log keeps =
-      let stored : (count : ℕ) → Stored L v count before → Stored L (record v { head = head; records = records }) count image = λ count s.
+      let stored : (count : ℕ) → Stored L v count before
+      → Stored L (record v { head = head; records = records }) count image = λ count s.
       let stays = λ (p : ℕ) (small : p < L.parts (length v.under_way)). log (at L v p) (omega arith)
-      (omega (arith, slot_inside L laws v.shape (stamp_of v) s.keeps.super.some_slots, laws.inside (length v.under_way) p few small)) in
+      (omega (
+        arith,
+        slot_inside L laws v.shape (stamp_of v) s.keeps.super.some_slots,
+        laws.inside
+            (length v.under_way) p few small,
+      )) in
       grind (arith, keeps s.keeps, s.parts, next) in
       record {
         stored = stored _;
@@ -237,7 +261,8 @@ module _ (L : Layout) (laws : Laws L) (v : View) (behind : 2 + L.slot_sectors * 
       }
 
   -- a block that the records hide is written home
-  pub kept_home : (b : ℕ) {bytes : List ℕ} → Hides v.records b → Holds (v.shape.home + b) bytes before image → IsKept L v v before image
+  pub kept_home : (b : ℕ) {bytes : List ℕ} → Hides v.records b → Holds (v.shape.home + b) bytes before image
+      → IsKept L v v before image
   kept_home b hides write =
       let log = log_same write (λ low. omega arith) in
       kept v.head v.records refl log (λ g.

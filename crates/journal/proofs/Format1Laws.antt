@@ -47,7 +47,8 @@ module _ {blocks s : ℕ} {entries : List Entry} (r : IsRecordOf format1 blocks 
   commit_of = search rules
 
   -- the descriptor and the commit carry the record's stamp
-  pub ends_carry : (p : ℕ) → (1 ≤ p → length entries + 1 ≤ p) → Carries1 (format1.offset (length entries) p) s (format1.part s entries p)
+  pub ends_carry : (p : ℕ) → (1 ≤ p → length entries + 1 ≤ p)
+      → Carries1 (format1.offset (length entries) p) s (format1.part s entries p)
   ends_carry p ends = grind (arith, parts, descriptor_of, commit_of)
 
 -- a stamp that a sector carries is its second number

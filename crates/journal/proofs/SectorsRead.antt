@@ -40,7 +40,8 @@ pub looks_on : {M X Y Z : Type 0} {state : M → State} {Follows : M → M → T
     → LooksUp state Follows many places G mid new two → few + many ≤ most → IfErr result (IsRefusedCall (state old) (state new))
     → IfOk result (H (state old) (state new)) → LooksUp state Follows most places H old new result
 looks_on {state = state} {most = most} {old = old} {new = new} through first second fit cause finds =
-    let reads : MakesReadsAlone (state old) (state new) = λ kind other. second.passes.reads kind other ∙ first.passes.reads kind other in
+    let reads : MakesReadsAlone (state old) (state new) = λ kind other. second.passes.reads kind other
+    ∙ first.passes.reads kind other in
     let calls : (state new).calls ≤ (state old).calls + most = omega (arith, first.passes.calls, second.passes.calls, fit) in
     search (rules, quiet_joined, looks_joined, through)
 
@@ -57,7 +58,8 @@ pub ruleset copies = (quiet_call, look_below, place_before)
 pub begun_is : (format : LogFormat) (shape : Shape) (image : Image) (stamp : ℕ) (entries : List Entry)
     → IsWholeIn (layout_of format) shape image stamp entries → (i : ℕ) → i < length entries → (first : Option (List ℕ))
     → first ≡ first_of format entries i → (sector : List ℕ)
-    → sector ≡ image (slot_at (layout_of format) shape stamp + first_data_of format + i) → begun_with first sector ≡ block_of entries i
+    → sector ≡ image (slot_at (layout_of format) shape stamp + first_data_of format + i)
+    → begun_with first sector ≡ block_of entries i
 unfolding place_bytes
 begun_is One shape image stamp entries w i below first is sector there =
     grind (arith, place_there_one shape image stamp entries w i below)
@@ -70,7 +72,8 @@ firsts_before One entries = []
 firsts_before Two entries = firsts_of entries
 
 -- they and the rest of a data place make the block
-first_put : (format : LogFormat) (entries : List Entry) (i : ℕ) (sector : List ℕ) → i < length entries → length (block_of entries i) ≡ 512
+first_put : (format : LogFormat) (entries : List Entry) (i : ℕ) (sector : List ℕ) → i < length entries
+    → length (block_of entries i) ≡ 512
     → begun_with (first_of format entries i) sector ≡ block_of entries i
     → get_or (firsts_before format entries) i [] ++ drop (length (get_or (firsts_before format entries) i [])) sector
     ≡ block_of entries i
@@ -78,7 +81,8 @@ first_put One entries i sector below sized begun = begun
 first_put Two entries i sector below sized begun = grind (arith, common_steps, begun, sized)
 
 -- a record that is whole is the one that its slot spells, and this was read of it
-pub read_is : (shape : Shape) (image : Image) (stamp : ℕ) (entries : List Entry) → IsWhole shape image stamp entries → (read : Record)
+pub read_is : (shape : Shape) (image : Image) (stamp : ℕ) (entries : List Entry) → IsWhole shape image stamp entries
+    → (read : Record)
     → read.numbers.items ≡ numbers_of ((layout_of shape.format).read image (slot_at (layout_of shape.format) shape stamp))
     → read.firsts.items
     ≡ firsts_before shape.format ((layout_of shape.format).read image (slot_at (layout_of shape.format) shape stamp))

@@ -136,7 +136,8 @@ whole_or_not L laws shape image stamp =
     let inside = all_or_not (λ b. b < shape.blocks) (λ b. grind (arith, cases_lt b shape.blocks)) (numbers_of es) 0 in
     let small = all_or_not (λ b. b < 2 ^ 31) (λ b. grind (arith, cases_lt b (2 ^ 31))) (numbers_of es) 0 in
     let sized = all_or_not (λ e. length e.1 ≡ 512) (λ e. cases_eq (length e.1) 512) es (0, []) in
-    let fit : Decided (AreEntries L.most shape.blocks es) = search (rules, arith, cases_lt 0 (length es), cases_lt L.most (length es)) in
+    let fit : Decided (AreEntries L.most shape.blocks es) =
+    search (rules, arith, cases_lt 0 (length es), cases_lt L.most (length es)) in
     let there = each_or_not (λ p. image (part_at L shape stamp (length es) p) ≡ L.part stamp es p) (L.parts (length es))
     (λ p. same_or_not (image (part_at L shape stamp (length es) p)) (L.part stamp es p)) in
     let here : Decided (IsWholeIn L shape image stamp es) = search (rules, arith, cases_lt 0 stamp, cases_lt stamp (2 ^ 63 - 1)) in

@@ -67,7 +67,8 @@ pub records-hide : (records : List (List Entry)) (j i : ℕ) → j < length reco
 records-hide [] j i below inside a c = absurd (omega arith)
 records-hide (r ∷ records) zero i below inside a c =
     with_records-same records (with_blocks r a) (with_blocks r c) (get_or r i (0, [])).0 (with_blocks-hides r i a c inside)
-records-hide (r ∷ records) (suc j) i below inside a c = records-hide records j i (omega arith) inside (with_blocks r a) (with_blocks r c)
+records-hide (r ∷ records) (suc j) i below inside a c =
+    records-hide records j i (omega arith) inside (with_blocks r a) (with_blocks r c)
 
 -- blocks that stand in the array already change nothing
 pub with_blocks-home : (entries : List Entry) (a : Array) (b : ℕ) → ((i : ℕ) → i < length entries
@@ -91,7 +92,8 @@ with_blocks-copied entries old new copied others b =
     grind (arith, with_blocks-same entries new old b, others b, with_blocks-hides entries)
 
 -- a whole record is one of its stamp
-pub record_of : {L : Layout} {shape : Shape} {image : Image} {stamp : ℕ} {entries : List Entry} → IsWholeIn L shape image stamp entries
+pub record_of : {L : Layout} {shape : Shape} {image : Image} {stamp : ℕ} {entries : List Entry}
+    → IsWholeIn L shape image stamp entries
     → IsRecordOf L shape.blocks stamp entries
 record_of w = record { fit = w.fit; least = w.least; below = w.below }
 
@@ -102,7 +104,8 @@ as_format {shape = s} {image = i} {stamp = t} {entries = es} is w = subst (λ (f
 
 pub of_format : {format : LogFormat} {shape : Shape} {image : Image} {stamp : ℕ} {entries : List Entry} → shape.format ≡ format
     → IsWholeIn (layout_of format) shape image stamp entries → IsWhole shape image stamp entries
-of_format {shape = s} {image = i} {stamp = t} {entries = es} is w = subst (λ (f : LogFormat). IsWholeIn (layout_of f) s i t es) (sym is) w
+of_format {shape = s} {image = i} {stamp = t} {entries = es} is w =
+    subst (λ (f : LogFormat). IsWholeIn (layout_of f) s i t es) (sym is) w
 
 module _ (L : Layout) (laws : Laws L) (shape : Shape) where
   -- an image has at most one whole record of a stamp

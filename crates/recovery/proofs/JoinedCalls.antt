@@ -85,7 +85,8 @@ whole_same shape before image stamp entries some home log w =
     log x (omega (arith, high, slot_inside (layout_of shape.format) (laws_of shape.format) shape stamp some, log_ends shape home))) w
 
 -- home is behind the log
-pub not_in_log : (shape : Shape) (image : Image) (head count x : ℕ) → x < first_home shape → ¬ IsHomeInRecords shape image head count x
+pub not_in_log : (shape : Shape) (image : Image) (head count x : ℕ) → x < first_home shape
+    → ¬ IsHomeInRecords shape image head count x
 not_in_log shape image head count x below home = let is = home.2.2.2 in omega (arith, is)
 
 -- two arrays have the same blocks
@@ -108,7 +109,8 @@ copies_ours {shape = shape} {start = start} {array = array} {next = next} ours h
     λ b. ⊎_elim (with_records-same records (home_of shape image) (home_of shape start) b) (λ copied.
     let h = rw (head_is, count_is) at copied in
     let es = get_or records h.0 [] in
-    let here = subst (λ (es : List Entry). IsHomeOf shape (numbers_of es) (first_home shape + b)) (IsWhole-one (layout_of shape.format)
+    let here = subst (λ (es : List Entry). IsHomeOf shape (numbers_of es) (first_home shape + b))
+    (IsWhole-one (layout_of shape.format)
     (laws_of shape.format) shape start _ h.2.0 es h.2.1 (ours.stands.keeps.whole h.0 h.1)) h.2.2 in
     let hides = records-hide records h.0 here.0 h.1 (omega (arith, here.1, long_as es (numbers_of es) refl)) in
     subst (Hides records) (omega (arith, here.2, number_of es (numbers_of es) here.0 refl)) hides
@@ -120,7 +122,11 @@ copies_ours {shape = shape} {start = start} {array = array} {next = next} ours h
       blocks = λ b below. home b ∙ ours.stands.keeps.blocks b below;
     } in
     let ends_there = λ (less : length records < shape.slots) (w : HasWhole shape image (ours.stands.head + length records)).
-    ours.stands.ends less (w.0, whole_same shape image start _ w.0 super.some_slots super.home_is (λ x below. sym (log x below)) w.1) in
+    ours.stands.ends less (
+      w.0,
+      whole_same shape image start _ w.0 super.some_slots super.home_is
+          (λ x below. sym (log x below)) w.1,
+    ) in
     let carries = CarriesBelow-agree (layout_of shape.format) (laws_of shape.format) shape start image next
     (λ x low high. log x (omega (arith, ends))) ours.carries in
     search (rules, keeps, ours.stands.few, ends_there, ours.stands.next_is, ours.stands.fits, carries)
@@ -165,7 +171,8 @@ quiet_after P old mid quiet = quiet_before (λ n i. P n i → P mid.size mid.con
 
 -- copies
 pub copies_on : {X Y Z : Type 0} {more all P Q : ℕ → Type 0} {few many most less much sends : ℕ} {old mid new : State}
-    {one : Result X MediumFault} {two : Result Y MediumFault} {result : Result Z MediumFault} → IsSound mid → ((x : ℕ) → more x → all x)
+    {one : Result X MediumFault} {two : Result Y MediumFault} {result : Result Z MediumFault} → IsSound mid
+    → ((x : ℕ) → more x → all x)
     → ((s : ℕ) → Q s → P s) → Copies all P few less old mid one → Copies more Q many much mid new two → few + many ≤ most
     → less + much ≤ sends → IfErr result (IsRefusedCall old new) → Copies all P most sends old new result
 copies_on {all = all} {old = old} {mid = mid} sound f wider first second fit few cause =
@@ -200,7 +207,8 @@ one_more each few many less = omega (arith, mul-le-mul_left {m = few + 1} {n = m
 pub looked_on : (shape : Shape) (old mid new : State) → HasShape old.size shape old.content → LooksAtLog old mid
     → LooksOnly (λ s. s < first_home shape) mid new → LooksAtLog old new
 looked_on shape old mid new has first last near holds =
-    looks_joined (λ s. s < near) old mid new (first near holds) (looks_below (first_home shape) near mid new (holds.log shape has) last)
+    looks_joined (λ s. s < near) old mid new (first near holds)
+    (looks_below (first_home shape) near mid new (holds.log shape has) last)
 
 -- the reads of a record and those of its data places
 pub most_tried : (format : LogFormat) (count : ℕ) → count ≤ 240
@@ -249,7 +257,8 @@ through_spares first place bytes old new below sound elsewhere moments =
     (λ image either s le. ⊎_elim (λ cut. cut s) (λ w. rw (← w.2.elsewhere s (apart s le)) at (w.1 s)) either) moments)
 
 -- sectors before these are cleared
-pub clear_spares : (first end : ℕ) (old new : State) → IsSound new → ((x : ℕ) → ¬ IsBetween first end x → new.content x ≡ old.content x)
+pub clear_spares : (first end : ℕ) (old new : State) → IsSound new
+    → ((x : ℕ) → ¬ IsBetween first end x → new.content x ≡ old.content x)
     → StaysWithin (cleared_at (IsBetween first end) old.may_leave) old new → SparesFrom end old new
 clear_spares first end old new sound elsewhere within =
     spared_by end old new sound (λ s le. elsewhere s (λ between. omega (arith, le, between.1)))
@@ -278,7 +287,8 @@ module _ {P : Image → Type 0} where
       let quiet = quiet_call old new passes content sets in
       search (rules, quiet_leaves P _ _ sound each quiet, spared_quiet end _ _ sound quiet, passes.looked_stays (λ e. cc e))
 
-  module _ {M : Type 0} {state : M → State} {Follows : M → M → Type 0} {end : ℕ} {old new : M} {result : Result (Unit {0}) MediumFault}
+  module _ {M : Type 0} {state : M → State} {Follows : M → M
+      → Type 0} {end : ℕ} {old new : M} {result : Result (Unit {0}) MediumFault}
       (sound : IsSound (state new)) where
     -- a sector is written and flushed: it leaves P where each image had P before, and each has it with that sector written
     pub through_writes : {place : ℕ} {bytes : List ℕ} → place < end

@@ -37,14 +37,17 @@ use Rattle.medium.specs.declared.fault.MediumFault.TheVariants as medium
 use Rattle.journal.proofs.StandingLaws.{HasFault-stands}
 
 -- a look at contents that stand for something is refused by the device
-pub served_look : (old new : State) (fault : StartFault) → IsLookCause old new fault → Stands old.size old.content → IsDeviceFault fault
+pub served_look : (old new : State) (fault : StartFault) → IsLookCause old new fault → Stands old.size old.content
+    → IsDeviceFault fault
 served_look old new NoMemory h s = absurd h
 served_look old new fault h s =
-    let faultless = λ (f : image.ImageFault) (h : image.HasFault old.size old.content f). HasFault-stands old.size old.content f h s in
+    let faultless = λ (f : image.ImageFault)
+    (h : image.HasFault old.size old.content f). HasFault-stands old.size old.content f h s in
     search (rules, faultless, h)
 
 -- and so is a start, with a stamp left and enough slots
-module _ (least : ℕ) (old new : State) (shape : Shape) (array : Array) (next : ℕ) (s : StandsFor old.size shape old.content array next)
+module _ (least : ℕ) (old new : State) (shape : Shape) (array : Array) (next : ℕ)
+    (s : StandsFor old.size shape old.content array next)
     (left : next < 2 ^ 63) (some : ¬ HasFewSlots least old.size old.content) where
   pub served_slots : (fault : StartFault) → IsRefusalBy least WritesNothing old new fault → IsDeviceFault fault
   served_slots NoMemory h = absurd h
@@ -55,7 +58,8 @@ module _ (least : ℕ) (old new : State) (shape : Shape) (array : Array) (next :
   served_slots fault h = served_look old new fault (search rules) (shape, array, next, s)
 
 -- a start that asks for no slots is refused as a recovery is
-pub recovery_refused : (old new : State) (fault : StartFault) → IsRefusalBy 0 WritesNothing old new fault → IsRecoveryRefusal old new fault
+pub recovery_refused : (old new : State) (fault : StartFault) → IsRefusalBy 0 WritesNothing old new fault
+    → IsRecoveryRefusal old new fault
 recovery_refused old new LogTooSmall h = absurd (omega (arith, h.0.few))
 recovery_refused old new fault h =
     let none : ¬ HasFewSlots 0 old.size old.content = λ few. absurd (omega (arith, few.few)) in
@@ -96,7 +100,8 @@ pub record IsServed (least : ℕ) (old : State) (shape : Shape) : Type 0 where
   pub room : ¬ HasFewSlots least old.size old.content
 
 -- a start, and behind its first good flush other calls
-pub start_on : {Is : ℕ → Shape → Array → ℕ → Image → Type 0} {few_calls few_sends most_calls most_sends : LogFormat → ℕ → ℕ} {least : ℕ}
+pub start_on : {Is : ℕ → Shape → Array → ℕ → Image → Type 0} {few_calls few_sends most_calls most_sends : LogFormat
+    → ℕ → ℕ} {least : ℕ}
     {old mid new : State} {shape : Shape} → IsSound old → IsServed least old shape → StartLeaves Is few_calls few_sends least old mid
     → old.calls + 2 ≤ mid.calls
     → ((array : Array) (next : ℕ) → IsOurs old.size shape old.content array next → LeavesOnly (Is old.size shape array next) mid new)
@@ -104,23 +109,27 @@ pub start_on : {Is : ℕ → Shape → Array → ℕ → Image → Type 0} {few_
     → new.calls ≤ old.calls + 6 + most_calls shape.format shape.slots → most_calls shape.format shape.slots ≤ 738 * 64
     → SendsUpTo (most_sends shape.format shape.slots) old new → most_sends shape.format shape.slots ≤ most_start_sends Two 64
     → StartLeaves Is most_calls most_sends least old new
-start_on {Is} {old = old} {mid = mid} {new = new} {shape = shape} sound served first begun ours spares looks calls all_calls sent all_sent =
+start_on {Is} {old = old} {mid = mid} {new = new} {shape =
+    shape} sound served first begun ours spares looks calls all_calls sent all_sent =
     let has = StandsFor-shape old.size shape old.content served.array served.next served.stands in
     let one : (other : Shape) → image.HasShape old.size other old.content → other ≡ shape =
     λ other its. IsSuper-one other shape (old.content 0) its.super has.super in
     let later : (other : Shape) (array : Array) (next : ℕ) → IsOurs old.size other old.content array next
     → LeavesOnly (Is old.size other array next) mid new = λ other array next theirs.
-    let is = IsSuper-one other shape (old.content 0) theirs.stands.keeps.super has.super in rw is (ours array next (rw is at theirs)) in
+    let is = IsSuper-one other shape (old.content 0) theirs.stands.keeps.super has.super in
+    rw is (ours array next (rw is at theirs)) in
     record {
       cuts = λ each.
           let e = each old.content sound.holds_content in
           joined_same _ old mid new (first.cuts each)
           (weaker (Is old.size e.0 e.1 e.2) (StandsForSome Is old) _ _ (λ image is. search (rules, e.3, is, sound.holds_content))
           (later e.0 e.1 e.2 e.3));
-      after_flush = λ other array next ours more image since. ⊎_elim (first.after_flush other array next ours begun image) (λ now. now)
+      after_flush = λ other array next ours more image since. ⊎_elim
+          (first.after_flush other array next ours begun image) (λ now. now)
           ((later other array next ours).before (old.calls + 1) image (omega (arith, begun)) since);
       spares = record {
-        behind = λ other its. rw (one other its) (spared_joined (sectors_of shape) old mid new (first.spares.behind shape has) spares);
+        behind = λ other its. rw (one other its)
+            (spared_joined (sectors_of shape) old mid new (first.spares.behind shape has) spares);
         unserved = λ none. let past = none shape served.array served.next served.stands in absurd (omega (arith, past, served.left));
       };
       small = λ few. absurd (served.room few);
@@ -156,7 +165,8 @@ module _ (least : ℕ) {old mid seen : State} {result : Result (Unit {0}) Medium
   wrote_nothing = search (rules, quiet, known.reads.only.reads, known.passes.others_made, known.passes.made_is)
 
   -- from the first good flush up to the first write there is one image
-  seen_after : Only old.content mid.may_leave → (shape : Shape) (array : Array) (next : ℕ) → IsOurs old.size shape old.content array next
+  seen_after : Only old.content mid.may_leave → (shape : Shape) (array : Array) (next : ℕ)
+      → IsOurs old.size shape old.content array next
       → (image : Image) → seen.left_since (old.calls + 1) image → IsOursWithNext old.size shape array next image
   seen_after only shape array next ours image since =
       let here = rw (← known.passes.calls_are) at since in
@@ -178,7 +188,8 @@ module _ (least : ℕ) {old mid seen : State} {result : Result (Unit {0}) Medium
       let looks = λ (near : ℕ) (holds : HoldsLog near old.size old.content). looks_joined (λ s. s < near) old mid seen
       (no_looks _ old mid (known.passes.looked_stays (λ e. cc e)))
       (known.reads.only.looks near (quiet_after (λ n i. HoldsLog near n i) old mid flushed holds)) in
-      search (rules, cuts, seen_after, known.only, moments, known.passes.calls_are, most, one_sent, looks, spared_quiet, quiet, known.sound)
+      search
+      (rules, cuts, seen_after, known.only, moments, known.passes.calls_are, most, one_sent, looks, spared_quiet, quiet, known.sound)
 
   -- a refusal by the survey is one by the flush and it
   pub refusal : (fault : StartFault) → IsRefusalBy least IsQuiet mid seen fault → IsRefusalBy least WritesNothing old seen fault
@@ -202,7 +213,8 @@ module _ (least : ℕ) {old mid seen : State} {result : Result (Unit {0}) Medium
 
     -- for what the contents stand
     stood : Stood old.size shape old.content found.head found.count
-    stood = count_stands old.size shape old.content found.head found.count at_old.shape.fits at_old.shape.super at_old.head at_old.count
+    stood =
+        count_stands old.size shape old.content found.head found.count at_old.shape.fits at_old.shape.super at_old.head at_old.count
 
     -- the head and the count are those of all for which they stand
     matches : {array : Array} {next : ℕ} (s : StandsFor old.size shape old.content array next)
@@ -258,7 +270,8 @@ module _ (least : ℕ) {old mid seen : State} {result : Result (Unit {0}) Medium
         → ((k : ℕ) → k < length records → IsWhole (shape_of found.sizes) seen.content (found.head + k) (get_or records k []))
         → AreCopied (shape_of found.sizes) records seen copied) where
       -- the records of what the contents stand for are copied
-      all_copied : {array : Array} {next : ℕ} (s : StandsFor old.size shape old.content array next) → AreCopied shape s.records seen copied
+      all_copied : {array : Array} {next : ℕ} (s : StandsFor old.size shape old.content array next)
+          → AreCopied shape s.records seen copied
       all_copied s =
           let f = matches s in
           done s.records f.1 (λ k less. rw (same, f.0) (s.keeps.whole k less))
@@ -280,7 +293,8 @@ module _ (least : ℕ) {old mid seen : State} {result : Result (Unit {0}) Medium
             head = subst (λ (n : ℕ). IsHead n (image 1)) (omega (arith, f.0, f.1, ours.stands.next_is)) moved.head;
             home = λ b below. moved.elsewhere (first_home shape + b) (λ e. omega (arith, e, ends)) ∙ copied_home ours.stands b below;
             carries = CarriesBelow-agree (layout_of shape.format) (laws_of shape.format) shape old.content image next
-                (λ x low high. moved.elsewhere x (λ e. omega (arith, low, e)) ∙ copied_log x (omega (arith, high, ends))) ours.carries;
+                (λ x low high. moved.elsewhere x (λ e. omega (arith, low, e))
+                ∙ copied_log x (omega (arith, high, ends))) ours.carries;
           }
 
       -- the copies, and perhaps the new head
@@ -290,13 +304,15 @@ module _ (least : ℕ) {old mid seen : State} {result : Result (Unit {0}) Medium
           let most = most_of found.sizes.format found.sizes.slots found.sizes.most_slots in
           start_on {shape = shape} known.sound (search (rules, stood.stands, at_old.stamp_left, at_old.room)) copies_leave
           (omega (arith, begun, copying.moments.later))
-          (λ array next ours. weaker _ _ _ _ (λ image either. ⊎_elim (λ cut. inl (at_exit _ seen copied sound (copied_ours ours) image cut))
+          (λ array next ours. weaker _ _ _ _
+          (λ image either. ⊎_elim (λ cut. inl (at_exit _ seen copied sound (copied_ours ours) image cut))
           (λ moved. inr (fresh_ours at_old.shape.fits (moved_fresh ours moved))) either) moves.moments)
           (spared_behind 2 (sectors_of shape) copied new (omega arith) moves.spares)
           (no_looks _ copied new moves.reads.looked_stays) (few new.calls 3 (omega arith) moves.calls) most.0
           (omega (arith, sent_few, moves.sent)) most.1
 
-      module _ (new : State) (head : HasNewHead (found.head + found.count + 1) copied.content new.content) (durable : IsFlushed new) where
+      module _ (new : State) (head : HasNewHead (found.head + found.count + 1) copied.content new.content)
+          (durable : IsFlushed new) where
         pub recovery_done : new.calls ≡ copied.calls + 3
             → IsRecoveredFrom old new (record { sizes = found.sizes; next = found.head + found.count + 1 })
             × (¬ HasFewSlots least old.size old.content) × ((other : Shape) (array : Array) (next : ℕ)
@@ -332,6 +348,7 @@ start_migrates format slots old new most = grind arith
 -- what a recovery leaves
 pub recovery_leaves : (old new : State) → LeavesAtLeast 5 old new → MigrationLeaves old new
 recovery_leaves old new leaves =
-    let cuts = λ (each : EachCut (IsOursForSome old.size) old). weaker (StandsForOneOf old) (StandsForSome IsOursInEither old) old new
+    let cuts = λ (each : EachCut (IsOursForSome old.size) old). weaker (StandsForOneOf old)
+    (StandsForSome IsOursInEither old) old new
     (λ image o. search (rules, o)) (leaves.cuts each) in
     search (rules, cuts, leaves.after_flush, start_migrates, leaves.sends.most, leaves.sends.none, leaves.looks, leaves.small)

@@ -77,7 +77,8 @@ has_view {stamp = stamp} {head = head} passed view fits behind found =
     }
 
 -- with a record in front of them whole it has that one too
-pub has_before : {size : ℕ} {shape : Shape} {head : ℕ} (first : List Entry) {view : View} {image : Image} → IsWhole shape image head first
+pub has_before : {size : ℕ} {shape : Shape} {head : ℕ} (first : List Entry) {view : View} {image : Image}
+    → IsWhole shape image head first
     → HasView size shape (head + 1) view image → HasView size shape head (with_passed (first ∷ []) view) image
 has_before {head = head} first {view} whole has =
     let behind = λ (j : ℕ). get_or-append-add (first ∷ []) view.records (j - 1) [] in
@@ -177,7 +178,8 @@ module _ {shape : Shape} {head : ℕ} {view : View} {made turned retire : ℕ} {
 -- ---- what a log and its medium hold
 
 -- blocks of 512 bytes under these numbers are a record
-pub record_entries : (shape : Shape) (stamp : ℕ) (numbers : List ℕ) (entries : List Entry) → IsSized shape → IsRecord shape stamp numbers
+pub record_entries : (shape : Shape) (stamp : ℕ) (numbers : List ℕ) (entries : List Entry) → IsSized shape
+    → IsRecord shape stamp numbers
     → numbers ≡ numbers_of entries → All (λ (e : Entry). length e.1 ≡ 512) entries
     → IsRecordOf (layout_of shape.format) shape.blocks stamp entries
 record_entries shape stamp numbers entries sized rec is full =
@@ -229,7 +231,8 @@ module _ {log : LogValue} {m : State} {view : View} (hv : HoldsView log m view) 
     stands_then left made fewer none some_made =
         let L = layout_of log.shape.format in
         let n = length view.under_way in
-        let under_way = λ (some : 0 < left). record_entries log.shape (log.head + length view.records) log.under_way view.under_way is.sized
+        let under_way = λ (some : 0 < left). record_entries log.shape
+        (log.head + length view.records) log.under_way view.under_way is.sized
         (rw many at (is.record_is (omega (arith, some, fewer)))) hv.under_way hv.sized in
         let steps = ap (λ (k : ℕ). steps_for log.shape.format k) under_count ∙ steps_are log.shape.format n in
         let one = one_left _ _ ((laws_of log.shape.format).last_is_late n) made in

@@ -44,10 +44,12 @@ module _ (numbers bytes : List ℕ) (i p : ℕ) (below : i < length numbers) whe
   data_offset Two is = grind (arith, layout.parts)
 
   pub data_part : (format : LogFormat) (stamp : ℕ) → p + 1 + length numbers ≡ (layout_of format).parts (length numbers) + i
-      → placed format stamp (slice_range bytes (512 * i) (512 * i + 512)) ≡ (layout_of format).part stamp (entries_of numbers bytes) p
+      → placed format stamp (slice_range bytes (512 * i) (512 * i + 512)) ≡ (layout_of format).part stamp
+      (entries_of numbers bytes) p
   data_part One stamp is = let i_is : p - 1 ≡ i = omega (arith, is) in grind (arith, layout.parts, entry_of_batch, length_of_batch)
   data_part Two stamp is =
-      let i_is : p - (length numbers + 29) / 30 ≡ i = omega (arith, is) in grind (arith, layout.parts, entry_of_batch, length_of_batch)
+      let i_is : p - (length numbers + 29) / 30 ≡ i = omega (arith, is) in
+      grind (arith, layout.parts, entry_of_batch, length_of_batch)
 
 -- the early parts have a flush, where there are any
 pub flush_of_is : (e : ℕ) → ((e ≡ 0) × (flush_of e ≡ 0)) ⊎ ((0 < e) × (flush_of e ≡ 1))
@@ -61,7 +63,8 @@ unfolding written_at flushed_at
 written_is e made = grind (arith, nat_tests)
 
 -- the steps are a call for each part, a flush, and one for the early parts where there are any
-pub steps_are : (format : LogFormat) (n : ℕ) → steps_for format n ≡ (layout_of format).parts n + 1 + flush_of ((layout_of format).early n)
+pub steps_are : (format : LogFormat) (n : ℕ)
+    → steps_for format n ≡ (layout_of format).parts n + 1 + flush_of ((layout_of format).early n)
 steps_are format n = grind (arith, flush_of_is)
 
 module _ (e parts : ℕ) (late : e < parts) where
@@ -137,7 +140,8 @@ few_next log = grind arith
 
 -- as many as the next retire step
 pub counts_next : {log : LogValue} → IsLog log → 0 < of_oldest log → (turn : Turn)
-    → IsNextTurn log.shape log.head (get_or log.waiting 0 []) log.firsts (turned_of log) turn → {result : Result (Unit {0}) MediumFault}
+    → IsNextTurn log.shape log.head (get_or log.waiting 0 []) log.firsts (turned_of log) turn
+    → {result : Result (Unit {0}) MediumFault}
     → {old new : State} → CallsUpTo (counts_of turn).0 (counts_of turn).1 (counts_of turn).2 result old new
     → CountsStep (next_calls log) (next_sends log) (next_turn_flushes log) result old new
 counts_next {log} is owed turn next {result} {old} {new} up =

@@ -63,7 +63,8 @@ module _ {log : LogValue} (is : IsLog log) (live : log.dead ≡ false) (owed : 0
     pub head_leaves : WritesOnly 1 (head_bytes h.stamp) old new → view.ours ≡ true → LeavesOnly (MayLeave old.size log view) old new
     head_leaves adds ours = moments_have (MayLeave old.size log view) 1 (head_bytes h.stamp) old new adds
         (λ mid gains. each_write _ (MayLeave old.size log view) old mid 1 (head_bytes h.stamp) sound gains (one_now ours)
-        (λ image both. guard_leaves log {retire = 0} hv.fits (stands_now hv is) (with_newest both.0 (λ none. absurd (omega (arith, none)))))
+        (λ image both. guard_leaves log {retire = 0} hv.fits (stands_now hv is)
+        (with_newest both.0 (λ none. absurd (omega (arith, none)))))
         (λ before image write both.
         let g = with_newest {retire = 0} ((past both.1 write).guarded both.0) (λ none. absurd (omega (arith, none))) in
         let first = IsWholeIn-same _ (laws_of _) log.shape is.sized.some before image
@@ -99,7 +100,8 @@ module _ {log : LogValue} (is : IsLog log) (live : log.dead ≡ false) (owed : 0
     retired_held then stepped held = grind (arith, one, stepped.some, stepped.last, held)
 
     -- where it is not flushed yet, a slot is free besides the one that is passed
-    pub ahead_held : log.next - log.head < log.shape.slots → new.size ≡ old.size → Gains 1 (head_bytes h.stamp) old.may_leave new.may_leave
+    pub ahead_held : log.next - log.head < log.shape.slots → new.size ≡ old.size
+        → Gains 1 (head_bytes h.stamp) old.may_leave new.may_leave
         → Holds 1 (head_bytes h.stamp) old.content new.content → HoldsView (retired_of log) new (view_retired 1 view)
     ahead_held besides same_size gains wrote = past_held same_size wrote (λ ours.
         each_write _ _ old new 1 (head_bytes h.stamp) sound gains (one_now ours)
@@ -114,7 +116,8 @@ module _ {log : LogValue} (is : IsLog log) (live : log.dead ≡ false) (owed : 0
         (λ before image write both. with_newest ((past both.1 write).guarded both.0) (λ is. absurd (needs_more is))))
 
   -- ---- the next turn of the oldest record
-  module _ (turn : Turn) (next : IsNextTurn log.shape log.head (get_or log.waiting 0 []) log.firsts (turned_of log) turn) (new : State)
+  module _ (turn : Turn) (next : IsNextTurn log.shape log.head (get_or log.waiting 0 []) log.firsts
+      (turned_of log) turn) (new : State)
       (adds : MayTurn turn old new) where
     -- ---- it brings the next block home
     module _ (below : 2 < of_oldest log) where
@@ -156,7 +159,8 @@ module _ {log : LogValue} (is : IsLog log) (live : log.dead ≡ false) (owed : 0
           let write = brings.1 done in
           goes_on hv is log.steps_left (log.retire_steps_left - 1) ahead new (omega arith) same_size live
           (record {
-            stored = (kept_home _ (laws_of _) v is.sized.behind fit _ (records-hide view.records 0 _ waits inside) write).stored s.stored;
+            stored = (kept_home _ (laws_of _) v is.sized.behind fit _
+                (records-hide view.records 0 _ waits inside) write).stored s.stored;
             copied = λ j low high.
                 let up = (rw (named hv 0) at (is.each 0 [] (one_waits is owed)).rising) j (turned_of log) in
                 let number = λ (i : ℕ). get_or-map (λ (e : Entry). e.0) oldest i (0, []) in
@@ -169,15 +173,18 @@ module _ {log : LogValue} (is : IsLog log) (live : log.dead ≡ false) (owed : 0
     by_turn : {P : Type 0} → (2 < of_oldest log → P) → (of_oldest log ≡ 2 → turn ≡ Flush → P)
         → (of_oldest log ≡ 1 → (h : HeadOf) → turn ≡ Head h → h.stamp ≡ log.head + 1 → P) → P
     by_turn home flush head =
-        let which : (2 < of_oldest log) ⊎ ((of_oldest log ≡ 2) × (turn ≡ Flush)) ⊎ ((of_oldest log ≡ 1) × IsHeadTurn (log.head + 1) turn) =
+        let which : (2 < of_oldest log) ⊎ ((of_oldest log ≡ 2) × (turn ≡ Flush))
+        ⊎ ((of_oldest log ≡ 1) × IsHeadTurn (log.head + 1) turn) =
         grind (arith, cases_lt 2 (of_oldest log), next.flush, next.head, owed) in
-        let past = λ (h : (h : HeadOf) × (turn ≡ Head h) × (h.stamp ≡ log.head + 1)) (one : of_oldest log ≡ 1). head one h.0 h.1 h.2 in
+        let past = λ (h : (h : HeadOf) × (turn ≡ Head h) × (h.stamp ≡ log.head + 1))
+        (one : of_oldest log ≡ 1). head one h.0 h.1 h.2 in
         ⊎_elim home (⊎_elim (λ two. flush two.0 two.1) (λ one. past (head_turn (log.head + 1) turn one.1) one.0)) which
 
     -- at each moment a cut leaves what it might leave before
     pub turn_leaves : view.ours ≡ true → LeavesOnly (MayLeave old.size log view) old new
     turn_leaves ours = by_turn
-        (λ below. moments_have (MayLeave old.size log view) (to below) (block below).1 old new (brings below).0 (λ mid gains image cut.
+        (λ below. moments_have (MayLeave old.size log view) (to below) (block below).1 old new (brings below).0
+        (λ mid gains image cut.
         guard_leaves log {retire = 0} hv.fits (stands_now hv is) (home_each below ours mid gains (omega arith) image cut)))
         (λ two flush. quiet_leaves (MayLeave old.size log view) old new sound (hv.leaves ours) (rw flush at adds))
         (λ one h head stamp. head_leaves one h stamp new (rw head at adds) ours)
@@ -187,7 +194,13 @@ module _ {log : LogValue} (is : IsLog log) (live : log.dead ≡ false) (owed : 0
       -- a record whose blocks go home by retire steps needs its flush
       goes_home : 2 < of_oldest log → HoldsView (settled log) new view
       goes_home below = home_held below log.ahead
-          (λ one. omega (arith, needed_one log.ahead log.head (log.head + length log.waiting) _ one, below, is.away below)) same_size done
+          (λ one. omega (
+            arith,
+            needed_one log.ahead log.head
+                (log.head + length log.waiting) _ one,
+            below,
+            is.away below,
+          )) same_size done
 
       pub stepped_held : IsRetireStepped log then → HoldsView then new (view_retired (then.head - log.head) view)
       stepped_held stepped =

@@ -44,7 +44,8 @@ pub idle_holds : (shape : Shape) (next : ℕ) (array : Array) (ours : Bool) (m :
 idle_holds shape next array ours m fits keeps fresh =
     let view : View = resting_view array ours in
     let leaves : ours ≡ true → EachCut (MayLeave m.size (idle_from shape next) (resting_view array ours)) m = λ is image cut.
-    inl (has_view [] view fits (omega arith) (rests_found _ (laws_of _) (image_view shape next view) (omega arith) (fresh is image cut))) in
+    inl (has_view [] view fits (omega arith)
+    (rests_found _ (laws_of _) (image_view shape next view) (omega arith) (fresh is image cut))) in
     let stored = keeps_stored view refl keeps in
     let guards : ours ≡ true → IsGuarded (idle_from shape next) (resting_view array ours) m =
     λ is image cut. with_newest (rests_safe view refl (fresh is image cut)) (λ none. absurd (omega (arith, none))) in
@@ -56,7 +57,8 @@ died_holds log m view holds =
     going_held holds log.steps_left log.retire_steps_left log.ahead true m refl holds.leaves (λ live. cc live) (λ live ours. cc live)
 
 -- a flush that was made stands for the one that the oldest record needs
-pub settled_holds : (log : LogValue) (m : State) (view : View) → HoldsView log m view → IsCovered log → HoldsView (settled log) m view
+pub settled_holds : (log : LogValue) (m : State) (view : View) → HoldsView log m view → IsCovered log
+    → HoldsView (settled log) m view
 settled_holds log m view holds covered =
     let covers = needed_covered log.ahead log.head (log.head + length log.waiting) covered.oldest covered.since in
     let needs : needed_of log ≡ needed_of (settled log) = grind (arith, covered.flushes, covers) in
@@ -77,7 +79,8 @@ blocks_guarded log m view sound holds live ours image cut =
 -- the image is ours and stands for the log's array, or with the record under way
 pub may_leave_ours : (size : ℕ) (log : LogValue) (view : View) (image : Image) → MayLeave size log view image
     → IsOurs size log.shape image view.array (log.head + length view.records + 1)
-    ⊎ ((0 < log.steps_left) × IsOurs size log.shape image (with_blocks view.under_way view.array) (log.head + length view.records + 2))
+    ⊎ ((0 < log.steps_left) × IsOurs size log.shape image (with_blocks view.under_way view.array)
+    (log.head + length view.records + 2))
 may_leave_ours size log view image found =
     grind (arith, found, length-append view.records (view.under_way ∷ []))
 
@@ -98,7 +101,8 @@ begun_holds log m view numbers bytes holds room batch =
     let leaves : view.ours ≡ true → EachCut (MayLeave m.size next (with_begun E view)) m = λ ours image cut.
     grind (arith, holds.leaves ours image cut, room.no_steps, behind) in
     let stores : log.dead ≡ false → IsStored next (with_begun E view) m = λ live.
-    let stored = keeps_stored (with_begun E view) made (holds.stores live).stored.keeps in search (rules, arith, holds.stores live) in
+    let stored = keeps_stored (with_begun E view) made (holds.stores live).stored.keeps in
+    search (rules, arith, holds.stores live) in
     let guards : log.dead ≡ false → view.ours ≡ true → IsGuarded next (with_begun E view) m = λ live ours image cut.
     let g = holds.guards live ours image cut in
     let idle = safe_rests (with_passed g.passed view) (none_made log room.no_steps) g.safe in
@@ -173,7 +177,8 @@ module _ {log : LogValue} (is : IsLog log) (live : log.dead ≡ false) (some : 0
           (Stores-stays s (made_of more_log) (turned_of log) new.content wrote.0 (omega (arith, after.0)) (λ i low high. low))
           (λ ours. each_flush _ old.content new wrote.1 (with_newest
           (rw (after.0, after.1) (record { stored = s.stored; carries = (safe_here sound s (hv.guards live ours)).carries }))
-          (λ one i inside. s.copied i (omega (arith, inside, needed_one log.ahead log.head _ (of_oldest log) one, count hv 0)) inside)))
+          (λ one i inside. s.copied i (omega
+          (arith, inside, needed_one log.ahead log.head _ (of_oldest log) one, count hv 0)) inside)))
 
       -- ---- a flush of all parts: the record is durable
       all_flushed : log.steps_left ≡ 1 → IsDone here.call old new → HoldsView (durable_of log) new (with_record view)
@@ -187,20 +192,24 @@ module _ {log : LogValue} (is : IsLog log) (live : log.dead ≡ false) (some : 0
           let s = hv.stores live in
           let durable : log.waiting ++ log.under_way ∷ [] ≡ map (λ r. numbers_of r) (view.records ++ view.under_way ∷ []) =
           rw (hv.durable, hv.under_way) (sym (map-append (λ r. numbers_of r) view.records (view.under_way ∷ []))) in
-          let copied : AreHome log.shape (get_or (view.records ++ view.under_way ∷ []) 0 []) (turned_of (durable_of log)) old.content =
+          let copied : AreHome log.shape (get_or (view.records ++ view.under_way ∷ []) 0 [])
+          (turned_of (durable_of log)) old.content =
           let first = get_or_append_left view.records (view.under_way ∷ []) [] 0 in λ i low high.
           grind (arith, cases_eq (length view.records) 0, durable_alone log is some, durable_more log, many hv, s.copied i, first) in
           let keeps = Stored-durable _ (laws_of _) _ (stands.slots some) all s.stored in
           let guards : view.ours ≡ true → IsGuarded (durable_of log) (with_record view) new = λ ours.
-          let carries = carries_below _ (laws_of _) _ (stands.slots some) old.content _ _ (safe_here sound s (hv.guards live ours)) in
-          each_flush _ old.content new wrote.1 (with_newest (rests_safe (with_record view) refl (grind (arith, keeps, carries, longer)))
+          let carries = carries_below _ (laws_of _) _ (stands.slots some) old.content _ _
+          (safe_here sound s (hv.guards live ours)) in
+          each_flush _ old.content new wrote.1
+          (with_newest (rests_safe (with_record view) refl (grind (arith, keeps, carries, longer)))
           (λ one i inside. copied i (omega (
             arith,
             inside,
             needed_one log.ahead log.head _ (of_oldest (durable_of log)) one,
             counts_of (view.records ++ view.under_way ∷ []) durable 0,
           )) inside)) in
-          let few : length (view.records ++ view.under_way ∷ []) ≤ log.shape.slots = omega (arith, (stands.slots some).room, longer) in
+          let few : length (view.records ++ view.under_way ∷ []) ≤ log.shape.slots =
+          omega (arith, (stands.slots some).room, longer) in
           let some_blocks : 0 < length view.under_way = (stands.slots some).under_way.fit.some in
           let firsts = durable_kept log.shape.format view.records view.under_way log.firsts hv.firsts some_blocks in
           let leaves : view.ours ≡ true → EachCut (MayLeave new.size (durable_of log) (with_record view)) new =
@@ -268,7 +277,8 @@ module _ {log : LogValue} (is : IsLog log) (live : log.dead ≡ false) (some : 0
             let now = part_written _ _ late (made_of log) (made_of more_log) (then_made more) (grind (arith, not)) in
             goes_on hv is (log.steps_left - 1) log.retire_steps_left log.ahead new (omega arith) here.makes.passes.size_stays live
             (record {
-              stored = Stored-write _ (laws_of _) _ (stands.slots some) k small (λ p low not. omega arith) (rw mine at write) s.stored;
+              stored = Stored-write _ (laws_of _) _ (stands.slots some) k small (λ p low not. omega arith)
+                  (rw mine at write) s.stored;
               copied = λ i low high. at_home write _ ∙ s.copied i low high;
             })
             (λ ours. part_each mine ours (made_of more_log) (then_made more))
@@ -296,5 +306,9 @@ module _ {log : LogValue} (is : IsLog log) (live : log.dead ≡ false) (some : 0
             → OnOk result (EachCut (HasDurable new.size then (with_record view)) new)
         counted_whole ours stepped = rw stepped.1 (on_ok_weaker result (λ done image cut.
             let held = all_flushed stepped.0 done in
-            grind (arith, guard_logged (durable_of log) held.fits (stands_idle held.few refl refl) (held.guards live ours image cut)))
+            grind (
+              arith,
+              guard_logged (durable_of log) held.fits (stands_idle held.few refl refl)
+                  (held.guards live ours image cut),
+            ))
             here.makes.done)

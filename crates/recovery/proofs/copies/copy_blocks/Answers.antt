@@ -18,7 +18,8 @@ at_block g c =
     let sizes = c.args.sizes.now in
     let inside : c.loop-i.i < length c.args.read.now.numbers.items = omega (arith, c.loop-i-test.true, c.len-i-end.ensures.value) in
     let from : c.copy_place.result ≡ data_at (shape_of c.args.sizes.now) c.args.stamp c.loop-i.i = c.copy_place.ensures
-    ∙ ap (λ (k : ℕ). 2 + (layout_of sizes.format).slot_sectors * k + first_data_of sizes.format + c.loop-i.i) c.slot_of-slot.ensures in
+    ∙ ap
+    (λ (k : ℕ). 2 + (layout_of sizes.format).slot_sectors * k + first_data_of sizes.format + c.loop-i.i) c.slot_of-slot.ensures in
     let low = place_before sizes.format sizes.slots sizes.home (c.args.stamp % sizes.slots) c.loop-i.i sizes.home_is
     (mod_below c.args.stamp sizes.slots sizes.some_slots) (omega (arith, inside, c.requires.blocks.few)) in
     (inside, from, omega (arith, from, low), rw c.deref.ensures.0 at c.home_of.ensures)
@@ -56,7 +57,8 @@ loop-i-preserved g c =
             ∙ inv.copied k (omega arith)
       ];
       follows = g.met.M.Medium.follows_through _ _ _ inv.follows c.copy_sector.ensures.follows;
-      copies = copies_on (g.met.M.Medium.sound c.loop-i.m) (λ x e. (i, block.0, e ∙ block.3)) (λ s here. omega (arith, here, block.2))
+      copies = copies_on (g.met.M.Medium.sound c.loop-i.m) (λ x e. (i, block.0, e ∙ block.3))
+          (λ s here. omega (arith, here, block.2))
           inv.copies c.copy_sector.ensures.copies (omega arith) (omega arith) tt;
       calls = omega (arith, inv.calls, c.in_ok-copy_sector.ensures.done.1);
     }

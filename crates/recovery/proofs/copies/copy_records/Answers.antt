@@ -66,7 +66,8 @@ loop-j-preserved g c =
             exact = omega (arith, before.exact, now.exact, copy_calls-append shape.format (take j records) es);
           });
       follows = g.met.M.Medium.follows_through _ _ _ inv.follows c.copy_record.ensures.follows;
-      copies = copies_on (g.met.M.Medium.sound c.loop-j.m) (in_records g at) (λ s below. below) inv.copies c.copy_record.ensures.copies
+      copies = copies_on (g.met.M.Medium.sound c.loop-j.m) (in_records g at)
+          (λ s below. below) inv.copies c.copy_record.ensures.copies
           (omega arith) (omega arith) tt;
     }
 

@@ -11,7 +11,8 @@ invariant-loop-j g l = record {
       → ((k : ℕ) → k < length records
       → IsWhole (shape_of l.found.sizes) (g.M.Medium.state l.fn.m).content (l.found.head + k) (get_or records k []))
       → AreCopied (shape_of l.found.sizes) (take l.j records) (g.M.Medium.state l.fn.m) (g.M.Medium.state l.m);
-  copies : Copies {X = Unit {0}} (IsHomeInRecords (shape_of l.found.sizes) (g.M.Medium.state l.fn.m).content l.found.head l.found.count)
+  copies : Copies {X = Unit {0}} (IsHomeInRecords (shape_of l.found.sizes)
+      (g.M.Medium.state l.fn.m).content l.found.head l.found.count)
       (λ s. s < first_home (shape_of l.found.sizes)) (most_calls_of l.found.sizes.format * l.j) (limit_of l.found.sizes.format * l.j)
       (g.M.Medium.state l.fn.m) (g.M.Medium.state l.m) (Ok tt);
   follows : g.M.Medium.follows l.fn.m l.m;

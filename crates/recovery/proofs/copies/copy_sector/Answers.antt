@@ -14,4 +14,9 @@ returns-clause-copies g c =
     let quiet = quiet_call _ _ read.passes read.content read.sets in
     let sets = gains_within bound _ _ c.args.to bytes (λ s b left. inl (read.sets s b left)) wrote.sets (λ s b here. inr here.0) in
     let kept = quiet_leaves _ _ _ (g.met.M.Medium.sound c.args.m.now) (λ image cut s. inl (cut s)) quiet in
-    search (rules, goes_on_within bound _ _ _ kept wrote.passes sets, looks_joined _ _ _ _ read.follows.1 (write_looks _ _ _ wrote.passes))
+    search (
+      rules,
+      goes_on_within bound _ _ _ kept wrote.passes sets,
+      looks_joined _ _ _ _ read.follows.1
+          (write_looks _ _ _ wrote.passes),
+    )

@@ -36,8 +36,10 @@ headed g c =
     let before = cleared g (goal.at.After-write_through-2 g c).After-clear in
     let each = at_exit _ _ _ (g.met.M.Medium.sound c.clear.new.m) before.moments in
     writes_on before
-    (through_writes (g.met.M.Medium.sound c.write_through-2.new.m) (omega (arith, home, c.requires.log)) heads.writes heads.follows each
-    (λ was image cut holds. holds.elsewhere 0 (λ e. omega arith) ∙ each was cut)) (omega (arith, home, c.requires.log)) (search rules)
+    (through_writes (g.met.M.Medium.sound c.write_through-2.new.m)
+    (omega (arith, home, c.requires.log)) heads.writes heads.follows each
+    (λ was image cut holds. holds.elsewhere 0 (λ e. omega arith) ∙ each was cut))
+    (omega (arith, home, c.requires.log)) (search rules)
     (search (rules, arith, home, c.requires.log))
 
 -- an image with the super then has the head, zeros up to the end, and behind it what was there
@@ -82,7 +84,8 @@ pub returns-in_err-clear-clause-image : goal.returns-in_err-clear-clause-image
 returns-in_err-clear-clause-image g c =
     let at = goal.at.returns-in_err-clear-clause-image g c in
     made_image (first g at.After-write_through) c.in_ok-write_through.ensures.writes.exact
-    (wider _ _ (λ image is. inl is) (omega arith) (cleared g at.After-clear)) (omega arith) (search rules) (search rules) (search rules)
+    (wider _ _ (λ image is. inl is) (omega arith) (cleared g at.After-clear)) (omega arith) (search rules)
+    (search rules) (search rules)
 
 pub returns-in_err-write_through-2-clause-image : goal.returns-in_err-write_through-2-clause-image
 returns-in_err-write_through-2-clause-image g c =

@@ -12,7 +12,8 @@ made : (g : _) (c : After-write_image g) → let shape = new_shape c.args.format
 made g c =
     let shape = new_shape c.args.format c.args.blocks c.args.slots in
     let sized = rw c.in_ok-sizes.ensures.ok_part at c.sizes_of.ensures in
-    image_made _ (rw (sized.0, ap first_home sized.0) at c.write_image.ensures.image) (rw c.sectors.ensures at sized.1.fits) (omega arith)
+    image_made _ (rw (sized.0, ap first_home sized.0) at c.write_image.ensures.image)
+    (rw c.sectors.ensures at sized.1.fits) (omega arith)
     (λ image is b below. is.behind (first_home shape + b) (omega arith))
 
 pub returns-clause-ok : goal.returns-clause-ok

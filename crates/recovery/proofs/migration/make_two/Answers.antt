@@ -56,7 +56,8 @@ wiped g c =
 -- and the head is written
 headed : (g : _) (c : After-move_head g) → Writes
     (IsWiped (shape_of c.args.found.now.sizes) c.args.found.now.next (g.M.Medium.state c.args.m.now).content)
-    c.args.found.now.sizes.home (c.args.found.now.sizes.home + 1) (g.M.Medium.state c.args.m.now) (g.M.Medium.state c.move_head.new.m)
+    c.args.found.now.sizes.home (c.args.found.now.sizes.home + 1) (g.M.Medium.state c.args.m.now)
+    (g.M.Medium.state c.move_head.new.m)
     c.move_head.result
 headed g c =
     let sizes = c.args.found.now.sizes in

@@ -47,7 +47,8 @@ module _ {old mid : State} {found : _} (start : IsRecoveredFrom old mid found ×
   home_is = let home = rw one at found.sizes.home_is in omega (arith, home)
 
   module _ {new : State} {made : Result Recovered _}
-      (making : Writes (StaysFresh (shape_of found.sizes) found.next mid.content) found.sizes.home (found.sizes.home + 3) mid new made)
+      (making : Writes (StaysFresh (shape_of found.sizes) found.next mid.content) found.sizes.home
+      (found.sizes.home + 3) mid new made)
     where
       -- the home sectors hold what recovery left there
       kept_home : AreSame (shape_of found.sizes) (home_of shape new.content) start.0.array
@@ -82,7 +83,8 @@ module _ {old mid : State} {found : _} (start : IsRecoveredFrom old mid found ×
             (λ b below. kept_home b below ∙ same b below)
 
         pub migrated_from : new.calls ≡ mid.calls + (found.sizes.home + 3)
-            → IsMigratedFrom old new answer × ((other : Shape) (array : Array) (next : ℕ) → IsOurs old.size other old.content array next
+            → IsMigratedFrom old new answer
+            × ((other : Shape) (array : Array) (next : ℕ) → IsOurs old.size other old.content array next
             → EachCut (IsFresh (shape_of answer.sizes) array next) new)
         migrated_from counted =
             let stood = start.0.stood in
@@ -146,5 +148,6 @@ returns-in_ok-make_two g c =
 
 pub returns-else-migrates-clause-fresh : goal.returns-else-migrates-clause-fresh
 returns-else-migrates-clause-fresh g c shape array next ours =
-    rw (← IsSuper-one shape (shape_of c.in_ok-found.found.sizes) _ ours.stands.keeps.super c.in_ok-found.ensures.ok.0.stood.keeps.super)
+    rw
+    (← IsSuper-one shape (shape_of c.in_ok-found.found.sizes) _ ours.stands.keeps.super c.in_ok-found.ensures.ok.0.stood.keeps.super)
     (c.in_ok-found.ensures.fresh shape array next ours)

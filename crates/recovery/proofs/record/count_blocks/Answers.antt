@@ -66,7 +66,8 @@ try_read Two shape image stamp read reads places before mid after is made asked 
     (reads + places, try_made image _ stamp _ (reads + places) slot, omega (arith, made, more))
 
 -- what is so of an option, where this is
-option_weaker : {P Q : Type 0} {R S : ℕ → Type 0} (o : Option ℕ) → (P → Q) → ((n : ℕ) → R n → S n) → MatchOption o P R → MatchOption o Q S
+option_weaker : {P Q : Type 0} {R S : ℕ → Type 0} (o : Option ℕ) → (P → Q) → ((n : ℕ) → R n → S n) → MatchOption o P R
+    → MatchOption o Q S
 option_weaker None none some is = none is
 option_weaker (Some n) none some is = some n is
 
@@ -80,7 +81,8 @@ pub returns-in_err-are_stamped : goal.returns-in_err-are_stamped
 returns-in_err-are_stamped g c =
     let few : length c.read_record.new.to.numbers.items ≤ 240 = search rules in
     looks_on g.met.M.Medium.follows_through c.read_record.ensures c.are_stamped.ensures
-    (most_tried c.args.sizes.now.format c.len-count.result (omega (arith, few, c.len-count.ensures.value))) (search rules) (search rules)
+    (most_tried c.args.sizes.now.format c.len-count.result (omega (arith, few, c.len-count.ensures.value)))
+    (search rules) (search rules)
 
 pub returns : goal.returns
 returns g c =
@@ -95,7 +97,8 @@ returns g c =
     let asked = c.in_ok-are_stamped.ensures.finds in
     let count : c.len-count.result ≡ length c.read_record.new.to.numbers.items = c.len-count.ensures.value in
     let is = rw (same, count) at asked.is in
-    let long = λ (whole : HasWhole shape old.content stamp). long_as whole.0 read.numbers.items (finds.all whole.0 whole.1).numbers_are in
+    let long = λ (whole : HasWhole shape old.content stamp). long_as whole.0 read.numbers.items
+    (finds.all whole.0 whole.1).numbers_are in
     looks_on g.met.M.Medium.follows_through c.read_record.ensures c.are_stamped.ensures
     (most_tried c.args.sizes.now.format c.len-count.result (omega (arith, few, count))) tt (
       try_read shape.format shape old.content stamp read finds.exact.0 asked.exact.0 old.calls mid.calls _

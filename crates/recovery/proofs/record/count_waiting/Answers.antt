@@ -39,7 +39,8 @@ tries_more One shape image first j old mid new before last = omega (arith, befor
 tries_more Two shape image first j old mid new before last = (
   before.0 ++ last.0 ∷ [],
   omega (arith, before.1, length-append before.0 (last.0 ∷ [])),
-  each_pushed (λ k n. IsTryTwo image (slot_at format2 shape (first + k)) (first + k) shape.blocks n) before.0 last.0 j before.1 before.2
+  each_pushed (λ k n. IsTryTwo image (slot_at format2 shape (first + k))
+      (first + k) shape.blocks n) before.0 last.0 j before.1 before.2
       last.1,
   omega (arith, before.3, last.2, sum_by_push (λ x. x) before.0 last.0),
 )
@@ -72,7 +73,8 @@ loop-j-preserved g c =
       tries_more shape.format shape _ c.args.head j _ _ _ inv.finds.0 finds.0,
       rw c.push.ensures.items (omega (arith, length-append c.loop-j.waiting.items (n ∷ []), inv.finds.1)),
       rw c.push.ensures.items
-          (each_pushed (λ k n. HasCount shape old.content (c.args.head + k) n) c.loop-j.waiting.items n j inv.finds.1 inv.finds.2 finds.1),
+          (each_pushed (λ k n. HasCount shape old.content
+          (c.args.head + k) n) c.loop-j.waiting.items n j inv.finds.1 inv.finds.2 finds.1),
     )
 
 pub returns-in-None : goal.returns-in-None
@@ -85,7 +87,8 @@ returns-in-None g c =
     let finds = rw (same, c.in-None.is) at c.in_ok-count.ensures.finds in
     let more = tries_more shape.format shape _ c.args.head c.loop-j.j _ _ _ inv.finds.0 finds.0 in
     let many : c.loop-j.j + 1 ≡ min (length c.loop-j.waiting.items + 1) c.args.sizes.now.slots = omega (arith, below, inv.finds.1) in
-    let are = counts_made shape old.content c.args.head c.loop-j.j c.loop-j.waiting.items inv.finds.1 (omega (arith, below)) inv.finds.2
+    let are = counts_made shape old.content c.args.head c.loop-j.j c.loop-j.waiting.items inv.finds.1
+    (omega (arith, below)) inv.finds.2
     (λ less. finds.1) in
     looks_on g.met.M.Medium.follows_through inv c.count_blocks.ensures
     (one_more (most_reads_of c.args.sizes.now.format) c.loop-j.j c.args.sizes.now.slots below) tt

@@ -10,7 +10,8 @@ use Rattle.recovery.proofs.recovery.recover_at_least.Goals.{After-inspect, After
 
 -- the flush and the survey
 survey : (g : _) (c : After-inspect g)
-    → IsSurveyed c.flush.result (g.M.Medium.state c.args.m.now) (g.M.Medium.state c.flush.new.self) (g.M.Medium.state c.inspect.new.m)
+    → IsSurveyed c.flush.result (g.M.Medium.state c.args.m.now) (g.M.Medium.state c.flush.new.self)
+    (g.M.Medium.state c.inspect.new.m)
 survey g c = search (rules, g.met.M.Medium.sound)
 
 -- and the copies and the new head
@@ -26,13 +27,15 @@ copy_records-requires-clause-whole g c j below =
 
 pub move_head-requires-clause-inside : goal.move_head-requires-clause-inside
 move_head-requires-clause-inside g c =
-    let sizes = c.in_ok-found.found.sizes in omega (arith, c.in_ok-found.ensures.ok.shape.fits, log_ends (shape_of sizes) sizes.home_is)
+    let sizes = c.in_ok-found.found.sizes in
+    omega (arith, c.in_ok-found.ensures.ok.shape.fits, log_ends (shape_of sizes) sizes.home_is)
 
 -- behind a refused flush there is no survey
 pub returns-in_err-flush-clause-leaves : goal.returns-in_err-flush-clause-leaves
 returns-in_err-flush-clause-leaves g c =
     let mid = g.M.Medium.state c.flush.new.self in
-    survey_leaves c.args.least {mid = mid} {result = c.flush.result} (search (rules, quiet_start mid, no_looks, g.met.M.Medium.sound))
+    survey_leaves c.args.least {mid = mid} {result = c.flush.result}
+    (search (rules, quiet_start mid, no_looks, g.met.M.Medium.sound))
 
 pub returns-in_err-found : goal.returns-in_err-found
 returns-in_err-found g c =
@@ -42,7 +45,8 @@ returns-in_err-found g c =
 
 pub returns-in_err-copy_records-clause-leaves : goal.returns-in_err-copy_records-clause-leaves
 returns-in_err-copy_records-clause-leaves g c =
-    copies_leave c.args.least (survey g (goal.at.returns-in_err-copy_records-clause-leaves g c).After-inspect) c.in_ok-found.ensures.ok
+    copies_leave c.args.least (survey g
+    (goal.at.returns-in_err-copy_records-clause-leaves g c).After-inspect) c.in_ok-found.ensures.ok
     (g.met.M.Medium.sound c.copy_records.new.m) c.copy_records.ensures.copies
 
 pub returns-in_err-move_head-clause-leaves : goal.returns-in_err-move_head-clause-leaves
@@ -52,7 +56,8 @@ pub returns : goal.returns
 returns g c =
     let at = goal.at.returns g c in
     let moves = c.in_ok-move_head.ensures in
-    let both = recovery_done c.args.least (survey g at.After-inspect) c.in_ok-found.ensures.ok (g.met.M.Medium.sound c.copy_records.new.m)
+    let both = recovery_done c.args.least (survey g at.After-inspect) c.in_ok-found.ensures.ok
+    (g.met.M.Medium.sound c.copy_records.new.m)
     c.copy_records.ensures.copies c.in_ok-copy_records.ensures.done (g.M.Medium.state c.move_head.new.m) moves.done.0 moves.done.1
     moves.writes.exact in
     search (rules, both, moved g at.After-move_head, g.met.M.Medium.follows_through)

@@ -11,7 +11,8 @@ use Rattle.recovery.proofs.sectors.clear.Goals.{After-write}
 -- what is left while one sector more is cleared, and what the others hold
 one_more : (g : _) (c : After-write g)
     → Stays (g.M.Medium.state c.loop-sector.m).content (g.M.Medium.state c.write.new.self).content
-    ⊎ Holds c.loop-sector.sector (replicate 512 0) (g.M.Medium.state c.loop-sector.m).content (g.M.Medium.state c.write.new.self).content
+    ⊎ Holds c.loop-sector.sector (replicate 512 0) (g.M.Medium.state c.loop-sector.m).content
+    (g.M.Medium.state c.write.new.self).content
     → StaysWithin (cleared_at (IsBetween c.args.from c.args.end) (g.M.Medium.state c.args.m.now).may_leave)
     (g.M.Medium.state c.args.m.now) (g.M.Medium.state c.write.new.self)
     × ((x : ℕ) → ¬ IsBetween c.args.from c.args.end x
@@ -22,9 +23,12 @@ one_more g c wrote =
     let inv = c.loop-sector.invariant.clears in
     let bound = cleared_at (IsBetween c.args.from c.args.end) (g.M.Medium.state c.args.m.now).may_leave in (
       goes_on_within bound _ _ _ inv.moments c.write.ensures.passes
-          (gains_within bound _ _ c.loop-sector.sector (replicate 512 0) (sets_within bound _ _ (g.met.M.Medium.sound c.loop-sector.m)
-          inv.moments) c.write.ensures.sets (λ s bytes here. inr ((omega (arith, past, here.0), omega (arith, inside, here.0)), here.1))),
-      λ x not. ⊎_elim (λ stays. stays x) (λ holds. holds.elsewhere x (λ e. not (omega (arith, e, past), omega (arith, e, inside)))) wrote
+          (gains_within bound _ _ c.loop-sector.sector (replicate 512 0)
+          (sets_within bound _ _ (g.met.M.Medium.sound c.loop-sector.m)
+          inv.moments) c.write.ensures.sets
+          (λ s bytes here. inr ((omega (arith, past, here.0), omega (arith, inside, here.0)), here.1))),
+      λ x not. ⊎_elim (λ stays. stays x)
+          (λ holds. holds.elsewhere x (λ e. not (omega (arith, e, past), omega (arith, e, inside)))) wrote
           ∙ inv.elsewhere x not,
     )
 
@@ -32,7 +36,12 @@ pub loop-sector-init : goal.loop-sector-init
 loop-sector-init g c =
     let old = g.M.Medium.state c.args.m.now in
     let bound = cleared_at (IsBetween c.args.from c.args.end) old.may_leave in
-    search (rules, started_within bound old (g.met.M.Medium.sound c.args.m.now) (λ s bytes left. inl left), g.met.M.Medium.follows_itself)
+    search (
+      rules,
+      started_within bound old (g.met.M.Medium.sound c.args.m.now)
+          (λ s bytes left. inl left),
+      g.met.M.Medium.follows_itself,
+    )
 
 pub loop-sector-preserved : goal.loop-sector-preserved
 loop-sector-preserved g c =

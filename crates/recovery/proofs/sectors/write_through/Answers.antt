@@ -7,7 +7,8 @@ use Rattle.recovery.proofs.sectors.write_through.Goals.{After-write}
 
 -- the write
 written : (g : _) (c : After-write g)
-    → LeavesOnly (WithOrWithout c.args.place c.args.sector.now (g.M.Medium.state c.args.m.now).may_leave) (g.M.Medium.state c.args.m.now)
+    → LeavesOnly (WithOrWithout c.args.place c.args.sector.now (g.M.Medium.state c.args.m.now).may_leave)
+    (g.M.Medium.state c.args.m.now)
     (g.M.Medium.state c.write.new.self)
 written g c =
     let sound = g.met.M.Medium.sound c.args.m.now in

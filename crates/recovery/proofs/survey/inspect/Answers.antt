@@ -20,7 +20,8 @@ counted g c =
       rw (same, ← c.len-count.ensures.value) at c.in_ok-count_waiting.ensures.finds.1.is,
       λ few.
           let both : (few.shape.format ≡ One) × (few.shape.slots < c.args.least) = (few.one, few.few) in
-          let one = IsSuper-one few.shape (shape_of c.in_ok-sizes.sizes) (old.content 0) few.has.super c.in_ok-sizes.ensures.ok.0.super in
+          let one = IsSuper-one few.shape (shape_of c.in_ok-sizes.sizes)
+          (old.content 0) few.has.super c.in_ok-sizes.ensures.ok.0.super in
           absurd (cc (c.if-has_few_slots.ensures.1 (rw one at both))),
     )
 

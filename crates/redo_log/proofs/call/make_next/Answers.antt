@@ -15,7 +15,8 @@ returns-then-is_flush_due-clause-makes g c =
     let due = rw (c.written_at-written.ensures, c.early-early.ensures, c.parts.ensures) at c.is_flush_due.ensures in
     record {
       call = Flush;
-      next = rw (length_of_batch c.args.numbers.now c.args.bytes.now) (λ _. refl, λ not. absurd (not (due.0 c.if-is_flush_due.true)));
+      next = rw (length_of_batch c.args.numbers.now c.args.bytes.now)
+          (λ _. refl, λ not. absurd (not (due.0 c.if-is_flush_due.true)));
       inside = tt;
       makes = search rules;
     }
@@ -29,7 +30,8 @@ returns-clause-makes g c =
     let due = rw (c.written_at-written.ensures, c.early-early.ensures, c.parts.ensures) at c.is_flush_due.ensures in
     let small : w < L.parts n = grind (arith, due, c.if-is_flush_due.false) in
     record {
-      call = Write (part_at L (shape_of sizes) c.args.stamp n w) (L.part c.args.stamp (entries_of c.args.numbers.now c.args.bytes.now) w);
+      call = Write (part_at L (shape_of sizes) c.args.stamp n w)
+          (L.part c.args.stamp (entries_of c.args.numbers.now c.args.bytes.now) w);
       next = rw (length_of_batch c.args.numbers.now c.args.bytes.now) (λ now. cc (c.if-is_flush_due.false, due.1 now), λ not. refl);
       inside = before_home (shape_of sizes) (sizes_sized sizes) c.args.stamp (L.offset n w)
           ((laws_of sizes.format).inside n w (omega (arith, c.requires.record.numbers_are.few, most_is sizes.format)) small);

@@ -29,7 +29,8 @@ returns-then-p-first-clause-makes g c =
     let is : c.args.p + 1 + length numbers ≡ (layout_of sizes.format).parts (length numbers) + i =
     grind (arith, c.parts.ensures, c.if-first-p.true) in
     let offset = data_offset numbers bytes i c.args.p c.if-p-first.true sizes.format is in
-    let place : c.copy_place-place.result ≡ part_at (layout_of sizes.format) (shape_of sizes) c.args.stamp (length numbers) c.args.p =
+    let place : c.copy_place-place.result ≡ part_at (layout_of sizes.format) (shape_of sizes) c.args.stamp
+    (length numbers) c.args.p =
     rw (c.copy_place-place.ensures, c.slot_of-slot.ensures, offset) (omega arith) in
     rw (← place, ← data_part numbers bytes i c.args.p c.if-p-first.true sizes.format c.args.stamp is) c.write_block.ensures.makes
 

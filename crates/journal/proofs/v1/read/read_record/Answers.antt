@@ -52,7 +52,8 @@ returns g c =
     let found = c.in-Some.found.numbers.items in
     let described = rw (c.in_ok-read.ensures.ok, c.place_of.ensures, slot) at c.in-Some.ensures.some in
     let ended = rw (c.in_ok-read-2.ensures.ok, c.commit_place.ensures, c.read.ensures.content _, slot) at c.in-Some.ensures.ended in
-    let listed : c.append.new.self.numbers.items ≡ found = rw (c.append.ensures.numbers, c.clear.ensures.numbers) c.deref.ensures.0 in
+    let listed : c.append.new.self.numbers.items ≡ found =
+    rw (c.append.ensures.numbers, c.clear.ensures.numbers) c.deref.ensures.0 in
     let none : c.append.new.self.firsts.items ≡ [] = rw (c.append.ensures.firsts, c.clear.ensures.firsts) in
     let sound = g.met.M.Medium.sound c.args.m.now in
     let ends = within c.args.sizes.now c.args.stamp _ refl c.requires.format in

@@ -71,7 +71,12 @@ returns-then-are_blocks g c =
       );
       all = λ entries whole. read_is shape image s entries whole c.read_descriptors.new.to
           (rw (two, commit_count s n _ commit.1) says.0.numbers_are) (rw (two, commit_count s n _ commit.1) says.0.firsts_are);
-      exact = (1 + descriptors_of (length read), rw two (rw (← long) at commit.1, names, refl), omega (arith, long, says.1, commit.0));
+      exact = (
+        1 + descriptors_of (length read),
+        rw two (rw (← long) at commit.1, names, refl),
+        omega
+            (arith, long, says.1, commit.0),
+      );
     })
 
 pub returns-else-are_blocks : goal.returns-else-are_blocks

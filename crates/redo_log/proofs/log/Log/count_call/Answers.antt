@@ -19,7 +19,8 @@ invariant_of-self-2 c =
     let numbers = rw (← c.self.view_is) at c.requires.1 in
     let stamp : i.head + c.len.result ≡ i.head + length records = omega (arith, c.len.ensures, many_lists i.waiting.items) in
     let ring = rw c.in-Some.is at c.self.invariant in
-    let each = rw (← waiting) at (All-push (AreInside (shape_of i.sizes)) records i.under_way.items ring.each ring.record_under_way.0) in
+    let each = rw (← waiting) at (All-push
+    (AreInside (shape_of i.sizes)) records i.under_way.items ring.each ring.record_under_way.0) in
     let index = rw (← waiting) at (index_more c.self.invariant.index_is
     (rw (numbers, c.slot_of.ensures, stamp) at c.enter_record.ensures.enters)) in
     let longer = rw (← waiting) at (length-append records (i.under_way.items ∷ [])) in
