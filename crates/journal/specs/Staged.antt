@@ -50,8 +50,8 @@ Found L v image = LoggedIn L v.shape image v.head v.records v.array
 abbrev pub Resting : Layout → View → Image → Type 0
 Resting L v image = RestsIn L v.shape image v.head v.records v.array
 
--- What a cut may leave while so many parts of a record are written: that it is not whole, or, where
--- all are, that it is, with its blocks.
+-- What a cut may leave where the first `so_far` parts of a record are written: that it is not
+-- whole, or, where these are all, that it is, with its blocks.
 abbrev pub MayLeave : Layout → View → ℕ → Image → Type 0
 MayLeave L v so_far image = Found L v image
     ⊎ ((L.parts (length v.under_way) ≤ so_far) × Found L (with_record v) image)

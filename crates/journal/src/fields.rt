@@ -92,7 +92,7 @@ pub(crate) fn number_at(sector: &[u8], i: usize) -> u64
     LittleEndian::read_u64(&sector[8 * i..])
 }
 
-/// So many numbers of a sector, from the fourth on.
+/// The first `count` numbers of a sector from the fourth on.
 pub(crate) fn numbers_at(sector: &[u8], count: usize) -> ArrayVec<u64, 48>
     requires size { length sector.now ≡ 512 }
     requires few { count ≤ 48 }

@@ -28,7 +28,7 @@ use Rattle.recovery.specs.Causes.{WritesNothing, HasFewSlots, IsRefusalBy, IsDev
 use Rattle.recovery.specs.Causes.{SurveysAtMost, IsLookCause}
 use Rattle.recovery.specs.Recovered.{IsOursInEither, MigrationLeaves, most_migration_sends, IsRecoveryRefusal}
 use Rattle.recovery.specs.Recovered.{IsRecoveredFrom, IsFresh, IsOursForSome, IsOursWithNext, StandsForOneOf}
-use Rattle.recovery.specs.Recovered.{StandsForSome, LeavesAtLeast, StartLeaves}
+use Rattle.recovery.specs.Recovered.{StandsForSome, LeavesAtLeast, StartMoments}
 use Rattle.recovery.specs.declared.start_fault.StartFault.{StartFault}
 use Rattle.recovery.specs.declared.start_fault.StartFault.TheVariants.{NoMemory, StampsUsedUp, LogTooSmall}
 use Rattle.recovery.proofs.JoinedCalls.{log_ends, not_in_log, spared_by, AreSame, copies_ours, fresh_ours, quiet_before}
@@ -102,13 +102,13 @@ pub record IsServed (least : ℕ) (old : State) (shape : Shape) : Type 0 where
 -- a start, and behind its first good flush other calls
 pub start_on : {Is : ℕ → Shape → Array → ℕ → Image → Type 0} {few_calls few_sends most_calls most_sends : LogFormat
     → ℕ → ℕ} {least : ℕ}
-    {old mid new : State} {shape : Shape} → IsSound old → IsServed least old shape → StartLeaves Is few_calls few_sends least old mid
+    {old mid new : State} {shape : Shape} → IsSound old → IsServed least old shape → StartMoments Is few_calls few_sends least old mid
     → old.calls + 2 ≤ mid.calls
     → ((array : Array) (next : ℕ) → IsOurs old.size shape old.content array next → LeavesOnly (Is old.size shape array next) mid new)
     → SparesFrom (sectors_of shape) mid new → LooksOnly (λ s. s < first_home shape) mid new
     → new.calls ≤ old.calls + 6 + most_calls shape.format shape.slots → most_calls shape.format shape.slots ≤ 738 * 64
     → SendsUpTo (most_sends shape.format shape.slots) old new → most_sends shape.format shape.slots ≤ most_start_sends Two 64
-    → StartLeaves Is most_calls most_sends least old new
+    → StartMoments Is most_calls most_sends least old new
 start_on {Is} {old = old} {mid = mid} {new = new} {shape =
     shape} sound served first begun ours spares looks calls all_calls sent all_sent =
     let has = StandsFor-shape old.size shape old.content served.array served.next served.stands in

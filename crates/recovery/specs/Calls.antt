@@ -31,8 +31,8 @@ pub record ReadsNothing (old new : State) : Type 0 where
   pub no_read : MakesNoRead old new
   pub looked_stays : new.looked ≡ old.looked
 
--- So many first sectors are all that is read of an image but its blocks at home: the super, and
--- where that names a log, the head and the log.
+-- The first `near` sectors are all that is read of an image but its blocks at home: the super,
+-- and where that names a log, the head and the log.
 pub record HoldsLog (near size : ℕ) (image : Image) : Type 0 where
   pub some : 0 < near
   pub log : (shape : Shape) → HasShape size shape image → first_home shape ≤ near

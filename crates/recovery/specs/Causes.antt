@@ -95,7 +95,7 @@ module _ (image : Image) (at stamp : ℕ) where
       × ReadsUpToBad (HasPlace image at stamp) count places
       × (behind ≡ descriptors_of count + places))) × (reads ≡ 1 + behind))
 
-  -- So many sectors, and no other number of them, are read to tell whether the record is whole.
+  -- This many sectors, and no other number, are read to tell whether the record is whole.
   pub record IsTryTwo (blocks reads : ℕ) : Type 0 where
     pub is : IsReadInSlot blocks reads
     pub only : (other : ℕ) → IsReadInSlot blocks other → other ≡ reads

@@ -94,7 +94,7 @@ RecoverySends old new = StartSends most_start_sends old new
 -- What a start leaves at each moment of it, good or refused, that wants at least this many slots in
 -- a log of format 1, and how many calls it makes: where the image has a super, by its format and
 -- its slots. The images are this of the size, the shape, the array and the next stamp.
-pub record StartLeaves (Is : ℕ → Shape → Array → ℕ → Image → Type 0)
+pub record StartMoments (Is : ℕ → Shape → Array → ℕ → Image → Type 0)
     (most_calls most_sends : LogFormat → ℕ → ℕ) (least : ℕ) (old new : State) : Type 0 where
   -- Where every image is ours, a cut at any moment leaves one that is so for one of the arrays.
   pub cuts : EachCut (IsOursForSome old.size) old → LeavesOnly (StandsForSome Is old) old new
@@ -119,7 +119,8 @@ pub record StartLeaves (Is : ℕ → Shape → Array → ℕ → Image → Type 
 -- So a recovery that wants this many: each image is ours with the next stamp or the one behind it.
 abbrev pub LeavesAtLeast : ℕ → State → State → Type 0
 LeavesAtLeast least old new =
-    StartLeaves IsOursWithNext (λ format slots. most_start_of format * slots) most_start_sends least
+    StartMoments IsOursWithNext
+    (λ format slots. most_start_of format * slots) most_start_sends least
     old new
 
 -- so one that takes any log
@@ -203,4 +204,4 @@ most_migration_sends Two slots = most_start_sends Two slots
 -- Nothing is written where no slot of format 2 has room in the log of format 1.
 abbrev pub MigrationLeaves : State → State → Type 0
 MigrationLeaves old new =
-    StartLeaves IsOursInEither (λ format slots. 738 * 64) most_migration_sends 5 old new
+    StartMoments IsOursInEither (λ format slots. 738 * 64) most_migration_sends 5 old new
