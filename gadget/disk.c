@@ -1,92 +1,91 @@
 /* A disk of the library over an image file or a block device. */
-#include "disk.h"
+#include "device.h"
 #include "program.h"
 #include <errno.h>
-#include <fcntl.h>
 #include <inttypes.h>
 #include <stdio.h>
 #include <stdlib.h>
 #include <string.h>
-#include <sys/file.h>
-#include <sys/stat.h>
-#include <unistd.h>
 
-/* How many sectors are shown to the disk at a time, which is the longest READ, and how many are written by one write. */
-enum { SPAN = 240 };
+/* SPAN: how many sectors are shown to the disk at a time, which is the longest READ, and how many
+ * are written by one write. STATUS: bytes of a status. */
+enum { SPAN = 240, STATUS = 13 };
 
-/* Says what is wrong with the image or the device, and notes the exit status. */
-static bool refuse(struct disk *disk, int status, const char *cause)
-{
-    say("%s: %s", disk->path, cause);
-    disk->status = status;
-    return false;
-}
-
-/* The same, for a call of the system that was refused. */
-static bool refuse_call(struct disk *disk, const char *call)
-{
-    char cause[128];
-    snprintf(cause, sizeof cause, "%s: %s", call, strerror(errno));
-    return refuse(disk, STATUS_FILE, cause);
-}
-
-/* The device refused a call, and the core is told. What was promised stays. Nothing that follows a lost write is asked for any
- * more, and no answer goes out good that is not out yet. */
+/* The device refused a call, and the core is told. What was promised stays. Nothing that follows a
+ * lost write is asked for any more, and no answer goes out good that is not out yet. */
 static void lose(struct disk *disk, const char *call)
 {
     refuse_call(disk, call);
     usbdisk_refused(&disk->core);
     disk->has_faulted = true;
-    refuse(disk, STATUS_FILE, "serves no block until the next start; look after the device before it");
+    refuse(disk, STATUS_FILE,
+           "serves no block until the next start; look after the device before it");
 }
 
-static bool read_sectors(struct disk *disk, uint8_t *bytes, uint64_t first, uint64_t count)
+/* A slot of the log begins with the first sector of a record. */
+static uint64_t records_of(const struct disk *disk)
 {
-    uint64_t place = first * 512, left = count * 512;
-    while (left) {
-        ssize_t read = pread(disk->file, bytes, left, (off_t)place);
-        if (read < 0 && errno == EINTR)
-            continue;
-        if (read <= 0) {
-            errno = read ? errno : EIO;
-            return false;
-        }
-        bytes += read, place += (uint64_t)read, left -= (uint64_t)read;
-    }
-    return true;
+    uint64_t size = disk->format == 1 ? 50 : 249, count = 0;
+    for (uint64_t sector = disk->place; sector < disk->place + disk->held; sector++)
+        count += sector >= 2 && sector < 2 + size * disk->slots && (sector - 2) % size == 0;
+    return count;
 }
 
-static bool write_sectors(struct disk *disk, const uint8_t *bytes, uint64_t first, uint64_t count)
+/* Writes the run that is held by one write. */
+static void write_held(struct disk *disk)
 {
-    uint64_t place = first * 512, left = count * 512;
-    while (left) {
-        ssize_t written = pwrite(disk->file, bytes, left, (off_t)place);
-        if (written < 0 && errno == EINTR)
-            continue;
-        if (written <= 0) {
-            errno = written ? errno : EIO;
-            return false;
-        }
-        bytes += written, place += (uint64_t)written, left -= (uint64_t)written;
-    }
-    return true;
+    if (disk->held == 0)
+        return;
+    disk->counters.writes++;
+    disk->counters.written += disk->held * 512;
+    disk->counters.records += records_of(disk);
+    if (!write_sectors(disk, disk->window[0], disk->place, disk->held))
+        lose(disk, "a write was refused");
+    disk->held = 0;
 }
 
-/* Carries out the outbox, in order: each run of neighbouring sectors by one write, each flush by one synchronisation. Where the
- * device refuses one nothing waits behind it. */
-static void persist(struct disk *disk)
+/* The flush behind a write that the device refused is not made. */
+static void flush_behind(struct disk *disk)
+{
+    if (disk->has_faulted)
+        return;
+    disk->counters.flushes++;
+    if (!flush(disk))
+        lose(disk, "a flush was refused");
+}
+
+/* A run came out of the outbox, behind the one that is held: they are one where they are
+ * neighbours. */
+static void hold(struct disk *disk, uint64_t first, uint64_t count)
+{
+    uint64_t before = disk->held;
+    if (before && first != disk->place + before) {
+        write_held(disk);
+        memmove(disk->window[0], disk->window[before], count * sizeof *disk->window);
+    }
+    if (disk->has_faulted)
+        return;
+    disk->place = disk->held ? disk->place : first;
+    disk->held += count;
+}
+
+/* Takes out what the disk sent, in order, and carries it out but for the last run, which is held:
+ * what follows may join it. Where the device refuses a call nothing waits behind it. */
+static void take_out(struct disk *disk)
 {
     for (;;) {
         uint64_t first = 0;
         size_t count = 0;
-        switch (usbdisk_take_run(&disk->core, &first, disk->window[0], SPAN * sizeof *disk->window, &count)) {
+        if (disk->held == SPAN)
+            write_held(disk);
+        switch (usbdisk_take_run(&disk->core, &first, disk->window[disk->held],
+                                 (SPAN - disk->held) * 512, &count)) {
         case USBDISK_WRITE:
-            if (!write_sectors(disk, disk->window[0], first, count))
-                lose(disk, "a write was refused");
+            hold(disk, first, count);
             break;
         case USBDISK_FLUSH:
-            if (fdatasync(disk->file))
-                lose(disk, "a flush was refused");
+            write_held(disk);
+            flush_behind(disk);
             break;
         default:
             return;
@@ -94,54 +93,12 @@ static void persist(struct disk *disk)
     }
 }
 
-/* The serial number of a path: the same each time, and hardly that of another one (FNV-1a). */
-static void name_disk(struct disk *disk)
+/* Carries out all that the disk sent: each run of neighbouring sectors by one write, each flush by
+ * one synchronisation. */
+static void persist(struct disk *disk)
 {
-    uint64_t hash = 0xCBF29CE484222325u;
-    char *whole = realpath(disk->path, NULL);
-    for (const char *at = whole ? whole : disk->path; *at; at++)
-        hash = (hash ^ (uint8_t)*at) * 0x100000001B3u;
-    free(whole);
-    snprintf(disk->serial, sizeof disk->serial, "%012" PRIX64, (hash ^ hash >> 48) & 0xFFFFFFFFFFFFu);
-    memcpy(disk->identity.vendor, "USBDISK ", 8);
-    memcpy(disk->identity.product, "POWER SAFE DISK ", 16);
-    memcpy(disk->identity.revision, "0001", 4);
-    memcpy(disk->identity.serial, disk->serial, 12);
-}
-
-/* Opens the file or device, and locks it as the other programs do. A block device that is mounted is not opened. */
-static bool open_device(struct disk *disk)
-{
-    struct stat what;
-    if (stat(disk->path, &what))
-        return refuse_call(disk, "not opened");
-    if (!S_ISREG(what.st_mode) && !S_ISBLK(what.st_mode))
-        return refuse(disk, STATUS_FILE, "neither a plain file nor a block device");
-    disk->file = open(disk->path, O_RDWR | O_CLOEXEC | (S_ISBLK(what.st_mode) ? O_EXCL : 0));
-    if (disk->file < 0 && errno == EBUSY)
-        return refuse(disk, STATUS_FILE, "in use, perhaps mounted");
-    if (disk->file < 0)
-        return refuse_call(disk, "not opened");
-    if (flock(disk->file, LOCK_EX | LOCK_NB))
-        return errno == EWOULDBLOCK ? refuse(disk, STATUS_FILE, "locked by another program")
-                                    : refuse_call(disk, "not locked");
-    return true;
-}
-
-/* How long the device is. What the system's cache still keeps of it is brought out and let go, so that what is read is what
- * the device holds, also behind a flush that was refused. */
-static bool measure(struct disk *disk)
-{
-    off_t length = lseek(disk->file, 0, SEEK_END);
-    if (length < 0)
-        return refuse_call(disk, "its length is not known");
-    if (length == 0 || length % 512)
-        return refuse(disk, STATUS_REFUSED, "no image: it is empty, or its length is no multiple of 512");
-    if (fdatasync(disk->file))
-        return refuse_call(disk, "a flush was refused");
-    posix_fadvise(disk->file, 0, 0, POSIX_FADV_DONTNEED);
-    disk->sectors = (uint64_t)length / 512;
-    return true;
+    take_out(disk);
+    write_held(disk);
 }
 
 /* What sector 0 tells; nothing, where it is no super: what is wrong with it the start says. */
@@ -167,10 +124,11 @@ bool disk_open(struct disk *disk, const char *path)
     disk->path = path;
     disk->file = -1;
     disk->window = malloc(SPAN * sizeof *disk->window);
-    name_disk(disk);
+    number_disk(disk);
+    disk_name(disk, &(struct names){ 0 });
     if (!disk->window)
         refuse(disk, STATUS_MEMORY, "no memory");
-    else if (open_device(disk) && measure(disk) && read_super(disk))
+    else if (open_device(disk) && read_super(disk))
         return true;
     disk_close(disk);
     return false;
@@ -182,9 +140,11 @@ static bool refuse_start(struct disk *disk, uint32_t fault)
         [USBDISK_NO_MEMORY] = "no memory",
         [USBDISK_WRITE_REFUSED] = "refused: no room in the outbox",
         [USBDISK_FLUSH_REFUSED] = "refused: no room in the outbox",
-        [USBDISK_BAD_SUPER] = "no image: sector 0 is not ours (docs/GADGET.md tells how to make one)",
+        [USBDISK_BAD_SUPER] =
+            "no image: sector 0 is not ours (docs/GADGET.md tells how to make one)",
         [USBDISK_BAD_VERSION] = "refused: an image of a later version",
-        [USBDISK_BAD_SIZE] = "refused: the sizes in sector 0 do not fit; it was cut off, or changed",
+        [USBDISK_BAD_SIZE] =
+            "refused: the sizes in sector 0 do not fit; it was cut off, or changed",
         [USBDISK_BAD_HEAD] = "refused: sector 1 is no head; the device breaks its promise",
         [USBDISK_STAMPS_USED_UP] = "refused: its stamps are used up",
         [USBDISK_LITTLE_ROOM] = "refused: no room in the outbox",
@@ -192,10 +152,12 @@ static bool refuse_start(struct disk *disk, uint32_t fault)
     const char *cause = fault < sizeof causes / sizeof *causes ? causes[fault] : NULL;
     char number[64];
     snprintf(number, sizeof number, "refused: start answers %" PRIu32, fault);
-    return refuse(disk, fault == USBDISK_NO_MEMORY ? STATUS_MEMORY : STATUS_REFUSED, cause ? cause : number);
+    return refuse(disk, fault == USBDISK_NO_MEMORY ? STATUS_MEMORY : STATUS_REFUSED,
+                  cause ? cause : number);
 }
 
-/* The room that suffices for any start and event. Where sector 0 tells no slots, the start says so with any room. */
+/* The room that suffices for any start and event. Where sector 0 tells no slots, the start says so
+ * with any room. */
 static size_t room_of(const struct disk *disk)
 {
     uint64_t room = usbdisk_room(disk->format, disk->slots);
@@ -210,8 +172,9 @@ bool disk_start(struct disk *disk, uint32_t packet)
         return refuse(disk, STATUS_MEMORY, "no memory");
     bool is_read = read_sectors(disk, near, 0, disk->near);
     uint32_t fault = !is_read ? USBDISK_READ_REFUSED
-                              : usbdisk_start(&disk->core, near, disk->near * 512, disk->sectors, &disk->device,
-                                              &disk->identity, packet, SPAN, room_of(disk));
+                              : usbdisk_start(&disk->core, near, disk->near * 512, disk->sectors,
+                                              &disk->device, &disk->identity, packet, SPAN,
+                                              room_of(disk));
     if (!is_read)
         refuse_call(disk, "a read was refused");
     free(near);
@@ -225,12 +188,21 @@ bool disk_start(struct disk *disk, uint32_t packet)
     return !disk->has_faulted;
 }
 
-/* The disk needs sectors of the device before it takes this packet: reads and shows them. Where the device cannot read them
- * the READ ends alone, and the disk goes on. */
+static bool read_shown(struct disk *disk, uint64_t first, uint64_t count)
+{
+    disk->counters.reads++;
+    disk->counters.read += count * 512;
+    return read_sectors(disk, disk->window[0], first, count);
+}
+
+/* The disk needs sectors of the device before it takes this packet: reads and shows them. Where the
+ * device cannot read them the READ ends alone, and the disk goes on. */
 static bool show(struct disk *disk, uint64_t first, uint32_t count)
 {
-    if (count > SPAN || !read_sectors(disk, disk->window[0], first, count)) {
-        say("%s: %" PRIu32 " sectors from %" PRIu64 " on are not read: %s", disk->path, count, first, strerror(errno));
+    if (count > SPAN || !read_shown(disk, first, count)) {
+        disk->counters.unread++;
+        say_of_host("%s: %" PRIu32 " sectors from %" PRIu64 " on are not read: %s", disk->path,
+                    count, first, strerror(errno));
         return false;
     }
     return usbdisk_show(&disk->core, first, disk->window[0], (size_t)count * 512) == 0;
@@ -254,7 +226,8 @@ static uint32_t bulk_out(struct disk *disk, const uint8_t *packet, size_t size)
     return code;
 }
 
-/* What is guessed wrong costs the read of it alone: the READ that comes asks for its own sectors. */
+/* What is guessed wrong costs the read of it alone: the READ that comes asks for its own sectors.
+ */
 void disk_look_ahead(struct disk *disk, uint64_t size)
 {
     uint64_t count = size / 512, next = disk->before, end = disk->near + disk->blocks;
@@ -266,7 +239,7 @@ void disk_look_ahead(struct disk *disk, uint64_t size)
     disk->ahead = 0;
     if (!(is_found || disk->reads_on) || !next || next > SPAN || next > end - disk->behind)
         return;
-    if (read_sectors(disk, disk->window[0], disk->behind, next) &&
+    if (read_shown(disk, disk->behind, next) &&
         !usbdisk_show(&disk->core, disk->behind, disk->window[0], (size_t)next * 512))
         disk->ahead = next;
 }
@@ -277,8 +250,10 @@ uint32_t disk_out(struct disk *disk, const uint8_t *bytes, size_t size, size_t *
     do {
         size_t left = size - *taken, packet = left < disk->packet ? left : disk->packet;
         uint32_t code = bulk_out(disk, bytes + *taken, packet);
+        disk->counters.waits += code == USBDISK_NAK;
         if (code != USBDISK_ACK)
             return code;
+        disk->counters.from_host += packet;
         *taken += packet;
     } while (*taken < size);
     return USBDISK_ACK;
@@ -298,6 +273,8 @@ uint32_t disk_in(struct disk *disk, uint8_t *bytes, size_t size, size_t *got)
             return DISK_OVERFLOW;
         if (to == packet)
             memcpy(bytes + *got, packet, count);
+        disk->counters.to_host += count;
+        disk->counters.commands += count == STATUS && !memcmp(bytes + *got, "USBS", 4);
         *got += count;
         if (count < disk->packet || *got == size)
             return USBDISK_ACK;
@@ -328,19 +305,28 @@ void disk_bus_reset(struct disk *disk)
     disk_clear_halt(disk, 0x02);
 }
 
-/* More steps are never left, but on a disk that faulted in a call of its own, where they are left for ever. */
+/* More steps are never left, but on a disk that faulted in a call of its own, where they are left
+ * for ever. */
 static uint64_t most_steps(const struct disk *disk)
 {
     return (disk->slots + 4) * (2 * SPAN + 16);
 }
 
+/* What the steps send is carried out where it no longer joins into one run, so neither a run nor a
+ * flush holds up the host for longer than one of an event. */
 uint32_t disk_tick(struct disk *disk)
 {
+    uint32_t left = 1;
+    uint64_t calls = disk->counters.writes + disk->counters.flushes;
     if (disk->has_faulted || disk->steps > most_steps(disk))
         return 0;
-    disk->steps++;
-    uint32_t left = usbdisk_tick(&disk->core);
-    persist(disk);
+    while (left == 1 && calls == disk->counters.writes + disk->counters.flushes &&
+           disk->steps <= most_steps(disk)) {
+        disk->steps++;
+        left = usbdisk_tick(&disk->core);
+        take_out(disk);
+    }
+    write_held(disk);
     return left;
 }
 
@@ -351,9 +337,21 @@ bool disk_settle(struct disk *disk)
     while (left == 1)
         left = disk_tick(disk);
     if (disk->has_faulted || disk->steps > most_steps(disk))
-        return refuse(disk, STATUS_FILE, "the disk has faulted: what was not synchronised may be lost");
+        return refuse(disk, STATUS_FILE,
+                      "the disk has faulted: what was not synchronised may be lost");
     say("%s: all is written and at home", disk->path);
     return true;
+}
+
+void disk_count(const struct disk *disk)
+{
+    const struct counters *it = &disk->counters;
+    say("%s: %" PRIu64 " commands, %" PRIu64 " bytes to the host, %" PRIu64 " from it, %" PRIu64
+        " waits; %" PRIu64 " records",
+        disk->path, it->commands, it->to_host, it->from_host, it->waits, it->records);
+    say("%s: %" PRIu64 " writes to the device of %" PRIu64 " bytes, %" PRIu64 " flushes, %" PRIu64
+        " reads of %" PRIu64 " bytes, %" PRIu64 " of them refused",
+        disk->path, it->writes, it->written, it->flushes, it->reads, it->read, it->unread);
 }
 
 void disk_stop(struct disk *disk)
@@ -365,9 +363,7 @@ void disk_stop(struct disk *disk)
 void disk_close(struct disk *disk)
 {
     disk_stop(disk);
-    if (disk->file >= 0)
-        close(disk->file);
+    close_device(disk);
     free(disk->window);
     disk->window = NULL;
-    disk->file = -1;
 }

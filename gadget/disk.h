@@ -1,8 +1,8 @@
 /* What both gadgets share: a disk of the library over an image file or a block device.
  *
- * Each call that plays an event carries out the outbox before it answers. So an answer may go to the host as soon as it is
- * there. Where the device refuses a write or a flush the cause is said, and the disk is told: it goes on answering, but serves
- * no block until the next start. */
+ * Each call that plays an event carries out the outbox before it answers. So an answer may go to
+ * the host as soon as it is there. Where the device refuses a write or a flush the cause is said,
+ * and the disk is told: it goes on answering, but serves no block until the next start. */
 #ifndef DISK_H
 #define DISK_H
 
@@ -10,11 +10,32 @@
 
 /* What a call answers beside USBDISK_ACK, USBDISK_NAK and USBDISK_STALL. */
 enum {
-    DISK_OVERFLOW = 65 /* the disk sent a packet that is longer than what the host has room for (a babble) */
+    DISK_OVERFLOW = 65 /* the disk sent a packet that is longer than the host's room (a babble) */
 };
+
+/* How many loop devices may stand one over another. */
+enum { LOCKS_MOST = 4 };
 
 /* Exit statuses, as those of `usbdisk`. */
 enum { STATUS_USAGE = 2, STATUS_REFUSED = 3, STATUS_FILE = 4, STATUS_MEMORY = 5 };
+
+/* What the disk is called, as texts that fit; NULL: as it is called where nobody says anything. */
+struct names {
+    const char *vendor, *product, *revision, *serial;
+};
+
+/* What was done since the disk was opened. */
+struct counters {
+    uint64_t commands;        /* whose status was handed to the host */
+    uint64_t to_host;         /* bytes, with those of statuses */
+    uint64_t from_host;       /* bytes, with those of wrappers */
+    uint64_t waits;           /* how often bytes of the host had to wait */
+    uint64_t records;         /* of the log, written to the device */
+    uint64_t writes, written; /* calls that write to the device, and their bytes */
+    uint64_t flushes;         /* calls */
+    uint64_t reads, read;     /* calls that read of the device, and their bytes */
+    uint64_t unread;          /* READs that it could not serve */
+};
 
 /* A disk. The fields are disk.c's own, but those with a comment may be read. */
 struct disk {
@@ -23,44 +44,56 @@ struct disk {
     struct usbdisk_identity identity;
     const char *path;
     int file;
-    uint8_t (*window)[512];
+    int locked[LOCKS_MOST]; /* the files under it, where it is a loop device */
+    unsigned locks;         /* how many */
+    uint8_t (*window)[512]; /* sectors on their way: to be shown, or to be written */
+    uint64_t held, place;   /* how many of them are to be written, and the first one's number */
     uint64_t sectors, near, slots, steps;
-    uint64_t behind;  /* the sector behind the last READ */
-    uint64_t before;  /* how many sectors the READ before it had */
-    uint64_t ahead;   /* how many from there on were shown before they were asked for */
-    bool reads_on;    /* the last READ began where the one before it ended */
-    uint64_t blocks;  /* how many blocks the host sees */
-    uint32_t format;  /* 1 or 2 */
-    uint32_t packet;  /* bytes of a packet, 64 or 512; 0 while no disk is started */
-    char serial[13];  /* 12 hexadecimal digits, always the same for the same path */
+    uint64_t behind; /* the sector behind the last READ */
+    uint64_t before; /* how many sectors the READ before it had */
+    uint64_t ahead;  /* how many from there on were shown before they were asked for */
+    bool reads_on;   /* the last READ began where the one before it ended */
+    uint64_t blocks; /* how many blocks the host sees */
+    uint32_t format; /* 1 or 2 */
+    uint32_t packet; /* bytes of a packet, 64 or 512; 0 while no disk is started */
+    char serial[13]; /* 12 hexadecimal digits, of the path and the machine or by disk_name */
+    struct counters counters;
     bool has_faulted; /* the device refused a write or a flush since the start */
     int status;       /* the exit status that belongs to the last refusal */
 };
 
-/* Opens and locks an image file or a block device, and reads what it is. False: said why. Starts nothing. */
+/* Opens and locks an image file or a block device, and reads what it is. False: said why. Starts
+ * nothing. */
 bool disk_open(struct disk *disk, const char *path);
 
-/* Starts the disk for packets of `packet` bytes, on what the device holds, and carries out its recovery. Where one is started
- * already it is stopped first, which is a loss of power: settle it before. False: said why. */
+/* What the disk is called from its next start on. The texts are at most as long as the fields of
+ * the identity. */
+void disk_name(struct disk *disk, const struct names *names);
+
+/* Starts the disk for packets of `packet` bytes, on what the device holds, and carries out its
+ * recovery. Where one is started already it is stopped first, which is a loss of power: settle it
+ * before. False: said why. */
 bool disk_start(struct disk *disk, uint32_t packet);
 
-/* Bytes of one Bulk-Out transfer came: plays them packet by packet (0 bytes are one empty packet), and tells how many were
- * taken. ACK: all. NAK: the host has to wait; call again with the rest. STALL: the endpoint is halted. */
+/* Bytes of one Bulk-Out transfer came: plays them packet by packet (0 bytes are one empty packet),
+ * and tells how many were taken. ACK: all. NAK: the host has to wait; call again with the rest.
+ * STALL: the endpoint is halted. */
 uint32_t disk_out(struct disk *disk, const uint8_t *bytes, size_t size, size_t *taken);
 
-/* The host waits for `size` bytes from Bulk-In: collects packets, and tells how many bytes there are. ACK: the room is full,
- * or a short packet ended the transfer. NAK: nothing more is there now; call again with the rest of the room. STALL: the
- * endpoint is halted behind these bytes. DISK_OVERFLOW: a packet did not fit, and is lost; never so where the room is a
- * multiple of the packet. It makes no call of the device. */
+/* The host waits for `size` bytes from Bulk-In: collects packets, and tells how many bytes there
+ * are. ACK: the room is full, or a short packet ended the transfer. NAK: nothing more is there now;
+ * call again with the rest of the room. STALL: the endpoint is halted behind these bytes.
+ * DISK_OVERFLOW: a packet did not fit, and is lost; never so where the room is a multiple of the
+ * packet. It makes no call of the device. */
 uint32_t disk_in(struct disk *disk, uint8_t *bytes, size_t size, size_t *got);
 
-/* `size` bytes are on their way to the host, and nothing else is to be done. Where READs follow each other, what the next one
- * will ask for is shown ahead: as many sectors as the one before this READ had, since hosts read in turns of a long READ and
- * the rest. */
+/* `size` bytes are on their way to the host, and nothing else is to be done. Where READs follow
+ * each other, what the next one will ask for is shown ahead: as many sectors as the one before this
+ * READ had, since hosts read in turns of a long READ and the rest. */
 void disk_look_ahead(struct disk *disk, uint64_t size);
 
-/* A setup packet for the mass storage interface or one of its two endpoints (81h and 02h). Answers ACK with 0 to 2 bytes,
- * or STALL. It makes no call of the device. */
+/* A setup packet for the mass storage interface or one of its two endpoints (81h and 02h). Answers
+ * ACK with 0 to 2 bytes, or STALL. It makes no call of the device. */
 uint32_t disk_setup(struct disk *disk, const uint8_t setup[8], uint8_t data[2], uint32_t *size);
 
 /* The host clears the halt of this endpoint, 81h or 02h. */
@@ -69,12 +102,16 @@ void disk_clear_halt(struct disk *disk, uint8_t endpoint);
 /* A bus reset: a class reset, both halts cleared. What was accepted stays. */
 void disk_bus_reset(struct disk *disk);
 
-/* A step in the background. Answers 1 while steps are left, 0 where all is at home or the disk has faulted and will get no
+/* Steps in the background, as many as write one run of neighbouring sectors or make one flush.
+ * Answers 1 while steps are left, 0 where all is at home or the disk has faulted and will get no
  * further. */
 uint32_t disk_tick(struct disk *disk);
 
-/* Steps until all is at home and durable, and says so. False: said why. Not for a signal's handler. */
+/* Steps until all is at home and durable, and says so. False: said why. */
 bool disk_settle(struct disk *disk);
+
+/* Says the counters. */
+void disk_count(const struct disk *disk);
 
 /* Stops the disk. What was neither promised nor settled is lost as by a cut. */
 void disk_stop(struct disk *disk);

@@ -1,4 +1,5 @@
-/* An attached client: its messages, and its transfers, of which those wait for which the disk has nothing now. */
+/* An attached client: its messages, and its transfers, of which those wait for which the disk has
+ * nothing now. */
 #include "program.h"
 #include "usbip.h"
 #include <errno.h>
@@ -7,14 +8,14 @@
 #include <sys/socket.h>
 #include <unistd.h>
 
-/* SEND_WAIT: how many milliseconds a client may leave its answers unread. ONE_TURN: how many messages it may send before the
- * others' turn. */
-enum { SEND_WAIT = 10000, ONE_TURN = 64 };
+/* How many messages a client may send before the others' turn. */
+enum { ONE_TURN = 64 };
 
 /* Flags of a transfer: fewer bytes than asked for are an error. */
 enum { SHORT_IS_WRONG = 1 };
 
-/* Receives up to `size` bytes in all. True: they are all there. False: not yet, or the client is to be ended. */
+/* Receives up to `size` bytes in all. True: they are all there. False: not yet, or the client is to
+ * be ended. */
 bool receive(struct client *client, uint8_t *to, size_t size, size_t *have, enum outcome *outcome)
 {
     *outcome = GOES_ON;
@@ -31,21 +32,11 @@ bool receive(struct client *client, uint8_t *to, size_t size, size_t *have, enum
     return true;
 }
 
-bool send_bytes(struct client *client, const uint8_t *bytes, size_t size)
+/* A short answer, of a client that has none waiting. Where the system does not take it whole the
+ * client is gone. */
+bool send_at_once(struct client *client, const uint8_t *bytes, size_t size)
 {
-    while (size) {
-        ssize_t sent = send(client->socket, bytes, size, MSG_DONTWAIT | MSG_NOSIGNAL);
-        if (sent >= 0) {
-            bytes += sent, size -= (size_t)sent;
-            continue;
-        }
-        struct pollfd room = { client->socket, POLLOUT, 0 };
-        if (errno != EINTR && errno != EAGAIN && errno != EWOULDBLOCK)
-            return false;
-        if (wait_for(&room, 1, SEND_WAIT) == 0)
-            return false;
-    }
-    return true;
+    return send(client->socket, bytes, size, MSG_DONTWAIT | MSG_NOSIGNAL) == (ssize_t)size;
 }
 
 static uint8_t *bytes_of(struct transfer *transfer)
@@ -60,20 +51,61 @@ static void forget(struct client *client, struct transfer *transfer)
     free(transfer);
 }
 
+static void forget_all(struct transfer *at)
+{
+    while (at) {
+        struct transfer *next = at->next;
+        free(at);
+        at = next;
+    }
+}
+
 void end_client(struct client *client)
 {
     for (int endpoint = CONTROL; endpoint <= BULK_OUT; endpoint++)
-        for (struct transfer *at = client->waiting[endpoint], *next; at; at = next) {
-            next = at->next;
-            free(at);
-        }
+        forget_all(client->waiting[endpoint]);
+    forget_all(client->answered);
     free(client->coming);
     close(client->socket);
     memset(client, 0, sizeof *client);
     client->socket = -1;
 }
 
-/* Answers a transfer, with the bytes that came in, and lets it go. */
+/* Sends the answers that wait, as far as the client takes them now. */
+static enum outcome send_answers(struct client *client)
+{
+    while (client->answered) {
+        struct transfer *first = client->answered;
+        ssize_t sent = send(client->socket, first->answer + first->sent,
+                            first->length - first->sent, MSG_DONTWAIT | MSG_NOSIGNAL);
+        if (sent < 0)
+            return errno == EAGAIN || errno == EWOULDBLOCK || errno == EINTR ? GOES_ON : ENDS;
+        first->sent += (size_t)sent;
+        client->deadline = now() + SEND_WAIT;
+        if (first->sent < first->length)
+            continue;
+        client->answered = first->next;
+        forget(client, first);
+    }
+    return GOES_ON;
+}
+
+/* Puts a transfer's answer, whose head is there, behind those that wait, and sends what can be
+ * sent. */
+static enum outcome send_answer(struct client *client, struct transfer *transfer, size_t bytes)
+{
+    struct transfer **last = &client->answered;
+    if (!client->answered)
+        client->deadline = now() + SEND_WAIT;
+    while (*last)
+        last = &(*last)->next;
+    *last = transfer;
+    transfer->next = NULL;
+    transfer->length = HEAD + bytes;
+    return send_answers(client);
+}
+
+/* Answers a transfer, with the bytes that came in. */
 static enum outcome answer(struct client *client, struct transfer *transfer, int32_t status)
 {
     size_t bytes = transfer->in ? transfer->done : 0;
@@ -81,12 +113,11 @@ static enum outcome answer(struct client *client, struct transfer *transfer, int
     if (status == GOOD && is_short && transfer->flags & SHORT_IS_WRONG)
         status = CUT_SHORT;
     put_submit_reply(transfer->answer, transfer->number, status, transfer->done);
-    bool is_sent = send_bytes(client, transfer->answer, HEAD + bytes);
-    forget(client, transfer);
-    return is_sent ? GOES_ON : ENDS;
+    return send_answer(client, transfer, bytes);
 }
 
-static enum outcome answer_control(struct client *client, struct usb_device *device, struct transfer *transfer)
+static enum outcome answer_control(struct client *client, struct usb_device *device,
+                                   struct transfer *transfer)
 {
     uint8_t data[CONTROL_MOST];
     int size = play_control(device, transfer->setup, transfer->in, data);
@@ -106,8 +137,10 @@ static int32_t status_of(uint32_t code)
     return code == USBDISK_ACK ? GOOD : code == DISK_OVERFLOW ? OVERFLOWED : STALLED;
 }
 
-/* Plays the oldest transfer that waits for this endpoint, as far as it goes, and tells whether it went. */
-static enum outcome play_first(struct client *client, struct usb_device *device, int endpoint, bool *moved)
+/* Plays the oldest transfer that waits for this endpoint, as far as it goes, and tells whether it
+ * went. */
+static enum outcome play_first(struct client *client, struct usb_device *device, int endpoint,
+                               bool *moved)
 {
     struct transfer *first = client->waiting[endpoint];
     size_t bytes = 0;
@@ -115,7 +148,8 @@ static enum outcome play_first(struct client *client, struct usb_device *device,
         return GOES_ON;
     uint8_t *at = bytes_of(first) + first->done;
     size_t left = first->size - first->done;
-    uint32_t code = endpoint == BULK_IN ? disk_in(device->disk, at, left, &bytes) : disk_out(device->disk, at, left, &bytes);
+    uint32_t code = endpoint == BULK_IN ? disk_in(device->disk, at, left, &bytes)
+                                        : disk_out(device->disk, at, left, &bytes);
     first->done += (uint32_t)bytes;
     *moved = *moved || bytes || code != USBDISK_NAK;
     if (code == USBDISK_NAK)
@@ -138,7 +172,8 @@ static enum outcome play_waiting(struct client *client, struct usb_device *devic
 }
 
 /* A transfer is whole: its bytes came, if it has any. */
-static enum outcome take_transfer(struct client *client, struct usb_device *device, struct transfer *transfer)
+static enum outcome take_transfer(struct client *client, struct usb_device *device,
+                                  struct transfer *transfer)
 {
     if (transfer->endpoint == CONTROL) {
         enum outcome outcome = answer_control(client, device, transfer);
@@ -176,21 +211,34 @@ static const char *fault_of(struct client *client, const struct message *message
     return find(client, message->number) ? "a number that another transfer has" : NULL;
 }
 
-static enum outcome submit(struct client *client, struct usb_device *device, const struct message *message, const char **cause)
+/* A transfer of this client, with room for as many bytes as its message tells; NULL: no memory, as
+ * is said in `cause`. */
+static struct transfer *new_transfer(struct client *client, const struct message *message,
+                                     const char **cause)
 {
-    *cause = fault_of(client, message);
-    if (*cause)
-        return ENDS;
     struct transfer *transfer = malloc(sizeof *transfer + HEAD + message->length);
     if (!transfer) {
         *cause = "no memory for a transfer";
-        return ENDS;
+        return NULL;
     }
-    *transfer = (struct transfer){ .number = message->number, .endpoint = message->endpoint, .flags = message->flags,
-                                   .size = message->length, .in = message->in };
+    *transfer = (struct transfer){ .number = message->number,
+                                   .endpoint = message->endpoint,
+                                   .flags = message->flags,
+                                   .size = message->length,
+                                   .in = message->in };
     memcpy(transfer->setup, message->setup, sizeof transfer->setup);
     client->count++;
     client->bytes += transfer->size;
+    return transfer;
+}
+
+static enum outcome submit(struct client *client, struct usb_device *device,
+                           const struct message *message, const char **cause)
+{
+    *cause = fault_of(client, message);
+    struct transfer *transfer = *cause ? NULL : new_transfer(client, message, cause);
+    if (!transfer)
+        return ENDS;
     if (transfer->in || transfer->size == 0)
         return take_transfer(client, device, transfer);
     client->coming = transfer;
@@ -199,20 +247,25 @@ static enum outcome submit(struct client *client, struct usb_device *device, con
 }
 
 /* Takes a transfer back that waits. One that was answered already is none. */
-static enum outcome unlink_transfer(struct client *client, const struct message *message)
+static enum outcome unlink_transfer(struct client *client, const struct message *message,
+                                    const char **cause)
 {
-    uint8_t head[HEAD];
     struct transfer **at = find(client, message->victim);
-    put_unlink_reply(head, message->number, at ? UNLINKED : GOOD);
+    struct transfer *reply = new_transfer(client, &(struct message){ .number = message->number },
+                                          cause);
+    if (!reply)
+        return ENDS;
+    put_unlink_reply(reply->answer, message->number, at ? UNLINKED : GOOD);
     if (at) {
         struct transfer *victim = *at;
         *at = victim->next;
         forget(client, victim);
     }
-    return send_bytes(client, head, HEAD) ? GOES_ON : ENDS;
+    return send_answer(client, reply, 0);
 }
 
-static enum outcome take_message(struct client *client, struct usb_device *device, const char **cause)
+static enum outcome take_message(struct client *client, struct usb_device *device,
+                                 const char **cause)
 {
     struct message message = read_message(client->head);
     client->have = 0;
@@ -221,14 +274,15 @@ static enum outcome take_message(struct client *client, struct usb_device *devic
     else if (message.command == SUBMIT)
         return submit(client, device, &message, cause);
     else if (message.command == UNLINK)
-        return unlink_transfer(client, &message);
+        return unlink_transfer(client, &message, cause);
     else
         *cause = "a command that is none";
     return ENDS;
 }
 
 /* Receives the rest of a message, or of the bytes behind it, and plays it when it is whole. */
-static enum outcome serve_message(struct client *client, struct usb_device *device, const char **cause, bool *whole)
+static enum outcome serve_message(struct client *client, struct usb_device *device,
+                                  const char **cause, bool *whole)
 {
     enum outcome outcome;
     struct transfer *coming = client->coming;
@@ -242,10 +296,10 @@ static enum outcome serve_message(struct client *client, struct usb_device *devi
 
 enum outcome serve_attached(struct client *client, struct usb_device *device, const char **cause)
 {
-    enum outcome outcome = GOES_ON;
+    enum outcome outcome = send_answers(client);
     bool whole = true;
     *cause = "the host went";
-    for (int turn = 0; whole && outcome == GOES_ON && turn < ONE_TURN; turn++)
+    for (int turn = 0; whole && !client->answered && outcome == GOES_ON && turn < ONE_TURN; turn++)
         outcome = serve_message(client, device, cause, &whole);
     if (outcome == ENDS && !*cause)
         *cause = "the host went";

@@ -2,7 +2,13 @@
 #include "usbip.h"
 #include <string.h>
 
-enum { DEVICE_TYPE = 1, CONFIGURATION_TYPE = 2, STRING_TYPE = 3, QUALIFIER_TYPE = 6, OTHER_SPEED_TYPE = 7 };
+enum {
+    DEVICE_TYPE = 1,
+    CONFIGURATION_TYPE = 2,
+    STRING_TYPE = 3,
+    QUALIFIER_TYPE = 6,
+    OTHER_SPEED_TYPE = 7
+};
 enum { DEVICE_SIZE = 18, CONFIGURATION_SIZE = 32, QUALIFIER_SIZE = 10 };
 
 /* The requests, by bmRequestType and bRequest. */
@@ -23,8 +29,11 @@ enum {
 
 static int put_device(uint8_t *data)
 {
-    static const uint8_t device[DEVICE_SIZE] = { DEVICE_SIZE, DEVICE_TYPE, 0x00, 0x02, 0, 0, 0, 64, 0x09, 0x12,
-                                                 0x01,        0x00,        0x00, 0x01, 1, 2, 3, 1 };
+    static const uint8_t device[DEVICE_SIZE] = {
+        DEVICE_SIZE, DEVICE_TYPE, 0x00, 0x02, 0, 0, 0, 64, /* USB 2.0 */
+        0x09, 0x12, 0x01, 0x00, 0x00, 0x01,                /* the numbers are for tests */
+        1, 2, 3, 1,                                        /* strings, and configurations */
+    };
     memcpy(data, device, sizeof device);
     return DEVICE_SIZE;
 }
@@ -45,15 +54,18 @@ static int put_configuration(uint8_t *data, uint8_t type, uint32_t packet)
 
 static int put_qualifier(uint8_t *data)
 {
-    static const uint8_t qualifier[QUALIFIER_SIZE] = { QUALIFIER_SIZE, QUALIFIER_TYPE, 0x00, 0x02, 0, 0, 0, 64, 1, 0 };
+    static const uint8_t qualifier[QUALIFIER_SIZE] = {
+        QUALIFIER_SIZE, QUALIFIER_TYPE, 0x00, 0x02, 0, 0, 0, 64, 1, 0,
+    };
     memcpy(data, qualifier, sizeof qualifier);
     return QUALIFIER_SIZE;
 }
 
 /* A string of the disk: 0 is the list of languages, which has English alone. */
-static int put_string(const struct disk *disk, uint8_t *data, uint8_t index)
+static int put_string(const struct usb_device *device, uint8_t *data, uint8_t index)
 {
-    const char *const strings[] = { "\x09\x04", "Gevnodiz", "Power Safe Disk", disk->serial };
+    const char *const strings[] = { "\x09\x04", device->vendor, device->product,
+                                    device->disk->serial };
     if (index >= sizeof strings / sizeof *strings)
         return STALLED;
     int size = 2;
@@ -67,26 +79,29 @@ static int put_string(const struct disk *disk, uint8_t *data, uint8_t index)
     return size;
 }
 
-/* A disk of packets of 64 bytes is a device of full speed alone, which has no qualifier and no other speed. */
-static int put_descriptor(const struct disk *disk, const uint8_t setup[8], uint8_t *data)
+/* A disk of packets of 64 bytes is a device of full speed alone, which has no qualifier and no
+ * other speed. */
+static int put_descriptor(const struct usb_device *device, const uint8_t setup[8], uint8_t *data)
 {
+    uint32_t packet = device->disk->packet;
     uint8_t index = setup[2], type = setup[3];
     if (type == STRING_TYPE)
-        return put_string(disk, data, index);
+        return put_string(device, data, index);
     if (index != 0)
         return STALLED;
     if (type == DEVICE_TYPE)
         return put_device(data);
     if (type == CONFIGURATION_TYPE)
-        return put_configuration(data, type, disk->packet);
-    if (type == QUALIFIER_TYPE && disk->packet == 512)
+        return put_configuration(data, type, packet);
+    if (type == QUALIFIER_TYPE && packet == 512)
         return put_qualifier(data);
-    if (type == OTHER_SPEED_TYPE && disk->packet == 512)
+    if (type == OTHER_SPEED_TYPE && packet == 512)
         return put_configuration(data, type, 64);
     return STALLED;
 }
 
-/* The host of USB/IP sends no bus reset, but chooses a configuration behind each: that is taken for one. */
+/* The host of USB/IP sends no bus reset, but chooses a configuration behind each: that is taken for
+ * one. */
 static int set_configuration(struct usb_device *device, const uint8_t setup[8])
 {
     if (setup[2] > 1 || setup[3])
@@ -126,7 +141,8 @@ static int put_bytes(uint8_t *data, uint8_t first, int size)
     return size;
 }
 
-int play_control(struct usb_device *device, const uint8_t setup[8], bool in, uint8_t data[CONTROL_MOST])
+int play_control(struct usb_device *device, const uint8_t setup[8], bool in,
+                 uint8_t data[CONTROL_MOST])
 {
     if (in != (setup[0] >> 7 == 1))
         return STALLED;
@@ -135,7 +151,7 @@ int play_control(struct usb_device *device, const uint8_t setup[8], bool in, uin
     case GET_STATUS_OF_INTERFACE:
         return put_bytes(data, 0, 2);
     case GET_DESCRIPTOR:
-        return put_descriptor(device->disk, setup, data);
+        return put_descriptor(device, setup, data);
     case GET_CONFIGURATION:
         return put_bytes(data, device->configuration, 1);
     case GET_INTERFACE:

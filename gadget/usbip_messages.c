@@ -2,7 +2,15 @@
 #include "usbip.h"
 #include <string.h>
 
-enum { VERSION_CODE = 0x0111, SUBMIT_REPLY = 3, UNLINK_REPLY = 4, BUS = 1, NUMBER = 2, FULL_SPEED = 2, HIGH_SPEED = 3 };
+enum {
+    VERSION_CODE = 0x0111,
+    SUBMIT_REPLY = 3,
+    UNLINK_REPLY = 4,
+    BUS = 1,
+    NUMBER = 2,
+    FULL_SPEED = 2,
+    HIGH_SPEED = 3
+};
 
 static const char bus_id[] = "1-1";
 

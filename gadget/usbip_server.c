@@ -1,0 +1,218 @@
+/* The clients of usbdisk-usbip: those who ask, and the one that has the device attached. */
+#include "program.h"
+#include "usbip.h"
+#include <errno.h>
+#include <netinet/in.h>
+#include <netinet/tcp.h>
+#include <string.h>
+#include <sys/socket.h>
+#include <unistd.h>
+
+/* IDLE: how long nothing happens before a step in the background, in milliseconds. ASKING: how many
+ * may ask at a time, so that the attached one always has its place. ACCEPTED: how many are let in
+ * in a turn. PAUSE: milliseconds without new ones, where no descriptor is left. BUFFER: bytes that
+ * the system keeps for each way. */
+enum { IDLE = 20, ASKING = CLIENTS - 1, ACCEPTED = 4, PAUSE = 200, BUFFER = 256 * 1024 };
+
+/* SILENCE: how many milliseconds bytes may stay unacknowledged. It bounds what the tries to keep
+ * alive do, which begin where nothing is unacknowledged. */
+enum { SILENCE = 60000 };
+
+/* What is sent goes out at once, and the longest transfer at a time. A peer that is silently gone
+ * is found within a minute. */
+static void set_up(int socket)
+{
+    static const struct {
+        int level, name, value;
+    } options[] = {
+        { IPPROTO_TCP, TCP_NODELAY, 1 },    { IPPROTO_TCP, TCP_USER_TIMEOUT, SILENCE },
+        { SOL_SOCKET, SO_KEEPALIVE, 1 },    { IPPROTO_TCP, TCP_KEEPIDLE, 30 },
+        { IPPROTO_TCP, TCP_KEEPINTVL, 10 }, { IPPROTO_TCP, TCP_KEEPCNT, 3 },
+        { SOL_SOCKET, SO_SNDBUF, BUFFER },  { SOL_SOCKET, SO_RCVBUF, BUFFER },
+    };
+    for (size_t i = 0; i < sizeof options / sizeof *options; i++)
+        setsockopt(socket, options[i].level, options[i].name, &options[i].value,
+                   sizeof options[i].value);
+}
+
+/* A client goes. That of the attached one is an unplugging: its transfer in progress ends, and the
+ * bus is reset. */
+static void part(struct server *server, struct client *client, const char *cause)
+{
+    if (client->is_attached) {
+        disk_bus_reset(&server->disk);
+        server->is_attached = false;
+        say_of_host("detached: %s", cause);
+    }
+    end_client(client);
+}
+
+static bool is_asking(const struct client *client)
+{
+    return client->socket >= 0 && !client->is_attached;
+}
+
+/* Who asks and came first, or NULL; and how many ask. */
+static struct client *oldest_asking(struct server *server, int *count)
+{
+    struct client *oldest = NULL;
+    *count = 0;
+    for (struct client *at = server->clients; at < server->clients + CLIENTS; at++) {
+        if (!is_asking(at))
+            continue;
+        ++*count;
+        if (!oldest || at->deadline < oldest->deadline)
+            oldest = at;
+    }
+    return oldest;
+}
+
+/* A place for one more. Where all are taken, the one who has asked for longest goes. */
+static struct client *make_place(struct server *server)
+{
+    int asking;
+    struct client *oldest = oldest_asking(server, &asking), *place = server->clients;
+    if (asking >= ASKING)
+        part(server, oldest, "");
+    while (place->socket >= 0)
+        place++;
+    return place;
+}
+
+/* The system let nobody in. Where no descriptor is left, the one who has asked for longest goes;
+ * where nobody asks, those who come wait outside for a while, since the listener stays ready. */
+static void make_room(struct server *server)
+{
+    int asking, cause = errno;
+    struct client *oldest = oldest_asking(server, &asking);
+    if (cause != EMFILE && cause != ENFILE && cause != ENOBUFS && cause != ENOMEM)
+        return;
+    say_of_host("a client is not let in: %s", strerror(cause));
+    if (oldest)
+        part(server, oldest, "");
+    else
+        server->listens_from = now() + PAUSE;
+}
+
+/* An import that came whole is answered. */
+static enum outcome import(struct server *server, struct client *client, const uint8_t *bus)
+{
+    uint8_t reply[REPLY_MOST];
+    uint32_t status = !names_device(bus) ? NO_DEVICE : server->is_attached ? DEVICE_BUSY : 0;
+    if (!send_at_once(client, reply, put_import_reply(reply, status, server->disk.packet)) ||
+        status)
+        return ENDS;
+    server->device.configuration = 0;
+    client->is_attached = server->is_attached = true;
+    client->have = 0;
+    say_of_host("attached");
+    return GOES_ON;
+}
+
+/* A client that is not attached makes its one request. */
+static enum outcome serve_request(struct server *server, struct client *client)
+{
+    enum outcome outcome;
+    uint8_t reply[REPLY_MOST];
+    if (!receive(client, client->head, client->have < REQUEST ? REQUEST : REQUEST + BUS_ID,
+                 &client->have, &outcome))
+        return outcome;
+    if (!is_version(client->head))
+        return ENDS;
+    if (request_code(client->head) == ASKS_LIST)
+        send_at_once(client, reply, put_list_reply(reply, server->disk.packet));
+    if (request_code(client->head) != ASKS_IMPORT)
+        return ENDS;
+    return client->have == REQUEST + BUS_ID ? import(server, client, client->head + REQUEST)
+                                            : GOES_ON;
+}
+
+/* Serves a client that sent something, or takes more of its answers. */
+static void serve_client(struct server *server, struct client *client)
+{
+    const char *cause = NULL;
+    enum outcome outcome = client->is_attached ? serve_attached(client, &server->device, &cause)
+                                               : serve_request(server, client);
+    if (outcome == ENDS)
+        part(server, client, cause);
+}
+
+/* Clients have come. Each makes its request at once, where that is there already: so one that comes
+ * again and again pushes nobody out who asks. */
+static void greet(struct server *server)
+{
+    for (int i = 0; i < ACCEPTED; i++) {
+        int socket = accept4(server->listener, NULL, NULL, SOCK_CLOEXEC | SOCK_NONBLOCK);
+        if (socket < 0) {
+            make_room(server);
+            return;
+        }
+        struct client *client = make_place(server);
+        set_up(socket);
+        *client = (struct client){ .socket = socket, .deadline = now() + REQUEST_WAIT };
+        serve_client(server, client);
+    }
+}
+
+/* What is waited for: a client that comes, what each one sends, and that the attached one takes its
+ * answers. */
+static int wait_for_clients(struct server *server, struct pollfd files[CLIENTS + 1])
+{
+    bool is_bounded = false;
+    for (int i = 0; i < CLIENTS; i++) {
+        struct client *client = &server->clients[i];
+        files[i] = (struct pollfd){ client->socket, client->answered ? POLLOUT : POLLIN, 0 };
+        is_bounded = is_bounded || is_asking(client) || client->answered;
+    }
+    bool is_open = server->listens_from <= now();
+    files[CLIENTS] = (struct pollfd){ is_open ? server->listener : -1, POLLIN, 0 };
+    int idle = server->is_idle ? 0 : IDLE, most = is_open ? 1000 : PAUSE;
+    return wait_for(files, CLIENTS + 1,
+                    server->has_steps        ? idle
+                    : is_bounded || !is_open ? most
+                                             : -1);
+}
+
+static void serve_clients(struct server *server, const struct pollfd files[CLIENTS + 1])
+{
+    for (int i = 0; i < CLIENTS; i++) {
+        struct client *client = &server->clients[i];
+        if (files[i].revents && client->socket >= 0)
+            serve_client(server, client);
+        if ((is_asking(client) || client->answered) && now() > client->deadline)
+            part(server, client, "it takes no answers");
+    }
+    if (files[CLIENTS].revents)
+        greet(server);
+}
+
+void server_begin(struct server *server)
+{
+    memset(server, 0, sizeof *server);
+    for (int i = 0; i < CLIENTS; i++)
+        server->clients[i].socket = -1;
+    server->listener = -1;
+    server->device.disk = &server->disk;
+    server->has_steps = true;
+}
+
+void server_turn(struct server *server)
+{
+    struct pollfd files[CLIENTS + 1];
+    bool something = wait_for_clients(server, files) > 0;
+    serve_clients(server, files);
+    server->is_idle = !something && server->has_steps;
+    if (something)
+        server->has_steps = true;
+    else if (server->has_steps)
+        server->has_steps = disk_tick(&server->disk) == 1;
+}
+
+bool server_end(struct server *server)
+{
+    for (int i = 0; i < CLIENTS; i++)
+        if (server->clients[i].socket >= 0)
+            part(server, &server->clients[i], "the server ends");
+    close(server->listener);
+    return disk_settle(&server->disk);
+}
