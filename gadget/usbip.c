@@ -76,7 +76,7 @@ static bool open_listener(struct server *server, const struct words *words)
 static int serve(struct server *server)
 {
     while (!is_asked_to_end() && !(server->unplugs && server->disk.has_faulted)) {
-        server_turn(server);
+        server_turn(server, true);
         if (is_asked_to_count())
             disk_count(&server->disk);
     }

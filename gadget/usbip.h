@@ -119,10 +119,10 @@ struct server {
     bool is_attached, has_steps, is_idle, unplugs;
 };
 
-/* usbip_server.c: a turn waits for clients and serves them, or makes a step in the background. The
+/* usbip_server.c: a turn waits for clients, where it may, and serves them, or makes a step in the background. The
  * end lets the clients go, and brings home what is left; false: the disk has faulted. */
 void server_begin(struct server *server);
-void server_turn(struct server *server);
+void server_turn(struct server *server, bool waits);
 bool server_end(struct server *server);
 
 /* usbip_address.c: listens on an address in digits, of IPv4 or IPv6. Answers the socket, and the

@@ -8,11 +8,18 @@
 #include <sys/socket.h>
 #include <unistd.h>
 
-/* IDLE: how long nothing happens before a step in the background, in milliseconds. ASKING: how many
- * may ask at a time, so that the attached one always has its place. ACCEPTED: how many are let in
- * in a turn. PAUSE: milliseconds without new ones, where no descriptor is left. BUFFER: bytes that
- * the system keeps for each way. */
-enum { IDLE = 20, ASKING = CLIENTS - 1, ACCEPTED = 4, PAUSE = 200, BUFFER = 256 * 1024 };
+/* IDLE: how long nothing happens before a step in the background, in milliseconds. TICK: how long
+ * nobody looks at the clock. ASKING: how many may ask at a time, so that the attached one always
+ * has its place. ACCEPTED: how many are let in in a turn. PAUSE: milliseconds without new ones,
+ * where no descriptor is left. BUFFER: bytes that the system keeps for each way. */
+enum {
+    IDLE = 20,
+    TICK = 1000,
+    ASKING = CLIENTS - 1,
+    ACCEPTED = 4,
+    PAUSE = 200,
+    BUFFER = 256 * 1024
+};
 
 /* SILENCE: how many milliseconds bytes may stay unacknowledged. It bounds what the tries to keep
  * alive do, which begin where nothing is unacknowledged. */
@@ -154,36 +161,57 @@ static void greet(struct server *server)
     }
 }
 
-/* What is waited for: a client that comes, what each one sends, and that the attached one takes its
- * answers. */
-static int wait_for_clients(struct server *server, struct pollfd files[CLIENTS + 1])
+/* What is waited for: what each client sends, or that it takes its answers, and those who come. The
+ * files stand without gaps, since the system takes no more of them than it gives descriptors. */
+struct watch {
+    struct pollfd files[CLIENTS + 1];
+    struct client *of[CLIENTS + 1]; /* NULL: the listener */
+    unsigned count;
+    bool is_bounded; /* a client has a time to keep */
+};
+
+static void add(struct watch *watch, int file, short events, struct client *client)
 {
-    bool is_bounded = false;
-    for (int i = 0; i < CLIENTS; i++) {
-        struct client *client = &server->clients[i];
-        files[i] = (struct pollfd){ client->socket, client->answered ? POLLOUT : POLLIN, 0 };
-        is_bounded = is_bounded || is_asking(client) || client->answered;
-    }
-    bool is_open = server->listens_from <= now();
-    files[CLIENTS] = (struct pollfd){ is_open ? server->listener : -1, POLLIN, 0 };
-    int idle = server->is_idle ? 0 : IDLE, most = is_open ? 1000 : PAUSE;
-    return wait_for(files, CLIENTS + 1,
-                    server->has_steps        ? idle
-                    : is_bounded || !is_open ? most
-                                             : -1);
+    watch->files[watch->count] = (struct pollfd){ file, events, 0 };
+    watch->of[watch->count++] = client;
 }
 
-static void serve_clients(struct server *server, const struct pollfd files[CLIENTS + 1])
+static bool has_deadline(const struct client *client)
 {
-    for (int i = 0; i < CLIENTS; i++) {
-        struct client *client = &server->clients[i];
-        if (files[i].revents && client->socket >= 0)
-            serve_client(server, client);
-        if ((is_asking(client) || client->answered) && now() > client->deadline)
-            part(server, client, "it takes no answers");
+    return is_asking(client) || client->answered;
+}
+
+static int wait_for_clients(struct server *server, struct watch *watch, bool waits)
+{
+    *watch = (struct watch){ 0 };
+    for (struct client *at = server->clients; at < server->clients + CLIENTS; at++) {
+        if (at->socket >= 0)
+            add(watch, at->socket, at->answered ? POLLOUT : POLLIN, at);
+        watch->is_bounded = watch->is_bounded || has_deadline(at);
     }
-    if (files[CLIENTS].revents)
-        greet(server);
+    bool is_open = server->listens_from <= now();
+    if (is_open)
+        add(watch, server->listener, POLLIN, NULL);
+    int most = is_open ? TICK : PAUSE;
+    if (server->has_steps)
+        most = server->is_idle ? 0 : IDLE;
+    else if (is_open && !watch->is_bounded)
+        most = -1;
+    return wait_for(watch->files, watch->count, waits ? most : 0);
+}
+
+static void serve_clients(struct server *server, const struct watch *watch)
+{
+    for (unsigned i = 0; i < watch->count; i++)
+        if (watch->files[i].revents && watch->of[i])
+            serve_client(server, watch->of[i]);
+    for (struct client *at = server->clients; watch->is_bounded && at < server->clients + CLIENTS;
+         at++)
+        if (has_deadline(at) && now() > at->deadline)
+            part(server, at, "it takes no answers");
+    for (unsigned i = 0; i < watch->count; i++)
+        if (watch->files[i].revents && !watch->of[i])
+            greet(server);
 }
 
 void server_begin(struct server *server)
@@ -196,11 +224,11 @@ void server_begin(struct server *server)
     server->has_steps = true;
 }
 
-void server_turn(struct server *server)
+void server_turn(struct server *server, bool waits)
 {
-    struct pollfd files[CLIENTS + 1];
-    bool something = wait_for_clients(server, files) > 0;
-    serve_clients(server, files);
+    struct watch watch;
+    bool something = wait_for_clients(server, &watch, waits) > 0;
+    serve_clients(server, &watch);
     server->is_idle = !something && server->has_steps;
     if (something)
         server->has_steps = true;

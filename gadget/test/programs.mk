@@ -23,4 +23,15 @@ usbdisk-gadget.lossy: $(LOSSY) $(GADGET) $(HEADERS) $(LIB)
 test/bulk_host: test/bulk_host.c functionfs_bulk.c $(SHARED) $(HEADERS) $(LIB)
 	$(CC) $(FLAGS) -O1 -g $(SANITIZE) -o $@ test/bulk_host.c functionfs_bulk.c $(SHARED) $(LIB)
 
+# Hosts that keep no rule, in one process with the server; and the same for libFuzzer, which is run by hand:
+#   FUZZ_IMAGE=an.img test/fuzz.libfuzzer -max_len=4096 FOLDER
+FUZZED = test/fuzz.c test/fuzz_host.c $(filter-out usbip.c usbip_address.c,$(USBIP))
+BUILT += test/fuzz test/fuzz.libfuzzer
+
+test/fuzz: $(FUZZED) test/fuzz_host.h $(HEADERS) $(LIB)
+	$(CC) $(FLAGS) -O1 -g $(SANITIZE) -o $@ $(FUZZED) $(LIB)
+
+test/fuzz.libfuzzer: $(FUZZED) test/fuzz_host.h $(HEADERS) $(LIB)
+	clang $(FLAGS) -DLIBFUZZER -O1 -g -fsanitize=fuzzer,address,undefined -o $@ $(FUZZED) $(LIB)
+
 .PHONY: refusing lossy

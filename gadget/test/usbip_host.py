@@ -27,15 +27,26 @@ def make_image(path, kind, blocks, slots, tail=0):
 class Server:
     """A server on any port that is free, and what it says."""
 
+    all = []
+
     def __init__(self, program, *words, **more):
         self.said = open(f"{words[0]}.said", "w+b")
         self.process = subprocess.Popen([program, *words, "--port", "0"], stdin=subprocess.DEVNULL, stderr=self.said, **more)
+        Server.all.append(self.process)
         self.port = None
         until = time.monotonic() + 60
         while self.port is None and self.process.poll() is None and time.monotonic() < until:
             found = re.search(r" port (\d+),", self.text())
             self.port = int(found[1]) if found else None
             time.sleep(0.002)
+
+    @staticmethod
+    def end_all():
+        """Ends those that a test left behind."""
+        for process in Server.all:
+            if process.poll() is None:
+                process.kill()
+                process.wait()
 
     def text(self):
         return open(self.said.name, encoding="utf-8", errors="replace").read()
@@ -60,8 +71,8 @@ class Gone(Exception):
 class Host:
     """One connection. `attach` imports the device."""
 
-    def __init__(self, port):
-        self.socket = socket.create_connection(("127.0.0.1", port), timeout=60)
+    def __init__(self, port, address="127.0.0.1"):
+        self.socket = socket.create_connection((address, port), timeout=60)
         self.socket.setsockopt(socket.IPPROTO_TCP, socket.TCP_NODELAY, 1)
         self.number = 0
         self.replies = {}
@@ -190,10 +201,10 @@ class Host:
         return self.command(bytes([0x35]) + bytes(9))[0]
 
 
-def attached(port):
+def attached(port, address="127.0.0.1"):
     """A host that has the device attached. The one before it may still be on its way out."""
     for _ in range(2000):
-        host = Host(port)
+        host = Host(port, address)
         status, _ = host.attach()
         if status == 0:
             return host

@@ -1,6 +1,7 @@
 #!/usr/bin/env python3
-"""Tests of usbdisk-usbip by a host of its own: usbip_test.py PROGRAM FOLDER [MESSAGES]. Each test is a function `it_..`. In the
-folder lies `hostile`, made of the source beside this file, and beside the program PROGRAM.refusing, with refuse_flush.c in it."""
+"""Tests of usbdisk-usbip by a host of its own: usbip_test.py PROGRAM FOLDER [MESSAGES [WORD ..]]. Each test is a function `it_..`;
+the words pick some by their names. In the folder lies `hostile`, made of the source beside this file, and beside the program
+PROGRAM.refusing, with refuse_flush.c in it."""
 
 import fcntl
 import os
@@ -10,40 +11,10 @@ import signal
 import socket
 import struct
 import subprocess
-import sys
-import tempfile
 import time
 
 from usbip_host import CUT_SHORT, IN, OUT, OVERFLOWED, STALLED, UNLINKED, Gone, Host, Server, attached, make_image
-
-PROGRAM, FOLDER = (os.path.abspath(it) for it in sys.argv[1:3])
-MESSAGES = sys.argv[3] if len(sys.argv) > 3 else "100000"
-BLOCKS, SLOTS = 2000, 6
-
-
-def pattern(number, count):
-    return random.Random(number).randbytes(count * 512)
-
-
-def served(kind=2, *words, **more):
-    """A server on a fresh image."""
-    home = make_image("disk.img", kind, BLOCKS, SLOTS)
-    server = Server(PROGRAM, "disk.img", *words, **more)
-    assert server.port, server.text()
-    server.home = home
-    return server
-
-
-def again(*words, **more):
-    """A server on the image that is there."""
-    server = Server(PROGRAM, "disk.img", *words, **more)
-    assert server.port, server.text()
-    return server
-
-
-def ends_well(server):
-    assert server.end() == 0, server.text()
-    assert "all is written and at home" in server.text(), server.text()
+from usbip_run import BLOCKS, FOLDER, MESSAGES, PROGRAM, SLOTS, again, ends_well, pattern, play, refused, served
 
 
 def it_is_listed():
@@ -287,13 +258,6 @@ def it_is_brought_home_while_nothing_happens():
     assert server.end(9) == -9
 
 
-def refused(status, text, path="disk.img"):
-    """The program ends with this status, and says this of the file."""
-    run = subprocess.run([PROGRAM, path, "--port", "0"], stdin=subprocess.DEVNULL, stderr=subprocess.PIPE, timeout=120, check=False)
-    said = run.stderr.decode()
-    assert run.returncode == status and f"{path}: " in said and text in said, (run.returncode, said)
-
-
 def patched(offset, data):
     make_image("disk.img", 2, BLOCKS, SLOTS)
     with open("disk.img", "r+b") as file:
@@ -438,20 +402,11 @@ def it_bounds_what_a_host_leaves_waiting():
 
 def it_lets_go_of_clients_that_ask_nothing():
     server = served()
-    silent = [Host(server.port) for _ in range(16)]
-    time.sleep(0.2)
-    try:
-        Host(server.port).list()
-        raise AssertionError("more clients are served than may")
-    except Gone:
-        pass
-    begun, listed = time.monotonic(), b""
-    while not listed and time.monotonic() < begun + 60:
-        try:
-            listed = Host(server.port).list()
-        except Gone:
-            time.sleep(0.1)
-    assert listed[8:12] == struct.pack(">I", 1) and time.monotonic() > begun + 4 and silent
+    silent, begun = [Host(server.port) for _ in range(15)], time.monotonic()
+    assert Host(server.port).list()[8:12] == struct.pack(">I", 1)
+    for host in silent:
+        assert host.socket.recv(1) == b""
+    assert 4 < time.monotonic() - begun < 20
     ends_well(server)
 
 
@@ -502,15 +457,5 @@ def it_outlives_hostile_clients():
     ends_well(server)
 
 
-def main():
-    tests = [(name, it) for name, it in globals().items() if name.startswith("it_") and it.__code__.co_argcount == 0]
-    tests = [it for it in tests if it[1] is not it_keeps_blocks]
-    with tempfile.TemporaryDirectory(dir="/dev/shm" if os.path.isdir("/dev/shm") else None) as folder:
-        os.chdir(folder)
-        for name, it in tests:
-            begun = time.monotonic()
-            it()
-            print(f"{name.replace('_', ' ')}: {time.monotonic() - begun:.1f} s", flush=True)
-
-
-main()
+if __name__ == "__main__":
+    play([it for name, it in globals().items() if name.startswith("it_") and it is not it_keeps_blocks])
