@@ -1,13 +1,14 @@
-/* What strangers send to usbdisk-usbip, in one process with its server, clients, device and messages:
+/* What strangers send to usbdisk-usbip, in one process with its server, clients, device and
+ * messages:
  *
  *     fuzz IMAGE MESSAGES [SEED]
  *
  * Hosts speak USB/IP over sockets of this machine: right messages in any order, such with one field
- * that is wrong, some that are cut off, and hosts that read late. Each answer is judged: it belongs to
- * a transfer that was sent and is not answered yet, in the order of its endpoint, with a status and a
- * length that the transfer allows. A wrong message ends its connection, and no right one does. The
- * server's counts of what waits are those of the host. WRITEs go to blocks from 1000 on; at the end the
- * blocks before them are as they were.
+ * that is wrong, some that are cut off, and hosts that read late. Each answer is judged: it belongs
+ * to a transfer that was sent and is not answered yet, in the order of its endpoint, with a status
+ * and a length that the transfer allows. A wrong message ends its connection, and no right one
+ * does. The server's counts of what waits are those of the host. WRITEs go to blocks from 1000 on;
+ * at the end the blocks before them are as they were.
  *
  * With -DLIBFUZZER the words come from libFuzzer, and the image from $FUZZ_IMAGE. */
 #include "../program.h"
@@ -59,10 +60,12 @@ static size_t length_of(const struct transfer *at, size_t *bytes)
 /* What the client's lists hold is what it has counted. */
 static void judge_lists(const struct client *client)
 {
-    size_t bytes = 0, count = length_of(client->coming, &bytes) + length_of(client->answered, &bytes);
+    size_t bytes = 0,
+           count = length_of(client->coming, &bytes) + length_of(client->answered, &bytes);
     for (int endpoint = CONTROL; endpoint <= BULK_OUT; endpoint++)
         count += length_of(client->waiting[endpoint], &bytes);
-    judge(count == client->count && bytes == client->bytes, "the client's counts are those of its lists");
+    judge(count == client->count && bytes == client->bytes,
+          "the client's counts are those of its lists");
     judge(count <= WAITING_MOST + 1 && bytes <= WAITING_BYTES_MOST, "what waits is bounded");
 }
 
@@ -106,7 +109,8 @@ static bool settle(struct host *host)
 static int come(void)
 {
     int file = socket(AF_UNIX, SOCK_STREAM | SOCK_CLOEXEC, 0);
-    judge(file >= 0 && connect(file, (struct sockaddr *)&address, address_size) == 0, "the server listens");
+    judge(file >= 0 && connect(file, (struct sockaddr *)&address, address_size) == 0,
+          "the server listens");
     return file;
 }
 
@@ -123,7 +127,9 @@ static void leave(struct host *host)
 /* Asks as one that is not attached, and judges what comes. Answers the status of an import. */
 static int request(struct source *source, unsigned code, bool is_right)
 {
-    uint8_t bytes[40] = { 0x01, 0x11, (uint8_t)(code >> 8), (uint8_t)code, 0, 0, 0, 0, '1', '-', '1' };
+    uint8_t bytes[40] = {
+        0x01, 0x11, (uint8_t)(code >> 8), (uint8_t)code, 0, 0, 0, 0, '1', '-', '1'
+    };
     uint8_t reply[512];
     bool was_attached = server.is_attached;
     int file = come(), status = -1;
@@ -217,7 +223,8 @@ static unsigned long play(struct source *source, unsigned long most)
     while (messages < most && !is_out(source)) {
         uint32_t kind = below(source, 64);
         if (kind == 0)
-            request(source, below(source, 2) ? ASKS_LIST : ASKS_IMPORT, host.socket >= 0 && below(source, 2));
+            request(source, below(source, 2) ? ASKS_LIST : ASKS_IMPORT,
+                    host.socket >= 0 && below(source, 2));
         else if (kind == 1)
             crowd(source);
         else if (kind == 2)
@@ -243,9 +250,11 @@ static void begin(const char *image)
     server.device.vendor = "a maker", server.device.product = "a disk";
     server.listener = socket(AF_UNIX, SOCK_STREAM | SOCK_CLOEXEC | SOCK_NONBLOCK, 0);
     address.sun_family = AF_UNIX;
-    bool is_bound = bind(server.listener, (struct sockaddr *)&address, sizeof address.sun_family) == 0;
+    bool is_bound = bind(server.listener, (struct sockaddr *)&address, sizeof address.sun_family) ==
+                    0;
     judge(is_bound && listen(server.listener, 64) == 0, "the server listens");
-    judge(getsockname(server.listener, (struct sockaddr *)&address, &address_size) == 0, "it has a name");
+    judge(getsockname(server.listener, (struct sockaddr *)&address, &address_size) == 0,
+          "it has a name");
     for (size_t i = 0; i < sizeof known; i++)
         known[i] = (uint8_t)(i * 7 + i / 512);
     judge(transact(&server.disk, 0x2A, known, KNOWN), "known blocks are written");
@@ -283,8 +292,8 @@ int main(int count, char **words)
     begin(words[1]);
     unsigned long messages = play(&source, strtoul(words[2], NULL, 10));
     end();
-    printf("%lu messages in one process, %lu answers judged, %lu wrong messages refused\n", messages,
-           judged.answers, judged.refused);
+    printf("%lu messages in one process, %lu answers judged, %lu wrong messages refused\n",
+           messages, judged.answers, judged.refused);
     return EXIT_SUCCESS;
 }
 #endif

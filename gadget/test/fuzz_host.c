@@ -99,11 +99,14 @@ static void put_wrapper(struct source *source, uint8_t *bytes)
 static size_t put_control(struct source *source, struct host *host, uint8_t *bytes)
 {
     static const uint8_t setups[][8] = {
-        { 0x80, 6, 0, 1, 0, 0, 255, 0 }, { 0x80, 6, 0, 2, 0, 0, 255, 0 }, { 0x80, 6, 3, 3, 9, 4, 255, 0 },
-        { 0x80, 6, 0, 6, 0, 0, 10, 0 },  { 0x80, 6, 0, 7, 0, 0, 64, 0 },  { 0x80, 0, 0, 0, 0, 0, 2, 0 },
-        { 0x82, 0, 0, 0, 0x81, 0, 2, 0 }, { 0x02, 1, 0, 0, 0x81, 0, 0, 0 }, { 0x02, 1, 0, 0, 2, 0, 0, 0 },
-        { 0x21, 0xFF, 0, 0, 0, 0, 0, 0 }, { 0xA1, 0xFE, 0, 0, 0, 0, 1, 0 }, { 0x00, 9, 1, 0, 0, 0, 0, 0 },
-        { 0x01, 11, 0, 0, 0, 0, 0, 0 },   { 0x81, 10, 0, 0, 0, 0, 1, 0 },   { 0x80, 8, 0, 0, 0, 0, 1, 0 },
+        { 0x80, 6, 0, 1, 0, 0, 255, 0 },  { 0x80, 6, 0, 2, 0, 0, 255, 0 },
+        { 0x80, 6, 3, 3, 9, 4, 255, 0 },  { 0x80, 6, 0, 6, 0, 0, 10, 0 },
+        { 0x80, 6, 0, 7, 0, 0, 64, 0 },   { 0x80, 0, 0, 0, 0, 0, 2, 0 },
+        { 0x82, 0, 0, 0, 0x81, 0, 2, 0 }, { 0x02, 1, 0, 0, 0x81, 0, 0, 0 },
+        { 0x02, 1, 0, 0, 2, 0, 0, 0 },    { 0x21, 0xFF, 0, 0, 0, 0, 0, 0 },
+        { 0xA1, 0xFE, 0, 0, 0, 0, 1, 0 }, { 0x00, 9, 1, 0, 0, 0, 0, 0 },
+        { 0x01, 11, 0, 0, 0, 0, 0, 0 },   { 0x81, 10, 0, 0, 0, 0, 1, 0 },
+        { 0x80, 8, 0, 0, 0, 0, 1, 0 },
     };
     uint8_t setup[8];
     memcpy(setup, setups[below(source, sizeof setups / sizeof *setups)], 8);
@@ -135,7 +138,9 @@ static size_t put_out(struct source *source, struct host *host, uint8_t *bytes)
 static size_t put_in(struct source *source, struct host *host, uint8_t *bytes)
 {
     uint32_t kind = below(source, 8);
-    uint32_t length = kind < 3 ? STATUS : kind < 7 ? 512 * below(source, 5) : below(source, TRANSFER_MOST + 1);
+    uint32_t length = kind < 3   ? STATUS
+                      : kind < 7 ? 512 * below(source, 5)
+                                 : below(source, TRANSFER_MOST + 1);
     put_head(host, bytes, true, BULK_IN, length);
     put(bytes + 20, below(source, 2));
     return HEAD;
@@ -154,7 +159,8 @@ static size_t put_unlink(struct source *source, struct host *host, uint8_t *byte
 /* Makes one field wrong, so that the connection has to end. */
 static void spoil(struct source *source, struct host *host, uint8_t *bytes)
 {
-    switch (below(source, 7)) {
+    bool has_waiting = host->count && !host->is_slow && host->asked[0].command == SUBMIT;
+    switch (below(source, has_waiting ? 8 : 7)) {
     case 0:
         put(bytes, 5 + below(source, 1u << 31));
         break;
@@ -172,11 +178,16 @@ static void spoil(struct source *source, struct host *host, uint8_t *bytes)
         put_head(host, bytes, false, BULK_IN, 0);
         break;
     case 5:
-        put_head(host, bytes, true, BULK_IN, TRANSFER_MOST + 1 + below(source, 1u << 31));
+        put_head(host, bytes, true, BULK_IN,
+                 TRANSFER_MOST + 1 + below(source, 1u << below(source, 32)));
+        break;
+    case 6:
+        put_head(host, bytes, true, BULK_IN, 13);
+        put(bytes + 32, 1 + below(source, 1u << 31));
         break;
     default:
         put_head(host, bytes, true, BULK_IN, 13);
-        put(bytes + 32, 1 + below(source, 1u << 31));
+        put(bytes + 4, host->asked[0].number);
         break;
     }
 }
@@ -199,8 +210,10 @@ size_t host_message(struct source *source, struct host *host, uint8_t *bytes, bo
         spoil(source, host, bytes);
         return HEAD;
     }
-    if (host->count >= WAITING_MOST - 2 || host->bytes + 2 * TRANSFER_MOST > WAITING_BYTES_MOST || kind < 8)
-        return kind < 4 || !host->count ? put_recovery(host, bytes) : put_unlink(source, host, bytes);
+    if (host->count >= WAITING_MOST - 2 || host->bytes + 2 * TRANSFER_MOST > WAITING_BYTES_MOST ||
+        kind < 8)
+        return kind < 4 || !host->count ? put_recovery(host, bytes)
+                                        : put_unlink(source, host, bytes);
     if (kind < 20)
         return put_control(source, host, bytes);
     if (kind < 60)
@@ -212,7 +225,9 @@ void host_sent(struct host *host, const uint8_t *head)
 {
     bool unlinks = get(head) == UNLINK;
     struct asked *next = &host->asked[host->count++];
-    *next = (struct asked){ .command = get(head), .number = get(head + 4), .endpoint = get(head + 16),
+    *next = (struct asked){ .command = get(head),
+                            .number = get(head + 4),
+                            .endpoint = get(head + 16),
                             .in = get(head + 12) == 1 };
     if (unlinks) {
         next->victim = get(head + 20);
@@ -234,7 +249,8 @@ static void forget(struct host *host, size_t i)
 static size_t find(const struct host *host, uint32_t command, uint32_t number)
 {
     size_t i = 0;
-    while (i < host->count && (host->asked[i].number != number || host->asked[i].command != command))
+    while (i < host->count &&
+           (host->asked[i].number != number || host->asked[i].command != command))
         i++;
     return i;
 }
@@ -243,7 +259,8 @@ static void judge_unlinked(struct host *host, size_t i, int32_t status)
 {
     size_t victim = find(host, SUBMIT, host->asked[i].victim);
     judge(status == GOOD || status == UNLINKED, "an unlinking is answered by 0 or -104");
-    judge((status == UNLINKED) == (victim < i), "what waits is unlinked, and what is answered is not");
+    judge((status == UNLINKED) == (victim < i),
+          "what waits is unlinked, and what is answered is not");
     forget(host, i);
     if (victim < i)
         forget(host, victim);
@@ -262,7 +279,8 @@ static void judge_submitted(struct host *host, size_t i, int32_t status, uint32_
     judge(is_good || status == STALLED || (status == OVERFLOWED && it->endpoint == BULK_IN) ||
               (status == CUT_SHORT && is_in && is_short && it->flags & 1),
           "a status that the transfer allows");
-    judge(!(status == GOOD && is_in && is_short && it->flags & 1), "a short transfer is told as one");
+    judge(!(status == GOOD && is_in && is_short && it->flags & 1),
+          "a short transfer is told as one");
     forget(host, i);
 }
 
@@ -290,7 +308,8 @@ static size_t judge_answer(struct host *host)
 bool host_read(struct host *host)
 {
     for (;;) {
-        ssize_t got = recv(host->socket, host->answer + host->have, sizeof host->answer - host->have, MSG_DONTWAIT);
+        ssize_t got = recv(host->socket, host->answer + host->have,
+                           sizeof host->answer - host->have, MSG_DONTWAIT);
         if (got < 0 && (errno == EAGAIN || errno == EWOULDBLOCK))
             return true;
         if (got <= 0)

@@ -1,5 +1,6 @@
-/* Linked into a program, it stands before the C library's fdatasync: the flush whose number FLUSHES tells, counted from 1, is
- * refused, and all behind it. With INTERRUPTED each flush is interrupted so many times, as over NFS, before it is made. */
+/* Linked into a program, it stands before the C library's fdatasync: the flush whose number FLUSHES
+ * tells, counted from 1, is refused, and all behind it. With INTERRUPTED each flush is interrupted
+ * so many times, as over NFS, before it is made. */
 #include <errno.h>
 #include <stdlib.h>
 #include <sys/syscall.h>

@@ -2,6 +2,7 @@
 
 import os
 import random
+import signal
 import subprocess
 import sys
 import tempfile
@@ -49,6 +50,7 @@ def refused(status, text, path="disk.img", *words):
 def play(tests):
     """Plays the tests without arguments, or those whose names have a word of the command line in them, in a folder of their own."""
     words = sys.argv[4:]
+    signal.signal(signal.SIGTERM, lambda *_: sys.exit(1))
     with tempfile.TemporaryDirectory(dir="/dev/shm" if os.path.isdir("/dev/shm") else None) as folder:
         os.chdir(folder)
         try:
