@@ -260,17 +260,6 @@ static void begin(const char *image)
     judge(transact(&server.disk, 0x2A, known, KNOWN), "known blocks are written");
 }
 
-/* The server ends, and the blocks before those of strangers are as they were. */
-static void end(void)
-{
-    uint8_t found[sizeof known];
-    disk_bus_reset(&server.disk);
-    judge(transact(&server.disk, 0x28, found, KNOWN), "known blocks are read");
-    judge(!memcmp(found, known, sizeof known), "known blocks are as they were");
-    judge(server_end(&server), "all is brought home");
-    disk_close(&server.disk);
-}
-
 #ifdef LIBFUZZER
 int LLVMFuzzerTestOneInput(const uint8_t *bytes, size_t size)
 {
@@ -283,6 +272,17 @@ int LLVMFuzzerTestOneInput(const uint8_t *bytes, size_t size)
     return 0;
 }
 #else
+/* The server ends, and the blocks before those of strangers are as they were. */
+static void end(void)
+{
+    uint8_t found[sizeof known];
+    disk_bus_reset(&server.disk);
+    judge(transact(&server.disk, 0x28, found, KNOWN), "known blocks are read");
+    judge(!memcmp(found, known, sizeof known), "known blocks are as they were");
+    judge(server_end(&server), "all is brought home");
+    disk_close(&server.disk);
+}
+
 int main(int count, char **words)
 {
     struct source source = { .seed = 0x9E3779B97F4A7C15u };
