@@ -1,11 +1,20 @@
 /* For Frama-C's EVA (checks/frama): what strangers' bytes reach in usbdisk-usbip, called with any
  * bytes at all. The disk is stood for by any that its header allows. */
-#include "../usbip.h"
+#include "../usbip_client.c"
 #include "__fc_builtin.h"
 
 static void any(uint8_t *bytes, unsigned long size)
 {
     Frama_C_make_unknown((char *)bytes, size);
+}
+
+ssize_t recv(int file, void *bytes, size_t size, int flags)
+{
+    (void)file, (void)flags;
+    unsigned got = Frama_C_unsigned_int_interval(0, (unsigned)size);
+    any(bytes, got);
+    errno = Frama_C_interval(0, EAGAIN);
+    return Frama_C_interval(0, 1) ? -1 : (ssize_t)got;
 }
 
 uint32_t disk_setup(struct disk *disk, const uint8_t setup[8], uint8_t data[2], uint32_t *size)
@@ -61,9 +70,36 @@ static void play_requests(void)
     }
 }
 
+/* A head that comes in parts, behind which what is asked for is judged: any message, of a client
+ * with some transfers that wait. */
+static void play_head(void)
+{
+    static struct transfer one, two, out;
+    struct client client = { .socket = 3, .is_attached = true };
+    enum outcome outcome;
+    any(client.head, HEAD);
+    while (!receive(&client, client.head, HEAD, &client.have, &outcome))
+        if (outcome == ENDS)
+            return;
+    one.number = (uint32_t)Frama_C_interval(0, 3);
+    two.number = (uint32_t)Frama_C_interval(0, 3);
+    one.next = Frama_C_interval(0, 1) ? &two : NULL;
+    client.waiting[BULK_IN] = Frama_C_interval(0, 1) ? &one : NULL;
+    client.waiting[BULK_OUT] = Frama_C_interval(0, 1) ? &out : NULL;
+    client.count = Frama_C_unsigned_int_interval(0, WAITING_MOST);
+    client.bytes = Frama_C_unsigned_int_interval(0, WAITING_BYTES_MOST);
+    struct message message = read_message(client.head);
+    find(&client, message.victim);
+    if (fault_of(&client, &message))
+        return;
+    /*@ assert bounded: message.length <= TRANSFER_MOST; */
+    /*@ assert known: message.endpoint <= BULK_OUT; */
+}
+
 int main(void)
 {
     play_messages();
+    play_head();
     play_requests();
     return 0;
 }
