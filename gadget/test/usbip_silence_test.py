@@ -56,7 +56,7 @@ def serve(name, address):
 def it_lets_hosts_go_whose_packets_vanish():
     try:
         server_end = new_network("10.77.0.1")
-    except OSError as error:
+    except (OSError, subprocess.CalledProcessError) as error:
         print(f"no network of one's own here ({error}): left out")
         return
     servers = [serve(name, "10.77.0.1") for name in ("asked.img", "quiet.img")]
