@@ -28,34 +28,36 @@ bool refuse_call(struct disk *disk, const char *call)
     return refuse(disk, STATUS_FILE, cause);
 }
 
+/* Whether a call that moves bytes is to be made again: it moved some, or a signal came first. */
+static bool goes_on(ssize_t moved)
+{
+    if (moved == 0)
+        errno = EIO;
+    return moved > 0 || (moved < 0 && errno == EINTR);
+}
+
 bool read_sectors(struct disk *disk, uint8_t *bytes, uint64_t first, uint64_t count)
 {
-    uint64_t place = first * 512, left = count * 512;
-    while (left) {
-        ssize_t read = pread(disk->file, bytes, left, (off_t)place);
-        if (read < 0 && errno == EINTR)
-            continue;
-        if (read <= 0) {
-            errno = read ? errno : EIO;
+    uint64_t done = 0;
+    while (done < count * 512) {
+        ssize_t read =
+            pread(disk->file, bytes + done, count * 512 - done, (off_t)(first * 512 + done));
+        if (!goes_on(read))
             return false;
-        }
-        bytes += read, place += (uint64_t)read, left -= (uint64_t)read;
+        done += read > 0 ? (uint64_t)read : 0;
     }
     return true;
 }
 
 bool write_sectors(struct disk *disk, const uint8_t *bytes, uint64_t first, uint64_t count)
 {
-    uint64_t place = first * 512, left = count * 512;
-    while (left) {
-        ssize_t written = pwrite(disk->file, bytes, left, (off_t)place);
-        if (written < 0 && errno == EINTR)
-            continue;
-        if (written <= 0) {
-            errno = written ? errno : EIO;
+    uint64_t done = 0;
+    while (done < count * 512) {
+        ssize_t written =
+            pwrite(disk->file, bytes + done, count * 512 - done, (off_t)(first * 512 + done));
+        if (!goes_on(written))
             return false;
-        }
-        bytes += written, place += (uint64_t)written, left -= (uint64_t)written;
+        done += written > 0 ? (uint64_t)written : 0;
     }
     return true;
 }

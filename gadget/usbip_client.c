@@ -134,7 +134,9 @@ static enum outcome answer_control(struct client *client, struct usb_device *dev
 /* The status of a transfer of which the disk says this. */
 static int32_t status_of(uint32_t code)
 {
-    return code == USBDISK_ACK ? GOOD : code == DISK_OVERFLOW ? OVERFLOWED : STALLED;
+    if (code == DISK_OVERFLOW)
+        return OVERFLOWED;
+    return code == USBDISK_ACK ? GOOD : STALLED;
 }
 
 /* Plays the oldest transfer that waits for this endpoint, as far as it goes, and tells whether it

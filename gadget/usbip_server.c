@@ -101,11 +101,18 @@ static void make_room(struct server *server)
         server->listens_from = now() + PAUSE;
 }
 
+static uint32_t import_status(const struct server *server, const uint8_t *bus)
+{
+    if (!names_device(bus))
+        return NO_DEVICE;
+    return server->is_attached ? DEVICE_BUSY : 0;
+}
+
 /* An import that came whole is answered. */
 static enum outcome import(struct server *server, struct client *client, const uint8_t *bus)
 {
     uint8_t reply[REPLY_MOST];
-    uint32_t status = !names_device(bus) ? NO_DEVICE : server->is_attached ? DEVICE_BUSY : 0;
+    uint32_t status = import_status(server, bus);
     if (!send_at_once(client, reply, put_import_reply(reply, status, server->disk.packet)) ||
         status)
         return ENDS;
@@ -121,8 +128,7 @@ static enum outcome serve_request(struct server *server, struct client *client)
 {
     enum outcome outcome;
     uint8_t reply[REPLY_MOST];
-    if (!receive(client, client->head, client->have < REQUEST ? REQUEST : REQUEST + BUS_ID,
-                 &client->have, &outcome))
+    if (!receive(client, client->head, REQUEST, &client->have, &outcome))
         return outcome;
     if (!is_version(client->head))
         return ENDS;
@@ -130,8 +136,9 @@ static enum outcome serve_request(struct server *server, struct client *client)
         send_at_once(client, reply, put_list_reply(reply, server->disk.packet));
     if (request_code(client->head) != ASKS_IMPORT)
         return ENDS;
-    return client->have == REQUEST + BUS_ID ? import(server, client, client->head + REQUEST)
-                                            : GOES_ON;
+    if (!receive(client, client->head, REQUEST + BUS_ID, &client->have, &outcome))
+        return outcome;
+    return import(server, client, client->head + REQUEST);
 }
 
 /* Serves a client that sent something, or takes more of its answers. */

@@ -10,7 +10,8 @@ static void any(uint8_t *bytes, unsigned long size)
 
 ssize_t recv(int file, void *bytes, size_t size, int flags)
 {
-    (void)file, (void)flags;
+    (void)file;
+    (void)flags;
     unsigned got = Frama_C_unsigned_int_interval(0, (unsigned)size);
     any(bytes, got);
     errno = Frama_C_interval(0, EAGAIN);
@@ -19,7 +20,8 @@ ssize_t recv(int file, void *bytes, size_t size, int flags)
 
 uint32_t disk_setup(struct disk *disk, const uint8_t setup[8], uint8_t data[2], uint32_t *size)
 {
-    (void)disk, (void)setup;
+    (void)disk;
+    (void)setup;
     *size = (uint32_t)Frama_C_interval(0, 2);
     any(data, 2);
     return (uint32_t)Frama_C_interval(USBDISK_ACK, USBDISK_STALL);
@@ -27,7 +29,8 @@ uint32_t disk_setup(struct disk *disk, const uint8_t setup[8], uint8_t data[2], 
 
 void disk_clear_halt(struct disk *disk, uint8_t endpoint)
 {
-    (void)disk, (void)endpoint;
+    (void)disk;
+    (void)endpoint;
 }
 
 void disk_bus_reset(struct disk *disk)

@@ -85,8 +85,8 @@ static bool hand_over(struct host *host, const uint8_t *bytes, size_t size)
         ssize_t sent = send(host->socket, bytes, size, MSG_DONTWAIT | MSG_NOSIGNAL);
         if (sent < 0 && errno != EAGAIN)
             return false;
-        if (sent > 0)
-            bytes += sent, size -= (size_t)sent;
+        bytes += sent > 0 ? sent : 0;
+        size -= sent > 0 ? (size_t)sent : 0;
         turn();
         if (sent < 0 && !host_read(host))
             return false;
@@ -139,13 +139,16 @@ static int request(struct source *source, unsigned code, bool is_right)
     if (wrong < size)
         bytes[wrong] ^= (uint8_t)(1 + below(source, 255));
     judge(send(file, bytes, size, MSG_NOSIGNAL) == (ssize_t)size, "a request is taken");
-    turn(), turn();
+    turn();
+    turn();
     ssize_t got = recv(file, reply, sizeof reply, MSG_DONTWAIT);
     bool is_version = bytes[0] == 1 && bytes[1] == 0x11;
     if (is_version && bytes[2] == 0x80 && bytes[3] == 5)
         judge(got == REPLY_MOST && reply[3] == 5 && reply[11] == 1, "a list is answered");
     else if (is_version && bytes[2] == 0x80 && bytes[3] == 3 && size == 40) {
-        status = wrong >= 8 && wrong < size ? NO_DEVICE : was_attached ? DEVICE_BUSY : 0;
+        status = was_attached ? DEVICE_BUSY : 0;
+        if (wrong >= 8 && wrong < size)
+            status = NO_DEVICE;
         judge(got == (status ? 8 : 8 + DEVICE) && reply[7] == status, "an import is answered");
     } else
         judge(got <= 0, "what is no request is not answered");

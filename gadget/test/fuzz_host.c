@@ -113,7 +113,7 @@ static size_t put_control(struct source *source, struct host *host, uint8_t *byt
     if (below(source, 4) == 0)
         setup[below(source, 8)] = (uint8_t)below(source, 256);
     bool in = below(source, 16) ? setup[0] >> 7 : below(source, 2);
-    uint32_t length = in ? below(source, 300) : below(source, 4) ? 0 : below(source, 100);
+    uint32_t length = in || below(source, 4) == 0 ? below(source, in ? 300 : 100) : 0;
     put_head(host, bytes, in, CONTROL, length);
     memcpy(bytes + 40, setup, 8);
     fill(source, bytes + HEAD, in ? 0 : length);
