@@ -124,35 +124,42 @@ static void leave(struct host *host)
     host_forget(host);
 }
 
-/* Asks as one that is not attached, and judges what comes. Answers the status of an import. */
+/* Judges what comes for a request. Answers the status of an import; or -1. */
+static int judge_request(int file, const uint8_t *bytes, size_t size, bool was_attached)
+{
+    uint8_t reply[512];
+    ssize_t got = recv(file, reply, sizeof reply, MSG_DONTWAIT);
+    bool is_ours = bytes[0] == 1 && bytes[1] == 0x11 && bytes[2] == 0x80;
+    bool is_import = is_ours && bytes[3] == 3 && size == 40;
+    int status = was_attached ? DEVICE_BUSY : 0;
+    if (is_ours && bytes[3] == 5)
+        judge(got == REPLY_MOST && reply[3] == 5 && reply[11] == 1, "a list is answered");
+    else if (!is_import)
+        judge(got <= 0, "what is no request is not answered");
+    if (!is_import)
+        return -1;
+    if (memcmp(bytes + 8, "1-1", 4))
+        status = NO_DEVICE;
+    judge(got == (status ? 8 : 8 + DEVICE) && reply[7] == status, "an import is answered");
+    return status;
+}
+
+/* Asks as one that is not attached. Answers the connection of an import, or -1. */
 static int request(struct source *source, unsigned code, bool is_right)
 {
     uint8_t bytes[40] = {
         0x01, 0x11, (uint8_t)(code >> 8), (uint8_t)code, 0, 0, 0, 0, '1', '-', '1'
     };
-    uint8_t reply[512];
     bool was_attached = server.is_attached;
-    int file = come(), status = -1;
-    size_t size = code == ASKS_LIST ? 8 : 40, wrong = size;
+    int file = come();
+    size_t size = code == ASKS_LIST ? 8 : 40;
+    size_t wrong = below(source, 2) ? below(source, 4) : 8 + below(source, 4);
     if (!is_right)
-        wrong = below(source, 2) ? below(source, 4) : 8 + below(source, 4);
-    if (wrong < size)
         bytes[wrong] ^= (uint8_t)(1 + below(source, 255));
     judge(send(file, bytes, size, MSG_NOSIGNAL) == (ssize_t)size, "a request is taken");
     turn();
     turn();
-    ssize_t got = recv(file, reply, sizeof reply, MSG_DONTWAIT);
-    bool is_version = bytes[0] == 1 && bytes[1] == 0x11;
-    if (is_version && bytes[2] == 0x80 && bytes[3] == 5)
-        judge(got == REPLY_MOST && reply[3] == 5 && reply[11] == 1, "a list is answered");
-    else if (is_version && bytes[2] == 0x80 && bytes[3] == 3 && size == 40) {
-        status = was_attached ? DEVICE_BUSY : 0;
-        if (wrong >= 8 && wrong < size)
-            status = NO_DEVICE;
-        judge(got == (status ? 8 : 8 + DEVICE) && reply[7] == status, "an import is answered");
-    } else
-        judge(got <= 0, "what is no request is not answered");
-    if (status == 0)
+    if (judge_request(file, bytes, size, was_attached) == 0)
         return file;
     close(file);
     turn();

@@ -156,11 +156,25 @@ static size_t put_unlink(struct source *source, struct host *host, uint8_t *byte
     return HEAD;
 }
 
-/* Makes one field wrong, so that the connection has to end. */
-static void spoil(struct source *source, struct host *host, uint8_t *bytes)
+/* A transfer that is refused: the wrong way, too long, isochronous, or with the number of one that
+ * waits. */
+static void put_refused(struct source *source, struct host *host, uint8_t *bytes)
 {
     bool has_waiting = host->count && !host->is_slow && host->asked[0].command == SUBMIT;
-    switch (below(source, has_waiting ? 8 : 7)) {
+    uint32_t kind = below(source, has_waiting ? 5 : 4), length = STATUS;
+    if (kind == 0)
+        length = TRANSFER_MOST + 1 + below(source, 1u << below(source, 32));
+    put_head(host, bytes, kind != 1, kind == 2 ? BULK_OUT : BULK_IN, kind == 1 ? 0 : length);
+    if (kind == 3)
+        put(bytes + 32, 1 + below(source, 1u << 31));
+    if (kind == 4)
+        put(bytes + 4, host->asked[0].number);
+}
+
+/* A message of which one field is wrong, so that the connection has to end. */
+static void spoil(struct source *source, struct host *host, uint8_t *bytes)
+{
+    switch (below(source, 6)) {
     case 0:
         put(bytes, 5 + below(source, 1u << 31));
         break;
@@ -171,23 +185,8 @@ static void spoil(struct source *source, struct host *host, uint8_t *bytes)
         put(bytes, SUBMIT);
         put(bytes + 16, 3 + below(source, 1u << 31));
         break;
-    case 3:
-        put_head(host, bytes, true, BULK_OUT, 13);
-        break;
-    case 4:
-        put_head(host, bytes, false, BULK_IN, 0);
-        break;
-    case 5:
-        put_head(host, bytes, true, BULK_IN,
-                 TRANSFER_MOST + 1 + below(source, 1u << below(source, 32)));
-        break;
-    case 6:
-        put_head(host, bytes, true, BULK_IN, 13);
-        put(bytes + 32, 1 + below(source, 1u << 31));
-        break;
     default:
-        put_head(host, bytes, true, BULK_IN, 13);
-        put(bytes + 4, host->asked[0].number);
+        put_refused(source, host, bytes);
         break;
     }
 }
