@@ -280,6 +280,30 @@ def it_makes_an_interrupted_flush_again():
     ends_well(server)
 
 
+def it_keeps_its_promises_whichever_write_is_refused():
+    make_image("disk.img", 2, BLOCKS, SLOTS)
+    may_be, faults = [bytes(30 * 512)], 0
+    for number in range(1, 41):
+        server = Server(f"{PROGRAM}.refusing", "disk.img", env=os.environ | {"WRITES": str(number), "SHORT": "1"})
+        host = attached(server.port).set_up() if server.port else None
+        for turn in range(9 if host else 0):
+            data, is_forced = pattern(100 * number + turn, 30), turn % 2 == 0
+            status = host.write(0, data, forced=is_forced)
+            may_be = [data] if is_forced and status == 0 else may_be + [data]
+            if status:
+                break
+            time.sleep(0.05 if turn % 3 == 2 else 0)
+        status = server.end() if host else server.wait()
+        faults += status == 4
+        assert status in (0, 4), server.text()
+        server = again()
+        found = attached(server.port).set_up().read_blocks(0, 30)
+        assert found in may_be and (status or found == may_be[-1]), (number, server.text())
+        may_be = [found]
+        ends_well(server)
+    assert faults > 12, faults
+
+
 def number_of(path, machine):
     number = 0xCBF29CE484222325
     for byte in machine + path.encode():
