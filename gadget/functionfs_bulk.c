@@ -4,6 +4,7 @@
 #include <errno.h>
 #include <stdio.h>
 #include <string.h>
+#include <time.h>
 
 enum { BULK_IN = 0x81, BULK_OUT = 0x02, WRAPPER = 31, SOON = 1, LOCK = 10, TRIES = 100 };
 
@@ -30,9 +31,32 @@ void bulk_close(struct bulk *bulk)
 
 static void submit(struct bulk *bulk, struct queue *queue, size_t size)
 {
-    if (!queue_submit(&bulk->engine, queue, size))
-        bulk->is_enabled = false;
+    queue_submit(&bulk->engine, queue, size);
     bulk->is_moving = true;
+}
+
+/* What the system may grant when it is asked again. */
+static bool may_pass(int refusal)
+{
+    return refusal == EAGAIN || refusal == ENOMEM || refusal == EINTR;
+}
+
+/* A transfer failed. Where the host has let the endpoint go an event tells so; else only its reset
+ * goes on from here. */
+static void fail(struct bulk *bulk, int cause)
+{
+    if (bulk->is_enabled && cause != ESHUTDOWN && cause != ECONNRESET)
+        say_of_host("a transfer failed, and the disk waits for a reset: %s", strerror(cause));
+    bulk->is_enabled = false;
+}
+
+/* The system refused a transfer to the host, which is said once for each time that it begins to. */
+static void rest(struct bulk *bulk, int refusal)
+{
+    if (bulk->refusal != refusal)
+        say_of_host("a transfer to the host was refused and is tried again: %s", strerror(refusal));
+    bulk->refusal = refusal;
+    bulk->is_resting = true;
 }
 
 static bool is_halted(struct bulk *bulk, uint8_t endpoint)
@@ -44,14 +68,16 @@ static bool is_halted(struct bulk *bulk, uint8_t endpoint)
     return data[0] & 1;
 }
 
-/* The disk has halted Bulk-Out, when it took a wrapper: nothing is in flight there. The controller ends the halt without a
- * word, so the disk's ends now. Where it does not end, the wrapper was refused, and both endpoints are locked. */
+/* The disk has halted Bulk-Out, when it took a wrapper: nothing is in flight there. The controller
+ * ends the halt without a word, so the disk's ends now. Where it does not end, the wrapper was
+ * refused, and both endpoints are locked. */
 static void halt_out(struct bulk *bulk)
 {
     disk_clear_halt(bulk->disk, BULK_OUT);
     bulk->is_locked = is_halted(bulk, BULK_OUT);
-    for (int tries = 0; !bulk->is_locked && tries < TRIES && queue_halt(&bulk->out) == EAGAIN; tries++)
-        wait_for(NULL, 0, SOON);
+    for (int tries = 0; !bulk->is_locked && tries < TRIES && queue_halt(&bulk->out) == EAGAIN;
+         tries++)
+        nanosleep(&(struct timespec){ 0, SOON * 1000000 }, NULL);
 }
 
 /* What follows a wrapper that the disk took, as its bytes tell. */
@@ -96,7 +122,7 @@ static void feed(struct bulk *bulk)
     if (!transfer || bulk->is_locked)
         return;
     if (transfer->result < 0) {
-        bulk->is_enabled = false;
+        fail(bulk, (int)-transfer->result);
         queue_pop(&bulk->out);
         return;
     }
@@ -116,7 +142,9 @@ static void fetch(struct bulk *bulk)
     struct transfer *transfer = queue_free(&bulk->in);
     if (!transfer || bulk->halts_in || bulk->is_locked || !bulk->is_enabled)
         return;
-    size_t got, room = bulk->in_left == 0 ? bulk->disk->packet : bulk->in_left < CHUNK ? bulk->in_left : CHUNK;
+    size_t got, room = bulk->in_left == 0      ? bulk->disk->packet
+                       : bulk->in_left < CHUNK ? bulk->in_left
+                                               : CHUNK;
     uint32_t code = disk_in(bulk->disk, transfer->bytes, room, &got);
     bool ends = code == USBDISK_STALL || (code == USBDISK_ACK && got < room);
     bulk->in_left = ends || got > bulk->in_left ? 0 : bulk->in_left - got;
@@ -125,18 +153,39 @@ static void fetch(struct bulk *bulk)
         submit(bulk, &bulk->in, got);
 }
 
-/* Lets go of what the host has read. */
+/* Lets go of what the host has read. What was refused goes again, with all behind it. */
 static void release(struct bulk *bulk)
 {
     struct transfer *transfer;
     while ((transfer = queue_done(&bulk->in))) {
-        bulk->is_enabled &= transfer->result >= 0;
+        int cause = transfer->result < 0 ? (int)-transfer->result : 0;
         bulk->is_moving = true;
+        if (bulk->is_enabled && may_pass(cause) && queue_ready_again(&bulk->engine, &bulk->in)) {
+            rest(bulk, cause);
+            return;
+        }
+        bulk->refusal = 0;
+        if (cause)
+            fail(bulk, cause);
         queue_pop(&bulk->in);
     }
 }
 
-/* Halts Bulk-In when all before the halt is sent. What follows waits in the controller until the host ends the halt. */
+/* Hands over what is ready for the host. What is refused at once is noted at once, before what is
+ * behind it moves. */
+static void send(struct bulk *bulk)
+{
+    int refusal = bulk->is_resting || !bulk->is_enabled ? 0 : queue_send(&bulk->engine, &bulk->in);
+    if (may_pass(refusal))
+        rest(bulk, refusal);
+    else if (refusal)
+        fail(bulk, refusal);
+    engine_collect(&bulk->engine);
+    release(bulk);
+}
+
+/* Halts Bulk-In when all before the halt is sent. What follows waits in the controller until the
+ * host ends the halt. */
 static void halt_in(struct bulk *bulk)
 {
     if (!bulk->halts_in || bulk->in.count)
@@ -144,13 +193,15 @@ static void halt_in(struct bulk *bulk)
     int refusal = queue_halt(&bulk->in);
     if (refusal == EAGAIN)
         return;
-    bulk->is_enabled &= refusal == 0;
+    if (refusal)
+        fail(bulk, refusal);
     bulk->halts_in = false;
     bulk->is_moving = true;
     disk_clear_halt(bulk->disk, BULK_IN);
 }
 
-/* Asks for the data that the disk waits for, in transfers as long as may be; or for the next wrapper. */
+/* Asks for the data that the disk waits for, in transfers as long as may be; or for the next
+ * wrapper. */
 static void ask(struct bulk *bulk)
 {
     uint32_t packet = bulk->disk->packet;
@@ -163,7 +214,8 @@ static void ask(struct bulk *bulk)
         submit(bulk, &bulk->out, packet);
 }
 
-/* FunctionFS has no wedge: the host can end the halts of a refused wrapper. They are made again, until the class reset. */
+/* FunctionFS has no wedge: the host can end the halts of a refused wrapper. They are made again,
+ * until the class reset. */
 static void keep_lock(struct bulk *bulk)
 {
     queue_cancel(&bulk->engine, &bulk->in);
@@ -173,9 +225,20 @@ static void keep_lock(struct bulk *bulk)
     queue_halt(&bulk->out);
 }
 
+/* How many milliseconds later something is to be tried again; or -1. */
+static int next_look(const struct bulk *bulk)
+{
+    if (!bulk->is_enabled)
+        return -1;
+    if (bulk->is_locked)
+        return LOCK;
+    return bulk->halts_in || bulk->is_resting ? SOON : -1;
+}
+
 int bulk_play(struct bulk *bulk)
 {
-    engine_collect(&bulk->engine, 0);
+    engine_collect(&bulk->engine);
+    bulk->is_resting = false;
     do {
         bulk->is_moving = false;
         release(bulk);
@@ -184,21 +247,25 @@ int bulk_play(struct bulk *bulk)
         halt_in(bulk);
         ask(bulk);
     } while (bulk->is_moving && bulk->is_enabled);
+    send(bulk);
     if (bulk->reads && bulk->in.count && !bulk->in_left) {
         disk_look_ahead(bulk->disk, bulk->reads);
         bulk->reads = 0;
     }
     if (bulk->is_locked && bulk->is_enabled)
         keep_lock(bulk);
-    return !bulk->is_enabled ? -1 : bulk->is_locked ? LOCK : bulk->halts_in ? SOON : -1;
+    return next_look(bulk);
 }
 
 void bulk_reset(struct bulk *bulk)
 {
     queue_cancel(&bulk->engine, &bulk->in);
     queue_cancel(&bulk->engine, &bulk->out);
+    queue_flush(&bulk->in);
+    queue_flush(&bulk->out);
     disk_bus_reset(bulk->disk);
     bulk->is_locked = bulk->halts_in = false;
+    bulk->refusal = 0;
     bulk->reads = bulk->in_left = bulk->out_left = bulk->out_due = bulk->taken = 0;
 }
 

@@ -1,4 +1,5 @@
-/* The bulk endpoints of the FunctionFS gadget: what stands between the kernel's transfers and the disk's packets. */
+/* The bulk endpoints of the FunctionFS gadget: what stands between the kernel's transfers and the
+ * disk's packets. */
 #ifndef FUNCTIONFS_BULK_H
 #define FUNCTIONFS_BULK_H
 
@@ -18,6 +19,9 @@ struct bulk {
     uint64_t out_due;  /* those of them that no transfer asks for yet */
     size_t taken;      /* how many bytes of the oldest transfer from the host the disk has taken */
     bool is_moving;    /* something has changed since the last look */
+    bool is_resting; /* the system refused a transfer to the host: the next try comes with the next
+                        look */
+    int refusal;     /* why it did, or 0 */
 };
 
 /* Opens both endpoints in the folder of FunctionFS. False: the system refused. */
@@ -26,12 +30,13 @@ bool bulk_open(struct bulk *bulk, struct disk *disk, const char *folder);
 /* Takes all transfers back, and gives memory and files back. */
 void bulk_close(struct bulk *bulk);
 
-/* Does all that can be done without waiting. Answers how many milliseconds later it wants to be called at the latest, where
- * nothing comes before; or -1. */
+/* Does all that can be done without waiting. Answers how many milliseconds later it wants to be
+ * called at the latest, where nothing comes before; or -1. */
 int bulk_play(struct bulk *bulk);
 
-/* The class reset: takes all transfers back, and the disk expects a wrapper. The host clears its halts in the controller, which
- * tells nobody, so the disk's end here. */
+/* The class reset: takes all transfers back, with what the controller holds of them, and the disk
+ * expects a wrapper. The host clears its halts in the controller, which tells nobody, so the disk's
+ * end here. */
 void bulk_reset(struct bulk *bulk);
 
 /* Whether a command is in progress. */

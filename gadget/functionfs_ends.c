@@ -13,7 +13,8 @@
 
 #define NAME "Power Safe Disk"
 
-/* Mass storage, SCSI, bulk-only; Bulk-In 81h and Bulk-Out 02h, which the controller may number otherwise. */
+/* Mass storage, SCSI, bulk-only; Bulk-In 81h and Bulk-Out 02h, which the controller may number
+ * otherwise. */
 struct disk_interface {
     struct usb_interface_descriptor interface;
     struct usb_endpoint_descriptor_no_audio in, out;
@@ -85,10 +86,11 @@ int open_control(const char *folder)
     };
     char path[4096];
     snprintf(path, sizeof path, "%s/ep0", folder);
-    int control = open(path, O_RDWR | O_CLOEXEC);
+    int control = open(path, O_RDWR | O_NONBLOCK | O_CLOEXEC);
     if (control < 0)
         return -1;
-    if (write_all(control, &descriptors, sizeof descriptors) && write_all(control, &strings, sizeof strings))
+    if (write_all(control, &descriptors, sizeof descriptors) &&
+        write_all(control, &strings, sizeof strings))
         return control;
     int cause = errno;
     close(control);

@@ -1,6 +1,8 @@
-/* A host and a controller in memory around functionfs_bulk.c, in place of functionfs_queue.c: commands that pass and fail, data
- * that is too long or too short, refused wrappers, class resets in the midst of anything, in packets of both sizes. Each
- * exchange is told by Bulk-Only Transport; behind a reset recovery the disk serves again.
+/* A host and a controller in memory around functionfs_bulk.c, in place of functionfs_queue.c:
+ * commands that pass and fail, data that is too long or too short, refused wrappers, class resets
+ * in the midst of anything, in packets of both sizes, transfers that the system refuses once, and a
+ * controller that keeps a packet until it is flushed. Each exchange is told by Bulk-Only Transport;
+ * behind a reset recovery the disk serves again.
  *
  *   bulk_host IMAGE ROUNDS [PACKET]     the image has at least 2,048 blocks */
 #include "../functionfs_bulk.h"
@@ -15,7 +17,12 @@ enum { MOST = 240 * 512, STALLED = -1, NOTHING = -2, PATIENCE = 64 };
 static struct disk disk;
 static struct bulk bulk;
 static bool halted[2], may_reset; /* Bulk-Out, Bulk-In */
-static uint64_t seed = 88172645463325252u, passed, failed, locks, resets;
+static struct kept { /* a packet of Bulk-In that the controller has taken out of a transfer */
+    uint8_t bytes[512];
+    long size;
+    bool is_there;
+} kept;
+static uint64_t seed = 88172645463325252u, passed, failed, locks, resets, refusals, flushes;
 static uint8_t data[2 * MOST], blocks[2048][512];
 static uint32_t tag;
 
@@ -36,10 +43,25 @@ static void check(bool holds, const char *what)
 }
 
 /* The controller, as functionfs_queue.h tells it. */
-bool engine_open(struct engine *engine) { return engine != NULL; }
-void engine_close(struct engine *engine) { (void)engine; }
-void engine_collect(struct engine *engine, unsigned least) { (void)engine, (void)least; }
-void queue_pop(struct queue *queue) { queue->first = (queue->first + 1) % DEPTH, queue->count--; }
+bool engine_open(struct engine *engine)
+{
+    return engine != NULL;
+}
+void engine_close(struct engine *engine)
+{
+    (void)engine;
+}
+void engine_collect(struct engine *engine)
+{
+    (void)engine;
+}
+
+void queue_pop(struct queue *queue)
+{
+    queue->first = (queue->first + 1) % DEPTH;
+    queue->count--;
+    queue->handed -= queue->handed > 0;
+}
 
 bool queue_open(struct queue *queue, const char *path, bool sends)
 {
@@ -61,14 +83,45 @@ struct transfer *queue_free(struct queue *queue)
     return queue->count < DEPTH ? &queue->ring[(queue->first + queue->count) % DEPTH] : NULL;
 }
 
-bool queue_submit(struct engine *engine, struct queue *queue, size_t size)
+void queue_submit(struct engine *engine, struct queue *queue, size_t size)
 {
     struct transfer *transfer = queue_free(queue);
     (void)engine;
-    check(transfer && size <= CHUNK && (queue->sends || (size && size % disk.packet == 0)), "a transfer of a wrong size");
+    check(transfer && size <= CHUNK && (queue->sends || (size && size % disk.packet == 0)),
+          "a transfer of a wrong size");
     *transfer = (struct transfer){ .bytes = transfer->bytes, .size = size };
     queue->count++;
-    return true;
+}
+
+/* Some of them, or none, where the system has no memory; and one that it refuses by its result. */
+int queue_send(struct engine *engine, struct queue *queue)
+{
+    unsigned before = queue->handed;
+    (void)engine;
+    if (queue->count > before && below(16) == 0)
+        return refusals++, below(2) ? EAGAIN : ENOMEM;
+    queue->handed = queue->count > before + 1 && below(16) == 0 ? before + 1 : queue->count;
+    if (queue->handed > before && below(16) == 0) {
+        struct transfer *refused = &queue->ring[(queue->first + before) % DEPTH];
+        refused->result = below(2) ? -ENOMEM : -EAGAIN;
+        refused->is_done = true;
+        refusals++;
+    }
+    return queue->handed < queue->count ? EAGAIN : 0;
+}
+
+bool queue_ready_again(struct engine *engine, struct queue *queue)
+{
+    bool has_moved = false;
+    (void)engine;
+    for (unsigned i = 0; i < queue->handed; i++) {
+        struct transfer *transfer = &queue->ring[(queue->first + i) % DEPTH];
+        has_moved |= transfer->result > 0;
+        transfer->result = 0;
+        transfer->is_done = false;
+    }
+    queue->handed = 0;
+    return !has_moved;
 }
 
 struct transfer *queue_done(struct queue *queue)
@@ -77,10 +130,28 @@ struct transfer *queue_done(struct queue *queue)
     return queue->count && oldest->is_done ? oldest : NULL;
 }
 
+/* What the controller has taken out of a transfer that is taken back goes to the host all the same,
+ * where it is not flushed. */
 void queue_cancel(struct engine *engine, struct queue *queue)
 {
+    struct transfer *first =
+        queue_done(queue) || !queue->handed ? NULL : &queue->ring[queue->first];
     (void)engine;
-    queue->count = 0;
+    if (queue->sends && first && first->size > (size_t)first->result) {
+        size_t left = first->size - (size_t)first->result;
+        kept.size = (long)(left < disk.packet ? left : disk.packet);
+        memcpy(kept.bytes, first->bytes + first->result, (size_t)kept.size);
+        kept.is_there = true;
+    }
+    queue->count = queue->handed = 0;
+}
+
+void queue_flush(struct queue *queue)
+{
+    check(queue->count == 0, "a flush with transfers in flight");
+    if (queue->sends)
+        kept.is_there = false;
+    flushes++;
 }
 
 int queue_halt(struct queue *queue)
@@ -92,10 +163,11 @@ int queue_halt(struct queue *queue)
     return 0;
 }
 
-/* The oldest transfer that the host has not finished. */
+/* The oldest transfer that the host has not finished, and the controller has. */
 static struct transfer *open_transfer(struct queue *queue)
 {
-    for (unsigned i = 0; i < queue->count; i++)
+    unsigned count = queue->sends ? queue->handed : queue->count;
+    for (unsigned i = 0; i < count; i++)
         if (!queue->ring[(queue->first + i) % DEPTH].is_done)
             return &queue->ring[(queue->first + i) % DEPTH];
     return NULL;
@@ -140,6 +212,11 @@ static long receive_packet(uint8_t *bytes)
         struct transfer *transfer = open_transfer(&bulk.in);
         if (halted[1])
             return STALLED;
+        if (kept.is_there) {
+            kept.is_there = false;
+            memcpy(bytes, kept.bytes, (size_t)kept.size);
+            return kept.size;
+        }
         if (transfer) {
             at = (size_t)transfer->result;
             size_t packet = transfer->size - at < disk.packet ? transfer->size - at : disk.packet;
@@ -174,7 +251,8 @@ static void recover(void)
     resets++;
 }
 
-/* One command: the wrapper, the data, the status. Answers the status, or -1 where the host had to reset. */
+/* One command: the wrapper, the data, the status. Answers the status, or -1 where the host had to
+ * reset. */
 static int command(const uint8_t *block, size_t length, size_t size, bool sends)
 {
     uint8_t wrapper[31] = "USBC", status[512];
@@ -200,7 +278,8 @@ static int command(const uint8_t *block, size_t length, size_t size, bool sends)
         got = receive(status, 13);
     }
     halted[0] = false;
-    check(got == 13 && !memcmp(status, "USBS", 4) && !memcmp(status + 4, &tag, 4), "a status is not one");
+    check(got == 13 && !memcmp(status, "USBS", 4) && !memcmp(status + 4, &tag, 4),
+          "a status is not one");
     if (status[12] == 2)
         recover();
     status[12] ? failed++ : passed++;
@@ -209,7 +288,10 @@ static int command(const uint8_t *block, size_t length, size_t size, bool sends)
 
 static void transfer(uint8_t code, uint32_t address, uint32_t count, size_t size)
 {
-    uint8_t block[10] = { code, below(4) ? 0 : 8, 0, 0, (uint8_t)(address >> 8), (uint8_t)address, 0, 0, (uint8_t)count, 0 };
+    uint8_t block[10] = {
+        code, below(4) ? 0 : 8, 0, 0, (uint8_t)(address >> 8), (uint8_t)address, 0,
+        0,    (uint8_t)count,   0
+    };
     bool sends = code == 0x28, fits = size == count * 512 && address + count <= 2048;
     for (size_t i = 0; i < size && !sends; i++)
         data[i] = (uint8_t)below(256);
@@ -218,12 +300,14 @@ static void transfer(uint8_t code, uint32_t address, uint32_t count, size_t size
         check(status == 0, "a good command fails");
     for (uint32_t i = 0; fits && status == 0 && i < count; i++)
         if (sends)
-            check(!memcmp(data + 512 * i, blocks[address + i], 512), "a block holds something else");
+            check(!memcmp(data + 512 * i, blocks[address + i], 512),
+                  "a block holds something else");
         else
             memcpy(blocks[address + i], data + 512 * i, 512);
 }
 
-/* A wrapper that is none: both endpoints are halted, and stay so when the host clears the halts, until the class reset. */
+/* A wrapper that is none: both endpoints are halted, and stay so when the host clears the halts,
+ * until the class reset. */
 static void bad_wrapper(void)
 {
     uint8_t packet[512];
@@ -237,17 +321,19 @@ static void bad_wrapper(void)
         for (int k = 0; k < PATIENCE; k++)
             bulk_play(&bulk);
         check(halted[0] && halted[1], "the lock ends without a class reset");
-        check(send_packet(packet, 31) == STALLED && receive_packet(data) == STALLED, "a locked disk answers");
+        check(send_packet(packet, 31) == STALLED && receive_packet(data) == STALLED,
+              "a locked disk answers");
     }
     locks++;
     recover();
 }
 
-/* READs that follow each other, in turns of a long one and the rest, as Linux makes them; what is shown ahead of one may be
- * written before it comes. */
+/* READs that follow each other, in turns of a long one and the rest, as Linux makes them; what is
+ * shown ahead of one may be written before it comes. */
 static void read_on(void)
 {
-    uint32_t length = 1 + below(200), rest = 1 + below(40), address = below(500), reads = 2 + below(10);
+    uint32_t length = 1 + below(200), rest = 1 + below(40), address = below(500),
+             reads = 2 + below(10);
     for (uint32_t i = 0; i < reads && address + length < 2048; i++) {
         uint32_t count = i % 2 ? rest : length;
         transfer(0x28, address, count, count * 512);
@@ -283,7 +369,8 @@ int main(int count, char **words)
 {
     uint64_t rounds = count > 2 ? strtoull(words[2], NULL, 10) : 0;
     static const uint8_t sense[6] = { 3, 0, 0, 0, 18, 0 };
-    if (!rounds || !disk_open(&disk, words[1]) || !disk_start(&disk, count > 3 ? 64 : 512) || !bulk_open(&bulk, &disk, ""))
+    if (!rounds || !disk_open(&disk, words[1]) || !disk_start(&disk, count > 3 ? 64 : 512) ||
+        !bulk_open(&bulk, &disk, ""))
         return 1;
     recover();
     bulk.is_enabled = true;
@@ -300,8 +387,11 @@ int main(int count, char **words)
         if (below(10) == 0)
             disk_tick(&disk);
     }
-    printf("packets of %u: %llu commands passed, %llu failed, %llu locks, %llu resets\n", disk.packet,
-           (unsigned long long)passed, (unsigned long long)failed, (unsigned long long)locks, (unsigned long long)resets);
+    printf("packets of %u: %llu commands passed, %llu failed, %llu locks, %llu resets, "
+           "%llu refusals, %llu flushes\n",
+           disk.packet, (unsigned long long)passed, (unsigned long long)failed,
+           (unsigned long long)locks, (unsigned long long)resets, (unsigned long long)refusals,
+           (unsigned long long)flushes);
     bulk_close(&bulk);
     disk_close(&disk);
     return 0;

@@ -1,8 +1,8 @@
 # Included by ../Makefile, and run in its folder. For tests, the same programs with calls of the system that stand before those of the C
-# library: flushes are refused, or what was written is noted, so that it can be lost. And a host in memory around the bulk endpoints of
-# usbdisk-gadget.
+# library: flushes are refused, or what was written is noted, so that it can be lost, or a call is refused once. And a host in memory
+# around the bulk endpoints of usbdisk-gadget.
 LOSSY = ../checks/hosts.d/lossy.c
-BUILT += $(PROGRAMS:=.lossy) usbdisk-usbip.refusing usbdisk-usbip.sanitized.refusing test/bulk_host
+BUILT += $(PROGRAMS:=.lossy) usbdisk-usbip.refusing usbdisk-usbip.sanitized.refusing usbdisk-gadget.refusing test/bulk_host
 
 refusing: usbdisk-usbip.refusing usbdisk-usbip.sanitized.refusing
 
@@ -19,6 +19,11 @@ usbdisk-usbip.lossy: $(LOSSY) $(USBIP) $(HEADERS) $(LIB)
 
 usbdisk-gadget.lossy: $(LOSSY) $(GADGET) $(HEADERS) $(LIB)
 	$(CC) $(FLAGS) $(CFLAGS) $(STATIC) -o $@ $< $(GADGET) $(LIB)
+
+REFUSED = -Wl,--wrap=syscall,--wrap=read,--wrap=write,--wrap=pwrite
+
+usbdisk-gadget.refusing: test/refuse_calls.c $(GADGET) $(HEADERS) $(LIB)
+	$(CC) $(FLAGS) $(CFLAGS) $(STATIC) $(REFUSED) -o $@ $< $(GADGET) $(LIB)
 
 test/bulk_host: test/bulk_host.c functionfs_bulk.c $(SHARED) $(HEADERS) $(LIB)
 	$(CC) $(FLAGS) -O1 -g $(SANITIZE) -o $@ test/bulk_host.c functionfs_bulk.c $(SHARED) $(LIB)
