@@ -18,7 +18,7 @@ static const char usage[] =
     "usage: usbdisk-gadget IMAGE [--gadget FOLDER | --no-bind] [--functionfs FOLDER]\n"
     "                      [--udc NAME] [OPTION ..]\n"
     "       usbdisk-gadget --help | --version\n"
-    "Serves an image file or a block device as a USB disk on this machine's device controller. Run\n"
+    "Serves an image file or a block device as a USB disk on this machine's controller. Run\n"
     "gadget/up first.\n"
     "  --functionfs FOLDER      where FunctionFS is mounted: /run/usbdisk\n"
     "  --gadget FOLDER          the gadget in configfs: /sys/kernel/config/usb_gadget/usbdisk\n"

@@ -35,12 +35,6 @@ static void submit(struct bulk *bulk, struct queue *queue, size_t size)
     bulk->is_moving = true;
 }
 
-/* What the system may grant when it is asked again. */
-static bool may_pass(int refusal)
-{
-    return refusal == EAGAIN || refusal == ENOMEM || refusal == EINTR;
-}
-
 /* A transfer failed. Where the host has let the endpoint go an event tells so; else only its reset
  * goes on from here. */
 static void fail(struct bulk *bulk, int cause)
@@ -153,20 +147,30 @@ static void fetch(struct bulk *bulk)
         submit(bulk, &bulk->in, got);
 }
 
-/* Lets go of what the host has read. What was refused goes again, with all behind it. */
+/* A transfer that the system refused goes again, with all behind it. Where one of these has moved
+ * already, what the host has is wrong, and it gets no status. */
+static void go_again(struct bulk *bulk)
+{
+    int refusal = queue_refused(&bulk->in);
+    if (!refusal || !bulk->is_enabled)
+        return;
+    if (queue_ready_again(&bulk->engine, &bulk->in))
+        rest(bulk, refusal);
+    else
+        fail(bulk, refusal);
+}
+
+/* Lets go of what the host has read. */
 static void release(struct bulk *bulk)
 {
     struct transfer *transfer;
+    go_again(bulk);
     while ((transfer = queue_done(&bulk->in))) {
-        int cause = transfer->result < 0 ? (int)-transfer->result : 0;
         bulk->is_moving = true;
-        if (bulk->is_enabled && may_pass(cause) && queue_ready_again(&bulk->engine, &bulk->in)) {
-            rest(bulk, cause);
-            return;
-        }
-        bulk->refusal = 0;
-        if (cause)
-            fail(bulk, cause);
+        if (transfer->result < 0)
+            fail(bulk, (int)-transfer->result);
+        else
+            bulk->refusal = 0;
         queue_pop(&bulk->in);
     }
 }
@@ -181,7 +185,7 @@ static void send(struct bulk *bulk)
     else if (refusal)
         fail(bulk, refusal);
     engine_collect(&bulk->engine);
-    release(bulk);
+    go_again(bulk);
 }
 
 /* Halts Bulk-In when all before the halt is sent. What follows waits in the controller until the
@@ -244,6 +248,8 @@ int bulk_play(struct bulk *bulk)
         release(bulk);
         feed(bulk);
         fetch(bulk);
+        if (!bulk->in.handed) /* the bus idles: what follows goes by one call at the end */
+            send(bulk);
         halt_in(bulk);
         ask(bulk);
     } while (bulk->is_moving && bulk->is_enabled);

@@ -77,10 +77,9 @@ static int hand_over(int control, struct answer *answer)
 
 /* Whether FunctionFS may take it when it is asked again: the controller was not ready, or an event
  * came in between. */
-static bool may_pass(int refusal)
+static bool may_be_taken(int refusal)
 {
-    return refusal == EAGAIN || refusal == EBUSY || refusal == EIDRM || refusal == EINTR ||
-           refusal == ENOMEM;
+    return may_pass(refusal) || refusal == EBUSY || refusal == EIDRM;
 }
 
 /* A request to the interface. An answer that is not taken is handed over again, and in the end the
@@ -90,11 +89,11 @@ static void answer_request(struct gadget *gadget, const uint8_t setup[8])
 {
     struct answer answer = ask_disk(gadget, setup);
     int refusal = hand_over(gadget->control, &answer), first = refusal;
-    for (int tries = 1; may_pass(refusal) && tries < TRIES; tries++) {
+    for (int tries = 1; may_be_taken(refusal) && tries < TRIES; tries++) {
         nanosleep(&(struct timespec){ 0, PAUSE }, NULL);
         refusal = hand_over(gadget->control, &answer);
     }
-    if (may_pass(refusal)) {
+    if (may_be_taken(refusal)) {
         answer.is_good = false;
         refusal = hand_over(gadget->control, &answer);
     }
@@ -122,7 +121,7 @@ static void play_event(struct gadget *gadget, const struct usb_functionfs_event 
 /* EL2HLT: a request that was not answered is stalled now. ESRCH: it cannot be. */
 static bool is_end(int refusal)
 {
-    return !may_pass(refusal) && refusal != EL2HLT && refusal != ESRCH && refusal != ESHUTDOWN;
+    return !may_be_taken(refusal) && refusal != EL2HLT && refusal != ESRCH && refusal != ESHUTDOWN;
 }
 
 void play_events(struct gadget *gadget)

@@ -1,6 +1,5 @@
 /* Transfers on the two bulk endpoints of FunctionFS. */
 #include "functionfs_queue.h"
-#include <errno.h>
 #include <fcntl.h>
 #include <linux/usb/functionfs.h>
 #include <stdlib.h>
@@ -158,35 +157,55 @@ void queue_pop(struct queue *queue)
     queue->handed -= queue->handed > 0;
 }
 
-/* Takes back what the kernel has, the youngest first. */
-static void take_back(struct engine *engine, struct queue *queue)
+/* Takes back what the kernel has from this number on, the youngest first. */
+static void take_back(struct engine *engine, struct queue *queue, unsigned first)
 {
     struct io_event unused;
     engine_collect(engine);
-    for (unsigned i = queue->handed; i-- > 0;)
+    for (unsigned i = queue->handed; i-- > first;)
         if (!transfer_at(queue, i)->is_done)
             syscall(SYS_io_cancel, engine->context, &transfer_at(queue, i)->call, &unused);
-    for (unsigned i = 0; i < queue->handed; i++)
+    for (unsigned i = first; i < queue->handed; i++)
         while (!transfer_at(queue, i)->is_done)
             ask_kernel(engine, 1);
+}
+
+/* The number of the first one that was refused; where none was, how many the kernel has. */
+static unsigned refused_at(const struct queue *queue)
+{
+    unsigned i = 0;
+    while (i < queue->handed) {
+        const struct transfer *transfer = &queue->ring[(queue->first + i) % DEPTH];
+        if (transfer->is_done && transfer->result < 0 && may_pass((int)-transfer->result))
+            break;
+        i++;
+    }
+    return i;
+}
+
+int queue_refused(const struct queue *queue)
+{
+    unsigned at = refused_at(queue);
+    return at < queue->handed ? (int)-queue->ring[(queue->first + at) % DEPTH].result : 0;
 }
 
 bool queue_ready_again(struct engine *engine, struct queue *queue)
 {
     bool has_moved = false;
-    take_back(engine, queue);
-    for (unsigned i = 0; i < queue->handed; i++) {
+    unsigned first = refused_at(queue);
+    take_back(engine, queue, first);
+    for (unsigned i = first; i < queue->handed; i++) {
         has_moved |= transfer_at(queue, i)->result > 0;
         transfer_at(queue, i)->is_done = false;
     }
-    queue->handed = 0;
+    queue->handed = first;
     return !has_moved;
 }
 
 void queue_cancel(struct engine *engine, struct queue *queue)
 {
     if (queue->sends)
-        take_back(engine, queue);
+        take_back(engine, queue, 0);
     queue->count = queue->handed = 0; /* so the thread begins no other read */
     if (!queue->sends)
         reader_take_back(&engine->reader);

@@ -5,6 +5,7 @@
 #define FUNCTIONFS_QUEUE_H
 
 #include "functionfs_reader.h"
+#include <errno.h>
 #include <linux/aio_abi.h>
 #include <stdbool.h>
 #include <stddef.h>
@@ -65,8 +66,17 @@ void queue_submit(struct engine *engine, struct queue *queue, size_t size);
  * did not take all. */
 int queue_send(struct engine *engine, struct queue *queue);
 
-/* The oldest transfer to the host was refused: takes back those behind it, and makes all ready
- * again. False: one of them has moved bytes, which then stand in the place of others. */
+/* What the system may grant when it is asked again. */
+static inline bool may_pass(int refusal)
+{
+    return refusal == EAGAIN || refusal == ENOMEM || refusal == EINTR;
+}
+
+/* Why a transfer to the host was refused that may be granted yet, where one was; else 0. */
+int queue_refused(const struct queue *queue);
+
+/* Takes back those behind the first one that was refused, and makes it and them ready again. False:
+ * one of them has moved bytes, which then stand in the place of others. */
 bool queue_ready_again(struct engine *engine, struct queue *queue);
 
 /* The oldest transfer where it is done, or NULL; the oldest that is not; and lets the oldest go. */

@@ -110,17 +110,33 @@ int queue_send(struct engine *engine, struct queue *queue)
     return queue->handed < queue->count ? EAGAIN : 0;
 }
 
+/* The number of the first one that was refused. */
+static unsigned refused_at(const struct queue *queue)
+{
+    unsigned i = 0;
+    while (i < queue->handed && queue->ring[(queue->first + i) % DEPTH].result >= 0)
+        i++;
+    return i;
+}
+
+int queue_refused(const struct queue *queue)
+{
+    unsigned at = refused_at(queue);
+    return at < queue->handed ? (int)-queue->ring[(queue->first + at) % DEPTH].result : 0;
+}
+
 bool queue_ready_again(struct engine *engine, struct queue *queue)
 {
     bool has_moved = false;
+    unsigned first = refused_at(queue);
     (void)engine;
-    for (unsigned i = 0; i < queue->handed; i++) {
+    for (unsigned i = first; i < queue->handed; i++) {
         struct transfer *transfer = &queue->ring[(queue->first + i) % DEPTH];
         has_moved |= transfer->result > 0;
         transfer->result = 0;
         transfer->is_done = false;
     }
-    queue->handed = 0;
+    queue->handed = first;
     return !has_moved;
 }
 
