@@ -37,7 +37,7 @@ static bool is_over(const struct gadget *gadget)
 static void play_read(void *of)
 {
     struct gadget *gadget = of;
-    int most = bulk_play(&gadget->bulk);
+    int most = bulk_play(&gadget->bulk, false);
     if (most >= 0 || !gadget->has_steps || is_over(gadget))
         engine_wake(&gadget->bulk.engine);
     gadget->has_steps = true;
@@ -67,7 +67,7 @@ static bool take_turn(struct gadget *gadget)
     struct pollfd files[2] = { { gadget->control, POLLIN, 0 },
                                { gadget->bulk.engine.ready, POLLIN, 0 } };
     reader_lock(reader);
-    int most = bulk_play(&gadget->bulk);
+    int most = bulk_play(&gadget->bulk, true);
     bool may_step = gadget->has_steps && !bulk_is_busy(&gadget->bulk), goes_on = !is_over(gadget);
     int wait = gadget->has_steps && (most < 0 || most > IDLE) ? IDLE : most;
     unsigned arrivals = reader->arrivals;

@@ -134,7 +134,8 @@ static void feed(struct bulk *bulk)
 static void fetch(struct bulk *bulk)
 {
     struct transfer *transfer = queue_free(&bulk->in);
-    if (!transfer || bulk->halts_in || bulk->is_locked || !bulk->is_enabled)
+    bulk->is_left = !bulk->fills && bulk->in_left >= CHUNK;
+    if (!transfer || bulk->halts_in || bulk->is_locked || bulk->is_left || !bulk->is_enabled)
         return;
     size_t got, room = bulk->in_left == 0      ? bulk->disk->packet
                        : bulk->in_left < CHUNK ? bulk->in_left
@@ -234,15 +235,18 @@ static int next_look(const struct bulk *bulk)
 {
     if (!bulk->is_enabled)
         return -1;
+    if (bulk->is_left)
+        return 0;
     if (bulk->is_locked)
         return LOCK;
     return bulk->halts_in || bulk->is_resting ? SOON : -1;
 }
 
-int bulk_play(struct bulk *bulk)
+int bulk_play(struct bulk *bulk, bool fills)
 {
     engine_collect(&bulk->engine);
     bulk->is_resting = false;
+    bulk->fills = fills;
     do {
         bulk->is_moving = false;
         release(bulk);

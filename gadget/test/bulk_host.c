@@ -201,10 +201,10 @@ static long send_packet(const uint8_t *bytes, size_t size)
             transfer->result += (long)size;
             transfer->is_done = size < disk.packet || (size_t)transfer->result == transfer->size;
             if (below(3) == 0)
-                bulk_play(&bulk);
+                bulk_play(&bulk, below(2));
             return (long)size;
         }
-        bulk_play(&bulk);
+        bulk_play(&bulk, below(2));
     }
     return NOTHING;
 }
@@ -241,7 +241,7 @@ static long receive_packet(uint8_t *bytes)
             transfer->is_done = (size_t)transfer->result == transfer->size;
             return (long)packet;
         }
-        bulk_play(&bulk);
+        bulk_play(&bulk, below(2));
     }
     return NOTHING;
 }
@@ -282,12 +282,12 @@ static int command(const uint8_t *block, size_t length, size_t size, bool sends)
     check(send(wrapper, sizeof wrapper) == sizeof wrapper, "a wrapper is not taken");
     if (may_reset && below(40) == 0)
         return recover(), -1;
-    bulk_play(&bulk);
+    bulk_play(&bulk, below(2));
     long moved = !size ? 0 : sends ? receive(data, size) : send(data, size);
     check(moved != NOTHING, "data does not move");
     if (moved == STALLED)
         halted[sends] = false;
-    bulk_play(&bulk);
+    bulk_play(&bulk, below(2));
     long got = receive(status, 13);
     if (got == STALLED) { /* once the host may clear the halt and read again */
         halted[1] = false;
@@ -335,7 +335,7 @@ static void bad_wrapper(void)
     for (int i = 0; i < 3; i++) {
         halted[0] = halted[1] = false;
         for (int k = 0; k < PATIENCE; k++)
-            bulk_play(&bulk);
+            bulk_play(&bulk, below(2));
         check(halted[0] && halted[1], "the lock ends without a class reset");
         check(send_packet(packet, 31) == STALLED && receive_packet(data) == STALLED,
               "a locked disk answers");
