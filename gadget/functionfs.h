@@ -1,6 +1,6 @@
 /* What the parts of usbdisk-gadget share. Two threads play the disk: one waits for events, signals
  * and idle time, the other one reads what the host sends (functionfs_reader.h). Who touches `disk`,
- * `bulk` or `has_steps` holds the reader's lock. */
+ * `bulk` or `has_steps`, or says something, holds the reader's lock. */
 #ifndef FUNCTIONFS_H
 #define FUNCTIONFS_H
 

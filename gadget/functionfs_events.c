@@ -97,9 +97,12 @@ static void answer_request(struct gadget *gadget, const uint8_t setup[8])
         answer.is_good = false;
         refusal = hand_over(gadget->control, &answer);
     }
-    if (first && first != ESHUTDOWN && first != EL2HLT)
-        say_of_host("the answer to a control request was refused (%s), and then %s",
-                    strerror(first), refusal ? strerror(refusal) : "taken");
+    if (!first || first == ESHUTDOWN || first == EL2HLT)
+        return;
+    lock(gadget);
+    say_of_host("the answer to a control request was refused (%s), and then %s", strerror(first),
+                refusal ? strerror(refusal) : "taken");
+    unlock(gadget);
 }
 
 static void play_event(struct gadget *gadget, const struct usb_functionfs_event *event)
@@ -129,8 +132,10 @@ void play_events(struct gadget *gadget)
     struct usb_functionfs_event events[EVENTS];
     ssize_t size = read(gadget->control, events, sizeof events);
     if (size < 0 && is_end(errno)) {
+        lock(gadget);
         say("FunctionFS ended: %s", strerror(errno));
         gadget->is_ended = true;
+        unlock(gadget);
     }
     for (ssize_t i = 0; i < size / (ssize_t)sizeof *events; i++)
         play_event(gadget, &events[i]);

@@ -64,6 +64,8 @@ static void ask_kernel(struct engine *engine, unsigned least)
 void engine_collect(struct engine *engine)
 {
     struct done_ring *ring = (struct done_ring *)(uintptr_t)engine->context;
+    if (!ring)
+        return;
     if (ring->magic != RING || ring->incompatible) {
         ask_kernel(engine, 0);
         return;

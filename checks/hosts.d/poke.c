@@ -1,11 +1,13 @@
 /* poke: what the scripts in the guest cannot do by themselves.
  *
- *   poke reset DISK            a reset of the device by its host (SG_SCSI_RESET), as behind a time-out: the class reset
- *   poke write FOLDER FIRST    files of a known content, each synced, until one fails; a line for each synced one: its number
- *   poke check FOLDER FIRST    whether each file told on standard input is there whole
- *   poke pages DISK COUNT      so many pages of 4 KiB from its begin on, each forced: as dd with oflag=direct,dsync
- *   poke clock                 microseconds
- *   poke lose IMAGE JOURNAL HOW SEED   writes that were not flushed are lost: `all`, `some` or `none` of them are kept */
+ *   poke reset DISK            a reset of the device by its host (SG_SCSI_RESET), as behind a
+ * time-out: the class reset poke write FOLDER FIRST    files of a known content, each synced, until
+ * one fails; a line for each synced one: its number poke check FOLDER FIRST    whether each file
+ * told on standard input is there whole poke pages DISK COUNT      so many pages of 4 KiB from its
+ * begin on, each forced: as dd with oflag=direct,dsync poke clock                 microseconds poke
+ * listen SOCKET         as the service manager at $NOTIFY_SOCKET: prints the first state that it is
+ * told poke lose IMAGE JOURNAL HOW SEED   writes that were not flushed are lost: `all`, `some` or
+ * `none` of them are kept */
 #define _GNU_SOURCE
 #include <fcntl.h>
 #include <scsi/sg.h>
@@ -15,6 +17,8 @@
 #include <stdlib.h>
 #include <string.h>
 #include <sys/ioctl.h>
+#include <sys/socket.h>
+#include <sys/un.h>
 #include <time.h>
 #include <unistd.h>
 
@@ -122,8 +126,8 @@ static int check_files(const char *folder)
     return wrong != 0;
 }
 
-/* The journal of lossy.c has what stood at each place before a write. Back over it, the youngest write first: each sector
- * goes back by some of its writes. */
+/* The journal of lossy.c has what stood at each place before a write. Back over it, the youngest
+ * write first: each sector goes back by some of its writes. */
 struct record {
     uint64_t place;
     uint8_t was[SECTOR];
@@ -162,6 +166,19 @@ static int tell_time(void)
     return printf("%lld\n", now.tv_sec * 1000000ll + now.tv_nsec / 1000) < 0;
 }
 
+static int listen_once(const char *path)
+{
+    struct sockaddr_un here = { .sun_family = AF_UNIX };
+    char state[256];
+    int socket_file = socket(AF_UNIX, SOCK_DGRAM, 0);
+    snprintf(here.sun_path, sizeof here.sun_path, "%s", path);
+    if (socket_file < 0 || bind(socket_file, (struct sockaddr *)&here, sizeof here))
+        return 1;
+    ssize_t size = recv(socket_file, state, sizeof state - 1, 0);
+    state[size < 0 ? 0 : size] = 0;
+    return size < 0 || puts(state) < 0 || fflush(stdout);
+}
+
 int main(int count, char **words)
 {
     const char *what = count > 2 ? words[1] : "";
@@ -169,6 +186,8 @@ int main(int count, char **words)
         return tell_time();
     if (!strcmp(what, "reset"))
         return reset(words[2]);
+    if (!strcmp(what, "listen"))
+        return listen_once(words[2]);
     if (!strcmp(what, "pages") && count == 4)
         return write_pages(words[2], strtoull(words[3], NULL, 10));
     if (!strcmp(what, "write") && count == 4)
