@@ -1,32 +1,26 @@
-/* A host and a controller in memory around functionfs_bulk.c, in place of functionfs_queue.c:
- * commands that pass and fail, data that is too long or too short, refused wrappers, class resets
- * in the midst of anything, in packets of both sizes, transfers that the system refuses once, and a
+/* A host in memory around functionfs_bulk.c, over the controller of bulk_controller.c: commands
+ * that pass and fail, data that is too long or too short, refused wrappers, class resets in the
+ * midst of anything, in packets of both sizes, transfers that the system refuses once, and a
  * controller that keeps a packet until it is flushed. Each exchange is told by Bulk-Only Transport;
  * behind a reset recovery the disk serves again.
  *
  *   bulk_host IMAGE ROUNDS [PACKET]     the image has at least 2,048 blocks */
-#include "../functionfs_bulk.h"
+#include "bulk_host.h"
 #include "../program.h"
-#include <errno.h>
 #include <stdio.h>
 #include <stdlib.h>
 #include <string.h>
 
 enum { MOST = 240 * 512, STALLED = -1, NOTHING = -2, PATIENCE = 64 };
 
-static struct disk disk;
+struct disk disk;
 static struct bulk bulk;
-static bool halted[2], may_reset; /* Bulk-Out, Bulk-In */
-static struct kept { /* a packet of Bulk-In that the controller has taken out of a transfer */
-    uint8_t bytes[512];
-    long size;
-    bool is_there;
-} kept;
-static uint64_t seed = 88172645463325252u, passed, failed, locks, resets, refusals, flushes;
+static bool may_reset;
+static uint64_t seed = 88172645463325252u, passed, failed, locks, resets;
 static uint8_t data[2 * MOST], blocks[2048][512];
 static uint32_t tag;
 
-static uint32_t below(uint32_t bound)
+uint32_t below(uint32_t bound)
 {
     seed ^= seed << 13;
     seed ^= seed >> 7;
@@ -34,149 +28,12 @@ static uint32_t below(uint32_t bound)
     return (uint32_t)(seed >> 11) % bound;
 }
 
-static void check(bool holds, const char *what)
+void check(bool holds, const char *what)
 {
     if (holds)
         return;
     printf("failed: %s (command %u)\n", what, tag);
     exit(1);
-}
-
-/* The controller, as functionfs_queue.h tells it. */
-bool engine_open(struct engine *engine)
-{
-    return engine != NULL;
-}
-void engine_close(struct engine *engine)
-{
-    (void)engine;
-}
-void engine_collect(struct engine *engine)
-{
-    (void)engine;
-}
-
-void queue_pop(struct queue *queue)
-{
-    queue->first = (queue->first + 1) % DEPTH;
-    queue->count--;
-    queue->handed -= queue->handed > 0;
-}
-
-bool queue_open(struct queue *queue, const char *path, bool sends)
-{
-    (void)path;
-    queue->sends = sends;
-    for (int i = 0; i < DEPTH; i++)
-        queue->ring[i].bytes = malloc(CHUNK);
-    return true;
-}
-
-void queue_close(struct queue *queue)
-{
-    for (int i = 0; i < DEPTH; i++)
-        free(queue->ring[i].bytes);
-}
-
-struct transfer *queue_free(struct queue *queue)
-{
-    return queue->count < DEPTH ? &queue->ring[(queue->first + queue->count) % DEPTH] : NULL;
-}
-
-void queue_submit(struct engine *engine, struct queue *queue, size_t size)
-{
-    struct transfer *transfer = queue_free(queue);
-    (void)engine;
-    check(transfer && size <= CHUNK && (queue->sends || (size && size % disk.packet == 0)),
-          "a transfer of a wrong size");
-    *transfer = (struct transfer){ .bytes = transfer->bytes, .size = size };
-    queue->count++;
-}
-
-/* Some of them, or none, where the system has no memory; and one that it refuses by its result. */
-int queue_send(struct engine *engine, struct queue *queue)
-{
-    unsigned before = queue->handed;
-    (void)engine;
-    if (queue->count > before && below(16) == 0)
-        return refusals++, below(2) ? EAGAIN : ENOMEM;
-    queue->handed = queue->count > before + 1 && below(16) == 0 ? before + 1 : queue->count;
-    if (queue->handed > before && below(16) == 0) {
-        struct transfer *refused = &queue->ring[(queue->first + before) % DEPTH];
-        refused->result = below(2) ? -ENOMEM : -EAGAIN;
-        refused->is_done = true;
-        refusals++;
-    }
-    return queue->handed < queue->count ? EAGAIN : 0;
-}
-
-/* The number of the first one that was refused. */
-static unsigned refused_at(const struct queue *queue)
-{
-    unsigned i = 0;
-    while (i < queue->handed && queue->ring[(queue->first + i) % DEPTH].result >= 0)
-        i++;
-    return i;
-}
-
-int queue_refused(const struct queue *queue)
-{
-    unsigned at = refused_at(queue);
-    return at < queue->handed ? (int)-queue->ring[(queue->first + at) % DEPTH].result : 0;
-}
-
-bool queue_ready_again(struct engine *engine, struct queue *queue)
-{
-    bool has_moved = false;
-    unsigned first = refused_at(queue);
-    (void)engine;
-    for (unsigned i = first; i < queue->handed; i++) {
-        struct transfer *transfer = &queue->ring[(queue->first + i) % DEPTH];
-        has_moved |= transfer->result > 0;
-        transfer->result = 0;
-        transfer->is_done = false;
-    }
-    queue->handed = first;
-    return !has_moved;
-}
-
-struct transfer *queue_done(struct queue *queue)
-{
-    struct transfer *oldest = &queue->ring[queue->first];
-    return queue->count && oldest->is_done ? oldest : NULL;
-}
-
-/* What the controller has taken out of a transfer that is taken back goes to the host all the same,
- * where it is not flushed. */
-void queue_cancel(struct engine *engine, struct queue *queue)
-{
-    struct transfer *first =
-        queue_done(queue) || !queue->handed ? NULL : &queue->ring[queue->first];
-    (void)engine;
-    if (queue->sends && first && first->size > (size_t)first->result) {
-        size_t left = first->size - (size_t)first->result;
-        kept.size = (long)(left < disk.packet ? left : disk.packet);
-        memcpy(kept.bytes, first->bytes + first->result, (size_t)kept.size);
-        kept.is_there = true;
-    }
-    queue->count = queue->handed = 0;
-}
-
-void queue_flush(struct queue *queue)
-{
-    check(queue->count == 0, "a flush with transfers in flight");
-    if (queue->sends)
-        kept.is_there = false;
-    flushes++;
-}
-
-int queue_halt(struct queue *queue)
-{
-    check(queue->count == 0, "a halt with transfers in flight");
-    if (below(2))
-        return EAGAIN;
-    halted[queue->sends] = true;
-    return 0;
 }
 
 /* The oldest transfer that the host has not finished, and the controller has. */

@@ -25,8 +25,10 @@ REFUSED = -Wl,--wrap=syscall,--wrap=read,--wrap=write,--wrap=pwrite
 usbdisk-gadget.refusing: test/refuse_calls.c $(GADGET) $(HEADERS) $(LIB)
 	$(CC) $(FLAGS) $(CFLAGS) $(STATIC) $(REFUSED) -o $@ $< $(GADGET) $(LIB)
 
-test/bulk_host: test/bulk_host.c functionfs_bulk.c $(SHARED) $(HEADERS) $(LIB)
-	$(CC) $(FLAGS) -O1 -g $(SANITIZE) -o $@ test/bulk_host.c functionfs_bulk.c $(SHARED) $(LIB)
+BULK = test/bulk_host.c test/bulk_controller.c functionfs_bulk.c $(SHARED)
+
+test/bulk_host: $(BULK) test/bulk_host.h $(HEADERS) $(LIB)
+	$(CC) $(FLAGS) -O1 -g $(SANITIZE) -o $@ $(BULK) $(LIB)
 
 # Hosts that keep no rule, in one process with the server; and the same for libFuzzer, which is run by hand:
 #   FUZZ_IMAGE=an.img test/fuzz.libfuzzer -max_len=4096 FOLDER
