@@ -166,7 +166,7 @@ static bool take_below(struct disk *disk)
     return true;
 }
 
-static bool open_file(struct disk *disk)
+bool open_file(struct disk *disk)
 {
     struct stat what;
     if (stat(disk->path, &what))

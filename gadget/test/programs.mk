@@ -2,11 +2,11 @@
 # library: flushes are refused, or what was written is noted, so that it can be lost, or a call is refused once. And a host in memory
 # around the bulk endpoints of usbdisk-gadget.
 LOSSY = ../checks/hosts.d/lossy.c
-BUILT += $(PROGRAMS:=.lossy) usbdisk-usbip.refusing usbdisk-usbip.sanitized.refusing usbdisk-gadget.refusing test/bulk_host
+BUILT += $(GADGETS:=.lossy) usbdisk-usbip.refusing usbdisk-usbip.sanitized.refusing usbdisk-gadget.refusing test/bulk_host
 
 refusing: usbdisk-usbip.refusing usbdisk-usbip.sanitized.refusing
 
-lossy: $(PROGRAMS:=.lossy)
+lossy: $(GADGETS:=.lossy)
 
 usbdisk-usbip.refusing: test/refuse_flush.c $(USBIP) $(HEADERS) $(LIB)
 	$(CC) $(FLAGS) $(CFLAGS) $(STATIC) -o $@ $< $(USBIP) $(LIB)

@@ -1,0 +1,227 @@
+/* Opens, fills and writes the file or device that usbdisk-make works on. */
+#include "make_place.h"
+#include "program.h"
+#include <errno.h>
+#include <fcntl.h>
+#include <libgen.h>
+#include <stdio.h>
+#include <stdlib.h>
+#include <string.h>
+#include <sys/file.h>
+#include <sys/stat.h>
+#include <unistd.h>
+#ifdef HAS_BLKID
+#include <blkid/blkid.h>
+#endif
+
+/* SEEN: how many first bytes are looked at for marks. RUN: how many neighbouring sectors are
+ * written by one write, and how many zeros at a time. TOLD: after how many sectors a terminal is
+ * told how far it is (16 MiB). */
+enum { SEEN = 68 * 1024, RUN = 2048, TOLD = 32768 };
+
+/* Makes the file where none is there; but none among the devices, where a name is mistyped. */
+static bool make_file(struct place *place)
+{
+    if (!strncmp(place->disk.path, "/dev/", 5) && strncmp(place->disk.path, "/dev/shm/", 9))
+        return refuse(&place->disk, STATUS_FILE, "no such device");
+    int file = open(place->disk.path, O_RDWR | O_CREAT | O_EXCL | O_CLOEXEC, 0666);
+    place->is_new = file >= 0;
+    if (file < 0)
+        return errno == EEXIST || refuse_call(&place->disk, "not made");
+    close(file);
+    return true;
+}
+
+/* Opens it to be read alone, which needs less permission, and locks it as the others do. */
+static bool open_to_read(struct disk *disk)
+{
+    struct stat what;
+    disk->file = open(disk->path, O_RDONLY | O_NONBLOCK | O_CLOEXEC);
+    if (disk->file < 0 || fstat(disk->file, &what))
+        return refuse_call(disk, "not opened");
+    if (!S_ISREG(what.st_mode) && !S_ISBLK(what.st_mode))
+        return refuse(disk, STATUS_FILE, "neither a regular file nor a block device");
+    if (flock(disk->file, LOCK_EX | LOCK_NB) == 0)
+        return true;
+    return errno == EWOULDBLOCK ? refuse(disk, STATUS_FILE, "locked by another program")
+                                : refuse_call(disk, "not locked");
+}
+
+bool place_open(struct place *place, const char *path, enum place_use use)
+{
+    struct stat what;
+    *place = (struct place){ .disk = { .path = path, .file = -1 } };
+    bool is_there = stat(path, &what) == 0 || errno != ENOENT;
+    if (use == PLACE_MAKE && !is_there && !make_file(place))
+        return false;
+    if (!(use == PLACE_READ ? open_to_read : open_file)(&place->disk))
+        return false;
+    off_t length = lseek(place->disk.file, 0, SEEK_END);
+    if (length < 0 || fstat(place->disk.file, &what))
+        return refuse_call(&place->disk, "its length is not known");
+    place->is_device = S_ISBLK(what.st_mode);
+    place->disk.sectors = (uint64_t)length / 512;
+    return true;
+}
+
+#ifdef HAS_BLKID
+/* What libblkid finds: far more kinds than the marks here. */
+static const char *blkid_found(int file)
+{
+    static char name[64];
+    const char *type = NULL;
+    blkid_probe probe = blkid_new_probe();
+    if (!probe)
+        return NULL;
+    blkid_probe_enable_partitions(probe, 1);
+    if (blkid_probe_set_device(probe, file, 0, 0) == 0 && blkid_do_safeprobe(probe) == 0 &&
+        (blkid_probe_lookup_value(probe, "TYPE", &type, NULL) == 0 ||
+         blkid_probe_lookup_value(probe, "PTTYPE", &type, NULL) == 0))
+        snprintf(name, sizeof name, "what libblkid calls %s", type);
+    blkid_free_probe(probe);
+    return type ? name : NULL;
+}
+#else
+static const char *blkid_found(int file)
+{
+    (void)file;
+    return NULL;
+}
+#endif
+
+/* A device that bears no mark may be taken, whatever a former owner left there. Of a file only
+ * zeros are nothing. */
+const char *place_holds(const struct place *place)
+{
+    static uint8_t bytes[SEEN];
+    ssize_t size = pread(place->disk.file, bytes, sizeof bytes, 0);
+    if (size < 0)
+        return "what cannot be read";
+    const char *found = mark_found(bytes, (uint64_t)size);
+    if (!found)
+        found = blkid_found(place->disk.file);
+    if (found || place->is_device)
+        return found;
+    for (ssize_t i = 0; i < size; i++)
+        if (bytes[i])
+            return "something else";
+    return NULL;
+}
+
+/* How far it is, on one line of a terminal. */
+static void tell(uint64_t done, uint64_t all)
+{
+    if (all >= TOLD && (done % TOLD == 0 || done == all) && isatty(2))
+        fprintf(stderr, "\r%llu of %llu MiB%s", (unsigned long long)done / 2048,
+                (unsigned long long)all / 2048, done == all ? "\n" : "");
+}
+
+/* Whether a signal asks to end; signals come in a wait alone. */
+static bool is_stopped(void)
+{
+    wait_for(NULL, 0, 0);
+    return is_asked_to_end();
+}
+
+/* Zeros in place of what a file system cannot hand out at once. */
+static bool write_zeros(struct place *place, uint64_t first, uint64_t end)
+{
+    static uint8_t zeros[RUN * 512];
+    for (uint64_t at = first; at < end;) {
+        uint64_t count = end - at < RUN ? end - at : RUN;
+        if (is_stopped())
+            return refuse(&place->disk, STATUS_FILE, "stopped: no image is made");
+        if (!write_sectors(&place->disk, zeros, at, count))
+            return refuse_call(&place->disk, "no room for it");
+        at += count;
+        tell(at - first, end - first);
+    }
+    return true;
+}
+
+bool place_fill(struct place *place, uint64_t sectors)
+{
+    if (place->is_device || sectors == 0)
+        return true;
+    if (fallocate(place->disk.file, 0, 0, (off_t)(sectors * 512))) {
+        if (errno != EOPNOTSUPP)
+            return refuse_call(&place->disk, "no room for it");
+        if (sectors > place->disk.sectors && !write_zeros(place, place->disk.sectors, sectors))
+            return false;
+    }
+    if (sectors > place->disk.sectors)
+        place->disk.sectors = sectors;
+    return true;
+}
+
+/* A run of neighbouring sectors that waits to be written. */
+struct run {
+    uint8_t bytes[RUN][512];
+    uint64_t first, count, done, all;
+};
+
+static bool write_run(struct place *place, struct run *run)
+{
+    if (is_stopped())
+        return refuse(&place->disk, STATUS_FILE, "stopped on the way: run it again");
+    if (!write_sectors(&place->disk, run->bytes[0], run->first, run->count))
+        return refuse_call(&place->disk, "a write was refused");
+    run->done += run->count;
+    run->count = 0;
+    return true;
+}
+
+/* One call of the handle: a write joins the run, or begins the next; a flush comes behind all
+ * writes. */
+static bool play(struct place *place, struct run *run, uint32_t kind, uint64_t sector,
+                 const uint8_t bytes[512])
+{
+    bool joins = kind == USBDISK_WRITE && run->count < RUN && sector == run->first + run->count;
+    if (!joins && !write_run(place, run))
+        return false;
+    if (kind == USBDISK_FLUSH)
+        return flush(&place->disk) || refuse_call(&place->disk, "a flush was refused");
+    if (!joins)
+        run->first = sector;
+    memcpy(run->bytes[run->count++], bytes, 512);
+    tell(run->done + run->count, run->all);
+    return true;
+}
+
+/* The folder of a new file keeps its name only once it is flushed too. Some file systems cannot do
+ * that, and need not. */
+static void keep_name(const struct place *place)
+{
+    char *path = strdup(place->disk.path);
+    int folder = path ? open(dirname(path), O_RDONLY | O_DIRECTORY | O_CLOEXEC) : -1;
+    if (folder >= 0) {
+        fsync(folder);
+        close(folder);
+    }
+    free(path);
+}
+
+bool place_carry_out(struct place *place, struct usbdisk_image *image, uint64_t sectors)
+{
+    static struct run run;
+    uint8_t bytes[512];
+    uint64_t sector = 0;
+    run.count = 0;
+    run.done = 0;
+    run.all = sectors;
+    for (uint32_t kind; (kind = usbdisk_next(image, &sector, bytes)) != USBDISK_NOTHING;)
+        if (!play(place, &run, kind, sector, bytes))
+            return false;
+    if (!write_run(place, &run))
+        return false;
+    if (place->is_new)
+        keep_name(place);
+    return true;
+}
+
+void place_close(struct place *place, bool has_image)
+{
+    if (place->is_new && !has_image)
+        unlink(place->disk.path);
+    close_device(&place->disk);
+}
