@@ -137,7 +137,6 @@ impl<M: Switch> Store<M> {
     pub fn fail(&mut self, call: u64)
         requires { 0 < call }
         ensures failing { M.failing call self.old.medium self.new.medium }
-        ensures follows { M.follows self.old.medium self.new.medium }
         ensures untouched { IsUntouched M.state self.old self.new }
     {
         self.medium.fail(call);

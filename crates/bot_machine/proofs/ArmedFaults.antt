@@ -11,7 +11,8 @@ use Rattle.bot_machine.specs.Disk.{DiskValue}
 use Rattle.spec.specs.Lives.{arms, fails, Place, before_first, between, runs, off}
 use Rattle.bot_machine.specs.Moving.{FuseMoves, FailureMoves}
 use Rattle.bot_machine.proofs.Moved.{one_move, none_refused}
-use Rattle.bot_machine.specs.LivesValue.{medium_in, state_in, HasLimit, IsAt, LimitAt, FoundAt, LivesGoOn}
+use Rattle.bot_machine.specs.LivesValue.{medium_in, state_in, HasLimit, IsAt, LimitAt, FoundAt, AreCaused, LivesGoOn}
+use Rattle.bot_machine.proofs.Caused.{one_fuse_more}
 use Rattle.bot_machine.proofs.LifeActions.{lives_at, one_run}
 
 module _ (device : Device) where
@@ -45,14 +46,19 @@ module _ (device : Device) where
   limit_still (runs conversation) limit state new same h = h
   limit_still (off remains) limit state new same h = tt
 
-  arms_fuse : (writes : ℕ) (state new : DiskState) → state_in new ≡ state_in state → FuseMoves writes state new
+  one_more_fuse : (writes : ℕ) (m : Sim) → AreCaused m (arms writes ∷ []) (false ∷ []) (fused writes m)
+  one_more_fuse writes m = omega (arith, one_fuse_more writes m)
+
+  arms_fuse : (writes : ℕ) (state new : DiskState) → state_in new ≡ state_in state
+      → AreCaused (medium_in state) (arms writes ∷ []) (false ∷ []) (medium_in new) → FuseMoves writes state new
       → ((place : Place) → IsAt place state → IsAt place new)
       → LivesGoOn (lives_at device state) (arms writes ∷ []) [] (lives_at device new)
-  arms_fuse writes state new same fuse keeps = record {
+  arms_fuse writes state new same caused fuse keeps = record {
     refusals = false ∷ [];
     moves = one_move device false state new (arms writes) [] (refl, fuse)
         (none_refused (state_in state) (state_in new) (ap (λ (m : State). m.failures) same));
     refused = let e = ap (λ (m : State). m.failures) same in omega (arith, e);
+    caused = caused;
     goes = λ here fits. record {
       there = record here { armed = true };
       run = one_run device false here (record here { armed = true }) (arms writes) [] (refl, refl);
@@ -74,7 +80,7 @@ module _ (device : Device) where
       → LivesGoOn (lives_at device (Stopped m)) (arms writes ∷ []) [] (lives_at device (Stopped new))
   arms_medium writes m new e =
       subst (λ (x : Sim). LivesGoOn (lives_at device (Stopped m)) (arms writes ∷ []) [] (lives_at device (Stopped x))) (sym e)
-      (arms_fuse writes (Stopped m) (Stopped (fused writes m)) refl refl (fused_at_rest writes m))
+      (arms_fuse writes (Stopped m) (Stopped (fused writes m)) refl (one_more_fuse writes m) refl (fused_at_rest writes m))
 
   pub arms_disk : (writes : ℕ) (disk new : DiskValue Sim) → new.unit.store.medium ≡ fused writes disk.unit.store.medium
       → new ≡ on_medium new.unit.store.medium disk
@@ -82,7 +88,8 @@ module _ (device : Device) where
   arms_disk writes disk new e others =
       subst (λ (x : DiskValue Sim). LivesGoOn (lives_at device (Running disk)) (arms writes ∷ []) [] (lives_at device (Running x)))
       (sym (others ∙ ap (λ (m : Sim). on_medium m disk) e))
-      (arms_fuse writes (Running disk) (Running (on_medium (fused writes disk.unit.store.medium) disk)) refl (refl, refl)
+      (arms_fuse writes (Running disk) (Running (on_medium (fused writes disk.unit.store.medium) disk)) refl
+      (one_more_fuse writes disk.unit.store.medium) (refl, refl)
       (fused_running writes disk))
 
   -- ---- a failure
@@ -105,14 +112,16 @@ module _ (device : Device) where
   failing_running call disk (off remains) h = h
 
   arms_failure : (call : ℕ) (state new : DiskState) → state_in new ≡ state_in state
+      → AreCaused (medium_in state) (fails call ∷ []) (false ∷ []) (medium_in new)
       → (medium_in new).power.fuse ≡ (medium_in state).power.fuse
       → FailureMoves call state new → ((place : Place) → IsAt place state → IsAt place new)
       → LivesGoOn (lives_at device state) (fails call ∷ []) [] (lives_at device new)
-  arms_failure call state new same fuse failure keeps = record {
+  arms_failure call state new same caused fuse failure keeps = record {
     refusals = false ∷ [];
     moves = one_move device false state new (fails call) [] (refl, failure)
         (none_refused (state_in state) (state_in new) (ap (λ (m : State). m.failures) same));
     refused = let e = ap (λ (m : State). m.failures) same in omega (arith, e);
+    caused = caused;
     goes = λ here fits. record {
       there = here;
       run = one_run device false here here (fails call) [] (refl, refl);
@@ -134,7 +143,7 @@ module _ (device : Device) where
       → LivesGoOn (lives_at device (Stopped m)) (fails call ∷ []) [] (lives_at device (Stopped new))
   fails_medium call m new e =
       subst (λ (x : Sim). LivesGoOn (lives_at device (Stopped m)) (fails call ∷ []) [] (lives_at device (Stopped x))) (sym e)
-      (arms_failure call (Stopped m) (Stopped (failing call m)) refl refl refl (failing_at_rest call m))
+      (arms_failure call (Stopped m) (Stopped (failing call m)) refl (omega arith) refl refl (failing_at_rest call m))
 
   pub fails_disk : (call : ℕ) (disk new : DiskValue Sim) → new.unit.store.medium ≡ failing call disk.unit.store.medium
       → new ≡ on_medium new.unit.store.medium disk
@@ -142,5 +151,6 @@ module _ (device : Device) where
   fails_disk call disk new e others =
       subst (λ (x : DiskValue Sim). LivesGoOn (lives_at device (Running disk)) (fails call ∷ []) [] (lives_at device (Running x)))
       (sym (others ∙ ap (λ (m : Sim). on_medium m disk) e))
-      (arms_failure call (Running disk) (Running (on_medium (failing call disk.unit.store.medium) disk)) refl refl (refl, refl)
+      (arms_failure call (Running disk) (Running (on_medium (failing call disk.unit.store.medium) disk)) refl (omega arith)
+      refl (refl, refl)
       (failing_running call disk))

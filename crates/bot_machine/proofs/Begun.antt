@@ -4,6 +4,7 @@ use Rattle.std.proofs.lemmas.Bool.{cases_Bool}
 use Rattle.medium.specs.Moments.{EachCut}
 use Rattle.medium.specs.Sim.{Sim, state_of, ComesAfter}
 use Rattle.medium.specs.SimLaws.{is_sound}
+use Rattle.medium.proofs.SimCalls.{KeepsPower, keeps_power}
 use Rattle.medium.proofs.Moments.{at_exit}
 use Rattle.medium.proofs.KeptBlocks.{none_flushed}
 use Rattle.scsi_unit.specs.StartFaults.{StartFault, NoMemory, Read, Write, Flush, BadSuper, BadVersion, BadSize, BadHead, StampsUsedUp}
@@ -26,6 +27,7 @@ use Rattle.bot_machine.specs.LivesValue.{LivesStop}
 use Rattle.scsi_unit.specs.Serving.{has_refused}
 use Rattle.bot_machine.specs.Moving.{StartsIn}
 use Rattle.bot_machine.proofs.Moved.{one_move, some_refused}
+use Rattle.bot_machine.proofs.Caused.{caused_once}
 use Rattle.bot_machine.proofs.LifeActions.{lives_at, stays, one_run, one_counted, armed_then, on_or_off}
 use Rattle.bot_machine.proofs.LifeStarts.{WouldOpen, first_opens, next_opens, next_limit, HasOpened, first_opened, next_opened, with_shape}
 use Rattle.bot_machine.proofs.UnitLaws.{between_calls, limit_between_calls, start_keeps_limit, knows_images}
@@ -116,6 +118,9 @@ module _ (device : Device) (m : Sim) (on : m.power.off ≡ false) where
     abbrev grew : Bool
     grew = has_refused (state_of m) (state_of new)
 
+    abbrev power : KeepsPower m new
+    power = keeps_power m new follows
+
     module _ (place : Place) (armed : Bool) (limit : ℕ)
         (fits : FitsLives (lives_at device (Stopped m)) (record { place = place; armed = armed; limit = limit }))
         (h : HasOpened (state_of new) disk place) (keeps : KeepsLimit place limit (unit_limit disk.unit))
@@ -140,7 +145,7 @@ module _ (device : Device) (m : Sim) (on : m.power.off ≡ false) where
           limit_at = refl;
           limited = λ ours. limit_between_calls (state_of new) disk.unit h.book h.fits ours;
           found = λ ours. between_calls (state_of new) disk.unit h.book h.fits ours;
-          unfused = λ e. follows.no_fuse_stays (fits.unfused e);
+          unfused = λ e. power.no_fuse_stays (fits.unfused e);
         };
         ours = h.ours;
         limit_stays = same;
@@ -156,7 +161,7 @@ module _ (device : Device) (m : Sim) (on : m.power.off ≡ false) where
           keeps_limit = keeps;
           begins = inr (record {
             fused = armed_then here m new follows fits.unfused on is_off;
-            cause = some_refused (state_of m) (state_of new) (follows.goes_off on is_off).1;
+            cause = some_refused (state_of m) (state_of new) (power.goes_off on is_off).1;
             after = refl;
           });
         };
@@ -166,7 +171,7 @@ module _ (device : Device) (m : Sim) (on : m.power.off ≡ false) where
           limited = λ ours. subst (λ (n : ℕ). EachCut (HasLimit (state_of new).size n) (state_of new)) (same (sym h.ours ∙ ours))
               (limit_between_calls (state_of new) disk.unit h.book h.fits ours);
           found = λ ours. between_calls (state_of new) disk.unit h.book h.fits ours;
-          unfused = λ e. follows.no_fuse_stays (fits.unfused e);
+          unfused = λ e. power.no_fuse_stays (fits.unfused e);
         };
         ours = h.ours;
         limit_stays = λ ours. refl;
@@ -185,7 +190,8 @@ module _ (device : Device) (m : Sim) (on : m.power.off ≡ false) where
       )
           refl;
       refused = one_counted grew (state_of m).failures (state_of new).failures (ltb-true (state_of m).failures (state_of new).failures)
-          follows.failures_stay;
+          power.refused_stay;
+      caused = caused_once m new (starts ∷ []) follows on;
       goes = λ here fits. goes_there (Running disk) grew
           (λ book armed limit f.
           let one = knows_images.one_limit (state_of m).size (unit_limit disk.unit) limit (state_of m).content is_opened.limit f.limit_at in
@@ -202,6 +208,9 @@ module _ (device : Device) (m : Sim) (on : m.power.off ≡ false) where
   -- ---- the start has no disk
 
   module _ (after : Sim) (leaves : StartLeaves (state_of m) (state_of after)) (follows : ComesAfter m after) where
+    abbrev left : KeepsPower m after
+    left = keeps_power m after follows
+
     -- power went in it
     module _ (is_off : after.power.off ≡ true) where
       abbrev refuses : Bool
@@ -220,7 +229,7 @@ module _ (device : Device) (m : Sim) (on : m.power.off ≡ false) where
           keeps_limit = keeps;
           begins = inr (record {
             fused = armed_then (record { place = place; armed = armed; limit = limit }) m after follows fits.unfused on is_off;
-            cause = some_refused (state_of m) (state_of after) (follows.goes_off on is_off).1;
+            cause = some_refused (state_of m) (state_of after) (left.goes_off on is_off).1;
             after = refl;
           });
         };
@@ -229,7 +238,7 @@ module _ (device : Device) (m : Sim) (on : m.power.off ≡ false) where
           limit_at = tt;
           limited = λ ours. limited_start m after leaves place limit w ours (fits.limited (sym w.ours ∙ ours));
           found = λ ours. may_find m after leaves none place w ours;
-          unfused = λ e. follows.no_fuse_stays (fits.unfused e);
+          unfused = λ e. left.no_fuse_stays (fits.unfused e);
         };
         ours = w.ours;
         limit_stays = λ ours. refl;
@@ -245,7 +254,8 @@ module _ (device : Device) (m : Sim) (on : m.power.off ≡ false) where
         )
             refl;
         refused = one_counted refuses (state_of m).failures (state_of after).failures
-            (ltb-true (state_of m).failures (state_of after).failures) follows.failures_stay;
+            (ltb-true (state_of m).failures (state_of after).failures) left.refused_stay;
+        caused = caused_once m after (starts ∷ []) follows on;
         goes = λ here fits. goes_there (Stopped after) refuses
             (λ book armed limit f.
             begun_cut (before_first book) armed limit f refl f.is_at.0.flushed (first_opens (state_of m) book f.is_at.1))
@@ -291,7 +301,11 @@ module _ (device : Device) (m : Sim) (on : m.power.off ≡ false) where
         at = m;
         moves = (refl, refl);
         start = record { called = record { leaves = leaves; follows = follows }; cause = h; on = still };
-        refused = let f = follows.failures_stay in omega (arith, f);
+        in_start = has_refused (state_of m) (state_of after);
+        counted = refl;
+        refused = one_counted (has_refused (state_of m) (state_of after)) (state_of m).failures (state_of after).failures
+            (ltb-true (state_of m).failures (state_of after).failures) left.refused_stay;
+        caused = caused_once m after [] follows on;
         goes = λ here fits. stops_at here.place here.armed here.limit fits;
         rests = refl;
         on = still;

@@ -19,6 +19,7 @@ pub mod StruckTicks
 pub mod ExchangeEnds
 pub mod Transfers
 pub mod Moved
+pub mod Caused
 pub mod PacketSizes
 pub mod Policy
 pub mod LifeRuns

@@ -10,6 +10,8 @@ use Rattle.medium.specs.Tally.{of_all}
 use Rattle.medium.specs.Sim.{Sim, state_of, IsCut, ComesAfter}
 use Rattle.medium.specs.SimLaws.{is_sound}
 use Rattle.medium.specs.declared.power.Power.{Power}
+use Rattle.medium.specs.Power.{faults_in}
+use Rattle.medium.proofs.SimCalls.{KeepsPower, keeps_power}
 use Rattle.medium.proofs.Moments.{at_exit, only_image}
 use Rattle.medium.proofs.KeptBlocks.{none_flushed}
 use Rattle.bot_machine.specs.Device.{presented, Device}
@@ -32,6 +34,7 @@ use Rattle.spec.specs.Lives.{LivesRun}
 use Rattle.spec.specs.Blocks.{Array}
 use Rattle.bot_machine.specs.Moving.{Does, EventMovesIn, EventMoves}
 use Rattle.bot_machine.proofs.Moved.{one_move, none_refused, some_refused}
+use Rattle.bot_machine.proofs.Caused.{caused_once}
 use Rattle.bot_machine.specs.LivesValue.{LivesValue, medium_in, state_in, IsAtRest, OpensOn, HasLimit, IsAt, LimitAt, LeavesLimit, book_at}
 use Rattle.bot_machine.specs.LivesValue.{FoundAt, FitsLives, LivesGoTo, LivesGoOn}
 
@@ -53,7 +56,7 @@ on_or_off b on is_off = absurd (false≢true (sym on ∙ is_off))
 -- where the power is on, it was on before
 pub on_before : (before after : Sim) → ComesAfter before after → after.power.off ≡ false → before.power.off ≡ false
 on_before before after follows on = elim (cases_Bool before.power.off) [
-  | inl gone ↦ on_or_off after.power.off on (follows.off_stays gone)
+  | inl gone ↦ on_or_off after.power.off on ((keeps_power before after follows).off_stays gone)
   | inr still ↦ still
 ]
 
@@ -65,7 +68,7 @@ armed_then here before after follows unfused on is_off =
   where
     by_cases : (armed : Bool) → (armed ≡ false → before.power.fuse ≡ None) → armed ≡ true
     by_cases true unfused = refl
-    by_cases false unfused = absurd ((follows.goes_off on is_off).0 (unfused refl))
+    by_cases false unfused = absurd (((keeps_power before after follows).goes_off on is_off).0 (unfused refl))
 
 module _ (device : Device) where
   -- lives of this disk
@@ -80,6 +83,7 @@ module _ (device : Device) where
     refusals = false ∷ [];
     moves = one_move device false state state action answers does (none_refused (state_in state) (state_in state) refl);
     refused = omega arith;
+    caused = omega arith;
     goes = λ here fits. record {
       there = here;
       run = one_run device false here here action answers (step here fits);
@@ -175,6 +179,11 @@ module _ (device : Device) where
       moves = one_move device false state (Stopped new) (cuts keep) [] (refl, subst (λ (x : Sim). IsCut keep x new) (sym e) cut)
           (none_refused (state_in state) (state_of new) (ap of_all cut.refused_stay ∙ sym (ap (λ (x : Sim). of_all x.refused) e)));
       refused = let f = ap (λ (x : Sim). of_all x.refused) e in let g = ap of_all cut.refused_stay in omega (arith, f, g);
+      caused =
+          let f = ap (λ (x : Sim). x.without_room) e in
+          let g = cut.without_room_stays in
+          let none = ap faults_in cut.power_on in
+          omega (arith, f, g, none);
       goes = λ here fits. record {
         there = record here { place = after_cut here.place; armed = false };
         run = one_run device false here (record here { place = after_cut here.place; armed = false }) (cuts keep) [] (refl, refl);
@@ -208,6 +217,9 @@ module _ (device : Device) where
 
     abbrev grew : Bool
     grew = nat_lt before.failures after.failures
+
+    abbrev power : KeepsPower old.unit.store.medium new.unit.store.medium
+    power = keeps_power old.unit.store.medium new.unit.store.medium follows
 
     -- the event itself, which gives its answer where the power is still on
     played : (given : Answer) → given ≡ (if new.unit.store.medium.power.off then Off else answer)
@@ -247,7 +259,7 @@ module _ (device : Device) where
               limit_at = same;
               limited = λ ours. limited_after limit p.later p.fits ours same;
               found = λ ours. p.at_exit (sym p.ours ∙ ours);
-              unfused = λ e. follows.no_fuse_stays (fits.unfused e);
+              unfused = λ e. power.no_fuse_stays (fits.unfused e);
             };
             ours = p.ours;
             limit_stays = λ ours. refl;
@@ -261,6 +273,7 @@ module _ (device : Device) where
         moves = one_move device grew (Running old) (Running new) (plays event) (answer ∷ [])
             (answer, refl, played answer (ap (λ (b : Bool). if b then Off else answer) (sym still))) refl;
         refused = one_counted grew before.failures after.failures (ltb-true before.failures after.failures) step.elapses.failures_stay;
+        caused = caused_once old.unit.store.medium new.unit.store.medium (plays event ∷ []) follows on;
         goes = λ here fits. ends_at here.place here.armed here.limit fits;
         size_stays = step.elapses.size_stays;
         device_stays = refl;
@@ -288,7 +301,7 @@ module _ (device : Device) where
                 answered = refl;
                 goes = record {
                   fused = armed_then here old.unit.store.medium new.unit.store.medium follows fits.unfused on is_off;
-                  cause = some_refused before after (follows.goes_off on is_off).1;
+                  cause = some_refused before after (power.goes_off on is_off).1;
                   after = refl;
                 };
               }),
@@ -303,7 +316,7 @@ module _ (device : Device) where
                   (sym fits.is_at.says)
                   (at_exit (FoundWith before.size book (write_of_event (over old book) event)) before after
                   (is_sound new.unit.store.medium) (p.cuts ours)));
-              unfused = λ e. follows.no_fuse_stays (fits.unfused e);
+              unfused = λ e. power.no_fuse_stays (fits.unfused e);
             };
             ours = refl;
             limit_stays = λ ours. refl;
@@ -317,6 +330,7 @@ module _ (device : Device) where
         moves = one_move device grew (Running old) (Running new) (plays event) (Off ∷ [])
             (Off, refl, played Off (ap (λ (b : Bool). if b then Off else answer) (sym is_off))) refl;
         refused = one_counted grew before.failures after.failures (ltb-true before.failures after.failures) step.elapses.failures_stay;
+        caused = caused_once old.unit.store.medium new.unit.store.medium (plays event ∷ []) follows on;
         goes = λ here fits. cut_at here.place here.armed here.limit fits;
         size_stays = step.elapses.size_stays;
         device_stays = refl;

@@ -14,15 +14,10 @@ use Rattle.bot_machine.specs.declared.lives.disk_state.DiskState.{DiskState}
 use Rattle.bot_machine.specs.declared.lives.disk_state.DiskState.TheVariants.{Stopped}
 use Rattle.bot_machine.specs.Moving.{MovesBy}
 use Rattle.bot_machine.specs.Lifetimes.{AppendsFor}
-use Rattle.bot_machine.specs.LivesValue.{LivesValue, state_in, LeavesLimit, FitsLives, LivesGoTo, LivesGoOn, MayRefuse, LivesStopAt}
+use Rattle.bot_machine.specs.LivesValue.{LivesValue, medium_in, state_in, AreCaused, LeavesLimit, FitsLives, LivesGoTo, LivesGoOn, MayRefuse, LivesStopAt}
 use Rattle.bot_machine.specs.LivesValue.{LivesStop}
 use Rattle.bot_machine.proofs.Moved.{MovesBy-append}
-
--- events with a refused call are counted one list after the other
-pub refused_events-append : (xs ys : List Bool) → refused_events (xs ++ ys) ≡ refused_events xs + refused_events ys
-refused_events-append [] ys = omega arith
-refused_events-append (true ∷ xs) ys = omega (arith, refused_events-append xs ys)
-refused_events-append (false ∷ xs) ys = refused_events-append xs ys
+use Rattle.bot_machine.proofs.Caused.{refused_events-append, caused_through}
 
 -- one run after another
 pub LivesRun-append : (device : Device) (xs ys : List Action) (told more : List Answer)
@@ -54,6 +49,7 @@ rests lives = record {
   refusals = [];
   moves = (refl, refl);
   refused = omega arith;
+  caused = omega arith;
   goes = λ here fits. record { there = here; run = (refl, refl); fits = fits; ours = refl; limit_stays = λ ours. refl };
   size_stays = refl;
   device_stays = refl;
@@ -80,6 +76,8 @@ module _ (a b c : LivesValue) (xs ys : List Action) (told more : List Answer) (f
         (next_moves next.refusals c.state next.moves);
     refused = counted first.refusals next.refusals (state_in a.state).failures (state_in b.state).failures (state_in c.state).failures
         first.refused next.refused;
+    caused = caused_through (medium_in a.state) (medium_in b.state) (medium_in c.state) xs ys first.refusals next.refusals first.caused
+        next.caused;
     goes = goes;
     size_stays = next.size_stays ∙ first.size_stays;
     device_stays = next.device_stays ∙ first.device_stays;
@@ -106,8 +104,14 @@ module _ (a b c : LivesValue) (xs ys : List Action) (told more : List Answer) (f
     moves = MovesBy-append a.device xs ys told more first.refusals next.refusals a.state b.state (Stopped next.at) first.moves
         (next_moves next.refusals (Stopped next.at) next.moves);
     start = next.start;
-    refused = counted first.refusals next.refusals (state_in a.state).failures (state_in b.state).failures (state_in c.state).failures
-        first.refused next.refused;
+    in_start = next.in_start;
+    counted = next.counted;
+    refused = subst (λ (l : List Bool). refused_events l + (state_in a.state).failures ≤ (state_in c.state).failures) (sym joined)
+        (counted first.refusals (next.refusals ++ next.in_start ∷ []) (state_in a.state).failures (state_in b.state).failures
+        (state_in c.state).failures first.refused next.refused);
+    caused = subst (λ (l : List Bool). AreCaused (medium_in a.state) (xs ++ ys) l (medium_in c.state)) (sym joined)
+        (caused_through (medium_in a.state) (medium_in b.state) (medium_in c.state) xs ys first.refusals
+        (next.refusals ++ next.in_start ∷ []) first.caused next.caused);
     goes = goes;
     rests = next.rests;
     on = next.on;
@@ -115,6 +119,9 @@ module _ (a b c : LivesValue) (xs ys : List Action) (told more : List Answer) (f
     device_stays = next.device_stays ∙ first.device_stays;
   }
     where
+      joined : (first.refusals ++ next.refusals) ++ next.in_start ∷ [] ≡ first.refusals ++ (next.refusals ++ next.in_start ∷ [])
+      joined = append_assoc first.refusals next.refusals (next.in_start ∷ [])
+
       less : refused_events (first.refusals ++ next.refusals) + (state_in a.state).failures
           ≤ refused_events next.refusals + (state_in b.state).failures
       less = let h = first.refused in omega (arith, refused_events-append first.refusals next.refusals, h)
@@ -155,6 +162,10 @@ module _ (a b c : LivesValue) (xs ys : List Action) (told more : List Answer) (f
       → (lives_stop fault next).refusals ≡ first.refusals ++ next.refusals
   unfolding lives_stop
   lives_stop-refusals fault next = refl
+
+  pub lives_stop-at : (fault : StartFault) (next : LivesStop b ys more fault c) → (lives_stop fault next).at ≡ next.at
+  unfolding lives_stop
+  lives_stop-at fault next = refl
 
 -- appending, and then more, is appending all
 pub appended : (first mid last : Room) (told more : List Answer) → mid ≡ record first { list = first.list ++ told }

@@ -7,6 +7,7 @@ use Rattle.std.specs.Prelude.{Option, Some, MatchOption}
 use Rattle.medium.specs.Medium.{State, Image, CutLeaves}
 use Rattle.medium.specs.Sim.{Sim, state_of, IsFused}
 use Rattle.scsi_unit.specs.StartFaults.{StartFault}
+use Rattle.scsi_unit.specs.Serving.{has_refused}
 use Rattle.bot_machine.specs.Device.{presented, Device}
 use Rattle.spec.specs.Book.{Book}
 use Rattle.spec.specs.declared.event.Answer.{Answer}
@@ -25,7 +26,8 @@ use Rattle.scsi_unit.specs.Books.{StandsAs, MayFind}
 use Rattle.scsi_unit.specs.Starting.{StandsForSome}
 use Rattle.bot_machine.specs.Lifetimes.{actions_of, actions_of_all, armed_by, events_in, AppendsFor, AreLived, AreLivedUpTo}
 use Rattle.bot_machine.specs.Lifetimes.{KeepsPromiseUpTo, IsRefusedFor}
-use Rattle.bot_machine.proofs.LifeRuns.{rests, lives_stop, lives_stop-refusals}
+use Rattle.bot_machine.proofs.LifeRuns.{rests, lives_stop, lives_stop-refusals, lives_stop-at}
+use Rattle.bot_machine.proofs.Caused.{few_causes}
 use Rattle.bot_machine.proofs.LifeStarts.{first_found, first_limited}
 
 -- no life yet
@@ -95,7 +97,12 @@ module _ (m : Sim) (device : Device) (rest : IsAtRest m) (unfused : m.power.fuse
       → AreLived m device lives told (medium_in after.state)
   all_lived lives on one_each rest_after unfused_after alone = record {
     one_each = one_each;
-    kept = record { refusals = on.refusals; few = on.refused; lives = kept };
+    kept = record {
+      refusals = on.refusals;
+      few = on.refused;
+      caused = few_causes m (medium_in after.state) (actions_of_all lives) on.refusals on.caused;
+      lives = kept;
+    };
     moves = subst (λ (x : DiskState). MovesBy device (Stopped m) (actions_of_all lives) told on.refusals x) alone on.moves;
     rests = rest_after;
     unfused = unfused_after;
@@ -138,7 +145,10 @@ told_same before after actions told other fault e s = record {
   at = s.at;
   moves = subst (λ (l : List Answer). MovesBy before.device before.state actions l s.refusals (Stopped s.at)) e s.moves;
   start = s.start;
+  in_start = s.in_start;
+  counted = s.counted;
   refused = s.refused;
+  caused = s.caused;
   goes = λ here fits. subst
       (λ (l : List Answer).
       LivesStopAt after here actions l s.refusals (refused_events s.refusals + (state_in before.state).failures) fault)
@@ -153,6 +163,11 @@ told_same-refusals : (before after : LivesValue) (actions : List Action) (told o
     (s : LivesStop before actions told fault after) → (told_same before after actions told other fault e s).refusals ≡ s.refusals
 unfolding told_same
 told_same-refusals before after actions told other fault e s = refl
+
+told_same-at : (before after : LivesValue) (actions : List Action) (told other : List Answer) (fault : StartFault) (e : told ≡ other)
+    (s : LivesStop before actions told fault after) → (told_same before after actions told other fault e s).at ≡ s.at
+unfolding told_same
+told_same-at before after actions told other fault e s = refl
 
 module _ (m : Sim) (device : Device) (rest : IsAtRest m) (unfused : m.power.fuse ≡ None) (mid after : LivesValue) (told : List Answer)
     (lives lived others : List Life) (life : Life) (fault : StartFault) (lives_are : lives ≡ lived ++ life ∷ others)
@@ -178,6 +193,13 @@ module _ (m : Sim) (device : Device) (rest : IsAtRest m) (unfused : m.power.fuse
       ∙ lives_stop-refusals begun mid after (actions_of_all lived) (armed_by life.fuse) told [] on fault last
       ∙ ap (λ (l : List Bool). l ++ last.refusals)
       (sym (all_lived-refusals m device rest unfused mid told lived on one_each rest_mid unfused_mid alone))
+
+  at_is : stop.at ≡ last.at
+  unfolding stop
+  at_is =
+      told_same-at begun after (actions_of_all lived ++ armed_by life.fuse) (told ++ []) told fault (append-nil told)
+      (lives_stop begun mid after (actions_of_all lived) (armed_by life.fuse) told [] on fault last)
+      ∙ lives_stop-at begun mid after (actions_of_all lived) (armed_by life.fuse) told [] on fault last
 
   arms : MovesBy device (Stopped (medium_in mid.state)) (armed_by life.fuse) [] last.refusals (Stopped last.at)
   arms =
@@ -209,7 +231,13 @@ module _ (m : Sim) (device : Device) (rest : IsAtRest m) (unfused : m.power.fuse
       }
 
   keeps : KeepsPromiseUpTo m device actions told (medium_in after.state)
-  keeps = record { refusals = stop.refusals; few = stop.refused; lives = kept_up_to }
+  keeps = record {
+    refusals = stop.refusals;
+    in_start = stop.in_start;
+    few = stop.refused;
+    caused = few_causes m (medium_in after.state) actions (stop.refusals ++ stop.in_start ∷ []) stop.caused;
+    lives = kept_up_to;
+  }
 
   refused_for : IsRefusedFor m device actions told fault (medium_in after.state) keeps
   unfolding keeps kept_up_to
@@ -226,6 +254,7 @@ module _ (m : Sim) (device : Device) (rest : IsAtRest m) (unfused : m.power.fuse
     arming = last.refusals;
     arms = arms;
     start = last.start;
+    in_start_is = stop.counted ∙ ap (λ (x : Sim). has_refused (state_of x) (state_in after.state)) at_is;
     refusals_are = refusals_are;
     refused = refused_for;
     on = stop.on;

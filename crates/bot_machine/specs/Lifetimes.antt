@@ -1,11 +1,13 @@
 -- Whole lives, told at once.
-use Rattle.std.specs.Prelude.{◌≡◌, ℕ, ◌+◌, Bool, true, false, List, [], ◌∷◌, ◌++◌, map, length}
+use Rattle.std.specs.Prelude.{◌≡◌, ℕ, ◌+◌, ◌-◌, Bool, true, false, List, [], ◌∷◌, ◌++◌, map, length}
 use Rattle.std.specs.Prelude.{sum_by, Option, None, Some}
 use Rattle.medium.specs.Sim.{Sim, state_of}
+use Rattle.medium.specs.Power.{faults_in}
 use Rattle.medium.specs.Writes.{keeps}
 use Rattle.scsi_unit.specs.StartFaults.{StartFault}
 use Rattle.spec.specs.Book.{Book}
 use Rattle.scsi_unit.specs.Books.{StandsAs}
+use Rattle.scsi_unit.specs.Serving.{has_refused}
 use Rattle.spec.specs.declared.event.Answer.{Answer}
 use Rattle.bot_machine.specs.declared.lives.life.Life.{Life}
 use Rattle.bot_machine.specs.Answers.{Room}
@@ -57,6 +59,12 @@ pub record AreNew (device : Device) (medium : Sim) (lives : LivesValue) : Type 0
   pub value : lives ≡ record { device = device; state = Stopped medium }
   pub first : StandsFirst medium lives
 
+-- For how many refusals of a medium in memory there was a cause, but for the faults that actions
+-- armed in between: those that were armed before, and writes for which there was no room.
+abbrev pub causes_between : Sim → Sim → ℕ
+causes_between before after =
+    faults_in before.power + (after.without_room - before.without_room)
+
 -- Actions of a disk over a medium in memory, and their answers, keep the promise, by what its
 -- images stand for and what a cut may leave of it.
 abbrev pub KeepsPromise : Sim → Device → List Action → List Answer → Sim → Type 0
@@ -64,7 +72,8 @@ KeepsPromise before device actions told after =
     let size : ℕ = (state_of before).size in
     IsKept (StandsForSome size) (StandsAs size) (HasLimit size) (presented device)
     (state_of before).content (CutLeaves (state_of before).may_leave) (state_of before).failures
-    (state_of after).failures actions told (CutLeaves (state_of after).may_leave)
+    (state_of after).failures (causes_between before after) actions told
+    (CutLeaves (state_of after).may_leave)
 
 -- The same up to a start that was refused.
 abbrev pub KeepsPromiseUpTo : Sim → Device → List Action → List Answer → Sim → Type 0
@@ -72,7 +81,8 @@ KeepsPromiseUpTo before device actions told after =
     let size : ℕ = (state_of before).size in
     IsKeptUpTo (StandsForSome size) (StandsAs size) (HasLimit size) (presented device)
     (state_of before).content (CutLeaves (state_of before).may_leave) (state_of before).failures
-    (state_of after).failures actions told (CutLeaves (state_of after).may_leave)
+    (state_of after).failures (causes_between before after) actions told
+    (CutLeaves (state_of after).may_leave)
 
 -- lives went on by these actions, and the answers to `events` events were appended
 pub record AppendsFor (before after : LivesValue) (old new : Room) (actions : List Action)
@@ -144,6 +154,7 @@ pub record AreLivedUpTo (before : Sim) (device : Device) (lives : List Life)
   pub arming : List Bool
   pub arms : MovesBy device (Stopped at) (armed_by up_to.life.fuse) [] arming (Stopped armed)
   pub start : IsRefusedStart armed fault after
+  pub in_start_is : up_to.kept.in_start ≡ has_refused (state_of armed) (state_of after)
   pub refusals_are : up_to.kept.refusals ≡ were_lived.kept.refusals ++ arming
   pub refused : IsRefusedFor before device (actions_of_all up_to.lived ++ armed_by up_to.life.fuse)
       told fault after up_to.kept

@@ -1,11 +1,13 @@
 -- Lives of a disk over a medium in memory, and where they stand.
 use Rattle.std.specs.Prelude.{◌≡◌, ◌↔◌, ℕ, ◌+◌, ◌^◌, ◌≤◌, ◌<◌, ⊤, Bool, true, false, List, [], ◌∷◌}
-use Rattle.std.specs.Prelude.{None, Result, OnOk, IfErr}
+use Rattle.std.specs.Prelude.{◌++◌, None, Result, OnOk, IfErr}
 use Rattle.medium.specs.Medium.{Image}
 use Rattle.medium.specs.Moments.{EachCut}
+use Rattle.medium.specs.Power.{faults_in}
 use Rattle.medium.specs.Sim.{Sim, state_of, ComesAfter}
 use Rattle.scsi_unit.specs.StartFaults.{StartFault, NoMemory, Read, Write, Flush, BadSuper}
 use Rattle.scsi_unit.specs.StartFaults.{BadVersion, BadSize, BadHead, StampsUsedUp, LogTooSmall}
+use Rattle.scsi_unit.specs.Serving.{has_refused}
 use Rattle.scsi_unit.specs.Starting.{Stands}
 -- the limit of a disk is that of the image that it starts on
 pub use Rattle.scsi_unit.specs.Starting.{HasLimit}
@@ -27,7 +29,7 @@ use Rattle.bot_machine.specs.Fitting.{IsWithin}
 use Rattle.bot_machine.specs.Disk.{DiskValue, over, FitsDisk}
 use Rattle.bot_machine.specs.Opening.{IsNotOpened}
 use Rattle.spec.specs.Lives.{Action, Place, before_first, between, runs, off, Standing, Opens}
-use Rattle.spec.specs.Lives.{starts}
+use Rattle.spec.specs.Lives.{starts, faults_armed}
 use Rattle.spec.specs.Lives.{LivesRun}
 use Rattle.spec.specs.Promise as promise
 
@@ -128,15 +130,23 @@ pub record LivesGoTo (after : LivesValue) (here : Standing) (actions : List Acti
   -- the format of an image never changes
   pub limit_stays : (book_at here.place).ours ≡ true → there.limit ≡ here.limit
 
+-- Each action in which the medium refused a call used up a fault, which was armed before or by one
+-- of these actions, or there was no room for a write. The faults that are left are counted too.
+abbrev pub AreCaused : Sim → List Action → List Bool → Sim → Type 0
+AreCaused before actions refusals after =
+    refused_events refusals + faults_in after.power + before.without_room
+    ≤ faults_in before.power + faults_armed actions + after.without_room
+
 -- Lives go on by these actions, with these answers: so does the disk itself, and so do the lives of
--- each book. The actions in which the medium refused a call are the same, and at most as many as
--- the calls that it refused.
+-- each book. The actions in which the medium refused a call are the same, at most as many as the
+-- calls that it refused, and each has a cause.
 pub record LivesGoOn (before : LivesValue) (actions : List Action) (answers : List Answer)
     (after : LivesValue) : Type 0 where
   pub refusals : List Bool
   pub moves : MovesBy before.device before.state actions answers refusals after.state
   pub refused : refused_events refusals + (state_in before.state).failures
       ≤ (state_in after.state).failures
+  pub caused : AreCaused (medium_in before.state) actions refusals (medium_in after.state)
   pub goes : (here : Standing) → FitsLives before here
       → LivesGoTo after here actions answers refusals
   pub size_stays : (state_in after.state).size ≡ (state_in before.state).size
@@ -180,8 +190,13 @@ pub record LivesStop (before : LivesValue) (actions : List Action) (answers : Li
   pub at : Sim
   pub moves : MovesBy before.device before.state actions answers refusals (Stopped at)
   pub start : IsRefusedStart at fault (medium_in after.state)
-  pub refused : refused_events refusals + (state_in before.state).failures
+  -- did the medium refuse a call in that start?
+  pub in_start : Bool
+  pub counted : in_start ≡ has_refused (state_of at) (state_in after.state)
+  pub refused : refused_events (refusals ++ in_start ∷ []) + (state_in before.state).failures
       ≤ (state_in after.state).failures
+  pub caused : AreCaused (medium_in before.state) actions (refusals ++ in_start ∷ [])
+      (medium_in after.state)
   pub goes : (here : Standing) → FitsLives before here → LivesStopAt after here actions answers
       refusals (refused_events refusals + (state_in before.state).failures) fault
   pub rests : after.state ≡ Stopped (medium_in after.state)

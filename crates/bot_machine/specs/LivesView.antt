@@ -16,5 +16,6 @@ disk_state_in None = Stopped (record {
   calls = 0;
   made = none;
   refused = none;
+  without_room = 0;
 })
 disk_state_in (Some state) = state

@@ -3,7 +3,7 @@ use Rattle.std.specs.Prelude.{◌≡◌, ℕ, Bool, true, false, List, [], ◌�
 use Rattle.medium.specs.Medium.{State}
 use Rattle.medium.specs.Sim.{Sim, state_of, IsCut, IsFused, IsFailing, ComesAfter}
 use Rattle.scsi_unit.specs.StartFaults.{StartFault}
-use Rattle.scsi_unit.specs.Serving.{has_refused}
+pub use Rattle.scsi_unit.specs.Serving.{has_refused}
 use Rattle.spec.specs.declared.event.Event.{Event}
 use Rattle.spec.specs.declared.event.Answer.{Answer}
 use Rattle.spec.specs.declared.event.Answer.TheVariants.{Off}

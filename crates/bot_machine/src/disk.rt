@@ -241,8 +241,7 @@ impl<M: Switch> Disk<M> {
     /// Arms a failure of one call of the medium: the one with this number from now, counted from 1.
     pub fn fail(&mut self, call: u64)
         requires { 0 < call }
-        ensures { ArmsDisk M.state (λ old new. M.failing call old new × M.follows old new)
-            self.old self.new }
+        ensures { ArmsDisk M.state (M.failing call) self.old self.new }
     {
         self.unit.fail(call);
     }

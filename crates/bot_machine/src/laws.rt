@@ -3,6 +3,8 @@ ghost use Rattle.bot_machine.specs.Policy.{KeepsPolicy, PolicyIsUnseen};
 ghost use Rattle.bot_machine.specs.Striking.{TicksAreStruck};
 ghost use Rattle.bot_machine.specs.Transfers.{SizesAreAlike};
 
+use medium::Medium;
+
 /// Does nothing: its contract says that a host sees nothing of the steps in the background.
 pub fn conversation_laws()
     ensures { TicksAreStruck }
@@ -15,8 +17,9 @@ pub fn packet_laws()
 {}
 
 /// Does nothing: its contract says that over its lives a disk retires as was asked at their start,
-/// and that a host sees nothing of it.
-pub fn policy_laws()
+/// and that a host sees nothing of it: two disks that differ in that alone give the same packets,
+/// over a medium of any kind that refuses nothing.
+pub fn policy_laws<M: Medium>()
     ensures kept { KeepsPolicy }
-    ensures unseen { PolicyIsUnseen }
+    ensures unseen { PolicyIsUnseen M.state }
 {}

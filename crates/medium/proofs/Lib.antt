@@ -10,3 +10,4 @@ pub mod Rows
 pub mod CallsSent
 pub mod SparedSectors
 pub mod Walks
+pub mod SimCalls

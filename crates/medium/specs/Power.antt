@@ -1,6 +1,6 @@
 -- When a medium in memory refuses a call.
-use Rattle.std.specs.Prelude.{⊤, ◌≤◌, ℕ, ◌-◌, Bool, true, false, not, ◌&&◌, ◌||◌, Option, Some}
-use Rattle.std.specs.Prelude.{None, if◌then◌else◌, ◌==◌, nat_lt}
+use Rattle.std.specs.Prelude.{ℕ, ◌+◌, ◌-◌, Bool, true, false, not, ◌&&◌, ◌||◌, Option, Some, None}
+use Rattle.std.specs.Prelude.{if◌then◌else◌, ◌==◌, nat_lt}
 use Rattle.medium.specs.declared.fault.MediumFault.{MediumFault}
 use Rattle.medium.specs.declared.fault.MediumFault.TheVariants.{Read, Write, Flush}
 use Rattle.medium.specs.declared.power.Power.{Power}
@@ -48,8 +48,11 @@ after_call p kind fits = record {
   off = p.off || (is_fused kind && is_used_up p.fuse);
 }
 
--- an armed fuse stays armed, and lets no more writes and flushes happen than before
-abbrev pub StaysArmed : Option ℕ → Option ℕ → Type 0
-StaysArmed None new = ⊤
-StaysArmed (Some writes) None = ⊥
-StaysArmed (Some writes) (Some left) = left ≤ writes
+abbrev pub is_armed : Option ℕ → ℕ
+is_armed None = 0
+is_armed (Some calls) = 1
+
+-- How many faults are armed, none or one or two: a fuse, where the power is still on, and a
+-- failure.
+abbrev pub faults_in : Power → ℕ
+faults_in p = (if p.off then 0 else is_armed p.fuse) + is_armed p.fail

@@ -1,13 +1,13 @@
 -- A medium in memory: what its sectors hold, and what a cut may leave of them.
-use Rattle.std.specs.Prelude.{◌≡◌, ◌≢◌, ◌⊎◌, ℕ, ◌+◌, ◌-◌, ◌/◌, ◌%◌, ◌^◌, ◌<◌, ◌≤◌, min, Bool, true}
+use Rattle.std.specs.Prelude.{◌≡◌, ◌⊎◌, ℕ, ◌+◌, ◌-◌, ◌/◌, ◌%◌, ◌^◌, ◌<◌, ◌≤◌, min, Bool, true}
 use Rattle.std.specs.Prelude.{false, None, Some, List, [], ◌∷◌, ◌++◌, length, if◌then◌else◌, nat_lt}
 use Rattle.medium.specs.Medium.{State, Image, Sets, CutLeaves}
 use Rattle.medium.specs.Power as power
-use Rattle.medium.specs.Power.{admits, powered, StaysArmed}
+use Rattle.medium.specs.Power.{admits, powered}
 use Rattle.medium.specs.Tally.{Tally, of_kind, of_all, one_more}
 use Rattle.medium.specs.Writes.{sector_of, applied, IsWritten, are_whole, kept_writes, LieWithin}
 use Rattle.medium.specs.declared.fault.MediumFault.{MediumFault}
-use Rattle.medium.specs.declared.fault.MediumFault.TheVariants.{Write, Flush}
+use Rattle.medium.specs.declared.fault.MediumFault.TheVariants.{Read, Write, Flush}
 use Rattle.medium.specs.declared.power.Power.{Power}
 use Rattle.medium.specs.declared.unflushed.UnflushedWrite.{UnflushedWrite}
 
@@ -25,6 +25,8 @@ pub record Sim : Type 0 where
   -- how many calls of each kind, and how many of them were refused
   pub made : Tally
   pub refused : Tally
+  -- how many writes came while there was no room for one
+  pub without_room : ℕ
 
 -- How many sectors there are. A model with an unflushed write of another length is given none, so
 -- that the law on lengths holds of every model; no real medium is such.
@@ -64,6 +66,7 @@ after_call m kind room = record m {
   calls = m.calls + 1;
   made = one_more m.made kind;
   refused = if admits m.power kind room then m.refused else one_more m.refused kind;
+  without_room = if room then m.without_room else m.without_room + 1;
 }
 
 -- it is told whether a call of this kind happens, and the call is counted
@@ -92,6 +95,7 @@ pub record IsFlush (old new : Sim) : Type 0 where
   pub calls_are : new.calls ≡ old.calls + 1
   pub made_is : new.made ≡ one_more old.made Flush
   pub refused_stay : new.refused ≡ old.refused
+  pub without_room_stays : new.without_room ≡ old.without_room
 
 -- A cut: the kept writes are applied in order of issue, and the others are lost.
 pub record IsCut (keep : ℕ → Bool) (old new : Sim) : Type 0 where
@@ -105,6 +109,7 @@ pub record IsCut (keep : ℕ → Bool) (old new : Sim) : Type 0 where
   pub calls_stay : new.calls ≡ old.calls
   pub made_stays : new.made ≡ old.made
   pub refused_stay : new.refused ≡ old.refused
+  pub without_room_stays : new.without_room ≡ old.without_room
 
 -- a fuse of `writes` writes and flushes is armed, and nothing else has changed
 abbrev pub IsFused : ℕ → Sim → Sim → Type 0
@@ -114,17 +119,35 @@ IsFused writes old new = new ≡ record old { power = record old.power { fuse = 
 abbrev pub IsFailing : ℕ → Sim → Sim → Type 0
 IsFailing call old new = new ≡ record old { power = record old.power { fail = Some call } }
 
--- the second comes after the first, by calls of a medium alone
+-- one call of a medium
+pub data SimCall : Type 0 where
+  reading : SimCall
+  -- a sector by its number, and its bytes
+  writing : ℕ → List ℕ → SimCall
+  flushing : SimCall
+
+-- a flush that happens, or one that is refused
+abbrev pub Flushes : Bool → Sim → Sim → Type 0
+Flushes true old new = IsFlush old new
+Flushes false old new = new ≡ after_call old Flush true
+
+-- what one call makes of a medium
+abbrev pub Makes : SimCall → Sim → Sim → Type 0
+Makes reading old new = new ≡ after_call old Read true
+Makes (writing s bytes) old new = new ≡ after_write old s bytes
+Makes flushing old new = Flushes (admits old.power Flush true) old new
+
+-- what some calls make of it, one after the other
+abbrev pub MakeAll : List SimCall → Sim → Sim → Type 0
+MakeAll [] old new = new ≡ old
+MakeAll (call ∷ calls) old new = (mid : Sim) × Makes call old mid × MakeAll calls mid new
+
+-- The second comes after the first, by calls of a medium alone. So nothing arms a fuse or a
+-- failure: a fuse falls with the writes and flushes that happen, a failure counts down with the
+-- calls, and a call is refused only where one of them says so or there is no room for a write.
 pub record ComesAfter (old new : Sim) : Type 0 where
-  pub size_stays : length new.flushed ≡ length old.flushed
-  pub room_stays : new.room ≡ old.room
-  pub no_fuse_stays : old.power.fuse ≡ None → new.power.fuse ≡ None
-  pub fuse_stays : StaysArmed old.power.fuse new.power.fuse
-  pub off_stays : old.power.off ≡ true → new.power.off ≡ true
-  -- the power goes off in a call that the fuse refused
-  pub goes_off : old.power.off ≡ false → new.power.off ≡ true
-      → (old.power.fuse ≢ None) × (of_all old.refused < of_all new.refused)
-  pub failures_stay : of_all old.refused ≤ of_all new.refused
+  pub calls : List SimCall
+  pub made : MakeAll calls old new
 
 -- what holds of every medium in memory
 pub record IsWellFormed (m : Sim) : Type 0 where

@@ -1,14 +1,12 @@
 -- What holds of a medium in memory at each moment.
-use Rattle.std.specs.Prelude.{◌≡◌, ◌≢◌, ◌⊎◌, ℕ, ◌*◌, ◌/◌, ◌<◌, min, true, false, Option, Some, None}
-use Rattle.std.specs.Prelude.{List, [], ◌∷◌, length, drop, ◌==◌}
-use Rattle.std.proofs.Common.{inl, inr, ⊎_elim, refl, ◌∙◌, ap, arith}
+use Rattle.std.specs.Prelude.{◌≡◌, ◌⊎◌, ℕ, ◌*◌, ◌/◌, ◌<◌, min, true, false, List, [], ◌∷◌, ◌++◌}
+use Rattle.std.specs.Prelude.{length, drop, ◌==◌}
+use Rattle.std.proofs.Common.{inl, inr, ⊎_elim, refl, subst, ◌∙◌, ap, arith}
 use Rattle.std.proofs.lemmas.Bool.{cases_Bool, and_parts}
 use Rattle.std.proofs.lemmas.Bool.Decides.{eqb_tells, nat_tests}
 use Rattle.std.proofs.lemmas.List.{length-take, length-drop}
 use Rattle.medium.specs.Medium.{IsSound}
-use Rattle.medium.specs.Power.{StaysArmed}
-use Rattle.medium.specs.Tally.{of_all}
-use Rattle.medium.specs.Sim.{Sim, size_of, sets_of, state_of, ComesAfter}
+use Rattle.medium.specs.Sim.{Sim, SimCall, size_of, sets_of, state_of, MakeAll, ComesAfter}
 use Rattle.medium.specs.Writes.{sector_of, latest, IsWritten, are_whole}
 use Rattle.medium.specs.declared.unflushed.UnflushedWrite.{UnflushedWrite}
 
@@ -70,45 +68,17 @@ is_sound m = record {
   sized = sized m;
 }
 
-stays_armed : (fuse : Option ℕ) → StaysArmed fuse fuse
-stays_armed None = tt
-stays_armed (Some writes) = omega arith
-
-armed_through : (a b c : Option ℕ) → StaysArmed a b → StaysArmed b c → StaysArmed a c
-armed_through None b c f g = tt
-armed_through (Some writes) None c f g = absurd f
-armed_through (Some writes) (Some left) None f g = absurd g
-armed_through (Some writes) (Some left) (Some fewer) f g = omega (arith, f, g)
-
 pub comes_after_itself : (m : Sim) → ComesAfter m m
-comes_after_itself m = record {
-  size_stays = refl;
-  room_stays = refl;
-  no_fuse_stays = λ e. e;
-  fuse_stays = stays_armed m.power.fuse;
-  off_stays = λ e. e;
-  goes_off = λ on off. absurd (cc (on, off));
-  failures_stay = omega arith;
-}
+comes_after_itself m = record { calls = []; made = refl }
 
-through_off : (a b c : Sim) → ComesAfter a b → ComesAfter b c
-    → a.power.off ≡ false → c.power.off ≡ true
-    → (b.power.off ≡ true) ⊎ (b.power.off ≡ false)
-    → (a.power.fuse ≢ None) × (of_all a.refused < of_all c.refused)
-through_off a b c f g on off (inl was) =
-    let h = f.goes_off on was in
-    (h.0, omega (arith, h.1, g.failures_stay))
-through_off a b c f g on off (inr still) =
-    let h = g.goes_off still off in
-    ((λ none. h.0 (f.no_fuse_stays none)), omega (arith, h.1, f.failures_stay))
+made_through : (first more : List SimCall) (a b c : Sim) → MakeAll first a b → MakeAll more b c
+    → MakeAll (first ++ more) a c
+made_through [] more a b c f g = subst (λ (m : Sim). MakeAll more m c) f g
+made_through (call ∷ first) more a b c f g =
+    (f.0, f.1, made_through first more f.0 b c f.2 g)
 
 pub comes_after_through : (a b c : Sim) → ComesAfter a b → ComesAfter b c → ComesAfter a c
 comes_after_through a b c f g = record {
-  size_stays = g.size_stays ∙ f.size_stays;
-  room_stays = g.room_stays ∙ f.room_stays;
-  no_fuse_stays = λ e. g.no_fuse_stays (f.no_fuse_stays e);
-  fuse_stays = armed_through a.power.fuse b.power.fuse c.power.fuse f.fuse_stays g.fuse_stays;
-  off_stays = λ e. g.off_stays (f.off_stays e);
-  goes_off = λ on off. through_off a b c f g on off (cases_Bool b.power.off);
-  failures_stay = omega (arith, f.failures_stay, g.failures_stay);
+  calls = f.calls ++ g.calls;
+  made = made_through f.calls g.calls a b c f.made g.made;
 }

@@ -18,6 +18,7 @@ view_of m = record {
   calls = m.calls.number;
   made = tally_of m.made;
   refused = tally_of m.refused;
+  without_room = m.without_room.number;
 }
 
 pub record Invariant (m : Inside) : Type 0 where

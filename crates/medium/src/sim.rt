@@ -41,6 +41,7 @@ pub struct SimMedium {
     calls: Count,
     made: Calls,
     refused: Calls,
+    without_room: Count,
 }
 
 impl Model for SimMedium {
@@ -71,6 +72,7 @@ impl SimMedium {
           calls = 0;
           made = none;
           refused = none;
+          without_room = 0;
         }) }
         ensures length { IsErrOf result SimError.BadLength
             ↔ ((length image.items ≡ 0) ⊎ (length image.items % 512 ≢ 0)) }
@@ -90,6 +92,7 @@ impl SimMedium {
             calls: Count::new(),
             made: Calls::new(),
             refused: Calls::new(),
+            without_room: Count::new(),
         })
     }
 
@@ -110,6 +113,7 @@ impl SimMedium {
             calls: self.calls.copy(),
             made: self.made.copy(),
             refused: self.refused.copy(),
+            without_room: self.without_room.copy(),
         })
     }
 
@@ -169,6 +173,9 @@ impl SimMedium {
         self.made.add(kind);
         if !happens {
             self.refused.add(kind);
+        }
+        if !fits {
+            self.without_room = self.without_room.next();
         }
         happens
     }

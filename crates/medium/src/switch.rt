@@ -22,6 +22,5 @@ pub trait Switch: Medium {
     fn fail(&mut self, call: u64)
         requires { 0 < call }
         ensures failing { failing call self.old self.new }
-        ensures follows { Self.follows self.old self.new }
         ensures unchanged { IsUnchanged (Self.state self.old) (Self.state self.new) };
 }

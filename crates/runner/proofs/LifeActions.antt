@@ -5,6 +5,7 @@ use Rattle.std.proofs.lemmas.Bool.{cases_Bool, true≢false}
 use Rattle.std.specs.Io.KnownBytes.{Appends}
 use Rattle.std.proofs.KnownBytes.{Appends-nil, Appends-trans}
 use Rattle.medium.specs.Sim.{Sim, IsFailing, ComesAfter}
+use Rattle.medium.proofs.SimCalls.{keeps_power}
 use Rattle.bot_machine.specs.StartFaults.{StartFault}
 use Rattle.spec.specs.declared.event.Event.{Event}
 use Rattle.spec.specs.declared.event.Answer.{Answer}
@@ -86,7 +87,7 @@ acted-fail old new call on failing = record {
 -- where no fuse was armed, the power stays on
 stays_on : (old new : Sim) → ComesAfter old new → old.power.fuse ≡ None → old.power.off ≡ false → new.power.off ≡ false
 stays_on old new after unfused on = elim (cases_Bool new.power.off) [
-  | inl off ↦ absurd ((after.goes_off on off).0 unfused)
+  | inl off ↦ absurd (((keeps_power old new after).goes_off on off).0 unfused)
   | inr is_on ↦ is_on
 ]
 
@@ -98,7 +99,7 @@ acted-event old new event answer on off after = record {
   goes_on = on;
   fits = fits;
   fuse = λ fused is unfused. let so = is unfused in
-      (after.no_fuse_stays so.0, stays_on (medium_in old.state) (medium_in new.state) after so.0 so.1);
+      ((keeps_power (medium_in old.state) (medium_in new.state) after).no_fuse_stays so.0, stays_on (medium_in old.state) (medium_in new.state) after so.0 so.1);
 }
   where
     fits : (fused : Bool) → FuseIs fused old → AnswersFit fused (comes event) (answer ∷ [])

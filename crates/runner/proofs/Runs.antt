@@ -9,7 +9,7 @@ use Rattle.spec.specs.Conversation.{Conversation}
 use Rattle.bot_machine.specs.Disk.{DiskValue, IsStep, StepsThrough, over}
 use Rattle.spec.specs.UnitConversation.{UnitRun}
 use Rattle.bot_machine.proofs.LifeActions.{one_counted}
-use Rattle.bot_machine.proofs.LifeRuns.{refused_events-append}
+use Rattle.bot_machine.proofs.Caused.{refused_events-append}
 use Rattle.runner.specs.Text.{line_for, text_of}
 use Rattle.runner.specs.Played.{Answers, StepsOn}
 

@@ -18,7 +18,8 @@ use Rattle.bot_machine.specs.Lifetimes.{KeepsPromise, KeepsPromiseUpTo, IsRefuse
 use Rattle.spec.specs.Lives.{Action, plays, Standing, Opens, LivesRun}
 use Rattle.bot_machine.specs.LivesValue.{LivesValue, MayRefuse, LivesRefuseStart, HasLimit, LeavesLimit, FitsLives, OpensOn}
 use Rattle.bot_machine.specs.LivesValue.{IsAtRest, FoundAt}
-use Rattle.bot_machine.specs.Moving.{medium_in, MovesBy, IsRefusedStart}
+use Rattle.bot_machine.specs.Moving.{medium_in, has_refused, MovesBy, IsRefusedStart}
+use Rattle.bot_machine.proofs.Caused.{few_causes, refused_events-append}
 use Rattle.runner.specs.declared.fault.ScriptError.{ScriptError as ErrorOf}
 use Rattle.runner.specs.declared.fault.ScriptFault.{ScriptFault}
 use Rattle.runner.specs.declared.fault.ScriptFault.TheVariants.{Line, TooLong, Start, NoMemory, Reader, Writer}
@@ -79,7 +80,12 @@ module _ (most : ℕ) (medium : Sim) (rest : IsAtRest medium) (unfused : medium.
         }
 
     keep : KeepsPromise medium (device most) actions answers (medium_in new.state)
-    keep = record { refusals = acted.goes_on.refusals; few = acted.goes_on.refused; lives = kept_from }
+    keep = record {
+      refusals = acted.goes_on.refusals;
+      few = acted.goes_on.refused;
+      caused = few_causes medium (medium_in new.state) actions acted.goes_on.refusals acted.goes_on.caused;
+      lives = kept_from;
+    }
 
     moved : AreMoved most medium (medium_in new.state) actions answers keep.refusals
     unfolding keep
@@ -119,9 +125,21 @@ module _ (most : ℕ) (medium : Sim) (rest : IsAtRest medium) (unfused : medium.
 
     keeps : KeepsPromiseUpTo medium (device most) actions answers (medium_in new.state)
     keeps =
-        let first = acted.goes_on.refused in
-        let then = refused.stops.refused in
-        record { refusals = acted.goes_on.refusals; few = omega (arith, first, then); lives = stopped_at }
+        let on = acted.goes_on in
+        let stop = refused.stops in
+        let first = on.refused in
+        let then = stop.refused in
+        let cause = on.caused in
+        let last = stop.caused in
+        let joined = refused_events-append on.refusals (stop.in_start ∷ []) in
+        let more = refused_events-append stop.refusals (stop.in_start ∷ []) in
+        record {
+          refusals = on.refusals;
+          in_start = stop.in_start;
+          few = omega (arith, first, then, joined, more);
+          caused = omega (arith, cause, last, joined, more);
+          lives = stopped_at;
+        }
 
     refused_for : IsRefusedFor medium (device most) actions answers fault (medium_in new.state) keeps
     unfolding keeps stopped_at
@@ -143,6 +161,7 @@ module _ (most : ℕ) (medium : Sim) (rest : IsAtRest medium) (unfused : medium.
           mid = medium_in mid.state;
           were_kept = keep actions answers mid acted;
           same = refl;
+          in_start_is = stop.counted ∙ ap (λ (s : DiskState). has_refused (state_of (medium_in s)) (state_of (medium_in new.state))) same;
           moved = moved actions answers mid acted;
           rests = subst (λ (s : DiskState). s ≡ Stopped (medium_in s)) same refl;
           start = subst (λ (s : DiskState). IsRefusedStart (medium_in s) fault (medium_in new.state)) same stop.start;

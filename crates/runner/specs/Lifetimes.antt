@@ -9,7 +9,7 @@ use Rattle.spec.specs.declared.event.Answer.{Answer}
 use Rattle.spec.specs.declared.event.Answer.TheVariants.{Off}
 use Rattle.bot_machine.specs.Lifetimes.{KeepsPromise, KeepsPromiseUpTo, IsRefusedFor}
 use Rattle.spec.specs.Lives.{Action, arms, fails, starts, plays, cuts}
-use Rattle.bot_machine.specs.Moving.{medium_in, MovesBy, IsRefusedStart}
+use Rattle.bot_machine.specs.Moving.{medium_in, has_refused, MovesBy, IsRefusedStart}
 use Rattle.bot_machine.specs.declared.lives.disk_state.DiskState.{DiskState}
 use Rattle.bot_machine.specs.declared.lives.disk_state.DiskState.TheVariants.{Stopped}
 use Rattle.runner.specs.declared.kept.KeptWrites.{KeptWrites}
@@ -106,6 +106,7 @@ pub record AreStopped (most : ℕ) (before after : Sim) (actions : List Action)
   pub mid : Sim
   pub were_kept : KeepsPromise before (device most) actions answers mid
   pub same : kept.refusals ≡ were_kept.refusals
+  pub in_start_is : kept.in_start ≡ has_refused (state_of mid) (state_of after)
   pub moved : AreMoved most before mid actions answers kept.refusals
   pub rests : moved.state ≡ Stopped mid
   pub start : IsRefusedStart mid fault after

@@ -49,6 +49,7 @@ simulated image = record {
   calls = 0;
   made = none;
   refused = none;
+  without_room = 0;
 }
 
 -- a file was not read, or was no image, or there was no memory for it

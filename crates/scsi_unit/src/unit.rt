@@ -180,8 +180,7 @@ impl<M: Switch> Unit<M> {
     /// Arms a failure of one call of the medium.
     pub fn fail(&mut self, call: u64)
         requires { 0 < call }
-        ensures { ArmsUnit M.state (λ old new. M.failing call old new × M.follows old new)
-            self.old self.new }
+        ensures { ArmsUnit M.state (M.failing call) self.old self.new }
     {
         self.store.fail(call);
     }

@@ -2,7 +2,7 @@
 -- and conversations alone: an array, whole writes to it, and what a host and a disk say to one
 -- another.
 use Rattle.std.specs.Prelude.{◌≡◌, ◌⊎◌, ℕ, ◌+◌, ◌≤◌, Bool, true, false, List, [], ◌∷◌, ◌++◌, length}
-use Rattle.std.specs.Prelude.{Option, None}
+use Rattle.std.specs.Prelude.{Option, None, count_by}
 use Rattle.spec.specs.Blocks.{Write}
 use Rattle.spec.specs.Book.{Book, after_first, opened}
 use Rattle.spec.specs.Rules.{UnitState, opened_unit, with_progress}
@@ -31,6 +31,18 @@ pub data Action : Type 0 where
   plays : Event → Action
   -- power is cut; which of the unflushed writes are kept, by their numbers
   cuts : (ℕ → Bool) → Action
+
+-- does this action arm a fault of the medium: a fuse, or a failure?
+abbrev pub is_fault : Action → Bool
+is_fault (arms writes) = true
+is_fault (fails call) = true
+is_fault starts = false
+is_fault (plays event) = false
+is_fault (cuts keeps) = false
+
+-- how many faults these actions arm
+abbrev pub faults_armed : List Action → ℕ
+faults_armed actions = count_by is_fault actions
 
 -- what a life leaves behind: its book at the end of its last whole event, and the write, if there
 -- is one, of the event that was cut

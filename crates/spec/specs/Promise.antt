@@ -1,13 +1,13 @@
 -- The promise. What an image of a medium stands for is handed in, and so is what a loss of power
 -- may leave of a medium: the promise reads without the bytes of a format.
-use Rattle.std.specs.Prelude.{◌≡◌, ◌⊎◌, ℕ, ◌+◌, ◌≤◌, Bool, true, false, List, length, Option, Some}
-use Rattle.std.specs.Prelude.{None}
+use Rattle.std.specs.Prelude.{◌≡◌, ◌⊎◌, ℕ, ◌+◌, ◌≤◌, Bool, true, false, List, [], ◌∷◌, ◌++◌, length}
+use Rattle.std.specs.Prelude.{Option, Some, None}
 use Rattle.spec.specs.declared.event.Answer.{Answer}
 use Rattle.spec.specs.Blocks.{Array, Write}
 use Rattle.spec.specs.Book.{Book, after_first, with_write, opened}
 use Rattle.spec.specs.Conversation.{refused_events}
 use Rattle.spec.specs.Lives.{Presentation, Action, Place, before_first, between, runs, off}
-use Rattle.spec.specs.Lives.{Standing, Opens, LivesRun}
+use Rattle.spec.specs.Lives.{Standing, Opens, LivesRun, faults_armed}
 
 -- before the first life, which opens with this book and has this limit
 abbrev pub first_standing : ℕ → Book → Standing
@@ -68,14 +68,17 @@ module _ {Image : Type 0} (StandsFor IsOurs : ℕ → Image → Array → ℕ �
         → FoundAt IsOurs last.place image
 
   -- The promise: what was done, what was answered, and what a loss of power may leave are lives
-  -- by the rules, on each book with which the first may open over what the medium held. The two
-  -- numbers are how many calls the medium had refused before, and how many it has afterwards.
+  -- by the rules, on each book with which the first may open over what the medium held. The
+  -- numbers are how many calls the medium had refused before, how many it has afterwards, and for
+  -- how many refusals there was a cause other than a fault that an action armed.
   pub record IsKept (disk : Presentation) (content : Image) (Before : Image → Type 0)
-      (before after : ℕ) (actions : List Action) (answers : List Answer)
+      (before after causes : ℕ) (actions : List Action) (answers : List Answer)
       (Leaves : Image → Type 0) : Type 0 where
-    -- the actions in which the medium refused a call: no more than it refused
+    -- the actions in which the medium refused a call: no more than it refused, and no more than
+    -- had a cause
     pub refusals : List Bool
     pub few : refused_events refusals + before ≤ after
+    pub caused : refused_events refusals ≤ causes + faults_armed actions
     pub lives : (limit : ℕ) (book : Book) → OpensOn StandsFor IsOurs content Before book
         → HasLimit limit content → AreKept disk limit book actions answers refusals Leaves
 
@@ -91,9 +94,12 @@ module _ {Image : Type 0} (StandsFor IsOurs : ℕ → Image → Array → ℕ �
     pub found : book.ours ≡ true → (image : Image) → Leaves image → MayFind IsOurs next image
 
   pub record IsKeptUpTo (disk : Presentation) (content : Image) (Before : Image → Type 0)
-      (before after : ℕ) (actions : List Action) (answers : List Answer)
+      (before after causes : ℕ) (actions : List Action) (answers : List Answer)
       (Leaves : Image → Type 0) : Type 0 where
     pub refusals : List Bool
-    pub few : refused_events refusals + before ≤ after
+    -- did the medium refuse a call in the start that was refused?
+    pub in_start : Bool
+    pub few : refused_events (refusals ++ in_start ∷ []) + before ≤ after
+    pub caused : refused_events (refusals ++ in_start ∷ []) ≤ causes + faults_armed actions
     pub lives : (limit : ℕ) (book : Book) → OpensOn StandsFor IsOurs content Before book
         → HasLimit limit content → AreKeptUpTo disk limit book actions answers refusals Leaves

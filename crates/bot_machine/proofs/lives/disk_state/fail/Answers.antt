@@ -8,5 +8,5 @@ returns-in-Stopped-clause-goes_on c = λ device.
 pub returns-in-Running-clause-goes_on : goal.returns-in-Running-clause-goes_on
 returns-in-Running-clause-goes_on c = λ device.
     rw c.in-Running.is
-    (fails_disk device c.args.call c.in-Running.disk c.fail-in-Running.new.self c.fail-in-Running.ensures.armed.0
+    (fails_disk device c.args.call c.in-Running.disk c.fail-in-Running.new.self c.fail-in-Running.ensures.armed
     c.fail-in-Running.ensures.others)

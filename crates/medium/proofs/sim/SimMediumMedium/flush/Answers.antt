@@ -5,6 +5,7 @@ use Rattle.medium.specs.Power.{admits}
 use Rattle.medium.specs.Tally.{one_more}
 use Rattle.medium.specs.declared.fault.MediumFault.TheVariants.{Flush}
 use Rattle.medium.proofs.Flushed.{apply_all, flushed_content, flushed_only, flushed_set}
+use Rattle.medium.proofs.SimCalls.{flushed_once, unflushed_once}
 use Rattle.medium.proofs.sim.SimMediumMedium.flush.Goals.{After-settle}
 use Rattle.medium.proofs.sim.SimMediumMedium.flush.Goals as goal
 
@@ -44,4 +45,13 @@ returns-clause-exact c =
       made_is = ap (λ (m : Sim). m.made) view;
       refused_stay = ap (λ (m : Sim). m.refused) view
           ∙ ap (λ b. if b then c.args.self.now.refused else one_more c.args.self.now.refused Flush) happens;
+      without_room_stays = ap (λ (m : Sim). m.without_room) view;
     }
+
+pub returns-then-not-admit-clause-follows : goal.returns-then-not-admit-clause-follows
+returns-then-not-admit-clause-follows c =
+    unflushed_once c.args.self.now c.admit.new.self (sym c.admit.ensures.happens ∙ c.if-not-admit.true) c.admit.ensures.after
+
+pub returns-clause-follows : goal.returns-clause-follows
+returns-clause-follows c =
+    flushed_once c.args.self.now _ (sym c.admit.ensures.happens ∙ c.if-not-admit.false) (returns-clause-exact c)

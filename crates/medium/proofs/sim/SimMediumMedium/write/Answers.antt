@@ -1,12 +1,13 @@
-use Rattle.std.proofs.Common.{◌≡◌, ◌≤◌, ◌<◌, ◌+◌, ◌*◌, ◌/◌, ◌++◌, ◌∷◌, [], length, true, sym, ◌∙◌, ap, subst, arith, length-append}
+use Rattle.std.proofs.Common.{◌≡◌, ◌≤◌, ◌<◌, ◌+◌, ◌*◌, ◌/◌, List, ◌++◌, ◌∷◌, [], length, true, sym, ◌∙◌, ap, subst, arith, length-append}
 use borrow.Author.Tests.{ltb-true}
 use Rattle.medium.specs.Power.{admits}
 use Rattle.medium.specs.declared.fault.MediumFault.TheVariants.{Write}
 use Rattle.medium.specs.declared.unflushed.UnflushedWrite.{UnflushedWrite}
-use Rattle.medium.specs.Sim.{Sim}
+use Rattle.medium.specs.Sim.{Sim, fits, after_call}
 use Rattle.medium.specs.Writes.{LieWithin, are_whole}
 use Rattle.medium.specs.SimLaws.{size_whole}
 use Rattle.medium.proofs.Flushed.{whole_last, admits_fits, written_content, written_set, room_last}
+use Rattle.medium.proofs.SimCalls.{refused_once, written_once}
 use Rattle.medium.proofs.sim.SimMediumMedium.write.Goals as goal
 
 pub invariant_of-self : goal.invariant_of-self
@@ -54,3 +55,21 @@ returns-clause-sets c =
     (record { sector = c.args.sector; block = c.args.from.now }) (ap (λ (m : Sim). m.flushed) view)
     (c.push_reserved.ensures.items
     ∙ ap (λ (m : Sim). m.unflushed ++ record { sector = c.args.sector; block = c.args.from.now } ∷ []) view)
+
+pub returns-then-not-admit-clause-follows : goal.returns-then-not-admit-clause-follows
+returns-then-not-admit-clause-follows c =
+    let room = c.has_room-fits.ensures in
+    refused_once c.args.self.now c.admit.new.self c.args.sector c.args.from.now
+    (ap (admits c.args.self.now.power Write) (sym room) ∙ sym c.admit.ensures.happens ∙ c.if-not-admit.true)
+    (c.admit.ensures.after ∙ ap (after_call c.args.self.now Write) room)
+
+pub returns-clause-follows : goal.returns-clause-follows
+returns-clause-follows c =
+    let room = c.has_room-fits.ensures in
+    let w : UnflushedWrite = record { sector = c.args.sector; block = c.args.from.now } in
+    let view = c.self.view_is ∙ c.admit.ensures.after ∙ ap (after_call c.args.self.now Write) room in
+    written_once c.args.self.now _ c.args.sector c.args.from.now
+    (ap (admits c.args.self.now.power Write) (sym room) ∙ sym c.admit.ensures.happens ∙ c.if-not-admit.false)
+    (ap (λ (m : Sim). record m { unflushed = c.push_reserved.new.self.items }) view
+    ∙ ap (λ (l : List UnflushedWrite). record (after_call c.args.self.now Write (fits c.args.self.now)) { unflushed = l })
+    (c.push_reserved.ensures.items ∙ ap (λ (m : Sim). m.unflushed ++ w ∷ []) view))
