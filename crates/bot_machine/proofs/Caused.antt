@@ -8,9 +8,9 @@ use Rattle.medium.proofs.SimCalls.{keeps_power}
 use Rattle.medium.specs.declared.power.Power.{Power}
 use Rattle.scsi_unit.specs.Serving.{has_refused}
 use Rattle.spec.specs.Conversation.{refused_events}
-use Rattle.spec.specs.Lives.{Action, is_fault, faults_armed}
-use Rattle.bot_machine.specs.LivesValue.{AreCaused}
-use Rattle.bot_machine.specs.Lifetimes.{causes_between}
+use Rattle.spec.specs.Lives.{Action}
+use Rattle.bot_machine.specs.LivesValue.{is_fault, faults_armed, AreCaused}
+use Rattle.bot_machine.specs.Lifetimes.{causes_in}
 
 -- events with a refused call are counted one list after the other
 pub refused_events-append : (xs ys : List Bool) → refused_events (xs ++ ys) ≡ refused_events xs + refused_events ys
@@ -41,7 +41,7 @@ caused_through a b c xs ys refusals others h k =
 
 -- told by the causes that no action armed
 pub few_causes : (before after : Sim) (actions : List Action) (refusals : List Bool) → AreCaused before actions refusals after
-    → refused_events refusals ≤ causes_between before after + faults_armed actions
+    → refused_events refusals ≤ causes_in before actions after
 few_causes before after actions refusals h = omega (arith, h)
 
 -- a medium on which a fuse was armed has one fault more at most

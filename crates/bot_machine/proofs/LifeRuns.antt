@@ -14,8 +14,8 @@ use Rattle.bot_machine.specs.declared.lives.disk_state.DiskState.{DiskState}
 use Rattle.bot_machine.specs.declared.lives.disk_state.DiskState.TheVariants.{Stopped}
 use Rattle.bot_machine.specs.Moving.{MovesBy}
 use Rattle.bot_machine.specs.Lifetimes.{AppendsFor}
-use Rattle.bot_machine.specs.LivesValue.{LivesValue, medium_in, state_in, AreCaused, LeavesLimit, FitsLives, LivesGoTo, LivesGoOn, MayRefuse, LivesStopAt}
-use Rattle.bot_machine.specs.LivesValue.{LivesStop}
+use Rattle.bot_machine.specs.LivesValue.{LivesValue, medium_in, state_in, AreCaused, LeavesLimit, FitsLives, LivesGoTo, LivesGoOn}
+use Rattle.bot_machine.specs.LivesValue.{MayRefuse, LivesStopAt, LivesStop}
 use Rattle.bot_machine.proofs.Moved.{MovesBy-append}
 use Rattle.bot_machine.proofs.Caused.{refused_events-append, caused_through}
 

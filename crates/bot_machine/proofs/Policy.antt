@@ -118,9 +118,10 @@ module _ {M : Type 0} (state : M → State) where
   policy_is_unseen medium device retiring book events others answers told one other ticks =
       let first = one.opened in
       let next = other.opened in
-      let limit = knows_images.one_limit (state medium).size (unit_limit other.first.unit) (unit_limit one.first.unit) (state medium).content
-      next.limit first.limit in
-      alike (over one.first book) (over other.first book) (over one.last one.on.later) (over other.last other.on.later) events others answers
+      let limit = knows_images.one_limit (state medium).size (unit_limit other.first.unit) (unit_limit one.first.unit)
+      (state medium).content next.limit first.limit in
+      alike (over one.first book) (over other.first book) (over one.last one.on.later) (over other.last other.on.later) events others
+      answers
       told one.run.refusals other.run.refusals
       (opens medium (record device { retiring = retiring }) other.first book next
       ∙ ap (λ (n : ℕ). opened n device book) limit ∙ sym (opens medium device one.first book first))

@@ -18,7 +18,7 @@ use Rattle.spec.specs.Lives.{Action, arms, starts, plays, cuts}
 use Rattle.bot_machine.specs.declared.lives.disk_state.DiskState.TheVariants.{Stopped}
 use Rattle.bot_machine.specs.Moving.{MovesBy, IsRefusedStart}
 use Rattle.bot_machine.specs.LivesValue.{LivesValue, LivesGoOn, LivesStop, IsAtRest, OpensOn}
-use Rattle.bot_machine.specs.LivesValue.{HasLimit, FitsLives, MayRefuse, state_in}
+use Rattle.bot_machine.specs.LivesValue.{HasLimit, FitsLives, MayRefuse, faults_armed, state_in}
 use Rattle.medium.specs.Medium.{CutLeaves}
 use Rattle.scsi_unit.specs.Starting.{StandsForSome}
 use Rattle.spec.specs.Promise.{first_standing, IsKept, IsKeptUpTo}
@@ -59,11 +59,11 @@ pub record AreNew (device : Device) (medium : Sim) (lives : LivesValue) : Type 0
   pub value : lives ≡ record { device = device; state = Stopped medium }
   pub first : StandsFirst medium lives
 
--- For how many refusals of a medium in memory there was a cause, but for the faults that actions
--- armed in between: those that were armed before, and writes for which there was no room.
-abbrev pub causes_between : Sim → Sim → ℕ
-causes_between before after =
-    faults_in before.power + (after.without_room - before.without_room)
+-- How many causes there were for a refusal of a medium in memory: the faults that were armed
+-- before, those that these actions armed, and the writes for which there was no room.
+abbrev pub causes_in : Sim → List Action → Sim → ℕ
+causes_in before actions after =
+    faults_in before.power + faults_armed actions + (after.without_room - before.without_room)
 
 -- Actions of a disk over a medium in memory, and their answers, keep the promise, by what its
 -- images stand for and what a cut may leave of it.
@@ -72,7 +72,7 @@ KeepsPromise before device actions told after =
     let size : ℕ = (state_of before).size in
     IsKept (StandsForSome size) (StandsAs size) (HasLimit size) (presented device)
     (state_of before).content (CutLeaves (state_of before).may_leave) (state_of before).failures
-    (state_of after).failures (causes_between before after) actions told
+    (state_of after).failures (causes_in before actions after) actions told
     (CutLeaves (state_of after).may_leave)
 
 -- The same up to a start that was refused.
@@ -81,7 +81,7 @@ KeepsPromiseUpTo before device actions told after =
     let size : ℕ = (state_of before).size in
     IsKeptUpTo (StandsForSome size) (StandsAs size) (HasLimit size) (presented device)
     (state_of before).content (CutLeaves (state_of before).may_leave) (state_of before).failures
-    (state_of after).failures (causes_between before after) actions told
+    (state_of after).failures (causes_in before actions after) actions told
     (CutLeaves (state_of after).may_leave)
 
 -- lives went on by these actions, and the answers to `events` events were appended

@@ -1,6 +1,6 @@
 -- Lives of a disk over a medium in memory, and where they stand.
 use Rattle.std.specs.Prelude.{◌≡◌, ◌↔◌, ℕ, ◌+◌, ◌^◌, ◌≤◌, ◌<◌, ⊤, Bool, true, false, List, [], ◌∷◌}
-use Rattle.std.specs.Prelude.{◌++◌, None, Result, OnOk, IfErr}
+use Rattle.std.specs.Prelude.{◌++◌, None, count_by, Result, OnOk, IfErr}
 use Rattle.medium.specs.Medium.{Image}
 use Rattle.medium.specs.Moments.{EachCut}
 use Rattle.medium.specs.Power.{faults_in}
@@ -29,7 +29,7 @@ use Rattle.bot_machine.specs.Fitting.{IsWithin}
 use Rattle.bot_machine.specs.Disk.{DiskValue, over, FitsDisk}
 use Rattle.bot_machine.specs.Opening.{IsNotOpened}
 use Rattle.spec.specs.Lives.{Action, Place, before_first, between, runs, off, Standing, Opens}
-use Rattle.spec.specs.Lives.{starts, faults_armed}
+use Rattle.spec.specs.Lives.{arms, fails, starts}
 use Rattle.spec.specs.Lives.{LivesRun}
 use Rattle.spec.specs.Promise as promise
 
@@ -129,6 +129,16 @@ pub record LivesGoTo (after : LivesValue) (here : Standing) (actions : List Acti
   pub ours : (book_at there.place).ours ≡ (book_at here.place).ours
   -- the format of an image never changes
   pub limit_stays : (book_at here.place).ours ≡ true → there.limit ≡ here.limit
+
+-- does this action arm a fault of the medium: a fuse, or a failure?
+abbrev pub is_fault : Action → Bool
+is_fault (arms writes) = true
+is_fault (fails call) = true
+is_fault action = false
+
+-- how many faults these actions arm
+abbrev pub faults_armed : List Action → ℕ
+faults_armed actions = count_by is_fault actions
 
 -- Each action in which the medium refused a call used up a fault, which was armed before or by one
 -- of these actions, or there was no room for a write. The faults that are left are counted too.

@@ -11,3 +11,4 @@ pub mod CallsSent
 pub mod SparedSectors
 pub mod Walks
 pub mod SimCalls
+pub mod ArmedCalls

@@ -1,5 +1,6 @@
 -- What calls alone do to the power of a medium in memory, and why they are refused.
-use Rattle.std.proofs.Common.{◌≡◌, ◌≢◌, ◌⊎◌, inl, inr, ⊎_elim, ℕ, ◌+◌, ◌<◌, ◌≤◌, Bool, true, false, not, ◌&&◌, ◌||◌, ◌==◌, List, [], ◌∷◌, ◌++◌}
+use Rattle.std.proofs.Common.{◌≡◌, ◌≢◌, ◌⊎◌, inl, inr, ⊎_elim, ℕ, ◌+◌, ◌<◌, ◌≤◌, Bool, true, false, not, ◌&&◌, ◌||◌, ◌==◌, List}
+use Rattle.std.proofs.Common.{[], ◌∷◌, ◌++◌}
 use Rattle.std.proofs.Common.{None, Some, Option, if◌then◌else◌, nat_lt, ltb-true, refl, sym, subst, ◌∙◌, ap, arith}
 use Rattle.std.proofs.lemmas.Bool.{cases_Bool, cases_lt, and_parts, false≢true}
 use Rattle.std.proofs.lemmas.Bool.Decides.{nat_tests}
@@ -82,7 +83,7 @@ pub read_once : (old new : Sim) → new ≡ after_call old Read true → ComesAf
 read_once old new e = record { calls = reading ∷ []; made = (new, e, refl) }
 
 -- a write, by whether it happens
-chosen : (old : Sim) (s : ℕ) (bytes : List ℕ) (happens : Bool) → admits old.power Write (fits old) ≡ happens
+pub chosen : (old : Sim) (s : ℕ) (bytes : List ℕ) (happens : Bool) → admits old.power Write (fits old) ≡ happens
     → after_write old s bytes
     ≡ (if happens
     then record (after_call old Write (fits old)) { unflushed = old.unflushed ++ record { sector = s; block = bytes } ∷ [] }
@@ -304,10 +305,12 @@ made_keeps flushing old new made = by_choice (admits old.power Flush true) refl 
     by_choice true is f =
         let k = keeps_once old.power Flush true (of_all old.refused) (of_all old.refused) old.without_room
         (ap (λ (b : Bool). if b then of_all old.refused else of_all old.refused + 1) (sym is)) in
-        subst (λ (p : Power). Keeps old.power p (of_all old.refused) (of_all new.refused) old.without_room new.without_room) (sym f.power_is)
+        subst (λ (p : Power). Keeps old.power p (of_all old.refused) (of_all new.refused) old.without_room new.without_room)
+        (sym f.power_is)
         (subst (λ (n : ℕ). Keeps old.power (power.after_call old.power Flush true) (of_all old.refused) n old.without_room new.without_room)
         (sym (ap of_all f.refused_stay))
-        (subst (λ (n : ℕ). Keeps old.power (power.after_call old.power Flush true) (of_all old.refused) (of_all old.refused) old.without_room n)
+        (subst (λ (n : ℕ).
+        Keeps old.power (power.after_call old.power Flush true) (of_all old.refused) (of_all old.refused) old.without_room n)
         (sym f.without_room_stays) k))
     by_choice false is e = subst (λ (m : Sim). Between old m) (sym e) (call_keeps old Flush true)
 

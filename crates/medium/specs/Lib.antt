@@ -1,3 +1,4 @@
+pub mod Arming
 pub mod FileStory
 pub mod ImageFile
 pub mod ImageFileLaws

@@ -98,8 +98,10 @@ pub acted-event : (old new : LivesValue) (event : Event) (answer : Answer) → L
 acted-event old new event answer on off after = record {
   goes_on = on;
   fits = fits;
-  fuse = λ fused is unfused. let so = is unfused in
-      ((keeps_power (medium_in old.state) (medium_in new.state) after).no_fuse_stays so.0, stays_on (medium_in old.state) (medium_in new.state) after so.0 so.1);
+  fuse = λ fused is unfused. let so = is unfused in (
+    (keeps_power (medium_in old.state) (medium_in new.state) after).no_fuse_stays so.0,
+    stays_on (medium_in old.state) (medium_in new.state) after so.0 so.1,
+  );
 }
   where
     fits : (fused : Bool) → FuseIs fused old → AnswersFit fused (comes event) (answer ∷ [])

@@ -2,7 +2,7 @@
 -- and conversations alone: an array, whole writes to it, and what a host and a disk say to one
 -- another.
 use Rattle.std.specs.Prelude.{◌≡◌, ◌⊎◌, ℕ, ◌+◌, ◌≤◌, Bool, true, false, List, [], ◌∷◌, ◌++◌, length}
-use Rattle.std.specs.Prelude.{Option, None, count_by}
+use Rattle.std.specs.Prelude.{Option, None}
 use Rattle.spec.specs.Blocks.{Write}
 use Rattle.spec.specs.Book.{Book, after_first, opened}
 use Rattle.spec.specs.Rules.{UnitState, opened_unit, with_progress}
@@ -31,18 +31,6 @@ pub data Action : Type 0 where
   plays : Event → Action
   -- power is cut; which of the unflushed writes are kept, by their numbers
   cuts : (ℕ → Bool) → Action
-
--- does this action arm a fault of the medium: a fuse, or a failure?
-abbrev pub is_fault : Action → Bool
-is_fault (arms writes) = true
-is_fault (fails call) = true
-is_fault starts = false
-is_fault (plays event) = false
-is_fault (cuts keeps) = false
-
--- how many faults these actions arm
-abbrev pub faults_armed : List Action → ℕ
-faults_armed actions = count_by is_fault actions
 
 -- what a life leaves behind: its book at the end of its last whole event, and the write, if there
 -- is one, of the event that was cut
@@ -101,8 +89,7 @@ KeepsLimit place old limit = ⊥
 
 -- a disk that has just started with this book
 abbrev pub started : ℕ → Presentation → Book → Conversation UnitState
-started limit disk book =
-    on_line (at_rest disk.packet_size) (opened_unit limit disk.identity book)
+started limit disk book = on_line (at_rest disk.packet_size) (opened_unit limit disk.identity book)
 
 -- Power goes: only where a fuse was armed in this life, and in a call that the medium refused.
 pub record PowerGoes (refused : Bool) (remains : Remains) (old new : Standing) : Type 0 where
@@ -111,8 +98,7 @@ pub record PowerGoes (refused : Bool) (remains : Remains) (old new : Standing) :
   pub after : new ≡ record old { place = off remains }
 
 -- a life begins: its disk runs, or power goes in the start
-pub record LifeBegins (disk : Presentation) (refused : Bool) (old new : Standing)
-    : Type 0 where
+pub record LifeBegins (disk : Presentation) (refused : Bool) (old new : Standing) : Type 0 where
   pub book : Book
   pub opens : Opens old.place book
   pub limit : ℕ

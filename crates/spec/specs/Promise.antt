@@ -7,7 +7,7 @@ use Rattle.spec.specs.Blocks.{Array, Write}
 use Rattle.spec.specs.Book.{Book, after_first, with_write, opened}
 use Rattle.spec.specs.Conversation.{refused_events}
 use Rattle.spec.specs.Lives.{Presentation, Action, Place, before_first, between, runs, off}
-use Rattle.spec.specs.Lives.{Standing, Opens, LivesRun, faults_armed}
+use Rattle.spec.specs.Lives.{Standing, Opens, LivesRun}
 
 -- before the first life, which opens with this book and has this limit
 abbrev pub first_standing : ℕ → Book → Standing
@@ -64,13 +64,12 @@ module _ {Image : Type 0} (StandsFor IsOurs : ℕ → Image → Array → ℕ �
     pub last : Standing
     pub run : LivesRun disk (first_standing limit book) actions answers refusals last
     pub limited : book.ours ≡ true → (image : Image) → Leaves image → HasLimit limit image
-    pub found : book.ours ≡ true → (image : Image) → Leaves image
-        → FoundAt IsOurs last.place image
+    pub found : book.ours ≡ true → (image : Image) → Leaves image → FoundAt IsOurs last.place image
 
   -- The promise: what was done, what was answered, and what a loss of power may leave are lives
   -- by the rules, on each book with which the first may open over what the medium held. The
-  -- numbers are how many calls the medium had refused before, how many it has afterwards, and for
-  -- how many refusals there was a cause other than a fault that an action armed.
+  -- numbers are how many calls the medium had refused before, how many it has afterwards, and how
+  -- many causes there were for a refusal.
   pub record IsKept (disk : Presentation) (content : Image) (Before : Image → Type 0)
       (before after causes : ℕ) (actions : List Action) (answers : List Answer)
       (Leaves : Image → Type 0) : Type 0 where
@@ -78,7 +77,7 @@ module _ {Image : Type 0} (StandsFor IsOurs : ℕ → Image → Array → ℕ �
     -- had a cause
     pub refusals : List Bool
     pub few : refused_events refusals + before ≤ after
-    pub caused : refused_events refusals ≤ causes + faults_armed actions
+    pub caused : refused_events refusals ≤ causes
     pub lives : (limit : ℕ) (book : Book) → OpensOn StandsFor IsOurs content Before book
         → HasLimit limit content → AreKept disk limit book actions answers refusals Leaves
 
@@ -100,6 +99,6 @@ module _ {Image : Type 0} (StandsFor IsOurs : ℕ → Image → Array → ℕ �
     -- did the medium refuse a call in the start that was refused?
     pub in_start : Bool
     pub few : refused_events (refusals ++ in_start ∷ []) + before ≤ after
-    pub caused : refused_events (refusals ++ in_start ∷ []) ≤ causes + faults_armed actions
+    pub caused : refused_events (refusals ++ in_start ∷ []) ≤ causes
     pub lives : (limit : ℕ) (book : Book) → OpensOn StandsFor IsOurs content Before book
         → HasLimit limit content → AreKeptUpTo disk limit book actions answers refusals Leaves
