@@ -1,5 +1,5 @@
 -- Lives of a disk over a medium in memory, from the first on.
-use Rattle.std.proofs.Common.{◌≡◌, ℕ, ◌+◌, ◌≤◌, Bool, false, List, [], ◌∷◌, ◌++◌, None, Option, refl, subst, ◌∙◌, arith}
+use Rattle.std.proofs.Common.{◌≡◌, ℕ, ◌+◌, ◌≤◌, Bool, false, List, [], ◌∷◌, ◌++◌, None, Option, refl, ap, subst, ◌∙◌, arith}
 use Rattle.medium.specs.Medium.{CutLeaves}
 use Rattle.medium.specs.Sim.{Sim, state_of}
 use Rattle.bot_machine.specs.StartFaults.{StartFault}
@@ -17,7 +17,7 @@ use Rattle.spec.specs.Promise.{first_standing, AreKept, AreKeptUpTo}
 use Rattle.bot_machine.specs.Lifetimes.{KeepsPromise, KeepsPromiseUpTo, IsRefusedFor}
 use Rattle.spec.specs.Lives.{Action, plays, Standing, Opens, LivesRun}
 use Rattle.bot_machine.specs.LivesValue.{LivesValue, MayRefuse, LivesRefuseStart, HasLimit, LeavesLimit, FitsLives, OpensOn}
-use Rattle.bot_machine.specs.LivesValue.{IsAtRest, FoundAt}
+use Rattle.bot_machine.specs.LivesValue.{IsAtRest, FoundAt, faults_armed}
 use Rattle.bot_machine.specs.Moving.{medium_in, has_refused, MovesBy, IsRefusedStart}
 use Rattle.bot_machine.proofs.Caused.{few_causes, refused_events-append}
 use Rattle.runner.specs.declared.fault.ScriptError.{ScriptError as ErrorOf}
@@ -131,13 +131,14 @@ module _ (most : ℕ) (medium : Sim) (rest : IsAtRest medium) (unfused : medium.
         let then = stop.refused in
         let cause = on.caused in
         let last = stop.caused in
+        let none : faults_armed [] ≡ 0 = refl in
         let joined = refused_events-append on.refusals (stop.in_start ∷ []) in
         let more = refused_events-append stop.refusals (stop.in_start ∷ []) in
         record {
           refusals = on.refusals;
           in_start = stop.in_start;
           few = omega (arith, first, then, joined, more);
-          caused = omega (arith, cause, last, joined, more);
+          caused = omega (arith, cause, last, none, joined, more);
           lives = stopped_at;
         }
 
