@@ -12,6 +12,8 @@ pub mod SectorsRead
 pub mod KnownImages
 pub mod BackgroundCalls
 pub mod ReadBlocks
+pub mod Headroom
+pub mod RingRoom
 pub mod Ready
 pub mod Retired
 pub mod Room

@@ -30,8 +30,8 @@ few One slots steps left frozen active a b c d = omega (arith, a, b, c, d)
 few Two slots steps left frozen active a b c d = omega (arith, a, b, c, d)
 
 -- the limits of a store
-pub has_limits : (size : ℕ) (sizes : Super) (s : Cached) (writing : Bool) → Invariant size sizes s writing → HasLimits s
-has_limits size sizes s writing kept =
+pub has_limits : (size : ℕ) (sizes : Super) (s : Cached) (writing ahead : Bool) → Invariant size sizes s writing ahead → HasLimits s
+has_limits size sizes s writing ahead kept =
     let format : LogFormat = (layout_of s).format in
     let blocks : blocks_of s ≡ sizes.blocks = ap (λ (shape : Shape). shape.blocks) kept.shape in
     record {

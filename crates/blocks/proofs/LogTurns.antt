@@ -17,6 +17,7 @@ use Rattle.spec.specs.Blocks.{chunks, Write}
 use Rattle.cache.specs.Blocks.{with_range}
 use Rattle.cache.specs.Entries.{Entries, map_of}
 use Rattle.spec.specs.Book.{Book, promised}
+use Rattle.blocks.proofs.Room.{one_less}
 use Rattle.blocks.specs.Finding.{MayFind, Found}
 use Rattle.blocks.specs.StoreValue.{firsts_in, Cached, layout_of, steps_for, batch_steps, waiting, steps_left, FitsBook}
 use Rattle.blocks.specs.Turns.{GoesOn, IsTurn, IsWriteTurn}
@@ -113,7 +114,7 @@ length-drop_one (x ∷ l) some = omega arith
 
 pub retired : (old new : LogValue) → 0 < length old.waiting → IsRetireStepped old new → StaysRetired old new
 retired old new some stepped = ⊎_elim
-    (λ more. let is = stepped.more more in record {
+    (λ more. let is = one_less old new stepped more in record {
       shape = ap (λ (l : LogValue). l.shape) is;
       stamp = ap (λ (l : LogValue). l.head + length l.waiting) is;
       steps = ap (λ (l : LogValue). l.steps_left) is;

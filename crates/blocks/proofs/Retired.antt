@@ -12,6 +12,8 @@ use Rattle.redo_log.specs.Value.{next_calls, next_sends, next_turn_flushes}
 use Rattle.blocks.specs.Background.{IsRetiring}
 use Rattle.blocks.specs.Kept.{IsBatchOf, Invariant}
 use Rattle.blocks.specs.StoreValue.{Cached}
+use Rattle.blocks.specs.Ahead.{may_go_ahead}
+use Rattle.blocks.proofs.Room.{one_less}
 
 -- what a retire step leaves of a log
 pub record Retained (old new : LogValue) : Type 0 where
@@ -26,7 +28,7 @@ pub record Retained (old new : LogValue) : Type 0 where
 -- a step that was made
 pub retained_by : (old new : LogValue) → IsRetireStepped old new → Retained old new
 retained_by old new stepped = ⊎_elim
-    (λ more. let is = stepped.more more in record {
+    (λ more. let is = one_less old new stepped more in record {
       shape = ap (λ (l : LogValue). l.shape) is;
       head = let e = ap (λ (l : LogValue). l.head) is in omega (arith, e);
       next = ap (λ (l : LogValue). l.next) is;
@@ -63,9 +65,10 @@ retained old new none some = go old.waiting refl
     go (r ∷ l) is = retained_by old new (some (omega (arith, ap (λ (w : List (List ℕ)). length w) is)))
 
 -- what was true of the store's fields is so still
-pub still_kept : (before after : ℕ) (sizes : Super) (s : Cached) (log' : LogValue) (writing : Bool) → after ≡ before → s.log.steps_left ≡ 0
-    → Retained s.log log' → Invariant before sizes s writing → Invariant after sizes (record s { log = log' }) writing
-still_kept before after sizes s log' writing same idle r k = record {
+pub still_kept : (before after : ℕ) (sizes : Super) (s : Cached) (log' : LogValue) (writing ahead : Bool) → after ≡ before
+    → s.log.steps_left ≡ 0 → Retained s.log log' → Invariant before sizes s writing ahead
+    → Invariant after sizes (record s { log = log' }) writing ahead
+still_kept before after sizes s log' writing ahead same idle r k = record {
   shape = r.shape ∙ k.shape;
   fits = omega (arith, k.fits, ap (λ (shape : Shape). sectors_of shape) r.shape, same);
   active = subst (λ (shape : Shape). IsBatchOf shape s.active) (sym r.shape) k.active;
@@ -81,13 +84,14 @@ still_kept before after sizes s log' writing same idle r k = record {
       let most = ap (λ (shape : Shape). most_retire_steps shape.format * shape.slots) r.shape in
       omega (arith, k.few_retire_steps, r.retire, most);
   owes = λ some. absurd (omega (arith, some, r.steps, idle));
+  policy = λ goes. ap (λ (shape : Shape). may_go_ahead shape) r.shape ∙ k.policy goes;
 }
 
 -- and where the log died
-pub died_kept : (before after : ℕ) (sizes : Super) (s : Cached) (log' : LogValue) (writing : Bool) → after ≡ before → log' ≡ died s.log
-    → Invariant before sizes s writing → Invariant after sizes (record s { log = log' }) writing
-died_kept before after sizes s log' writing same is k =
-    subst (λ (l : LogValue). Invariant after sizes (record s { log = l }) writing) (sym is) (record {
+pub died_kept : (before after : ℕ) (sizes : Super) (s : Cached) (log' : LogValue) (writing ahead : Bool) → after ≡ before
+    → log' ≡ died s.log → Invariant before sizes s writing ahead → Invariant after sizes (record s { log = log' }) writing ahead
+died_kept before after sizes s log' writing ahead same is k =
+    subst (λ (l : LogValue). Invariant after sizes (record s { log = l }) writing ahead) (sym is) (record {
       shape = k.shape;
       fits = omega (arith, k.fits, same);
       active = k.active;
@@ -101,6 +105,7 @@ died_kept before after sizes s log' writing same is k =
       few_steps = k.few_steps;
       few_retire_steps = k.few_retire_steps;
       owes = k.owes;
+      policy = k.policy;
     })
 
 -- a step that was made is one of retiring

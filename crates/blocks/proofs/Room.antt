@@ -4,10 +4,26 @@ use Rattle.std.proofs.Common.{refl, sym, subst}
 use Rattle.std.proofs.lemmas.Bool.{cases_lt}
 use Rattle.std.proofs.lemmas.Bool.{cases_Bool, ltb-true, lt-ltb}
 use Rattle.std.specs.Prelude.{ℕ, suc, zero, List, ◌∷◌, length, nat_lt, Bool, true, false, if◌then◌else◌}
-use Rattle.redo_log.specs.Value.{LogValue, HasRoom, IsStepped, IsRetireStepped, behind_oldest}
+use Rattle.redo_log.specs.Value.{Ahead, LogValue, HasRoom, IsStepped, IsRetireStepped, behind_oldest, of_oldest, ahead_of}
 use Rattle.redo_log.specs.declared.progress.Progress.{Progress}
 use Rattle.redo_log.specs.declared.progress.Progress.TheVariants.{More, Durable}
 use Rattle.blocks.specs.Retiring.{oldest_retired, with_room, written_out, finished_from, finished_with}
+
+-- a retire step of a record that needs more of them leaves one less
+pub one_less : (old new : LogValue) → IsRetireStepped old new → behind_oldest old + 1 < old.retire_steps_left
+    → new ≡ record old { retire_steps_left = old.retire_steps_left - 1; ahead = new.ahead }
+one_less old new stepped more = ⊎_elim
+    (λ (away : 2 < of_oldest old). let home = stepped.home away in ⊎_elim
+    (λ (far : 3 < of_oldest old). from old.ahead (home.more far))
+    (λ (few : of_oldest old ≤ 3). from (ahead_of old) (home.last (omega (arith, few, away))))
+    (cases_lt 3 (of_oldest old)))
+    (λ (near : of_oldest old ≤ 2). from old.ahead (stepped.flush (omega (arith, near, more))))
+    (cases_lt 2 (of_oldest old))
+  where
+    from : (a : Ahead) → new ≡ record old { retire_steps_left = old.retire_steps_left - 1; ahead = a }
+        → new ≡ record old { retire_steps_left = old.retire_steps_left - 1; ahead = new.ahead }
+    from a is = is ∙ ap (λ (b : Ahead). record old { retire_steps_left = old.retire_steps_left - 1; ahead = b })
+        (sym (ap (λ (l : LogValue). l.ahead) is))
 
 -- so far the head stays, or one record is retired and a slot is free
 abbrev pub OneAtMost : LogValue → LogValue → Type 0
@@ -18,7 +34,7 @@ pub one_at_most : (old mid new : LogValue) → (HasRoom mid → ⊥) → mid.und
     → mid.next ≤ mid.head + mid.shape.slots → 1 ≤ mid.shape.slots → IsRetireStepped mid new → OneAtMost old mid → OneAtMost old new
 one_at_most old mid new full under_way idle ring slots stepped so_far = ⊎_elim
     (λ same. ⊎_elim
-    (λ more. inl (ap (λ (l : LogValue). l.head) (stepped.more more) ∙ same))
+    (λ more. inl (ap (λ (l : LogValue). l.head) (one_less mid new stepped more) ∙ same))
     (λ few.
     let is = stepped.last (omega (arith, few, stepped.some)) in
     let head = ap (λ (l : LogValue). l.head) is in
@@ -37,7 +53,7 @@ most_one old new so_far = ⊎_elim (λ same. omega (arith, same)) (λ freed. ome
 
 -- so far nothing but retire steps of the oldest record were made, or that is retired
 abbrev pub RetiresOldest : LogValue → LogValue → Type 0
-RetiresOldest old new = (new ≡ record old { retire_steps_left = new.retire_steps_left }) ⊎ (new ≡ oldest_retired old)
+RetiresOldest old new = (new ≡ record old { retire_steps_left = new.retire_steps_left; ahead = new.ahead }) ⊎ (new ≡ oldest_retired old)
 
 -- one retire step more, of a log without room
 pub retires_more : (old mid new : LogValue) → (HasRoom mid → ⊥) → mid.under_way ≡ [] → mid.steps_left ≡ 0 → IsRetireStepped mid new
@@ -46,10 +62,10 @@ retires_more old mid new full under_way idle stepped one so_far =
     ⊎_elim
     (λ same. ⊎_elim
     (λ more.
-    let is = stepped.more more in
-    let all = is ∙ ap (λ (l : LogValue). record l { retire_steps_left = mid.retire_steps_left - 1 }) same in
+    let is = one_less mid new stepped more in
+    let all = is ∙ ap (λ (l : LogValue). record l { retire_steps_left = mid.retire_steps_left - 1; ahead = new.ahead }) same in
     inl (all
-    ∙ ap (λ (n : ℕ). record old { retire_steps_left = n })
+    ∙ ap (λ (n : ℕ). record old { retire_steps_left = n; ahead = new.ahead })
     (sym (ap (λ (l : LogValue). l.retire_steps_left) all))))
     (λ few. let is = stepped.last (omega (arith, few, stepped.some)) in inr (is ∙ ap (λ (l : LogValue). oldest_retired l) same))
     (cases_lt (behind_oldest mid + 1) mid.retire_steps_left))

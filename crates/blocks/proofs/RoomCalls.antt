@@ -5,7 +5,7 @@ use Rattle.std.proofs.lemmas.Bool.{cases_Bool, cases_lt, ltb-true, lt-ltb}
 use Rattle.redo_log.specs.Value.{LogValue, HasRoom, IsRetireStepped, behind_oldest, of_oldest, turn_calls, turns_calls}
 use Rattle.redo_log.specs.Value.{next_calls, steps_of}
 use Rattle.blocks.specs.Retiring.{oldest_retired, room_calls, ready_calls, finish_from, finish_calls}
-use Rattle.blocks.proofs.Room.{OneAtMost}
+use Rattle.blocks.proofs.Room.{one_less, OneAtMost}
 
 -- the calls of the steps that are left are those of the next one and of the others
 pub turns_more : (left : ℕ) → 0 < left
@@ -18,7 +18,7 @@ turns_more (suc left) some =
 -- so far nothing but retire steps of the oldest record were made, with their calls, or that is retired, with all of them
 abbrev pub CostsOldest : LogValue → LogValue → ℕ → ℕ → Type 0
 CostsOldest old new before after =
-    ((new ≡ record old { retire_steps_left = new.retire_steps_left })
+    ((new ≡ record old { retire_steps_left = new.retire_steps_left; ahead = new.ahead })
     × (after + turns_calls (of_oldest new) ≡ before + turns_calls (of_oldest old)))
     ⊎ ((new ≡ oldest_retired old) × (after ≡ before + turns_calls (of_oldest old)))
 
@@ -28,20 +28,20 @@ pub costs_more : (old mid new : LogValue) (before between after : ℕ) → (HasR
     → CostsOldest old new before after
 costs_more old mid new before between after full under_way idle stepped one made so_far =
     ⊎_elim
-    (λ (first : (mid ≡ record old { retire_steps_left = mid.retire_steps_left })
+    (λ (first : (mid ≡ record old { retire_steps_left = mid.retire_steps_left; ahead = mid.ahead })
     × (between + turns_calls (of_oldest mid) ≡ before + turns_calls (of_oldest old))).
     let same = first.0 in
     let some : 0 < of_oldest mid = omega (arith, stepped.some) in
     let sum = turns_more (of_oldest mid) some in
     ⊎_elim
     (λ more.
-    let is = stepped.more more in
-    let all = is ∙ ap (λ (l : LogValue). record l { retire_steps_left = mid.retire_steps_left - 1 }) same in
+    let is = one_less mid new stepped more in
+    let all = is ∙ ap (λ (l : LogValue). record l { retire_steps_left = mid.retire_steps_left - 1; ahead = new.ahead }) same in
     let left_is = ap (λ (l : LogValue). of_oldest l) is in
     let left : of_oldest new ≡ of_oldest mid - 1 = omega (arith, left_is, stepped.some) in
     let rest = ap (λ (n : ℕ). turns_calls n) left in
     inl (
-      all ∙ ap (λ (n : ℕ). record old { retire_steps_left = n }) (sym (ap (λ (l : LogValue). l.retire_steps_left) all)),
+      all ∙ ap (λ (n : ℕ). record old { retire_steps_left = n; ahead = new.ahead }) (sym (ap (λ (l : LogValue). l.retire_steps_left) all)),
       omega (arith, made, sum, rest, first.1),
     ))
     (λ few.
@@ -68,7 +68,7 @@ room_is log b e = ap (λ (x : Bool). if x then 0 else turns_calls (of_oldest log
 pub costs_room : (old new : LogValue) (before after : ℕ) → (HasRoom old → new ≡ old) → (HasRoom old → after ≡ before) → HasRoom new
     → CostsOldest old new before after → after ≡ before + room_calls old
 costs_room old new before after stays quiet room so_far = ⊎_elim
-    (λ (first : (new ≡ record old { retire_steps_left = new.retire_steps_left })
+    (λ (first : (new ≡ record old { retire_steps_left = new.retire_steps_left; ahead = new.ahead })
     × (after + turns_calls (of_oldest new) ≡ before + turns_calls (of_oldest old))).
     let same = first.0 in
     let had : HasRoom old = record {

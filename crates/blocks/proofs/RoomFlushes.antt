@@ -12,7 +12,7 @@ use Rattle.redo_log.specs.declared.progress.Progress.TheVariants.{More, Durable}
 use Rattle.blocks.specs.Ahead.{oldest_retired}
 use Rattle.blocks.specs.Flushing.{left_flushes, room_flushes, finish_flushes_from, finish_flushes, both_flushes}
 use Rattle.blocks.specs.Retiring.{finished_with}
-use Rattle.blocks.proofs.Room.{OneAtMost, finishes_none, but_firsts}
+use Rattle.blocks.proofs.Room.{one_less, OneAtMost, finishes_none, but_firsts}
 
 -- ---- the record under way
 
@@ -43,7 +43,7 @@ pub flushes_done : (log : LogValue) → log.steps_left ≡ 0 → left_flushes lo
 flushes_done log none = ap (λ (n : ℕ). steps_flushes log.shape.format n) none
 
 -- in format 2 the last step alone is one
-steps_once : (left : ℕ) → 0 < left → steps_flushes Two left ≡ 1
+pub steps_once : (left : ℕ) → 0 < left → steps_flushes Two left ≡ 1
 steps_once zero some = absurd (omega (arith, some))
 steps_once (suc zero) some = refl
 steps_once (suc (suc left)) some =
@@ -62,7 +62,7 @@ turns_more (suc left) some =
 -- so far nothing but retire steps of the oldest record were made, with their flushes, or that is retired, with all of them
 abbrev pub FlushesOldest : LogValue → LogValue → ℕ → ℕ → Type 0
 FlushesOldest old new before after =
-    ((new ≡ record old { retire_steps_left = new.retire_steps_left })
+    ((new ≡ record old { retire_steps_left = new.retire_steps_left; ahead = new.ahead })
     × (after + turns_flushes (of_oldest new) ≡ before + turns_flushes (of_oldest old)))
     ⊎ ((new ≡ oldest_retired old) × (after ≡ before + turns_flushes (of_oldest old)))
 
@@ -72,20 +72,20 @@ pub flushes_more : (old mid new : LogValue) (before between after : ℕ) → (Ha
     → FlushesOldest old new before after
 flushes_more old mid new before between after full under_way idle stepped one made so_far =
     ⊎_elim
-    (λ (first : (mid ≡ record old { retire_steps_left = mid.retire_steps_left })
+    (λ (first : (mid ≡ record old { retire_steps_left = mid.retire_steps_left; ahead = mid.ahead })
     × (between + turns_flushes (of_oldest mid) ≡ before + turns_flushes (of_oldest old))).
     let same = first.0 in
     let some : 0 < of_oldest mid = omega (arith, stepped.some) in
     let sum = turns_more (of_oldest mid) some in
     ⊎_elim
     (λ more.
-    let is = stepped.more more in
-    let all = is ∙ ap (λ (l : LogValue). record l { retire_steps_left = mid.retire_steps_left - 1 }) same in
+    let is = one_less mid new stepped more in
+    let all = is ∙ ap (λ (l : LogValue). record l { retire_steps_left = mid.retire_steps_left - 1; ahead = new.ahead }) same in
     let left_is = ap (λ (l : LogValue). of_oldest l) is in
     let left : of_oldest new ≡ of_oldest mid - 1 = omega (arith, left_is, stepped.some) in
     let rest = ap (λ (n : ℕ). turns_flushes n) left in
     inl (
-      all ∙ ap (λ (n : ℕ). record old { retire_steps_left = n }) (sym (ap (λ (l : LogValue). l.retire_steps_left) all)),
+      all ∙ ap (λ (n : ℕ). record old { retire_steps_left = n; ahead = new.ahead }) (sym (ap (λ (l : LogValue). l.retire_steps_left) all)),
       omega (arith, made, sum, rest, first.1),
     ))
     (λ few.
@@ -115,7 +115,7 @@ room_free log free = room_is log true (lt-ltb (log.next - log.head) log.shape.sl
 pub flushes_room : (old new : LogValue) (before after : ℕ) → (HasRoom old → new ≡ old) → (HasRoom old → after ≡ before) → HasRoom new
     → FlushesOldest old new before after → after ≡ before + room_flushes old
 flushes_room old new before after stays quiet room so_far = ⊎_elim
-    (λ (first : (new ≡ record old { retire_steps_left = new.retire_steps_left })
+    (λ (first : (new ≡ record old { retire_steps_left = new.retire_steps_left; ahead = new.ahead })
     × (after + turns_flushes (of_oldest new) ≡ before + turns_flushes (of_oldest old))).
     let same = first.0 in
     let had : HasRoom old = record {

@@ -5,7 +5,7 @@ use Rattle.std.proofs.lemmas.Bool.{cases_lt}
 use Rattle.redo_log.specs.Value.{LogValue, HasRoom, IsRetireStepped, behind_oldest, of_oldest, turn_sends, turns_sends}
 use Rattle.redo_log.specs.Value.{next_sends, sends_of_oldest}
 use Rattle.blocks.specs.Retiring.{oldest_retired}
-use Rattle.blocks.proofs.Room.{OneAtMost}
+use Rattle.blocks.proofs.Room.{one_less, OneAtMost}
 
 -- those of the steps that are left are those of the next one and of the others
 pub turns_more : (left : ℕ) → 0 < left
@@ -23,7 +23,7 @@ next_few (suc left) = omega arith
 -- so far nothing but retire steps of the oldest record were made, by no more than theirs, or that is retired, by no more than all
 abbrev pub SendsOldest : LogValue → LogValue → ℕ → ℕ → Type 0
 SendsOldest old new before after =
-    ((new ≡ record old { retire_steps_left = new.retire_steps_left })
+    ((new ≡ record old { retire_steps_left = new.retire_steps_left; ahead = new.ahead })
     × (after + turns_sends (of_oldest new) ≤ before + turns_sends (of_oldest old)))
     ⊎ ((new ≡ oldest_retired old) × (after ≤ before + turns_sends (of_oldest old)))
 
@@ -44,20 +44,20 @@ pub sends_more : (old mid new : LogValue) (before between after : ℕ) → (HasR
     → SendsOldest old new before after
 sends_more old mid new before between after full under_way idle stepped one made so_far =
     ⊎_elim
-    (λ (first : (mid ≡ record old { retire_steps_left = mid.retire_steps_left })
+    (λ (first : (mid ≡ record old { retire_steps_left = mid.retire_steps_left; ahead = mid.ahead })
     × (between + turns_sends (of_oldest mid) ≤ before + turns_sends (of_oldest old))).
     let same = first.0 in
     let some : 0 < of_oldest mid = omega (arith, stepped.some) in
     let sum = turns_more (of_oldest mid) some in
     ⊎_elim
     (λ more.
-    let is = stepped.more more in
-    let all = is ∙ ap (λ (l : LogValue). record l { retire_steps_left = mid.retire_steps_left - 1 }) same in
+    let is = one_less mid new stepped more in
+    let all = is ∙ ap (λ (l : LogValue). record l { retire_steps_left = mid.retire_steps_left - 1; ahead = new.ahead }) same in
     let left_is = ap (λ (l : LogValue). of_oldest l) is in
     let left : of_oldest new ≡ of_oldest mid - 1 = omega (arith, left_is, stepped.some) in
     let rest = ap (λ (n : ℕ). turns_sends n) left in
     inl (
-      all ∙ ap (λ (n : ℕ). record old { retire_steps_left = n }) (sym (ap (λ (l : LogValue). l.retire_steps_left) all)),
+      all ∙ ap (λ (n : ℕ). record old { retire_steps_left = n; ahead = new.ahead }) (sym (ap (λ (l : LogValue). l.retire_steps_left) all)),
       omega (arith, made, sum, rest, first.1),
     ))
     (λ few.
@@ -71,7 +71,7 @@ sends_more old mid new before between after full under_way idle stepped one made
 pub sends_refused : (old mid : LogValue) (before between after : ℕ) → (HasRoom mid → ⊥) → mid.under_way ≡ [] → mid.steps_left ≡ 0
     → OneAtMost old mid → after ≤ between + next_sends mid → SendsOldest old mid before between → after ≤ before + sends_of_oldest old
 sends_refused old mid before between after full under_way idle one made so_far = ⊎_elim
-    (λ (first : (mid ≡ record old { retire_steps_left = mid.retire_steps_left })
+    (λ (first : (mid ≡ record old { retire_steps_left = mid.retire_steps_left; ahead = mid.ahead })
     × (between + turns_sends (of_oldest mid) ≤ before + turns_sends (of_oldest old))).
     let few = next_few (of_oldest mid) in
     omega (arith, made, few, first.1))
@@ -81,7 +81,7 @@ sends_refused old mid before between after full under_way idle one made so_far =
 -- all that were made
 pub sends_room : (old new : LogValue) (before after : ℕ) → SendsOldest old new before after → after ≤ before + sends_of_oldest old
 sends_room old new before after so_far = ⊎_elim
-    (λ (first : (new ≡ record old { retire_steps_left = new.retire_steps_left })
+    (λ (first : (new ≡ record old { retire_steps_left = new.retire_steps_left; ahead = new.ahead })
     × (after + turns_sends (of_oldest new) ≤ before + turns_sends (of_oldest old))). omega (arith, first.1))
     (λ (last : (new ≡ oldest_retired old) × (after ≤ before + turns_sends (of_oldest old))). omega (arith, last.1))
     so_far

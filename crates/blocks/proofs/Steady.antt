@@ -36,16 +36,18 @@ second_is [] = refl
 second_is (a ∷ []) = refl
 second_is (a ∷ b ∷ rest) = refl
 
-counted_is : (log : LogValue) → IsCovered log → counted log ≡ settled log
-counted_is log c =
+-- what is covered counts so
+pub covered_true : (log : LogValue) → IsCovered log → is_covered log ≡ true
+covered_true log c =
     let home = eq-eqb log.ahead.home log.head c.oldest in
     let flushes = eq-eqb (of_oldest log) 2 c.flushes in
     let since = lt-ltb log.ahead.before (log.head + length log.waiting) c.since in
-    let all : is_covered log ≡ true =
     ap (λ (b : Bool). b && (of_oldest log == 2) && nat_lt log.ahead.before (log.head + length log.waiting)) home
     ∙ ap (λ (b : Bool). true && b && nat_lt log.ahead.before (log.head + length log.waiting)) flushes
-    ∙ ap (λ (b : Bool). true && true && b) since in
-    ap (λ (b : Bool). if b then settled log else log) all
+    ∙ ap (λ (b : Bool). true && true && b) since
+
+pub counted_is : (log : LogValue) → IsCovered log → counted log ≡ settled log
+counted_is log c = ap (λ (b : Bool). if b then settled log else log) (covered_true log c)
 
 -- the oldest record is passed
 pub steady_passed : (log : LogValue) → IsSteady log → passed log ≡ oldest_retired (settled log)

@@ -30,22 +30,22 @@ HaveBlocks records = All (λ numbers. 0 < length numbers) records
 -- ---- the records
 
 -- a record behind the others has blocks too
-blocks_more : (records : List (List ℕ)) (numbers : List ℕ) → HaveBlocks records → 0 < length numbers
+pub blocks_more : (records : List (List ℕ)) (numbers : List ℕ) → HaveBlocks records → 0 < length numbers
     → HaveBlocks (records ++ numbers ∷ [])
 blocks_more records numbers each some = All-append (λ r. 0 < length r) records (numbers ∷ []) each
     (All-cons (λ r. 0 < length r) numbers [] some (λ j d below. absurd (omega arith)))
 
-blocks_behind : (records : List (List ℕ)) → HaveBlocks records → HaveBlocks (drop 1 records)
+pub blocks_behind : (records : List (List ℕ)) → HaveBlocks records → HaveBlocks (drop 1 records)
 blocks_behind [] each = each
 blocks_behind (r ∷ records) each = λ j d below. each (suc j) d (omega arith)
 
 -- a record that has blocks owes three steps at least
-owes_three : (numbers : List ℕ) → 0 < length numbers → 3 ≤ retire_steps_of numbers
+pub owes_three : (numbers : List ℕ) → 0 < length numbers → 3 ≤ retire_steps_of numbers
 owes_three [] some = absurd (omega (arith, some))
 owes_three (n ∷ numbers) some = omega arith
 
 -- the steps of a ring are those of its oldest record and of those behind it
-first_owed : (w : List (List ℕ)) → 0 < length w → HaveBlocks w
+pub first_owed : (w : List (List ℕ)) → 0 < length w → HaveBlocks w
     → 3 + sum_by retire_steps_of (drop 1 w) ≤ sum_by retire_steps_of w
 first_owed [] some each = absurd (omega (arith, some))
 first_owed (a ∷ rest) some each =
@@ -54,7 +54,7 @@ first_owed (a ∷ rest) some each =
     omega (arith, sum, three)
 
 -- those behind the oldest, and one more
-behind_more : (w : List (List ℕ)) (numbers : List ℕ) → 0 < length w
+pub behind_more : (w : List (List ℕ)) (numbers : List ℕ) → 0 < length w
     → sum_by retire_steps_of (drop 1 (w ++ numbers ∷ []))
     ≡ sum_by retire_steps_of (drop 1 w) + retire_steps_of numbers
 behind_more [] numbers some = absurd (omega (arith, some))
@@ -63,19 +63,19 @@ behind_more (a ∷ rest) numbers some = sum_by_push retire_steps_of rest numbers
 -- ---- the log behind one record more
 
 -- the log with one record more
-abbrev with_more : List ℕ → List (List ℕ) → LogValue → LogValue
+abbrev pub with_more : List ℕ → List (List ℕ) → LogValue → LogValue
 with_more numbers firsts log = written_out (begun numbers firsts log)
 
-finished_is : (numbers : List ℕ) (firsts : List (List ℕ)) (log : LogValue) → log.steps_left ≡ 0 → 0 < length numbers
+pub finished_is : (numbers : List ℕ) (firsts : List (List ℕ)) (log : LogValue) → log.steps_left ≡ 0 → 0 < length numbers
     → finished_with true numbers firsts log ≡ with_more numbers firsts (ahead_room log)
 finished_is [] firsts log idle some = absurd (omega (arith, some))
 finished_is (n ∷ numbers) firsts log idle some = ap (λ (steps : ℕ). finished_from true steps (n ∷ numbers) firsts log) idle
 
 -- the same log, whose oldest record is home
-abbrev home_of : LogValue → LogValue
+abbrev pub home_of : LogValue → LogValue
 home_of log = record log { retire_steps_left = behind_oldest log + 2; ahead = ahead_of log }
 
-goes_home : (log : LogValue) → (HasSlots 3 log → ⊥) → 2 < of_oldest log → sent_home log ≡ home_of log
+pub goes_home : (log : LogValue) → (HasSlots 3 log → ⊥) → 2 < of_oldest log → sent_home log ≡ home_of log
 goes_home log few away =
     ap (λ (b : Bool). if b then gone_home log else log) (short_is log few)
     ∙ ap (λ (b : Bool). if b then home_of log else log) (lt-ltb 2 (of_oldest log) away)
@@ -261,7 +261,7 @@ idle_fills shape next three some = record {
 }
 
 -- a store that goes ahead has three slots
-three_slots : (shape : Shape) → may_go_ahead shape ≡ true → 3 ≤ shape.slots
+pub three_slots : (shape : Shape) → may_go_ahead shape ≡ true → 3 ≤ shape.slots
 three_slots shape may = from shape.format may
   where
     from : (format : LogFormat) → may_go_by format shape.slots ≡ true → 3 ≤ shape.slots

@@ -7,7 +7,7 @@ use Rattle.journal.specs.Places.{Shape}
 use Rattle.journal.specs.declared.log_format.LogFormat.{LogFormat}
 use Rattle.journal.specs.declared.log_format.LogFormat.TheVariants.{One, Two}
 use Rattle.redo_log.specs.Value.{LogValue, settled, behind_oldest, of_oldest}
-use Rattle.redo_log.specs.Value.{ahead_of, turns_calls, pass_calls}
+use Rattle.redo_log.specs.Value.{ahead_of, none_ahead, turns_calls, pass_calls}
 
 -- the oldest record is retired
 abbrev pub oldest_retired : LogValue → LogValue
@@ -16,6 +16,7 @@ oldest_retired log = record log {
   waiting = drop 1 log.waiting;
   retire_steps_left = behind_oldest log;
   firsts = drop 1 log.firsts;
+  ahead = none_ahead;
 }
 
 -- how many calls make all the steps that are left of the oldest record

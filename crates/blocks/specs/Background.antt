@@ -1,18 +1,19 @@
 -- The order of the background work: what one step of it does.
 use Rattle.std.specs.Prelude.{◌≡◌, ◌⊎◌, ◌+◌, ◌-◌, ◌^◌, ◌≤◌, ◌<◌, true, false, [], length}
-use Rattle.std.specs.Prelude.{Result, Ok, OnOk}
+use Rattle.std.specs.Prelude.{Result, Ok, OnOk, Bool}
 use Rattle.medium.specs.Medium.{State}
 use Rattle.medium.specs.Moments.{IsUnchanged}
 use Rattle.medium.specs.Sent.{SendsUpTo}
 use Rattle.medium.specs.declared.fault.MediumFault.TheVariants.{Flush}
 use Rattle.cache.specs.Entries.{Entries}
-use Rattle.redo_log.specs.Value.{HasRoom, begun, died, IsStepped, IsRetireStepped, next_calls}
+use Rattle.redo_log.specs.Value.{begun, died, IsStepped, IsRetireStepped, next_calls}
 use Rattle.redo_log.specs.Value.{next_sends, next_step_flushes, next_turn_flushes}
 use Rattle.redo_log.specs.declared.progress.Progress.{Progress}
 use Rattle.redo_log.specs.declared.progress.Progress.TheVariants.{More, Durable}
 use Rattle.blocks.specs.declared.fault.StoreFault.{StoreFault}
 use Rattle.blocks.specs.StoreValue.{Cached, StoreValue, is_dead, active_of, unwritten, steps_left}
 use Rattle.blocks.specs.StoreValue.{firsts_in}
+use Rattle.blocks.specs.Retiring.{IsRoomy}
 use Rattle.blocks.specs.Turns.{IsTurn}
 use Rattle.blocks.specs.Passing.{PassesOn, KeepsMedium, TellsLife, MayEmpty}
 
@@ -107,17 +108,19 @@ pub record CountsRetired {M : Type 0} (old new : StoreValue M) : Type 0 where
       → steps_left new.cached < steps_left old.cached
   pub idle : new.cached.log.steps_left ≡ 0
 
--- a record may be begun: none is under way, the log has room, and a batch holds blocks
-abbrev pub MayBegin : Cached → Type 0
-MayBegin s = HasRoom s.log × (0 < unwritten s)
+-- A record may be begun: none is under way, the log has room, and a batch holds blocks. Where the
+-- store goes ahead three slots are free: two are left for records that a call has to begin.
+abbrev pub MayBegin : Bool → Cached → Type 0
+MayBegin ahead s = IsRoomy ahead s.log × (0 < unwritten s)
 
 -- One background step. A dead store makes none. With a record under way only that record goes on;
 -- else the next batch is begun where it may be, and the oldest record is retired where none may.
-pub record IsBackgroundStep (before after : State) (old new : Cached) : Type 0 where
+pub record IsBackgroundStep (ahead : Bool) (before after : State) (old new : Cached)
+    : Type 0 where
   pub dead : is_dead old ≡ true → (new ≡ old) × IsUnchanged before after
   pub goes_on : is_dead old ≡ false → 0 < old.log.steps_left → IsRecordStep before after old new
-  pub begins : is_dead old ≡ false → MayBegin old → IsBeginning before after old new
-  pub retires : is_dead old ≡ false → old.log.steps_left ≡ 0 → ¬ MayBegin old
+  pub begins : is_dead old ≡ false → MayBegin ahead old → IsBeginning before after old new
+  pub retires : is_dead old ≡ false → old.log.steps_left ≡ 0 → ¬ MayBegin ahead old
       → IsRetiring before after old new
 
 -- a step of a live store leaves fewer of them, where there was one
@@ -175,6 +178,7 @@ pub record RetiresOn {M : Type 0} (state : M → State) (Follows : M → M → T
 pub record WorksOn {M : Type 0} (state : M → State) (Follows : M → M → Type 0)
     (old new : StoreValue M) : Type 0 where
   pub passes : PassesOn state Follows IsTurn 2 2 old new
-  pub order : IsBackgroundStep (state old.medium) (state new.medium) old.cached new.cached
+  pub order : IsBackgroundStep old.goes_ahead (state old.medium) (state new.medium)
+      old.cached new.cached
   pub left : LeavesFewer old.cached new.cached
   pub active : MayEmpty (active_of old.cached) (active_of new.cached)

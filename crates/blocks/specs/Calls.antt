@@ -7,6 +7,7 @@ use Rattle.medium.specs.declared.fault.MediumFault.TheVariants.{Flush}
 use Rattle.cache.specs.Blocks.{is_listed}
 use Rattle.blocks.specs.Retiring.{finished, finish_calls}
 use Rattle.blocks.specs.Flushing.{finish_flushes}
+use Rattle.blocks.specs.Headroom.{HasHeadroom}
 use Rattle.blocks.specs.Steady.{IsSteady}
 use Rattle.spec.specs.Blocks.{Write}
 use Rattle.blocks.specs.declared.fault.StoreFault.{StoreFault}
@@ -14,7 +15,7 @@ use Rattle.blocks.specs.Passing.{PassesOn, KeepsMedium, Answers}
 use Rattle.blocks.specs.Sent.{batch_sends}
 use Rattle.blocks.specs.Turns.{IsWriteTurn}
 use Rattle.blocks.specs.StoreValue.{Cached, StoreValue, FitsBeside, TakesRange, transfer_limit}
-use Rattle.blocks.specs.StoreValue.{active_of, batch_steps, steps_left, is_dead}
+use Rattle.blocks.specs.StoreValue.{active_of, batch_steps, steps_left, is_dead, wants}
 
 -- how many calls it takes to read a block: none where a batch has it, and else one, from its newest
 -- logged copy or from home
@@ -59,6 +60,10 @@ pub record CostsWrite {A E : Type 0} (ahead : Bool) (result : Result A E) (addre
   pub flushes : ¬ FitsBeside (transfer_limit old) (active_of old) address count
       → OnOk result (after.made Flush
       ≡ before.made Flush + finish_flushes old.frozen.numbers old.log)
+  -- where the store goes ahead and has headroom, one for that batch, and none where it is empty
+  pub once : ahead ≡ true → HasHeadroom old.log
+      → ¬ FitsBeside (transfer_limit old) (active_of old) address count
+      → OnOk result (after.made Flush ≡ before.made Flush + wants old.frozen.numbers)
 
 -- where a write of count blocks from this address on is good: the batch that takes it, and the
 -- batches before that
@@ -69,6 +74,8 @@ pub record WritesRange {A E : Type 0} (ahead : Bool) (result : Result A E) (addr
   pub batches : OnOk result (TurnsBatches ahead old new address count)
   -- where the store goes ahead, a ring that is steady stays so
   pub stays : ahead ≡ true → IsSteady old.log → OnOk result (IsSteady new.log)
+  -- and one with headroom keeps it
+  pub headroom : ahead ≡ true → HasHeadroom old.log → OnOk result (HasHeadroom new.log)
 
 -- A write whose range does not fit beside the active batch: the batch before that is made durable,
 -- the active one takes its place, and the range has one of its own.
@@ -90,6 +97,8 @@ pub record CostsAlone {A E : Type 0} (ahead : Bool) (result : Result A E) (befor
       ≡ before.calls + finish_calls ahead old.frozen.numbers old.log)
   pub flushes : OnOk result (after.made Flush
       ≡ before.made Flush + finish_flushes old.frozen.numbers old.log)
+  pub once : ahead ≡ true → HasHeadroom old.log
+      → OnOk result (after.made Flush ≡ before.made Flush + wants old.frozen.numbers)
 
 -- The active batch takes the range, for which one more is to become a record at most. The log and
 -- the frozen batch stay.

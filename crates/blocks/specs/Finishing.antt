@@ -13,6 +13,7 @@ use Rattle.blocks.specs.Retiring.{RetiresForRoom, finished, made_ready, written_
 use Rattle.blocks.specs.Retiring.{HasSlots, with_spare, to_begin, record_calls, calls_from}
 use Rattle.blocks.specs.Retiring.{both_calls, ready_calls, room_calls}
 use Rattle.blocks.specs.Steady.{IsSteady, IsFilling, IsFuller, steady_calls}
+use Rattle.blocks.specs.Headroom.{HasHeadroom, KeepsHeadroom, records_of}
 use Rattle.blocks.specs.Flushing.{left_flushes, room_flushes, both_flushes}
 
 -- what a call of a store answers that gives nothing
@@ -93,6 +94,8 @@ pub record FinishesFrozen {M : Type 0} (result : Answer) (old new : StoreValue M
       → OnOk result (IsFuller old.cached.log new.cached.log)
   pub stays : old.goes_ahead ≡ true → IsSteady old.cached.log
       → OnOk result (IsSteady new.cached.log)
+  -- a record under way is that of a batch
+  pub some : OnOk result (0 < old.cached.log.steps_left → 0 < length old.cached.frozen.numbers)
 
 -- How many calls a good sync makes: those that make one batch durable, and then the other, and no
 -- other. Where a slot is free for each record that is to be begun, and two besides where the store
@@ -116,6 +119,9 @@ pub record CostsSync (ahead : Bool) (result : Answer) (before after : State) (ol
   -- In format 2 a sync of one batch flushes once where a slot is free, and no more often.
   pub once : old.log.shape.format ≡ Two → HasRoom old.log → old.frozen.numbers ≡ []
       → 0 < length old.active.numbers → OnOk result (after.made Flush ≡ before.made Flush + 1)
+  -- Where the store goes ahead and has headroom, each record flushes once, and nothing else does.
+  pub each_once : ahead ≡ true → HasHeadroom old.log
+      → OnOk result (after.made Flush ≡ before.made Flush + records_of old)
   -- So it does in such a ring.
   pub steady_once : old.log.shape.format ≡ Two → IsSteady old.log → old.frozen.numbers ≡ []
       → 0 < length old.active.numbers → OnOk result (after.made Flush ≡ before.made Flush + 1)
@@ -137,5 +143,7 @@ pub record FinishesBoth {M : Type 0} (result : Answer) (old new : StoreValue M) 
       → OnOk result (IsFuller old.cached.log new.cached.log)
   pub stays : old.goes_ahead ≡ true → IsSteady old.cached.log
       → OnOk result (IsSteady new.cached.log)
+  -- Where it goes ahead and the ring was not full at the start, it never is.
+  pub headroom : KeepsHeadroom old new
   -- no record is retired but one for each batch, where the ring is full
   pub retires : new.cached.log.head ≤ old.cached.log.head + 2

@@ -6,6 +6,7 @@ use Rattle.journal.specs.declared.super_sector.Super.{Super}
 use Rattle.cache.specs.Blocks.{Listed}
 use Rattle.cache.specs.Entries.{Entries, IsWellFormed}
 use Rattle.redo_log.specs.Value.{most_steps, most_retire_steps}
+use Rattle.blocks.specs.Ahead.{may_go_ahead}
 use Rattle.blocks.specs.StoreValue.{Cached}
 
 -- a batch of the store: it has room for as many blocks as a record has at most, and each of its
@@ -15,9 +16,10 @@ pub record IsBatchOf (shape : Shape) (batch : Entries) : Type 0 where
   pub room : batch.room ≡ limit_of shape.format
   pub inside : (n : ℕ) → Listed batch.numbers n → n < shape.blocks
 
--- the log and the batches of a store over a medium of `size` sectors, with these sizes, and
--- whether a record is under way
-pub record Invariant (size : ℕ) (sizes : Super) (cached : Cached) (writing : Bool) : Type 0 where
+-- the log and the batches of a store over a medium of `size` sectors, with these sizes, whether a
+-- record is under way, and whether the store goes ahead
+pub record Invariant (size : ℕ) (sizes : Super) (cached : Cached) (writing ahead : Bool)
+    : Type 0 where
   pub shape : cached.log.shape ≡ shape_of sizes
   pub fits : sectors_of cached.log.shape ≤ size
   pub active : IsBatchOf cached.log.shape cached.active
@@ -36,3 +38,4 @@ pub record Invariant (size : ℕ) (sizes : Super) (cached : Cached) (writing : B
       ≤ most_retire_steps cached.log.shape.format * cached.log.shape.slots
   -- a record that is under way has to be retired later
   pub owes : 0 < cached.log.steps_left → 0 < cached.log.retire_steps_left
+  pub policy : ahead ≡ true → may_go_ahead cached.log.shape ≡ true

@@ -6,6 +6,7 @@ pub mod Finding
 pub mod Finishing
 pub mod Flushing
 pub mod Going
+pub mod Headroom
 pub mod Kept
 pub mod Limit
 pub mod Looks

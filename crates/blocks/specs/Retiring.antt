@@ -14,6 +14,10 @@ use Rattle.blocks.specs.StoreValue.{wants, waiting, firsts_in}
 abbrev pub HasSlots : ℕ → LogValue → Type 0
 HasSlots count log = (log.next - log.head) + count ≤ log.shape.slots
 
+-- where the store goes ahead three slots are free: one for the next record, and two besides
+abbrev pub HasSpare : Bool → LogValue → Type 0
+HasSpare ahead log = ahead ≡ true → HasSlots 3 log
+
 -- the log has room for one record, and where the store goes ahead two slots besides
 abbrev pub IsRoomy : Bool → LogValue → Type 0
 IsRoomy false log = HasRoom log

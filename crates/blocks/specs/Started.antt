@@ -16,6 +16,7 @@ use Rattle.recovery.specs.declared.start_fault.StartFault.{StartFault}
 use Rattle.recovery.specs.declared.start_fault.StartFault.TheVariants.{NoMemory}
 use Rattle.redo_log.specs.Value.{idle_from}
 use Rattle.blocks.specs.Ahead.{may_go_ahead}
+use Rattle.blocks.specs.Headroom.{HasHeadroom}
 use Rattle.blocks.specs.Steady.{IsFilling, ReachesSteady}
 use Rattle.spec.specs.Book.{Book, opened}
 use Rattle.blocks.specs.Finding.{MayFind}
@@ -103,7 +104,7 @@ pub record LeavesMedium {M : Type 0} (state : M → State) (Follows : M → M �
 -- The medium was recovered, and what a store on it keeps in memory was made.
 pub record MakesParts (before after : State) (sizes : Super) (cached : Cached) : Type 0 where
   pub started : IsStarted before after cached
-  pub kept : Invariant after.size sizes cached false
+  pub kept : Invariant after.size sizes cached false false
 
 -- It was not: contents that stand for something with a stamp left are refused by the device alone,
 -- or for want of memory.
@@ -121,6 +122,8 @@ pub record StartsAhead {M : Type 0} (state : M → State) (Follows : M → M →
   pub policy : store.goes_ahead ≡ may_go_ahead (layout_of store.cached)
   pub filling : store.goes_ahead ≡ true → IsFilling store.cached.log
   pub reaches : store.goes_ahead ≡ true → ReachesSteady store.cached.log
+  -- its ring is never full
+  pub headroom : store.goes_ahead ≡ true → HasHeadroom store.cached.log
   pub leaves : LeavesMedium state Follows medium store.medium
 
 -- Its start was refused, as any: contents that stand for something with a stamp left are refused by

@@ -1,7 +1,9 @@
 //! The background work, one step at a time.
-ghost use Rattle.std.specs.Prelude.{◌≡◌, ◌⊎◌, ◌↔◌, ◌<◌, false, [], length, IsTrue};
+ghost use Rattle.std.specs.Prelude.{◌≡◌, ◌⊎◌, ◌↔◌, ◌<◌, ◌≤◌, true, false, [], length, IsTrue};
 ghost use Rattle.redo_log.specs.Value.{HasRoom};
-ghost use Rattle.blocks.specs.StoreValue.{is_dead, active_of, unwritten, steps_left};
+ghost use Rattle.blocks.specs.StoreValue.{is_dead, active_of, unwritten, steps_left, slots_of};
+ghost use Rattle.blocks.specs.Headroom.{KeepsHeadroom};
+ghost use Rattle.blocks.specs.Retiring.{HasSpare};
 ghost use Rattle.blocks.specs.Turns.{IsTurn};
 ghost use Rattle.blocks.specs.Passing.{PassesOn, MayEmpty};
 ghost use Rattle.blocks.specs.Background.{IsBackgroundStep, CountsDown, WorksOn, BeginsNext};
@@ -13,16 +15,17 @@ use redo_log::Progress;
 
 impl<M: Medium> Store<M> {
     /// Makes one step of the background work, which is at most two calls of the medium: it goes on
-    /// with the record under way; else, where the log has room, it begins the frozen batch, or the
-    /// active one in its place; else it retires.
+    /// with the record under way; else, where the log has room, and three slots where the store
+    /// goes ahead, it begins the frozen batch, or the active one in its place; else it retires.
     ///
     /// Where it makes the store dead, the next call that writes tells.
     pub fn tick(&mut self)
         ensures passes { PassesOn M.state M.follows IsTurn 2 2 self.old self.new }
-        ensures order { IsBackgroundStep (M.state self.old.medium) (M.state self.new.medium)
-            self.old.cached self.new.cached }
+        ensures order { IsBackgroundStep self.old.goes_ahead (M.state self.old.medium)
+            (M.state self.new.medium) self.old.cached self.new.cached }
         ensures steps { CountsDown self.old self.new }
         ensures active { MayEmpty (active_of self.old.cached) (active_of self.new.cached) }
+        ensures headroom { KeepsHeadroom self.old self.new }
     {
         if self.is_dead() || self.is_settled() {
             return;
@@ -47,14 +50,26 @@ impl<M: Medium> Store<M> {
         let _ = self.retire();
     }
 
-    // Whether a record may be begun: the log has room, and a batch holds blocks. Where none may,
-    // one waits to be retired, or nothing is left to do.
+    // Whether a record may be begun: the log has room, and a batch holds blocks. A store that goes
+    // ahead leaves two slots free besides, so that no call ever finds the ring full. Where none
+    // may, one waits to be retired, or nothing is left to do.
     fn may_begin(&self) -> bool
-        ensures begins { IsTrue result ↔ MayBegin self.now.cached }
+        ensures begins { IsTrue result ↔ MayBegin self.now.goes_ahead self.now.cached }
         ensures else_retires { result ≡ false → self.now.cached.log.steps_left ≡ 0
             → (0 < length self.now.cached.log.waiting) ⊎ (steps_left self.now.cached ≡ 0) }
     {
-        self.log.has_room() && !(self.frozen.is_empty() && self.active.is_empty())
+        if !self.log.has_room() || !self.has_spare() {
+            return false;
+        }
+        !(self.frozen.is_empty() && self.active.is_empty())
+    }
+
+    // Whether two slots are free besides one for the next record, where the store goes ahead.
+    fn has_spare(&self) -> bool
+        ensures told { IsTrue result ↔ HasSpare self.now.goes_ahead self.now.cached.log }
+        ensures enough { self.now.goes_ahead ≡ true → 3 ≤ slots_of self.now.cached }
+    {
+        !self.goes_ahead || self.log.has_slots(3)
     }
 
     // Begins the frozen batch, or the active one in its place.

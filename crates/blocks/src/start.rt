@@ -116,9 +116,9 @@ impl<M: Medium> Store<M> {
     }
 
     /// Starts a store as `start` does, but one that retires ahead of the flush of its next record:
-    /// a good sync flushes once for each record that it writes, as long as records alone fill the
-    /// ring and a slot of it is free. It needs format 2 and three slots; else it is as from
-    /// `start`.
+    /// a good sync flushes once for each record that it writes, whatever background steps come
+    /// between, and never finds the ring full. It needs format 2 and three slots; else it is as
+    /// from `start`.
     ///
     /// # Errors
     ///

@@ -46,7 +46,7 @@ impl<M: Medium> Model for Store<M> {
     } };
 
     ghost invariant = { λ s. Invariant (M.state s.medium).size s.sizes
-        (record { log = s.log; active = s.active; frozen = s.frozen }) s.writing };
+        (record { log = s.log; active = s.active; frozen = s.frozen }) s.writing s.goes_ahead };
 }
 
 impl<M: Medium> Store<M> {

@@ -43,7 +43,14 @@ no_time m = record { failures_stay = omega arith; size_stays = refl }
 
 pub no_calls : {M : Type 0} (m : State) (unit : UnitValue M) → TakesFew m m unit unit
 no_calls m unit =
-    record { calls = omega arith; sent = omega arith; layout_stays = refl; policy_stays = refl; faulted = λ dead. (refl, dead) }
+    record {
+      calls = omega arith;
+      sent = omega arith;
+      layout_stays = refl;
+      policy_stays = refl;
+      headroom = λ on head live. head;
+      faulted = λ dead. (refl, dead);
+    }
 
 -- no read was made
 pub none_named : {M : Type 0} (m : State) (disk : DiskValue M) (happens : Event) → LooksIn m m disk happens
@@ -184,6 +191,7 @@ ticked before after old new ticks line = record {
     sent = omega (arith, ticks.sent);
     layout_stays = ticks.layout_stays;
     policy_stays = ticks.policy_stays;
+    headroom = ticks.headroom;
     faulted = λ dead. ((ticks.step.dead dead).1.calls_stay, ap is_dead (ticks.step.dead dead).0 ∙ dead);
   };
   looks = looks_wider (λ s. s < first_home_of old.unit) (λ s. (s < first_home_of old.unit) ⊎ ReadsAt old event.Tick s) before after

@@ -1,7 +1,8 @@
 -- How a disk starts.
-use Rattle.std.specs.Prelude.{◌≡◌, ◌⊎◌}
+use Rattle.std.specs.Prelude.{◌≡◌, ◌⊎◌, true}
 use Rattle.medium.specs.Medium.{State}
 use Rattle.spec.specs.Book.{Book}
+use Rattle.scsi_unit.specs.Costs.{HasHeadroom}
 use Rattle.scsi_unit.specs.Retiring.{RetiresBy}
 use Rattle.scsi_unit.specs.StartFaults.{StartFault, NoMemory}
 use Rattle.scsi_unit.specs.Starting.{IsStarted, IsStartCause, HasStore, HasLimit, OpensOn}
@@ -21,6 +22,8 @@ pub record IsOpened {M : Type 0} (before after : State) (device : Device)
   pub store : IsStarted before after disk.unit.store.cached
   pub line : disk.line ≡ at_rest device.packet_size
   pub retires : RetiresBy device.retiring disk.unit
+  -- where it goes ahead its ring is never full
+  pub headroom : disk.unit.store.goes_ahead ≡ true → HasHeadroom disk.unit.store.cached.log
   pub unit : (book : Book)
       → state_of disk.unit book ≡ opened_unit (unit_limit disk.unit) device.identity book
   -- its limit is that of the image

@@ -1,6 +1,6 @@
 -- Each turn that retires the oldest durable record: what the log and its medium hold after it.
 use Rattle.std.proofs.Common.{⊎_elim, ◌⊎◌, ◌≡◌, ◌≢◌, ℕ, ◌+◌, ◌-◌, ◌<◌, ◌≤◌, List, [], ◌∷◌, length, get_or, drop, refl, arith, rules}
-use Rattle.std.proofs.Common.{length-drop, add-zero, true, false, map, slice_index, drop-cons}
+use Rattle.std.proofs.Common.{ap, length-drop, add-zero, true, false, map, slice_index, drop-cons}
 use Rattle.std.proofs.lemmas.Bool.{cases_eq, cases_lt}
 use Rattle.std.proofs.lemmas.List.{drop-map, length-map}
 use Rattle.std.proofs.Math.ListN.{get_or-map}
@@ -18,7 +18,7 @@ use Rattle.journal.proofs.Wholeness.{records-hide}
 use Rattle.journal.proofs.Engine.{IsWholeIn-same, IsKept, kept_home, kept_head}
 use Rattle.redo_log.specs.declared.turn.Turn.{Turn}
 use Rattle.redo_log.specs.declared.turn.Turn.TheVariants.{Flush, Head}
-use Rattle.redo_log.specs.Value.{LogValue, Ahead, IsSentHome, IsRetireStepped, of_oldest, ahead_of, settled}
+use Rattle.redo_log.specs.Value.{LogValue, Ahead, none_ahead, IsSentHome, IsRetireStepped, of_oldest, ahead_of, settled}
 use Rattle.redo_log.specs.Calls.{WritesOnly}
 use Rattle.redo_log.specs.Turns.{head_bytes, MayTurn, IsTurned, IsNextTurn, IsHeadTurn}
 use Rattle.redo_log.specs.Held.{View, with_record, view_retired, made_of, turned_of, needed_of, image_view, MayLeave, Safe, AreHome}
@@ -92,7 +92,7 @@ module _ {log : LogValue} (is : IsLog log) (live : log.dead ≡ false) (owed : 0
 
     -- nothing of the next one is flushed at home yet
     needs_more : needed_of (retired_of log) ≢ 1
-    needs_more e = omega (arith, needed_one log.ahead (log.head + 1) _ (of_oldest (retired_of log)) e, not_homed log, is.past)
+    needs_more e = omega (arith, needed_one none_ahead (log.head + 1) _ (of_oldest (retired_of log)) e, not_homed log)
 
     -- so a log that counts it holds what the medium does
     pub retired_held : (then : LogValue) → IsRetireStepped log then → HoldsView (retired_of log) new (view_retired 1 view)
@@ -202,15 +202,32 @@ module _ {log : LogValue} (is : IsLog log) (live : log.dead ≡ false) (owed : 0
             is.away below,
           )) same_size done
 
+      -- so it does where a block went home
+      pub sent_held : 2 < of_oldest log → IsSentHome log then → HoldsView then new view
+      sent_held below home =
+          let ahead = λ (last : of_oldest log ≡ 3). home_held below (ahead_of log)
+          (λ one. omega (arith, needed_one (ahead_of log) log.head (log.head + length log.waiting) _ one, last)) same_size done in
+          grind (arith, cases_lt 3 (of_oldest log), home.more, home.last, ahead, goes_home below)
+
+      sent_head : 2 < of_oldest log → IsSentHome log then → then.head ≡ log.head
+      sent_head below home = ⊎_elim
+          (λ more. ap (λ (l : LogValue). l.head) (home.more more))
+          (λ few. ap (λ (l : LogValue). l.head) (home.last (omega (arith, few, below))))
+          (cases_lt 3 (of_oldest log))
+
+      -- and behind any retire step
       pub stepped_held : IsRetireStepped log then → HoldsView then new (view_retired (then.head - log.head) view)
       stepped_held stepped =
           let here : log.head - log.head ≡ 0 = omega arith in by_turn
-          (λ below. rw (stepped.more (omega (arith, below, stepped.some)), here) (goes_home below))
+          (λ below.
+          let head = sent_head below (stepped.home below) in
+          let none : then.head - log.head ≡ 0 = omega (arith, head) in
+          rw none (sent_held below (stepped.home below)))
           (λ two flush.
           let wrote = rw flush at done in
           let s = hv.stores live in
           let there : length oldest ≤ turned_of log = omega (arith, two, count hv 0) in
-          rw (stepped.more (omega (arith, two, stepped.some)), here)
+          rw (stepped.flush two, here)
           (goes_on hv is log.steps_left (log.retire_steps_left - 1) log.ahead new (omega arith) same_size live
           (Stores-stays s _ (turned_of (settled log)) new.content wrote.0 (omega arith) (λ i low high. omega (arith, high, there)))
           (λ ours. each_flush _ old.content new wrote.1 (with_newest (safe_here sound s (hv.guards live ours))
@@ -221,10 +238,3 @@ module _ {log : LogValue} (is : IsLog log) (live : log.dead ≡ false) (owed : 0
           let both = content_has _ old sound (one_now one h stamp new ours) in
           each_flush _ new.content new wrote.1 (with_newest ((past one h stamp new both.1 wrote.0).guarded both.0)
           (λ is. absurd (needs_more one h stamp new is))))))
-
-      -- so it does ahead
-      pub sent_held : 2 < of_oldest log → IsSentHome log then → HoldsView then new view
-      sent_held below home =
-          let ahead = λ (last : of_oldest log ≡ 3). home_held below (ahead_of log)
-          (λ one. omega (arith, needed_one (ahead_of log) log.head (log.head + length log.waiting) _ one, last)) same_size done in
-          grind (arith, cases_lt 3 (of_oldest log), home.more, home.last, ahead, goes_home below)

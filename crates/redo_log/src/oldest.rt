@@ -55,7 +55,8 @@ impl Log {
         m.write(1, &Head::new(self.head + 1).encode())
     }
 
-    /// Counts a block of the oldest durable record that went home by a turn ahead.
+    /// Counts a block of the oldest durable record that went home. The last one is noted: the flush
+    /// of the next record that becomes durable covers it.
     pub(crate) fn count_home(&mut self)
         requires { IsAway self.old }
         ensures { IsSentHome self.old self.new }
@@ -80,8 +81,10 @@ impl Log {
         let Some(oldest) = self.waiting.front() else {
             unreachable!()
         };
-        let home = oldest.len();
-        if self.turned <= home {
+        let blocks = oldest.len();
+        if self.turned < blocks {
+            self.count_home();
+        } else if self.turned == blocks {
             self.turned += 1;
         } else {
             self.drop_oldest();
@@ -98,5 +101,7 @@ impl Log {
         let _ = self.firsts.pop_front();
         self.head += 1;
         self.turned = 0;
+        self.homed = 0;
+        self.before = 0;
     }
 }

@@ -42,4 +42,11 @@ module _ {M : Type 0} (before after : State) (block taken : List ℕ) (old mid :
   pub is_sparing : Spares before after (command_for old block) taken old answer mid
       → IsSparing before after block taken old answer (record mid { kept = settled_kept answer mid.kept })
   is_sparing spares =
-      record { untouched = spares.untouched; plain = spares.plain; active = spares.active; log = spares.log; cost = spares.cost }
+      record {
+        untouched = spares.untouched;
+        plain = spares.plain;
+        active = spares.active;
+        log = spares.log;
+        cost = spares.cost;
+        headroom = spares.headroom;
+      }

@@ -1,5 +1,6 @@
 -- What a start of the store says of books, and the policy with which it starts for a unit.
-use Rattle.std.proofs.Common.{◌≡◌, ℕ, false, Result, Ok, Err}
+use Rattle.std.proofs.Common.{◌≡◌, ◌∙◌, sym, ℕ, false, Result, Ok, Err}
+use Rattle.std.proofs.lemmas.Bool.{false≢true}
 use Rattle.std.specs.Prelude.{IfOk, IfErr, MatchResult}
 use Rattle.medium.specs.Medium.{State, IsSound}
 use Rattle.medium.specs.Moments.{EachCut, LeavesOnly}
@@ -49,7 +50,12 @@ pub starts_late : {M E : Type 0} (state : M → State) (Follows : M → M → Ty
     → MatchResult result (λ store. LeavesMedium state Follows first store.medium) (λ error. LeavesMedium state Follows first (back error))
     → MatchResult result (λ store. StoreStartsBy Late state Follows first store)
     (λ error. StoreRefuses state Follows first (back error) (fault error))
-starts_late state Follows first back fault (Ok store) ok policy err leaves = record { started = ok; policy = policy; leaves = leaves }
+starts_late state Follows first back fault (Ok store) ok policy err leaves = record {
+  started = ok;
+  policy = policy;
+  headroom = λ on. absurd (false≢true (sym policy ∙ on));
+  leaves = leaves;
+}
 starts_late state Follows first back fault (Err error) ok policy err leaves = record { cause = err; leaves = leaves }
 
 pub starts_ahead : {M E : Type 0} (state : M → State) (Follows : M → M → Type 0) (first : M) (back : E → M) (fault : E → StartFault)
@@ -59,7 +65,7 @@ pub starts_ahead : {M E : Type 0} (state : M → State) (Follows : M → M → T
     → MatchResult result (λ store. StoreStartsBy Ahead state Follows first store)
     (λ error. StoreRefuses state Follows first (back error) (fault error))
 starts_ahead state Follows first back fault (Ok store) starts =
-    record { started = starts.started; policy = starts.policy; leaves = starts.leaves }
+    record { started = starts.started; policy = starts.policy; headroom = starts.headroom; leaves = starts.leaves }
 starts_ahead state Follows first back fault (Err error) refused = record { cause = refused.cause; leaves = refused.leaves }
 
 -- ---- of a start that answers all at once

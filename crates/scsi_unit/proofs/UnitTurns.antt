@@ -5,6 +5,7 @@ use Rattle.medium.specs.Medium.{State}
 use Rattle.medium.specs.Sent.{SendsUpTo}
 use Rattle.blocks.specs.Limit.{Shape, limit_of}
 use Rattle.blocks.specs.Background.{IsBackgroundStep}
+use Rattle.blocks.specs.Headroom.{KeepsHeadroom}
 use Rattle.blocks.specs.Looks.{LooksAtLog}
 use Rattle.spec.specs.Book.{Book}
 use Rattle.blocks.specs.StoreValue.{Cached, StoreValue, FitsBook, layout_of, blocks_of, transfer_limit, is_dead, active_of, steps_left}
@@ -72,15 +73,16 @@ steady_through moved good old store on block n out =
 
 -- a unit over a store that made a step in the background
 pub ticks_over : {M : Type 0} (before after : State) (old : UnitValue M) (store : StoreValue M)
-    → IsTurn before after old.store.cached store.cached → IsBackgroundStep before after old.store.cached store.cached
+    → IsTurn before after old.store.cached store.cached → IsBackgroundStep old.store.goes_ahead before after old.store.cached store.cached
     → after.calls ≤ before.calls + 2 → SendsUpTo 2 before after
     → LooksAtLog before after old.store.cached
     → (is_dead store.cached ≡ false → (steps_left store.cached < steps_left old.store.cached) ⊎ (steps_left old.store.cached ≡ 0))
     → (active_of store.cached ≡ active_of old.store.cached) ⊎ (active_of store.cached ≡ [])
-    → store.goes_ahead ≡ old.store.goes_ahead
+    → store.goes_ahead ≡ old.store.goes_ahead → KeepsHeadroom old.store store
     → TicksOver before after old (record old { store = store })
-ticks_over before after old store turn step few sends looks left active policy = record {
+ticks_over before after old store turn step few sends looks left active policy headroom = record {
   step = step;
+  headroom = headroom;
   line = λ book fits. (ticks_line before after old store book turn.goes_on fits, turn.fits book fits);
   cuts = turn.cuts;
   failures_stay = turn.goes_on.failures_stay;

@@ -1,10 +1,15 @@
--- Exactly how many calls of the medium a good command makes that makes the accepted writes durable,
--- by the policy of the store; and what that is where records alone have filled the ring.
+-- Exactly how many calls and flushes a good command makes that makes the accepted writes durable,
+-- by the policy of the store; and what that is where records alone have filled the ring, and where
+-- the ring is never full.
 use Rattle.std.specs.Prelude.{◌≡◌, ⊤, ℕ, ◌+◌, ◌<◌, ◌||◌, not, Bool, true, false, List, [], length}
 use Rattle.std.specs.Prelude.{Result, Ok, Err}
 use Rattle.medium.specs.Medium.{State}
-use Rattle.blocks.specs.Retiring.{both_calls}
+use Rattle.medium.specs.declared.fault.MediumFault.TheVariants.{Flush}
+use Rattle.blocks.specs.Flushing.{finish_flushes, both_flushes}
+use Rattle.blocks.specs.Retiring.{both_calls, finish_calls, finished}
 use Rattle.blocks.specs.StoreValue.{Cached, transfer_limit, active_of, FitsBeside, TakesRange}
+use Rattle.blocks.specs.StoreValue.{wants}
+pub use Rattle.blocks.specs.Headroom.{HasHeadroom, KeepsHeadroom}
 pub use Rattle.blocks.specs.Steady.{IsSteady, steady_calls}
 use Rattle.spec.specs.Sense.{Sense}
 use Rattle.spec.specs.declared.command.Command.{Command}
@@ -12,12 +17,20 @@ use Rattle.spec.specs.declared.command.Command.TheVariants as command
 use Rattle.spec.specs.declared.command.Transfer.{Transfer}
 use Rattle.spec.specs.Rules.{moves_blocks, wants_writing}
 
--- where writes are made durable: the calls that make the one batch durable and then the other, and
--- no other; else none
+-- the calls and the flushes that make the frozen batch durable, and then one of these blocks, and
+-- no other
+pub record CostsBoth (ahead : Bool) (active : List ℕ) (before after : State) (s : Cached)
+    : Type 0 where
+  pub calls : after.calls ≡ before.calls + both_calls ahead s.frozen.numbers active s.log
+  pub flushes : after.made Flush
+      ≡ before.made Flush + both_flushes ahead s.frozen.numbers active s.log
+
+-- where writes are made durable: those for both batches; else none
 abbrev pub CostsFinishing : Bool → Bool → State → State → Cached → Type 0
-CostsFinishing ahead false before after old = after.calls ≡ before.calls
-CostsFinishing ahead true before after old = after.calls
-    ≡ before.calls + both_calls ahead old.frozen.numbers old.active.numbers old.log
+CostsFinishing ahead false before after old =
+    (after.calls ≡ before.calls) × (after.made Flush ≡ before.made Flush)
+CostsFinishing ahead true before after old =
+    CostsBoth ahead old.active.numbers before after old
 
 -- A write that is made durable, and whose range fits beside the batch that takes writes: the same,
 -- with the range in that batch.
@@ -25,15 +38,39 @@ pub record CostsThrough (ahead : Bool) (transfer : Transfer) (before after : Sta
     : Type 0 where
   pub active : List ℕ
   pub takes : TakesRange (transfer_limit old) (active_of old) transfer.address transfer.count active
-  pub calls : after.calls
-      ≡ before.calls + both_calls ahead old.frozen.numbers active old.log
+  pub both : CostsBoth ahead active before after old
+
+-- A write whose range does not fit: the batch before is made durable for it.
+pub record CostsAlone (ahead : Bool) (before after : State) (old : Cached) : Type 0 where
+  pub calls : after.calls ≡ before.calls + finish_calls ahead old.frozen.numbers old.log
+  pub flushes : after.made Flush ≡ before.made Flush + finish_flushes old.frozen.numbers old.log
+
+-- One that is made durable too: then the batch that took writes, and that of the range.
+pub record CostsAloneThrough (ahead : Bool) (transfer : Transfer) (before after : State)
+    (old : Cached) : Type 0 where
+  pub active : List ℕ
+  pub takes : TakesRange (transfer_limit old) (active_of old) transfer.address transfer.count active
+  pub calls : after.calls ≡ before.calls + finish_calls ahead old.frozen.numbers old.log
+      + both_calls ahead old.active.numbers active (finished ahead old.frozen old.log)
+  pub flushes : after.made Flush ≡ before.made Flush + finish_flushes old.frozen.numbers old.log
+      + both_flushes ahead old.active.numbers active (finished ahead old.frozen old.log)
+
+-- a write of some blocks, which is made durable or is not
+pub record CostsWritten (ahead : Bool) (transfer : Transfer) (before after : State) (old : Cached)
+    : Type 0 where
+  pub beside : FitsBeside (transfer_limit old) (active_of old) transfer.address transfer.count
+      → CostsThrough ahead transfer before after old
+  pub alone : ¬ FitsBeside (transfer_limit old) (active_of old) transfer.address transfer.count
+      → CostsAloneThrough ahead transfer before after old
 
 abbrev pub CostsWriting : Bool → Bool → Bool → Transfer → State → State → Cached → Type 0
-CostsWriting ahead false durable transfer before after old = after.calls ≡ before.calls
-CostsWriting ahead true false transfer before after old = ⊤
+CostsWriting ahead false durable transfer before after old =
+    (after.calls ≡ before.calls) × (after.made Flush ≡ before.made Flush)
+CostsWriting ahead true false transfer before after old =
+    ¬ FitsBeside (transfer_limit old) (active_of old) transfer.address transfer.count
+    → CostsAlone ahead before after old
 CostsWriting ahead true true transfer before after old =
-    FitsBeside (transfer_limit old) (active_of old) transfer.address transfer.count
-    → CostsThrough ahead transfer before after old
+    CostsWritten ahead transfer before after old
 
 -- the same of a good command: a READ reads besides
 abbrev pub CostsAfter : Bool → Result Command Sense → List ℕ → Bool → State → State → Cached
@@ -56,3 +93,18 @@ abbrev pub SteadyIsCheap : Type 0
 SteadyIsCheap = (active : List ℕ) (old : Cached) → IsSteady old.log → old.frozen.numbers ≡ []
     → 0 < length active
     → both_calls true old.frozen.numbers active old.log ≡ steady_calls active old.log
+
+-- Where a unit goes ahead and has headroom, each record flushes once, and nothing else does: one
+-- flush for each batch that holds blocks. A record that is under way is that of the first.
+abbrev pub RecordsFlushOnce : Type 0
+RecordsFlushOnce = (active : List ℕ) (old : Cached) → HasHeadroom old.log
+    → (0 < old.log.steps_left → wants old.frozen.numbers ≡ 1)
+    → (both_flushes true old.frozen.numbers active old.log
+    ≡ wants old.frozen.numbers + wants active)
+    × (finish_flushes old.frozen.numbers old.log ≡ wants old.frozen.numbers)
+    × HasHeadroom (finished true old.frozen old.log)
+
+-- what records cost
+pub record AreCostLaws : Type 0 where
+  pub steady : SteadyIsCheap
+  pub once : RecordsFlushOnce

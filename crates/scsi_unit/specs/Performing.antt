@@ -11,7 +11,7 @@ use Rattle.spec.specs.Waiting.{Waiting, after_failure}
 use Rattle.spec.specs.declared.command.Command.{Command}
 use Rattle.spec.specs.declared.command.Transfer.{Transfer}
 use Rattle.spec.specs.Rules.{UnitState, write_after, IsOutcome}
-use Rattle.scsi_unit.specs.Costs.{CostsAfter}
+use Rattle.scsi_unit.specs.Costs.{CostsAfter, KeepsHeadroom}
 use Rattle.scsi_unit.specs.UnitValue.{UnitValue, unit_limit, state_of, FitsUnit}
 use Rattle.scsi_unit.specs.Serving.{has_refused, wants_medium, plain_write, ActiveAfter, LogAfter}
 
@@ -59,6 +59,7 @@ pub record Spares {M : Type 0} (before after : State) (told : Result Command Sen
   pub cost : is_ok answer ≡ true
       → CostsAfter old.store.goes_ahead told taken old.write_cache before after old.store.cached
   pub policy : new.store.goes_ahead ≡ old.store.goes_ahead
+  pub headroom : KeepsHeadroom old.store new.store
 
 -- the answer of a command that sends no data
 abbrev pub silent : Result (Unit {0}) Sense → Result (List ℕ) Sense

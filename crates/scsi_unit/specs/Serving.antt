@@ -9,6 +9,7 @@ use Rattle.blocks.specs.Background.{IsBackgroundStep}
 use Rattle.spec.specs.Book.{Book}
 use Rattle.blocks.specs.Finding.{MayFind, FoundWith}
 use Rattle.blocks.specs.Calls.{TurnsBatches}
+use Rattle.blocks.specs.Headroom.{KeepsHeadroom}
 use Rattle.blocks.specs.Looks.{LooksAtLog}
 use Rattle.blocks.specs.Passing.{MayEmpty}
 use Rattle.blocks.specs.Retiring.{finished}
@@ -152,17 +153,21 @@ pub record IsSparing {M : Type 0} (before after : State) (block taken : List ℕ
   pub log : is_ok answer ≡ true
       → LogAfter old.store.goes_ahead (command_for old block) taken old.write_cache
       old.store.cached new.store.cached
-  -- one that makes writes durable makes exactly the calls for that
+  -- one that makes writes durable makes exactly the calls and the flushes for that
   pub cost : is_ok answer ≡ true
       → CostsAfter old.store.goes_ahead (command_for old block) taken old.write_cache before after
       old.store.cached
+  -- where the unit goes ahead, a ring that was not full at the start never is
+  pub headroom : KeepsHeadroom old.store new.store
 
 -- ---- a step in the background
 
 -- A step in the background was made by a unit over its medium.
 pub record TicksOver {M : Type 0} (before after : State) (old new : UnitValue M) : Type 0 where
   -- exactly one step of the store, by the order of its work
-  pub step : IsBackgroundStep before after old.store.cached new.store.cached
+  pub step : IsBackgroundStep old.store.goes_ahead before after old.store.cached new.store.cached
+  -- a ring that was not full at the start never is, where the unit goes ahead
+  pub headroom : KeepsHeadroom old.store new.store
   pub line : (book : Book) → FitsUnit before old book
       → Ticks (has_refused before after) (state_of old book) (state_of new book)
       × FitsUnit after new book

@@ -1,6 +1,7 @@
 -- How a unit starts over a medium, and why it is refused. The layers above know the images of a
 -- medium by the words that are handed on here and in Books, and open none of them.
-use Rattle.std.specs.Prelude.{◌≡◌, ℕ}
+use Rattle.std.specs.Prelude.{◌≡◌, ℕ, true}
+use Rattle.blocks.specs.Headroom.{HasHeadroom}
 use Rattle.medium.specs.Medium.{State}
 use Rattle.medium.specs.Moments.{EachCut, LeavesOnly}
 use Rattle.spec.specs.Book.{Book}
@@ -29,6 +30,8 @@ pub record IsUnitStartedBy {M : Type 0} (retiring : Retiring) (before after : St
     (identity : Identification) (unit : UnitValue M) : Type 0 where
   pub store : IsStarted before after unit.store.cached
   pub retires : RetiresBy retiring unit
+  -- where it goes ahead its ring is never full
+  pub headroom : unit.store.goes_ahead ≡ true → HasHeadroom unit.store.cached.log
   -- its limit is that of the image
   pub limit : HasLimit before.size (unit_limit unit) before.content
   pub opened : (book : Book) → state_of unit book ≡ opened_unit (unit_limit unit) identity book
@@ -70,6 +73,7 @@ pub record StoreStartsBy {M : Type 0} (retiring : Retiring) (state : M → State
     (Follows : M → M → Type 0) (medium : M) (store : StoreValue M) : Type 0 where
   pub started : IsStarted (state medium) (state store.medium) store.cached
   pub policy : store.goes_ahead ≡ goes_ahead_by retiring (layout_of store.cached)
+  pub headroom : store.goes_ahead ≡ true → HasHeadroom store.cached.log
   pub leaves : LeavesMedium state Follows medium store.medium
 
 -- no store starts for a unit, and the medium comes back

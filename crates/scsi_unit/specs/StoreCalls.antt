@@ -5,6 +5,10 @@ use Rattle.medium.specs.Medium.{State}
 use Rattle.blocks.specs.Background.{IsBackgroundStep}
 use Rattle.spec.specs.Book.{Book, array_of, blocks_at, promised, write_of}
 use Rattle.blocks.specs.Calls.{reads_of, TurnsBatches}
+use Rattle.blocks.specs.Flushing.{finish_flushes}
+use Rattle.blocks.specs.Headroom.{KeepsHeadroom}
+use Rattle.blocks.specs.Retiring.{finish_calls}
+use Rattle.medium.specs.declared.fault.MediumFault.TheVariants.{Flush}
 use Rattle.blocks.specs.Looks.{LooksAtLog, LooksAtBlocks}
 use Rattle.medium.specs.Sent.{SendsUpTo}
 use Rattle.blocks.specs.Passing.{MayEmpty}
@@ -19,11 +23,12 @@ use Rattle.scsi_unit.specs.Serving.{IsEmptied, IsFinished}
 use Rattle.scsi_unit.specs.Calls.{calls_of_sync}
 use Rattle.scsi_unit.specs.Costs.{CostsFinishing}
 
--- the medium comes after what it was, by calls alone, and the policy stays
+-- the medium comes after what it was, by calls alone, the policy stays, and headroom is kept
 pub record ComesAfter {M : Type 0} (Follows : M → M → Type 0) (old new : StoreValue M)
     : Type 0 where
   pub medium : Follows old.medium new.medium
   pub policy : new.goes_ahead ≡ old.goes_ahead
+  pub headroom : KeepsHeadroom old new
 
 -- the store is live behind a good answer, and dead behind a write error
 abbrev pub TellsDeath : Result (Unit {0}) Sense → Cached → Type 0
@@ -72,12 +77,20 @@ pub record WritesBlocks (ahead : Bool) (transfer : Transfer) (taken : List ℕ)
   pub looks : LooksAtLog before after old
   pub paid : OnOk result (after.calls + calls_of_sync new
       ≤ before.calls + calls_of_sync old + 2 * batch_steps old)
+  -- one that does not fit beside the active batch makes the frozen one durable
+  pub alone_calls
+      : ¬ FitsBeside (transfer_limit old) (active_of old) transfer.address transfer.count
+      → OnOk result (after.calls ≡ before.calls + finish_calls ahead old.frozen.numbers old.log)
+  pub alone_flushes
+      : ¬ FitsBeside (transfer_limit old) (active_of old) transfer.address transfer.count
+      → OnOk result (after.made Flush
+      ≡ before.made Flush + finish_flushes old.frozen.numbers old.log)
 
 -- One step in the background: by the order of the store's work, of at most two calls, and with less
 -- left to do behind it, or nothing was left.
-pub record StepsBehind (before after : State) (old new : Cached) : Type 0 where
+pub record StepsBehind (ahead : Bool) (before after : State) (old new : Cached) : Type 0 where
   pub turn : IsTurn before after old new
-  pub order : IsBackgroundStep before after old new
+  pub order : IsBackgroundStep ahead before after old new
   pub calls : after.calls ≤ before.calls + 2
   pub sent : SendsUpTo 2 before after
   pub looks : LooksAtLog before after old

@@ -60,15 +60,16 @@ pub(crate) fn write_blocks<M: Medium>(
     ensures passes { PassesWrite M.follows transfer store.old store.new result }
 {
     let blocks = &taken[..(BLOCK * transfer.count) as usize];
-    store
-        .write(transfer.address, blocks)
-        .map_err(|_| Sense::WRITE_ERROR)
+    match store.write(transfer.address, blocks) {
+        Ok(()) => Ok(()),
+        Err(_) => Err(Sense::WRITE_ERROR),
+    }
 }
 
 /// Makes a step in the background.
 pub(crate) fn step<M: Medium>(store: &mut Store<M>)
-    ensures steps { StepsBehind (M.state store.old.medium) (M.state store.new.medium)
-        store.old.cached store.new.cached }
+    ensures steps { StepsBehind store.old.goes_ahead (M.state store.old.medium)
+        (M.state store.new.medium) store.old.cached store.new.cached }
     ensures follows { ComesAfter M.follows store.old store.new }
 {
     store.tick();

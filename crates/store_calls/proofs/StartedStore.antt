@@ -9,7 +9,9 @@ use Rattle.window.specs.Looks.{near_in_sight, none_missed}
 use Rattle.recovery.specs.Causes.{start_fault_of}
 use Rattle.recovery.specs.declared.start_fault.StartFault.{StartFault}
 use Rattle.recovery.specs.declared.start_fault.StartFault.TheVariants as fault
+use Rattle.std.specs.Prelude.{true}
 use Rattle.blocks.specs.Ahead.{may_go_ahead}
+use Rattle.blocks.specs.Headroom.{HasHeadroom}
 use Rattle.blocks.specs.Started.{IsStarted, IsStartCause, StartLeaves, LeavesMedium}
 use Rattle.blocks.specs.StoreValue.{layout_of}
 use Rattle.blocks.proofs.KnownImages.{each_ours, finds, is_cause_for}
@@ -39,8 +41,8 @@ holds_log first new started follows holds =
 pub began : (first m : Window) (new held : Store) → m ≡ first → held ≡ new → length m.outbox ≡ 0
     → IsStarted (state_of m) (state_of new.medium) new.cached → LeavesMedium state_of ComesAfter m new.medium
     → CoversDevice m new.medium → CoversParts m new.medium → IsServed m new.medium → IsRoomy new
-    → new.goes_ahead ≡ may_go_ahead (layout_of new.cached) → Begins first held
-began first m new held on same empty started medium covers parts served roomy policy =
+    → new.goes_ahead ≡ may_go_ahead (layout_of new.cached) → (new.goes_ahead ≡ true → HasHeadroom new.cached.log) → Begins first held
+began first m new held on same empty started medium covers parts served roomy policy headroom =
     subst (λ (s : Store). Begins first s) (sym same)
     (subst (λ (w : Window). Begins w new) on (record {
       started = started;
@@ -53,6 +55,7 @@ began first m new held on same empty started medium covers parts served roomy po
       holds = holds_log m new started medium.follows;
       roomy = roomy;
       policy = policy;
+      headroom = headroom;
     }))
 
 -- ---- a start that was refused: its own calls say why

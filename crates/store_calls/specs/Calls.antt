@@ -13,7 +13,11 @@ use Rattle.blocks.specs.Passing.{KeepsStore, PassesOn, PassesPaid, IsUntouched}
 use Rattle.blocks.specs.Sent.{batch_sends}
 use Rattle.blocks.specs.Settled.{IsSettled}
 use Rattle.blocks.specs.StoreValue.{Cached, layout_of, blocks_of, transfer_limit, is_dead}
-use Rattle.blocks.specs.StoreValue.{steps_left, FitsBook}
+use Rattle.blocks.specs.StoreValue.{steps_left, active_of, wants, FitsBeside, FitsBook}
+use Rattle.blocks.specs.Flushing.{finish_flushes, both_flushes}
+use Rattle.blocks.specs.Headroom.{HasHeadroom, KeepsHeadroom, records_of}
+use Rattle.blocks.specs.Retiring.{finish_calls, both_calls}
+use Rattle.medium.specs.declared.fault.MediumFault.TheVariants.{Flush}
 use Rattle.blocks.specs.Turns.{IsTurn, IsWriteTurn}
 use Rattle.store_calls.specs.Stores.{Store}
 use Rattle.store_calls.specs.Outbox.{Shows, ShowsRun, IsNoRoom}
@@ -88,9 +92,29 @@ pub record IsWritten (write : Write) (accepted : Bool) (old new : Store) : Type 
   pub dead : is_dead new.cached ≡ not accepted
   pub appends : Appends old new
 
+-- What a good write of count blocks costs: no call of the device where its range fits beside the
+-- batch that takes writes; else the calls and the flushes that make the batch before that durable,
+-- and no other.
+pub record CostsWrite (address count : ℕ) (old new : Store) : Type 0 where
+  pub beside : FitsBeside (transfer_limit old.cached) (active_of old.cached) address count
+      → new.medium ≡ old.medium
+  pub calls : ¬ FitsBeside (transfer_limit old.cached) (active_of old.cached) address count
+      → (state_of new.medium).calls ≡ (state_of old.medium).calls
+      + finish_calls old.goes_ahead old.cached.frozen.numbers old.cached.log
+  pub flushes : ¬ FitsBeside (transfer_limit old.cached) (active_of old.cached) address count
+      → (state_of new.medium).made Flush ≡ (state_of old.medium).made Flush
+      + finish_flushes old.cached.frozen.numbers old.cached.log
+  -- one flush for that batch, where the store retires ahead and has headroom
+  pub once : old.goes_ahead ≡ true → HasHeadroom old.cached.log
+      → ¬ FitsBeside (transfer_limit old.cached) (active_of old.cached) address count
+      → (state_of new.medium).made Flush
+      ≡ (state_of old.medium).made Flush + wants old.cached.frozen.numbers
+  pub headroom : old.goes_ahead ≡ true → HasHeadroom old.cached.log → HasHeadroom new.cached.log
+
 abbrev pub WritesBlocks : ℕ → List ℕ → Store → Store → Result (Unit {0}) CallFault → Type 0
 WritesBlocks address bytes old new (Ok done) = MayMove old.cached address (length bytes)
     × IsWritten (write_of address bytes) true old new
+    × CostsWrite address (length bytes / 512) old new
 WritesBlocks address bytes old new (Err why) =
     (MayNotMove old.cached address (length bytes) why × (new ≡ old))
     ⊎ ((why ≡ fault.Dead) × MayMove old.cached address (length bytes)
@@ -103,18 +127,34 @@ pub record IsSynced (old new : Store) : Type 0 where
   pub passes : PassesPaid state_of ComesAfter (2 * batch_sends old.cached) old new
   pub appends : Appends old new
 
+-- What a good sync costs: the calls and the flushes that make the one batch durable, and then the
+-- other, and no other.
+pub record CostsSync (old new : Store) : Type 0 where
+  pub calls : (state_of new.medium).calls ≡ (state_of old.medium).calls + both_calls old.goes_ahead
+      old.cached.frozen.numbers old.cached.active.numbers old.cached.log
+  pub flushes : (state_of new.medium).made Flush ≡ (state_of old.medium).made Flush
+      + both_flushes old.goes_ahead old.cached.frozen.numbers old.cached.active.numbers
+      old.cached.log
+  -- one flush for each record, where the store retires ahead and has headroom
+  pub once : old.goes_ahead ≡ true → HasHeadroom old.cached.log
+      → (state_of new.medium).made Flush
+      ≡ (state_of old.medium).made Flush + records_of old.cached
+  pub headroom : KeepsHeadroom old new
+
 -- All accepted writes are promised, or the store is dead. One that was dead stays as it is.
 abbrev pub SyncsStore : Store → Store → Result (Unit {0}) CallFault → Type 0
 SyncsStore old new (Ok done) = IsSynced old new × (is_dead new.cached ≡ false)
     × ((book : Book) → FitsBook (state_of old.medium) old.cached book
-    → FitsBook (state_of new.medium) new.cached (promised book))
+    → FitsBook (state_of new.medium) new.cached (promised book)) × CostsSync old new
 SyncsStore old new (Err why) = (why ≡ fault.Dead) × IsSynced old new
     × (is_dead new.cached ≡ true) × (is_dead old.cached ≡ true → new ≡ old)
 
 -- a step in the background
 pub record IsStep (old new : Store) : Type 0 where
   pub passes : PassesOn state_of ComesAfter IsTurn 2 2 old new
-  pub order : IsBackgroundStep (state_of old.medium) (state_of new.medium) old.cached new.cached
+  pub order : IsBackgroundStep old.goes_ahead (state_of old.medium) (state_of new.medium)
+      old.cached new.cached
+  pub headroom : KeepsHeadroom old new
   pub counts : CountsDown old new
   pub appends : Appends old new
 

@@ -1,5 +1,5 @@
 -- How a store starts on the first sectors of a device.
-use Rattle.std.specs.Prelude.{◌≡◌, ◌≢◌, ◌⊎◌, ℕ, ◌+◌, ◌*◌, ◌%◌, ◌<◌, List, length}
+use Rattle.std.specs.Prelude.{◌≡◌, ◌≢◌, ◌⊎◌, ℕ, ◌+◌, ◌*◌, ◌%◌, ◌<◌, List, length, true}
 use Rattle.medium.specs.Sent.{sent}
 use Rattle.window.specs.Window.{Window, state_of, ComesAfter, CoversDevice, IsServed}
 use Rattle.recovery.specs.declared.start_fault.StartFault.{StartFault}
@@ -7,6 +7,7 @@ use Rattle.recovery.specs.declared.start_fault.StartFault.TheVariants as start
 use Rattle.spec.specs.Book.{Book}
 use Rattle.blocks.specs.Opening.{OpensOn, IsCauseFor}
 use Rattle.blocks.specs.Ahead.{may_go_ahead}
+use Rattle.blocks.specs.Headroom.{HasHeadroom}
 use Rattle.blocks.specs.Started.{IsStarted, IsStartCause, StartLeaves, LeavesMedium}
 use Rattle.blocks.specs.StoreValue.{layout_of}
 use Rattle.store_calls.specs.Stores.{Store}
@@ -29,6 +30,8 @@ pub record Begins (first : Window) (new : Store) : Type 0 where
   pub roomy : IsRoomy new
   -- it retires ahead where its log allows it
   pub policy : new.goes_ahead ≡ may_go_ahead (layout_of new.cached)
+  -- its ring is never full then
+  pub headroom : new.goes_ahead ≡ true → HasHeadroom new.cached.log
 
 -- A start on this medium was refused, and left that one. Where a write or a flush was refused, the
 -- writes and flushes of this very start had no room together; no read was where the first sectors

@@ -51,6 +51,7 @@ returns-in-Ok-clause-passes g c =
         sent = c.in-Ok.ensures.passes.calls.sent;
         layout_stays = serves.layout_stays;
         policy_stays = serves.policy_stays;
+        headroom = c.in-Ok.ensures.sparing.headroom;
         faulted = faulted_rests g.M.Medium.state _ _ _ _ _ c.in-Ok.ensures.sparing;
       };
       looks = rw c.as_slice.ensures.value at c.in-Ok.ensures.passes.calls.looks;
@@ -94,6 +95,7 @@ returns-in-Err-clause-passes g c =
         sent = c.in-Err.ensures.passes.calls.sent;
         layout_stays = serves.layout_stays;
         policy_stays = serves.policy_stays;
+        headroom = c.in-Err.ensures.sparing.headroom;
         faulted = faulted_rests g.M.Medium.state _ _ _ _ _ c.in-Err.ensures.sparing;
       };
       looks = rw c.as_slice.ensures.value at c.in-Err.ensures.passes.calls.looks;

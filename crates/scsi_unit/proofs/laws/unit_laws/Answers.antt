@@ -1,6 +1,6 @@
 use Rattle.scsi_unit.proofs.UnitLaws.{keeps_intentions, is_function, keeps_writes, writes_are_writes, stays_faulted, ticks_only}
 use Rattle.scsi_unit.proofs.UnitLaws.{keeps_limit, knows_images}
-use Rattle.scsi_unit.proofs.SparedCalls.{steady_is_cheap}
+use Rattle.scsi_unit.proofs.SparedCalls.{steady_is_cheap, records_flush_once}
 use Rattle.scsi_unit.proofs.laws.unit_laws.Goals as goal
 
 pub returns-clause-commands : goal.returns-clause-commands
@@ -21,5 +21,5 @@ returns-clause-limit c = keeps_limit
 pub returns-clause-images : goal.returns-clause-images
 returns-clause-images c = knows_images
 
-pub returns-clause-steady : goal.returns-clause-steady
-returns-clause-steady c = steady_is_cheap
+pub returns-clause-costs : goal.returns-clause-costs
+returns-clause-costs c = record { steady = steady_is_cheap; once = records_flush_once }

@@ -34,4 +34,4 @@ returns-in-Ok-new-clause-ok c =
     (c.waiting-waiting.ensures.served _ follows)
     (roomy c.args.near.now c.args.device.now.bytes c.args.sectors c.args.span c.args.room c.in_ok-medium.medium c.in-Ok.store
     c.in_ok-medium.ensures.ok c.in_ok-medium.ensures.some (search rules) starts.started follows)
-    starts.policy
+    starts.policy starts.headroom

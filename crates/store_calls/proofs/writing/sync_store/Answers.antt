@@ -20,6 +20,12 @@ returns-in-Ok c = (
   synced c.args.store.now c.sync.new.self c.foresee.ensures c.sync.ensures.passes,
   c.in-Ok.ensures.answers.answer,
   λ book fits. c.in-Ok.ensures.ok book fits,
+  record {
+    calls = c.in-Ok.ensures.cost.exactly;
+    flushes = c.in-Ok.ensures.cost.flushes;
+    once = c.in-Ok.ensures.cost.each_once;
+    headroom = c.sync.ensures.batches.headroom;
+  },
 )
 
 pub returns-in-Err : goal.returns-in-Err

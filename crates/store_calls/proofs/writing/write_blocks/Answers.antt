@@ -27,6 +27,13 @@ returns-in-Ok c = (
   c.in_ok-may_move.ensures.ok,
   written (write_of c.args.address c.args.bytes.now) true c.args.store.now c.write.new.self c.foresee.ensures c.in-Ok.ensures.passes
       c.in-Ok.ensures.answers.answer,
+  record {
+    beside = λ fits. (c.write.ensures.quiet fits).0;
+    calls = c.in-Ok.ensures.cost.alone;
+    flushes = c.in-Ok.ensures.cost.flushes;
+    once = c.in-Ok.ensures.cost.once;
+    headroom = c.in-Ok.ensures.batches.headroom;
+  },
 )
 
 pub returns-in-Err : goal.returns-in-Err

@@ -15,10 +15,11 @@ invariant_of-self g c =
     let idle = ap (λ v. v.cached.log.steps_left) c.self.view_is ∙ c.requires.idle in
     let away = rw (← c.self.view_is) at c.requires.away in
     elim c.match-home_ahead.branch [
-      | in-Ok w ↦ still_kept before after i.sizes _ c.home_ahead.new.self i.writing w.in-Ok.ensures.passes.size idle
+      | in-Ok w ↦ still_kept before after i.sizes _ c.home_ahead.new.self i.writing i.goes_ahead w.in-Ok.ensures.passes.size idle
           (home_retained _ c.home_ahead.new.self away (w.in-Ok.ensures.answers.ok away)) c.self.invariant
       | in-Err w ↦
-          died_kept before after i.sizes _ c.home_ahead.new.self i.writing w.in-Err.ensures.passes.size w.in-Err.ensures.answers.err
+          died_kept before after i.sizes _ c.home_ahead.new.self i.writing i.goes_ahead w.in-Err.ensures.passes.size
+          w.in-Err.ensures.answers.err
           c.self.invariant
     ]
 

@@ -65,6 +65,13 @@ returns-then-self-clause-batch g c = record {
       let log_is : c.self.inside.log ≡ c.args.self.now.cached.log = ap (λ v. v.cached.log) c.self.view_is in
       let steps = ap (λ (log : LogValue). log.steps_left) log_is in
       absurd (omega (arith, some, steps, steady.idle));
+  some =
+      let live : is_dead c.args.self.now.cached ≡ false = sym c.is_dead.ensures ∙ c.if-is_dead.false in
+      let frozen_is : c.self.inside.frozen ≡ c.args.self.now.cached.frozen = ap (λ v. v.cached.frozen) c.self.view_is in
+      let under_way = c.self.invariant.writes (rw (← c.self.view_is) at live) c.if-self.true in
+      let listed : 0 < length c.args.self.now.cached.frozen.numbers =
+      subst (λ (batch : Entries). 0 < length batch.numbers) frozen_is (c.self.invariant.some under_way) in
+      on_ok_weaker c.write_out.result (λ done begun. listed) c.write_out.ensures.batch.done;
 }
 
 pub returns-then-is_empty-clause-passes : goal.returns-then-is_empty-clause-passes
@@ -143,6 +150,12 @@ returns-then-is_empty-clause-batch g c = record {
       let none = ap (λ (numbers : List ℕ). length numbers) empty in
       absurd (omega (arith, none, listed));
   stays = λ on steady. steady;
+  some = λ begun.
+      let live : is_dead c.args.self.now.cached ≡ false = sym c.is_dead.ensures ∙ c.if-is_dead.false in
+      let log_is : c.self.inside.log ≡ c.args.self.now.cached.log = ap (λ v. v.cached.log) c.self.view_is in
+      let idle : c.args.self.now.cached.log.steps_left ≡ 0 = subst (λ (log : LogValue). log.steps_left ≡ 0) log_is
+      (c.self.invariant.rests (rw (← c.self.view_is) at live) c.if-self.false) in
+      absurd (omega (arith, begun, idle));
 }
 
 pub returns-clause-batch : goal.returns-clause-batch
@@ -183,6 +196,7 @@ returns-clause-batch g c =
           let stays = stays_on old.frozen.numbers (firsts_in old.frozen) old.log steady (c.in_ok-make_ready.ensures.ready.blocks on) in
           on_ok_weaker c.write_out-2.result
           (λ is. subst (λ (l : LogValue). IsSteady l) (sym (is ∙ ap (λ (b : Bool). finished b old.frozen old.log) on)) stays) finishes;
+      some = on_ok_weaker c.write_out-2.result (λ done begun. some) c.write_out-2.ensures.batch.done;
     }
 
 pub returns-in_err-begin-clause-passes : goal.returns-in_err-begin-clause-passes
@@ -260,6 +274,7 @@ returns-in_err-begin-clause-batch g c = record {
   active = search rules;
   fills = λ on filling listed. search rules;
   stays = λ on steady. search rules;
+  some = search rules;
 }
 
 pub returns-then-self-clause-passes : goal.returns-then-self-clause-passes

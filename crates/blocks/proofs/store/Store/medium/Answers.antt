@@ -5,7 +5,8 @@ use Rattle.blocks.proofs.AllHome.{settled}
 use Rattle.blocks.proofs.store.Store.medium.Goals as goal
 
 pub returns-clause-limits : goal.returns-clause-limits
-returns-clause-limits g c = rw (← c.self.view_is) (has_limits _ c.self.inside.sizes _ c.self.inside.writing c.self.invariant)
+returns-clause-limits g c =
+    let i = c.self.inside in rw (← c.self.view_is) (has_limits _ i.sizes _ i.writing i.goes_ahead c.self.invariant)
 
 pub returns-clause-at_rest : goal.returns-clause-at_rest
 returns-clause-at_rest g c book fits ours = exits _ _ book fits ours

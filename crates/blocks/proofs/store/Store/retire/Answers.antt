@@ -15,10 +15,11 @@ invariant_of-self g c =
     let after = (g.M.Medium.state c.retire_step.new.m).size in
     let idle = ap (λ v. v.cached.log.steps_left) c.self.view_is ∙ c.requires.idle in
     elim c.match-retire_step.branch [
-      | in-Ok w ↦ still_kept before after i.sizes _ c.retire_step.new.self i.writing w.in-Ok.ensures.passes.size idle
+      | in-Ok w ↦ still_kept before after i.sizes _ c.retire_step.new.self i.writing i.goes_ahead w.in-Ok.ensures.passes.size idle
           (retained _ c.retire_step.new.self (λ none. (w.in-Ok.ensures.none none).1) w.in-Ok.ensures.answers.ok) c.self.invariant
       | in-Err w ↦
-          died_kept before after i.sizes _ c.retire_step.new.self i.writing w.in-Err.ensures.passes.size w.in-Err.ensures.answers.err
+          died_kept before after i.sizes _ c.retire_step.new.self i.writing i.goes_ahead w.in-Err.ensures.passes.size
+          w.in-Err.ensures.answers.err
           c.self.invariant
     ]
 

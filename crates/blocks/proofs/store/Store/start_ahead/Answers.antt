@@ -3,6 +3,8 @@ use Rattle.journal.specs.Places.{Shape}
 use Rattle.blocks.specs.Ahead.{may_go_ahead}
 use Rattle.blocks.specs.Started.{IsStarted, LeavesMedium}
 use Rattle.blocks.specs.StoreValue.{Cached, layout_of}
+use Rattle.blocks.proofs.Headroom.{starts_with_room}
+use Rattle.blocks.proofs.StartedStore.{with_policy}
 use Rattle.blocks.proofs.SteadyRing.{starts_filling, starts_reaching}
 use Rattle.blocks.proofs.store.Store.start_ahead.Goals as goal
 
@@ -22,7 +24,15 @@ returns g c =
         policy = policy;
         filling = λ on. starts_filling before after cached started (sym policy ∙ on);
         reaches = λ on. starts_reaching before after cached started (sym policy ∙ on);
+        headroom = λ on. starts_with_room before after cached started (sym policy ∙ on);
         leaves = subst (λ v. LeavesMedium g.M.Medium.state g.M.Medium.follows c.args.medium v.medium) (sym c.store.view_is)
             c.in-Ok.ensures.leaves;
       };
     }
+
+pub invariant_of-store : goal.invariant_of-store
+invariant_of-store g c =
+    let i = c.store.inside in
+    with_policy (g.M.Medium.state i.medium).size i.sizes (record { log = i.log; active = i.active; frozen = i.frozen }) i.writing
+    i.goes_ahead c.may_go_ahead.result c.store.invariant
+    (λ on. ap (λ (shape : Shape). may_go_ahead shape) c.store.invariant.shape ∙ (sym c.may_go_ahead.ensures ∙ on))

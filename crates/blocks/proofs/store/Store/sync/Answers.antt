@@ -1,4 +1,5 @@
 use Rattle.std.proofs.Common.{◌≡◌, ◌∙◌, Bool, ap, sym, subst, arith, [], length, rules}
+use Rattle.std.specs.Prelude.{OnOk, true}
 use Rattle.std.proofs.lemmas.Result.{on_ok_weaker}
 use Rattle.cache.specs.Entries.{Entries}
 use Rattle.redo_log.specs.Value.{LogValue}
@@ -6,7 +7,9 @@ use Rattle.journal.specs.Places.{Shape}
 use Rattle.blocks.specs.Retiring.{finished, finish_calls, both_calls}
 use Rattle.medium.specs.Sent.{sent}
 use Rattle.medium.specs.declared.fault.MediumFault.TheVariants.{Flush}
-use Rattle.blocks.specs.Flushing.{finish_flushes}
+use Rattle.blocks.specs.Flushing.{finish_flushes, both_flushes}
+use Rattle.blocks.proofs.Headroom.{both_each, headroom_finished, ok_of}
+use Rattle.blocks.specs.Headroom.{HasHeadroom}
 use Rattle.blocks.specs.Sent.{most_sent}
 use Rattle.blocks.specs.Steady.{IsSteady, IsFilling, IsFuller}
 use Rattle.blocks.specs.StoreValue.{Cached, firsts_in}
@@ -53,49 +56,60 @@ returns-clause-ok g c book fits =
     on_ok_weaker c.finish-2.result (λ done. settles _ _ book done.1 active fitting) c.finish-2.ensures.batch.done
 
 pub returns-clause-batches : goal.returns-clause-batches
-returns-clause-batches g c = record {
-  active = search rules;
-  rests = λ none.
-      let old = c.args.self.now.cached in
-      let no_frozen = none_of old.frozen.numbers (omega (arith, none)) in
-      let no_active = none_of old.active.numbers (omega (arith, none)) in
-      let empty : c.freeze.new.self.cached.frozen.numbers ≡ [] =
-      ap (λ (cached : Cached). cached.frozen.numbers) c.freeze.ensures.swapped
-      ∙ ap (λ (batch : Entries). batch.numbers) c.finish.ensures.batch.active
-      ∙ no_active in
-      ap (λ v. v.medium) (c.finish-2.ensures.batch.rests empty)
-      ∙ c.freeze.ensures.keeps.medium
-      ∙ ap (λ v. v.medium) (c.finish.ensures.batch.rests no_frozen);
-  waits = search rules;
-  finishes =
-      let old = c.args.self.now.cached in
-      let half = c.finish.new.self.cached in
-      let ahead = c.args.self.now.goes_ahead in
-      let policy = c.freeze.ensures.keeps.policy ∙ c.finish.ensures.passes.policy in
-      let first = c.in_ok-finish.ensures.batch.finishes in
-      let is = ap (λ (b : Bool). finished b c.freeze.new.self.cached.frozen c.freeze.new.self.cached.log) policy
-      ∙ ap (λ (cached : Cached). finished ahead cached.frozen cached.log) c.freeze.ensures.swapped
-      ∙ ap (λ (batch : Entries). finished ahead batch half.log) c.finish.ensures.batch.active
-      ∙ ap (λ (l : LogValue). finished ahead old.active l) first in
-      on_ok_weaker c.finish-2.result (λ done. done ∙ is) c.finish-2.ensures.batch.finishes;
-  retires = search rules;
-  fills = λ on filling none listed.
-      let old = c.args.self.now.cached in
-      let policy = c.freeze.ensures.keeps.policy ∙ c.finish.ensures.passes.policy in
-      let log_is : c.freeze.new.self.cached.log ≡ old.log =
-      ap (λ (cached : Cached). cached.log) c.freeze.ensures.swapped ∙ ap (λ v. v.cached.log) (c.finish.ensures.batch.rests none) in
-      let batch_is = ap (λ (cached : Cached). length cached.frozen.numbers) c.freeze.ensures.swapped
-      ∙ ap (λ (batch : Entries). length batch.numbers) c.finish.ensures.batch.active in
-      let half : IsFilling c.freeze.new.self.cached.log = subst (λ (l : LogValue). IsFilling l) (sym log_is) filling in
-      on_ok_weaker c.finish-2.result (λ fuller. subst (λ (l : LogValue). IsFuller l c.finish-2.new.self.cached.log) log_is fuller)
-      (c.finish-2.ensures.batch.fills (policy ∙ on) half (omega (arith, batch_is, listed)));
-  stays = λ on steady.
-      let policy = c.freeze.ensures.keeps.policy ∙ c.finish.ensures.passes.policy in
-      let log_is : c.freeze.new.self.cached.log ≡ c.finish.new.self.cached.log =
-      ap (λ (cached : Cached). cached.log) c.freeze.ensures.swapped in
-      let first : IsSteady c.finish.new.self.cached.log = c.in_ok-finish.ensures.batch.stays on steady in
-      c.finish-2.ensures.batch.stays (policy ∙ on) (subst (λ (l : LogValue). IsSteady l) (sym log_is) first);
-}
+returns-clause-batches g c =
+    let finishes : OnOk c.finish-2.result (c.finish-2.new.self.cached.log
+    ≡ finished c.args.self.now.goes_ahead c.args.self.now.cached.active
+    (finished c.args.self.now.goes_ahead c.args.self.now.cached.frozen c.args.self.now.cached.log)) =
+    let old = c.args.self.now.cached in
+    let half = c.finish.new.self.cached in
+    let ahead = c.args.self.now.goes_ahead in
+    let policy = c.freeze.ensures.keeps.policy ∙ c.finish.ensures.passes.policy in
+    let first = c.in_ok-finish.ensures.batch.finishes in
+    let is = ap (λ (b : Bool). finished b c.freeze.new.self.cached.frozen c.freeze.new.self.cached.log) policy
+    ∙ ap (λ (cached : Cached). finished ahead cached.frozen cached.log) c.freeze.ensures.swapped
+    ∙ ap (λ (batch : Entries). finished ahead batch half.log) c.finish.ensures.batch.active
+    ∙ ap (λ (l : LogValue). finished ahead old.active l) first in
+    on_ok_weaker c.finish-2.result (λ done. done ∙ is) c.finish-2.ensures.batch.finishes in
+    record {
+      active = search rules;
+      rests = λ none.
+          let old = c.args.self.now.cached in
+          let no_frozen = none_of old.frozen.numbers (omega (arith, none)) in
+          let no_active = none_of old.active.numbers (omega (arith, none)) in
+          let empty : c.freeze.new.self.cached.frozen.numbers ≡ [] =
+          ap (λ (cached : Cached). cached.frozen.numbers) c.freeze.ensures.swapped
+          ∙ ap (λ (batch : Entries). batch.numbers) c.finish.ensures.batch.active
+          ∙ no_active in
+          ap (λ v. v.medium) (c.finish-2.ensures.batch.rests empty)
+          ∙ c.freeze.ensures.keeps.medium
+          ∙ ap (λ v. v.medium) (c.finish.ensures.batch.rests no_frozen);
+      waits = search rules;
+      finishes = finishes;
+      retires = search rules;
+      fills = λ on filling none listed.
+          let old = c.args.self.now.cached in
+          let policy = c.freeze.ensures.keeps.policy ∙ c.finish.ensures.passes.policy in
+          let log_is : c.freeze.new.self.cached.log ≡ old.log =
+          ap (λ (cached : Cached). cached.log) c.freeze.ensures.swapped ∙ ap (λ v. v.cached.log) (c.finish.ensures.batch.rests none) in
+          let batch_is = ap (λ (cached : Cached). length cached.frozen.numbers) c.freeze.ensures.swapped
+          ∙ ap (λ (batch : Entries). length batch.numbers) c.finish.ensures.batch.active in
+          let half : IsFilling c.freeze.new.self.cached.log = subst (λ (l : LogValue). IsFilling l) (sym log_is) filling in
+          on_ok_weaker c.finish-2.result (λ fuller. subst (λ (l : LogValue). IsFuller l c.finish-2.new.self.cached.log) log_is fuller)
+          (c.finish-2.ensures.batch.fills (policy ∙ on) half (omega (arith, batch_is, listed)));
+      stays = λ on steady.
+          let policy = c.freeze.ensures.keeps.policy ∙ c.finish.ensures.passes.policy in
+          let log_is : c.freeze.new.self.cached.log ≡ c.finish.new.self.cached.log =
+          ap (λ (cached : Cached). cached.log) c.freeze.ensures.swapped in
+          let first : IsSteady c.finish.new.self.cached.log = c.in_ok-finish.ensures.batch.stays on steady in
+          c.finish-2.ensures.batch.stays (policy ∙ on) (subst (λ (l : LogValue). IsSteady l) (sym log_is) first);
+      headroom = λ on head live.
+          let old = c.args.self.now.cached in
+          let first = headroom_finished old.frozen.numbers (firsts_in old.frozen) old.log head in
+          let both = headroom_finished old.active.numbers (firsts_in old.active) (finished true old.frozen old.log) first in
+          let is = ok_of c.finish-2.result c.finish-2.new.self.cached c.finish-2.ensures.batch.answers.answer live finishes in
+          subst (λ (l : LogValue). HasHeadroom l)
+          (sym (is ∙ ap (λ (b : Bool). finished b old.active (finished b old.frozen old.log)) on)) both;
+    }
 
 pub returns-in_err-finish-clause-cost : goal.returns-in_err-finish-clause-cost
 returns-in_err-finish-clause-cost g c = record {
@@ -104,6 +118,7 @@ returns-in_err-finish-clause-cost g c = record {
   steady = λ on still none some. search rules;
   flushes = search rules;
   once = λ two room none some. search rules;
+  each_once = λ on head. search rules;
   steady_once = λ two still none some. search rules;
 }
 
@@ -139,6 +154,10 @@ returns-clause-cost g c =
       once = λ two room none some.
           let one = once ahead old.frozen.numbers old.active.numbers old.log two room none some in
           on_ok_weaker c.finish-2.result (λ all. omega (arith, all, flushes, silent, flushed, one)) c.finish-2.ensures.flushes;
+      each_once = λ on head.
+          let each = ap (λ (b : Bool). both_flushes b old.frozen.numbers old.active.numbers old.log) on
+          ∙ both_each old.frozen.numbers old.active.numbers old.log head c.in_ok-finish.ensures.batch.some in
+          on_ok_weaker c.finish-2.result (λ all. omega (arith, all, flushes, silent, flushed, each)) c.finish-2.ensures.flushes;
       steady_once = λ two still none some.
           let one = once ahead old.frozen.numbers old.active.numbers old.log two (steady_roomy old.log still) none some in
           on_ok_weaker c.finish-2.result (λ all. omega (arith, all, flushes, silent, flushed, one)) c.finish-2.ensures.flushes;

@@ -1,4 +1,6 @@
-use Rattle.std.proofs.Common.{rules}
+use Rattle.std.proofs.Common.{Bool, subst, rules}
+use Rattle.blocks.specs.Background.{IsBackgroundStep}
+use Rattle.blocks.proofs.Headroom.{headroom_stepped}
 use Rattle.blocks.proofs.TurnsJoined.{stays}
 use Rattle.blocks.proofs.SectorsRead.{none}
 use Rattle.blocks.proofs.store.Store.tick.Goals as goal
@@ -14,3 +16,11 @@ returns-then-is_dead-clause-passes g c = record {
   looks = none (g.M.Medium.state c.args.self.now.medium) (g.M.Medium.state c.args.self.now.medium) c.args.self.now.cached
       (λ i. (g.M.Medium.state c.args.self.now.medium).looked);
 }
+
+pub returns-clause-headroom : goal.returns-clause-headroom
+returns-clause-headroom g c on head live =
+    let old = c.args.self.now in
+    let order = subst (λ (b : Bool). IsBackgroundStep b (g.M.Medium.state old.medium) (g.M.Medium.state c.work.new.self.medium) old.cached
+    c.work.new.self.cached) on c.work.ensures.order in
+    headroom_stepped (g.M.Medium.state old.medium) (g.M.Medium.state c.work.new.self.medium) old.cached c.work.new.self.cached order
+    head live

@@ -3,6 +3,7 @@ use Rattle.std.proofs.lemmas.Bool.{false≢true}
 use Rattle.redo_log.specs.Value.{LogValue}
 use Rattle.blocks.specs.Background.{MayBegin}
 use Rattle.blocks.specs.StoreValue.{is_dead}
+use Rattle.blocks.proofs.Headroom.{room_of}
 use Rattle.blocks.proofs.SectorsRead.{none}
 use Rattle.blocks.proofs.store.Store.work.Goals as goal
 
@@ -20,10 +21,12 @@ returns-then-may_begin g c = record {
   };
   order =
       let live : is_dead c.args.self.now.cached ≡ false = c.requires.live in
-      let may : MayBegin c.args.self.now.cached = c.may_begin.ensures.begins.0 c.if-may_begin.true in
+      let may : MayBegin c.args.self.now.goes_ahead c.args.self.now.cached = c.may_begin.ensures.begins.0 c.if-may_begin.true in
       record {
         dead = λ dead. absurd (false≢true (sym live ∙ dead));
-        goes_on = λ lives steps. absurd (omega (arith, steps, may.0.no_steps));
+        goes_on = λ lives steps.
+            let room = room_of c.args.self.now.goes_ahead c.args.self.now.cached.log may.0 in
+            absurd (omega (arith, steps, room.no_steps));
         begins = λ lives may. c.begin_next.ensures.beginning;
         retires = λ lives none full. absurd (full may);
       };

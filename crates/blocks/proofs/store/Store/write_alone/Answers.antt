@@ -1,8 +1,13 @@
-use Rattle.std.proofs.Common.{ap, sym, subst, arith, rules}
+use Rattle.std.proofs.Common.{◌∙◌, Bool, ap, sym, subst, arith, rules}
 use Rattle.std.proofs.lemmas.Result.{err_from_is_err_and}
 use Rattle.medium.specs.Sent.{sent}
 use Rattle.redo_log.specs.Value.{LogValue}
+use Rattle.medium.specs.declared.fault.MediumFault.TheVariants.{Flush}
+use Rattle.blocks.specs.Headroom.{HasHeadroom}
+use Rattle.blocks.specs.Retiring.{finished}
 use Rattle.blocks.specs.Steady.{IsSteady}
+use Rattle.blocks.specs.StoreValue.{firsts_in}
+use Rattle.blocks.proofs.Headroom.{headroom_finished, one_each}
 use Rattle.blocks.proofs.TurnsJoined.{not_written, then_written}
 use Rattle.blocks.proofs.SectorsRead.{none, looks_on}
 use Rattle.blocks.proofs.store.Store.write_alone.Goals as goal
@@ -49,5 +54,21 @@ returns-clause-writes g c = record {
     batches = search rules;
     stays = λ on steady.
         subst (λ (l : LogValue). IsSteady l) (sym c.begin_batch.ensures.log) (c.in_ok-finish.ensures.batch.stays on steady);
+    headroom = λ on head.
+        let old = c.args.self.now.cached in
+        let is = c.begin_batch.ensures.log ∙ c.in_ok-finish.ensures.batch.finishes ∙ ap (λ (b : Bool). finished b old.frozen old.log) on in
+        subst (λ (l : LogValue). HasHeadroom l) (sym is) (headroom_finished old.frozen.numbers (firsts_in old.frozen) old.log head);
   };
+}
+
+pub returns-clause-cost : goal.returns-clause-cost
+returns-clause-cost g c = record {
+  paid = search rules;
+  calls = search rules;
+  flushes = search rules;
+  once = λ on head.
+      let old = c.args.self.now.cached in
+      let one = one_each old.frozen.numbers old.log head c.in_ok-finish.ensures.batch.some in
+      let quiet = ap (λ m. (g.M.Medium.state m).made Flush) c.begin_batch.ensures.keeps.medium in
+      omega (arith, quiet, one, c.in_ok-finish.ensures.flushes);
 }

@@ -36,6 +36,7 @@ returns g c =
         store = started.store;
         line = c.at_rest.ensures.line _ _;
         retires = started.retires;
+        headroom = started.headroom;
         unit = started.opened;
         limit = started.limit;
       };

@@ -24,6 +24,7 @@ returns g c =
       started = record {
         store = starts.started;
         retires = starts.policy;
+        headroom = starts.headroom;
         limit = record {
           shape = layout_of store.cached;
           array = starts.started.array;

@@ -14,4 +14,4 @@ returns-clause-ticks g c =
     subst P c.self.view_is
     (ticks_over (state i.store.medium) (state after.medium) seen after c.step.ensures.steps.turn c.step.ensures.steps.order
     c.step.ensures.steps.calls c.step.ensures.steps.sent c.step.ensures.steps.looks c.step.ensures.steps.left c.step.ensures.steps.active
-    c.step.ensures.follows.policy)
+    c.step.ensures.follows.policy c.step.ensures.follows.headroom)

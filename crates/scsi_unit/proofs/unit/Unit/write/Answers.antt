@@ -14,9 +14,12 @@ use Rattle.scsi_unit.proofs.SectorsRead.{log_looked}
 use Rattle.scsi_unit.proofs.CommandCalls.{write_stops, write_ends, OnOk-at}
 use Rattle.scsi_unit.proofs.PerformedCommands.{moves_some}
 use Rattle.scsi_unit.proofs.WriteLines.{writes_nothing, write_refused, writes_blocks, logged_write, silent_ok}
-use Rattle.scsi_unit.proofs.SparedCalls.{write_costs}
-use Rattle.scsi_unit.specs.Costs.{CostsFinishing, CostsAfter}
+use Rattle.scsi_unit.proofs.SparedCalls.{write_costs, keeps_on}
+use Rattle.scsi_unit.specs.Costs.{CostsFinishing, CostsAfter, KeepsHeadroom}
 use Rattle.scsi_unit.specs.Serving.{IsFinished, LogAfter}
+use Rattle.scsi_unit.specs.StoreCalls.{TellsDeath}
+use Rattle.spec.specs.Sense.{Sense}
+use Rattle.std.specs.Prelude.{Result}
 use Rattle.scsi_unit.proofs.unit.Unit.write.Goals as goal
 
 pub returns-then-transfer-eq0-clause-performs : goal.returns-then-transfer-eq0-clause-performs
@@ -143,11 +146,25 @@ returns-clause-spares g c = record {
       subst P c.self.view_is
       (λ good. write_costs i.store.goes_ahead durable c.args.transfer (state i.store.medium) (state half.medium) (state last.medium)
       i.store.cached half.cached (moves_some c.args.transfer c.if-transfer-eq0.false)
-      (λ fits. ap state (c.write_blocks.ensures.passes.quiet fits).0)
-      (OnOk-at c.write_blocks.result c.in_ok-write_blocks.field-0 c.in_ok-write_blocks.was wrote.batches)
-      (OnOk-at c.write_blocks.result c.in_ok-write_blocks.field-0 c.in_ok-write_blocks.was wrote.active)
+      (record {
+        quiet = λ fits. ap state (c.write_blocks.ensures.passes.quiet fits).0;
+        turned = OnOk-at c.write_blocks.result c.in_ok-write_blocks.field-0 c.in_ok-write_blocks.was wrote.batches;
+        takes = OnOk-at c.write_blocks.result c.in_ok-write_blocks.field-0 c.in_ok-write_blocks.was wrote.active;
+        alone = λ not. record {
+          calls = OnOk-at c.write_blocks.result c.in_ok-write_blocks.field-0 c.in_ok-write_blocks.was (wrote.alone_calls not);
+          flushes = OnOk-at c.write_blocks.result c.in_ok-write_blocks.field-0 c.in_ok-write_blocks.was (wrote.alone_flushes not);
+        };
+      })
       (silent_ok done (CostsFinishing i.store.goes_ahead durable (state half.medium) (state last.medium) half.cached) good costs));
   policy =
       subst (λ (u : UnitValue g.row.M.Denot). c.make_durable.new.store.goes_ahead ≡ u.store.goes_ahead) c.self.view_is
       (c.make_durable.ensures.passes.follows.policy ∙ c.write_blocks.ensures.passes.follows.policy);
+  headroom =
+      let half = c.write_blocks.new.store in
+      let last = c.make_durable.new.store in
+      let live : is_dead half.cached ≡ false = subst (λ (r : Result (Unit {0}) Sense). TellsDeath r half.cached) c.in_ok-write_blocks.was
+      c.write_blocks.ensures.writes.answer in
+      subst (λ (u : UnitValue g.row.M.Denot). KeepsHeadroom u.store last) c.self.view_is
+      (keeps_on c.self.inside.store half last c.write_blocks.ensures.passes.follows.headroom c.write_blocks.ensures.passes.follows.policy
+      live c.make_durable.ensures.passes.follows.headroom);
 }
