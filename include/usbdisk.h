@@ -324,7 +324,8 @@ struct usbdisk_store {
 
 /* Starts a store on a device, as usbdisk_start starts a disk: near, sectors, device and room are as there.
  * span: as many sectors as the longest read has blocks. In format 2 with 3 slots or more it brings blocks home
- * ahead of the flush of its next record, so that a sync flushes once for each record in the long run.
+ * ahead of the flush of its next record: a sync flushes once for each record that it writes, for a ring that was
+ * not full at the start never is.
  *
  * Answers 0, a number from 1 to 10, STARTED, LITTLE_ROOM or BAD_LENGTH, in the order of usbdisk_start. At all
  * but 0 the handle stays as it was, and no memory is kept. */
