@@ -1,22 +1,31 @@
 -- A search among as many places as a power of two, which halves them at each step.
 use Rattle.std.proofs.Common.{◌≡◌, ◌⊎◌, inl, inr, ℕ, zero, suc, ◌+◌, ◌-◌, ◌*◌, ◌/◌, ◌^◌, ◌<◌, ◌≤◌, List, length, get_or, refl, ap, ◌∙◌}
-use Rattle.std.proofs.Common.{arith}
-use Rattle.std.proofs.lemmas.Bool.{cases_lt}
+use Rattle.std.proofs.Common.{arith, sym, Bool, true, false, ◌||◌, nat_eq}
+use Rattle.std.proofs.lemmas.Bool.{cases_lt, or_cases, both_ways, eqb-true, eqb-false}
 use Rattle.std.proofs.lemmas.Nat.{pow_pos}
 use Rattle.std.proofs.Math.Nat.{pow-suc, pow-le-pow_right}
 use Rattle.cache.specs.Blocks.{IsRising}
 use Rattle.cache.specs.Digits.{GrowsWithinDigits}
-use Rattle.cache.specs.Places.{HasPlace}
-use Rattle.cache.proofs.HalvedSearch.{smaller, not_smaller, smaller_power, digits_of}
+use Rattle.cache.specs.Places.{HasPlace, StandsAt, WouldStandAt}
+use Rattle.cache.proofs.HalvedSearch.{smaller, not_smaller, greater, smaller_power, digits_of}
+
+-- the number is one of these
+pub record IsThere (numbers : List ℕ) (number : ℕ) : Type 0 where
+  pub place : ℕ
+  pub inside : place < length numbers
+  pub here : get_or numbers place 0 ≡ number
 
 -- The place is one of a power of two from `low` on, of which this is the half, after `taken` steps.
-pub record IsHalving (numbers : List ℕ) (block low half taken : ℕ) : Type 0 where
+pub record IsHalving (numbers : List ℕ) (block low half taken : ℕ) (found : Bool) : Type 0 where
   pub power : ℕ
   pub half_is : half ≡ 2 ^ power / 2
   pub inside : low + 2 ^ power ≤ length numbers + 1
   pub before : (k : ℕ) → k < low → get_or numbers k 0 < block
   pub here : low + 2 ^ power - 1 < length numbers → block ≤ get_or numbers (low + 2 ^ power - 1) 0
   pub few : (digits : ℕ) → length numbers < 2 ^ digits → taken + power ≤ digits
+  -- the last of them was looked at, or is greater; and where the number was met, it is there
+  pub missed : found ≡ false → low + 2 ^ power - 1 < length numbers → block < get_or numbers (low + 2 ^ power - 1) 0
+  pub met : found ≡ true → IsThere numbers block
 
 -- a power that a word of 64 bits can hold
 no_more : (power digits : ℕ) → power ≤ digits → 2 ^ power ≤ 2 ^ digits
@@ -40,26 +49,38 @@ one_left (suc fewer) is =
     let some : 0 < 2 ^ fewer = pow_pos fewer in
     absurd (omega (arith, double, is, some))
 
-module _ (numbers : List ℕ) (block low half taken more : ℕ) (halving : IsHalving numbers block low half taken) (some : 0 < half)
-    (next : more ≡ suc taken) where
-  found : (fewer : ℕ) × (halving.power ≡ suc fewer) × (half ≡ 2 ^ fewer)
-  found = half_of halving.power half halving.half_is some
+or_false : (x y : Bool) → (x || y) ≡ false → (x ≡ false) × (y ≡ false)
+or_false true y e = absurd (both_ways true e refl)
+or_false false y e = (refl, e)
+
+module _ (numbers : List ℕ) (block low half taken more : ℕ) (found : Bool) (halving : IsHalving numbers block low half taken found)
+    (some : 0 < half) (next : more ≡ suc taken) (number : ℕ) (read : number ≡ get_or numbers (low + half - 1) 0) where
+  halved : (fewer : ℕ) × (halving.power ≡ suc fewer) × (half ≡ 2 ^ fewer)
+  halved = half_of halving.power half halving.half_is some
 
   double : 2 ^ halving.power ≡ half * 2
   double =
-      let f = found in
+      let f = halved in
       let is : half ≡ 2 ^ f.0 = f.2 in
       let twice : 2 ^ halving.power ≡ 2 ^ f.0 * 2 = ap (λ (n : ℕ). 2 ^ n) f.1 ∙ pow-suc 2 f.0 in
       omega (arith, is, twice)
 
   -- the number in the middle is within
-  pub middle_inside : low + half - 1 < length numbers
+  middle_inside : low + half - 1 < length numbers
   middle_inside = let d : 2 ^ halving.power ≡ half * 2 = double in omega (arith, d, halving.inside, some)
 
+  -- where it is the number itself, it was met
+  met : (found || nat_eq number block) ≡ true → IsThere numbers block
+  met is = elim (or_cases found (nat_eq number block) is) [
+    | inl before ↦ halving.met before
+    | inr now ↦
+        record { place = low + half - 1; inside = middle_inside; here = sym read ∙ eqb-true number block now }
+  ]
+
   -- the place is in the lower half
-  pub lower : block ≤ get_or numbers (low + half - 1) 0 → IsHalving numbers block low (half / 2) more
+  pub lower : block ≤ number → IsHalving numbers block low (half / 2) more (found || nat_eq number block)
   lower least =
-      let f = found in
+      let f = halved in
       let is : half ≡ 2 ^ f.0 = f.2 in
       let d : 2 ^ halving.power ≡ half * 2 = double in
       let at : get_or numbers (low + 2 ^ f.0 - 1) 0 ≡ get_or numbers (low + half - 1) 0 =
@@ -69,14 +90,19 @@ module _ (numbers : List ℕ) (block low half taken more : ℕ) (halving : IsHal
         half_is = ap (λ (n : ℕ). n / 2) is;
         inside = omega (arith, d, is, halving.inside);
         before = halving.before;
-        here = λ lt. omega (arith, at, least);
+        here = λ lt. omega (arith, at, least, read);
+        missed = λ is lt.
+            let other : number ≡ block → ⊥ = eqb-false number block (or_false found _ is).1 in
+            omega (arith, at, least, read, other);
+        met = met;
         few = λ digits lt. let h : taken + halving.power ≤ digits = halving.few digits lt in omega (arith, h, f.1, next);
       }
 
   -- the place is in the upper half
-  pub upper : IsRising numbers → get_or numbers (low + half - 1) 0 < block → IsHalving numbers block (low + half) (half / 2) more
+  pub upper : IsRising numbers → number < block
+      → IsHalving numbers block (low + half) (half / 2) more (found || nat_eq number block)
   upper rising less =
-      let f = found in
+      let f = halved in
       let is : half ≡ 2 ^ f.0 = f.2 in
       let d : 2 ^ halving.power ≡ half * 2 = double in
       let last : low + half + 2 ^ f.0 - 1 ≡ low + 2 ^ halving.power - 1 = omega (arith, d, is) in
@@ -86,9 +112,13 @@ module _ (numbers : List ℕ) (block low half taken more : ℕ) (halving : IsHal
         power = f.0;
         half_is = ap (λ (n : ℕ). n / 2) is;
         inside = omega (arith, d, is, halving.inside);
-        before = λ k lt. smaller numbers (low + half - 1) block rising (middle_inside) less k (omega (arith, lt, some));
+        before = λ k lt. smaller numbers (low + half - 1) block rising middle_inside (omega (arith, less, read)) k (omega (arith, lt, some));
         here = λ lt.
             let h : block ≤ get_or numbers (low + 2 ^ halving.power - 1) 0 = halving.here (omega (arith, lt, last)) in omega (arith, h, at);
+        missed = λ is lt.
+            let h : block < get_or numbers (low + 2 ^ halving.power - 1) 0 =
+            halving.missed (or_false found _ is).0 (omega (arith, lt, last)) in omega (arith, h, at);
+        met = met;
         few = λ digits lt. let h : taken + halving.power ≤ digits = halving.few digits lt in omega (arith, h, f.1, next);
       }
 
@@ -96,7 +126,7 @@ module _ (numbers : List ℕ) (block low half taken more : ℕ) (halving : IsHal
 pub begins : (numbers : List ℕ) (block low spare power half taken : ℕ) → IsRising numbers → half ≡ 2 ^ power / 2
     → 2 ^ power ≤ length numbers + 1 → length numbers + 1 < 2 * 2 ^ power → spare ≡ length numbers + 1 - 2 ^ power
     → (low ≡ spare) ⊎ ((low ≡ 0) × (block ≤ get_or numbers (spare - 1) 0)) → ((k : ℕ) → k < low → get_or numbers k 0 < block) → taken ≤ 1
-    → (spare ≡ 0 → taken ≡ 0) → IsHalving numbers block low half taken
+    → (spare ≡ 0 → taken ≡ 0) → IsHalving numbers block low half taken false
 begins numbers block low spare power half taken rising half_is most least spare_is cases before one none = record {
   power = power;
   half_is = half_is;
@@ -111,6 +141,17 @@ begins numbers block low spare power half taken rising half_is most least spare_
       | inr le ↦ absurd (omega (arith, e.0, spare_is, most, lt, le))
     ]
   ];
+  missed = λ is lt. elim cases [
+    | inl e ↦ absurd (omega (arith, e, spare_is, most, lt))
+    | inr e ↦ elim (cases_lt 0 spare) [
+      | inl some ↦
+          let r : get_or numbers (spare - 1) 0 < get_or numbers (low + 2 ^ power - 1) 0 =
+          rising (spare - 1) (low + 2 ^ power - 1) (omega (arith, e.0, spare_is, least, some)) lt in
+          omega (arith, r, e.1)
+      | inr le ↦ absurd (omega (arith, e.0, spare_is, most, lt, le))
+    ]
+  ];
+  met = λ is. absurd (both_ways false refl is);
   few = λ digits lt. elim (cases_lt 0 spare) [
     | inl some ↦ let less : power < digits = smaller_power power digits (omega (arith, lt, some, spare_is)) in omega (arith, less, one)
     | inr le ↦
@@ -121,23 +162,64 @@ begins numbers block low spare power half taken rising half_is most least spare_
   ];
 }
 
--- one place is left, which is that of the number
-pub ends : (numbers : List ℕ) (block low taken : ℕ) → IsHalving numbers block low 0 taken → HasPlace numbers block low
-ends numbers block low taken halving =
-    let one : 2 ^ halving.power ≡ 1 = one_left halving.power halving.half_is in
-    let last : low + 2 ^ halving.power - 1 ≡ low = omega (arith, one) in
-    let at : get_or numbers (low + 2 ^ halving.power - 1) 0 ≡ get_or numbers low 0 = ap (λ (i : ℕ). get_or numbers i 0) last in
-    record {
-      inside = omega (arith, halving.inside, one);
-      before = halving.before;
-      here = λ lt.
-          let h : block ≤ get_or numbers (low + 2 ^ halving.power - 1) 0 = halving.here (omega (arith, lt, last)) in omega (arith, h, at);
-    }
+module _ (numbers : List ℕ) (block low half taken : ℕ) (found : Bool) (halving : IsHalving numbers block low half taken found)
+    (none : half ≡ 0) where
+  one : 2 ^ halving.power ≡ 1
+  one = one_left halving.power (sym none ∙ halving.half_is)
+
+  -- one place is left, which is that of the number
+  ends : HasPlace numbers block low
+  ends =
+      let o : 2 ^ halving.power ≡ 1 = one in
+      let last : low + 2 ^ halving.power - 1 ≡ low = omega (arith, o) in
+      let at : get_or numbers (low + 2 ^ halving.power - 1) 0 ≡ get_or numbers low 0 = ap (λ (i : ℕ). get_or numbers i 0) last in
+      record {
+        inside = omega (arith, halving.inside, o);
+        before = halving.before;
+        here = λ lt.
+            let h : block ≤ get_or numbers (low + 2 ^ halving.power - 1) 0 = halving.here (omega (arith, lt, last)) in omega (arith, h, at);
+      }
+
+  -- it stands there, where it was met
+  pub stands : IsRising numbers → found ≡ true → StandsAt numbers block low
+  stands rising is =
+      let there = halving.met is in
+      let place = ends in
+      let at : low ≡ there.place = elim (cases_lt there.place low) [
+        | inl less ↦ let b = place.before there.place less in absurd (omega (arith, b, there.here))
+        | inr le ↦ elim (cases_lt low there.place) [
+          | inl less ↦
+              let r = rising low there.place less there.inside in
+              let h = place.here (omega (arith, less, there.inside)) in
+              absurd (omega (arith, r, h, there.here))
+          | inr ge ↦ omega (arith, le, ge)
+        ]
+      ] in
+      record {
+        inside = omega (arith, at, there.inside);
+        here = ap (λ (i : ℕ). get_or numbers i 0) at ∙ there.here;
+        before = halving.before;
+      }
+
+  -- and where it was not, it would stand there
+  pub would_stand : IsRising numbers → found ≡ false → WouldStandAt numbers block low
+  would_stand rising is =
+      let o : 2 ^ halving.power ≡ 1 = one in
+      let last : low + 2 ^ halving.power - 1 ≡ low = omega (arith, o) in
+      let at : get_or numbers (low + 2 ^ halving.power - 1) 0 ≡ get_or numbers low 0 = ap (λ (i : ℕ). get_or numbers i 0) last in
+      record {
+        inside = omega (arith, halving.inside, o);
+        before = halving.before;
+        past = λ k from inside.
+            let m : block < get_or numbers (low + 2 ^ halving.power - 1) 0 =
+            halving.missed is (omega (arith, last, from, inside)) in
+            greater numbers low block rising (omega (arith, m, at)) k from inside;
+      }
 
 -- as many steps as binary digits, at most
-pub within_power : (numbers : List ℕ) (block low half old new : ℕ) → old ≤ new → IsHalving numbers block low half (new - old)
-    → GrowsWithinDigits (length numbers) old new
-within_power numbers block low half old new grows halving =
+pub within_power : (numbers : List ℕ) (block low half old new : ℕ) (found : Bool) → old ≤ new
+    → IsHalving numbers block low half (new - old) found → GrowsWithinDigits (length numbers) old new
+within_power numbers block low half old new found grows halving =
     let digits = digits_of (length numbers) in
     let few : new - old + halving.power ≤ digits.0 = halving.few digits.0 digits.1.below in
     record { digits = digits.0; has = digits.1; grows = grows; within = omega (arith, grows, few) }

@@ -5,9 +5,8 @@ use Rattle.std.specs.List.{insert}
 use Rattle.std.proofs.lemmas.Bool.{cases_lt}
 use Rattle.std.proofs.lemmas.List.{ext_get_or, get_or-take, get_or-drop, length-take-le, length-drop}
 use Rattle.std.proofs.lemmas.List.Edits.{length-insert, get_or-insert_below, get_or-insert_at, get_or-insert_above}
-use Rattle.cache.specs.Index.{no_entry, entries_of, IsCentred}
+use Rattle.cache.specs.Index.{no_entry}
 use Rattle.cache.specs.declared.entry.Entry.{Entry}
-use Rattle.cache.specs.declared.index.Index.{Index}
 
 pub length-window : (cells : List Entry) (start end : ℕ) → start ≤ end → end ≤ length cells
     → length (slice_range cells start end) ≡ end - start

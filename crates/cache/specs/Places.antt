@@ -2,7 +2,6 @@
 use Rattle.std.specs.Prelude.{◌≡◌, ◌⊎◌, ◌<◌, ◌≤◌, ℕ, ◌+◌, ◌-◌, List, length, slice_index}
 use Rattle.std.specs.List.{All, flat_map}
 use Rattle.cache.specs.Blocks.{blocks_of, with_block, IsRising, absent}
-use Rattle.cache.specs.Digits.{GrowsWithinDigits}
 
 -- blocks one after the other
 abbrev pub joined : List (List ℕ) → List ℕ
@@ -37,11 +36,6 @@ pub record HasPlace (numbers : List ℕ) (number place : ℕ) : Type 0 where
 pub record ReadsNumber (numbers : List ℕ) (at number old new : ℕ) : Type 0 where
   pub value : number ≡ slice_index numbers at
   pub step : new ≡ old + 1
-
--- a number's place is found, in as many steps at most as their count has binary digits
-pub record FindsPlace (numbers : List ℕ) (number at old new : ℕ) : Type 0 where
-  pub place : HasPlace numbers number at
-  pub few : GrowsWithinDigits (length numbers) old new
 
 -- Numbers at the front are skipped: `spare`, if that is not 0 and the last of them is smaller, in
 -- one step, and else none.
