@@ -13,10 +13,10 @@ use Rattle.mirror.specs.declared.call.DeviceCall.{DeviceCall}
 use Rattle.mirror.proofs.Asked.{given_some, whole_more, given_content}
 use Rattle.mirror.proofs.Kept.{IsQuiet, same_given, same_content}
 use Rattle.window.specs.Seen.{Seen, begun, gave, shown, opened, filled, agrees, reborn}
-use Rattle.window.specs.Window.{mirror_of}
+use Rattle.window.specs.Window.{mirror_of, lies_in}
 use Rattle.window.specs.WindowView.{view_of, Invariant}
 use Rattle.window.specs.declared.window.WindowMedium.TheInside.{Inside}
-use Rattle.window.proofs.Shown.{agrees_if, length_of_nothings, agrees_means, overlaid_there, overlaid_below, front, AreWhole, reborn_length}
+use Rattle.window.proofs.Shown.{agrees_if, length_of_nothings, agrees_means, overlaid_there, overlaid_below, overlaid_beside, front, AreWhole, reborn_length}
 use Rattle.window.proofs.Shown.{reborn_given, reborn_content}
 
 module _ (m n : Inside) (kept : Invariant m) (outbox : n.outbox ≡ m.outbox) (room : n.room ≡ m.room) (near : n.near ≡ m.near)
@@ -188,6 +188,17 @@ module _ (m n : Inside) (kept : Invariant m) (outbox : n.outbox ≡ m.outbox) (r
     | inr unlike ↦ sym (reborn_content old first count bytes whole (sized m kept) fits (first + i)
         (omega (arith, kept.size_is, inside, lt)) ∙ overlaid_there (device_of old).content first count bytes i lt)
         ∙ ap (λ (t : Seen). (device_of t.told).content (first + i)) (sym (anew unlike))
+  ]
+
+  -- and each other sector holds what it held
+  pub beside : (s : ℕ) → s < size_of old → lies_in first count s ≡ false
+      → (device_of n.story.seen.told).content s ≡ (device_of old).content s
+  beside s lt other = elim (cases_Bool (agrees (device_of old).content first count bytes)) [
+    | inl alike ↦ ap (λ (t : Seen). (device_of t.told).content s) (as_thought alike)
+    | inr unlike ↦ ap (λ (t : Seen). (device_of t.told).content s) (anew unlike)
+        ∙ reborn_content old first count bytes whole (sized m kept) fits s
+        (omega (arith, size_whole old kept.well_formed.mirror.whole_writes, lt))
+        ∙ overlaid_beside (device_of old).content first count bytes s other
   ]
 
   pub kept_shown : Invariant n

@@ -123,6 +123,9 @@ module _ (image : Image) (first count : ℕ) (bytes : List ℕ) where
     | inr other ↦ absurd (elim other.1 [ inl below ↦ omega (arith, below) | inr above ↦ omega (arith, lt, above) ])
   ]
 
+  pub overlaid_beside : (s : ℕ) → lies_in first count s ≡ false → overlaid image first count bytes s ≡ image s
+  overlaid_beside s other = rw other refl
+
   pub overlaid_below : (s : ℕ) → s < first → overlaid image first count bytes s ≡ image s
   overlaid_below s lt = elim (lies first count s) [
     | inl here ↦ absurd (omega (arith, lt, here.1))

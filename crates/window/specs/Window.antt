@@ -138,13 +138,17 @@ HasPlace first bytes m =
     × (m.near ≤ first) × (512 * first + length bytes ≤ length m.seen.told.opening)
 
 -- Sectors were shown, and taken or not. Where they are what was thought, nothing but the window has
--- changed; where they are not, the medium is one of a device that holds them.
+-- changed; where they are not, the medium is one of a device that holds them. Whatever they are, each
+-- other sector, those of the log among them, holds what it held, and what waits for the device stays.
 pub record IsShown (first : ℕ) (bytes : List ℕ) (taken : Bool) (old new : Window) : Type 0 where
   pub refused : taken ≡ false → new ≡ old
   pub fits : IsTrue taken ↔ HasPlace first bytes old
   pub honest : taken ≡ true → AreHeld (state_of old).content first (length bytes / 512) bytes
       → new ≡ moved old first (length bytes / 512)
   pub content : taken ≡ true → AreHeld (state_of new).content first (length bytes / 512) bytes
+  pub beside : taken ≡ true → (s : ℕ) → s < (state_of old).size
+      → lies_in first (length bytes / 512) s ≡ false
+      → (state_of new).content s ≡ (state_of old).content s
   pub others : new ≡ record old { seen = new.seen; from = new.from; held = new.held }
   pub there : taken ≡ true → (new.from ≡ first) × (new.held ≡ length bytes / 512)
   pub calls : (state_of new).calls ≡ (state_of old).calls

@@ -1,11 +1,11 @@
-use Rattle.std.proofs.Common.{rules, ◌≡◌, ◌≤◌, ◌+◌, ◌*◌, ◌/◌, ℕ, List, [], length, refl, sym, ◌∙◌, ap, arith, IsTrue}
+use Rattle.std.proofs.Common.{rules, ◌≡◌, ◌≤◌, ◌+◌, ◌*◌, ◌/◌, ℕ, List, [], length, refl, sym, subst, ◌∙◌, ap, arith, ◌<◌, IsTrue}
 use Rattle.medium.specs.Writes.{sector_of}
 use Rattle.mirror.specs.OutboxMedium.{device_of, size_of}
-use Rattle.window.specs.Window.{Window, moved}
+use Rattle.window.specs.Window.{Window, moved, lies_in}
 use Rattle.window.specs.WindowView.{view_of}
 use Rattle.window.specs.declared.window.WindowMedium.TheInside.{Inside}
 use Rattle.window.proofs.Shown.{front}
-use Rattle.window.proofs.Kept.{kept_shown, as_held, there, calls_stay, same_size, none_of}
+use Rattle.window.proofs.Kept.{kept_shown, as_held, there, beside, calls_stay, same_size, none_of}
 use Rattle.window.proofs.window.WindowMedium.fill.Goals as goal
 
 pub invariant_of-self : goal.invariant_of-self
@@ -69,6 +69,11 @@ returns c =
           ∙ there c.self.inside n c.self.invariant refl refl refl refl empty seen fits inside after
           i (omega (arith, lt, c.fill.ensures.held))
           ∙ ap (λ (k : ℕ). (device_of c.shown-self-inside.result.seen.told).content (k + i)) c.fill.ensures.from;
+      beside = λ took s lt other.
+          beside c.self.inside n c.self.invariant refl refl refl refl empty seen fits inside after
+          s (subst (λ (n : ℕ). s < n) (sym (ap (λ (w : Window). size_of w.seen.told) view)) lt)
+          ((λ i. lies_in (c.fill.ensures.from i) (c.fill.ensures.held i) s) ∙ other)
+          ∙ ap (λ (w : Window). (device_of w.seen.told).content s) view;
       others = search rules;
       there = search rules;
       calls = calls_stay c.self.inside n c.self.invariant refl refl refl refl empty seen fits inside after
