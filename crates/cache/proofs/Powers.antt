@@ -112,7 +112,8 @@ module _ (numbers : List ℕ) (block low half taken more : ℕ) (found : Bool) (
         power = f.0;
         half_is = ap (λ (n : ℕ). n / 2) is;
         inside = omega (arith, d, is, halving.inside);
-        before = λ k lt. smaller numbers (low + half - 1) block rising middle_inside (omega (arith, less, read)) k (omega (arith, lt, some));
+        before = λ k lt. smaller numbers (low + half - 1) block rising middle_inside (omega (arith, less, read)) k
+            (omega (arith, lt, some));
         here = λ lt.
             let h : block ≤ get_or numbers (low + 2 ^ halving.power - 1) 0 = halving.here (omega (arith, lt, last)) in omega (arith, h, at);
         missed = λ is lt.

@@ -16,7 +16,8 @@ use Rattle.window.specs.Seen.{Seen, begun, gave, shown, opened, filled, agrees, 
 use Rattle.window.specs.Window.{mirror_of, lies_in}
 use Rattle.window.specs.WindowView.{view_of, Invariant}
 use Rattle.window.specs.declared.window.WindowMedium.TheInside.{Inside}
-use Rattle.window.proofs.Shown.{agrees_if, length_of_nothings, agrees_means, overlaid_there, overlaid_below, overlaid_beside, front, AreWhole, reborn_length}
+use Rattle.window.proofs.Shown.{agrees_if, length_of_nothings, agrees_means, overlaid_there, overlaid_below, overlaid_beside}
+use Rattle.window.proofs.Shown.{front, AreWhole, reborn_length}
 use Rattle.window.proofs.Shown.{reborn_given, reborn_content}
 
 module _ (m n : Inside) (kept : Invariant m) (outbox : n.outbox ≡ m.outbox) (room : n.room ≡ m.room) (near : n.near ≡ m.near)

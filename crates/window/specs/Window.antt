@@ -138,8 +138,9 @@ HasPlace first bytes m =
     × (m.near ≤ first) × (512 * first + length bytes ≤ length m.seen.told.opening)
 
 -- Sectors were shown, and taken or not. Where they are what was thought, nothing but the window has
--- changed; where they are not, the medium is one of a device that holds them. Whatever they are, each
--- other sector, those of the log among them, holds what it held, and what waits for the device stays.
+-- changed; where they are not, the medium is one of a device that holds them. Whatever they are,
+-- each other sector, those of the log among them, holds what it held, and what waits for the device
+-- stays.
 pub record IsShown (first : ℕ) (bytes : List ℕ) (taken : Bool) (old new : Window) : Type 0 where
   pub refused : taken ≡ false → new ≡ old
   pub fits : IsTrue taken ↔ HasPlace first bytes old

@@ -32,22 +32,26 @@ loop-half-preserved c =
       | then-number-block w ↦ record {
         grows = grows;
         halving = rw w.low-is
-            (upper numbers c.args.block c.loop-half.low c.loop-half.half _ _ _ inv.halving some next _ c.read_number-number.ensures.value c.requires
+            (upper numbers c.args.block c.loop-half.low c.loop-half.half _ _ _ inv.halving some next _
+            c.read_number-number.ensures.value c.requires
             (omega (arith, w.if-number-block.true)));
       }
       | else-number-block w ↦ record {
         grows = grows;
         halving = rw w.low-is
-            (lower numbers c.args.block c.loop-half.low c.loop-half.half _ _ _ inv.halving some next _ c.read_number-number.ensures.value
+            (lower numbers c.args.block c.loop-half.low c.loop-half.half _ _ _ inv.halving some next _
+            c.read_number-number.ensures.value
             (omega (arith, w.if-number-block.false)));
       }
     ]
 
 pub returns-then-found-clause-found : goal.returns-then-found-clause-found
-returns-then-found-clause-found c = stands _ _ _ _ _ _ c.loop-half.invariant.halving (omega (arith, c.loop-half-test.false)) c.requires c.if-found.true
+returns-then-found-clause-found c =
+    stands _ _ _ _ _ _ c.loop-half.invariant.halving (omega (arith, c.loop-half-test.false)) c.requires c.if-found.true
 
 pub returns-else-found-clause-missing : goal.returns-else-found-clause-missing
-returns-else-found-clause-missing c = would_stand _ _ _ _ _ _ c.loop-half.invariant.halving (omega (arith, c.loop-half-test.false)) c.requires c.if-found.false
+returns-else-found-clause-missing c =
+    would_stand _ _ _ _ _ _ c.loop-half.invariant.halving (omega (arith, c.loop-half-test.false)) c.requires c.if-found.false
 
 pub returns-then-found-clause-few : goal.returns-then-found-clause-few
 returns-then-found-clause-few c = within_power _ _ _ _ _ _ _ c.loop-half.invariant.grows c.loop-half.invariant.halving
