@@ -52,13 +52,13 @@ abbrev pub IsNoLength : List ℕ → ℕ → Type 0
 IsNoLength near sectors = (length near ≡ 0) ⊎ (length near % 512 ≢ 0)
     ⊎ (512 * sectors < length near)
 
--- why no store was started where the room is enough: for want of memory, by the lengths, or as the
--- recovery was refused
+-- why no store was started where the room is enough: for want of memory, by the lengths, or, where
+-- these are good, as the recovery was refused
 abbrev pub IsFault : List ℕ → ℕ → Window → CallFault → Type 0
 IsFault near sectors first why = (why ≡ fault.Start start.NoMemory)
     ⊎ ((why ≡ fault.Length) × IsNoLength near sectors)
-    ⊎ ((cause : StartFault) × (why ≡ fault.Start cause) × (after : Window)
-    × EndsIn first after cause)
+    ⊎ ((cause : StartFault) × (why ≡ fault.Start cause) × (¬ IsNoLength near sectors)
+    × (after : Window) × EndsIn first after cause)
 
 -- Why no store was started. The room comes first: with less of it than the image wants this is
 -- the answer, and with as much it never is.

@@ -29,6 +29,7 @@ pub fn window_of(
 ) -> Result<WindowMedium, CallFault>
     ensures ok { IfOk result (λ m. m ≡ fresh sectors near.now device.now.bytes span room) }
     ensures some { OnOk result (512 ≤ length near.now) }
+    ensures sized { OnOk result (¬ IsNoLength near.now sectors) }
     ensures err { IfErr result (λ why. (why ≡ CallFault.Start NoMemory)
         ⊎ ((why ≡ CallFault.Length) × IsNoLength near.now sectors)) }
 {
@@ -82,8 +83,8 @@ pub(crate) fn begin(
     span: u32,
     room: usize,
 ) -> Result<Box<Store<WindowMedium>>, CallFault>
-    ensures ok { IfOk result (λ held.
-        Begins (fresh sectors near.now device.now.bytes span room) held.value) }
+    ensures ok { IfOk result (λ held. (¬ IsNoLength near.now sectors)
+        × Begins (fresh sectors near.now device.now.bytes span room) held.value) }
     ensures err { IfErr result (IsNoStart near.now sectors
         (fresh sectors near.now device.now.bytes span room)) }
 {

@@ -13,6 +13,7 @@ returns-in-Err-clause-err c =
       inr (inr (
         c.in-Err.error.fault,
         refl,
+        c.in_ok-medium.ensures.sized,
         after,
         subst (λ (m : Window). EndsIn m after c.in-Err.error.fault) c.in_ok-medium.ensures.ok
             (ends_in c.in_ok-medium.medium after (ap (λ (w : Window). length w.outbox) c.in_ok-medium.ensures.ok)
@@ -24,14 +25,16 @@ returns-in-Err-clause-err c =
 pub returns-in-Ok-new-clause-ok : goal.returns-in-Ok-new-clause-ok
 returns-in-Ok-new-clause-ok c =
     let starts = c.in-Ok.ensures.starts in
-    let follows = starts.leaves.follows in
-    began (fresh c.args.sectors c.args.near.now c.args.device.now.bytes c.args.span c.args.room) c.in_ok-medium.medium c.in-Ok.store
-    c.in-Ok-new.held.value c.in_ok-medium.ensures.ok c.in-Ok-new.ensures.ok
-    (ap (λ (w : Window). length w.outbox) c.in_ok-medium.ensures.ok) starts.started starts.leaves
-    (c.waiting-waiting.ensures.device _ follows)
-    (c.device_laws.ensures (mirror_of c.in_ok-medium.medium) (mirror_of c.in-Ok.store.medium)
-    (c.waiting-waiting.ensures.device _ follows))
-    (c.waiting-waiting.ensures.served _ follows)
-    (roomy c.args.near.now c.args.device.now.bytes c.args.sectors c.args.span c.args.room c.in_ok-medium.medium c.in-Ok.store
-    c.in_ok-medium.ensures.ok c.in_ok-medium.ensures.some (search rules) starts.started follows)
-    starts.policy starts.headroom
+    let follows = starts.leaves.follows in (
+      c.in_ok-medium.ensures.sized,
+      began (fresh c.args.sectors c.args.near.now c.args.device.now.bytes c.args.span c.args.room) c.in_ok-medium.medium c.in-Ok.store
+          c.in-Ok-new.held.value c.in_ok-medium.ensures.ok c.in-Ok-new.ensures.ok
+          (ap (λ (w : Window). length w.outbox) c.in_ok-medium.ensures.ok) starts.started starts.leaves
+          (c.waiting-waiting.ensures.device _ follows)
+          (c.device_laws.ensures (mirror_of c.in_ok-medium.medium) (mirror_of c.in-Ok.store.medium)
+          (c.waiting-waiting.ensures.device _ follows))
+          (c.waiting-waiting.ensures.served _ follows)
+          (roomy c.args.near.now c.args.device.now.bytes c.args.sectors c.args.span c.args.room c.in_ok-medium.medium c.in-Ok.store
+          c.in_ok-medium.ensures.ok c.in_ok-medium.ensures.some (search rules) starts.started follows)
+          starts.policy starts.headroom,
+    )
