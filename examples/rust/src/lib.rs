@@ -266,10 +266,15 @@ impl UsbDisk {
                     &mut count,
                 )
             };
-            match kind {
-                1 => device.write(first, &self.run[..count * 512])?,
-                2 => device.flush()?,
+            let done = match kind {
+                1 => device.write(first, &self.run[..count * 512]),
+                2 => device.flush(),
                 _ => return Ok(()),
+            };
+            if done.is_err() {
+                // SAFETY: as in `bulk_out`. Nothing waits then, and no good status goes out.
+                unsafe { raw::usbdisk_refused(&mut self.raw) };
+                return done;
             }
         }
     }

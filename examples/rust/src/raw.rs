@@ -80,6 +80,7 @@ extern "C" {
         size: *mut u32,
     ) -> u32;
     pub fn usbdisk_tick(disk: *mut UsbDisk) -> u32;
+    pub fn usbdisk_refused(disk: *mut UsbDisk) -> u32;
     pub fn usbdisk_take_run(
         disk: *mut UsbDisk,
         sector: *mut u64,
