@@ -12,6 +12,7 @@ use Rattle.spec.specs.Packets.{bytes_of}
 use Rattle.spec.specs.declared.packet_size.PacketSize.{PacketSize}
 use Rattle.store_calls.specs.Rooms.{WantsMore}
 use Rattle.store_calls.specs.Starts.{IsNoLength}
+use Rattle.scsi_unit.specs.StartFaults.{NoMemory}
 use Rattle.usbdisk_c.specs.Codes.{number_of, EMPTY, STARTED, BAD_IDENTITY, BAD_PACKET_SIZE}
 use Rattle.usbdisk_c.specs.Codes.{BAD_LENGTH, NOT_TAKEN, LITTLE_ROOM}
 use Rattle.usbdisk_c.specs.Plays.{Disk, medium_of, Begins, BeginsNot, TakesPacket, SendsPacket}
@@ -39,8 +40,9 @@ BeginsOn first who packet new = (size : PacketSize) × (packet ≡ bytes_of size
 abbrev pub IsNamed : Identification → ℕ → Type 0
 IsNamed who packet = ((packet ≡ 64) ⊎ (packet ≡ 512)) × IsLegible who
 
--- Why none was, in the order in which it is found: by the size of the packets, the texts, and the
--- room. With less room than the image wants the answer is that, and with as much it never is.
+-- Why none was, in the order in which it is found: by the size of the packets, the texts, the room,
+-- and the lengths. With less room than the image wants the answer is that, and with as much it
+-- never is. Want of memory may be told before the lengths, and no other fault is.
 abbrev pub IsRefusal : List ℕ → ℕ → Window → Identification → ℕ → Refusal → Type 0
 IsRefusal near sectors first who packet refusal.PacketSize = (packet ≢ 64) × (packet ≢ 512)
 IsRefusal near sectors first who packet refusal.Identity =
@@ -50,7 +52,8 @@ IsRefusal near sectors first who packet refusal.LittleRoom =
 IsRefusal near sectors first who packet refusal.Length =
     IsNamed who packet × (¬ WantsMore near first.room) × IsNoLength near sectors
 IsRefusal near sectors first who packet (refusal.Fault fault) =
-    IsNamed who packet × (¬ WantsMore near first.room) × BeginsNot first fault
+    IsNamed who packet × (¬ WantsMore near first.room)
+    × ((fault ≡ NoMemory) ⊎ ((¬ IsNoLength near sectors) × BeginsNot first fault))
 
 abbrev pub code_of_refusal : Refusal → ℕ
 code_of_refusal refusal.Identity = BAD_IDENTITY
@@ -59,13 +62,13 @@ code_of_refusal refusal.LittleRoom = LITTLE_ROOM
 code_of_refusal refusal.Length = BAD_LENGTH
 code_of_refusal (refusal.Fault fault) = number_of fault
 
--- A disk that is there stays. Else there is one and the answer is 0, or there is none and the
--- answer is the number of the refusal.
+-- A disk that is there stays. Else there is one, the lengths are good and the answer is 0, or there
+-- is none and the answer is the number of the refusal.
 abbrev pub Starts : List ℕ → ℕ → Window → Identification → ℕ → Option Disk → Option Disk → ℕ
     → Type 0
 Starts near sectors first who packet (Some old) new code = (code ≡ STARTED) × (new ≡ Some old)
 Starts near sectors first who packet None (Some new) code =
-    (code ≡ 0) × BeginsOn first who packet new
+    (code ≡ 0) × (¬ IsNoLength near sectors) × BeginsOn first who packet new
 Starts near sectors first who packet None None code = (why : Refusal)
     × (code ≡ code_of_refusal why) × IsRefusal near sectors first who packet why
 

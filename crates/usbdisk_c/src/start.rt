@@ -2,6 +2,7 @@
 ghost use Rattle.std.specs.Prelude.{◌≡◌, ◌≢◌, IfOk, IfErr, MatchOption};
 ghost use Rattle.spec.specs.Packets.{bytes_of};
 ghost use Rattle.usbdisk_c.specs.Exports.{BeginsOn, IsRefusal, code_of_refusal, identity_of};
+ghost use Rattle.store_calls.specs.Starts.{IsNoLength};
 ghost use Rattle.window.specs.Window.{fresh};
 ghost use Rattle.spec.specs.Identification.{IsLegible};
 
@@ -84,7 +85,8 @@ pub(crate) fn begin(
     span: u32,
     room: usize,
 ) -> Result<Box<Disk<WindowMedium>>, Refusal>
-    ensures ok { IfOk result (λ disk. BeginsOn (fresh sectors near.now device.now.bytes span room)
+    ensures ok { IfOk result (λ disk. (¬ IsNoLength near.now sectors)
+        × BeginsOn (fresh sectors near.now device.now.bytes span room)
         (identity_of identity.now) packet disk.value) }
     ensures err { IfErr result (λ refusal. IsRefusal near.now sectors
         (fresh sectors near.now device.now.bytes span room)

@@ -56,28 +56,33 @@ returns-in-Err-start_by-clause-err c =
       (sized c.args.packet c.in-Some.size c.in-Some.ensures, c.in-Some-read_identity.ensures.1),
       search rules,
       inr (
-        after,
-        subst (λ (m : Window). EndsIn m after c.in-Err-start_by.error.fault) c.in-Ok.ensures.ok
-            (ends_in c.in-Ok.medium after
-            (ap (λ (w : Window). length w.outbox) c.in-Ok.ensures.ok) refused.leaves.leaves refused.leaves.medium
-            c.in-Err-start_by.error.fault refused.cause (c.waiting-waiting.ensures.served after refused.leaves.medium.follows)),
+        c.in-Ok.ensures.sized,
+        inr (
+          after,
+          subst (λ (m : Window). EndsIn m after c.in-Err-start_by.error.fault) c.in-Ok.ensures.ok
+              (ends_in c.in-Ok.medium after
+              (ap (λ (w : Window). length w.outbox) c.in-Ok.ensures.ok) refused.leaves.leaves refused.leaves.medium
+              c.in-Err-start_by.error.fault refused.cause (c.waiting-waiting.ensures.served after refused.leaves.medium.follows)),
+        ),
       ),
     )
 
 pub returns-in-Ok-new-clause-ok : goal.returns-in-Ok-new-clause-ok
 returns-in-Ok-new-clause-ok c =
     let starts = c.in-Ok-start_by.ensures in
-    let follows = starts.leaves.medium.follows in
-    began (fresh c.args.sectors c.args.near.now c.args.device.now.bytes c.args.span c.args.room) c.in-Ok.medium c.args.packet
-    c.in-Some-read_identity.who (identity_of c.args.identity.now)
-    c.in-Some.size c.in-Ok-start_by.disk c.in-Ok-new.held.value c.in-Ok.ensures.ok c.in-Some-read_identity.ensures.0
-    c.in-Some-read_identity.ensures.1 c.in-Some.ensures starts.opened starts.leaves.leaves follows
-    (c.waiting-waiting.ensures.device _ follows)
-    (c.device_laws.ensures (mirror_of c.in-Ok.medium) (mirror_of (medium_of c.in-Ok-start_by.disk))
-    (c.waiting-waiting.ensures.device _ follows)) (c.waiting-waiting.ensures.served _ follows)
-    (start_refuses c.in-Ok.medium _ (ap (λ (w : Window). length w.outbox) c.in-Ok.ensures.ok) starts.leaves.leaves
-    starts.leaves.medium (c.waiting-waiting.ensures.served _ follows))
-    (roomy c.args.near.now c.args.device.now.bytes c.args.sectors c.args.span c.args.room c.in-Ok.medium c.in-Ok-start_by.disk
-    (device_by c.in-Some-read_identity.who c.in-Some.size Ahead) c.in-Ok.ensures.ok c.in-Ok.ensures.some (search rules)
-    starts.opened follows)
-    c.in-Ok-new.ensures.ok
+    let follows = starts.leaves.medium.follows in (
+      c.in-Ok.ensures.sized,
+      began (fresh c.args.sectors c.args.near.now c.args.device.now.bytes c.args.span c.args.room) c.in-Ok.medium c.args.packet
+          c.in-Some-read_identity.who (identity_of c.args.identity.now)
+          c.in-Some.size c.in-Ok-start_by.disk c.in-Ok-new.held.value c.in-Ok.ensures.ok c.in-Some-read_identity.ensures.0
+          c.in-Some-read_identity.ensures.1 c.in-Some.ensures starts.opened starts.leaves.leaves follows
+          (c.waiting-waiting.ensures.device _ follows)
+          (c.device_laws.ensures (mirror_of c.in-Ok.medium) (mirror_of (medium_of c.in-Ok-start_by.disk))
+          (c.waiting-waiting.ensures.device _ follows)) (c.waiting-waiting.ensures.served _ follows)
+          (start_refuses c.in-Ok.medium _ (ap (λ (w : Window). length w.outbox) c.in-Ok.ensures.ok) starts.leaves.leaves
+          starts.leaves.medium (c.waiting-waiting.ensures.served _ follows))
+          (roomy c.args.near.now c.args.device.now.bytes c.args.sectors c.args.span c.args.room c.in-Ok.medium c.in-Ok-start_by.disk
+          (device_by c.in-Some-read_identity.who c.in-Some.size Ahead) c.in-Ok.ensures.ok c.in-Ok.ensures.some (search rules)
+          starts.opened follows)
+          c.in-Ok-new.ensures.ok,
+    )
