@@ -11,29 +11,40 @@
 enum { PAGE_BLOCKS = 8, MIB_BLOCKS = 2048 };
 
 /* A workload: WRITEs of `blocks` blocks (0: as many as a transfer has), one behind the other or at random pages, forced or
- * not, with a SYNCHRONIZE CACHE behind each `sync_blocks` blocks (0: none). */
+ * not, with a SYNCHRONIZE CACHE behind each `sync_blocks` blocks (0: none), and up to `steps` steps in the background behind
+ * each WRITE, at random. */
 struct workload {
     const char *what;
     uint32_t blocks;
     bool at_random, is_forced;
     uint32_t sync_blocks;
-    unsigned writes;
+    unsigned writes, steps;
 };
 
 static const struct workload workloads[] = {
-    { "longest WRITEs with FUA", 0, false, true, 0, 400 },
-    { "4 KiB with FUA, at random", PAGE_BLOCKS, true, true, 0, 2000 },
-    { "4 KiB at random, a SYNCHRONIZE CACHE each 32", PAGE_BLOCKS, true, false, 32 * PAGE_BLOCKS, 3200 },
-    { "longest WRITEs, a SYNCHRONIZE CACHE each 1 MiB", 0, false, false, MIB_BLOCKS, 400 },
-    { "longest WRITEs, none forced", 0, false, false, 0, 400 },
+    { "longest WRITEs with FUA", 0, false, true, 0, 400, 0 },
+    { "4 KiB with FUA, at random", PAGE_BLOCKS, true, true, 0, 2000, 0 },
+    { "4 KiB at random, a SYNCHRONIZE CACHE each 32", PAGE_BLOCKS, true, false, 32 * PAGE_BLOCKS, 3200, 0 },
+    { "longest WRITEs, a SYNCHRONIZE CACHE each 1 MiB", 0, false, false, MIB_BLOCKS, 400, 0 },
+    { "longest WRITEs, none forced", 0, false, false, 0, 400, 0 },
 };
 enum { WORKLOADS = sizeof workloads / sizeof *workloads };
 
-/* A disk over a device that is a model, and what the worst event took. The host is the first field. */
+/* Forced WRITEs with steps between, on a disk that retires ahead: as many flushes as without, but for a twentieth. */
+static const struct workload stepped[] = {
+    { "4 KiB with FUA, at random", PAGE_BLOCKS, true, true, 0, 2000, 2 },
+    { "4 KiB with FUA, at random", PAGE_BLOCKS, true, true, 0, 2000, 10 },
+    { "longest WRITEs with FUA", 0, false, true, 0, 400, 2 },
+    { "longest WRITEs with FUA", 0, false, true, 0, 400, 10 },
+};
+enum { STEPPED = sizeof stepped / sizeof *stepped };
+
+/* A disk over a device that is a model, what the worst event took, and how many flushes steps made. The host is the first
+ * field. */
 struct bench {
     struct host host;
     struct device device;
-    uint64_t most_calls;
+    uint64_t most_calls, flushes_of_steps;
     double longest_event;
 };
 
@@ -78,6 +89,17 @@ static uint32_t next_address(const struct workload *work, uint32_t blocks, unsig
     return i * blocks % (BLOCKS - BLOCKS % blocks);
 }
 
+/* Up to so many steps, at random. */
+static void make_steps(struct bench *bench, unsigned most)
+{
+    uint64_t before = bench->device.flushes;
+    if (most == 0)
+        return;
+    for (uint32_t left = random_below(most + 1); left > 0; left--)
+        step(&bench->host);
+    bench->flushes_of_steps += bench->device.flushes - before;
+}
+
 /* `writes` WRITEs, carried out by the disk, or by the floor. */
 static void play(struct bench *bench, const struct workload *work, unsigned writes, bool is_floor)
 {
@@ -95,6 +117,8 @@ static void play(struct bench *bench, const struct workload *work, unsigned writ
         else if (is_due)
             synchronize(&bench->host);
         since = is_due ? 0 : since;
+        if (!is_floor)
+            make_steps(bench, work->steps);
     }
 }
 
@@ -113,26 +137,47 @@ static void tell(const struct bench *bench, const struct bench *floor, const str
            (unsigned long long)bench->most_calls, bench->longest_event / 1000);
 }
 
-/* The workload on a disk that has filled its log before, and on the floor. */
-static void measure(const struct workload *work, uint32_t format, uint64_t slots, const struct costs *costs)
+/* The workload on a disk that has filled its log before. */
+static struct bench played(const struct workload *work, uint32_t format, uint64_t slots, const struct costs *costs)
 {
     struct bench bench = { .host = { .format = format, .slots = slots, .persist = persist } };
     seed = 88172645463325252u;
     start_disk(&bench.host);
     play(&bench, work, 3 * (unsigned)slots + 40, false);
     bench.device = (struct device){ .costs = *costs };
-    bench.most_calls = 0, bench.longest_event = 0;
+    bench.most_calls = 0, bench.longest_event = 0, bench.flushes_of_steps = 0;
     play(&bench, work, work->writes, false);
     stop_disk(&bench.host);
+    return bench;
+}
+
+/* The workload on such a disk, and on the floor. */
+static void measure(const struct workload *work, uint32_t format, uint64_t slots, const struct costs *costs)
+{
+    struct bench bench = played(work, format, slots, costs);
     struct bench floor = { .host = { .limit = bench.host.limit }, .device = { .costs = *costs } };
     play(&floor, work, work->writes, true);
     tell(&bench, &floor, work);
 }
 
+/* The flushes that forced WRITEs make themselves with steps between, and the worst event, beside those without steps. */
+static void measure_steps(const struct workload *work, uint64_t slots, const struct costs *costs)
+{
+    struct workload alone = *work;
+    alone.steps = 0;
+    struct bench bench = played(work, 2, slots, costs), without = played(&alone, 2, slots, costs);
+    double own = (double)(bench.device.flushes - bench.flushes_of_steps) / work->writes;
+    bool is_reached = own <= 1.05 && bench.longest_event <= without.longest_event + 1;
+    printf("| %llu | %s | 0 to %u | %.2f | %.2f |", (unsigned long long)slots, work->what, work->steps, own,
+           (double)bench.device.flushes / work->writes);
+    printf(" %.2f | %.2f | %s |\n", bench.longest_event / 1000, without.longest_event / 1000,
+           is_reached ? "reached" : "missed");
+}
+
 int main(int count, char **words)
 {
     struct costs costs = { 100, 512.0 / 40, 1000 };
-    static const uint64_t slots[] = { 1, 6, 8, 64 };
+    static const uint64_t slots[] = { 1, 6, 8, 64 }, ahead[] = { 3, 6, 8, 22 };
     if (count > 1)
         costs.command = atof(words[1]);
     if (count > 2)
@@ -149,5 +194,13 @@ int main(int count, char **words)
         for (size_t k = 0; k < sizeof slots / sizeof *slots; k++)
             for (int i = 0; i < WORKLOADS; i++)
                 measure(&workloads[i], format, slots[k], &costs);
+    puts("\nFormat 2, with steps in the background behind each WRITE, at most 1.05 flushes a WRITE, and no longer event than "
+         "without steps:\n");
+    puts("| Slots | Workload | Steps | Flushes a WRITE | Those of its steps too | Milliseconds of the worst event "
+         "| Without steps | |");
+    puts("|---|---|---|---|---|---|---|---|");
+    for (size_t k = 0; k < sizeof ahead / sizeof *ahead; k++)
+        for (int i = 0; i < STEPPED; i++)
+            measure_steps(&stepped[i], ahead[k], &costs);
     return 0;
 }

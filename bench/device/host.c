@@ -105,9 +105,15 @@ void stop_disk(struct host *host)
     free(host->device);
 }
 
+bool step(struct host *host)
+{
+    bool is_left = usbdisk_tick(&host->disk) == 1;
+    host->persist(host);
+    return is_left;
+}
+
 void settle(struct host *host)
 {
-    while (usbdisk_tick(&host->disk) == 1)
-        host->persist(host);
-    host->persist(host);
+    while (step(host))
+        ;
 }

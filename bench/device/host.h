@@ -29,6 +29,9 @@ void write_blocks(struct host *host, uint32_t address, uint32_t blocks, bool is_
 void read_blocks(struct host *host, uint32_t address, uint32_t blocks);
 void synchronize(struct host *host);
 
+/* One step in the background. Whether steps are left. */
+bool step(struct host *host);
+
 /* Steps in the background until none is left. */
 void settle(struct host *host);
 
