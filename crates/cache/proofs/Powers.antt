@@ -6,14 +6,8 @@ use Rattle.std.proofs.lemmas.Nat.{pow_pos}
 use Rattle.std.proofs.Math.Nat.{pow-suc, pow-le-pow_right}
 use Rattle.cache.specs.Blocks.{IsRising}
 use Rattle.cache.specs.Digits.{GrowsWithinDigits}
-use Rattle.cache.specs.Places.{HasPlace, StandsAt, WouldStandAt}
-use Rattle.cache.proofs.HalvedSearch.{smaller, not_smaller, greater, smaller_power, digits_of}
-
--- the number is one of these
-pub record IsThere (numbers : List ℕ) (number : ℕ) : Type 0 where
-  pub place : ℕ
-  pub inside : place < length numbers
-  pub here : get_or numbers place 0 ≡ number
+use Rattle.cache.specs.Places.{StandsAt, WouldStandAt}
+use Rattle.cache.proofs.HalvedSearch.{smaller, greater, smaller_power, digits_of}
 
 -- The place is one of a power of two from `low` on, of which this is the half, after `taken` steps.
 pub record IsHalving (numbers : List ℕ) (block low half taken : ℕ) (found : Bool) : Type 0 where
@@ -21,11 +15,10 @@ pub record IsHalving (numbers : List ℕ) (block low half taken : ℕ) (found : 
   pub half_is : half ≡ 2 ^ power / 2
   pub inside : low + 2 ^ power ≤ length numbers + 1
   pub before : (k : ℕ) → k < low → get_or numbers k 0 < block
-  pub here : low + 2 ^ power - 1 < length numbers → block ≤ get_or numbers (low + 2 ^ power - 1) 0
   pub few : (digits : ℕ) → length numbers < 2 ^ digits → taken + power ≤ digits
-  -- the last of them was looked at, or is greater; and where the number was met, it is there
+  -- the last of them is the number where it was met, and else greater
   pub missed : found ≡ false → low + 2 ^ power - 1 < length numbers → block < get_or numbers (low + 2 ^ power - 1) 0
-  pub met : found ≡ true → IsThere numbers block
+  pub met : found ≡ true → (low + 2 ^ power - 1 < length numbers) × (get_or numbers (low + 2 ^ power - 1) 0 ≡ block)
 
 -- a power that a word of 64 bits can hold
 no_more : (power digits : ℕ) → power ≤ digits → 2 ^ power ≤ 2 ^ digits
@@ -69,17 +62,9 @@ module _ (numbers : List ℕ) (block low half taken more : ℕ) (found : Bool) (
   middle_inside : low + half - 1 < length numbers
   middle_inside = let d : 2 ^ halving.power ≡ half * 2 = double in omega (arith, d, halving.inside, some)
 
-  -- where it is the number itself, it was met
-  met : (found || nat_eq number block) ≡ true → IsThere numbers block
-  met is = elim (or_cases found (nat_eq number block) is) [
-    | inl before ↦ halving.met before
-    | inr now ↦
-        record { place = low + half - 1; inside = middle_inside; here = sym read ∙ eqb-true number block now }
-  ]
-
   -- the place is in the lower half
-  pub lower : block ≤ number → IsHalving numbers block low (half / 2) more (found || nat_eq number block)
-  lower least =
+  pub lower : IsRising numbers → block ≤ number → IsHalving numbers block low (half / 2) more (found || nat_eq number block)
+  lower rising least =
       let f = halved in
       let is : half ≡ 2 ^ f.0 = f.2 in
       let d : 2 ^ halving.power ≡ half * 2 = double in
@@ -90,11 +75,16 @@ module _ (numbers : List ℕ) (block low half taken more : ℕ) (found : Bool) (
         half_is = ap (λ (n : ℕ). n / 2) is;
         inside = omega (arith, d, is, halving.inside);
         before = halving.before;
-        here = λ lt. omega (arith, at, least, read);
         missed = λ is lt.
             let other : number ≡ block → ⊥ = eqb-false number block (or_false found _ is).1 in
             omega (arith, at, least, read, other);
-        met = met;
+        met = λ is_met. elim (or_cases found (nat_eq number block) is_met) [
+          | inl then ↦
+              let edge = halving.met then in
+              let r = rising (low + half - 1) (low + 2 ^ halving.power - 1) (omega (arith, d, some)) edge.0 in
+              absurd (omega (arith, r, edge.1, read, least))
+          | inr now ↦ (omega (arith, middle_inside, is), at ∙ sym read ∙ eqb-true number block now)
+        ];
         few = λ digits lt. let h : taken + halving.power ≤ digits = halving.few digits lt in omega (arith, h, f.1, next);
       }
 
@@ -114,12 +104,13 @@ module _ (numbers : List ℕ) (block low half taken more : ℕ) (found : Bool) (
         inside = omega (arith, d, is, halving.inside);
         before = λ k lt. smaller numbers (low + half - 1) block rising middle_inside (omega (arith, less, read)) k
             (omega (arith, lt, some));
-        here = λ lt.
-            let h : block ≤ get_or numbers (low + 2 ^ halving.power - 1) 0 = halving.here (omega (arith, lt, last)) in omega (arith, h, at);
         missed = λ is lt.
             let h : block < get_or numbers (low + 2 ^ halving.power - 1) 0 =
             halving.missed (or_false found _ is).0 (omega (arith, lt, last)) in omega (arith, h, at);
-        met = met;
+        met = λ is_met. elim (or_cases found (nat_eq number block) is_met) [
+          | inl then ↦ let edge = halving.met then in (omega (arith, edge.0, last), at ∙ edge.1)
+          | inr now ↦ let same = eqb-true number block now in absurd (omega (arith, same, less))
+        ];
         few = λ digits lt. let h : taken + halving.power ≤ digits = halving.few digits lt in omega (arith, h, f.1, next);
       }
 
@@ -133,15 +124,6 @@ begins numbers block low spare power half taken rising half_is most least spare_
   half_is = half_is;
   inside = elim cases [ inl e ↦ omega (arith, e, spare_is, most) | inr e ↦ omega (arith, e.0, most) ];
   before = before;
-  here = λ lt. elim cases [
-    | inl e ↦ absurd (omega (arith, e, spare_is, most, lt))
-    | inr e ↦ elim (cases_lt 0 spare) [
-      | inl some ↦
-          let from : spare - 1 ≤ low + 2 ^ power - 1 = omega (arith, e.0, spare_is, least) in
-          not_smaller numbers (spare - 1) (low + 2 ^ power - 1) block rising e.1 from lt
-      | inr le ↦ absurd (omega (arith, e.0, spare_is, most, lt, le))
-    ]
-  ];
   missed = λ is lt. elim cases [
     | inl e ↦ absurd (omega (arith, e, spare_is, most, lt))
     | inr e ↦ elim (cases_lt 0 spare) [
@@ -168,39 +150,13 @@ module _ (numbers : List ℕ) (block low half taken : ℕ) (found : Bool) (halvi
   one : 2 ^ halving.power ≡ 1
   one = one_left halving.power (sym none ∙ halving.half_is)
 
-  -- one place is left, which is that of the number
-  ends : HasPlace numbers block low
-  ends =
+  -- one place is left: the number stands there, where it was met
+  pub stands : found ≡ true → StandsAt numbers block low
+  stands is =
       let o : 2 ^ halving.power ≡ 1 = one in
-      let last : low + 2 ^ halving.power - 1 ≡ low = omega (arith, o) in
-      let at : get_or numbers (low + 2 ^ halving.power - 1) 0 ≡ get_or numbers low 0 = ap (λ (i : ℕ). get_or numbers i 0) last in
-      record {
-        inside = omega (arith, halving.inside, o);
-        before = halving.before;
-        here = λ lt.
-            let h : block ≤ get_or numbers (low + 2 ^ halving.power - 1) 0 = halving.here (omega (arith, lt, last)) in omega (arith, h, at);
-      }
-
-  -- it stands there, where it was met
-  pub stands : IsRising numbers → found ≡ true → StandsAt numbers block low
-  stands rising is =
-      let there = halving.met is in
-      let place = ends in
-      let at : low ≡ there.place = elim (cases_lt there.place low) [
-        | inl less ↦ let b = place.before there.place less in absurd (omega (arith, b, there.here))
-        | inr le ↦ elim (cases_lt low there.place) [
-          | inl less ↦
-              let r = rising low there.place less there.inside in
-              let h = place.here (omega (arith, less, there.inside)) in
-              absurd (omega (arith, r, h, there.here))
-          | inr ge ↦ omega (arith, le, ge)
-        ]
-      ] in
-      record {
-        inside = omega (arith, at, there.inside);
-        here = ap (λ (i : ℕ). get_or numbers i 0) at ∙ there.here;
-        before = halving.before;
-      }
+      let edge = halving.met is in
+      let at : get_or numbers low 0 ≡ get_or numbers (low + 2 ^ halving.power - 1) 0 = ap (λ (i : ℕ). get_or numbers i 0) (omega (arith, o)) in
+      record { inside = omega (arith, edge.0, o); here = at ∙ edge.1; before = halving.before }
 
   -- and where it was not, it would stand there
   pub would_stand : IsRising numbers → found ≡ false → WouldStandAt numbers block low

@@ -40,14 +40,14 @@ loop-half-preserved c =
         grows = grows;
         halving = rw w.low-is
             (lower numbers c.args.block c.loop-half.low c.loop-half.half _ _ _ inv.halving some next _
-            c.read_number-number.ensures.value
+            c.read_number-number.ensures.value c.requires
             (omega (arith, w.if-number-block.false)));
       }
     ]
 
 pub returns-then-found-clause-found : goal.returns-then-found-clause-found
 returns-then-found-clause-found c =
-    stands _ _ _ _ _ _ c.loop-half.invariant.halving (omega (arith, c.loop-half-test.false)) c.requires c.if-found.true
+    stands _ _ _ _ _ _ c.loop-half.invariant.halving (omega (arith, c.loop-half-test.false)) c.if-found.true
 
 pub returns-else-found-clause-missing : goal.returns-else-found-clause-missing
 returns-else-found-clause-missing c =
