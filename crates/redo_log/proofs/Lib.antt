@@ -5,3 +5,5 @@ pub mod RetireTurns
 pub mod SortedIndex
 pub mod LogRules
 pub mod HeldLog
+pub mod StepCalls
+pub mod TurnLaws

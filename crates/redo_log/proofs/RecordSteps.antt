@@ -1,17 +1,19 @@
 -- The calls that write a record and retire it: what they write, how many they are, and how far it is after each.
 use Rattle.std.proofs.Common.{◌≡◌, ◌≢◌, ◌⊎◌, ℕ, ◌+◌, ◌-◌, ◌<◌, ◌≤◌, arith, rules, ◌*◌, ◌/◌, List, [], length, ap}
-use Rattle.std.proofs.Common.{zero, suc, get_or, refl, sym, ◌∙◌, Result}
+use Rattle.std.proofs.Common.{zero, suc, refl, sym, ◌∙◌, Result}
 use Rattle.std.proofs.lemmas.Bool.Decides.{nat_tests}
 use Rattle.journal.specs.declared.log_format.LogFormat.{LogFormat}
 use Rattle.journal.specs.declared.log_format.LogFormat.TheVariants.{One, Two}
 use Rattle.journal.specs.Places.{limit_of, first_data_of, first_home, sectors_of}
 use Rattle.journal.specs.Layout.{Layout}
 use Rattle.journal.specs.Formats.{layout_of}
-use Rattle.redo_log.specs.Value.{steps_for, most_steps, LogValue, of_oldest, next_calls, next_sends, turns_sends}
-use Rattle.redo_log.specs.Value.{sends_of_oldest, most_retire_sends, next_turn_flushes, step_flushes, next_step_flushes}
+use Rattle.redo_log.specs.Value.{steps_for, most_steps, LogValue, of_oldest, next_sends, turns_sends}
+use Rattle.redo_log.specs.Value.{sends_of_oldest, most_retire_sends, step_flushes, next_step_flushes}
 use Rattle.redo_log.specs.declared.log.Log.TheInside.{Inside}
 use Rattle.redo_log.specs.Shown.{shown, Invariant, flush_of, written_at, flushed_at}
-use Rattle.redo_log.specs.Calls.{IsFlushDue, Flush, placed, CallsUpTo, Call, fault_of, IsNextCall}
+use Rattle.redo_log.specs.Calls.{IsFlushDue, placed, IsNextCall}
+use Rattle.medium.specs.declared.medium_call.Call.{Call}
+use Rattle.medium.specs.Performed.{fault_of}
 use Rattle.std.specs.Prelude.{slice_range, true}
 use Rattle.medium.specs.Medium.{State, Passes, LooksOnly}
 use Rattle.medium.specs.Moments.{LeavesOnly, SparesFrom}
@@ -24,9 +26,9 @@ use Rattle.journal.proofs.Format1Laws as layout
 use Rattle.journal.specs.declared.head.Head.{Head as HeadOf}
 use Rattle.redo_log.specs.declared.turn.Turn.{Turn}
 use Rattle.redo_log.specs.declared.turn.Turn.TheVariants.{Copy, Flush, Head}
-use Rattle.redo_log.specs.Steps.{CountsStep, LeavesLog}
-use Rattle.redo_log.specs.Held.{View, HoldsView, MayLeave, turned_of, made_of}
-use Rattle.redo_log.specs.Turns.{counts_of, IsHeadTurn, IsNextTurn}
+use Rattle.redo_log.specs.Steps.{LeavesLog}
+use Rattle.redo_log.specs.Held.{View, HoldsView, MayLeave, made_of}
+use Rattle.redo_log.specs.Turns.{IsHeadTurn}
 use Rattle.redo_log.proofs.LogRules.{IsLog, made_is, log_is}
 use Rattle.std.proofs.lemmas.List.{get_or_past}
 
@@ -117,8 +119,8 @@ flushes_due format n made left sum some = grind (arith, nat_tests, written_is, f
 
 -- the next call of a record makes the flushes of the step
 pub step_flushed : {log : LogValue} → IsLog log → 0 < log.steps_left → {numbers : List ℕ} (bytes : List ℕ) → numbers ≡ log.under_way
-    → length bytes ≡ 512 * length numbers → (call : Call)
-    → IsNextCall (layout_of log.shape.format) log.shape (log.head + length log.waiting) (entries_of numbers bytes) (made_of log) call
+    → length bytes ≡ 512 * length numbers → (call : Call) {sector : List ℕ}
+    → IsNextCall (layout_of log.shape.format) log.shape (log.head + length log.waiting) (entries_of numbers bytes) (made_of log) call sector
     → {result : Result (Unit {0}) MediumFault} → {old new : State} → Passes (fault_of call) result old new
     → new.made fault.Flush ≡ old.made fault.Flush + next_step_flushes log
 step_flushed {log} is some {numbers} bytes same size call next {result} {old} {new} passes =
@@ -137,18 +139,6 @@ head_turn stamp (Head h) is = (h, refl, is)
 -- no step makes more than two writes and flushes
 pub few_next : (log : LogValue) → next_sends log ≤ 2
 few_next log = grind arith
-
--- as many as the next retire step
-pub counts_next : {log : LogValue} → IsLog log → 0 < of_oldest log → (turn : Turn)
-    → IsNextTurn log.shape log.head (get_or log.waiting 0 []) log.firsts (turned_of log) turn
-    → {result : Result (Unit {0}) MediumFault}
-    → {old new : State} → CallsUpTo (counts_of turn).0 (counts_of turn).1 (counts_of turn).2 result old new
-    → CountsStep (next_calls log) (next_sends log) (next_turn_flushes log) result old new
-counts_next {log} is owed turn next {result} {old} {new} up =
-    let same : counts_of turn ≡ (next_calls log, next_sends log, next_turn_flushes log) =
-    grind (arith, next.head, next.flush, next.home, is.owed_most) in
-    let now = rw same at up in
-    let two : new.calls ≤ old.calls + 2 = grind (arith, now.calls) in search rules
 
 -- each block is written home once, and a flush, the head and a flush follow
 sends_few : (left : ℕ) → turns_sends left ≤ left + 1

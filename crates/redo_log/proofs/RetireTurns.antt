@@ -4,7 +4,7 @@ use Rattle.std.proofs.Common.{ap, length-drop, add-zero, true, false, map, slice
 use Rattle.std.proofs.lemmas.Bool.{cases_eq, cases_lt}
 use Rattle.std.proofs.lemmas.List.{drop-map, length-map}
 use Rattle.std.proofs.Math.ListN.{get_or-map}
-use Rattle.medium.specs.Medium.{State, Image, Holds, Gains, IsSound}
+use Rattle.medium.specs.Medium.{State, Image, Holds, Gains, Only, IsSound}
 use Rattle.medium.specs.Moments.{EachCut, LeavesOnly}
 use Rattle.medium.proofs.Moments.{each_write, each_flush, quiet_leaves, content_has}
 use Rattle.journal.specs.declared.head.Head.{Head as HeadOf}
@@ -93,6 +93,13 @@ module _ {log : LogValue} (is : IsLog log) (live : log.dead ≡ false) (owed : 0
     -- nothing of the next one is flushed at home yet
     needs_more : needed_of (retired_of log) ≢ 1
     needs_more e = omega (arith, needed_one none_ahead (log.head + 1) _ (of_oldest (retired_of log)) e, not_homed log)
+
+    -- where it is durable, the log has one record less
+    pub flushed_held : new.size ≡ old.size → Holds 1 (head_bytes h.stamp) old.content new.content
+        → Only new.content new.may_leave → HoldsView (retired_of log) new (view_retired 1 view)
+    flushed_held same_size wrote only = past_held same_size wrote (λ ours.
+        let both = content_has _ old sound (one_now ours) in
+        each_flush _ new.content new only (with_newest ((past both.1 wrote).guarded both.0) (λ is. absurd (needs_more is))))
 
     -- so a log that counts it holds what the medium does
     pub retired_held : (then : LogValue) → IsRetireStepped log then → HoldsView (retired_of log) new (view_retired 1 view)
@@ -234,7 +241,4 @@ module _ {log : LogValue} (is : IsLog log) (live : log.dead ≡ false) (owed : 0
           (λ _ i inside. s.copied i (omega (arith, inside, there)) inside)))))
           (λ one h head stamp.
           let wrote = rw head at done in
-          retired_held one h stamp new then stepped (past_held one h stamp new same_size wrote.0 (λ ours.
-          let both = content_has _ old sound (one_now one h stamp new ours) in
-          each_flush _ new.content new wrote.1 (with_newest ((past one h stamp new both.1 wrote.0).guarded both.0)
-          (λ is. absurd (needs_more one h stamp new is))))))
+          retired_held one h stamp new then stepped (flushed_held one h stamp new same_size wrote.0 wrote.1))

@@ -35,7 +35,9 @@ use Rattle.journal.specs.Layout.{Layout, part_at, IsRecordOf}
 use Rattle.journal.specs.Formats.{layout_of}
 use Rattle.redo_log.specs.declared.progress.Progress.{Progress}
 use Rattle.redo_log.specs.declared.progress.Progress.TheVariants.{More, Durable}
-use Rattle.redo_log.specs.Calls.{Write, Flush, IsDone, MakesNext, IsNextCall, IsFlushDue}
+use Rattle.redo_log.specs.Calls.{MakesNext, IsNextCall, IsFlushDue}
+use Rattle.medium.specs.declared.medium_call.Call.TheVariants.{Write, Flush}
+use Rattle.medium.specs.Performed.{IsDone}
 
 -- a new log holds a medium that has its head and its blocks at home, and whose log is fresh
 pub idle_holds : (shape : Shape) (next : ℕ) (array : Array) (ours : Bool) (m : State) → sectors_of shape ≤ m.size
@@ -159,14 +161,15 @@ module _ {log : LogValue} (is : IsLog log) (live : log.dead ≡ false) (some : 0
       other_is = record_entries log.shape stamp numbers other is.sized (rw (same, ← many hv) (is.record_is some))
           (sym (numbers_of_batch numbers bytes)) (sized_batch numbers bytes size)
 
-      next : IsNextCall L log.shape stamp other (made_of log) here.call
+      next : IsNextCall L log.shape stamp other (made_of log) here.call here.bytes
       next = rw (many hv) at here.next
 
       flushes : IsFlushDue L n (made_of log) → here.call ≡ Flush
       flushes due = next.0 (rw other_count due)
 
       -- ---- a flush of the early parts
-      early_flushed : 1 < log.steps_left → IsFlushDue L n (made_of log) → IsDone here.call old new → HoldsView more_log new view
+      early_flushed : 1 < log.steps_left → IsFlushDue L n (made_of log) → IsDone here.call here.bytes here.after old new
+          → HoldsView more_log new view
       early_flushed more due done =
           let wrote = rw (flushes due) at done in
           let few = not_last _ _ late (made_of log) (omega (arith, made_is log some, more, all_steps, is.most_left)) in
@@ -181,7 +184,7 @@ module _ {log : LogValue} (is : IsLog log) (live : log.dead ≡ false) (some : 0
           (arith, inside, needed_one log.ahead log.head _ (of_oldest log) one, count hv 0)) inside)))
 
       -- ---- a flush of all parts: the record is durable
-      all_flushed : log.steps_left ≡ 1 → IsDone here.call old new → HoldsView (durable_of log) new (with_record view)
+      all_flushed : log.steps_left ≡ 1 → IsDone here.call here.bytes here.after old new → HoldsView (durable_of log) new (with_record view)
       all_flushed last done =
           let all = last_call _ _ late (made_of log) (omega (arith, made_is log some, is.most_left, some, all_steps))
           (omega (arith, made_is log some, is.most_left, last, all_steps)) in
@@ -229,11 +232,11 @@ module _ {log : LogValue} (is : IsLog log) (live : log.dead ≡ false) (some : 0
         abbrev part : List ℕ
         part = L.part stamp other k
 
-        writes : here.call ≡ Write place part
+        writes : (here.call ≡ Write place) × (here.bytes ≡ part)
         writes = rw other_count at (next.1 (rw other_count not))
 
         adds : Gains place part old.may_leave new.may_leave
-        adds = rw writes at here.makes.adds
+        adds = rw (writes.0, writes.1) at here.makes.adds
 
         -- the write leaves the blocks at home
         at_home : {was image : Image} → Holds place part was image → (b : ℕ) → image (log.shape.home + b) ≡ was (log.shape.home + b)
@@ -269,9 +272,10 @@ module _ {log : LogValue} (is : IsLog log) (live : log.dead ≡ false) (some : 0
               λ image cut. guard_leaves log hv.fits stands_then (part_each mine ours _ refl image cut)
         ]
 
-        part_written_now : 1 < log.steps_left → view.under_way ≡ other → IsDone here.call old new → HoldsView more_log new view
+        part_written_now : 1 < log.steps_left → view.under_way ≡ other → IsDone here.call here.bytes here.after old new
+            → HoldsView more_log new view
         part_written_now more named done =
-            let write = rw writes at done in
+            let write = rw (writes.0, writes.1) at done in
             let s = hv.stores live in
             let mine : part ≡ L.part stamp view.under_way k = ap (λ (l : List Entry). L.part stamp l k) (sym named) in
             let now = part_written _ _ late (made_of log) (made_of more_log) (then_made more) (grind (arith, not)) in

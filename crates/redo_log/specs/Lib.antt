@@ -5,3 +5,4 @@ pub mod Calls
 pub mod Turns
 pub mod Shown
 pub mod Steps
+pub mod Halfway

@@ -18,6 +18,8 @@ use Rattle.redo_log.specs.Value.{LogValue, died, begun, most_steps, most_retire_
 use Rattle.redo_log.specs.Value.{Owes, IsSentHome, IsRetireStepped, FlushesUpTo, next_step_flushes}
 use Rattle.redo_log.specs.Held.{View, HoldsView, MayLeave, HasDurable, with_record, view_stepped}
 use Rattle.redo_log.specs.Held.{view_retired}
+use Rattle.medium.specs.declared.medium_call.Call.{Call}
+use Rattle.medium.specs.Performed.{IsWithin, Performed}
 
 -- a step that answers Ok did this, and else the medium refused a call, and the log is dead
 pub record AnswersStep {X : Type 0} (Done : X → Type 0) (result : Result X LogFault)
@@ -113,22 +115,32 @@ StaysSent result log old new = (view : View) → HoldsView log old view → (nex
 
 -- The next call of the record under way, which is one of these entries, is made, or it is refused.
 -- The log itself does not count it yet.
-pub record BringsRecordOn {M : Type 0} (state : M → State) (Follows : M → M → Type 0)
-    (entries : List Entry) (result : Result (Unit {0}) MediumFault) (log : LogValue) (m n : M)
-    : Type 0 where
-  pub passes : PassesStep state Follows (CountsOne (next_step_flushes log) (state m) (state n))
-      result m n
-  pub leaves : LeavesLog log (state m) (state n)
+pub record StepCalled (entries : List Entry) (result : Result (Unit {0}) MediumFault)
+    (log : LogValue) (old new : State) : Type 0 where
+  pub counts : CountsOne (next_step_flushes log) old new
+  pub failures : new.failures ≡ (if is_ok result then old.failures else old.failures + 1)
+  pub size : new.size ≡ old.size
+  pub leaves : LeavesLog log old new
   -- given up, the log and the medium hold what they held
-  pub dead : (view : View) → HoldsView log (state m) view → HoldsView (died log) (state n) view
+  pub dead : (view : View) → HoldsView log old view → HoldsView (died log) new view
   -- where the call is not refused, they do so with the call counted
-  pub counted : (view : View) → HoldsView log (state m) view → view.under_way ≡ entries
+  pub counted : (view : View) → HoldsView log old view → view.under_way ≡ entries
       → (progress : Progress) → (next : LogValue) → IsStepped progress log next
-      → OnOk result (HoldsView next (state n) (view_stepped progress view))
+      → OnOk result (HoldsView next new (view_stepped progress view))
   -- with the last one the record is whole in every image that a cut may leave
-  pub durable : (view : View) → HoldsView log (state m) view → view.under_way ≡ entries
+  pub durable : (view : View) → HoldsView log old view → view.under_way ≡ entries
       → view.ours ≡ true → (next : LogValue) → IsStepped Durable log next
-      → OnOk result (EachCut (HasDurable (state n).size next (with_record view)) (state n))
+      → OnOk result (EachCut (HasDurable new.size next (with_record view)) new)
+
+-- This is the next call of the record under way, which is one of these entries, and with it go
+-- these bytes. Whoever makes it on a medium that holds the log, on which it is made or refused, has
+-- made a step.
+pub record TellsStep {M : Type 0} (state : M → State) (entries : List Entry) (log : LogValue)
+    (call : Call) (bytes : List ℕ) : Type 0 where
+  pub inside : IsWithin (sectors_of log.shape) call
+  pub law : (m n : M) (after : List ℕ) (result : Result (Unit {0}) MediumFault)
+      → IsOn log (state m) → Performed call bytes after result (state m) (state n)
+      → StepCalled entries result log (state m) (state n)
 
 -- A call makes the next step of the record under way, which is one of these entries.
 pub record MakesStep {M : Type 0} (state : M → State) (Follows : M → M → Type 0)

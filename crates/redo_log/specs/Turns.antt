@@ -1,9 +1,8 @@
 -- The turns that retire a durable record.
 use Rattle.std.specs.Prelude.{◌≡◌, ℕ, ◌+◌, ◌<◌, List, [], ◌∷◌, length}
-use Rattle.std.specs.Prelude.{slice_index, Option, Result, OnOk}
+use Rattle.std.specs.Prelude.{slice_index, Option, Some, None}
 use Rattle.medium.specs.Medium.{State, Stays, Holds, Only}
-use Rattle.medium.specs.Moments.{IsQuiet, SparesFrom}
-use Rattle.medium.specs.declared.fault.MediumFault.{MediumFault}
+use Rattle.medium.specs.Moments.{IsQuiet}
 use Rattle.journal.specs.Places.{Shape, first_home, first_data_of, sectors_of}
 use Rattle.journal.specs.Sectors.{spelling, head_mark}
 use Rattle.journal.specs.Layout.{slot_at}
@@ -11,6 +10,9 @@ use Rattle.journal.specs.Formats.{layout_of}
 pub use Rattle.journal.specs.Record.{begun_with}
 use Rattle.redo_log.specs.Value.{AllFirsts, first_kept}
 use Rattle.redo_log.specs.Calls.{WritesOnly}
+use Rattle.medium.specs.declared.medium_call.Call.{Call}
+use Rattle.medium.specs.declared.medium_call.Call.TheVariants.{Read, Write}
+use Rattle.medium.specs.declared.medium_call.Call.TheVariants as medium_call
 use Rattle.redo_log.specs.declared.turn.Turn.{Turn}
 use Rattle.redo_log.specs.declared.turn.Turn.TheVariants.{Copy, Flush, Head}
 
@@ -44,26 +46,19 @@ IsTurned Flush old new = Stays old.content new.content × Only old.content new.m
 IsTurned (Head head) old new = Holds 1 (head_bytes head.stamp) old.content new.content
     × Only new.content new.may_leave
 
--- the turn is made, or one of its calls is refused: a write goes to its own sector alone
-pub record MakesTurn (turn : Turn) (result : Result (Unit {0}) MediumFault) (old new : State)
-    : Type 0 where
-  pub done : OnOk result (IsTurned turn old new)
-  pub adds : MayTurn turn old new
-  pub spares : (first : ℕ) → IsInside first turn → SparesFrom first old new
+-- its first call, with these bytes in the lent sector
+abbrev pub IsFirst : Turn → Call → List ℕ → Type 0
+IsFirst (Copy from to first) call bytes = call ≡ Read from
+IsFirst Flush call bytes = call ≡ medium_call.Flush
+IsFirst (Head head) call bytes = (call ≡ Write 1) × (bytes ≡ head_bytes head.stamp)
 
--- The calls do this where they are good. They write to no sector but this one, and these bytes.
-pub record WritesSector (place : ℕ) (bytes : List ℕ) (Done : Type 0)
-    (result : Result (Unit {0}) MediumFault) (old new : State) : Type 0 where
-  pub done : OnOk result Done
-  pub adds : WritesOnly place bytes old new
-  pub spares : (first : ℕ) → place < first → SparesFrom first old new
-
--- how many calls it makes, how many of them are writes and flushes, all but reads, and how many
--- are flushes
-abbrev pub counts_of : Turn → ℕ × ℕ × ℕ
-counts_of (Copy from to first) = (2, 1, 0)
-counts_of Flush = (1, 1, 1)
-counts_of (Head head) = (2, 2, 1)
+-- the call behind it, if there is one: the first one left the one list in the lent sector, and the
+-- other one goes with this
+abbrev pub IsSecond : Turn → List ℕ → Option Call → List ℕ → Type 0
+IsSecond (Copy from to first) had call bytes =
+    (call ≡ Some (Write to)) × (bytes ≡ begun_with first had)
+IsSecond Flush had call bytes = call ≡ None
+IsSecond (Head head) had call bytes = call ≡ Some medium_call.Flush
 
 -- the turn writes the head with this stamp
 abbrev pub IsHeadTurn : ℕ → Turn → Type 0

@@ -1,16 +1,17 @@
 //! The calls of a medium that write a record, one after the other.
-ghost use Rattle.std.specs.Prelude.{◌≡◌, ◌⊎◌, ℕ, ◌≤◌, ◌<◌, ◌*◌, length, IsTrue, ◌↔◌};
-ghost use Rattle.journal.specs.Places.{sectors_of};
+ghost use Rattle.std.specs.Prelude.{◌≡◌, ◌⊎◌, ◌≤◌, ◌<◌, ◌*◌, length, IsTrue, ◌↔◌};
+ghost use Rattle.journal.specs.Places.{first_home};
 ghost use Rattle.journal.specs.Formats.{shape_of, layout_of};
 ghost use Rattle.journal.specs.Layout.{part_at};
 ghost use Rattle.journal.specs.Record.{entries_of};
 ghost use Rattle.redo_log.specs.Shown.{IsRecord, written_at};
-ghost use Rattle.redo_log.specs.Calls.{Write, placed, MakesCall, MakesNext};
+ghost use Rattle.medium.specs.Performed.{IsWithin};
+ghost use Rattle.redo_log.specs.Calls.{placed, IsNextCall};
 
 use journal::{
     LogFormat, Super, copy_place, data_sector2, early, part, parts, slot_of, slot_place,
 };
-use medium::{Medium, MediumFault};
+use medium::Call;
 
 // How many parts of a record are written after `made` calls. One of them may be the early flush.
 #[tactic(auto, unfolding(crate::specs::Shown::written_at, crate::specs::Shown::flush_of))]
@@ -38,87 +39,67 @@ fn is_flush_due(early: usize, parts: usize, made: usize, written: usize) -> bool
     is_early_due(early, made) || parts <= written
 }
 
-/// Makes the next call of a record of which `made` calls are made.
-pub(crate) fn make_next<M: Medium>(
-    m: &mut M,
+/// The next call of a record of which `made` calls are made, and in the sector what it writes.
+pub(crate) fn next_call(
     sizes: &Super,
     stamp: u64,
     numbers: &[u64],
     bytes: &[u8],
     made: usize,
-) -> Result<(), MediumFault>
+    sector: &mut [u8; 512],
+) -> Call
     requires record { IsRecord (shape_of sizes.now) stamp numbers.now }
     requires size { length bytes.now ≡ 512 * length numbers.now }
-    requires fits { sectors_of (shape_of sizes.now) ≤ (M.state m.old).size }
-    ensures makes { MakesNext (shape_of sizes.now) stamp (entries_of numbers.now bytes.now) made
-        result (M.state m.old) (M.state m.new) }
-    ensures follows { M.follows m.old m.new }
+    ensures next { IsNextCall (layout_of sizes.now.format) (shape_of sizes.now) stamp
+        (entries_of numbers.now bytes.now) made result sector.new }
+    ensures inside { IsWithin (first_home (shape_of sizes.now)) result }
 {
     let count = numbers.len();
     let early = early(sizes.format, count);
     let written = written_at(early, made);
     if is_flush_due(early, parts(sizes.format, count), made, written) {
-        return m.flush();
+        return Call::Flush;
     }
-    write_part(m, sizes, stamp, numbers, bytes, written)
+    Call::Write(put_part(sizes, stamp, numbers, bytes, written, sector))
 }
 
-// Writes part p of a record. A block is written from the batch, without a copy in a part.
-fn write_part<M: Medium>(
-    m: &mut M,
+// Puts part p of a record into the sector, and tells its place.
+fn put_part(
     sizes: &Super,
     stamp: u64,
     numbers: &[u64],
     bytes: &[u8],
     p: usize,
-) -> Result<(), MediumFault>
+    sector: &mut [u8; 512],
+) -> u64
     requires record { IsRecord (shape_of sizes.now) stamp numbers.now }
     requires size { length bytes.now ≡ 512 * length numbers.now }
-    requires inside { (p < (layout_of sizes.now.format).parts (length numbers.now))
-        × (sectors_of (shape_of sizes.now) ≤ (M.state m.old).size) }
-    ensures makes { MakesCall (Write (part_at (layout_of sizes.now.format) (shape_of sizes.now)
-        stamp (length numbers.now) p) ((layout_of sizes.now.format).part stamp
-        (entries_of numbers.now bytes.now) p)) result (M.state m.old) (M.state m.new) }
-    ensures follows { M.follows m.old m.new }
+    requires inside { p < (layout_of sizes.now.format).parts (length numbers.now) }
+    ensures place { result ≡ part_at (layout_of sizes.now.format) (shape_of sizes.now) stamp
+        (length numbers.now) p }
+    ensures bytes { sector.new ≡ (layout_of sizes.now.format).part stamp
+        (entries_of numbers.now bytes.now) p }
 {
     let slot = slot_of(stamp, sizes.slots);
     let first = parts(sizes.format, numbers.len()) - 1 - numbers.len();
     if first <= p && p - first < numbers.len() {
         let i = p - first;
-        let place = copy_place(sizes.format, slot, i);
-        return write_block(
-            m,
-            sizes.format,
-            stamp,
-            place,
-            &bytes[512 * i..512 * i + 512],
-        );
+        put_block(sizes.format, stamp, &bytes[512 * i..512 * i + 512], sector);
+        return copy_place(sizes.format, slot, i);
     }
     let part = part(sizes.format, stamp, numbers, bytes, p);
-    m.write(slot_place(sizes.format, slot) + part.offset, &part.sector)
+    let bytes = part.sector;
+    *sector = bytes;
+    slot_place(sizes.format, slot) + part.offset
 }
 
-// Writes a block to its data place.
-fn write_block<M: Medium>(
-    m: &mut M,
-    format: LogFormat,
-    stamp: u64,
-    place: u64,
-    block: &[u8],
-) -> Result<(), MediumFault>
-    requires size { length block.now ≡ 512 }
-    requires inside { place < (M.state m.old).size }
-    ensures makes { MakesCall (Write place (placed format stamp block.now)) result
-        (M.state m.old) (M.state m.new) }
-    ensures follows { M.follows m.old m.new }
+// Puts a block into the sector as its data place has it.
+fn put_block(format: LogFormat, stamp: u64, block: &[u8], sector: &mut [u8; 512])
+    requires { length block.now ≡ 512 }
+    ensures { sector.new ≡ placed format stamp block.now }
 {
     match format {
-        LogFormat::One => {
-            let Ok(sector) = <&[u8; 512]>::try_from(block) else {
-                unreachable!()
-            };
-            m.write(place, sector)
-        }
-        LogFormat::Two => m.write(place, &data_sector2(stamp, block)),
+        LogFormat::One => sector.copy_from_slice(block),
+        LogFormat::Two => *sector = data_sector2(stamp, block),
     }
 }

@@ -9,7 +9,7 @@ use crate::index::{Copied, newest};
 use crate::{LogFault, Progress};
 use arrayvec::ArrayVec;
 use journal::{Firsts, LogFormat, Super, read_copy};
-use medium::{Medium, MediumFault};
+use medium::{Medium, MediumFault, perform};
 use std::alloc::{AllocError, Global};
 use std::collections::VecDeque;
 use std::marker::Model;
@@ -175,11 +175,13 @@ impl Log {
         ensures { MakesStep M.state M.follows (entries_of numbers.now bytes.now) result
             self.old self.new m.old m.new }
     {
-        let Ok(()) = self.make_call(m, numbers, bytes) else {
+        let mut sector = [0; 512];
+        let call = self.next_step::<M>(numbers, bytes, &mut sector);
+        let Ok(()) = perform(m, call, &mut sector) else {
             self.stop();
             return Err(LogFault::Medium);
         };
-        Ok(self.count_call(numbers))
+        Ok(self.step_made(numbers))
     }
 
     /// Makes the next one or two calls that retire the oldest durable record, none where none

@@ -1,5 +1,5 @@
 //! The turns of the oldest durable record, one after the other.
-ghost use Rattle.std.specs.Prelude.{◌≡◌, ◌+◌, ◌<◌, length, get_or, []};
+ghost use Rattle.std.specs.Prelude.{◌≡◌, ◌+◌, ◌<◌, length, get_or, [], MatchOption};
 ghost use Rattle.redo_log.specs.Value.{next_calls, next_sends, of_oldest, IsAway, IsSentHome};
 ghost use Rattle.redo_log.specs.Value.{CanPass, IsRetireStepped, next_turn_flushes};
 ghost use Rattle.redo_log.specs.Held.{turned_of};
@@ -7,12 +7,13 @@ ghost use Rattle.redo_log.specs.Shown.{shown, Invariant};
 ghost use Rattle.redo_log.specs.declared.log.Log.TheInside.{Inside};
 ghost use Rattle.redo_log.specs.Steps.{CountsStep, IsOn, BringsOn, StaysSent};
 ghost use Rattle.redo_log.specs.Turns.{StaysInImage, IsNextTurn};
+ghost use Rattle.redo_log.specs.Halfway.{TellsFirst, TellsSecond};
 
 use crate::Log;
 use crate::index::drop_slot;
 use crate::turn::{Turn, next_turn};
 use journal::{Head, slot_of};
-use medium::{Medium, MediumFault};
+use medium::{Call, Medium, MediumFault, perform};
 
 impl Log {
     // The next turn of the oldest durable record.
@@ -30,6 +31,25 @@ impl Log {
         next_turn(&self.sizes, self.head, numbers, &self.firsts, self.turned)
     }
 
+    /// The first call of the next turn of the oldest durable record, and in the sector what it
+    /// writes. It is not made yet.
+    pub fn turn_first<M: Medium>(&self, sector: &mut [u8; 512]) -> Call
+        requires { 0 < of_oldest self.now }
+        ensures { TellsFirst M.state self.now result sector.new }
+    {
+        self.oldest_turn().first(sector)
+    }
+
+    /// The second one, if there is one: else the turn is made. The sector is as the first one left
+    /// it.
+    pub fn turn_second<M: Medium>(&self, sector: &mut [u8; 512]) -> Option<Call>
+        requires { 0 < of_oldest self.now }
+        ensures { MatchOption result (of_oldest self.now ≡ 2)
+            (λ call. TellsSecond M.state self.now sector.old call sector.new) }
+    {
+        self.oldest_turn().second(sector)
+    }
+
     /// Makes the next turn of the oldest durable record, which is not counted yet.
     pub(crate) fn make_turn<M: Medium>(&self, m: &mut M) -> Result<(), MediumFault>
         requires on { IsOn self.now (M.state m.old) }
@@ -40,7 +60,13 @@ impl Log {
         ensures sent { IsAway self.now
             → StaysSent result self.now (M.state m.old) (M.state m.new) }
     {
-        self.oldest_turn().make(m)
+        let mut sector = [0; 512];
+        let first = self.turn_first::<M>(&mut sector);
+        perform(m, first, &mut sector)?;
+        let Some(second) = self.turn_second::<M>(&mut sector) else {
+            return Ok(());
+        };
+        perform(m, second, &mut sector)
     }
 
     /// Writes the head past the oldest durable record, which is not counted yet, and does not flush
@@ -52,7 +78,8 @@ impl Log {
             (CountsStep 1 1 0 result (M.state m.old) (M.state m.new)) result self.now m.old
             m.new }
     {
-        m.write(1, &Head::new(self.head + 1).encode())
+        let mut sector = Head::new(self.head + 1).encode();
+        perform(m, Call::Write(1), &mut sector)
     }
 
     /// Counts a block of the oldest durable record that went home. The last one is noted: the flush

@@ -1,17 +1,14 @@
 //! The turns that retire a durable record, one after the other.
-ghost use Rattle.std.specs.Prelude.{◌≡◌, ℕ, ◌≤◌, ◌<◌, ◌+◌, ◌-◌, ◌*◌, ◌^◌, length};
-ghost use Rattle.medium.specs.Medium.{Holds, Only, LooksOnly};
+ghost use Rattle.std.specs.Prelude.{◌≡◌, ◌≤◌, ◌<◌, ◌+◌, ◌-◌, ◌*◌, ◌^◌, length};
 ghost use Rattle.journal.specs.Formats.{shape_of};
 ghost use Rattle.redo_log.specs.Shown.{IsRecord, lists_of};
-ghost use Rattle.redo_log.specs.Calls.{CallsUpTo};
-ghost use Rattle.redo_log.specs.Turns.{begun_with, counts_of};
-ghost use Rattle.redo_log.specs.Turns.{IsInside, MakesTurn, ReadsBefore, WritesSector};
+ghost use Rattle.redo_log.specs.Turns.{IsFirst, IsSecond};
 ghost use Rattle.redo_log.specs.Turns.{StaysInImage, IsHomeTurn, IsHeadTurn, IsNextTurn};
 ghost use Rattle.redo_log.specs.Value.{first_kept};
 
 use crate::firsts::first_kept;
 use journal::{Firsts, Head, Super, copy_place, put_first, slot_of};
-use medium::{Medium, MediumFault};
+use medium::Call;
 use std::collections::VecDeque;
 
 /// One medium call or two.
@@ -25,57 +22,33 @@ pub(crate) enum Turn {
 }
 
 impl Turn {
-    pub(crate) fn make<M: Medium>(&self, m: &mut M) -> Result<(), MediumFault>
-        requires { IsInside (M.state m.old).size self.now }
-        ensures makes { MakesTurn self.now result (M.state m.old) (M.state m.new) }
-        ensures counts { let count = counts_of self.now in
-            CallsUpTo count.0 count.1 count.2 result (M.state m.old) (M.state m.new) }
-        ensures follows { M.follows m.old m.new }
-        ensures looks { (end : ℕ) → ReadsBefore end self.now
-            → LooksOnly (λ s. s < end) (M.state m.old) (M.state m.new) }
+    /// The first call, and in the sector what it writes.
+    pub(crate) fn first(&self, sector: &mut [u8; 512]) -> Call
+        ensures { IsFirst self.now result sector.new }
     {
         match self {
-            Turn::Copy(from, to, first) => copy_sector(m, *from, *to, first),
-            Turn::Flush => m.flush(),
-            Turn::Head(head) => write_through(m, 1, &head.encode()),
+            Turn::Copy(from, _, _) => Call::Read(*from),
+            Turn::Flush => Call::Flush,
+            Turn::Head(head) => {
+                *sector = head.encode();
+                Call::Write(1)
+            }
         }
     }
-}
 
-// Writes the bytes of one sector to another, with these in front.
-fn copy_sector<M: Medium>(
-    m: &mut M,
-    from: u64,
-    to: u64,
-    first: &Option<[u8; 8]>,
-) -> Result<(), MediumFault>
-    requires inside { (from < (M.state m.old).size) × (to < (M.state m.old).size) }
-    ensures writes { let bytes = begun_with first.now ((M.state m.old).content from) in
-        WritesSector to bytes (Holds to bytes (M.state m.old).content (M.state m.new).content)
-        result (M.state m.old) (M.state m.new) }
-    ensures counts { CallsUpTo 2 1 0 result (M.state m.old) (M.state m.new) }
-    ensures follows { M.follows m.old m.new }
-    ensures looks { LooksOnly (λ s. s ≡ from) (M.state m.old) (M.state m.new) }
-{
-    let mut sector = [0; 512];
-    m.read(from, &mut sector)?;
-    put_first(&mut sector, first);
-    m.write(to, &sector)
-}
-
-// Writes a sector and flushes it.
-fn write_through<M: Medium>(m: &mut M, place: u64, sector: &[u8; 512]) -> Result<(), MediumFault>
-    requires { place < (M.state m.old).size }
-    ensures writes { WritesSector place sector.now
-        (Holds place sector.now (M.state m.old).content (M.state m.new).content
-        × Only (M.state m.new).content (M.state m.new).may_leave)
-        result (M.state m.old) (M.state m.new) }
-    ensures counts { CallsUpTo 2 2 1 result (M.state m.old) (M.state m.new) }
-    ensures follows { M.follows m.old m.new }
-    ensures looks { (M.state m.new).looked ≡ (M.state m.old).looked }
-{
-    m.write(place, sector)?;
-    m.flush()
+    /// The call after it, if there is one. The sector is the one that the first call left.
+    pub(crate) fn second(&self, sector: &mut [u8; 512]) -> Option<Call>
+        ensures { IsSecond self.now sector.old result sector.new }
+    {
+        match self {
+            Turn::Copy(_, to, first) => {
+                put_first(sector, first);
+                Some(Call::Write(*to))
+            }
+            Turn::Flush => None,
+            Turn::Head(_) => Some(Call::Flush),
+        }
+    }
 }
 
 /// The next turn of the retiring of a record on a medium of these sizes. It is the oldest of those

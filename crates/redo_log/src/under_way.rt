@@ -2,39 +2,38 @@
 ghost use Rattle.std.specs.Prelude.{◌≡◌, ◌<◌, ◌*◌, length};
 ghost use Rattle.journal.specs.Record.{entries_of};
 ghost use Rattle.redo_log.specs.Value.{IsStepped};
-ghost use Rattle.redo_log.specs.Steps.{IsOn, BringsRecordOn};
+ghost use Rattle.redo_log.specs.Steps.{TellsStep};
 
-use crate::call::make_next;
+use crate::call::next_call;
 use crate::index::enter_record;
 use crate::stage::steps_for;
 use crate::{Log, Progress};
 use journal::slot_of;
-use medium::{Medium, MediumFault};
+use medium::{Call, Medium};
 
 impl Log {
-    /// Makes the next call of the record under way, which is not counted yet.
-    pub(crate) fn make_call<M: Medium>(
+    /// The next call of the record under way, and in the sector what it writes. It is not made, and
+    /// not counted yet: `step_made` counts it, and `stop` gives the log up where it was refused.
+    pub fn next_step<M: Medium>(
         &self,
-        m: &mut M,
         numbers: &[u64],
         bytes: &[u8],
-    ) -> Result<(), MediumFault>
-        requires on { IsOn self.now (M.state m.old) }
+        sector: &mut [u8; 512],
+    ) -> Call
         requires under_way { 0 < self.now.steps_left }
         requires numbers { numbers.now ≡ self.now.under_way }
         requires bytes { length bytes.now ≡ 512 * length numbers.now }
-        ensures { BringsRecordOn M.state M.follows (entries_of numbers.now bytes.now) result
-            self.now m.old m.new }
+        ensures { TellsStep M.state (entries_of numbers.now bytes.now) self.now result sector.new }
     {
         let Some(made) = self.made else {
             unreachable!()
         };
         let stamp = self.head + self.waiting.len() as u64;
-        make_next(m, &self.sizes, stamp, numbers, bytes, made)
+        next_call(&self.sizes, stamp, numbers, bytes, made, sector)
     }
 
     /// Counts a call of the record under way, which is durable with its last one.
-    pub(crate) fn count_call(&mut self, numbers: &[u64]) -> Progress
+    pub fn step_made(&mut self, numbers: &[u64]) -> Progress
         requires { (0 < self.old.steps_left) × (numbers.now ≡ self.old.under_way) }
         ensures { IsStepped result self.old self.new }
     {

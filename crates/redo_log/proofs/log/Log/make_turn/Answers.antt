@@ -1,36 +1,30 @@
-use Rattle.std.proofs.Common.{rules}
-use Rattle.std.proofs.lemmas.Result.{on_ok_weaker}
-use Rattle.journal.specs.Places.{first_home}
-use Rattle.redo_log.proofs.RecordSteps.{counts_next, leaves_log}
-use Rattle.redo_log.proofs.LogRules.{log_is}
-use Rattle.redo_log.proofs.HeldLog.{dead_held}
-use Rattle.redo_log.proofs.RetireTurns.{turn_leaves, stepped_held, sent_held}
+use Rattle.std.proofs.Common.{Ok, ◌∙◌, arith}
+use Rattle.redo_log.specs.Steps.{IsOn}
+use Rattle.redo_log.proofs.TurnLaws.{two_counts, two_leave}
 use Rattle.redo_log.proofs.log.Log.make_turn.Goals as goal
 
 pub returns-clause-brings : goal.returns-clause-brings
 returns-clause-brings g c =
-    let log = c.args.self.now in
-    let sound = g.met.M.Medium.sound c.args.m.now in
-    let next = c.oldest_turn.ensures.next in
-    let made = c.make.ensures.makes in
-    let is = log_is _ c.oldest_turn.ensures.fields.1 c.oldest_turn.ensures.fields.2 in
-    let live = c.requires.on.live in
-    let size = c.make.ensures.counts.size in
-    let left = leaves_log (λ view holds. turn_leaves is live c.requires.owed sound holds _ next.next _ made.adds)
-    (made.spares _ next.inside) (c.make.ensures.looks (first_home log.shape) next.reads) in
+    let first = c.turn_first-first.ensures in
+    let begun = first.law c.args.m.now c.perform.new.m c.perform.new.sector (Ok tt) c.requires.on c.in_ok-perform.ensures.performed in
+    let second = c.in-Some.ensures in
+    let a = c.in_ok-perform.ensures.performed.passes in
+    let b = c.perform-2.ensures.performed.passes in
+    let on : IsOn c.args.self.now (g.M.Medium.state c.perform.new.m) = record {
+      live = c.requires.on.live;
+      fits = omega (arith, a.size_stays, c.requires.on.fits);
+    } in
+    let ended = second.law c.perform.new.m c.perform-2.new.m c.perform-2.new.sector c.perform-2.result on c.perform-2.ensures.performed in
     record {
-      passes = let calls = counts_next is c.requires.owed _ next.next c.make.ensures.counts in search rules;
-      leaves = left;
-      dead = λ view holds. dead_held holds _ (g.met.M.Medium.sound c.make.new.m) size (left.cuts view holds);
-      counted = λ view holds then stepped.
-          on_ok_weaker c.make.result
-          (λ done. stepped_held is live c.requires.owed sound holds _ next.next _ made.adds size done then stepped) made.done;
+      passes = record {
+        calls = two_counts c.args.self.now c.requires.owed c.turn_first-first.result c.in-Some.second
+            first.home first.head second.home second.flush second.head a b;
+        failures = rw a.failures_are at b.failures_are;
+        size = b.size_stays ∙ a.size_stays;
+        follows = g.met.M.Medium.follows_through c.args.m.now c.perform.new.m c.perform-2.new.m c.in_ok-perform.ensures.follows
+            c.perform-2.ensures.follows;
+      };
+      leaves = two_leave begun ended;
+      dead = λ view holds. ended.dead view (begun.half view holds);
+      counted = λ view holds next stepped. ended.done view (begun.half view holds) next stepped;
     }
-
-pub returns-clause-sent : goal.returns-clause-sent
-returns-clause-sent g c away view holds then home =
-    on_ok_weaker c.make.result
-    (λ done. sent_held (log_is _ c.oldest_turn.ensures.fields.1 c.oldest_turn.ensures.fields.2) c.requires.on.live c.requires.owed
-    (g.met.M.Medium.sound c.args.m.now) holds c.oldest_turn.result c.oldest_turn.ensures.next.next (g.M.Medium.state c.make.new.m)
-    c.make.ensures.makes.adds c.make.ensures.counts.size done then away home)
-    c.make.ensures.makes.done
