@@ -11,7 +11,7 @@ use Rattle.device_file.specs.declared.copying.CopyFault.TheVariants as fault
 use Rattle.device_file.specs.declared.opening.FirstSectors.{FirstSectors}
 use Rattle.console.specs.Streams.{AppendsSome}
 use Rattle.images.specs.Exporting.{HasBlocks, HasSomeBlocks, IsNotRecoveredIn, IsRecoveredIn}
-use Rattle.images.specs.Opened.{IsTargetUnmade}
+use Rattle.images.specs.Opened.{IsTargetUnmade, WithFirst, HasNoFirst}
 use Rattle.images.specs.Texts.{blocks_text}
 use Rattle.images.specs.declared.refusal.Refusal.{Refusal}
 use Rattle.images.specs.declared.refusal.Refusal.TheVariants as refused
@@ -56,15 +56,25 @@ module _ (holds : ℕ → List ℕ → Type 0) (refuses : ℕ → ℕ → Type 0
     pub refused_is : refusal ≡ export_refusal why
     pub kept : Keeps was now
 
+  -- there was no memory, and no plain file was made
+  pub record IsCopyUnbegun (refusal : Refusal) : Type 0 where
+    pub none : raw ≡ None
+    pub refused_is : refusal ≡ refused.NoMemory
+    pub kept : Keeps was now
+
   -- no plain file was had
   pub record IsCopyUnmade (refusal : Refusal) : Type 0 where
     pub none : raw ≡ None
     pub cause : IsTargetUnmade refusal
     pub kept : Keeps was now
 
-  abbrev pub IsNoPlainCopy : Refusal → Type 0
-  IsNoPlainCopy refusal =
+  -- with the memory for it no plain copy was made: it is not refused for want of memory
+  abbrev pub IsNoCopyMade : Refusal → Type 0
+  IsNoCopyMade refusal =
       IsCopyUnmade refusal ⊎ (IsCopyStopped refusal ⊎ IsCopyUntold refusal)
+
+  abbrev pub IsNoPlainCopy : Refusal → Type 0
+  IsNoPlainCopy refusal = IsCopyUnbegun refusal ⊎ IsNoCopyMade refusal
 
 -- of an image with these first sectors, on a device that holds these bytes behind them
 module _ (holds : ℕ → List ℕ → Type 0) (refuses : ℕ → ℕ → Type 0) (first : FirstSectors)
@@ -91,3 +101,22 @@ module _ (holds : ℕ → List ℕ → Type 0) (refuses : ℕ → ℕ → Type 0
 
   abbrev pub IsNotExported : Refusal → Type 0
   IsNotExported refusal = IsExportUnbegun refusal ⊎ IsExportStopped refusal
+
+-- Of the file of an image, of `size` sectors: what its reads gave, which of them it refused, and
+-- what the device holds behind its first sectors, whatever that is.
+module _ (holds : ℕ → List ℕ → Type 0) (refuses : ℕ → ℕ → Type 0) (size : ℕ) (device : List ℕ)
+    (was now : Option (List ℕ)) (raw : Option FileValue) where
+  -- its first sectors were read, and its blocks copied
+  abbrev pub IsExportedOf : Type 0
+  IsExportedOf = WithFirst holds size
+      (λ first. IsExported holds refuses first device was now raw)
+
+  -- they were not read, and no plain file was made
+  pub record IsUnreadToExport (refusal : Refusal) : Type 0 where
+    pub none : raw ≡ None
+    pub cause : HasNoFirst refuses size refusal
+    pub kept : Keeps was now
+
+  abbrev pub IsNotExportedOf : Refusal → Type 0
+  IsNotExportedOf refusal = IsUnreadToExport refusal
+      ⊎ WithFirst holds size (λ first. IsNotExported holds refuses first device was now raw refusal)

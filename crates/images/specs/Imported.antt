@@ -73,6 +73,14 @@ module _ (holds : ℕ → List ℕ → Type 0) (refuses : ℕ → ℕ → Type 0
     pub refused_is : refusal ≡ refused.Sizes
     pub kept : Keeps was now
 
+  -- With the memory for it no image was made: it is not refused for want of memory.
   abbrev pub IsNoImage : Refusal → Type 0
   IsNoImage refusal = IsImportOver refusal ⊎ (IsImportUnmade refusal
       ⊎ (IsImportStopped refusal ⊎ IsImportUntold refusal))
+
+-- there was no memory, and no file was made for the image
+pub record IsImportUnbegun (was now : Option (List ℕ)) (back : Option FileValue)
+    (refusal : Refusal) : Type 0 where
+  pub none : back ≡ None
+  pub refused_is : refusal ≡ refused.NoMemory
+  pub kept : Keeps was now

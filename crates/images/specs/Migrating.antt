@@ -12,7 +12,7 @@ use Rattle.device_file.specs.Asked.{Told}
 use Rattle.device_file.specs.Outbox.{IsCarriedOut}
 use Rattle.device_file.specs.declared.fault.FileFault.{FileFault}
 use Rattle.device_file.specs.declared.opening.FirstSectors.{FirstSectors}
-use Rattle.images.specs.Opened.{IsWindowOver, HaveImage}
+use Rattle.images.specs.Opened.{IsWindowOver, HaveImage, WithFirst, HasNoFirst}
 use Rattle.images.specs.Texts.{ended}
 use Rattle.images.specs.declared.refusal.Refusal.{Refusal}
 use Rattle.images.specs.declared.refusal.Refusal.TheVariants as refused
@@ -79,3 +79,15 @@ pub record HasFault (first : FirstSectors) (device : List ℕ) (old new : Told) 
 abbrev pub IsNotMigratedOn : FirstSectors → List ℕ → Told → Told → Refusal → Type 0
 IsNotMigratedOn first device old new refusal = ((refusal ≡ refused.NoMemory) × (new ≡ old))
     ⊎ (HasFault first device old new refusal ⊎ IsMigratedInPart first device old new refusal)
+
+-- Of a file of `size` sectors: what its reads gave, and what the device holds behind its first
+-- sectors, whatever that is. What it was asked then, and now.
+module _ (holds : ℕ → List ℕ → Type 0) (size : ℕ) (device : List ℕ) (old new : Told) where
+  -- its first sectors were read, and its image was brought to format 2
+  abbrev pub IsMigratedOf : Bool → Type 0
+  IsMigratedOf was_one = WithFirst holds size (λ first. IsMigratedOn first device old new was_one)
+
+  -- they were not read, and it was asked for nothing; or its image was not brought there
+  abbrev pub IsNotMigratedOf : (ℕ → ℕ → Type 0) → Refusal → Type 0
+  IsNotMigratedOf refuses refusal = (HasNoFirst refuses size refusal × (new ≡ old))
+      ⊎ WithFirst holds size (λ first. IsNotMigratedOn first device old new refusal)

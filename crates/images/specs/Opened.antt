@@ -7,19 +7,41 @@ use Rattle.journal.specs.declared.super_sector.Super.{Super}
 use Rattle.window.specs.Window.{Window}
 use Rattle.window.specs.Window as window
 use Rattle.device_file.specs.FileValue.{FileValue, fresh}
-use Rattle.device_file.specs.First.{SpellsSuper, near_of}
+use Rattle.device_file.specs.First.{IsUnopened, SpellsSuper, near_of}
+use Rattle.device_file.specs.Reads.{AreRead}
 use Rattle.device_file.specs.declared.fault.FileFault.{FileFault}
 use Rattle.device_file.specs.declared.opening.FirstSectors.{FirstSectors}
+use Rattle.device_file.specs.declared.opening.OpenFault.{OpenFault}
+use Rattle.device_file.specs.declared.opening.OpenFault.TheVariants as opening
 use Rattle.images.specs.declared.refusal.Refusal.{Refusal}
 use Rattle.images.specs.declared.refusal.Refusal.TheVariants as refused
 
--- These are the first sectors of a file of `size` sectors, as they were read: all before the first
--- home sector that their super tells, and two where they have none; those that the file has, where
--- it is shorter.
-pub record HasFirst (size : ℕ) (first : FirstSectors) : Type 0 where
+-- These are the first sectors of a file of `size` sectors, exactly as its reads gave them: all
+-- before the first home sector that their super tells, and two where they have none; those that the
+-- file has, where it is shorter.
+pub record HasFirst (holds : ℕ → List ℕ → Type 0) (size : ℕ) (first : FirstSectors) : Type 0 where
   pub size_is : first.sectors ≡ size
   pub spells : SpellsSuper first.sizes (sector_of first.bytes.items 0)
   pub count : length first.bytes.items ≡ 512 * min (near_of first.sizes) size
+  pub read : AreRead holds 0 first.bytes.items
+
+-- the first sectors of a file were read, and this holds of them
+pub record WithFirst (holds : ℕ → List ℕ → Type 0) (size : ℕ) (P : FirstSectors → Type 0)
+    : Type 0 where
+  pub first : FirstSectors
+  pub has : HasFirst holds size first
+  pub so : P first
+
+-- why no first sectors were had
+abbrev pub refusal_of_open : OpenFault → Refusal
+refusal_of_open (opening.File why) = refused.File why
+refusal_of_open opening.NoMemory = refused.NoMemory
+
+-- They were not had of a file that refuses these reads and has `size` sectors: it has none, it
+-- refused a read of first ones, or there was no memory.
+abbrev pub HasNoFirst : (ℕ → ℕ → Type 0) → ℕ → Refusal → Type 0
+HasNoFirst refuses size refusal =
+    (why : OpenFault) × IsUnopened refuses size why × (refusal ≡ refusal_of_open why)
 
 -- Their first sector spells this super, and the file has all sectors of the image.
 pub record HaveImage (first : FirstSectors) (sizes : Super) : Type 0 where
@@ -33,29 +55,15 @@ abbrev pub IsWindowOver : FirstSectors → List ℕ → ℕ → Window → Type 
 IsWindowOver first device room w =
     w ≡ window.fresh first.sectors first.bytes.items device 0 room
 
--- a file was opened, and asked for nothing
-pub record IsOpened (back : Option FileValue) (first : FirstSectors) : Type 0 where
-  pub file : FileValue
+-- a file was opened or made, and asked for nothing
+pub record IsOpened (back : Option FileValue) (file : FileValue) : Type 0 where
   pub given : back ≡ Some file
   pub untouched : file ≡ fresh file.size
-  pub has : HasFirst file.size first
 
--- it refused, or there was no memory
-abbrev pub IsFileOrMemory : Refusal → Type 0
-IsFileOrMemory refusal = ((fault : FileFault) × (refusal ≡ refused.File fault))
-    ⊎ (refusal ≡ refused.NoMemory)
-
--- a file was opened and asked for nothing, and its first sectors were not had
-pub record IsOpenedAlone (back : Option FileValue) (refusal : Refusal) : Type 0 where
-  pub file : FileValue
-  pub given : back ≡ Some file
-  pub untouched : file ≡ fresh file.size
-  pub cause : IsFileOrMemory refusal
-
--- no file was made or opened: it refused, or a stream, or there was no memory
+-- no file was made or opened: it refused, or a stream
 abbrev pub IsUnmade : Refusal → Type 0
 IsUnmade refusal = ((fault : FileFault) × (refusal ≡ refused.File fault))
-    ⊎ ((refusal ≡ refused.Streams) ⊎ (refusal ≡ refused.NoMemory))
+    ⊎ (refusal ≡ refused.Streams)
 
 -- the same of the plain file that an import reads
 abbrev pub IsPlainUnopened : Refusal → Type 0
@@ -65,4 +73,4 @@ IsPlainUnopened refusal = ((fault : FileFault) × (refusal ≡ refused.Plain fau
 -- and of the new file of an export or an import
 abbrev pub IsTargetUnmade : Refusal → Type 0
 IsTargetUnmade refusal = ((fault : FileFault) × (refusal ≡ refused.Target fault))
-    ⊎ ((refusal ≡ refused.Streams) ⊎ (refusal ≡ refused.NoMemory))
+    ⊎ (refusal ≡ refused.Streams)

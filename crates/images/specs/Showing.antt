@@ -9,7 +9,7 @@ use Rattle.recovery.specs.declared.inspection.Inspection.{Inspection}
 use Rattle.recovery.specs.declared.start_fault.StartFault.{StartFault}
 use Rattle.device_file.specs.declared.opening.FirstSectors.{FirstSectors}
 use Rattle.console.specs.Streams.{AppendsSome}
-use Rattle.images.specs.Opened.{IsWindowOver, HaveImage}
+use Rattle.images.specs.Opened.{IsWindowOver, HaveImage, WithFirst, HasNoFirst}
 use Rattle.images.specs.declared.refusal.Refusal.{Refusal}
 use Rattle.images.specs.declared.refusal.Refusal.TheVariants as refused
 
@@ -71,3 +71,16 @@ module _ (first : FirstSectors) (device : List ℕ) (was now : Option (List ℕ)
   abbrev pub IsNotShown : Refusal → Type 0
   IsNotShown refusal = ((refusal ≡ refused.NoMemory) × Keeps was now)
       ⊎ (IsFaulty refusal ⊎ IsShownInPart refusal)
+
+-- Of a file of `size` sectors: what its reads gave, and what the device holds behind its first
+-- sectors, whatever that is.
+module _ (holds : ℕ → List ℕ → Type 0) (size : ℕ) (device : List ℕ) (was now : Option (List ℕ))
+  where
+    -- its first sectors were read, and what they stand for was told
+    abbrev pub IsShownOf : Type 0
+    IsShownOf = WithFirst holds size (λ first. IsShown first device was now)
+
+    -- they were not read, and nothing was told; or what they stand for was not, or not all of it
+    abbrev pub IsNotShownOf : (ℕ → ℕ → Type 0) → Refusal → Type 0
+    IsNotShownOf refuses refusal = (HasNoFirst refuses size refusal × Keeps was now)
+        ⊎ WithFirst holds size (λ first. IsNotShown first device was now refusal)

@@ -27,9 +27,9 @@ pub(crate) struct LeftFiles {
 
 /// Why what was asked for was not done, and the one file as it was left.
 #[derive(Drop)]
-pub(crate) struct Stopped {
-    pub(crate) refusal: Refusal,
-    pub(crate) file: LeftFile,
+pub struct Stopped {
+    pub refusal: Refusal,
+    pub file: Option<SystemFile<File>>,
 }
 
 /// Why what was asked for was not done, and both files as they were left.

@@ -5,10 +5,14 @@ ghost use Rattle.device_file.specs.Asked.{AsksFor};
 ghost use Rattle.images.specs.Copying.{Copies};
 ghost use Rattle.images.specs.Exported.{
   IsExported,
+  IsExportedOf,
+  IsNoCopyMade,
   IsNoPlainCopy,
   IsNotExported,
+  IsNotExportedOf,
   IsPlainCopy,
   export_refusal,
+  exported_text,
 };
 ghost use Rattle.images.specs.Exporting.{
   GoesHome,
@@ -24,7 +28,7 @@ use crate::copying::{CopyRoom, copy_room, tell_of};
 use crate::ended::{LeftFiles, Refused, Stopped};
 use crate::gauge::Gauge;
 use crate::image::new_target;
-use crate::opening::{Access, open_image, window_over};
+use crate::opening::{Access, first_of, open_file, window_over};
 use crate::refusal::Refusal;
 use device_file::{
     CopyFault, DeviceFile, FileCall, FileFault, FirstSectors, Meter, Run, SystemFile, carry_moved,
@@ -44,17 +48,18 @@ pub(crate) fn export<R: Files<File = File> + AllocGlobal, O: Write, E: Write + I
     image: &str,
     raw: &str,
     replace: bool,
+    device: &DeviceHolds,
     out: &mut O,
     err: &mut E,
 ) -> Result<LeftFiles, Refused>
-    ensures done { IfOk result
-        (λ left. IsExport (O.contents out.old) (O.contents out.new) left.file left.raw) }
-    ensures refused { IfErr result (λ refused. IsExportRefused (O.contents out.old)
-        (O.contents out.new) refused.files.file refused.files.raw refused.refusal) }
+    ensures done { IfOk result (λ left. IsExport device.now.bytes (O.contents out.old)
+        (O.contents out.new) left.file left.raw) }
+    ensures refused { IfErr result (λ refused. IsExportRefused device.now.bytes
+        (O.contents out.old) (O.contents out.new) refused.files.file refused.files.raw
+        refused.refusal) }
 {
-    let (file, first) = open_image(rt, image, Access::Look)?;
-    let device = DeviceHolds::any();
-    match export_from(rt, &file, first, &device, raw, replace, out, err) {
+    let file = open_file(rt, image, Access::Look)?;
+    match export_file(rt, &file, device, raw, replace, out, err) {
         Ok(plain) => Ok(both(file, plain)),
         Err(stopped) => Err(Refused {
             refusal: stopped.refusal,
@@ -73,6 +78,41 @@ fn both(image: SystemFile<File>, plain: SystemFile<File>) -> LeftFiles
     LeftFiles {
         file: Some(image),
         raw: Some(plain),
+    }
+}
+
+/// Copies the blocks of the image of a file, which is only read, to a new plain file, and says how
+/// many there are. Behind the first sectors the device holds what the caller says, whatever that
+/// is.
+///
+/// # Errors
+///
+/// The read of the first sectors that was refused, the fault of the image, and `NoMemory`: then no
+/// plain file was made. Or why none could be made, or the call that one of the files refused.
+pub fn export_file<
+    R: Files<File = File> + AllocGlobal,
+    S: DeviceFile,
+    O: Write,
+    E: Write + IsTerminal,
+>(
+    rt: &R,
+    image: &S,
+    device: &DeviceHolds,
+    raw: &str,
+    replace: bool,
+    out: &mut O,
+    err: &mut E,
+) -> Result<SystemFile<File>, Stopped>
+    ensures ok { IfOk result (λ plain. IsExportedOf (S.holds image.now) (S.refuses image.now)
+        (S.size image.now) device.now.bytes (O.contents out.old) (O.contents out.new)
+        (Some plain)) }
+    ensures err { IfErr result (λ stopped. IsNotExportedOf (S.holds image.now)
+        (S.refuses image.now) (S.size image.now) device.now.bytes (O.contents out.old)
+        (O.contents out.new) stopped.file stopped.refusal) }
+{
+    match first_of(rt.alloc(), image) {
+        Ok(first) => export_from(rt, image, first, device, raw, replace, out, err),
+        Err(refusal) => Err(Stopped::from(refusal)),
     }
 }
 
@@ -122,10 +162,35 @@ fn copy_out<R: Files<File = File> + AllocGlobal, S: DeviceFile, O: Write, E: Wri
         sizes.now window.old.outbox (O.contents out.old) (O.contents out.new) stopped.file
         stopped.refusal) }
 {
-    let mut room = copy_room(rt.alloc(), b"exported ", sizes.blocks)?;
+    let mut room = match copy_room(rt.alloc(), b"exported ", sizes.blocks) {
+        Ok(room) => room,
+        Err(refusal) => return Err(Stopped::from(refusal)),
+    };
+    make_copy(rt, image, sizes, window, raw, replace, &mut room, out, err)
+}
+
+// Makes a plain file, once all memory is had, and copies the blocks to it.
+fn make_copy<R: Files<File = File>, S: DeviceFile, O: Write, E: Write + IsTerminal>(
+    rt: &R,
+    image: &S,
+    sizes: &Super,
+    window: &mut WindowMedium,
+    raw: &str,
+    replace: bool,
+    room: &mut CopyRoom,
+    out: &mut O,
+    err: &mut E,
+) -> Result<SystemFile<File>, Stopped>
+    requires { room.old.line.items ≡ exported_text sizes.now.blocks }
+    ensures ok { IfOk result (λ plain. IsPlainCopy (S.holds image.now) (S.refuses image.now)
+        sizes.now window.old.outbox (O.contents out.old) (O.contents out.new) (Some plain)) }
+    ensures err { IfErr result (λ stopped. IsNoCopyMade (S.holds image.now) (S.refuses image.now)
+        sizes.now window.old.outbox (O.contents out.old) (O.contents out.new) stopped.file
+        stopped.refusal) }
+{
     let mut plain = new_target(rt, raw, sizes.blocks, replace)?;
-    match export_watched(image, sizes, window, &mut plain, &mut room, err) {
-        Ok(()) => tell_of(plain, out, &room),
+    match export_watched(image, sizes, window, &mut plain, room, err) {
+        Ok(()) => tell_of(plain, out, room),
         Err(fault) => Err(Stopped::with(refusal_of(fault), plain)),
     }
 }

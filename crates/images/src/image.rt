@@ -1,11 +1,11 @@
 //! The file of a new image, or of a copy.
-ghost use Rattle.std.specs.Prelude.{◌≡◌, ◌⊎◌, IfOk, IfErr, MatchOption};
+ghost use Rattle.std.specs.Prelude.{◌≡◌, IfOk, IfErr, MatchOption};
 ghost use Rattle.journal.specs.Places.{new_shape};
 ghost use Rattle.journal.specs.Formats.{shape_of};
 ghost use Rattle.device_file.specs.FileValue.{fresh};
 ghost use Rattle.device_file.specs.declared.fault.FileFault.{FileFault};
 ghost use Rattle.images.specs.Limits.{AreLimits};
-ghost use Rattle.images.specs.Opened.{IsTargetUnmade};
+ghost use Rattle.images.specs.Opened.{IsTargetUnmade, IsUnmade};
 ghost use Rattle.images.specs.declared.refusal.Refusal.TheVariants as refused;
 
 use crate::refusal::Refusal;
@@ -34,8 +34,7 @@ pub(crate) fn new_file<R: Files<File = File>>(
     replace: bool,
 ) -> Result<SystemFile<File>, Refusal>
     ensures ok { IfOk result (λ file. file ≡ fresh sectors) }
-    ensures err { IfErr result (λ refusal. ((fault : FileFault) × (refusal ≡ refused.File fault))
-        ⊎ (refusal ≡ refused.Streams)) }
+    ensures err { IfErr result IsUnmade }
 {
     let Some(_streams) = guard_streams(rt) else {
         return Err(Refusal::Streams);

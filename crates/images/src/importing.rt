@@ -4,13 +4,13 @@ ghost use Rattle.journal.specs.Places.{sectors_of};
 ghost use Rattle.journal.specs.Formats.{shape_of};
 ghost use Rattle.device_file.specs.FileValue.{fresh};
 ghost use Rattle.images.specs.Copying.{Copies};
-ghost use Rattle.images.specs.Imported.{IsImage, IsNoImage, import_refusal};
+ghost use Rattle.images.specs.Imported.{IsImage, IsNoImage, import_refusal, imported_text};
 ghost use Rattle.images.specs.Importing.{IsImported, IsNotImported, MakesImage};
 ghost use Rattle.images.specs.Opened.{IsTargetUnmade};
 ghost use Rattle.images.specs.Program.{IsImport, IsImportRefused};
 
 use crate::copying::{CopyRoom, copy_room, tell_of};
-use crate::ended::{LeftFiles, Refused, Stopped};
+use crate::ended::{LeftFile, LeftFiles, Refused, Stopped};
 use crate::gauge::Gauge;
 use crate::image::{new_target, sizes_of};
 use crate::making::ask_to_be;
@@ -39,33 +39,51 @@ pub(crate) fn import<R: Files<File = File> + AllocGlobal, O: Write, E: Write + I
         (O.contents out.new) refused.files.file refused.files.raw format slots refused.refusal) }
 {
     let plain = open_plain(rt, raw)?;
-    match import_from(rt, &plain, image, format, slots, replace, out, err) {
+    let mut room = match copy_room(rt.alloc(), b"imported ", plain.sectors()) {
+        Ok(room) => room,
+        Err(refusal) => return Err(refused_with(refusal, None, plain)),
+    };
+    match import_from(
+        rt, &plain, image, format, slots, replace, &mut room, out, err,
+    ) {
         Ok(file) => Ok(LeftFiles {
             file: Some(file),
             raw: Some(plain),
         }),
-        Err(stopped) => Err(Refused {
-            refusal: stopped.refusal,
-            files: LeftFiles {
-                file: stopped.file,
-                raw: Some(plain),
-            },
-        }),
+        Err(stopped) => Err(refused_with(stopped.refusal, stopped.file, plain)),
     }
 }
 
-// Makes an image of the blocks of a plain file, which is only read. The sizes are tested before a
-// file is made.
-fn import_from<R: Files<File = File> + AllocGlobal, S: DeviceFile, O: Write, E: Write + IsTerminal>(
+// Why an import of this plain file was refused.
+fn refused_with(refusal: Refusal, file: LeftFile, plain: SystemFile<File>) -> Refused
+    ensures { result ≡ record {
+      refusal = refusal;
+      files = record { file = file; raw = Some plain };
+    } }
+{
+    Refused {
+        refusal,
+        files: LeftFiles {
+            file,
+            raw: Some(plain),
+        },
+    }
+}
+
+// Makes an image of the blocks of a plain file, which is only read, once all memory is had. The
+// sizes are tested before a file is made.
+fn import_from<R: Files<File = File>, S: DeviceFile, O: Write, E: Write + IsTerminal>(
     rt: &R,
     plain: &S,
     image: &str,
     format: LogFormat,
     slots: u64,
     replace: bool,
+    room: &mut CopyRoom,
     out: &mut O,
     err: &mut E,
 ) -> Result<SystemFile<File>, Stopped>
+    requires { room.old.line.items ≡ imported_text (S.size plain.now) }
     ensures ok { IfOk result (λ file. IsImage (S.holds plain.now) (S.refuses plain.now) format
         (S.size plain.now) slots (O.contents out.old) (O.contents out.new) (Some file)) }
     ensures err { IfErr result (λ stopped. IsNoImage (S.holds plain.now) (S.refuses plain.now)
@@ -75,10 +93,9 @@ fn import_from<R: Files<File = File> + AllocGlobal, S: DeviceFile, O: Write, E: 
     let Some(sizes) = sizes_of(format, plain.sectors(), slots) else {
         return Err(Stopped::from(Refusal::Sizes));
     };
-    let mut room = copy_room(rt.alloc(), b"imported ", sizes.blocks)?;
     let mut file = new_image(rt, image, &sizes, replace)?;
-    match import_watched(plain, &sizes, &mut file, &mut room, err) {
-        Ok(()) => tell_of(file, out, &room),
+    match import_watched(plain, &sizes, &mut file, room, err) {
+        Ok(()) => tell_of(file, out, room),
         Err(fault) => Err(Stopped::with(refusal_of(fault), file)),
     }
 }

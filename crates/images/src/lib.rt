@@ -17,10 +17,12 @@ mod showing;
 mod task;
 mod text;
 
-pub use ended::Ended;
-pub use exporting::{export_blocks, recover_in_window};
+pub use ended::{Ended, Stopped};
+pub use exporting::{export_blocks, export_file, recover_in_window};
 pub use importing::import_blocks;
 pub use laws::{copy_laws, making_laws};
 pub use making::ask_to_be;
+pub use migrating::migrate_file;
 pub use program::{command, run_program};
 pub use refusal::Refusal;
+pub use showing::show_file;

@@ -3,12 +3,13 @@ ghost use Rattle.std.specs.Prelude.{◌≡◌, IfOk, IfErr};
 ghost use Rattle.device_file.specs.Asked.{Told};
 ghost use Rattle.device_file.specs.Outbox.{CarriesOut};
 ghost use Rattle.images.specs.Migrating.{IsMigratedIn, IsMigratedOn, IsNotMigratedOn};
+ghost use Rattle.images.specs.Migrating.{IsMigratedOf, IsNotMigratedOf};
 ghost use Rattle.images.specs.Migrating.{migration_room, migration_text};
 ghost use Rattle.images.specs.Program.{IsMigration, IsMigrationRefused};
 
 use crate::ended::{LeftFile, Stopped};
 use crate::exporting::room_to_recover;
-use crate::opening::{Access, open_image, window_over};
+use crate::opening::{Access, first_of, open_file, window_over};
 use crate::refusal::Refusal;
 use console::write_out;
 use device_file::{DeviceFile, FileFault, FirstSectors, Run, carry_out};
@@ -23,18 +24,16 @@ use window::{DeviceHolds, WindowMedium};
 pub(crate) fn migrate<R: Files<File = File> + AllocGlobal, O: Write>(
     rt: &R,
     image: &str,
+    device: &DeviceHolds,
     out: &mut O,
 ) -> Result<LeftFile, Stopped>
-    ensures done { IfOk result (IsMigration (O.contents out.old) (O.contents out.new)) }
-    ensures refused { IfErr result (λ stopped. IsMigrationRefused (O.contents out.old)
-        (O.contents out.new) stopped.file stopped.refusal) }
+    ensures done { IfOk result (IsMigration device.now.bytes (O.contents out.old)
+        (O.contents out.new)) }
+    ensures refused { IfErr result (λ stopped. IsMigrationRefused device.now.bytes
+        (O.contents out.old) (O.contents out.new) stopped.file stopped.refusal) }
 {
-    let Ok(mut run) = Run::new(rt.alloc()) else {
-        return Err(Stopped::from(Refusal::NoMemory));
-    };
-    let (mut file, first) = open_image(rt, image, Access::Change)?;
-    let device = DeviceHolds::any();
-    let was_one = match migrate_file(rt.alloc(), &mut file, first, &device, &mut run) {
+    let mut file = open_file(rt, image, Access::Change)?;
+    let was_one = match migrate_file(rt.alloc(), &mut file, device) {
         Ok(was_one) => was_one,
         Err(refusal) => {
             return Err(Stopped {
@@ -52,15 +51,44 @@ pub(crate) fn migrate<R: Files<File = File> + AllocGlobal, O: Write>(
     }
 }
 
-/// Has a file with these first sectors carry out what a migration of its image sends, in order. It
-/// answers whether the image was of format 1. Where the image has a fault, the file is asked for
-/// nothing. Behind the first sectors the device holds what the caller says.
-pub(crate) fn migrate_file<D: DeviceFile>(
+/// Brings the image of a file to format 2: the first sectors are read, the image is migrated in a
+/// window over them, and the file carries out what that sent, in order. It answers whether the
+/// image was of format 1. Behind the first sectors the device holds what the caller says, whatever
+/// that is.
+///
+/// # Errors
+///
+/// The read that was refused, the fault of the image, and `NoMemory`: then the file was asked for
+/// nothing. Or the call of the file that was refused; it was asked for nothing behind that.
+pub fn migrate_file<D: DeviceFile>(
+    alloc: Global,
+    file: &mut D,
+    device: &DeviceHolds,
+) -> Result<bool, Refusal>
+    ensures ok { IfOk result (IsMigratedOf (D.holds file.old) (D.size file.old) device.now.bytes
+        (D.told file.old) (D.told file.new)) }
+    ensures err { IfErr result (IsNotMigratedOf (D.holds file.old) (D.size file.old)
+        device.now.bytes (D.told file.old) (D.told file.new) (D.refuses file.old)) }
+    ensures size { D.size file.new ≡ D.size file.old }
+{
+    let first = match first_of(alloc, file) {
+        Ok(first) => first,
+        Err(refusal) => return Err(refusal),
+    };
+    match migrate_from(alloc, file, first, device) {
+        Ok(was_one) => Ok(was_one),
+        Err(refusal) => Err(refusal),
+    }
+}
+
+// Has a file with these first sectors carry out what a migration of its image sends, in order. It
+// answers whether the image was of format 1. Where the image has a fault, the file is asked for
+// nothing.
+fn migrate_from<D: DeviceFile>(
     alloc: Global,
     file: &mut D,
     first: FirstSectors,
     device: &DeviceHolds,
-    run: &mut Run,
 ) -> Result<bool, Refusal>
     ensures ok { IfOk result (IsMigratedOn first device.now.bytes (D.told file.old)
         (D.told file.new)) }
@@ -68,8 +96,11 @@ pub(crate) fn migrate_file<D: DeviceFile>(
         (D.told file.new)) }
     ensures size { D.size file.new ≡ D.size file.old }
 {
+    let Ok(mut run) = Run::new(alloc) else {
+        return Err(Refusal::NoMemory);
+    };
     let (mut window, was_one) = migrate_in_window(alloc, first, device)?;
-    match carry_all(&mut window, file, run) {
+    match carry_all(&mut window, file, &mut run) {
         Ok(()) => Ok(was_one),
         Err(fault) => Err(Refusal::File(fault)),
     }

@@ -1,19 +1,18 @@
 //! Files that are there: they are opened, and of an image the first sectors are read.
-ghost use Rattle.std.specs.Prelude.{◌≡◌, ◌⊎◌, IfOk, IfErr, Some, None};
+ghost use Rattle.std.specs.Prelude.{◌≡◌, IfOk, IfErr};
 ghost use Rattle.device_file.specs.FileValue.{fresh};
 ghost use Rattle.images.specs.Opened.{
   HasFirst,
-  IsFileOrMemory,
-  IsOpenedAlone,
+  HasNoFirst,
   IsPlainUnopened,
   IsUnmade,
   IsWindowOver,
+  refusal_of_open,
 };
 
-use crate::ended::Stopped;
 use crate::refusal::Refusal;
 use console::guard_streams;
-use device_file::{FileCall, FileFault, FirstSectors, OpenFault, SystemFile};
+use device_file::{DeviceFile, FileCall, FileFault, FirstSectors, OpenFault, SystemFile};
 use std::alloc::Global;
 use std::fs;
 use std::fs::{File, Files};
@@ -28,38 +27,14 @@ pub(crate) enum Access {
     Change,
 }
 
-/// The image file at this path, which is locked, and its first sectors. It is asked for nothing.
-pub(crate) fn open_image<R: Files<File = File> + AllocGlobal>(
-    rt: &R,
-    path: &str,
-    access: Access,
-) -> Result<(SystemFile<File>, FirstSectors), Stopped>
-    ensures ok { IfOk result (λ image. (image.0 ≡ fresh image.0.size)
-        × HasFirst image.0.size image.1) }
-    ensures err { IfErr result (λ stopped. ((stopped.file ≡ None) × IsUnmade stopped.refusal)
-        ⊎ IsOpenedAlone stopped.file stopped.refusal) }
+/// The first sectors of a file, as its reads give them.
+pub(crate) fn first_of<D: DeviceFile>(alloc: Global, file: &D) -> Result<FirstSectors, Refusal>
+    ensures ok { IfOk result (HasFirst (D.holds file.now) (D.size file.now)) }
+    ensures err { IfErr result (HasNoFirst (D.refuses file.now) (D.size file.now)) }
 {
-    match open_file(rt, path, access) {
-        Ok(file) => with_first(rt.alloc(), file),
-        Err(refusal) => Err(Stopped::from(refusal)),
-    }
-}
-
-// An image file and its first sectors. It is asked for nothing.
-fn with_first(
-    alloc: Global,
-    file: SystemFile<File>,
-) -> Result<(SystemFile<File>, FirstSectors), Stopped>
-    ensures ok { IfOk result (λ image. (image.0 ≡ file) × HasFirst file.size image.1) }
-    ensures err { IfErr result (λ stopped. (stopped.file ≡ Some file)
-        × IsFileOrMemory stopped.refusal) }
-{
-    match FirstSectors::read(alloc, &file) {
-        Ok(first) => Ok((file, first)),
-        Err(fault) => Err(Stopped {
-            refusal: refusal_of(fault),
-            file: Some(file),
-        }),
+    match FirstSectors::read(alloc, file) {
+        Ok(first) => Ok(first),
+        Err(fault) => Err(refusal_of(fault)),
     }
 }
 
@@ -78,8 +53,8 @@ pub(crate) fn open_plain<R: Files<File = File>>(
     }
 }
 
-// The file at this path, which is locked.
-fn open_file<R: Files<File = File>>(
+/// The file at this path, which is locked. It is asked for nothing.
+pub(crate) fn open_file<R: Files<File = File>>(
     rt: &R,
     path: &str,
     access: Access,
@@ -116,7 +91,7 @@ fn open_to_read<R: Files<File = File>>(rt: &R, path: &str) -> Result<SystemFile<
 
 // Why no first sectors were had.
 fn refusal_of(fault: OpenFault) -> Refusal
-    ensures { IsFileOrMemory result }
+    ensures { result ≡ refusal_of_open fault }
 {
     match fault {
         OpenFault::File(fault) => Refusal::File(fault),

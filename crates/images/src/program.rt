@@ -1,14 +1,18 @@
 //! From the words of a command to its exit status.
-ghost use Rattle.std.specs.Prelude.{◌≡◌, ◌≢◌, ◌⊎◌, ◌≤◌, List, ℕ, None, IfOk, IfErr, drop, map};
+ghost use Rattle.std.specs.Prelude.{◌≡◌, ◌≢◌, ◌≤◌, None, IfOk, IfErr, MatchResult};
+ghost use Rattle.std.specs.Prelude.{drop, map, string_bytes};
 ghost use Rattle.images.specs.declared.refusal.Refusal.{Refusal};
 ghost use Rattle.images.specs.Status.{status_of};
 ghost use Rattle.images.specs.Program.{
   HasDone,
   HasNoWords,
   HasNotDone,
+  IsMadeAs,
   IsMake,
   IsMakeRefused,
+  IsNotMade,
   IsObeyed,
+  IsProgramRefused,
   IsRefusedFor,
   IsTold,
   IsUntold,
@@ -17,6 +21,7 @@ ghost use Rattle.images.specs.Program.{
   version_text,
 };
 ghost use Rattle.images.specs.Task.{wanted_of};
+ghost use Rattle.journal.specs.Formats.{shape_of};
 
 use crate::ended::{Ended, LeftFile, LeftFiles, Refused, Stopped};
 use crate::exporting::export;
@@ -27,12 +32,12 @@ use crate::migrating::migrate;
 use crate::refusal::Refusal;
 use crate::showing::show;
 use crate::task::{Task, read_words};
-use console::{arguments, words_of, write_out};
+use console::{ArgumentFault, words_of, write_out};
 use device_file::{Run, SystemFile};
 use journal::{LogFormat, Super};
-use std::env::Env;
 use std::fs::{File, Files};
 use std::io::{IsTerminal, Write};
+use window::DeviceHolds;
 
 const HELP: &[u8] = b"usbdisk_image make IMAGE --blocks N --slots K --format 1|2 [--replace]\n\
 usbdisk_image show IMAGE\nusbdisk_image migrate IMAGE\n\
@@ -54,18 +59,19 @@ const VERSION: &[u8] = b"usbdisk_image 0.14\n";
 pub fn command<R: Files<File = File> + AllocGlobal, O: Write, E: Write + IsTerminal>(
     rt: &R,
     words: &[&str],
+    device: &DeviceHolds,
     out: &mut O,
     err: &mut E,
 ) -> Ended
     ensures statuses { result.status ≤ 5 }
-    ensures done { result.status ≡ 0 → IsObeyed (O.contents out.old) (O.contents out.new)
-        result.file result.raw (map (λ word. word.now) words.now) }
+    ensures done { result.status ≡ 0 → IsObeyed device.now.bytes (O.contents out.old)
+        (O.contents out.new) result.file result.raw (map (λ word. word.now) words.now) }
     ensures refused { result.status ≢ 0
         → (refusal : Refusal) × (result.status ≡ status_of refusal)
-        × IsRefusedFor (O.contents out.old) (O.contents out.new) result.file result.raw
-        (map (λ word. word.now) words.now) refusal }
+        × IsRefusedFor device.now.bytes (O.contents out.old) (O.contents out.new) result.file
+        result.raw (map (λ word. word.now) words.now) refusal }
 {
-    match dispatch(rt, words, out, err) {
+    match dispatch(rt, words, device, out, err) {
         Ok(left) => Ended {
             status: 0,
             file: left.file,
@@ -83,17 +89,18 @@ pub fn command<R: Files<File = File> + AllocGlobal, O: Write, E: Write + IsTermi
 fn dispatch<R: Files<File = File> + AllocGlobal, O: Write, E: Write + IsTerminal>(
     rt: &R,
     words: &[&str],
+    device: &DeviceHolds,
     out: &mut O,
     err: &mut E,
 ) -> Result<LeftFiles, Refused>
-    ensures done { IfOk result (λ left. IsObeyed (O.contents out.old) (O.contents out.new) left.file
-        left.raw (map (λ word. word.now) words.now)) }
-    ensures refused { IfErr result (λ refused. IsRefusedFor (O.contents out.old)
+    ensures done { IfOk result (λ left. IsObeyed device.now.bytes (O.contents out.old)
+        (O.contents out.new) left.file left.raw (map (λ word. word.now) words.now)) }
+    ensures refused { IfErr result (λ refused. IsRefusedFor device.now.bytes (O.contents out.old)
         (O.contents out.new) refused.files.file refused.files.raw (map (λ word. word.now) words.now)
         refused.refusal) }
 {
     match read_words(words) {
-        Some(task) => do_task(rt, task, out, err),
+        Some(task) => do_task(rt, task, device, out, err),
         None => Err(Refused::from(Refusal::Words)),
     }
 }
@@ -102,19 +109,21 @@ fn dispatch<R: Files<File = File> + AllocGlobal, O: Write, E: Write + IsTerminal
 fn do_task<R: Files<File = File> + AllocGlobal, O: Write, E: Write + IsTerminal>(
     rt: &R,
     task: Task,
+    device: &DeviceHolds,
     out: &mut O,
     err: &mut E,
 ) -> Result<LeftFiles, Refused>
-    ensures done { IfOk result (λ left. HasDone (O.contents out.old) (O.contents out.new) left.file
-        left.raw (wanted_of task.entry)) }
-    ensures refused { IfErr result (λ refused. HasNotDone (O.contents out.old) (O.contents out.new)
-        refused.files.file refused.files.raw (wanted_of task.entry) refused.refusal) }
+    ensures done { IfOk result (λ left. HasDone device.now.bytes (O.contents out.old)
+        (O.contents out.new) left.file left.raw (wanted_of task.entry)) }
+    ensures refused { IfErr result (λ refused. HasNotDone device.now.bytes (O.contents out.old)
+        (O.contents out.new) refused.files.file refused.files.raw (wanted_of task.entry)
+        refused.refusal) }
 {
     match task {
         Task::Help => alone(say_help(out)),
         Task::Version => alone(say_version(out)),
-        Task::Show { image } => alone(show(rt, image, out)),
-        Task::Migrate { image } => alone(migrate(rt, image, out)),
+        Task::Show { image } => alone(show(rt, image, device, out)),
+        Task::Migrate { image } => alone(migrate(rt, image, device, out)),
         Task::Make {
             image,
             format,
@@ -133,7 +142,7 @@ fn do_task<R: Files<File = File> + AllocGlobal, O: Write, E: Write + IsTerminal>
             image,
             raw,
             replace,
-        } => export(rt, image, raw, replace, out, err),
+        } => export(rt, image, raw, replace, device, out, err),
     }
 }
 
@@ -194,14 +203,31 @@ fn make<R: Files<File = File> + AllocGlobal, O: Write>(
     let Some(sizes) = sizes_of(format, blocks, slots) else {
         return Err(Stopped::from(Refusal::Sizes));
     };
-    let Ok(mut run) = Run::new(rt.alloc()) else {
-        return Err(Stopped::from(Refusal::NoMemory));
-    };
+    match Run::new(rt.alloc()) {
+        Ok(run) => make_with(rt, image, &sizes, replace, run, out),
+        Err(_) => Err(Stopped::from(Refusal::NoMemory)),
+    }
+}
+
+// Makes an image file of these sizes, once all memory is had, and says so.
+fn make_with<R: Files<File = File>, O: Write>(
+    rt: &R,
+    image: &str,
+    sizes: &Super,
+    replace: bool,
+    mut run: Run,
+    out: &mut O,
+) -> Result<LeftFile, Stopped>
+    ensures done { IfOk result (λ back. IsMadeAs (O.contents out.old) (O.contents out.new) back
+        (shape_of sizes.now)) }
+    ensures refused { IfErr result (λ stopped. IsNotMade (O.contents out.old)
+        (O.contents out.new) stopped.file (shape_of sizes.now) stopped.refusal) }
+{
     let mut file = match new_file(rt, image, sizes.sectors(), replace) {
         Ok(file) => file,
         Err(refusal) => return Err(Stopped::from(refusal)),
     };
-    if let Err(fault) = ask_to_be(&mut file, &mut run, &sizes) {
+    if let Err(fault) = ask_to_be(&mut file, &mut run, sizes) {
         return Err(Stopped {
             refusal: Refusal::File(fault),
             file: Some(file),
@@ -231,27 +257,32 @@ fn report<E: Write>(refusal: Refusal, words: &[&str], err: &mut E) -> u8
 }
 
 /// Does what the program's arguments ask for, and gives the exit status. Where they are not had, it
-/// tells that, and no file is touched.
-pub fn run_program<R: Env + Files<File = File> + AllocGlobal, O: Write, E: Write + IsTerminal>(
+/// tells that, and no file is touched. Behind the first sectors of an image the device holds what
+/// the caller says, whatever that is.
+pub fn run_program<R: Files<File = File> + AllocGlobal, O: Write, E: Write + IsTerminal>(
     rt: &R,
+    args: Result<Vec<String>, ArgumentFault>,
+    device: &DeviceHolds,
     out: &mut O,
     err: &mut E,
 ) -> Ended
     ensures statuses { result.status ≤ 5 }
-    ensures done { result.status ≡ 0 → (args : List (List ℕ))
-        × IsObeyed (O.contents out.old) (O.contents out.new) result.file result.raw (drop 1 args) }
+    ensures done { result.status ≡ 0 → MatchResult args (λ all. IsObeyed device.now.bytes
+        (O.contents out.old) (O.contents out.new) result.file result.raw
+        (drop 1 (map string_bytes all.items))) (λ fault. ⊥) }
     ensures refused { result.status ≢ 0
         → (refusal : Refusal) × (result.status ≡ status_of refusal)
-        × (HasNoWords (O.contents out.old) (O.contents out.new) result.file result.raw refusal
-        ⊎ ((args : List (List ℕ)) × IsRefusedFor (O.contents out.old) (O.contents out.new)
-        result.file result.raw (drop 1 args) refusal)) }
+        × MatchResult args (λ all. IsProgramRefused device.now.bytes (O.contents out.old)
+        (O.contents out.new) result.file result.raw (drop 1 (map string_bytes all.items)) refusal)
+        (λ fault. HasNoWords device.now.bytes (O.contents out.old) (O.contents out.new) result.file
+        result.raw fault refusal) }
 {
-    let args = match arguments(rt) {
+    let args = match args {
         Ok(args) => args,
         Err(fault) => return refuse(Refusal::from(fault), err),
     };
     match words_of(rt.alloc(), args.as_slice()) {
-        Ok(words) => command(rt, words.as_slice(), out, err),
+        Ok(words) => command(rt, words.as_slice(), device, out, err),
         Err(_) => refuse(Refusal::NoMemory, err),
     }
 }

@@ -1,14 +1,14 @@
 //! What is in an image is told, and nothing is written to it.
 ghost use Rattle.std.specs.Prelude.{OnOk, IfOk, IfErr};
 ghost use Rattle.images.specs.Program.{IsShow, IsShowRefused};
-ghost use Rattle.images.specs.Showing.{IsShown, IsNotShown};
+ghost use Rattle.images.specs.Showing.{IsShown, IsNotShown, IsShownOf, IsNotShownOf};
 
 use crate::ended::{LeftFile, Stopped};
-use crate::opening::{Access, open_image, window_over};
+use crate::opening::{Access, first_of, open_file, window_over};
 use crate::refusal::Refusal;
 use crate::text::text_of;
 use console::write_out;
-use device_file::FirstSectors;
+use device_file::{DeviceFile, FirstSectors};
 use recovery::inspect;
 use std::alloc::Global;
 use std::fs::{File, Files};
@@ -20,20 +20,48 @@ use window::DeviceHolds;
 pub(crate) fn show<R: Files<File = File> + AllocGlobal, O: Write>(
     rt: &R,
     image: &str,
+    device: &DeviceHolds,
     out: &mut O,
 ) -> Result<LeftFile, Stopped>
-    ensures done { IfOk result (IsShow (O.contents out.old) (O.contents out.new)) }
-    ensures refused { IfErr result (λ stopped. IsShowRefused (O.contents out.old)
+    ensures done { IfOk result (IsShow device.now.bytes (O.contents out.old) (O.contents out.new)) }
+    ensures refused { IfErr result (λ stopped. IsShowRefused device.now.bytes (O.contents out.old)
         (O.contents out.new) stopped.file stopped.refusal) }
 {
-    let (file, first) = open_image(rt, image, Access::Look)?;
-    let device = DeviceHolds::any();
-    match show_first(rt.alloc(), first, &device, out) {
+    let file = open_file(rt, image, Access::Look)?;
+    match show_file(rt.alloc(), &file, device, out) {
         Ok(()) => Ok(Some(file)),
         Err(refusal) => Err(Stopped {
             refusal,
             file: Some(file),
         }),
+    }
+}
+
+/// Tells what is in the image of a file, of which the first sectors are read, and nothing else.
+/// Behind them the device holds what the caller says, whatever that is.
+///
+/// # Errors
+///
+/// The read that was refused, the fault of the image, `NoMemory`, and `Streams` where not all was
+/// written.
+pub fn show_file<D: DeviceFile, O: Write>(
+    alloc: Global,
+    file: &D,
+    device: &DeviceHolds,
+    out: &mut O,
+) -> Result<(), Refusal>
+    ensures ok { OnOk result (IsShownOf (D.holds file.now) (D.size file.now) device.now.bytes
+        (O.contents out.old) (O.contents out.new)) }
+    ensures err { IfErr result (IsNotShownOf (D.holds file.now) (D.size file.now) device.now.bytes
+        (O.contents out.old) (O.contents out.new) (D.refuses file.now)) }
+{
+    let first = match first_of(alloc, file) {
+        Ok(first) => first,
+        Err(refusal) => return Err(refusal),
+    };
+    match show_first(alloc, first, device, out) {
+        Ok(()) => Ok(()),
+        Err(refusal) => Err(refusal),
     }
 }
 

@@ -3,9 +3,13 @@
 //! of.
 #![tactic(auto)]
 
+use console::arguments;
 use std::process::ExitCode;
+use window::DeviceHolds;
 
 fn main(rt: HostRuntime) -> ExitCode {
-    let ended = images::run_program(&rt, &mut rt.stdout(), &mut rt.stderr());
+    let args = arguments(&rt);
+    let device = DeviceHolds::any();
+    let ended = images::run_program(&rt, args, &device, &mut rt.stdout(), &mut rt.stderr());
     ExitCode::from(ended.status)
 }

@@ -1,31 +1,35 @@
-use Rattle.std.proofs.Common.{◌≡◌, ℕ, List, inl, inr, refl, sym, ap, subst}
+use Rattle.std.proofs.Common.{◌≡◌, ℕ, Bool, List, inl, inr, refl, ap, subst}
 use Rattle.std.specs.Io.KnownBytes.{Appends}
 use Rattle.std.proofs.KnownBytes.{Keeps-refl}
-use Rattle.device_file.specs.Asked.{Told, begun}
+use Rattle.device_file.specs.Asked.{begun}
 use Rattle.device_file.specs.FileValue.{FileValue, fresh}
-use Rattle.device_file.specs.declared.opening.FirstSectors.{FirstSectors}
 use Rattle.console.specs.Streams.{AppendsSome}
-use Rattle.images.specs.Opened.{HasFirst}
-use Rattle.images.specs.Migrating.{IsMigratedOn, IsNotMigratedOn}
+use Rattle.images.specs.Migrating.{IsMigratedOf, IsNotMigratedOf}
+use Rattle.images.specs.Program.{unnamed, untold}
+use Rattle.images.specs.declared.refusal.Refusal.{Refusal}
 use Rattle.images.proofs.migrating.migrate.Goals as goal
 
--- a file that was just opened was asked nothing
-unasked : (file : FileValue) → file ≡ fresh file.size → file.told ≡ begun
-unasked file opened = ap (λ (f : FileValue). f.told) opened
+-- a file that was just opened was asked nothing, and is as large as before
+migrated_of : (device : List ℕ) (old new : FileValue) (was_one : Bool) → old ≡ fresh old.size → new.size ≡ old.size
+    → IsMigratedOf unnamed old.size device old.told new.told was_one
+    → IsMigratedOf unnamed new.size device begun new.told was_one
+migrated_of device old new was_one opened same migrated = rw same (subst
+    (λ told. IsMigratedOf unnamed old.size device told new.told was_one)
+    (ap (λ (f : FileValue). f.told) opened) migrated)
 
-sized : (old new : FileValue) (first : FirstSectors) → new.size ≡ old.size → HasFirst old.size first → HasFirst new.size first
-sized old new first same has = subst (λ (size : ℕ). HasFirst size first) (sym same) has
+not_migrated_of : (device : List ℕ) (old new : FileValue) (refusal : Refusal) → old ≡ fresh old.size → new.size ≡ old.size
+    → IsNotMigratedOf unnamed old.size device old.told new.told untold refusal
+    → IsNotMigratedOf unnamed new.size device begun new.told untold refusal
+not_migrated_of device old new refusal opened same why = rw same (subst
+    (λ told. IsNotMigratedOf unnamed old.size device told new.told untold refusal)
+    (ap (λ (f : FileValue). f.told) opened) why)
 
 pub returns-in-Err-clause-refused : goal.returns-in-Err-clause-refused
 returns-in-Err-clause-refused g c = inr (inl (record {
   file = c.migrate_file.new.file;
   given = refl;
-  first = c.in_ok-file.first;
-  has = sized c.in_ok-file.file c.migrate_file.new.file c.in_ok-file.first c.in-Err.ensures.size c.in_ok-file.ensures.ok.1;
-  device = c.any-device.result.bytes;
-  not_migrated = subst
-      (λ (told : Told). IsNotMigratedOn c.in_ok-file.first c.any-device.result.bytes told c.migrate_file.new.file.told c.in-Err.refusal)
-      (unasked c.in_ok-file.file c.in_ok-file.ensures.ok.0) c.in-Err.ensures.err;
+  not_migrated = not_migrated_of c.args.device.now.bytes c.in_ok-file.file c.migrate_file.new.file c.in-Err.refusal
+      c.in_ok-file.ensures.ok c.in-Err.ensures.size c.in-Err.ensures.err;
   kept = Keeps-refl (g.O.Write.contents c.args.out.now);
 }))
 
@@ -33,35 +37,10 @@ pub returns-in-Ok-write_out-clause-done : goal.returns-in-Ok-write_out-clause-do
 returns-in-Ok-write_out-clause-done g c = record {
   file = c.migrate_file.new.file;
   given = refl;
-  first = c.in_ok-file.first;
-  has = sized c.in_ok-file.file c.migrate_file.new.file c.in_ok-file.first c.in-Ok-migrate_file.ensures.size
-      c.in_ok-file.ensures.ok.1;
-  was_one = c.in-Ok-migrate_file.was_one;
-  device = c.any-device.result.bytes;
-  migrated = subst
-      (λ (told : Told). IsMigratedOn c.in_ok-file.first c.any-device.result.bytes told c.migrate_file.new.file.told
-      c.in-Ok-migrate_file.was_one)
-      (unasked c.in_ok-file.file c.in_ok-file.ensures.ok.0) c.in-Ok-migrate_file.ensures.ok;
+  was_one = c.in-Ok.was_one;
+  migrated = migrated_of c.args.device.now.bytes c.in_ok-file.file c.migrate_file.new.file c.in-Ok.was_one
+      c.in_ok-file.ensures.ok c.in-Ok.ensures.size c.in-Ok.ensures.ok;
   written = subst
       (λ (text : List ℕ). Appends (g.O.Write.contents c.args.out.now) (g.O.Write.contents c.write_out.new.out) text)
       c.migration_line.ensures c.in-Ok-write_out.ensures.ok;
 }
-
-pub returns-clause-refused : goal.returns-clause-refused
-returns-clause-refused g c = inr (inr (record {
-  file = c.migrate_file.new.file;
-  given = refl;
-  first = c.in_ok-file.first;
-  has = sized c.in_ok-file.file c.migrate_file.new.file c.in_ok-file.first c.in-Ok-migrate_file.ensures.size
-      c.in_ok-file.ensures.ok.1;
-  was_one = c.in-Ok-migrate_file.was_one;
-  device = c.any-device.result.bytes;
-  migrated = subst
-      (λ (told : Told). IsMigratedOn c.in_ok-file.first c.any-device.result.bytes told c.migrate_file.new.file.told
-      c.in-Ok-migrate_file.was_one)
-      (unasked c.in_ok-file.file c.in_ok-file.ensures.ok.0) c.in-Ok-migrate_file.ensures.ok;
-  failed = refl;
-  written = subst
-      (λ (text : List ℕ). AppendsSome (g.O.Write.contents c.args.out.now) (g.O.Write.contents c.write_out.new.out) text)
-      c.migration_line.ensures c.in-Err-write_out.ensures.err;
-}))
