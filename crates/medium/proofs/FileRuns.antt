@@ -5,8 +5,7 @@ use Rattle.std.specs.Prelude.{max, slice_index, Bool, true, false}
 use Rattle.std.proofs.lemmas.Bool.{cases_lt}
 use Rattle.std.proofs.lemmas.List.{append_assoc, append-nil, length-drop, length-take-le, get_or-drop, get_or-take, take_all}
 use Rattle.std.proofs.lemmas.List.Elements.{All-nil, All-cons, All-append}
-use Rattle.std.proofs.lemmas.Slice.{take-put_mid_below, between-put_mid}
-use borrow.Rule.Slice.PartMut.{put_mid}
+use Rattle.medium.proofs.LaidOver.{laid_over, stays_before, lies_behind}
 use Rattle.medium.specs.declared.file_call.FileCall.{FileCall}
 use Rattle.medium.specs.declared.file_call.FileCall.TheVariants.{Read, Write}
 use Rattle.medium.specs.FileStory.{Told, Calls, AsksFor, KeepsBytes, Gives, Takes, TakesWithin, IsPut, MayPut, IsWriteWithin, IsRead, holds}
@@ -140,23 +139,17 @@ read_none many bytes t =
 
 module _ (many done : ℕ) (bytes part : List ℕ) (old mid new : Told) (r : Reading many bytes done old mid) (long : length bytes ≡ many)
     (rest : length part ≡ length bytes - done) where
-  abbrev after : List ℕ
-  after = put_mid done (length bytes - done) bytes part
-
   inside : done ≤ length bytes
   inside = let few = r.few in omega (arith, few, long)
 
+  abbrev after : List ℕ
+  after = laid_over done bytes part
+
   kept : (i : ℕ) → i < done → slice_index bytes i ≡ slice_index after i
-  kept i below =
-      sym (get_or-take done bytes i 0 below)
-      ∙ ap (λ (l : List ℕ). get_or l i 0) (sym (take-put_mid_below done (length bytes - done) bytes part done (omega arith) inside))
-      ∙ get_or-take done after i 0 below
+  kept = stays_before done bytes part inside rest
 
   laid : (j : ℕ) → j < length part → slice_index part j ≡ slice_index after (done + j)
-  laid j below =
-      ap (λ (l : List ℕ). get_or l j 0) (sym (between-put_mid done (length bytes - done) bytes part (length bytes) inside rest))
-      ∙ get_or-take (length bytes - done) (drop done after) j 0 (omega (arith, below, rest))
-      ∙ get_or-drop done after j 0
+  laid = lies_behind done bytes part inside rest
 
   pub read_more : (count : ℕ) → count ≤ length part → AsksFor true (Read done) mid new → Gives done (take count part) mid new
       → Reading many after (done + count) old new

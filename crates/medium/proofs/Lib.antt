@@ -6,6 +6,8 @@ pub mod SectorsRead
 pub mod Masks
 pub mod Moments
 pub mod FileRuns
+pub mod LaidOver
+pub mod Looks
 pub mod Rows
 pub mod CallsSent
 pub mod SparedSectors

@@ -1,18 +1,24 @@
 -- A file: what it holds, and what it was asked.
 use Rattle.std.specs.Prelude.{◌≡◌, ◌⊎◌, ℕ, ◌+◌, ◌-◌, ◌<◌, ◌≤◌, Bool, List, [], ◌∷◌, ◌++◌, length}
-use Rattle.std.specs.Prelude.{All, max}
+use Rattle.std.specs.Prelude.{All, max, true}
 use Rattle.std.specs.Prelude.{slice_index, get_or, if◌then◌else◌, nat_le, replicate}
+use Rattle.std.specs.Fs.{new_options, with_read, with_write, with_create, with_create_new}
+use Rattle.std.specs.declared.fs.options.OpenOptions.{OpenOptions}
+use Rattle.medium.specs.declared.file_call.Access.{Access}
+use Rattle.medium.specs.declared.file_call.Access.TheVariants.{Look, Change, Make, Replace}
 use Rattle.medium.specs.declared.file_call.FileCall.{FileCall}
-use Rattle.medium.specs.declared.file_call.FileCall.TheVariants.{Lock, Measure, Resize, Read, Write}
-use Rattle.medium.specs.declared.file_call.FileCall.TheVariants.{Sync}
+use Rattle.medium.specs.declared.file_call.FileCall.TheVariants.{Open, Lock, Measure, Resize, Read}
+use Rattle.medium.specs.declared.file_call.FileCall.TheVariants.{Write, Sync}
 use Rattle.medium.specs.declared.file_call.Answered.{Answered}
 
 pub record Told : Type 0 where
+  -- the bytes of the path at which it was opened
+  pub path : List ℕ
   -- the bytes that were read or written, each run with its place, the latest first
   pub runs : List (ℕ × List ℕ)
   -- how many bytes it has
   pub size : ℕ
-  -- what it was asked for since it was opened, in order, good or refused
+  -- what it was asked for, in order, good or refused; first of all it was opened
   pub asked : List FileCall
   -- how many times it refused
   pub refusals : ℕ
@@ -39,6 +45,7 @@ holds t place = byte_at t.runs place
 
 -- what a good call makes of what it holds
 abbrev pub after : FileCall → ℕ → List ℕ → Told → Told
+after (Open access) length path t = record t { path = path }
 after Lock length bytes t = t
 after Measure length bytes t = record t { size = length }
 after (Resize size) length bytes t =
@@ -51,8 +58,28 @@ after Sync length bytes t = t
 abbrev pub noted : Answered → List ℕ → Told → Told
 noted a bytes t = answered a.good a.call (if a.good then after a.call a.length bytes t else t)
 
+-- a file is opened to be read alone, or to be read and written
+abbrev pub to_look : OpenOptions
+to_look = with_read new_options true
+
+abbrev pub to_change : OpenOptions
+to_change = with_write to_look true
+
+-- how the system is asked to open a file for this
+abbrev pub options_of : Access → OpenOptions
+options_of Look = to_look
+options_of Change = to_change
+options_of Make = with_create_new to_change true
+options_of Replace = with_create to_change true
+
+-- it was opened at this path for this, and asked for nothing since
+pub record IsJustOpened (path : List ℕ) (access : Access) (t : Told) : Type 0 where
+  pub path_is : t.path ≡ path
+  pub asked : t.asked ≡ Open access ∷ []
+
 -- it was asked for this call and for no other
 pub record AsksFor (good : Bool) (call : FileCall) (old new : Told) : Type 0 where
+  pub path_stays : new.path ≡ old.path
   pub asked : new.asked ≡ old.asked ++ call ∷ []
   pub refusals : new.refusals ≡ (if good then old.refusals else old.refusals + 1)
 
@@ -92,6 +119,7 @@ pub record Takes (at : ℕ) (bytes : List ℕ) (old new : Told) : Type 0 where
 
 -- a read
 abbrev pub IsRead : FileCall → Type 0
+IsRead (Open access) = ⊥
 IsRead Lock = ⊥
 IsRead Measure = ⊥
 IsRead (Resize size) = ⊥
@@ -101,6 +129,7 @@ IsRead Sync = ⊥
 
 -- a write that begins at one of count places from this one on
 abbrev pub IsWriteWithin : ℕ → ℕ → FileCall → Type 0
+IsWriteWithin from count (Open access) = ⊥
 IsWriteWithin from count Lock = ⊥
 IsWriteWithin from count Measure = ⊥
 IsWriteWithin from count (Resize size) = ⊥
@@ -119,22 +148,23 @@ abbrev pub HoldsFirst : List ℕ → Told → Type 0
 HoldsFirst bytes t = (p : ℕ) → p < length bytes → holds t p ≡ slice_index bytes p
 
 -- The file was locked, and then measured: it has `bytes` bytes.
-pub record IsMeasured (bytes : ℕ) (t : Told) : Type 0 where
-  pub asked : t.asked ≡ Lock ∷ Measure ∷ []
-  pub size : t.size ≡ bytes
+pub record IsMeasured (bytes : ℕ) (old new : Told) : Type 0 where
+  pub path_stays : new.path ≡ old.path
+  pub asked : new.asked ≡ old.asked ++ Lock ∷ Measure ∷ []
+  pub size : new.size ≡ bytes
 
--- The file was locked, then measured, and then only read: these are its bytes.
+-- The file was opened to be changed, locked, measured, and then only read: these are its bytes.
 pub record IsReadWhole (bytes : List ℕ) (t : Told) : Type 0 where
   pub reads : List FileCall
-  pub asked : t.asked ≡ Lock ∷ Measure ∷ reads
+  pub asked : t.asked ≡ Open Change ∷ Lock ∷ Measure ∷ reads
   pub only : All IsRead reads
   pub size : t.size ≡ length bytes
   pub bytes_are : HoldsFirst bytes t
 
--- The file was locked, then emptied, and then only written: these are its bytes.
+-- The file was opened to be replaced, locked, emptied, and then only written: these are its bytes.
 pub record IsMadeOf (bytes : List ℕ) (t : Told) : Type 0 where
   pub writes : List FileCall
-  pub asked : t.asked ≡ Lock ∷ Resize 0 ∷ writes
+  pub asked : t.asked ≡ Open Replace ∷ Lock ∷ Resize 0 ∷ writes
   pub only : All (IsWriteWithin 0 (length bytes)) writes
   pub size : t.size ≡ length bytes
   pub bytes_are : HoldsFirst bytes t
@@ -148,3 +178,16 @@ pub record IsPut (at : ℕ) (bytes : List ℕ) (old new : Told) : Type 0 where
 pub record MayPut (at count : ℕ) (old new : Told) : Type 0 where
   pub calls : Calls (IsWriteWithin at count) old new
   pub takes : TakesWithin at count old new
+
+-- a read gave bytes at these places
+pub record IsGiven (gives : ℕ → List ℕ → Type 0) (at : ℕ) (bytes : List ℕ) (i : ℕ) : Type 0 where
+  pub place : ℕ
+  pub piece : List ℕ
+  pub given : gives place piece
+  pub from : place ≤ at + i
+  pub inside : at + i < place + length piece
+  pub same : slice_index bytes i ≡ slice_index piece (at + i - place)
+
+-- each of these bytes, from this place on, is one that a read gave there
+abbrev pub AreGiven : (ℕ → List ℕ → Type 0) → ℕ → List ℕ → Type 0
+AreGiven gives at bytes = (i : ℕ) → i < length bytes → IsGiven gives at bytes i

@@ -9,5 +9,5 @@ view_of m = record {
   calls = m.calls.number;
   made = tally_of m.made;
   refused = tally_of m.refused;
-  file = m.file.story.told;
+  file = m.file;
 }

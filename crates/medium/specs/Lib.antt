@@ -6,6 +6,7 @@ pub mod ImageFileView
 pub mod Lengths
 pub mod Medium
 pub mod Moments
+pub mod OpenedView
 pub mod Performed
 pub mod Power
 pub mod Sent

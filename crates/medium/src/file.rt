@@ -2,17 +2,18 @@
 ghost use Rattle.std.specs.Prelude.{◌≡◌, ◌≢◌, ◌⊎◌, ◌+◌, ◌*◌, ◌%◌, ◌<◌, ◌≤◌, ◌↔◌, ◌^◌, length};
 ghost use Rattle.std.specs.Prelude.{replicate, [], ◌∷◌};
 ghost use Rattle.std.specs.Prelude.{IfOk, IfErr, IsErrOf, OnOk, OnErr};
-ghost use Rattle.medium.specs.FileStory.{IsMeasured, IsReadWhole, IsMadeOf, IsPut, MayPut};
+ghost use Rattle.medium.specs.FileStory.{IsReadWhole, IsMadeOf, IsPut, MayPut};
 ghost use Rattle.medium.specs.FileStory.{Calls as CallsMade, IsRead, HoldsFirst};
 ghost use Rattle.medium.specs.ImageFile.{state_of, fresh, IsImage};
 ghost use Rattle.medium.specs.Lengths.{IsLengthOf};
 ghost use Rattle.medium.specs.Medium.{Holds};
-ghost use Rattle.medium.specs.declared.file_call.FileCall.TheVariants.{Lock, Resize};
+ghost use Rattle.medium.specs.declared.file_call.FileCall.TheVariants.{Open, Lock, Measure, Resize};
 ghost use Rattle.medium.specs.Moments.{IsFlushed};
 ghost use Rattle.medium.specs.Writes.{sector_of};
 
 use crate::count::Count;
 use crate::fault::MediumFault;
+use crate::file_call::Access;
 use crate::medium::Medium;
 use crate::opened_file::OpenedFile;
 use crate::sector_file::SectorFile;
@@ -21,7 +22,7 @@ use crate::tally::Calls;
 use crate::told_file::ToldFile;
 use crate::whole::{lock_and_empty, lock_and_measure, put, read_whole};
 use std::alloc::Global;
-use std::fs::{Files, OpenOptions};
+use std::fs::Files;
 use std::io;
 use std::marker::Model;
 use thiserror::Error;
@@ -88,10 +89,9 @@ impl<F: SectorFile + Drop> FileMedium<F> {
         ensures copied { IfOk result (λ m. IsReadWhole m.bytes m.file) }
         ensures flushed { IfOk result (λ m. IsFlushed (state_of m)) }
     {
-        let Ok(file) = OpenOptions::new().read(true).write(true).open(rt, path) else {
+        let Ok(mut file) = OpenedFile::open(rt, path, Access::Change) else {
             return Err(FileError::File);
         };
-        let mut file = OpenedFile::new(file);
         let bytes = bytes_of(rt.alloc(), &mut file)?;
         Ok(FileMedium::over(file, bytes))
     }
@@ -125,7 +125,7 @@ impl<F: SectorFile + Drop> FileMedium<F> {
 impl<F> FileMedium<F> {
     // A file of these bytes.
     fn over(file: OpenedFile<F>, bytes: Vec<u8>) -> FileMedium<F>
-        ensures { result ≡ fresh file.story.told bytes.items }
+        ensures { result ≡ fresh file bytes.items }
     {
         FileMedium {
             file,
@@ -139,7 +139,7 @@ impl<F> FileMedium<F> {
 
 // The bytes of a file that was just opened, which is locked, then measured, and then read.
 fn bytes_of<S: ToldFile>(alloc: Global, file: &mut S) -> Result<Vec<u8>, FileError>
-    requires { (S.told file.old).asked ≡ [] }
+    requires { (S.told file.old).asked ≡ Open Access.Change ∷ [] }
     ensures image { IfOk result (λ bytes. IsImage bytes.items) }
     ensures copied { IfOk result (λ bytes. IsReadWhole bytes.items (S.told file.new)) }
 {
@@ -155,7 +155,8 @@ fn measured_bytes<S: ToldFile>(
     file: &mut S,
     length: u64,
 ) -> Result<Vec<u8>, FileError>
-    requires { IsMeasured length (S.told file.old) }
+    requires size { (S.told file.old).size ≡ length }
+    requires asked { (S.told file.old).asked ≡ Open Access.Change ∷ Lock ∷ Measure ∷ [] }
     ensures { IfOk result (λ bytes. IsImage bytes.items
         × IsReadWhole bytes.items (S.told file.new)) }
 {
@@ -197,7 +198,7 @@ fn made_file<F: SectorFile + Drop, R: Files<File = F>>(
 ) -> io::Result<OpenedFile<F>>
     requires some { 0 < length bytes.now }
     requires few { length bytes.now < 2 ^ 63 }
-    ensures { IfOk result (λ file. IsMadeOf bytes.now file.story.told) }
+    ensures { IfOk result (λ file. IsMadeOf bytes.now file) }
 {
     let mut file = emptied_file(rt, path)?;
     put(&mut file, bytes, 0)?;
@@ -210,15 +211,11 @@ fn emptied_file<F: SectorFile + Drop, R: Files<File = F>>(
     rt: &R,
     path: &str,
 ) -> io::Result<OpenedFile<F>>
-    ensures asked { IfOk result (λ file. file.story.told.asked ≡ Lock ∷ Resize 0 ∷ []) }
-    ensures size { IfOk result (λ file. file.story.told.size ≡ 0) }
+    ensures asked { IfOk result
+        (λ file. file.asked ≡ Open Access.Replace ∷ Lock ∷ Resize 0 ∷ []) }
+    ensures size { IfOk result (λ file. file.size ≡ 0) }
 {
-    let file = OpenOptions::new()
-        .read(true)
-        .write(true)
-        .create(true)
-        .open(rt, path)?;
-    let mut file = OpenedFile::new(file);
+    let mut file = OpenedFile::open(rt, path, Access::Replace)?;
     if !file.is_plain()? {
         return Err(io::Error::from(io::ErrorKind::InvalidInput));
     }

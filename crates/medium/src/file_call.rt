@@ -1,9 +1,24 @@
 //! The calls of a file.
 ghost use Rattle.std.specs.Prelude.{◌≡◌, true, false};
 
+/// What a file is opened for.
+#[derive(Clone, Copy, Debug, PartialEq, Eq)]
+pub enum Access {
+    /// To be read alone: the system refuses its writes.
+    Look,
+    /// To be read and written.
+    Change,
+    /// To be read and written: it is made, and one that is there is refused.
+    Make,
+    /// To be read and written: it is made where it is not there.
+    Replace,
+}
+
 /// What a file is asked for.
 #[derive(Clone, Copy)]
 pub enum FileCall {
+    /// To be open for this.
+    Open(Access),
     Lock,
     /// To tell how many bytes it has.
     Measure,

@@ -24,11 +24,15 @@ mod whole;
 
 pub use fault::MediumFault;
 pub use file::{FileError, FileMedium};
+pub use file_call::{Access, FileCall};
 pub use kept::Kept;
 pub use laws::sim_laws;
 pub use medium::Medium;
 pub use medium_call::{Call, perform};
+pub use opened_file::OpenedFile;
 pub use outlet::Outlet;
 pub use sector_file::SectorFile;
 pub use sim::{SimError, SimMedium};
 pub use switch::Switch;
+pub use told_file::ToldFile;
+pub use whole::{look_whole, put};

@@ -1,5 +1,5 @@
 //! A file that tells what it was asked.
-ghost use Rattle.std.specs.Prelude.{◌≡◌, ◌≤◌, take, length, is_ok, IfOk, OnErr, OnOk};
+ghost use Rattle.std.specs.Prelude.{◌≡◌, ◌≤◌, ℕ, List, take, length, is_ok, IfOk, OnErr, OnOk};
 ghost use Rattle.medium.specs.FileStory.{Told, answered, AsksFor, KeepsBytes, IsResized};
 ghost use Rattle.medium.specs.FileStory.{Gives, Takes, TakesWithin};
 ghost use Rattle.medium.specs.declared.file_call.FileCall.TheVariants.{Lock, Measure, Resize};
@@ -13,6 +13,9 @@ use std::io;
 pub trait ToldFile {
     /// What it holds, as far as it is known, and what it was asked for since it was opened.
     ghost told: { Self → Told };
+
+    /// A look at this place gave these bytes. Nothing else is known of them.
+    ghost gives: { Self → ℕ → List ℕ → Type 0 };
 
     /// Locks it for this handle, until it is dropped.
     ///
@@ -52,6 +55,16 @@ pub trait ToldFile {
         ensures gives { IfOk result (λ count.
             Gives at (take count to.new) (told self.old) (told self.new)) }
         ensures err { OnErr result (KeepsBytes (told self.old) (told self.new)) };
+
+    /// Looks at what it holds from this place on, which is not noted: as many bytes as it says,
+    /// perhaps fewer than are asked for.
+    ///
+    /// # Errors
+    ///
+    /// The system refused it.
+    fn look_at(&self, to: &mut [u8], at: u64) -> io::Result<usize>
+        ensures bound { IfOk result (λ count. count ≤ length to.new) }
+        ensures gives { IfOk result (λ count. gives self.now at (take count to.new)) };
 
     /// Writes bytes from this place on: as many as it says, perhaps fewer than are given.
     ///

@@ -11,7 +11,7 @@ returns-clause-sets g c =
       calls = c.next-self-inside.result.number;
       made = tally_of c.add.new.self;
       refused = tally_of c.self.inside.refused;
-      file = c.write_through.new.file.story.told;
+      file = c.write_through.new.file;
     }) =
     search rules in
     written_set _ _ _ _ w
@@ -23,7 +23,7 @@ returns-clause-passes g c =
       calls = c.next-self-inside.result.number;
       made = tally_of c.add.new.self;
       refused = tally_of c.self.inside.refused;
-      file = c.write_through.new.file.story.told;
+      file = c.write_through.new.file;
     }) =
     search rules in
     written_passes _ _ _ _ w
@@ -35,7 +35,7 @@ returns-clause-follows g c =
       calls = c.next-self-inside.result.number;
       made = tally_of c.add.new.self;
       refused = tally_of c.self.inside.refused;
-      file = c.write_through.new.file.story.told;
+      file = c.write_through.new.file;
     }) =
     search rules in
     written_follows _ _ _ _ w c.told-from (omega (arith, c.requires))
