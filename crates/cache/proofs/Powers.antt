@@ -21,11 +21,8 @@ pub record IsHalving (numbers : List ℕ) (block low half taken : ℕ) (found : 
   pub met : found ≡ true → (low + 2 ^ power - 1 < length numbers) × (get_or numbers (low + 2 ^ power - 1) 0 ≡ block)
 
 -- a power that a word of 64 bits can hold
-no_more : (power digits : ℕ) → power ≤ digits → 2 ^ power ≤ 2 ^ digits
-no_more power digits le = pow-le-pow_right (omega arith) le
-
 pub power_in_word : (power : ℕ) → power < 64 → 2 ^ power ≤ 2 ^ 63
-power_in_word power lt = no_more power 63 (omega (arith, lt))
+power_in_word power lt = let le : power ≤ 63 = omega (arith, lt) in pow-le-pow_right (omega arith) le
 
 -- where something is left to halve, the half is a power of two as well
 half_of : (power half : ℕ) → half ≡ 2 ^ power / 2 → 0 < half → (fewer : ℕ) × (power ≡ suc fewer) × (half ≡ 2 ^ fewer)
@@ -150,28 +147,27 @@ module _ (numbers : List ℕ) (block low half taken : ℕ) (found : Bool) (halvi
   one : 2 ^ halving.power ≡ 1
   one = one_left halving.power (sym none ∙ halving.half_is)
 
-  -- one place is left: the number stands there, where it was met
+  -- one place is left
+  last : low ≡ low + 2 ^ halving.power - 1
+  last = let o : 2 ^ halving.power ≡ 1 = one in omega (arith, o)
+
+  at : get_or numbers low 0 ≡ get_or numbers (low + 2 ^ halving.power - 1) 0
+  at = ap (λ (i : ℕ). get_or numbers i 0) last
+
+  -- the number stands there, where it was met
   pub stands : found ≡ true → StandsAt numbers block low
-  stands is =
-      let o : 2 ^ halving.power ≡ 1 = one in
-      let edge = halving.met is in
-      let at : get_or numbers low 0 ≡ get_or numbers (low + 2 ^ halving.power - 1) 0 = ap (λ (i : ℕ). get_or numbers i 0) (omega (arith, o)) in
-      record { inside = omega (arith, edge.0, o); here = at ∙ edge.1; before = halving.before }
+  stands is = let edge = halving.met is in
+      record { inside = omega (arith, edge.0, last); here = at ∙ edge.1; before = halving.before }
 
   -- and where it was not, it would stand there
   pub would_stand : IsRising numbers → found ≡ false → WouldStandAt numbers block low
-  would_stand rising is =
-      let o : 2 ^ halving.power ≡ 1 = one in
-      let last : low + 2 ^ halving.power - 1 ≡ low = omega (arith, o) in
-      let at : get_or numbers (low + 2 ^ halving.power - 1) 0 ≡ get_or numbers low 0 = ap (λ (i : ℕ). get_or numbers i 0) last in
-      record {
-        inside = omega (arith, halving.inside, o);
-        before = halving.before;
-        past = λ k from inside.
-            let m : block < get_or numbers (low + 2 ^ halving.power - 1) 0 =
-            halving.missed is (omega (arith, last, from, inside)) in
-            greater numbers low block rising (omega (arith, m, at)) k from inside;
-      }
+  would_stand rising is = record {
+    inside = omega (arith, halving.inside, one);
+    before = halving.before;
+    past = λ k from inside.
+        let more = halving.missed is (omega (arith, last, from, inside)) in
+        greater numbers low block rising (omega (arith, more, at)) k from inside;
+  }
 
 -- as many steps as binary digits, at most
 pub within_power : (numbers : List ℕ) (block low half old new : ℕ) (found : Bool) → old ≤ new
