@@ -164,8 +164,8 @@ module _ (device : List ℕ) (was now : Option (List ℕ)) (back : Option FileVa
   IsMigrationRefused refusal = HasNoFile was now back refusal
       ⊎ (IsOpenedNotMigrated refusal ⊎ IsMigrationUntold refusal)
 
--- What was written then, and now, and the files that come back, where they were made or opened: that
--- of the image, and the plain one.
+-- What was written then, and now, and the files that come back, where they were made or opened:
+-- that of the image, and the plain one.
 module _ (was now : Option (List ℕ)) (back raw : Option FileValue) where
   -- a plain file was opened and asked for nothing, and its blocks became those of a new image
   pub record IsImport (format : LogFormat) (slots : ℕ) : Type 0 where

@@ -15,12 +15,14 @@ loop-preserved g c =
     let rest = c.look_at.auto.to ∙ left_long c.loop.done c.loop.to in
     elim c.match-look_at.branch [
       | in-Ok w ↦
-          subst (λ (n : ℕ). Looking gives c.args.at many (put_mid c.loop.done (length c.loop.to - c.loop.done) c.loop.to c.look_at.new.to) n)
+          subst (λ (n : ℕ). Looking gives c.args.at many
+          (put_mid c.loop.done (length c.loop.to - c.loop.done) c.loop.to c.look_at.new.to) n)
           (sym w.done-is)
           (look_more gives c.args.at many c.loop.done c.loop.to c.look_at.new.to c.loop.invariant c.loop.auto.to rest w.in-Ok.count
           w.in-Ok.ensures.bound w.in-Ok.ensures.gives)
       | in-Err w ↦
-          subst (λ (n : ℕ). Looking gives c.args.at many (put_mid c.loop.done (length c.loop.to - c.loop.done) c.loop.to c.look_at.new.to) n)
+          subst (λ (n : ℕ). Looking gives c.args.at many
+          (put_mid c.loop.done (length c.loop.to - c.loop.done) c.loop.to c.look_at.new.to) n)
           (sym w.done-is)
           (look_refused gives c.args.at many c.loop.done c.loop.to c.look_at.new.to c.loop.invariant c.loop.auto.to rest)
     ]
