@@ -44,7 +44,7 @@ usbdisk_image show IMAGE\nusbdisk_image migrate IMAGE\n\
 usbdisk_image import RAW IMAGE --slots K --format 1|2 [--replace]\n\
 usbdisk_image export IMAGE RAW [--replace]\n";
 
-const VERSION: &[u8] = b"usbdisk_image 0.14\n";
+const VERSION: &[u8] = b"usbdisk_image 0.15\n";
 
 /// Does what the words after the program's name ask for, and gives the exit status.
 ///
@@ -55,7 +55,7 @@ const VERSION: &[u8] = b"usbdisk_image 0.14\n";
 /// RAW` copies those of an image to one: they print `imported N blocks` and `exported N blocks`.
 /// Where `err` is a terminal, they tell on it how far they are, each 256 MiB.
 /// A new file is refused where one is there, but where `--replace` stands behind the words.
-/// `--help` and `--version` print a line each.
+/// `--help` prints the commands, and `--version` a line.
 pub fn command<R: Files<File = File> + AllocGlobal, O: Write, E: Write + IsTerminal>(
     rt: &R,
     words: &[&str],

@@ -76,7 +76,7 @@ LITTLE_ROOM = 25
 
 -- the version of the library, by two bytes for the first number and one for each other
 abbrev pub VERSION : ℕ
-VERSION = 0x000e00
+VERSION = 0x000f00
 
 -- (a clause that names VERSION itself would mean the constant of the source)
 abbrev pub TellsVersion : ℕ → Type 0

@@ -37,7 +37,7 @@ pub(crate) const BAD_RANGE: u32 = 24;
 pub(crate) const LITTLE_ROOM: u32 = 25;
 
 /// The version: two bytes for the first number, and one for each other.
-pub(crate) const VERSION: u32 = 0x000E00;
+pub(crate) const VERSION: u32 = 0x000F00;
 
 /// The number of the fault for which a start is refused.
 pub(crate) fn number_of(fault: StartFault) -> u32
