@@ -182,8 +182,8 @@ fn make_copy<R: Files<File = File>, S: DeviceFile, O: Write, E: Write + IsTermin
     err: &mut E,
 ) -> Result<SystemFile<File>, Stopped>
     requires { room.old.line.items ≡ exported_text sizes.now.blocks }
-    ensures ok { IfOk result (λ plain. IsPlainCopy (S.holds image.now) (S.refuses image.now)
-        sizes.now window.old.outbox (O.contents out.old) (O.contents out.new) (Some plain)) }
+    ensures ok { IfOk result (λ copied. IsPlainCopy (S.holds image.now) (S.refuses image.now)
+        sizes.now window.old.outbox (O.contents out.old) (O.contents out.new) (Some copied)) }
     ensures err { IfErr result (λ stopped. IsNoCopyMade (S.holds image.now) (S.refuses image.now)
         sizes.now window.old.outbox (O.contents out.old) (O.contents out.new) stopped.file
         stopped.refusal) }

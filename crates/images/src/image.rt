@@ -34,7 +34,7 @@ pub(crate) fn new_file<R: Files<File = File>>(
     replace: bool,
 ) -> Result<SystemFile<File>, Refusal>
     ensures ok { IfOk result (λ file. file ≡ fresh sectors) }
-    ensures err { IfErr result IsUnmade }
+    ensures err { IfErr result (λ refusal. IsUnmade refusal) }
 {
     let Some(_streams) = guard_streams(rt) else {
         return Err(Refusal::Streams);

@@ -90,10 +90,10 @@ fn open_to_read<R: Files<File = File>>(rt: &R, path: &str) -> Result<SystemFile<
 }
 
 // Why no first sectors were had.
-fn refusal_of(fault: OpenFault) -> Refusal
-    ensures { result ≡ refusal_of_open fault }
+fn refusal_of(why: OpenFault) -> Refusal
+    ensures { result ≡ refusal_of_open why }
 {
-    match fault {
+    match why {
         OpenFault::File(fault) => Refusal::File(fault),
         OpenFault::NoMemory => Refusal::NoMemory,
     }
