@@ -14,3 +14,5 @@ pub mod SparedSectors
 pub mod Walks
 pub mod SimCalls
 pub mod ArmedCalls
+pub mod Driving
+pub mod Tallies

@@ -4,6 +4,7 @@ pub mod ImageFile
 pub mod ImageFileLaws
 pub mod ImageFileView
 pub mod Lengths
+pub mod Machine
 pub mod Medium
 pub mod Moments
 pub mod OpenedView
