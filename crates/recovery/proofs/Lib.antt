@@ -1,2 +1,4 @@
+pub mod DrivenCalls
+pub mod ClearedSectors
 pub mod JoinedCalls
 pub mod WholeRecovery

@@ -1,6 +1,7 @@
 //! The making of an image, and its recovery after any loss of power, in both formats.
 #![tactic(auto)]
 
+mod clearing;
 mod copies;
 mod format_fault;
 mod formatting;

@@ -5,14 +5,14 @@ ghost use Rattle.medium.specs.Moments.{IsFlushed};
 ghost use Rattle.recovery.specs.Calls.{FollowsBy, WritesAllPass, WithOrWithout, IsBetween};
 ghost use Rattle.recovery.specs.Calls.{cleared_at};
 
-use medium::{Medium, MediumFault};
+use crate::clearing::Clearing;
+use medium::{Medium, MediumFault, drive};
 
 /// Writes zeros to each sector from this one up to that one, and flushes nothing.
 ///
 /// # Errors
 ///
 /// Where the medium refused a write: none is made behind it.
-#[tactic(auto, using(crate::proofs::JoinedCalls::reads_none))]
 pub fn clear<M: Medium>(m: &mut M, from: u64, end: u64) -> Result<(), MediumFault>
     requires inside { end ≤ (M.state m.old).size }
     requires some { from ≤ end }
@@ -23,10 +23,8 @@ pub fn clear<M: Medium>(m: &mut M, from: u64, end: u64) -> Result<(), MediumFaul
         (M.state m.old) (M.state m.new) result }
     ensures follows { FollowsBy M.state M.follows (end - from) m.old m.new }
 {
-    for sector in from..end {
-        m.write(sector, &[0; 512])?;
-    }
-    Ok(())
+    let mut clearing = Clearing { at: from, end };
+    drive(m, &mut clearing, &mut [0; 512])
 }
 
 /// Writes a sector and flushes it.

@@ -1,62 +1,53 @@
-use Rattle.std.proofs.Common.{◌≡◌, ◌⊎◌, ℕ, inl, inr, ⊎_elim, ◌∙◌, ◌<◌, ◌≤◌, ◌+◌, ap, arith, rules, replicate}
-use Rattle.std.proofs.lemmas.Bool.{cases_eq}
-use Rattle.medium.specs.Medium.{Holds, Stays}
-use Rattle.medium.specs.Moments.{StaysWithin}
-use Rattle.medium.proofs.Moments.{started_within, gains_within, goes_on_within}
-use Rattle.recovery.specs.Calls.{cleared_at, IsBetween}
-use Rattle.recovery.proofs.JoinedCalls.{sets_within}
+use Rattle.std.proofs.Common.{◌≡◌, ◌<◌, ◌-◌, ℕ, inl, refl, ap, arith}
+use Rattle.std.proofs.lemmas.Result.{on_ok_weaker}
+use Rattle.medium.proofs.Tallies.{calls_most, calls_all, sends_most}
+use Rattle.medium.specs.Medium.{CutLeaves}
+use Rattle.medium.specs.Moments.{LeavesOnly}
+use Rattle.medium.specs.Tally.{Tally, none}
+use Rattle.recovery.specs.Calls.{ClearView, HoldsCleared, cleared_at, IsBetween}
+use Rattle.recovery.proofs.DrivenCalls.{refused_call, none_read}
 use Rattle.recovery.proofs.sectors.clear.Goals as goal
-use Rattle.recovery.proofs.sectors.clear.Goals.{After-write}
+use Rattle.recovery.proofs.sectors.clear.Goals.{After-drive}
 
--- what is left while one sector more is cleared, and what the others hold
-one_more : (g : _) (c : After-write g)
-    → Stays (g.M.Medium.state c.loop-sector.m).content (g.M.Medium.state c.write.new.self).content
-    ⊎ Holds c.loop-sector.sector (replicate 512 0) (g.M.Medium.state c.loop-sector.m).content
-    (g.M.Medium.state c.write.new.self).content
-    → StaysWithin (cleared_at (IsBetween c.args.from c.args.end) (g.M.Medium.state c.args.m.now).may_leave)
-    (g.M.Medium.state c.args.m.now) (g.M.Medium.state c.write.new.self)
-    × ((x : ℕ) → ¬ IsBetween c.args.from c.args.end x
-    → (g.M.Medium.state c.write.new.self).content x ≡ (g.M.Medium.state c.args.m.now).content x)
-one_more g c wrote =
-    let past = c.loop-sector.auto.sector in
-    let inside = c.loop-sector-test.true in
-    let inv = c.loop-sector.invariant.clears in
-    let bound = cleared_at (IsBetween c.args.from c.args.end) (g.M.Medium.state c.args.m.now).may_leave in (
-      goes_on_within bound _ _ _ inv.moments c.write.ensures.passes
-          (gains_within bound _ _ c.loop-sector.sector (replicate 512 0)
-          (sets_within bound _ _ (g.met.M.Medium.sound c.loop-sector.m)
-          inv.moments) c.write.ensures.sets
-          (λ s bytes here. inr ((omega (arith, past, here.0), omega (arith, inside, here.0)), here.1))),
-      λ x not. ⊎_elim (λ stays. stays x)
-          (λ holds. holds.elsewhere x (λ e. not (omega (arith, e, past), omega (arith, e, inside)))) wrote
-          ∙ inv.elsewhere x not,
-    )
+-- it began with none cleared
+cleared : (g : _) (c : After-drive g)
+    → LeavesOnly (CutLeaves (cleared_at (IsBetween c.args.from c.args.end) (g.M.Medium.state c.args.m.now).may_leave))
+    (g.M.Medium.state c.args.m.now) (g.M.Medium.state c.drive.new.m)
+    × HoldsCleared g.M.Medium.state c.drive.new.machine.at c.drive.new.machine.end
+    (record { start = c.args.m.now; from = c.args.from; end = c.args.end }) c.drive.new.m
+cleared g c = c.drive.ensures.driven.runs (record { start = c.args.m.now; from = c.args.from; end = c.args.end }) (record {
+  begun = omega arith;
+  end_is = refl;
+  zeros = λ x low high. absurd (omega (arith, low, high));
+  elsewhere = λ x not. refl;
+  within = λ x bytes left. inl left;
+})
 
-pub loop-sector-init : goal.loop-sector-init
-loop-sector-init g c =
-    let old = g.M.Medium.state c.args.m.now in
-    let bound = cleared_at (IsBetween c.args.from c.args.end) old.may_leave in
-    search (
-      rules,
-      started_within bound old (g.met.M.Medium.sound c.args.m.now)
-          (λ s bytes left. inl left),
-      g.met.M.Medium.follows_itself,
-    )
+pub returns-clause-zeros : goal.returns-clause-zeros
+returns-clause-zeros g c =
+    let held = (cleared g c).1 in
+    on_ok_weaker c.drive.result
+    (λ end x low high. let none_left = ap (λ (t : Tally). t.writes) end.0 in
+    held.zeros x low (omega (arith, none_left, held.end_is, high)))
+    c.drive.ensures.done
 
-pub loop-sector-preserved : goal.loop-sector-preserved
-loop-sector-preserved g c =
-    let inv = c.loop-sector.invariant in
-    let wrote = c.in_ok-write.ensures.ok in
-    let zeros : (x : ℕ) → c.args.from ≤ x → x < c.loop-sector.sector + 1
-    → (g.M.Medium.state c.write.new.self).content x ≡ replicate 512 0 =
-    λ x low high. elim (cases_eq x c.loop-sector.sector) [
-      | inl is ↦ ap (g.M.Medium.state c.write.new.self).content is ∙ wrote.here
-      | inr not ↦ wrote.elsewhere x not ∙ inv.zeros x low (omega (arith, high, not))
-    ] in
-    let more = one_more g (goal.at.loop-sector-preserved g c).After-write (inr wrote) in
-    let looked = c.write.ensures.passes.looked_stays (λ e. cc e) ∙ inv.follows.looks.looked_stays in
-    search (rules, zeros, more, g.met.M.Medium.follows_through, looked)
+pub returns-clause-clears : goal.returns-clause-clears
+returns-clause-clears g c =
+    let run = cleared g c in
+    let driven = c.drive.ensures.driven in
+    record {
+      elsewhere = λ x not. run.1.elsewhere x (rw run.1.end_is at not);
+      moments = run.0;
+      calls = omega (arith, calls_most driven.tallied);
+      exact = on_ok_weaker c.drive.result (λ end. omega (arith, calls_all end.1 refl)) c.drive.ensures.done;
+      cause = refused_call c.drive.result driven.tallied;
+    }
 
-pub returns-in_err-write-clause-clears : goal.returns-in_err-write-clause-clears
-returns-in_err-write-clause-clears g c =
-    search (rules, one_more g (goal.at.returns-in_err-write-clause-clears g c).After-write c.in_err-write.ensures.err)
+pub returns-clause-follows : goal.returns-clause-follows
+returns-clause-follows g c =
+    let driven = c.drive.ensures.driven in
+    record {
+      follows = c.drive.ensures.follows;
+      sent = omega (arith, sends_most driven.tallied);
+      looks = none_read driven.tallied refl driven.looks;
+    }
