@@ -10,7 +10,7 @@ use Rattle.image_calls.specs.Formats.{BeginsFormat, HandsOn}
 use Rattle.image_calls.specs.Works.{Work}
 use Rattle.image_calls.specs.declared.image_fault.ImageFault.{ImageFault}
 use Rattle.image_calls.specs.declared.image_fault.ImageFault.TheVariants as fault
-use Rattle.usbdisk_c.specs.Codes.{number_of, EMPTY, STARTED, BAD_LENGTH, BAD_SIZES}
+use Rattle.disk_calls.specs.Codes.{number_of, EMPTY, STARTED, BAD_LENGTH, BAD_SIZES}
 
 -- the number of a result
 abbrev pub code_of_image : Result (Unit {0}) ImageFault → ℕ

@@ -1,15 +1,3 @@
 pub mod Codes
-pub mod DiskRow
-pub mod Exports
-pub mod Held
 pub mod ImageExports
-pub mod Parts
-pub mod Seen
 pub mod StoreExports
-pub mod Wanted
-pub mod Refusals
-pub mod Plays
-pub mod Room
-pub mod Runs
-pub mod Refused
-pub mod Layouts

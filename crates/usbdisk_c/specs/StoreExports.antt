@@ -10,8 +10,8 @@ use Rattle.store_calls.specs.declared.call_fault.CallFault.{CallFault}
 use Rattle.store_calls.specs.declared.call_fault.CallFault.TheVariants as fault
 use Rattle.store_calls.specs.declared.calls.Sizes.{Sizes}
 use Rattle.store_calls.specs.declared.reading.Missing.{Missing}
-use Rattle.usbdisk_c.specs.Codes.{number_of, EMPTY, STARTED, BAD_LENGTH, LITTLE_ROOM, NEEDS}
-use Rattle.usbdisk_c.specs.Codes.{NOT_TAKEN}
+use Rattle.disk_calls.specs.Codes.{number_of, EMPTY, STARTED, BAD_LENGTH, LITTLE_ROOM, NEEDS}
+use Rattle.disk_calls.specs.Codes.{NOT_TAKEN}
 
 -- the number of a refusal: 11 is told of a dead store, and 24 of blocks behind the last one
 abbrev pub code_of_fault : CallFault → ℕ

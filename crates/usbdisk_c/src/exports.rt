@@ -1,23 +1,15 @@
-//! One export for each call of include/usbdisk.h, which tells what each does.
-ghost use Rattle.usbdisk_c.specs.Exports.{identity_of, Starts, Stops, TakesOut, SendsIn};
-ghost use Rattle.usbdisk_c.specs.Exports.{AnswersSetup, Ticks, HandsOut, IsShownTo};
-ghost use Rattle.usbdisk_c.specs.Exports.{TellsNear, TakesOutUnread};
+//! The exports of a disk: one for each call of include/usbdisk.h, which tells what each does.
+ghost use Rattle.disk_calls.specs.Exports.{Starts, Stops, TakesOut, SendsIn, AnswersSetup, Ticks};
+ghost use Rattle.disk_calls.specs.Exports.{HandsOut, IsShownTo, TellsNear, TakesOutUnread};
+ghost use Rattle.disk_calls.specs.Starting.{identity_of};
+ghost use Rattle.disk_calls.specs.Room.{TellsRoom, TellsMemory};
+ghost use Rattle.disk_calls.specs.Refused.{IsTold};
+ghost use Rattle.disk_calls.specs.Runs.{HandsOutRun};
 ghost use Rattle.usbdisk_c.specs.Codes.{TellsVersion};
-ghost use Rattle.usbdisk_c.specs.Room.{TellsRoom, TellsMemory};
-ghost use Rattle.usbdisk_c.specs.Refused.{IsTold};
-ghost use Rattle.usbdisk_c.specs.Runs.{HandsOutRun};
 ghost use Rattle.window.specs.Window.{fresh};
 
-use crate::codes::{ACK, EMPTY, NOT_TAKEN, STARTED, VERSION};
-use crate::handle::UsbDisk;
-use crate::moves::{adopt, has_disk, reclaim};
-use crate::play::{
-    answer_request, make_step, next_call, send_packet, show_sectors, take_packet, take_unread,
-};
-use crate::refused::refuse;
-use crate::run::next_run;
-use crate::sizes::{memory_for, room_for};
-use crate::start::{UsbDiskIdentity, begin};
+use crate::codes::VERSION;
+use disk_calls::{UsbDisk, UsbDiskIdentity, memory_for, room_for};
 use journal::Super;
 use std::alloc::Global;
 use window::DeviceHolds;
@@ -74,26 +66,16 @@ pub extern "C" fn usbdisk_start(
     ensures { Starts near.now sectors (fresh sectors near.now device.now.bytes span room)
         (identity_of identity.now) packet disk.old.disk disk.new.disk result }
 {
-    if has_disk(disk, alloc) {
-        return STARTED;
-    }
-    match begin(alloc, near, sectors, device, identity, packet, span, room) {
-        Ok(held) => {
-            adopt(disk, alloc, held);
-            0
-        }
-        Err(refusal) => refusal.code(),
-    }
+    disk_calls::start_disk(
+        alloc, disk, near, sectors, device, identity, packet, span, room,
+    )
 }
 
 #[unsafe(no_mangle)]
 pub extern "C" fn usbdisk_stop(alloc: Global, disk: &mut UsbDisk) -> u32
     ensures { Stops disk.old.disk disk.new.disk result }
 {
-    let Some(_held) = reclaim(disk, alloc) else {
-        return EMPTY;
-    };
-    ACK
+    disk_calls::stop_disk(alloc, disk)
 }
 
 #[unsafe(no_mangle)]
@@ -107,36 +89,21 @@ pub extern "C" fn usbdisk_bulk_out(
     ensures { TakesOut disk.old.disk packet.now first.old count.old
         disk.new.disk first.new count.new result }
 {
-    let Some(mut held) = reclaim(disk, alloc) else {
-        return EMPTY;
-    };
-    let code = take_packet(&mut held, packet, first, count);
-    adopt(disk, alloc, held);
-    code
+    disk_calls::bulk_out(alloc, disk, packet, first, count)
 }
 
 #[unsafe(no_mangle)]
 pub extern "C" fn usbdisk_bulk_out_unread(alloc: Global, disk: &mut UsbDisk, packet: &[u8]) -> u32
     ensures { TakesOutUnread disk.old.disk packet.now disk.new.disk result }
 {
-    let Some(mut held) = reclaim(disk, alloc) else {
-        return EMPTY;
-    };
-    let code = take_unread(&mut held, packet);
-    adopt(disk, alloc, held);
-    code
+    disk_calls::bulk_out_unread(alloc, disk, packet)
 }
 
 #[unsafe(no_mangle)]
 pub extern "C" fn usbdisk_show(alloc: Global, disk: &mut UsbDisk, first: u64, bytes: &[u8]) -> u32
     ensures { IsShownTo disk.old.disk first bytes.now disk.new.disk result }
 {
-    let Some(mut held) = reclaim(disk, alloc) else {
-        return EMPTY;
-    };
-    let taken = show_sectors(&mut held, first, bytes);
-    adopt(disk, alloc, held);
-    if taken { ACK } else { NOT_TAKEN }
+    disk_calls::show(alloc, disk, first, bytes)
 }
 
 #[unsafe(no_mangle)]
@@ -148,12 +115,7 @@ pub extern "C" fn usbdisk_bulk_in(
 ) -> u32
     ensures { SendsIn disk.old.disk to.old size.old disk.new.disk to.new size.new result }
 {
-    let Some(mut held) = reclaim(disk, alloc) else {
-        return EMPTY;
-    };
-    let code = send_packet(&mut held, to, size);
-    adopt(disk, alloc, held);
-    code
+    disk_calls::bulk_in(alloc, disk, to, size)
 }
 
 #[unsafe(no_mangle)]
@@ -167,24 +129,14 @@ pub extern "C" fn usbdisk_setup(
     ensures { AnswersSetup disk.old.disk packet.now to.old size.old
         disk.new.disk to.new size.new result }
 {
-    let Some(mut held) = reclaim(disk, alloc) else {
-        return EMPTY;
-    };
-    let code = answer_request(&mut held, packet, to, size);
-    adopt(disk, alloc, held);
-    code
+    disk_calls::setup(alloc, disk, packet, to, size)
 }
 
 #[unsafe(no_mangle)]
 pub extern "C" fn usbdisk_tick(alloc: Global, disk: &mut UsbDisk) -> u32
     ensures { Ticks disk.old.disk disk.new.disk result }
 {
-    let Some(mut held) = reclaim(disk, alloc) else {
-        return EMPTY;
-    };
-    let code = make_step(&mut held);
-    adopt(disk, alloc, held);
-    code
+    disk_calls::tick(alloc, disk)
 }
 
 #[unsafe(no_mangle)]
@@ -196,12 +148,7 @@ pub extern "C" fn usbdisk_take(
 ) -> u32
     ensures { HandsOut disk.old.disk sector.old to.old disk.new.disk sector.new to.new result }
 {
-    let Some(mut held) = reclaim(disk, alloc) else {
-        return EMPTY;
-    };
-    let code = next_call(&mut held, sector, to);
-    adopt(disk, alloc, held);
-    code
+    disk_calls::take(alloc, disk, sector, to)
 }
 
 #[unsafe(no_mangle)]
@@ -215,22 +162,12 @@ pub extern "C" fn usbdisk_take_run(
     ensures { HandsOutRun disk.old.disk sector.old to.old count.old
         disk.new.disk sector.new to.new count.new result }
 {
-    let Some(mut held) = reclaim(disk, alloc) else {
-        return EMPTY;
-    };
-    let code = next_run(&mut held, sector, to, count);
-    adopt(disk, alloc, held);
-    code
+    disk_calls::take_run(alloc, disk, sector, to, count)
 }
 
 #[unsafe(no_mangle)]
 pub extern "C" fn usbdisk_refused(alloc: Global, disk: &mut UsbDisk) -> u32
     ensures { IsTold disk.old.disk disk.new.disk result }
 {
-    let Some(mut held) = reclaim(disk, alloc) else {
-        return EMPTY;
-    };
-    refuse(&mut held);
-    adopt(disk, alloc, held);
-    ACK
+    disk_calls::tell_refused(alloc, disk)
 }

@@ -3,7 +3,7 @@ ghost use Rattle.std.specs.Prelude.{◌≡◌};
 ghost use Rattle.usbdisk_c.specs.ImageExports.{code_of_image, LaysLog, Formats, Migrates};
 ghost use Rattle.usbdisk_c.specs.ImageExports.{HandsOver, Ends};
 
-use crate::codes::{ACK, BAD_LENGTH, BAD_SIZES, EMPTY, STARTED, number_of};
+use disk_calls::{ACK, BAD_LENGTH, BAD_SIZES, EMPTY, STARTED, number_of};
 use image_calls::{ImageFault, UsbDiskImage, end, format_in, lay_in, migrate_in, next_call};
 use journal::LogFormat;
 use std::alloc::Global;

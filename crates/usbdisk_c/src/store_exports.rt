@@ -7,7 +7,7 @@ ghost use Rattle.usbdisk_c.specs.StoreExports.{StoreWrites, StoreSyncs, StoreTic
 ghost use Rattle.usbdisk_c.specs.StoreExports.{StoreHandsOut, StoreHandsOutRun, StoreIsShown};
 ghost use Rattle.usbdisk_c.specs.StoreExports.{StoreIsTold};
 
-use crate::codes::{
+use disk_calls::{
     ACK, BAD_LENGTH, BAD_RANGE, DEAD, EMPTY, LITTLE_ROOM, NEEDS, NOT_TAKEN, STARTED, UNREAD,
     number_of,
 };

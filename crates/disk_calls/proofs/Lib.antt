@@ -1,0 +1,5 @@
+pub mod Refusals
+pub mod Rooms
+pub mod OutboxTaken
+pub mod Values
+pub mod TakingOut

@@ -1,0 +1,165 @@
+-- What `usbdisk_room` tells is enough, and what is read is in sight.
+use Rattle.std.proofs.Common.{◌≡◌, ◌⊎◌, ◌<◌, ◌≤◌, ◌+◌, ◌++◌, ◌∷◌, [], ℕ, true, List, length, inl, inr, arith, refl, sym, ◌∙◌, ap, subst}
+use Rattle.std.proofs.Common.{length-append}
+use Rattle.std.specs.Prelude.{Option}
+use Rattle.std.proofs.lemmas.List.{append-nil}
+use Rattle.std.proofs.Math.Nat.{le-max_left, le-max_right}
+use Rattle.journal.specs.declared.log_format.LogFormat.{LogFormat}
+use Rattle.journal.specs.declared.log_format.LogFormat.TheVariants.{One, Two}
+use Rattle.journal.specs.Places.{Shape}
+use Rattle.journal.specs.Sectors.{IsSuper}
+use Rattle.medium.specs.Medium.{LooksOnly}
+use Rattle.medium.specs.Sent.{sent}
+use Rattle.mirror.specs.Story.{given}
+use Rattle.mirror.specs.declared.call.DeviceCall.{DeviceCall}
+use Rattle.recovery.specs.Calls.{most_start_sends}
+use Rattle.window.specs.Window.{Window, fresh, state_of, is_in_sight, ComesAfter, IsServed}
+use Rattle.window.specs.Looks.{near_in_sight, none_refused, none_missed, none_kept_out}
+use Rattle.scsi_unit.specs.Calls.{most_sends_of}
+use Rattle.scsi_unit.specs.Reading.{first_home_of}
+use Rattle.bot_machine.specs.Device.{Device}
+use Rattle.bot_machine.specs.Disk.{IsStep}
+use Rattle.bot_machine.specs.Opening.{IsOpened, StartLeaves, LeavesMedium}
+use Rattle.bot_machine.specs.Reading.{ReadsAt}
+use Rattle.spec.specs.declared.event.Event.{Event}
+use Rattle.spec.specs.declared.event.Event.TheVariants as event
+use Rattle.spec.specs.declared.event.Answer.{Answer}
+use Rattle.disk_calls.specs.Plays.{Disk, medium_of, layout_on, Foresees, Plays, PlaysPacket}
+use Rattle.disk_calls.specs.Refusals.{RefusesNothing, HasRoom, IsRoomy, HoldsLog, SeesHome, HasRoomToStart, HoldsImageLog}
+use Rattle.disk_calls.specs.Refusals.{StartRefusesNothing}
+use Rattle.store_calls.specs.Rooms as store
+use Rattle.store_calls.specs.Rooms.{WantsMore}
+use Rattle.store_calls.proofs.Roomy.{enough as enough_for}
+use Rattle.disk_calls.specs.Wanted.{WantsNone}
+use Rattle.disk_calls.specs.Room.{room_of, room_for}
+
+-- for each event
+enough : (format : LogFormat) (slots : ℕ) → most_sends_of format ≤ room_of format slots
+enough One slots = le-max_left 309 (most_start_sends One slots)
+enough Two slots = le-max_left 1479 (most_start_sends Two slots)
+
+-- for a start
+enough_start : (format : LogFormat) (slots : ℕ) → most_start_sends format slots ≤ room_of format slots
+enough_start One slots = le-max_right 309 (most_start_sends One slots)
+enough_start Two slots = le-max_right 1479 (most_start_sends Two slots)
+
+fits_in : (waits before after most told room : ℕ) → after ≤ before + most → most ≤ told → waits + told ≤ room
+    → waits + after ≤ before + room
+fits_in waits before after most told room calls less fits = omega (arith, calls, less, fits)
+
+-- what leaves no write, no flush and no read refused, where each named a sector that is in sight
+refuses_nothing : (P : ℕ → Type 0) (Room Sight : Type 0) (old new : Window) → ComesAfter old new → IsServed old new
+    → (Room → length old.outbox + sent (state_of new) ≤ sent (state_of old) + old.room) → LooksOnly P (state_of old) (state_of new)
+    → (Sight → (s : ℕ) → P s → is_in_sight old s ≡ true) → RefusesNothing Room Sight old new
+refuses_nothing P Room Sight old new follows served few named in_sight = record {
+  kept = λ room. none_kept_out old new follows (few room);
+  seen = λ sight. none_missed P old new follows (in_sight sight) named;
+  none = λ room sight. none_refused P old new served (in_sight sight) named (few room);
+}
+
+-- a sector that an event names is in sight
+named_in_sight : (old : Disk) (event : Event) → HoldsLog old → SeesHome old event → (s : ℕ)
+    → (s < first_home_of old.unit) ⊎ ReadsAt old event s → is_in_sight (medium_of old) s ≡ true
+named_in_sight old event log home s (inl low) = near_in_sight (medium_of old) s (omega (arith, low, log))
+named_in_sight old (event.Out packet) log home s (inr at) = home at.0 at.1 s at.2.0 at.2.1
+named_in_sight old event.In log home s (inr at) = absurd at
+named_in_sight old (event.Setup packet) log home s (inr at) = absurd at
+named_in_sight old event.Tick log home s (inr at) = absurd at
+
+-- where no call was made nothing was given to the device
+none_since : (asked since : List (Option DeviceCall)) → length (asked ++ since) ≡ length asked → since ≡ []
+none_since asked [] same = refl
+none_since asked (one ∷ since) same = absurd (omega (arith, same, length-append asked (one ∷ since)))
+
+asks_nothing : (old new : Window) → ComesAfter old new → (state_of new).calls ≡ (state_of old).calls → new.outbox ≡ old.outbox
+asks_nothing old new follows same =
+    let none = none_since old.seen.told.asked follows.since
+    (ap (λ (l : List (Option DeviceCall)). length l) (sym follows.asked) ∙ same) in
+    follows.outbox ∙ ap (λ (l : List (Option DeviceCall)). old.outbox ++ given l) none ∙ append-nil old.outbox
+
+-- the room and the layout stay
+stays_roomy : (old new : Disk) → layout_on new ≡ layout_on old → (medium_of new).room ≡ (medium_of old).room → IsRoomy old
+    → IsRoomy new
+stays_roomy old new layout room enough_room = omega (arith, ap (λ (s : Shape). room_for s) layout, room, enough_room)
+
+-- an event, with what the medium says of all that may come
+pub played : (old : Disk) (event : Event) (answer : Answer) (new : Disk)
+    → Foresees (medium_of old)
+    → IsStep (state_of (medium_of old)) (state_of (medium_of new)) old event answer new
+    → ComesAfter (medium_of old) (medium_of new) → Plays old event answer new
+played old event answer new sees step follows = record {
+  step = step;
+  follows = follows;
+  covers = sees.covers (medium_of new) follows;
+  parts = sees.parts (medium_of new) follows;
+  served = sees.served (medium_of new) follows;
+  refuses = refuses_nothing (λ s. (s < first_home_of old.unit) ⊎ ReadsAt old event s) (HasRoom old) (HoldsLog old × SeesHome old event)
+      (medium_of old) (medium_of new) follows (sees.served (medium_of new) follows)
+      (λ enough_room. fits_in (length (medium_of old).outbox) (sent (state_of (medium_of old))) (sent (state_of (medium_of new)))
+      (most_sends_of (layout_on old).format) (room_for (layout_on old)) (medium_of old).room
+      step.few.sent (enough (layout_on old).format (layout_on old).slots) enough_room)
+      step.looks (λ sight. named_in_sight old event sight.0 sight.1);
+  faulted = λ dead. (asks_nothing (medium_of old) (medium_of new) follows (step.few.faulted dead).0, (step.few.faulted dead).1);
+  roomy = stays_roomy old new step.few.layout_stays follows.room_stays;
+}
+
+-- a packet for which nothing is missing
+pub nothing_missed : (old : Disk) (packet : List ℕ) (new : Disk) (code : ℕ) → WantsNone old packet → PlaysPacket old packet new code
+    → RefusesNothing (HasRoom old) (HoldsLog old) (medium_of old) (medium_of new)
+nothing_missed old packet new code none plays =
+    let all = plays.1.refuses in record {
+      kept = all.kept;
+      seen = λ log. all.seen (log, none);
+      none = λ room log. all.none room (log, none);
+    }
+
+-- ---- a start, good or refused, on a medium that was asked nothing yet
+
+module _ (first after : Window) (empty : length first.outbox ≡ 0) (leaves : StartLeaves (state_of first) (state_of after)) where
+  fits_start : HasRoomToStart first → length first.outbox + sent (state_of after) ≤ sent (state_of first) + first.room
+  fits_start (inl (shape, super, within, enough_room)) =
+      fits_in (length first.outbox) (sent (state_of first)) (sent (state_of after)) (most_start_sends shape.format shape.slots)
+      (room_for shape) first.room (leaves.bounded.sends.most shape (record { super = super; fits = within }))
+      (enough_start shape.format shape.slots) (omega (arith, empty, enough_room))
+  fits_start (inr enough_room) =
+      fits_in (length first.outbox) (sent (state_of first)) (sent (state_of after)) (most_start_sends Two 64) (room_of Two 64)
+      first.room leaves.bounded.sends.any (enough_start Two 64) (omega (arith, empty, enough_room))
+
+  pub start_refuses : LeavesMedium state_of ComesAfter first after → IsServed first after → StartRefusesNothing first after
+  start_refuses medium served =
+      let near = first.near in record {
+        kept = λ room. none_kept_out first after medium.follows (fits_start room);
+        seen = λ log. none_missed (λ s. s < near) first after medium.follows (near_in_sight first) (medium.looks near log);
+        none = λ room log. none_refused (λ s. s < near) first after served (near_in_sight first) (medium.looks near log)
+            (fits_start room);
+      }
+
+-- the first sectors that held the log hold it still
+pub holds_log : (first : Window) (new : Disk) (device : Device) → IsOpened (state_of first) (state_of (medium_of new)) device new
+    → ComesAfter first (medium_of new) → HoldsImageLog first → HoldsLog new
+holds_log first new device opened follows holds =
+    let stood = opened.store.stood in
+    let below = holds.log (layout_on new) (record { super = stood.keeps.super; fits = stood.fits }) in
+    omega (arith, below, follows.near_stays)
+
+-- ---- the room that an image wants
+
+-- the room of a store is that of a disk
+as_store : (shape : Shape) → store.room_for shape ≡ room_for shape
+as_store shape = told shape.format shape.slots
+  where
+    told : (format : LogFormat) (slots : ℕ) → store.room_of format slots ≡ room_of format slots
+    told One slots = refl
+    told Two slots = refl
+
+-- a disk that was started where the image does not want more has the room
+pub roomy : (near holds : List ℕ) (sectors span room : ℕ) (m : Window) (new : Disk) (device : Device)
+    → m ≡ fresh sectors near holds span room → 512 ≤ length near → ¬ WantsMore near room
+    → IsOpened (state_of m) (state_of (medium_of new)) device new → ComesAfter m (medium_of new) → IsRoomy new
+roomy near holds sectors span room m new device on some none opened follows =
+    let first : Window = fresh sectors near holds span room in
+    let stood = opened.store.stood in
+    let super : IsSuper (layout_on new) ((state_of first).content 0) =
+    subst (λ (w : Window). IsSuper (layout_on new) ((state_of w).content 0)) on stood.keeps.super in
+    let stays : (medium_of new).room ≡ room = follows.room_stays ∙ ap (λ (w : Window). w.room) on in
+    omega (arith, stays, as_store (layout_on new), enough_for near holds sectors span room (layout_on new) some none super)

@@ -1,0 +1,14 @@
+pub mod Codes
+pub mod DiskRow
+pub mod Held
+pub mod Parts
+pub mod Seen
+pub mod Wanted
+pub mod Refusals
+pub mod Plays
+pub mod Room
+pub mod Runs
+pub mod Refused
+pub mod Layouts
+pub mod Starting
+pub mod Exports

@@ -1,0 +1,149 @@
+-- What each call does to a disk over a medium that reads on demand.
+use Rattle.std.specs.Prelude.{◌≡◌, ◌≢◌, ◌⊎◌, ◌↔◌, ℕ, ◌+◌, ◌/◌, ◌<◌, ◌≤◌, ◌++◌, Bool, true, false}
+use Rattle.std.specs.Prelude.{List, length, drop}
+use Rattle.std.specs.List.{list_all}
+use Rattle.medium.specs.Sent.{sent}
+use Rattle.medium.specs.Moments.{IsUnchanged}
+use Rattle.inlet.specs.Inlet.{AreHeld}
+use Rattle.window.specs.Window.{Window, state_of, without_first, ComesAfter, CoversDevice, IsServed}
+use Rattle.window.specs.Window.{IsShown, is_in_sight}
+pub use Rattle.store_calls.specs.Outbox.{Shows}
+use Rattle.scsi_unit.specs.Background.{IsSettled, is_dead, steps_left}
+use Rattle.spec.specs.Book.{Book}
+use Rattle.recovery.specs.declared.start_fault.StartFault.TheVariants as fault
+use Rattle.scsi_unit.specs.StartFaults.{StartFault, NoMemory}
+use Rattle.bot_machine.specs.Device.{Device}
+use Rattle.bot_machine.specs.Disk.{FitsDisk, IsStep, IsRearmed}
+use Rattle.bot_machine.specs.Opening.{IsOpened, IsNotOpened, StartLeaves}
+use Rattle.spec.specs.declared.event.Event.{Event}
+use Rattle.spec.specs.declared.event.Event.TheVariants as event
+use Rattle.spec.specs.declared.event.Answer.{Answer}
+use Rattle.spec.specs.declared.event.Answer.TheVariants as answer
+use Rattle.disk_calls.specs.Codes.{code_of, bytes_of, TOO_LONG, NEEDS}
+pub use Rattle.disk_calls.specs.Seen.{Disk, medium_of, layout_on}
+use Rattle.disk_calls.specs.Wanted.{Wants, WantsNone}
+use Rattle.disk_calls.specs.Parts.{CoversParts}
+use Rattle.disk_calls.specs.Refusals.{RefusesNothing, HasRoom, HoldsLog, EventRefusesNothing}
+use Rattle.disk_calls.specs.Refusals.{HoldsImageLog, StartRefusesNothing, IsRoomy}
+
+-- what a medium says of all calls of it that may come
+pub record Foresees (m : Window) : Type 0 where
+  pub covers : (new : Window) → ComesAfter m new → CoversDevice m new
+  pub parts : (new : Window) → ComesAfter m new → CoversParts m new
+  pub served : (new : Window) → ComesAfter m new → IsServed m new
+
+-- one event of the disk; all that it gave to the device is appended to the outbox
+pub record Plays (old : Disk) (event : Event) (answer : Answer) (new : Disk) : Type 0 where
+  pub step : IsStep (state_of (medium_of old)) (state_of (medium_of new)) old event answer new
+  pub follows : ComesAfter (medium_of old) (medium_of new)
+  -- wherever in the outbox the device is, a cut of it leaves what a cut at some moment could,
+  pub covers : CoversDevice (medium_of old) (medium_of new)
+  -- whichever of the writes behind its last flush it has carried out
+  pub parts : CoversParts (medium_of old) (medium_of new)
+  -- none of its calls is refused where the sectors that it read were in sight, and the outbox had
+  -- room for all of its writes and flushes,
+  pub served : IsServed (medium_of old) (medium_of new)
+  -- as they were, and as it had, where the log is in memory, what is read at home is in sight, and
+  -- `usbdisk_room` tells no more than what is left of the room
+  pub refuses : EventRefusesNothing old event new
+  -- a faulted disk asks its device for nothing, and stays faulted
+  pub faulted : is_dead old.unit.store.cached ≡ true
+      → ((medium_of new).outbox ≡ (medium_of old).outbox)
+      × (is_dead new.unit.store.cached ≡ true)
+  pub roomy : IsRoomy old → IsRoomy new
+
+-- a packet to Bulk-Out is played, and this is the number of its answer
+abbrev pub PlaysPacket : Disk → List ℕ → Disk → ℕ → Type 0
+PlaysPacket old packet new code = (answer : Answer)
+    × Plays old (event.Out (record { items = packet })) answer new × (code ≡ code_of answer)
+
+-- A packet that is too long changes nothing; nor does one before which sectors are to be shown, and
+-- they are told then alone. One that is played reads nothing that is not in sight.
+pub record TakesPacket (old : Disk) (packet : List ℕ) (first count : ℕ) (new : Disk)
+    (first' count' code : ℕ) : Type 0 where
+  pub one : ((old.line.packet_size < length packet) × (code ≡ TOO_LONG) × (new ≡ old)
+      × (first' ≡ first) × (count' ≡ count))
+      ⊎ ((length packet ≤ old.line.packet_size) × (code ≡ NEEDS) × (new ≡ old)
+      × Wants old packet first' count')
+      ⊎ ((length packet ≤ old.line.packet_size) × WantsNone old packet
+      × PlaysPacket old packet new code
+      × RefusesNothing (HasRoom old) (HoldsLog old) (medium_of old) (medium_of new)
+      × (first' ≡ first) × (count' ≡ count))
+
+-- The same without any sector that was not shown: a packet that is not too long is played, whatever
+-- of what it reads is out of sight. Each read names a sector of the log, or one of the home sectors
+-- that `Disk::home_sectors` tells for it; the medium refuses those that are out of sight.
+pub record TakesUnread (old : Disk) (packet : List ℕ) (new : Disk) (code : ℕ) : Type 0 where
+  pub one : ((old.line.packet_size < length packet) × (code ≡ TOO_LONG) × (new ≡ old))
+      ⊎ ((length packet ≤ old.line.packet_size) × PlaysPacket old packet new code)
+
+-- Sectors are shown, and taken or not. Where they are what the medium holds, the disk fits what it
+-- fitted; where they are not, nothing but the medium has changed.
+pub record Sees (old : Disk) (first : ℕ) (bytes : List ℕ) (new : Disk) (taken : Bool) : Type 0 where
+  pub shown : IsShown first bytes taken (medium_of old) (medium_of new)
+  pub others : IsRearmed old new
+  pub unchanged : AreHeld (state_of (medium_of old)).content first (length bytes / 512) bytes
+      → IsUnchanged (state_of (medium_of old)) (state_of (medium_of new))
+  pub fits : AreHeld (state_of (medium_of old)).content first (length bytes / 512) bytes
+      → (book : Book) → FitsDisk (state_of (medium_of old)) old book
+      → FitsDisk (state_of (medium_of new)) new book
+
+-- the answer's number, its bytes at the front of the room, and how many they are
+pub record Tells (answer : Answer) (old new : List ℕ) (size code : ℕ) : Type 0 where
+  pub code_is : code ≡ code_of answer
+  pub size_is : size ≡ length (bytes_of answer)
+  pub bytes_are : new ≡ bytes_of answer ++ drop (length (bytes_of answer)) old
+
+abbrev pub SendsPacket : Disk → List ℕ → Disk → List ℕ → ℕ → ℕ → Type 0
+SendsPacket old room new filled size code =
+    (answer : Answer) × Plays old event.In answer new × Tells answer room filled size code
+
+abbrev pub AnswersRequest : Disk → List ℕ → List ℕ → Disk → List ℕ → ℕ → ℕ → Type 0
+AnswersRequest old packet room new filled size code =
+    (answer : Answer) × Plays old (event.Setup packet) answer new
+    × Tells answer room filled size code
+
+-- a step in the background, and whether none is left
+pub record MakesStep (old new : Disk) (code : ℕ) : Type 0 where
+  pub plays : Plays old event.Tick answer.Ticked new
+  pub few : code ≤ 1
+  pub none_left : (code ≡ 0) ↔ ((is_dead new.unit.store.cached ≡ false)
+      × (steps_left new.unit.store.cached ≡ 0))
+  pub at_home : code ≡ 0 → IsSettled (state_of (medium_of new)) new.unit.store.cached
+
+-- the first call leaves the outbox, and nothing else of the disk changes
+pub record LetsGo (old new : Disk) : Type 0 where
+  pub medium : medium_of new ≡ without_first (medium_of old)
+  pub others : IsRearmed old new
+  pub fits : (book : Book) → FitsDisk (state_of (medium_of old)) old book
+      → FitsDisk (state_of (medium_of new)) new book
+
+-- a disk was started on this medium
+pub record Begins (first : Window) (device : Device) (new : Disk) : Type 0 where
+  pub opened : IsOpened (state_of first) (state_of (medium_of new)) device new
+  pub leaves : StartLeaves (state_of first) (state_of (medium_of new))
+  pub follows : ComesAfter first (medium_of new)
+  pub covers : CoversDevice first (medium_of new)
+  pub parts : CoversParts first (medium_of new)
+  pub served : IsServed first (medium_of new)
+  pub refuses : StartRefusesNothing first (medium_of new)
+  -- where the first sectors were all before the first home sector, they are for each event
+  pub holds : HoldsImageLog first → HoldsLog new
+  pub roomy : IsRoomy new
+
+-- A start on this medium was refused, and left that one. Where a write or a flush was refused, the
+-- writes and flushes of this very start had no room together; where a read was, one of its reads
+-- named a sector that is not in memory, which is none of the log.
+pub record EndsIn (first after : Window) (why : StartFault) : Type 0 where
+  pub not : IsNotOpened (state_of first) (state_of after) why
+  pub leaves : StartLeaves (state_of first) (state_of after)
+  pub follows : ComesAfter first after
+  pub refuses : StartRefusesNothing first after
+  pub full : (why ≡ fault.Write) ⊎ (why ≡ fault.Flush)
+      → sent (state_of first) + first.room < sent (state_of after)
+  pub unseen : why ≡ fault.Read → list_all (is_in_sight first) follows.looks ≡ false
+  pub sighted : HoldsImageLog first → why ≢ fault.Read
+
+-- no disk was started on this medium
+abbrev pub BeginsNot : Window → StartFault → Type 0
+BeginsNot first why = (why ≡ NoMemory) ⊎ ((after : Window) × EndsIn first after why)

@@ -1,0 +1,30 @@
+//! A disk behind a handle for C: what each export of the static library does with it, and the
+//! numbers that it answers. include/usbdisk.h tells them.
+#![tactic(auto)]
+
+mod calls;
+mod codes;
+mod handle;
+mod look;
+mod moves;
+mod parts;
+mod play;
+mod refused;
+mod run;
+mod sizes;
+mod start;
+mod turns;
+mod wanted;
+
+pub use calls::{
+    bulk_in, bulk_out, bulk_out_unread, setup, show, start_disk, stop_disk, take, take_run,
+    tell_refused, tick,
+};
+pub use codes::{
+    ACK, BAD_IDENTITY, BAD_LENGTH, BAD_PACKET_SIZE, BAD_RANGE, BAD_SIZES, DEAD, EMPTY, LITTLE_ROOM,
+    NAK, NEEDS, NOT_TAKEN, STALL, STARTED, TOO_LONG, UNREAD, number_of,
+};
+pub use handle::{Opaque, UsbDisk};
+pub use look::{UsbDiskLayout, layout_of, super_code};
+pub use sizes::{memory_for, room_for};
+pub use start::UsbDiskIdentity;

@@ -1,5 +1,0 @@
-pub mod Refusals
-pub mod Rooms
-pub mod TakingOut
-pub mod OutboxTaken
-pub mod Values
