@@ -1,25 +1,31 @@
 //! Values that are compared with worked ones.
 ghost use Rattle.std.specs.Prelude.{◌≡◌, is_ok};
 
-use thiserror::Error;
+use std::fmt;
 
 /// What has another value than the worked one.
-#[derive(Debug, Drop, Error)]
-pub enum Mismatch {
-    /// Another value came than the one that is wanted.
-    #[error("another value: {0}")]
-    Value(&'static str),
-    /// A value was wanted, and none came.
-    #[error("missing: {0}")]
-    Missing(&'static str),
+#[derive(Clone, Copy)]
+pub(crate) struct Mismatch {
+    what: &'static str,
+}
+
+impl fmt::Display for Mismatch {
+    fn fmt<W: fmt::Write>(&self, f: &mut fmt::Formatter<W>) -> fmt::Result {
+        let Mismatch { what } = *self;
+        write!(f, "another value: {what}")
+    }
 }
 
 /// Tells what has another value than the one that is wanted.
 ///
 /// # Errors
 ///
-/// `Value` where the two differ.
-pub fn same<T: PartialEq + Drop>(what: &'static str, found: T, wanted: T) -> Result<(), Mismatch>
+/// `Mismatch` where the two differ.
+pub(crate) fn same<T: PartialEq + Drop>(
+    what: &'static str,
+    found: T,
+    wanted: T,
+) -> Result<(), Mismatch>
     ensures { is_ok result ≡ T.eq found wanted }
 {
     holds(what, found == wanted)
@@ -29,13 +35,9 @@ pub fn same<T: PartialEq + Drop>(what: &'static str, found: T, wanted: T) -> Res
 ///
 /// # Errors
 ///
-/// `Value` where the fact does not hold.
-pub fn holds(what: &'static str, fact: bool) -> Result<(), Mismatch>
+/// `Mismatch` where the fact does not hold.
+pub(crate) fn holds(what: &'static str, fact: bool) -> Result<(), Mismatch>
     ensures { is_ok result ≡ fact }
 {
-    if fact {
-        Ok(())
-    } else {
-        Err(Mismatch::Value(what))
-    }
+    if fact { Ok(()) } else { Err(Mismatch { what }) }
 }

@@ -9,7 +9,7 @@ use std::process::ExitCode;
 
 /// A line for each group of calls that were played together.
 #[derive(Drop)]
-pub struct Report {
+pub(crate) struct Report {
     out: Stdout,
     // All was as it should be.
     sound: bool,
@@ -27,7 +27,7 @@ impl Model for Report {
 
 impl Report {
     /// No line yet.
-    pub fn new(out: Stdout) -> Report
+    pub(crate) fn new(out: Stdout) -> Report
         ensures { result ≡ record { sound = true; written = true } }
     {
         Report {
@@ -38,7 +38,7 @@ impl Report {
     }
 
     /// Tells of calls with this name that all was as it should be, or what was not.
-    pub fn tell<D: Display + Drop>(&mut self, name: &str, played: Result<(), D>)
+    pub(crate) fn tell<D: Display + Drop>(&mut self, name: &str, played: Result<(), D>)
         ensures sound { self.new.sound ≡ (self.old.sound && is_ok played) }
         ensures written { IsTrue self.new.written → IsTrue self.old.written }
     {
@@ -51,7 +51,7 @@ impl Report {
     }
 
     /// Success where all was as it should be, and was told.
-    pub fn exit_code(&self) -> ExitCode
+    pub(crate) fn exit_code(&self) -> ExitCode
         ensures { exit_status result ≡ (if self.now.sound && self.now.written then 0 else 1) }
     {
         if self.sound && self.written {
