@@ -37,6 +37,7 @@ carried_through good a b e u v w f g = record {
   lets_go = through f.part g.part u v w f.lets_go g.lets_go;
   asked = g.asked ∙ ap (λ (l : List DeviceCall). l ++ g.part) f.asked ∙ append_assoc a.asked f.part g.part;
   refusals = g.refusals ∙ ap (λ (n : ℕ). if good then n else n + 1) f.refusals;
+  opening_stays = g.opening_stays ∙ f.opening_stays;
 }
 
 pub ends_through : (p q : List DeviceCall) (kind : FileCall) → EndIn q kind → EndIn (p ++ q) kind
@@ -89,6 +90,10 @@ pub refusals_at : (good : Bool) (part : List DeviceCall) (a b : file.Told) → b
 refusals_at true part a b is = ap (λ (t : file.Told). t.refusals) is
 refusals_at false part a b is = ap (λ (t : file.Told). t.refusals) is
 
+pub opening_at : (good : Bool) (part : List DeviceCall) (a b : file.Told) → b ≡ answered good part a → b.opening ≡ a.opening
+opening_at true part a b is = ap (λ (t : file.Told). t.opening) is
+opening_at false part a b is = ap (λ (t : file.Told). t.opening) is
+
 -- a part that was taken out and asked for
 abbrev pub carried_at : (good : Bool) (part : List DeviceCall) (a b : file.Told) (w v : Window) → LetsGo part w v → b ≡ answered good part a
     → IsCarriedOut good a b w v
@@ -97,6 +102,7 @@ carried_at good part a b w v lets is = record {
   lets_go = lets;
   asked = asked_at good part a b is;
   refusals = refusals_at good part a b is;
+  opening_stays = opening_at good part a b is;
 }
 
 pub named_at : (result : Result (Unit {0}) FileFault) (part : List DeviceCall) (kind : FileCall) → EndIn part kind

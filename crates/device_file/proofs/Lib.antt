@@ -3,3 +3,4 @@ pub mod FirstParts
 pub mod Puts
 pub mod Gave
 pub mod Copies
+pub mod Given

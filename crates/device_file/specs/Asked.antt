@@ -1,20 +1,28 @@
 -- What a file was asked to carry out.
 use Rattle.std.specs.Prelude.{◌≡◌, ◌⊎◌, ℕ, ◌+◌, Bool, List, [], ◌∷◌, ◌++◌, length, if◌then◌else◌}
 use Rattle.std.specs.Prelude.{Result, IfErr, is_ok}
+use Rattle.medium.specs.declared.file_call.Access.{Access}
 use Rattle.mirror.specs.declared.call.DeviceCall.{DeviceCall}
 use Rattle.mirror.specs.declared.call.DeviceCall.TheVariants.{Write}
 use Rattle.device_file.specs.declared.fault.FileCall.{FileCall}
 use Rattle.device_file.specs.declared.fault.FileFault.{FileFault}
 
+-- at which path a file was opened, by its bytes, and for what
+pub record Opening : Type 0 where
+  pub path : List ℕ
+  pub access : Access
+
 pub record Told : Type 0 where
+  pub opening : Opening
   -- what it was asked to carry out since it was opened, in order, good or refused
   pub asked : List DeviceCall
   -- how many times it refused
   pub refusals : ℕ
 
--- a file that was just opened was asked nothing
-abbrev pub begun : Told
-begun = record { asked = []; refusals = 0 }
+-- a file that was just opened so was asked nothing
+abbrev pub begun : List ℕ → Access → Told
+begun path access =
+    record { opening = record { path = path; access = access }; asked = []; refusals = 0 }
 
 -- it was asked for these calls, behind all that it was asked before
 abbrev pub asked_for : List DeviceCall → Told → Told

@@ -1,12 +1,67 @@
--- A file, and what it was asked.
-use Rattle.std.specs.Prelude.{ℕ}
+-- A file of sectors, and what it was asked.
+use Rattle.std.specs.Prelude.{◌≡◌, ◌<◌, ◌*◌, ℕ, Bool, true, false, List, [], ◌∷◌}
+use Rattle.std.specs.Prelude.{length, Result, OnOk, OnErr}
+use Rattle.std.specs.List.{flat_map}
+use Rattle.medium.specs.FileStory as file
+use Rattle.medium.specs.FileStory.{AreGiven, AsksFor, IsPut, IsResized, MayPut, holds}
+use Rattle.medium.specs.declared.file_call.Access.{Access}
+use Rattle.medium.specs.declared.file_call.Access.TheVariants.{Make, Replace}
+use Rattle.medium.specs.declared.file_call.FileCall.TheVariants.{Open, Lock, Measure, Resize}
 use Rattle.device_file.specs.Asked.{Told, begun}
+use Rattle.device_file.specs.declared.fault.FileFault.{FileFault}
+use Rattle.device_file.specs.declared.run.Run.{Run}
 
-pub record FileValue : Type 0 where
+-- a file behind S, of which each call is told
+pub record ValueOver (S : Type 0) : Type 0 where
   -- how many sectors it has
   pub size : ℕ
   pub told : Told
+  pub file : S
 
--- a file of `sectors` sectors that was asked nothing
-abbrev pub fresh : ℕ → FileValue
-fresh sectors = record { size = sectors; told = begun }
+-- a file of the system
+abbrev pub FileValue : Type 0
+FileValue = ValueOver file.Told
+
+-- The file at this path was opened for this, locked, only then measured, and asked for nothing
+-- else. It has whole sectors.
+pub record IsOpened (path : List ℕ) (access : Access) (v : FileValue) : Type 0 where
+  pub told_is : v.told ≡ begun path access
+  pub path_is : v.file.path ≡ path
+  pub asked : v.file.asked ≡ Open access ∷ Lock ∷ Measure ∷ []
+  pub size_is : v.file.size ≡ 512 * v.size
+
+-- what a file is opened for that is made, or that may be there and is replaced
+abbrev pub made_for : Bool → Access
+made_for true = Replace
+made_for false = Make
+
+-- The file at this path was made now, or, where it may be replaced, was there. It was locked, only
+-- then emptied, given the length of this many sectors, and asked for nothing else: it has zeros.
+pub record IsMade (path : List ℕ) (replace : Bool) (sectors : ℕ) (v : FileValue) : Type 0 where
+  pub told_is : v.told ≡ begun path (made_for replace)
+  pub path_is : v.file.path ≡ path
+  pub asked : v.file.asked
+      ≡ Open (made_for replace) ∷ Lock ∷ Resize 0 ∷ Resize (512 * sectors) ∷ []
+  pub sectors_are : v.size ≡ sectors
+  pub size_is : v.file.size ≡ 512 * sectors
+  pub zeros : (p : ℕ) → p < 512 * sectors → holds v.file p ≡ 0
+
+-- it was given this length, and asked for nothing else
+pub record Resizes (bytes : ℕ) (old new : file.Told) : Type 0 where
+  pub asks : AsksFor true (Resize bytes) old new
+  pub resized : IsResized bytes old new
+
+-- looks at a file gave these bytes of this sector
+abbrev pub GivesBlock : (ℕ → List ℕ → Type 0) → ℕ → List ℕ → Type 0
+GivesBlock gives sector block = AreGiven gives (512 * sector) block
+
+-- the bytes of the blocks of a run, one after the other
+abbrev pub bytes_of : Run → List ℕ
+bytes_of run = flat_map (λ block. block) run.blocks.items
+
+-- All bytes of a run were put to their place in a file, and no others; or it refused a write of
+-- some of them, and no other byte was touched.
+pub record PutsRun (run : Run) (old new : file.Told) (result : Result (Unit {0}) FileFault)
+    : Type 0 where
+  pub ok : OnOk result (IsPut (512 * run.first) (bytes_of run) old new)
+  pub err : OnErr result (MayPut (512 * run.first) (length (bytes_of run)) old new)

@@ -31,6 +31,7 @@ pub record IsCarriedOut (good : Bool) (was is : file.Told) (old new : Window) : 
   pub lets_go : LetsGo part old new
   pub asked : is.asked ≡ was.asked ++ part
   pub refusals : is.refusals ≡ (if good then was.refusals else was.refusals + 1)
+  pub opening_stays : is.opening ≡ was.opening
 
 -- the call of a file that carries this one out
 abbrev pub kind_of : DeviceCall → FileCall

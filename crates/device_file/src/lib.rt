@@ -21,4 +21,4 @@ pub use meter::Meter;
 pub use moving::carry_moved;
 pub use opening::{FirstSectors, OpenFault};
 pub use run::Run;
-pub use system::SystemFile;
+pub use system::{SystemFile, create, open};

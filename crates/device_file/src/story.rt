@@ -4,13 +4,14 @@ ghost use Rattle.std.specs.Borrow.{ftrue};
 ghost use Rattle.device_file.specs.Asked.{Told, begun, wrote, called, refused};
 
 use crate::run::Run;
+use medium::Access;
 use mirror::DeviceCall;
 use std::marker::Model;
 
-/// How many sectors a file has that was just opened.
+/// What a file was opened for.
 #[derive(Clone, Copy, Drop)]
-pub(crate) struct Opened {
-    pub sectors: u64,
+pub(crate) struct Use {
+    pub access: Access,
 }
 
 #[derive(Drop)]
@@ -23,9 +24,9 @@ impl Model for Story {
 }
 
 impl Story {
-    /// It begins with nothing.
-    pub(crate) fn new(_opened: &Opened) -> Story
-        ensures { result.told ≡ begun }
+    /// It begins with nothing, of a file at this path.
+    pub(crate) fn new(_how: &Use, _path: &[u8]) -> Story
+        ensures { result.told ≡ begun _path.now _how.now.access }
     {
         Story {}
     }
@@ -45,7 +46,7 @@ impl Story {
     }
 
     /// What was asked last was refused.
-    pub(crate) fn refused(&self, _opened: &Opened) -> Story
+    pub(crate) fn refused(&self) -> Story
         ensures { result.told ≡ refused self.now.told }
     {
         Story {}

@@ -1,190 +1,192 @@
 //! A file of the system, and what it was asked.
-ghost use Rattle.std.specs.Prelude.{◌≡◌, ◌⊎◌, ◌*◌, IfOk, IfErr};
-ghost use Rattle.device_file.specs.FileValue.{fresh};
+ghost use Rattle.std.specs.Prelude.{◌≡◌, ◌*◌, ◌+◌, ◌<◌, ◌^◌, IfOk, IfErr, OnOk, is_ok, true};
+ghost use Rattle.medium.specs.FileStory.{IsJustOpened, IsMeasured, answered};
+ghost use Rattle.medium.specs.declared.file_call.FileCall.TheVariants.{Lock, Sync};
+ghost use Rattle.device_file.specs.FileValue.{GivesBlock, IsMade, IsOpened, PutsRun, Resizes};
+ghost use Rattle.device_file.specs.FileValue.{made_for};
+ghost use Rattle.device_file.specs.Reads.{AreRead};
+ghost use Rattle.device_file.specs.Asked.{begun};
 
 use crate::fault::{FileCall, FileFault};
 use crate::file::DeviceFile;
 use crate::run::Run;
-use crate::story::{Opened, Story};
-use medium::SectorFile;
+use crate::story::{Story, Use};
+use medium::{Access, OpenedFile, SectorFile, ToldFile, look_whole, put};
 use mirror::DeviceCall;
-use std::fs::{Files, OpenOptions};
-use std::io;
+use std::fs::Files;
 use std::io::ErrorKind;
 use std::marker::Model;
 
 const SECTOR: u64 = 512;
 
-/// A plain file of the system, which is locked for this handle until it is dropped. The lock keeps
-/// out those alone who ask for it.
+// A place in a file lies below this one.
+const PLACES: u64 = 1 << 63;
+
+/// A file of sectors, which is locked for its handle until it is dropped. The lock keeps out those
+/// alone who ask for it. What it is asked is a call of the file behind it, or some.
 ///
-/// That the file carries out what it is asked, as a device does, until it refuses, is a premise:
-/// the standard library says nothing of what a file holds.
+/// That this file does what it is asked, until it refuses, is a premise: the standard library says
+/// nothing of what a file of the system holds.
 #[derive(Drop)]
-pub struct SystemFile<F> {
-    file: F,
+pub struct SystemFile<S> {
+    file: S,
     sectors: u64,
     story: Story,
 }
 
-impl<F> Model for SystemFile<F> {
-    ghost use Rattle.device_file.specs.FileValue.{FileValue};
+impl<S> Model for SystemFile<S> {
+    ghost use Rattle.device_file.specs.FileValue.{ValueOver};
 
-    ghost Value = { FileValue };
+    ghost Value = { ValueOver S };
 
     ghost use Rattle.device_file.specs.FileView.{view_of};
 
     ghost view = { view_of };
 }
 
-impl<F: SectorFile + Drop> SystemFile<F> {
-    /// The file at this path, for reading and writing. It is locked before anything is read of it.
-    ///
-    /// # Errors
-    /// The call that was refused, and the cause: `WouldBlock` where another handle has it locked,
-    /// `InvalidInput` where it is no plain file, `InvalidData` where it has no whole sectors alone.
-    pub fn open<R: Files<File = F>>(rt: &R, path: &str) -> Result<SystemFile<F>, FileFault>
-        ensures { IfOk result (λ file. file ≡ fresh file.size) }
-    {
-        let mut how = OpenOptions::new();
-        SystemFile::open_as(rt, how.read(true).write(true), path)
+/// The plain file at this path, opened for this: `Look`, where the system refuses its writes, or
+/// `Change`. It is locked before it is measured, and before anything is read of it.
+///
+/// # Errors
+/// The call that was refused, and the cause: `WouldBlock` where another handle has it locked,
+/// `InvalidInput` where it is no plain file, `InvalidData` where it has no whole sectors alone.
+pub fn open<F: SectorFile + Drop, R: Files<File = F>>(
+    rt: &R,
+    path: &str,
+    access: Access,
+) -> Result<SystemFile<OpenedFile<F>>, FileFault>
+    ensures { IfOk result (IsOpened path.now access) }
+{
+    let mut file = open_plain(rt, path, access)?;
+    let length = lock_and_measure(&mut file)?;
+    if length % SECTOR != 0 {
+        return Err(FileCall::Length.refused_for(ErrorKind::InvalidData));
     }
+    Ok(SystemFile::over(file, path, access, length / SECTOR))
+}
 
-    /// The file at this path, for reading alone: the system refuses its writes. It is locked before
-    /// anything is read of it.
-    ///
-    /// # Errors
-    /// The call that was refused, and the cause, as of `open`.
-    pub fn open_to_read<R: Files<File = F>>(rt: &R, path: &str) -> Result<SystemFile<F>, FileFault>
-        ensures { IfOk result (λ file. file ≡ fresh file.size) }
-    {
-        let mut how = OpenOptions::new();
-        SystemFile::open_as(rt, how.read(true), path)
-    }
+/// A file of `sectors` sectors at this path, which was made now, or emptied. Nothing was written to
+/// it: what the system gives for a part of a file that nobody wrote is zeros.
+///
+/// A file that is there is refused as `AlreadyExists`, and stays as it is, where it is not to be
+/// replaced. To be replaced it is locked, and only then emptied.
+///
+/// # Errors
+/// The call that was refused, and the cause: `WouldBlock` where another handle has it locked,
+/// `InvalidInput` where it is no plain file.
+pub fn create<F: SectorFile + Drop, R: Files<File = F>>(
+    rt: &R,
+    path: &str,
+    sectors: u64,
+    replace: bool,
+) -> Result<SystemFile<OpenedFile<F>>, FileFault>
+    ensures { IfOk result (IsMade path.now replace sectors) }
+{
+    let Some(length) = sectors.checked_mul(SECTOR) else {
+        return Err(FileCall::Length.refused_for(ErrorKind::InvalidInput));
+    };
+    let access = access_for(replace);
+    let mut file = open_plain(rt, path, access)?;
+    lock(&mut file)?;
+    resize(&mut file, 0)?;
+    resize(&mut file, length)?;
+    Ok(SystemFile::over(file, path, access, sectors))
+}
 
-    // The file at this path, which is locked.
-    fn open_as<R: Files<File = F>>(
-        rt: &R,
-        how: &OpenOptions,
-        path: &str,
-    ) -> Result<SystemFile<F>, FileFault>
-        ensures { IfOk result (λ file. file ≡ fresh file.size) }
-    {
-        let file = opened(rt, how, path)?;
-        let length = lock(&file)?;
-        if length % SECTOR != 0 {
-            return Err(FileCall::Length.refused_for(ErrorKind::InvalidData));
-        }
-        Ok(SystemFile::over(file, length / SECTOR))
-    }
-
-    /// A file of `sectors` sectors at this path, which was made now, or emptied. Nothing was
-    /// written to it: what the system gives for a part of a file that nobody wrote is zeros.
-    ///
-    /// A file that is there is refused as `AlreadyExists`, and stays as it is, where it is not to
-    /// be replaced. To be replaced it is locked, and only then emptied.
-    ///
-    /// # Errors
-    /// The call that was refused, and the cause: `WouldBlock` where another handle has it locked,
-    /// `InvalidInput` where it is no plain file.
-    pub fn create<R: Files<File = F>>(
-        rt: &R,
-        path: &str,
-        sectors: u64,
-        replace: bool,
-    ) -> Result<SystemFile<F>, FileFault>
-        ensures { IfOk result (λ file. file ≡ fresh sectors) }
-    {
-        let Some(length) = sectors.checked_mul(SECTOR) else {
-            return Err(FileCall::Length.refused_for(ErrorKind::InvalidInput));
-        };
-        let file = opened(rt, &to_make(replace), path)?;
-        lock(&file)?;
-        empty_to(&file, length)?;
-        Ok(SystemFile::over(file, sectors))
+// What a file is opened for that is made, or that may be replaced.
+fn access_for(replace: bool) -> Access
+    ensures { result ≡ made_for replace }
+{
+    if replace {
+        Access::Replace
+    } else {
+        Access::Make
     }
 }
 
-impl<F> SystemFile<F> {
-    // A file of `sectors` sectors, which was asked nothing.
-    fn over(file: F, sectors: u64) -> SystemFile<F>
-        ensures { result ≡ fresh sectors }
+impl<S> SystemFile<S> {
+    // A file of `sectors` sectors, which was opened so and asked nothing since.
+    fn over(file: S, path: &str, access: Access, sectors: u64) -> SystemFile<S>
+        ensures { result ≡ record {
+          size = sectors;
+          told = begun path.now access;
+          file = file;
+        } }
     {
         SystemFile {
             file,
             sectors,
-            story: Story::new(&Opened { sectors }),
+            story: Story::new(&Use { access }, path.as_bytes()),
         }
     }
 }
 
-// Opens a file.
-fn opened<F, R: Files<File = F>>(rt: &R, how: &OpenOptions, path: &str) -> Result<F, FileFault>
-    ensures { IfErr result (λ fault. fault.call ≡ FileCall.Open) }
+// Opens a plain file. What is no plain file is not touched.
+fn open_plain<F: SectorFile + Drop, R: Files<File = F>>(
+    rt: &R,
+    path: &str,
+    access: Access,
+) -> Result<OpenedFile<F>, FileFault>
+    ensures { IfOk result (IsJustOpened path.now access) }
 {
-    match how.open(rt, path) {
-        Ok(file) => Ok(file),
-        Err(error) => Err(FileCall::Open.refused_for(error.kind())),
-    }
-}
-
-// How a file is opened to be written that is made where it is not there. One that is there is
-// refused, where it is not to be replaced.
-fn to_make(replace: bool) -> OpenOptions {
-    let mut how = OpenOptions::new();
-    how.read(true).write(true);
-    if replace {
-        how.create(true);
-    } else {
-        how.create_new(true);
-    }
-    how
-}
-
-// Locks a plain file, and tells its length. What is no plain file is not touched.
-fn lock<F: SectorFile>(file: &F) -> Result<u64, FileFault>
-    ensures { IfErr result (λ fault. (fault.call ≡ FileCall.Length)
-        ⊎ (fault.call ≡ FileCall.Lock)) }
-{
-    length_of_plain(file)?;
-    if let Err(error) = file.try_lock() {
-        return Err(FileCall::Lock.refused_for(error.kind()));
-    }
-    length_of_plain(file)
-}
-
-// The length of a plain file.
-fn length_of_plain<F: SectorFile>(file: &F) -> Result<u64, FileFault>
-    ensures { IfErr result (λ fault. fault.call ≡ FileCall.Length) }
-{
-    match file.metadata() {
-        Ok(metadata) if metadata.is_file() => Ok(metadata.len()),
-        Ok(_) => Err(FileCall::Length.refused_for(ErrorKind::InvalidInput)),
+    let file = match OpenedFile::open(rt, path, access) {
+        Ok(file) => file,
+        Err(error) => return Err(FileCall::Open.refused_for(error.kind())),
+    };
+    match file.is_plain() {
+        Ok(true) => Ok(file),
+        Ok(false) => Err(FileCall::Length.refused_for(ErrorKind::InvalidInput)),
         Err(error) => Err(FileCall::Length.refused_for(error.kind())),
     }
 }
 
-// Empties a file, and gives it this length.
-fn empty_to<F: SectorFile>(file: &F, length: u64) -> Result<(), FileFault>
-    ensures { IfErr result (λ fault. fault.call ≡ FileCall.Length) }
+// Locks a file, and only then tells how many bytes it has.
+fn lock_and_measure<S: ToldFile>(file: &mut S) -> Result<u64, FileFault>
+    ensures { IfOk result (λ bytes. IsMeasured bytes (S.told file.old) (S.told file.new)) }
 {
-    let resized = match file.set_len(0) {
-        Ok(()) => file.set_len(length),
-        Err(error) => Err(error),
-    };
-    match resized {
+    lock(file)?;
+    match file.measure() {
+        Ok(length) => Ok(length),
+        Err(error) => Err(FileCall::Length.refused_for(error.kind())),
+    }
+}
+
+// Locks a file.
+fn lock<S: ToldFile>(file: &mut S) -> Result<(), FileFault>
+    ensures ok { OnOk result (S.told file.new ≡ answered true Lock (S.told file.old)) }
+    ensures err { IfErr result (λ fault. fault.call ≡ FileCall.Lock) }
+{
+    match file.lock() {
+        Ok(()) => Ok(()),
+        Err(error) => Err(FileCall::Lock.refused_for(error.kind())),
+    }
+}
+
+// Gives a file this length.
+fn resize<S: ToldFile>(file: &mut S, length: u64) -> Result<(), FileFault>
+    ensures ok { OnOk result (Resizes length (S.told file.old) (S.told file.new)) }
+    ensures err { IfErr result (λ fault. fault.call ≡ FileCall.Length) }
+{
+    match file.resize(length) {
         Ok(()) => Ok(()),
         Err(error) => Err(FileCall::Length.refused_for(error.kind())),
     }
 }
 
-impl<F: SectorFile> DeviceFile for SystemFile<F> {
+impl<S: ToldFile> DeviceFile for SystemFile<S> {
+    ghost use Rattle.std.specs.Prelude.{◌≡◌, [], ◌∷◌, is_ok};
+    ghost use Rattle.mirror.specs.declared.call.DeviceCall.TheVariants.{Flush};
+    ghost use Rattle.medium.specs.FileStory.{answered};
+    ghost use Rattle.medium.specs.declared.file_call.FileCall.TheVariants.{Sync};
+    ghost use Rattle.device_file.specs.Asked.{AsksFor, writes_of};
+    ghost use Rattle.device_file.specs.FileValue.{GivesBlock, PutsRun};
+
     ghost told = { λ file. file.told };
 
     ghost size = { λ file. file.size };
 
-    // What the system's read gave is what it gave: std names no bytes of a file.
-    ghost holds = { λ file sector block. Unit {0} };
+    // What looks at the file gave.
+    ghost holds = { λ file sector block. GivesBlock (S.gives file.file) sector block };
 
     ghost refuses = { λ file first count. Unit {0} };
 
@@ -193,64 +195,84 @@ impl<F: SectorFile> DeviceFile for SystemFile<F> {
     }
 
     fn read(&self, first: u64, to: &mut [u8]) -> Result<(), FileFault> {
-        let at = place_of(FileCall::Read, first)?;
-        match self.file.read_exact_at(to, at) {
-            Ok(()) => Ok(()),
-            Err(error) => Err(FileCall::Read.refused_for(error.kind())),
-        }
+        read_sectors(&self.file, first, to)
     }
 
-    fn write(&mut self, run: &Run) -> Result<(), FileFault> {
+    fn write(&mut self, run: &Run) -> Result<(), FileFault>
+        ensures asks { AsksFor (λ file. file.told) (λ file. file.size)
+            (writes_of run.now.first run.now.blocks.items) FileCall.Write self.old self.new
+            result }
+        ensures puts { PutsRun run.now (S.told self.old.file) (S.told self.new.file) result }
+    {
         self.story = self.story.wrote(run);
-        let written = write_run(&self.file, run);
+        let written = write_run(&mut self.file, run);
         if written.is_err() {
-            self.story = self.story.refused(&Opened {
-                sectors: self.sectors,
-            });
+            self.story = self.story.refused();
         }
         written
     }
 
-    fn sync(&mut self) -> Result<(), FileFault> {
+    fn sync(&mut self) -> Result<(), FileFault>
+        ensures asks { AsksFor (λ file. file.told) (λ file. file.size) (Flush ∷ []) FileCall.Sync
+            self.old self.new result }
+        ensures syncs { S.told self.new.file
+            ≡ answered (is_ok result) Sync (S.told self.old.file) }
+    {
         self.story = self.story.asked(&DeviceCall::Flush);
-        let synced = sync_all(&self.file);
+        let synced = sync_all(&mut self.file);
         if synced.is_err() {
-            self.story = self.story.refused(&Opened {
-                sectors: self.sectors,
-            });
+            self.story = self.story.refused();
         }
         synced
     }
 }
 
-// Writes a run at its place.
-fn write_run<F: SectorFile>(file: &F, run: &Run) -> Result<(), FileFault>
-    ensures { IfErr result (λ fault. fault.call ≡ FileCall.Write) }
+// Reads sectors from this one on, all that there is room for.
+fn read_sectors<S: ToldFile>(file: &S, first: u64, to: &mut [u8]) -> Result<(), FileFault>
+    ensures read { OnOk result (AreRead (GivesBlock (S.gives file.now)) first to.new) }
+    ensures err { IfErr result (λ fault. fault.call ≡ FileCall.Read) }
 {
-    let at = place_of(FileCall::Write, run.first)?;
-    match file.write_all_at(run.blocks.as_slice().as_flattened(), at) {
+    let at = place_of(FileCall::Read, first, to.len())?;
+    match look_whole(file, to, at) {
+        Ok(()) => Ok(()),
+        Err(error) => Err(FileCall::Read.refused_for(error.kind())),
+    }
+}
+
+// Writes a run at its place, all of it.
+fn write_run<S: ToldFile>(file: &mut S, run: &Run) -> Result<(), FileFault>
+    ensures puts { PutsRun run.now (S.told file.old) (S.told file.new) result }
+    ensures err { IfErr result (λ fault. fault.call ≡ FileCall.Write) }
+{
+    let bytes = run.blocks.as_slice().as_flattened();
+    if bytes.is_empty() {
+        return Ok(());
+    }
+    let at = place_of(FileCall::Write, run.first, bytes.len())?;
+    match put(file, bytes, at) {
         Ok(()) => Ok(()),
         Err(error) => Err(FileCall::Write.refused_for(error.kind())),
     }
 }
 
 // Waits for all that was written.
-fn sync_all<F: SectorFile>(file: &F) -> Result<(), FileFault>
-    ensures { IfErr result (λ fault. fault.call ≡ FileCall.Sync) }
+fn sync_all<S: ToldFile>(file: &mut S) -> Result<(), FileFault>
+    ensures syncs { S.told file.new ≡ answered (is_ok result) Sync (S.told file.old) }
+    ensures err { IfErr result (λ fault. fault.call ≡ FileCall.Sync) }
 {
-    match file.sync_all() {
+    match file.sync() {
         Ok(()) => Ok(()),
         Err(error) => Err(FileCall::Sync.refused_for(error.kind())),
     }
 }
 
-// The byte at which a sector begins.
-fn place_of(call: FileCall, sector: u64) -> Result<u64, FileFault>
-    ensures ok { IfOk result (λ at. at ≡ 512 * sector) }
+// The byte at which a sector begins. So many bytes from there on have places in a file.
+fn place_of(call: FileCall, sector: u64, count: usize) -> Result<u64, FileFault>
+    ensures ok { IfOk result (λ at. (at ≡ 512 * sector) × (at + count < 2 ^ 63)) }
     ensures err { IfErr result (λ fault. fault.call ≡ call) }
 {
-    match sector.checked_mul(SECTOR) {
-        Some(at) => Ok(at),
-        None => Err(call.refused_for(ErrorKind::InvalidInput)),
+    if sector >= PLACES / SECTOR || count as u64 >= PLACES - sector * SECTOR {
+        return Err(call.refused_for(ErrorKind::InvalidInput));
     }
+    Ok(sector * SECTOR)
 }
