@@ -16,6 +16,10 @@ refusals_are : (good : Bool) (calls : List DeviceCall) (t : Told) → (answered 
 refusals_are true calls t = refl
 refusals_are false calls t = refl
 
+opening_is : (good : Bool) (calls : List DeviceCall) (t : Told) → (answered good calls t).opening ≡ t.opening
+opening_is true calls t = refl
+opening_is false calls t = refl
+
 -- one call
 pub one_call : (call : DeviceCall) (good : Bool) (old new : Told) → new ≡ answered good (call ∷ []) old
     → AsksInOrder (call ∷ []) good old new
@@ -27,6 +31,7 @@ one_call call good old new now = record {
   all = λ same. refl;
   some = λ bad. omega arith;
   refusals = ap (λ (t : Told). t.refusals) now ∙ refusals_are good (call ∷ []) old;
+  opening_stays = ap (λ (t : Told). t.opening) now ∙ opening_is good (call ∷ []) old;
 }
 
 -- one of the first calls was refused
@@ -39,6 +44,7 @@ stops_before c d old new f = record {
   all = λ same. absurd (cc);
   some = f.some;
   refusals = f.refusals;
+  opening_stays = f.opening_stays;
 }
 
 -- where all were carried out, they are the part
@@ -59,4 +65,5 @@ goes_on c d good old between new f g = record {
   all = g.all;
   some = λ bad. let some = g.some bad in simp length-append (omega (arith, some));
   refusals = g.refusals ∙ ap (λ n. if good then n else n + 1) f.refusals;
+  opening_stays = g.opening_stays ∙ f.opening_stays;
 }

@@ -7,3 +7,4 @@ pub mod Options
 pub mod Exports
 pub mod Imports
 pub mod Misses
+pub mod Statuses

@@ -4,7 +4,7 @@ use Rattle.std.specs.Io.KnownBytes.{Appends, Keeps}
 use Rattle.mirror.specs.declared.call.DeviceCall.{DeviceCall}
 use Rattle.journal.specs.declared.super_sector.Super.{Super}
 use Rattle.window.specs.Window.{Window}
-use Rattle.device_file.specs.Asked.{begun}
+use Rattle.device_file.specs.Asked.{Told}
 use Rattle.device_file.specs.FileValue.{FileValue}
 use Rattle.device_file.specs.declared.copying.CopyFault.{CopyFault}
 use Rattle.device_file.specs.declared.copying.CopyFault.TheVariants as fault
@@ -26,15 +26,17 @@ export_refusal (fault.From why) = refused.File why
 export_refusal (fault.To why) = refused.Target why
 
 -- Of a recovered image with these sizes, whose writes that go home wait: what a read of it gave,
--- which of them it refused, what was written then and now, and the plain file, where one was made.
+-- which of them it refused, what was written then and now, what a plain file was asked when it was
+-- made, and that file, where one was made.
 module _ (holds : ℕ → List ℕ → Type 0) (refuses : ℕ → ℕ → Type 0) (sizes : Super)
-    (waiting : List DeviceCall) (was now : Option (List ℕ)) (raw : Option FileValue) where
+    (waiting : List DeviceCall) (was now : Option (List ℕ)) (made : Told)
+    (raw : Option FileValue) where
   -- A plain file of exactly its blocks was made, or emptied, and asked for them, and that was told.
   pub record IsPlainCopy : Type 0 where
     pub plain : FileValue
     pub given : raw ≡ Some plain
     pub size : plain.size ≡ sizes.blocks
-    pub asked : HasBlocks holds sizes waiting begun plain.told
+    pub asked : HasBlocks holds sizes waiting made plain.told
     pub written : Appends was now (exported_text sizes.blocks)
 
   -- not all was told
@@ -42,7 +44,7 @@ module _ (holds : ℕ → List ℕ → Type 0) (refuses : ℕ → ℕ → Type 0
     pub plain : FileValue
     pub given : raw ≡ Some plain
     pub size : plain.size ≡ sizes.blocks
-    pub asked : HasBlocks holds sizes waiting begun plain.told
+    pub asked : HasBlocks holds sizes waiting made plain.told
     pub failed : refusal ≡ refused.Streams
     pub written : AppendsSome was now (exported_text sizes.blocks)
 
@@ -52,7 +54,7 @@ module _ (holds : ℕ → List ℕ → Type 0) (refuses : ℕ → ℕ → Type 0
     pub given : raw ≡ Some plain
     pub size : plain.size ≡ sizes.blocks
     pub why : CopyFault
-    pub asked : HasSomeBlocks holds refuses sizes waiting begun plain.told why
+    pub asked : HasSomeBlocks holds refuses sizes waiting made plain.told why
     pub refused_is : refusal ≡ export_refusal why
     pub kept : Keeps was now
 
@@ -78,20 +80,20 @@ module _ (holds : ℕ → List ℕ → Type 0) (refuses : ℕ → ℕ → Type 0
 
 -- of an image with these first sectors, on a device that holds these bytes behind them
 module _ (holds : ℕ → List ℕ → Type 0) (refuses : ℕ → ℕ → Type 0) (first : FirstSectors)
-    (device : List ℕ) (was now : Option (List ℕ)) (raw : Option FileValue) where
+    (device : List ℕ) (was now : Option (List ℕ)) (made : Told) (raw : Option FileValue) where
   -- it was recovered in a window, and copied
   pub record IsExported : Type 0 where
     pub sizes : Super
     pub after : Window
     pub recovered : IsRecoveredIn first device sizes after
-    pub copied : IsPlainCopy holds refuses sizes after.outbox was now raw
+    pub copied : IsPlainCopy holds refuses sizes after.outbox was now made raw
 
   -- it was recovered, and not copied
   pub record IsExportStopped (refusal : Refusal) : Type 0 where
     pub sizes : Super
     pub after : Window
     pub recovered : IsRecoveredIn first device sizes after
-    pub stopped : IsNoPlainCopy holds refuses sizes after.outbox was now raw refusal
+    pub stopped : IsNoPlainCopy holds refuses sizes after.outbox was now made raw refusal
 
   -- it was not recovered, and no plain file was made
   pub record IsExportUnbegun (refusal : Refusal) : Type 0 where
@@ -105,11 +107,11 @@ module _ (holds : ℕ → List ℕ → Type 0) (refuses : ℕ → ℕ → Type 0
 -- Of the file of an image, of `size` sectors: what its reads gave, which of them it refused, and
 -- what the device holds behind its first sectors, whatever that is.
 module _ (holds : ℕ → List ℕ → Type 0) (refuses : ℕ → ℕ → Type 0) (size : ℕ) (device : List ℕ)
-    (was now : Option (List ℕ)) (raw : Option FileValue) where
+    (was now : Option (List ℕ)) (made : Told) (raw : Option FileValue) where
   -- its first sectors were read, and its blocks copied
   abbrev pub IsExportedOf : Type 0
   IsExportedOf = WithFirst holds size
-      (λ first. IsExported holds refuses first device was now raw)
+      (λ first. IsExported holds refuses first device was now made raw)
 
   -- they were not read, and no plain file was made
   pub record IsUnreadToExport (refusal : Refusal) : Type 0 where
@@ -119,4 +121,5 @@ module _ (holds : ℕ → List ℕ → Type 0) (refuses : ℕ → ℕ → Type 0
 
   abbrev pub IsNotExportedOf : Refusal → Type 0
   IsNotExportedOf refusal = IsUnreadToExport refusal
-      ⊎ WithFirst holds size (λ first. IsNotExported holds refuses first device was now raw refusal)
+      ⊎ WithFirst holds size
+      (λ first. IsNotExported holds refuses first device was now made raw refusal)

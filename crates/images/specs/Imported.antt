@@ -3,7 +3,7 @@ use Rattle.std.specs.Prelude.{◌≡◌, ◌⊎◌, ℕ, List, codes, Option, So
 use Rattle.std.specs.Io.KnownBytes.{Appends, Keeps}
 use Rattle.journal.specs.declared.log_format.LogFormat.{LogFormat}
 use Rattle.journal.specs.Places.{new_shape, sectors_of}
-use Rattle.device_file.specs.Asked.{begun}
+use Rattle.device_file.specs.Asked.{Told}
 use Rattle.device_file.specs.FileValue.{FileValue}
 use Rattle.device_file.specs.declared.copying.CopyFault.{CopyFault}
 use Rattle.device_file.specs.declared.copying.CopyFault.TheVariants as fault
@@ -25,9 +25,10 @@ import_refusal (fault.From why) = refused.Plain why
 import_refusal (fault.To why) = refused.Target why
 
 -- Of a plain file of `blocks` sectors. What a read of it gave, which of them it refused, what was
--- written then and now, and the file of the image, where one was made.
+-- written then and now, what a file was asked when it was made for the image, and that file, where
+-- one was made.
 module _ (holds : ℕ → List ℕ → Type 0) (refuses : ℕ → ℕ → Type 0) (format : LogFormat)
-    (blocks slots : ℕ) (was now : Option (List ℕ)) (back : Option FileValue) where
+    (blocks slots : ℕ) (was now : Option (List ℕ)) (made : Told) (back : Option FileValue) where
   -- A file of exactly the sectors of an image for these blocks was made, or emptied, and asked to
   -- become it, and that was told.
   pub record IsImage : Type 0 where
@@ -35,7 +36,7 @@ module _ (holds : ℕ → List ℕ → Type 0) (refuses : ℕ → ℕ → Type 0
     pub file : FileValue
     pub given : back ≡ Some file
     pub size : file.size ≡ sectors_of (new_shape format blocks slots)
-    pub asked : IsImported holds (new_shape format blocks slots) begun file.told
+    pub asked : IsImported holds (new_shape format blocks slots) made file.told
     pub written : Appends was now (imported_text blocks)
 
   -- not all was told
@@ -44,7 +45,7 @@ module _ (holds : ℕ → List ℕ → Type 0) (refuses : ℕ → ℕ → Type 0
     pub file : FileValue
     pub given : back ≡ Some file
     pub size : file.size ≡ sectors_of (new_shape format blocks slots)
-    pub asked : IsImported holds (new_shape format blocks slots) begun file.told
+    pub asked : IsImported holds (new_shape format blocks slots) made file.told
     pub failed : refusal ≡ refused.Streams
     pub written : AppendsSome was now (imported_text blocks)
 
@@ -55,7 +56,7 @@ module _ (holds : ℕ → List ℕ → Type 0) (refuses : ℕ → ℕ → Type 0
     pub given : back ≡ Some file
     pub size : file.size ≡ sectors_of (new_shape format blocks slots)
     pub why : CopyFault
-    pub asked : IsNotImported holds refuses (new_shape format blocks slots) begun file.told why
+    pub asked : IsNotImported holds refuses (new_shape format blocks slots) made file.told why
     pub refused_is : refusal ≡ import_refusal why
     pub kept : Keeps was now
 

@@ -33,6 +33,7 @@ pub record AsksInOrder (calls : List DeviceCall) (good : Bool) (old new : Told) 
   pub all : good ≡ true → rest ≡ []
   pub some : good ≡ false → 0 < length part
   pub refusals : new.refusals ≡ (if good then old.refusals else old.refusals + 1)
+  pub opening_stays : new.opening ≡ old.opening
 
 -- A file was asked for these calls so; a refusal names a write or a synchronising. It is as large
 -- as before.

@@ -1,12 +1,15 @@
 -- Files that were opened or made, and a window over that of an image.
-use Rattle.std.specs.Prelude.{◌≡◌, ◌⊎◌, ◌*◌, ◌+◌, ◌≤◌, ℕ, List, length, min, Option, Some}
+use Rattle.std.specs.Prelude.{◌≡◌, ◌⊎◌, ◌*◌, ◌+◌, ◌≤◌, ℕ, Bool, List, length, min, Option, Some}
 use Rattle.medium.specs.Writes.{sector_of}
 use Rattle.journal.specs.Sectors.{IsSuper}
 use Rattle.journal.specs.Formats.{shape_of}
 use Rattle.journal.specs.declared.super_sector.Super.{Super}
 use Rattle.window.specs.Window.{Window}
 use Rattle.window.specs.Window as window
-use Rattle.device_file.specs.FileValue.{FileValue, fresh}
+use Rattle.medium.specs.declared.file_call.Access.{Access}
+use Rattle.device_file.specs.Asked.{Told, begun}
+use Rattle.device_file.specs.FileValue.{FileValue, made_for}
+use Rattle.device_file.specs.FileValue as file
 use Rattle.device_file.specs.First.{IsUnopened, SpellsSuper, near_of}
 use Rattle.device_file.specs.Reads.{AreRead}
 use Rattle.device_file.specs.declared.fault.FileFault.{FileFault}
@@ -55,10 +58,15 @@ abbrev pub IsWindowOver : FirstSectors → List ℕ → ℕ → Window → Type 
 IsWindowOver first device room w =
     w ≡ window.fresh first.sectors first.bytes.items device 0 room
 
--- a file was opened or made, and asked for nothing
-pub record IsOpened (back : Option FileValue) (file : FileValue) : Type 0 where
-  pub given : back ≡ Some file
-  pub untouched : file ≡ fresh file.size
+-- the file at this path was opened for this, and asked for nothing
+pub record IsOpened (path : List ℕ) (access : Access) (back : Option FileValue) (v : FileValue)
+    : Type 0 where
+  pub given : back ≡ Some v
+  pub opened : file.IsOpened path access v
+
+-- what a file was asked that was made at this path, or emptied where it may be replaced: nothing
+abbrev pub made_at : List ℕ → Bool → Told
+made_at path replace = begun path (made_for replace)
 
 -- no file was made or opened: it refused, or a stream
 abbrev pub IsUnmade : Refusal → Type 0

@@ -4,8 +4,9 @@ use Rattle.std.specs.Prelude.{Option, Some, None}
 use Rattle.std.specs.Io.KnownBytes.{Appends, Keeps}
 use Rattle.journal.specs.declared.log_format.LogFormat.{LogFormat}
 use Rattle.journal.specs.Places.{Shape, new_shape, sectors_of}
-use Rattle.device_file.specs.Asked.{begun}
-use Rattle.device_file.specs.FileValue.{FileValue, fresh}
+use Rattle.medium.specs.declared.file_call.Access.TheVariants.{Look, Change}
+use Rattle.device_file.specs.Asked.{Told, begun}
+use Rattle.device_file.specs.FileValue.{FileValue, GivesBlock}
 use Rattle.device_file.specs.declared.fault.FileFault.{FileFault}
 use Rattle.console.specs.Streams.{AppendsSome}
 use Rattle.console.specs.declared.words.ArgumentFault.{ArgumentFault}
@@ -13,7 +14,7 @@ use Rattle.console.specs.declared.words.ArgumentFault.TheVariants as argument
 use Rattle.images.specs.NewImage.{IsAskedToBe}
 use Rattle.images.specs.Texts.{ended}
 use Rattle.images.specs.Limits.{AreLimits}
-use Rattle.images.specs.Opened.{IsOpened, IsPlainUnopened, IsUnmade}
+use Rattle.images.specs.Opened.{IsOpened, IsPlainUnopened, IsUnmade, made_at}
 use Rattle.images.specs.Showing.{IsShownOf, IsNotShownOf}
 use Rattle.images.specs.Migrating.{IsMigratedOf, IsNotMigratedOf, migration_text}
 use Rattle.images.specs.Status.{refusal_of_argument}
@@ -36,11 +37,11 @@ version_text = ended (codes "usbdisk_image 0.15")
 abbrev pub made_text : List ℕ
 made_text = ended (codes "made")
 
--- A file of exactly the sectors of an image with these sizes was made, or emptied, and asked to
--- become that image.
-pub record IsMade (good : Bool) (shape : Shape) (file : FileValue) : Type 0 where
+-- A file of exactly the sectors of an image with these sizes was made so, and asked to become that
+-- image.
+pub record IsMade (made : Told) (good : Bool) (shape : Shape) (file : FileValue) : Type 0 where
   pub size : file.size ≡ sectors_of shape
-  pub asked : IsAskedToBe shape good begun file.told
+  pub asked : IsAskedToBe shape good made file.told
 
 -- What was written then, and now, and the file that comes back, where one was made or opened.
 module _ (was now : Option (List ℕ)) (back : Option FileValue) where
@@ -55,26 +56,26 @@ module _ (was now : Option (List ℕ)) (back : Option FileValue) where
     pub failed : refusal ≡ refused.Streams
     pub written : AppendsSome was now text
 
-  -- a new image of these sizes was made, and exactly this was written
-  pub record IsMadeAs (shape : Shape) : Type 0 where
+  -- a file was made so, and in it a new image of these sizes, and exactly this was written
+  pub record IsMadeAs (made : Told) (shape : Shape) : Type 0 where
     pub file : FileValue
     pub given : back ≡ Some file
-    pub made : IsMade true shape file
+    pub is_made : IsMade made true shape file
     pub written : Appends was now made_text
 
   -- it was made, but not all of that was written
-  pub record IsMakeUntold (shape : Shape) (refusal : Refusal) : Type 0 where
+  pub record IsMakeUntold (made : Told) (shape : Shape) (refusal : Refusal) : Type 0 where
     pub file : FileValue
     pub given : back ≡ Some file
-    pub made : IsMade true shape file
+    pub is_made : IsMade made true shape file
     pub failed : refusal ≡ refused.Streams
     pub written : AppendsSome was now made_text
 
   -- its file refused on the way there
-  pub record IsMakeStopped (shape : Shape) (refusal : Refusal) : Type 0 where
+  pub record IsMakeStopped (made : Told) (shape : Shape) (refusal : Refusal) : Type 0 where
     pub file : FileValue
     pub given : back ≡ Some file
-    pub made : IsMade false shape file
+    pub is_made : IsMade made false shape file
     pub fault : FileFault
     pub refused_is : refusal ≡ refused.File fault
     pub kept : Keeps was now
@@ -86,9 +87,9 @@ module _ (was now : Option (List ℕ)) (back : Option FileValue) where
     pub kept : Keeps was now
 
   -- with the memory for it no image was made: it is not refused for want of memory
-  abbrev pub IsNotMade : Shape → Refusal → Type 0
-  IsNotMade shape refusal =
-      HasNoFile refusal ⊎ (IsMakeStopped shape refusal ⊎ IsMakeUntold shape refusal)
+  abbrev pub IsNotMade : Told → Shape → Refusal → Type 0
+  IsNotMade made shape refusal =
+      HasNoFile refusal ⊎ (IsMakeStopped made shape refusal ⊎ IsMakeUntold made shape refusal)
 
   -- no file was touched, since there was no memory
   pub record HasNoMemory (refusal : Refusal) : Type 0 where
@@ -102,46 +103,47 @@ module _ (was now : Option (List ℕ)) (back : Option FileValue) where
     pub refused_is : refusal ≡ refused.Sizes
     pub kept : Keeps was now
 
-  abbrev pub IsMake : LogFormat → ℕ → ℕ → Type 0
-  IsMake format blocks slots = AreLimits blocks slots × IsMadeAs (new_shape format blocks slots)
+  abbrev pub IsMake : Told → LogFormat → ℕ → ℕ → Type 0
+  IsMake made format blocks slots =
+      AreLimits blocks slots × IsMadeAs made (new_shape format blocks slots)
 
-  abbrev pub IsMakeRefused : LogFormat → ℕ → ℕ → Refusal → Type 0
-  IsMakeRefused format blocks slots refusal = (¬ AreLimits blocks slots × HasNoLimits refusal)
+  abbrev pub IsMakeRefused : Told → LogFormat → ℕ → ℕ → Refusal → Type 0
+  IsMakeRefused made format blocks slots refusal = (¬ AreLimits blocks slots × HasNoLimits refusal)
       ⊎ (AreLimits blocks slots
-      × (HasNoMemory refusal ⊎ IsNotMade (new_shape format blocks slots) refusal))
+      × (HasNoMemory refusal ⊎ IsNotMade made (new_shape format blocks slots) refusal))
 
--- of a file of the system no bytes are named, so nothing is known of what a read of it gave, or
--- refused
+-- Looks at a file gave the bytes of a block. Of a file of the system no bytes are named, so nothing
+-- is known of what one look gave, or refused.
 abbrev pub unnamed : ℕ → List ℕ → Type 0
-unnamed sector block = Unit {0}
+unnamed sector block = GivesBlock (λ at bytes. Unit {0}) sector block
 
 abbrev pub untold : ℕ → ℕ → Type 0
 untold first count = Unit {0}
 
--- What the device of an image file holds behind the first sectors, whatever that is; what was
--- written then, and now; and the file that comes back, where one was opened.
-module _ (device : List ℕ) (was now : Option (List ℕ)) (back : Option FileValue) where
-  -- an image file was opened and asked for nothing, and what is in it was told
+-- The path of an image file; what its device holds behind the first sectors, whatever that is; what
+-- was written then, and now; and the file that comes back, where one was opened.
+module _ (path device : List ℕ) (was now : Option (List ℕ)) (back : Option FileValue) where
+  -- the image file was opened to be read and asked for nothing, and what is in it was told
   pub record IsShow : Type 0 where
     pub file : FileValue
-    pub opened : IsOpened back file
+    pub opened : IsOpened path Look back file
     pub shown : IsShownOf unnamed file.size device was now
 
   -- it was not, or not all of it
   pub record IsOpenedNotShown (refusal : Refusal) : Type 0 where
     pub file : FileValue
-    pub opened : IsOpened back file
+    pub opened : IsOpened path Look back file
     pub not_shown : IsNotShownOf unnamed file.size device was now untold refusal
 
   abbrev pub IsShowRefused : Refusal → Type 0
   IsShowRefused refusal = HasNoFile was now back refusal ⊎ IsOpenedNotShown refusal
 
-  -- an image file was opened and brought to format 2, and exactly what is told of it was written
+  -- it was opened to be changed and brought to format 2, and exactly what is told of it was written
   pub record IsMigration : Type 0 where
     pub file : FileValue
     pub given : back ≡ Some file
     pub was_one : Bool
-    pub migrated : IsMigratedOf unnamed file.size device begun file.told was_one
+    pub migrated : IsMigratedOf unnamed file.size device (begun path Change) file.told was_one
     pub written : Appends was now (migration_text was_one)
 
   -- it was, but not all of that was written
@@ -149,7 +151,7 @@ module _ (device : List ℕ) (was now : Option (List ℕ)) (back : Option FileVa
     pub file : FileValue
     pub given : back ≡ Some file
     pub was_one : Bool
-    pub migrated : IsMigratedOf unnamed file.size device begun file.told was_one
+    pub migrated : IsMigratedOf unnamed file.size device (begun path Change) file.told was_one
     pub failed : refusal ≡ refused.Streams
     pub written : AppendsSome was now (migration_text was_one)
 
@@ -157,31 +159,33 @@ module _ (device : List ℕ) (was now : Option (List ℕ)) (back : Option FileVa
   pub record IsOpenedNotMigrated (refusal : Refusal) : Type 0 where
     pub file : FileValue
     pub given : back ≡ Some file
-    pub not_migrated : IsNotMigratedOf unnamed file.size device begun file.told untold refusal
+    pub not_migrated : IsNotMigratedOf unnamed file.size device (begun path Change) file.told
+        untold refusal
     pub kept : Keeps was now
 
   abbrev pub IsMigrationRefused : Refusal → Type 0
   IsMigrationRefused refusal = HasNoFile was now back refusal
       ⊎ (IsOpenedNotMigrated refusal ⊎ IsMigrationUntold refusal)
 
--- What was written then, and now, and the files that come back, where they were made or opened:
--- that of the image, and the plain one.
-module _ (was now : Option (List ℕ)) (back raw : Option FileValue) where
-  -- a plain file was opened and asked for nothing, and its blocks became those of a new image
+-- The path of a plain file, and what a file was asked when it was made for the image; what was
+-- written then, and now; and the files that come back, where they were made or opened: that of the
+-- image, and the plain one.
+module _ (path : List ℕ) (made : Told) (was now : Option (List ℕ))
+    (back raw : Option FileValue) where
+  -- the plain file was opened to be read and asked for nothing, and its blocks became those of a
+  -- new image
   pub record IsImport (format : LogFormat) (slots : ℕ) : Type 0 where
     pub plain : FileValue
-    pub given : raw ≡ Some plain
-    pub untouched : plain ≡ fresh plain.size
-    pub imported : IsImage unnamed untold format plain.size slots was now back
+    pub opened : IsOpened path Look raw plain
+    pub imported : IsImage unnamed untold format plain.size slots was now made back
 
   -- they did not, or not all of that was told
   pub record IsOpenedNotImported (format : LogFormat) (slots : ℕ) (refusal : Refusal)
       : Type 0 where
     pub plain : FileValue
-    pub given : raw ≡ Some plain
-    pub untouched : plain ≡ fresh plain.size
+    pub opened : IsOpened path Look raw plain
     pub not_imported : IsImportUnbegun was now back refusal
-        ⊎ IsNoImage unnamed untold format plain.size slots was now back refusal
+        ⊎ IsNoImage unnamed untold format plain.size slots was now made back refusal
 
   -- no plain file was opened
   pub record HasNoPlain (refusal : Refusal) : Type 0 where
@@ -194,48 +198,57 @@ module _ (was now : Option (List ℕ)) (back raw : Option FileValue) where
   IsImportRefused format slots refusal =
       HasNoPlain refusal ⊎ IsOpenedNotImported format slots refusal
 
--- What the device of an image file holds behind the first sectors, whatever that is; what was
--- written then, and now; and the files that come back, where they were made or opened: that of the
--- image, and the plain one.
-module _ (device : List ℕ) (was now : Option (List ℕ)) (back raw : Option FileValue) where
-  -- an image file was opened and asked for nothing, and its blocks were copied to a plain file
+-- The path of an image file; what its device holds behind the first sectors, whatever that is; what
+-- a plain file was asked when it was made; what was written then, and now; and the files that come
+-- back, where they were made or opened: that of the image, and the plain one.
+module _ (path device : List ℕ) (made : Told) (was now : Option (List ℕ))
+    (back raw : Option FileValue) where
+  -- the image file was opened to be read and asked for nothing, and its blocks were copied to a
+  -- plain file
   pub record IsExport : Type 0 where
     pub file : FileValue
-    pub opened : IsOpened back file
-    pub exported : IsExportedOf unnamed untold file.size device was now raw
+    pub opened : IsOpened path Look back file
+    pub exported : IsExportedOf unnamed untold file.size device was now made raw
 
   -- they were not, or not all of that was told
   pub record IsOpenedNotExported (refusal : Refusal) : Type 0 where
     pub file : FileValue
-    pub opened : IsOpened back file
-    pub not_exported : IsNotExportedOf unnamed untold file.size device was now raw refusal
+    pub opened : IsOpened path Look back file
+    pub not_exported : IsNotExportedOf unnamed untold file.size device was now made raw refusal
 
   abbrev pub IsExportRefused : Refusal → Type 0
   IsExportRefused refusal =
       ((raw ≡ None) × HasNoFile was now back refusal) ⊎ IsOpenedNotExported refusal
 
+-- What the device of an image file holds behind the first sectors, whatever that is; what was
+-- written then, and now; and the files that come back.
+module _ (device : List ℕ) (was now : Option (List ℕ)) (back raw : Option FileValue) where
   -- what was asked for was done; a plain file is there of an export or an import alone
   abbrev pub HasDone : Wanted → Type 0
   HasDone Help = (raw ≡ None) × IsTold was now back help_text
   HasDone Version = (raw ≡ None) × IsTold was now back version_text
-  HasDone (Show image) = (raw ≡ None) × IsShow device was now back
-  HasDone (Migrate image) = (raw ≡ None) × IsMigration device was now back
+  HasDone (Show image) = (raw ≡ None) × IsShow image device was now back
+  HasDone (Migrate image) = (raw ≡ None) × IsMigration image device was now back
   HasDone (Make image format blocks slots replace) =
-      (raw ≡ None) × IsMake was now back format blocks slots
-  HasDone (Import plain image format slots replace) = IsImport was now back raw format slots
-  HasDone (Export image plain replace) = IsExport
+      (raw ≡ None) × IsMake was now back (made_at image replace) format blocks slots
+  HasDone (Import plain image format slots replace) =
+      IsImport plain (made_at image replace) was now back raw format slots
+  HasDone (Export image plain replace) =
+      IsExport image device (made_at plain replace) was now back raw
 
   -- it was not, and this is why
   abbrev pub HasNotDone : Wanted → Refusal → Type 0
   HasNotDone Help refusal = (raw ≡ None) × IsUntold was now back help_text refusal
   HasNotDone Version refusal = (raw ≡ None) × IsUntold was now back version_text refusal
-  HasNotDone (Show image) refusal = (raw ≡ None) × IsShowRefused device was now back refusal
-  HasNotDone (Migrate image) refusal = (raw ≡ None) × IsMigrationRefused device was now back refusal
-  HasNotDone (Make image format blocks slots replace) refusal =
-      (raw ≡ None) × IsMakeRefused was now back format blocks slots refusal
+  HasNotDone (Show image) refusal = (raw ≡ None) × IsShowRefused image device was now back refusal
+  HasNotDone (Migrate image) refusal =
+      (raw ≡ None) × IsMigrationRefused image device was now back refusal
+  HasNotDone (Make image format blocks slots replace) refusal = (raw ≡ None)
+      × IsMakeRefused was now back (made_at image replace) format blocks slots refusal
   HasNotDone (Import plain image format slots replace) refusal =
-      IsImportRefused was now back raw format slots refusal
-  HasNotDone (Export image plain replace) refusal = IsExportRefused refusal
+      IsImportRefused plain (made_at image replace) was now back raw format slots refusal
+  HasNotDone (Export image plain replace) refusal =
+      IsExportRefused image device (made_at plain replace) was now back raw refusal
 
   -- these words ask for nothing
   pub record AreNoWords (words : List (List ℕ)) (refusal : Refusal) : Type 0 where

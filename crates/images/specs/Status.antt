@@ -1,17 +1,30 @@
 -- The exit status of a command that was refused.
 use Rattle.std.specs.Prelude.{ℕ}
+use Rattle.std.specs.declared.io.ErrorKind.{ErrorKind}
+use Rattle.std.specs.declared.io.ErrorKind.TheVariants as cause
+use Rattle.device_file.specs.declared.fault.FileCall.{FileCall}
+use Rattle.device_file.specs.declared.fault.FileCall.TheVariants as call
+use Rattle.device_file.specs.declared.fault.FileFault.{FileFault}
 use Rattle.console.specs.declared.words.ArgumentFault.{ArgumentFault}
 use Rattle.console.specs.declared.words.ArgumentFault.TheVariants as argument
 use Rattle.images.specs.declared.refusal.Refusal.{Refusal}
 use Rattle.images.specs.declared.refusal.Refusal.TheVariants as refused
 
+-- a file of no whole sectors is no image; else it refused a call
+abbrev pub status_at : FileCall → ErrorKind → ℕ
+status_at call.Length cause.InvalidData = 3
+status_at _ _ = 4
+
+abbrev pub status_of_fault : FileFault → ℕ
+status_of_fault fault = status_at fault.call fault.cause
+
 abbrev pub status_of : Refusal → ℕ
 status_of refused.Words = 2
 status_of refused.Sizes = 3
 status_of (refused.Image fault) = 3
-status_of (refused.File fault) = 4
+status_of (refused.File fault) = status_of_fault fault
 status_of (refused.Plain fault) = 4
-status_of (refused.Target fault) = 4
+status_of (refused.Target fault) = status_of_fault fault
 status_of refused.Streams = 4
 status_of refused.NoMemory = 5
 

@@ -4,13 +4,12 @@ ghost use Rattle.std.specs.Io.KnownBytes.{Appends};
 ghost use Rattle.console.specs.Streams.{AppendsSome};
 ghost use Rattle.images.specs.Texts.{blocks_text};
 
-use crate::ended::Stopped;
+use crate::ended::{LockedFile, Stopped};
 use crate::refusal::Refusal;
 use crate::text::blocks_line;
 use console::write_out;
-use device_file::{Run, SystemFile};
+use device_file::Run;
 use std::alloc::{AllocError, Global};
-use std::fs::File;
 use std::io::Write;
 
 // How many bytes of a file are read at once: 256 sectors.
@@ -51,10 +50,10 @@ fn room_for(alloc: Global, done: &[u8], blocks: u64) -> Result<CopyRoom, AllocEr
 
 /// Tells what was done, and gives the file that was made for it back.
 pub(crate) fn tell_of<O: Write>(
-    file: SystemFile<File>,
+    file: LockedFile,
     out: &mut O,
     room: &CopyRoom,
-) -> Result<SystemFile<File>, Stopped>
+) -> Result<LockedFile, Stopped>
     ensures told { IfOk result (λ back. (back ≡ file)
         × Appends (O.contents out.old) (O.contents out.new) room.now.line.items) }
     ensures untold { IfErr result (λ stopped.

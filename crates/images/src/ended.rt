@@ -1,10 +1,14 @@
 //! How a command ended, and what it has left of its files.
 use crate::refusal::Refusal;
 use device_file::SystemFile;
+use medium::OpenedFile;
 use std::fs::File;
 
+/// A plain file of the system, open and locked.
+pub type LockedFile = SystemFile<OpenedFile<File>>;
+
 /// A file that was opened or made, where there is one.
-pub(crate) type LeftFile = Option<SystemFile<File>>;
+pub(crate) type LeftFile = Option<LockedFile>;
 
 /// How a command ended, and the files that it opened or made, exactly as they were left. Nothing is
 /// behind them for a caller to do but to let go of them, which closes them.
@@ -13,9 +17,9 @@ pub struct Ended {
     /// The exit status.
     pub status: u8,
     /// The file of the image.
-    pub file: Option<SystemFile<File>>,
+    pub file: Option<LockedFile>,
     /// The plain file of an export or an import.
-    pub raw: Option<SystemFile<File>>,
+    pub raw: Option<LockedFile>,
 }
 
 /// The files of a command as they were left: that of the image, and the plain one.
@@ -29,7 +33,7 @@ pub(crate) struct LeftFiles {
 #[derive(Drop)]
 pub struct Stopped {
     pub refusal: Refusal,
-    pub file: Option<SystemFile<File>>,
+    pub file: Option<LockedFile>,
 }
 
 /// Why what was asked for was not done, and both files as they were left.
@@ -43,7 +47,7 @@ impl Stopped {
     ghost use Rattle.std.specs.Prelude.{◌≡◌, Some};
 
     /// With the file that was made.
-    pub(crate) fn with(refusal: Refusal, file: SystemFile<File>) -> Stopped
+    pub(crate) fn with(refusal: Refusal, file: LockedFile) -> Stopped
         ensures { result ≡ record { refusal = refusal; file = Some file } }
     {
         Stopped {

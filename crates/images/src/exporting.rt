@@ -22,19 +22,20 @@ ghost use Rattle.images.specs.Exporting.{
   IsRecoveredIn,
   recovery_room,
 };
+ghost use Rattle.images.specs.Opened.{made_at};
 ghost use Rattle.images.specs.Program.{IsExport, IsExportRefused};
 
 use crate::copying::{CopyRoom, copy_room, tell_of};
-use crate::ended::{LeftFiles, Refused, Stopped};
+use crate::ended::{LeftFiles, LockedFile, Refused, Stopped};
 use crate::gauge::Gauge;
 use crate::image::new_target;
-use crate::opening::{Access, first_of, open_file, window_over};
+use crate::opening::{first_of, open_file, window_over};
 use crate::refusal::Refusal;
 use device_file::{
-    CopyFault, DeviceFile, FileCall, FileFault, FirstSectors, Meter, Run, SystemFile, carry_moved,
-    copy_sectors,
+    CopyFault, DeviceFile, FileCall, FileFault, FirstSectors, Meter, Run, carry_moved, copy_sectors,
 };
 use journal::Super;
+use medium::Access;
 use recovery::recover;
 use std::alloc::Global;
 use std::fs::{File, Files};
@@ -52,11 +53,11 @@ pub(crate) fn export<R: Files<File = File> + AllocGlobal, O: Write, E: Write + I
     out: &mut O,
     err: &mut E,
 ) -> Result<LeftFiles, Refused>
-    ensures done { IfOk result (λ left. IsExport device.now.bytes (O.contents out.old)
-        (O.contents out.new) left.file left.raw) }
-    ensures refused { IfErr result (λ refused. IsExportRefused device.now.bytes
-        (O.contents out.old) (O.contents out.new) refused.files.file refused.files.raw
-        refused.refusal) }
+    ensures done { IfOk result (λ left. IsExport image.now device.now.bytes
+        (made_at raw.now replace) (O.contents out.old) (O.contents out.new) left.file left.raw) }
+    ensures refused { IfErr result (λ refused. IsExportRefused image.now device.now.bytes
+        (made_at raw.now replace) (O.contents out.old) (O.contents out.new) refused.files.file
+        refused.files.raw refused.refusal) }
 {
     let file = open_file(rt, image, Access::Look)?;
     match export_file(rt, &file, device, raw, replace, out, err) {
@@ -72,7 +73,7 @@ pub(crate) fn export<R: Files<File = File> + AllocGlobal, O: Write, E: Write + I
 }
 
 // The image of an export, and the plain file.
-fn both(image: SystemFile<File>, plain: SystemFile<File>) -> LeftFiles
+fn both(image: LockedFile, plain: LockedFile) -> LeftFiles
     ensures { result ≡ record { file = Some image; raw = Some plain } }
 {
     LeftFiles {
@@ -102,13 +103,13 @@ pub fn export_file<
     replace: bool,
     out: &mut O,
     err: &mut E,
-) -> Result<SystemFile<File>, Stopped>
+) -> Result<LockedFile, Stopped>
     ensures ok { IfOk result (λ plain. IsExportedOf (S.holds image.now) (S.refuses image.now)
         (S.size image.now) device.now.bytes (O.contents out.old) (O.contents out.new)
-        (Some plain)) }
+        (made_at raw.now replace) (Some plain)) }
     ensures err { IfErr result (λ stopped. IsNotExportedOf (S.holds image.now)
         (S.refuses image.now) (S.size image.now) device.now.bytes (O.contents out.old)
-        (O.contents out.new) stopped.file stopped.refusal) }
+        (O.contents out.new) (made_at raw.now replace) stopped.file stopped.refusal) }
 {
     match first_of(rt.alloc(), image) {
         Ok(first) => export_from(rt, image, first, device, raw, replace, out, err),
@@ -127,12 +128,13 @@ fn export_from<R: Files<File = File> + AllocGlobal, S: DeviceFile, O: Write, E: 
     replace: bool,
     out: &mut O,
     err: &mut E,
-) -> Result<SystemFile<File>, Stopped>
+) -> Result<LockedFile, Stopped>
     ensures ok { IfOk result (λ plain. IsExported (S.holds image.now) (S.refuses image.now) first
-        device.now.bytes (O.contents out.old) (O.contents out.new) (Some plain)) }
+        device.now.bytes (O.contents out.old) (O.contents out.new) (made_at raw.now replace)
+        (Some plain)) }
     ensures err { IfErr result (λ stopped. IsNotExported (S.holds image.now) (S.refuses image.now)
-        first device.now.bytes (O.contents out.old) (O.contents out.new) stopped.file
-        stopped.refusal) }
+        first device.now.bytes (O.contents out.old) (O.contents out.new) (made_at raw.now replace)
+        stopped.file stopped.refusal) }
 {
     match recover_in_window(rt.alloc(), first, device) {
         Ok((mut window, sizes)) => {
@@ -155,12 +157,13 @@ fn copy_out<R: Files<File = File> + AllocGlobal, S: DeviceFile, O: Write, E: Wri
     replace: bool,
     out: &mut O,
     err: &mut E,
-) -> Result<SystemFile<File>, Stopped>
+) -> Result<LockedFile, Stopped>
     ensures ok { IfOk result (λ plain. IsPlainCopy (S.holds image.now) (S.refuses image.now)
-        sizes.now window.old.outbox (O.contents out.old) (O.contents out.new) (Some plain)) }
+        sizes.now window.old.outbox (O.contents out.old) (O.contents out.new)
+        (made_at raw.now replace) (Some plain)) }
     ensures err { IfErr result (λ stopped. IsNoPlainCopy (S.holds image.now) (S.refuses image.now)
-        sizes.now window.old.outbox (O.contents out.old) (O.contents out.new) stopped.file
-        stopped.refusal) }
+        sizes.now window.old.outbox (O.contents out.old) (O.contents out.new)
+        (made_at raw.now replace) stopped.file stopped.refusal) }
 {
     let mut room = match copy_room(rt.alloc(), b"exported ", sizes.blocks) {
         Ok(room) => room,
@@ -180,13 +183,14 @@ fn make_copy<R: Files<File = File>, S: DeviceFile, O: Write, E: Write + IsTermin
     room: &mut CopyRoom,
     out: &mut O,
     err: &mut E,
-) -> Result<SystemFile<File>, Stopped>
+) -> Result<LockedFile, Stopped>
     requires { room.old.line.items ≡ exported_text sizes.now.blocks }
     ensures ok { IfOk result (λ copied. IsPlainCopy (S.holds image.now) (S.refuses image.now)
-        sizes.now window.old.outbox (O.contents out.old) (O.contents out.new) (Some copied)) }
+        sizes.now window.old.outbox (O.contents out.old) (O.contents out.new)
+        (made_at raw.now replace) (Some copied)) }
     ensures err { IfErr result (λ stopped. IsNoCopyMade (S.holds image.now) (S.refuses image.now)
-        sizes.now window.old.outbox (O.contents out.old) (O.contents out.new) stopped.file
-        stopped.refusal) }
+        sizes.now window.old.outbox (O.contents out.old) (O.contents out.new)
+        (made_at raw.now replace) stopped.file stopped.refusal) }
 {
     let mut plain = new_target(rt, raw, sizes.blocks, replace)?;
     match export_watched(image, sizes, window, &mut plain, room, err) {

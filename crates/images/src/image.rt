@@ -2,15 +2,15 @@
 ghost use Rattle.std.specs.Prelude.{◌≡◌, IfOk, IfErr, MatchOption};
 ghost use Rattle.journal.specs.Places.{new_shape};
 ghost use Rattle.journal.specs.Formats.{shape_of};
-ghost use Rattle.device_file.specs.FileValue.{fresh};
+ghost use Rattle.device_file.specs.FileValue.{IsMade};
 ghost use Rattle.device_file.specs.declared.fault.FileFault.{FileFault};
 ghost use Rattle.images.specs.Limits.{AreLimits};
 ghost use Rattle.images.specs.Opened.{IsTargetUnmade, IsUnmade};
 ghost use Rattle.images.specs.declared.refusal.Refusal.TheVariants as refused;
 
+use crate::ended::LockedFile;
 use crate::refusal::Refusal;
 use console::guard_streams;
-use device_file::SystemFile;
 use journal::{LogFormat, Super};
 use std::fs::{File, Files};
 
@@ -32,8 +32,8 @@ pub(crate) fn new_file<R: Files<File = File>>(
     path: &str,
     sectors: u64,
     replace: bool,
-) -> Result<SystemFile<File>, Refusal>
-    ensures ok { IfOk result (λ file. file ≡ fresh sectors) }
+) -> Result<LockedFile, Refusal>
+    ensures ok { IfOk result (IsMade path.now replace sectors) }
     ensures err { IfErr result (λ refusal. IsUnmade refusal) }
 {
     let Some(_streams) = guard_streams(rt) else {
@@ -48,11 +48,11 @@ fn create<R: Files<File = File>>(
     path: &str,
     sectors: u64,
     replace: bool,
-) -> Result<SystemFile<File>, Refusal>
-    ensures ok { IfOk result (λ made. made ≡ fresh sectors) }
+) -> Result<LockedFile, Refusal>
+    ensures ok { IfOk result (λ made. IsMade path.now replace sectors made) }
     ensures err { IfErr result (λ refusal. (fault : FileFault) × (refusal ≡ refused.File fault)) }
 {
-    match SystemFile::create(rt, path, sectors, replace) {
+    match device_file::create(rt, path, sectors, replace) {
         Ok(file) => Ok(file),
         Err(fault) => Err(Refusal::File(fault)),
     }
@@ -64,8 +64,8 @@ pub(crate) fn new_target<R: Files<File = File>>(
     path: &str,
     sectors: u64,
     replace: bool,
-) -> Result<SystemFile<File>, Refusal>
-    ensures ok { IfOk result (λ target. target ≡ fresh sectors) }
+) -> Result<LockedFile, Refusal>
+    ensures ok { IfOk result (λ target. IsMade path.now replace sectors target) }
     ensures err { IfErr result IsTargetUnmade }
 {
     match new_file(rt, path, sectors, replace) {

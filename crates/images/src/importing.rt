@@ -2,21 +2,21 @@
 ghost use Rattle.std.specs.Prelude.{◌≡◌, ◌≤◌, Some, length, IfOk, OnOk, IfErr};
 ghost use Rattle.journal.specs.Places.{sectors_of};
 ghost use Rattle.journal.specs.Formats.{shape_of};
-ghost use Rattle.device_file.specs.FileValue.{fresh};
+ghost use Rattle.device_file.specs.FileValue.{IsMade};
 ghost use Rattle.images.specs.Copying.{Copies};
 ghost use Rattle.images.specs.Imported.{IsImage, IsNoImage, import_refusal, imported_text};
 ghost use Rattle.images.specs.Importing.{IsImported, IsNotImported, MakesImage};
-ghost use Rattle.images.specs.Opened.{IsTargetUnmade};
+ghost use Rattle.images.specs.Opened.{IsTargetUnmade, made_at};
 ghost use Rattle.images.specs.Program.{IsImport, IsImportRefused};
 
 use crate::copying::{CopyRoom, copy_room, tell_of};
-use crate::ended::{LeftFile, LeftFiles, Refused, Stopped};
+use crate::ended::{LeftFile, LeftFiles, LockedFile, Refused, Stopped};
 use crate::gauge::Gauge;
 use crate::image::{new_target, sizes_of};
 use crate::making::ask_to_be;
 use crate::opening::open_plain;
 use crate::refusal::Refusal;
-use device_file::{CopyFault, DeviceFile, Meter, Run, SystemFile, copy_sectors};
+use device_file::{CopyFault, DeviceFile, Meter, Run, copy_sectors};
 use journal::{LogFormat, Super};
 use std::fs::{File, Files};
 use std::io::{IsTerminal, Write};
@@ -33,10 +33,11 @@ pub(crate) fn import<R: Files<File = File> + AllocGlobal, O: Write, E: Write + I
     out: &mut O,
     err: &mut E,
 ) -> Result<LeftFiles, Refused>
-    ensures done { IfOk result (λ left. IsImport (O.contents out.old) (O.contents out.new)
-        left.file left.raw format slots) }
-    ensures refused { IfErr result (λ refused. IsImportRefused (O.contents out.old)
-        (O.contents out.new) refused.files.file refused.files.raw format slots refused.refusal) }
+    ensures done { IfOk result (λ left. IsImport raw.now (made_at image.now replace)
+        (O.contents out.old) (O.contents out.new) left.file left.raw format slots) }
+    ensures refused { IfErr result (λ refused. IsImportRefused raw.now
+        (made_at image.now replace) (O.contents out.old) (O.contents out.new) refused.files.file
+        refused.files.raw format slots refused.refusal) }
 {
     let plain = open_plain(rt, raw)?;
     let mut room = match copy_room(rt.alloc(), b"imported ", plain.sectors()) {
@@ -55,7 +56,7 @@ pub(crate) fn import<R: Files<File = File> + AllocGlobal, O: Write, E: Write + I
 }
 
 // Why an import of this plain file was refused.
-fn refused_with(refusal: Refusal, file: LeftFile, plain: SystemFile<File>) -> Refused
+fn refused_with(refusal: Refusal, file: LeftFile, plain: LockedFile) -> Refused
     ensures { result ≡ record {
       refusal = refusal;
       files = record { file = file; raw = Some plain };
@@ -82,13 +83,14 @@ fn import_from<R: Files<File = File>, S: DeviceFile, O: Write, E: Write + IsTerm
     room: &mut CopyRoom,
     out: &mut O,
     err: &mut E,
-) -> Result<SystemFile<File>, Stopped>
+) -> Result<LockedFile, Stopped>
     requires { room.old.line.items ≡ imported_text (S.size plain.now) }
     ensures ok { IfOk result (λ file. IsImage (S.holds plain.now) (S.refuses plain.now) format
-        (S.size plain.now) slots (O.contents out.old) (O.contents out.new) (Some file)) }
+        (S.size plain.now) slots (O.contents out.old) (O.contents out.new)
+        (made_at image.now replace) (Some file)) }
     ensures err { IfErr result (λ stopped. IsNoImage (S.holds plain.now) (S.refuses plain.now)
-        format (S.size plain.now) slots (O.contents out.old) (O.contents out.new) stopped.file
-        stopped.refusal) }
+        format (S.size plain.now) slots (O.contents out.old) (O.contents out.new)
+        (made_at image.now replace) stopped.file stopped.refusal) }
 {
     let Some(sizes) = sizes_of(format, plain.sectors(), slots) else {
         return Err(Stopped::from(Refusal::Sizes));
@@ -106,8 +108,9 @@ fn new_image<R: Files<File = File>>(
     path: &str,
     sizes: &Super,
     replace: bool,
-) -> Result<SystemFile<File>, Refusal>
-    ensures ok { IfOk result (λ image. image ≡ fresh (sectors_of (shape_of sizes.now))) }
+) -> Result<LockedFile, Refusal>
+    ensures ok { IfOk result
+        (λ image. IsMade path.now replace (sectors_of (shape_of sizes.now)) image) }
     ensures err { IfErr result (λ refusal. IsTargetUnmade refusal) }
 {
     new_target(rt, path, sizes.sectors(), replace)

@@ -17,7 +17,7 @@ mod showing;
 mod task;
 mod text;
 
-pub use ended::{Ended, Stopped};
+pub use ended::{Ended, LockedFile, Stopped};
 pub use exporting::{export_blocks, export_file, recover_in_window};
 pub use importing::import_blocks;
 pub use laws::{copy_laws, making_laws};

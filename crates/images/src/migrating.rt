@@ -9,11 +9,12 @@ ghost use Rattle.images.specs.Program.{IsMigration, IsMigrationRefused};
 
 use crate::ended::{LeftFile, Stopped};
 use crate::exporting::room_to_recover;
-use crate::opening::{Access, first_of, open_file, window_over};
+use crate::opening::{first_of, open_file, window_over};
 use crate::refusal::Refusal;
 use console::write_out;
 use device_file::{DeviceFile, FileFault, FirstSectors, Run, carry_out};
 use journal::{LogFormat, Super};
+use medium::Access;
 use std::alloc::Global;
 use std::fs::{File, Files};
 use std::io::Write;
@@ -27,9 +28,9 @@ pub(crate) fn migrate<R: Files<File = File> + AllocGlobal, O: Write>(
     device: &DeviceHolds,
     out: &mut O,
 ) -> Result<LeftFile, Stopped>
-    ensures done { IfOk result (IsMigration device.now.bytes (O.contents out.old)
-        (O.contents out.new)) }
-    ensures refused { IfErr result (λ stopped. IsMigrationRefused device.now.bytes
+    ensures done { IfOk result (IsMigration image.now device.now.bytes
+        (O.contents out.old) (O.contents out.new)) }
+    ensures refused { IfErr result (λ stopped. IsMigrationRefused image.now device.now.bytes
         (O.contents out.old) (O.contents out.new) stopped.file stopped.refusal) }
 {
     let mut file = open_file(rt, image, Access::Change)?;

@@ -1,6 +1,7 @@
 //! Files that are there: they are opened, and of an image the first sectors are read.
 ghost use Rattle.std.specs.Prelude.{◌≡◌, IfOk, IfErr};
-ghost use Rattle.device_file.specs.FileValue.{fresh};
+ghost use Rattle.medium.specs.declared.file_call.Access.TheVariants.{Look};
+ghost use Rattle.device_file.specs.FileValue.{IsOpened};
 ghost use Rattle.images.specs.Opened.{
   HasFirst,
   HasNoFirst,
@@ -10,22 +11,16 @@ ghost use Rattle.images.specs.Opened.{
   refusal_of_open,
 };
 
+use crate::ended::LockedFile;
 use crate::refusal::Refusal;
 use console::guard_streams;
-use device_file::{DeviceFile, FileCall, FileFault, FirstSectors, OpenFault, SystemFile};
+use device_file::{DeviceFile, FileCall, FileFault, FirstSectors, OpenFault};
+use medium::Access;
 use std::alloc::Global;
 use std::fs;
 use std::fs::{File, Files};
 use std::io::ErrorKind;
 use window::{DeviceHolds, WindowMedium};
-
-/// What a file is opened for.
-#[derive(Clone, Copy)]
-pub(crate) enum Access {
-    /// To be read alone: the system refuses its writes.
-    Look,
-    Change,
-}
 
 /// The first sectors of a file, as its reads give them.
 pub(crate) fn first_of<D: DeviceFile>(alloc: Global, file: &D) -> Result<FirstSectors, Refusal>
@@ -39,11 +34,8 @@ pub(crate) fn first_of<D: DeviceFile>(alloc: Global, file: &D) -> Result<FirstSe
 }
 
 /// The plain file at this path, which is locked, to be read alone. It is asked for nothing.
-pub(crate) fn open_plain<R: Files<File = File>>(
-    rt: &R,
-    path: &str,
-) -> Result<SystemFile<File>, Refusal>
-    ensures ok { IfOk result (λ plain. plain ≡ fresh plain.size) }
+pub(crate) fn open_plain<R: Files<File = File>>(rt: &R, path: &str) -> Result<LockedFile, Refusal>
+    ensures ok { IfOk result (λ plain. IsOpened path.now Look plain) }
     ensures err { IfErr result IsPlainUnopened }
 {
     match open_file(rt, path, Access::Look) {
@@ -53,13 +45,13 @@ pub(crate) fn open_plain<R: Files<File = File>>(
     }
 }
 
-/// The file at this path, which is locked. It is asked for nothing.
+/// The file at this path, which is opened for this and locked. It is asked for nothing.
 pub(crate) fn open_file<R: Files<File = File>>(
     rt: &R,
     path: &str,
     access: Access,
-) -> Result<SystemFile<File>, Refusal>
-    ensures ok { IfOk result (λ file. file ≡ fresh file.size) }
+) -> Result<LockedFile, Refusal>
+    ensures ok { IfOk result (λ file. IsOpened path.now access file) }
     ensures err { IfErr result IsUnmade }
 {
     let Some(_streams) = guard_streams(rt) else {
@@ -67,7 +59,7 @@ pub(crate) fn open_file<R: Files<File = File>>(
     };
     let opened = match access {
         Access::Look => open_to_read(rt, path),
-        Access::Change => SystemFile::open(rt, path),
+        _ => device_file::open(rt, path, access),
     };
     match opened {
         Ok(file) => Ok(file),
@@ -77,15 +69,15 @@ pub(crate) fn open_file<R: Files<File = File>>(
 
 // The file at this path, to be read alone. What is no plain file is refused before it is opened: a
 // pipe would wait for a writer.
-fn open_to_read<R: Files<File = File>>(rt: &R, path: &str) -> Result<SystemFile<File>, FileFault>
-    ensures { IfOk result (λ looked. looked ≡ fresh looked.size) }
+fn open_to_read<R: Files<File = File>>(rt: &R, path: &str) -> Result<LockedFile, FileFault>
+    ensures { IfOk result (λ looked. IsOpened path.now Look looked) }
 {
     match fs::metadata(rt, path) {
         Ok(metadata) if !metadata.is_file() => Err(FileFault {
             call: FileCall::Length,
             cause: ErrorKind::InvalidInput,
         }),
-        _ => SystemFile::open_to_read(rt, path),
+        _ => device_file::open(rt, path, Access::Look),
     }
 }
 

@@ -20,6 +20,7 @@ ghost use Rattle.images.specs.Program.{
   made_text,
   version_text,
 };
+ghost use Rattle.images.specs.Opened.{made_at};
 ghost use Rattle.images.specs.Task.{wanted_of};
 ghost use Rattle.journal.specs.Formats.{shape_of};
 
@@ -33,7 +34,7 @@ use crate::refusal::Refusal;
 use crate::showing::show;
 use crate::task::{Task, read_words};
 use console::{ArgumentFault, words_of, write_out};
-use device_file::{Run, SystemFile};
+use device_file::Run;
 use journal::{LogFormat, Super};
 use std::fs::{File, Files};
 use std::io::{IsTerminal, Write};
@@ -196,9 +197,10 @@ fn make<R: Files<File = File> + AllocGlobal, O: Write>(
     out: &mut O,
 ) -> Result<LeftFile, Stopped>
     ensures done { IfOk result (λ back. IsMake (O.contents out.old) (O.contents out.new) back
-        format blocks slots) }
+        (made_at image.now replace) format blocks slots) }
     ensures refused { IfErr result (λ stopped. IsMakeRefused (O.contents out.old)
-        (O.contents out.new) stopped.file format blocks slots stopped.refusal) }
+        (O.contents out.new) stopped.file (made_at image.now replace) format blocks slots
+        stopped.refusal) }
 {
     let Some(sizes) = sizes_of(format, blocks, slots) else {
         return Err(Stopped::from(Refusal::Sizes));
@@ -219,9 +221,10 @@ fn make_with<R: Files<File = File>, O: Write>(
     out: &mut O,
 ) -> Result<LeftFile, Stopped>
     ensures done { IfOk result (λ back. IsMadeAs (O.contents out.old) (O.contents out.new) back
-        (shape_of sizes.now)) }
+        (made_at image.now replace) (shape_of sizes.now)) }
     ensures refused { IfErr result (λ stopped. IsNotMade (O.contents out.old)
-        (O.contents out.new) stopped.file (shape_of sizes.now) stopped.refusal) }
+        (O.contents out.new) stopped.file (made_at image.now replace) (shape_of sizes.now)
+        stopped.refusal) }
 {
     let mut file = match new_file(rt, image, sizes.sectors(), replace) {
         Ok(file) => file,

@@ -1,5 +1,6 @@
 //! Why a command was refused: its exit status and its text.
 ghost use Rattle.std.specs.Prelude.{◌≡◌};
+ghost use Rattle.images.specs.Status.{status_of_fault};
 ghost use Rattle.images.specs.declared.refusal.Refusal.TheVariants as refused;
 
 use console::ArgumentFault;
@@ -39,9 +40,9 @@ impl Refusal {
             Refusal::Words => 2,
             Refusal::Sizes => 3,
             Refusal::Image(_) => 3,
-            Refusal::File(_) => 4,
+            Refusal::File(fault) => status_of_refused(fault),
             Refusal::Plain(_) => 4,
-            Refusal::Target(_) => 4,
+            Refusal::Target(fault) => status_of_refused(fault),
             Refusal::Streams => 4,
             Refusal::NoMemory => 5,
         }
@@ -59,6 +60,16 @@ impl Refusal {
             Refusal::Streams => "the answer was not written",
             Refusal::NoMemory => "no memory",
         }
+    }
+}
+
+// The status where a file refuses a call, or has no whole sectors.
+fn status_of_refused(fault: FileFault) -> u8
+    ensures { result ≡ status_of_fault fault }
+{
+    match (fault.call, fault.cause) {
+        (FileCall::Length, ErrorKind::InvalidData) => 3,
+        _ => 4,
     }
 }
 

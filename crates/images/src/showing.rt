@@ -4,11 +4,12 @@ ghost use Rattle.images.specs.Program.{IsShow, IsShowRefused};
 ghost use Rattle.images.specs.Showing.{IsShown, IsNotShown, IsShownOf, IsNotShownOf};
 
 use crate::ended::{LeftFile, Stopped};
-use crate::opening::{Access, first_of, open_file, window_over};
+use crate::opening::{first_of, open_file, window_over};
 use crate::refusal::Refusal;
 use crate::text::text_of;
 use console::write_out;
 use device_file::{DeviceFile, FirstSectors};
+use medium::Access;
 use recovery::inspect;
 use std::alloc::Global;
 use std::fs::{File, Files};
@@ -23,9 +24,10 @@ pub(crate) fn show<R: Files<File = File> + AllocGlobal, O: Write>(
     device: &DeviceHolds,
     out: &mut O,
 ) -> Result<LeftFile, Stopped>
-    ensures done { IfOk result (IsShow device.now.bytes (O.contents out.old) (O.contents out.new)) }
-    ensures refused { IfErr result (λ stopped. IsShowRefused device.now.bytes (O.contents out.old)
-        (O.contents out.new) stopped.file stopped.refusal) }
+    ensures done { IfOk result (IsShow image.now device.now.bytes (O.contents out.old)
+        (O.contents out.new)) }
+    ensures refused { IfErr result (λ stopped. IsShowRefused image.now device.now.bytes
+        (O.contents out.old) (O.contents out.new) stopped.file stopped.refusal) }
 {
     let file = open_file(rt, image, Access::Look)?;
     match show_file(rt.alloc(), &file, device, out) {

@@ -4,13 +4,13 @@ use Rattle.images.proofs.exporting.export.Goals as goal
 pub returns-in-Err-clause-refused : goal.returns-in-Err-clause-refused
 returns-in-Err-clause-refused g c = inr (record {
   file = c.in_ok-file.file;
-  opened = record { given = refl; untouched = c.in_ok-file.ensures.ok };
+  opened = record { given = refl; opened = c.in_ok-file.ensures.ok };
   not_exported = c.in-Err.ensures.err;
 })
 
 pub returns-in-Ok-clause-done : goal.returns-in-Ok-clause-done
 returns-in-Ok-clause-done g c = rw c.both.ensures (record {
   file = c.in_ok-file.file;
-  opened = record { given = refl; untouched = c.in_ok-file.ensures.ok };
+  opened = record { given = refl; opened = c.in_ok-file.ensures.ok };
   exported = c.in-Ok.ensures.ok;
 })

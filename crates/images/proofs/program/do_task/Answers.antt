@@ -9,6 +9,6 @@ pub returns-in-Migrate-clause-refused : goal.returns-in-Migrate-clause-refused
 returns-in-Migrate-clause-refused g c = rw c.in-Migrate.is
     (err_of c.alone-in-Migrate.result c.migrate.result (λ (r : Refused). r.files.raw ≡ None)
     (λ (r : Refused). record { refusal = r.refusal; file = r.files.file })
-    (λ (s : Stopped). IsMigrationRefused c.args.device.now.bytes (g.O.Write.contents c.args.out.now)
+    (λ (s : Stopped). IsMigrationRefused c.in-Migrate.image.now c.args.device.now.bytes (g.O.Write.contents c.args.out.now)
     (g.O.Write.contents c.migrate.new.out) s.file s.refusal)
     c.alone-in-Migrate.ensures.err c.migrate.ensures.refused)

@@ -4,6 +4,6 @@ use Rattle.images.proofs.showing.show.Goals as goal
 pub returns-in-Err-clause-refused : goal.returns-in-Err-clause-refused
 returns-in-Err-clause-refused g c = inr (record {
   file = c.in_ok-file.file;
-  opened = record { given = refl; untouched = c.in_ok-file.ensures.ok };
+  opened = record { given = refl; opened = c.in_ok-file.ensures.ok };
   not_shown = c.in-Err.ensures.err;
 })

@@ -1,5 +1,4 @@
-use Rattle.std.proofs.Common.{inl, inr}
-use Rattle.std.proofs.KnownBytes.{Keeps-refl}
+use Rattle.std.proofs.Common.{inr}
 use Rattle.images.proofs.showing.show_file.Goals as goal
 
 pub returns-in-Err-show_first-clause-err : goal.returns-in-Err-show_first-clause-err
