@@ -1,0 +1,59 @@
+"""The answers of a function's proof: those that a copy leaves out, and those that it gives to a goal that is to be searched."""
+
+import os
+import re
+
+from lib import sources
+from lib.edits.edit import own_proof
+
+# What is asked for a goal that a line `tried:` names: the first two of what the prover tries of a goal without an answer.
+USES = [
+    "use borrow.Author.Rules as tried_rules",
+    "use Rattle.std.proofs.lemmas.Grind as tried_grind",
+    "use native.Mathlib.Omega as tried_omega",
+]
+TRIED = "first_of (search tried_rules.rules, grind (tried_omega.arith, tried_grind.common_steps) steps 2000000)"
+
+
+def answers_path(function):
+    """The file of a function's answers."""
+    return f"{own_proof(function)}/Answers.antt"
+
+
+def without_answers(text, goals):
+    """The lines of a file of answers, but for the answers to these goals."""
+    kept, answered = [], False
+    for line in text.split("\n"):
+        begins = re.match(r"(?:pub )?([^\s)}\]]+)", line)
+        if begins and begins[1] != answered:
+            answered = line.startswith("pub ") and begins[1] in goals and begins[1]
+        if not answered:
+            kept.append(line)
+    return kept
+
+
+def with_tries(lines, function, tries):
+    """The lines of a file of answers, with an answer that asks for a search for each of these goals that has none."""
+    crate, *path = function.split("::")
+    goals = f"use Rattle.{'.'.join([crate, 'proofs', *path])}.Goals as goal"
+    tries = {it[0]: it[1:] for it in tries if not any(line.startswith(f"pub {it[0]} :") for line in lines)}
+    asked = [line for it, words in tries.items() for line in (f"pub {it} : goal.{it}", f"{it} {' '.join(words)} = {TRIED}", "")]
+    return [*([] if goals in lines else [goals]), *(USES if asked else []), *lines, *asked]
+
+
+def left_open(goals):
+    """Answers that leave these goals open by one hole: a hole for each would print its goal, which takes longer than the search."""
+    hole = ["not_tried : {A : Type 0} → A", "not_tried = ?", ""] if goals else []
+    return hole + [line for it in goals for line in (f"pub {it} : goal.{it}", f"{it} c = not_tried", "")]
+
+
+def arguments_of(edit):
+    """The arguments of an answer of the edit's function: those of one that it has, or else `g` too where the function is generic."""
+    path = f"{edit.crate.folder}/{answers_path(edit.function)}"
+    text = sources.text_of(path) if os.path.exists(path) else ""
+    found = re.search(r"^pub (\S+) : goal\.\1\n\1((?: \w+)+) =", text, re.M)
+    if found:
+        return found[2].split()
+    owner = edit.text.owner.line if edit.text.owner and edit.text.owner.kind == "impl" else ""
+    is_generic = any(re.search(rf"\b{word}<[^>]*\b[A-Z]\w*\b", it) for word, it in ((r"fn \w+", edit.text.header), ("impl", owner)))
+    return ["g", "c"] if is_generic else ["c"]

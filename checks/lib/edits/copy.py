@@ -1,0 +1,115 @@
+"""A copy of a crate: the texts of files in which it differs from the crate, so that one check of it judges many edits."""
+
+import dataclasses
+import os
+
+from lib import sources
+from lib.edits import answers, twins
+from lib.edits.edit import Span, own_proof
+
+
+@dataclasses.dataclass(frozen=True)
+class Narrowed:
+    """The file of answers of a function of which goals are left open, and the first line of these."""
+
+    path: str
+    first: int
+
+
+class Copy:
+    """The texts of a copy with these edits, the function in which each stands, the twins without an edit, and what is left open of each function."""
+
+    def __init__(self, crate, edits=(), narrows=False, has_all_twins=False):
+        self.crate, self.texts, self.functions, self.spans, self.unedited, self.narrowed = crate, {}, {}, {}, {}, {}
+        self.has_all_twins = has_all_twins
+        for edit in edits:
+            if edit.function not in self.functions.values():
+                self.functions[edit], self.spans[edit] = edit.function, edit.spans
+        self.change()
+        if len(edits) == 1:
+            self.texts = dict(edits[0].texts)
+        # (of these an error tells that the text cannot be read)
+        self.edited = {*self.texts}
+        self.add_twins(edits)
+        self.named = [*self.functions.values(), *self.unedited.values()]
+        for function in filter(None, self.functions.values()):
+            self.answer_nothing(function)
+        for edit in edits if narrows else ():
+            if (edit.untried or edit.tried) and self.functions[edit] and not edit.is_control:
+                self.leave(edit, self.functions[edit])
+
+    def change(self):
+        """Makes the changes of the edits that stand in their functions themselves."""
+        changes = [it for edit in self.functions for it in edit.changes]
+        for it in sorted(changes, key=lambda it: -it.at):
+            text = self.text(it.file)
+            self.texts[it.file] = text[: it.at] + it.new + text[it.at + len(it.old) :]
+
+    def add_twins(self, edits):
+        """Adds a twin for each other edit, and twins without an edit where texts do not show that a twin lacks nothing."""
+        for edit in edits:
+            if edit not in self.functions:
+                if edit.function not in self.unedited and (self.has_all_twins or not twins.is_carried_over(self.crate, edit.function)):
+                    self.unedited[edit.function] = self.add(edit, "_twin_0", ())[0]
+                self.functions[edit], self.spans[edit] = self.add(edit, f"_twin_{len(self.functions)}", edit.changes)
+        for edit in edits if self.has_all_twins else ():
+            if twins.can_be_twin(edit) and edit.function not in self.unedited:
+                self.unedited[edit.function] = self.add(edit, "_twin_0", ())[0]
+
+    def add(self, edit, ending, changes):
+        """Adds a twin of the edit's function, with its proof files, and gives its name and where it stands."""
+        file, text = edit.spans[0].file, self.text(edit.spans[0].file)
+        self.texts[file] = text + "\n" + twins.twin_text(edit, ending, changes)
+        folder = own_proof(edit.function)
+        for name in sources.names_in(f"{self.crate.folder}/{folder}"):
+            proof = sources.text_of(f"{self.crate.folder}/{folder}/{name}")
+            for it in changes:
+                proof = proof.replace(it.old, it.new) if it.file == f"{folder}/{name}" else proof
+            self.texts[f"{folder}{ending}/{name}"] = twins.twin_proof(self.crate, edit.function, proof, ending)
+        return edit.function + ending, (Span(file, text.count("\n") + 1, self.texts[file].count("\n")),)
+
+    def answer_nothing(self, function):
+        """Gives an edited function a file of answers where it has none. To one with no file the check offers one, and searches for that again."""
+        path = answers.answers_path(function)
+        if path not in self.texts and not sources.names_in(f"{self.crate.folder}/{own_proof(function)}"):
+            self.texts[path] = ""
+
+    def answers_of(self, function):
+        """The file of a function's answers, and its text."""
+        path = answers.answers_path(function)
+        is_there = path in self.texts or os.path.exists(f"{self.crate.folder}/{path}")
+        return path, self.text(path) if is_there else ""
+
+    def try_goals(self, function, tries):
+        """Has a function as it is answer these goals as its edits do that try them."""
+        path, text = self.answers_of(function)
+        self.texts[path] = "\n".join(answers.with_tries(text.split("\n"), function, tries))
+        self.named.append(function)
+
+    def leave(self, edit, function):
+        """Has the goal of an edited function that is to be tried answered by a search, and leaves those open that are not."""
+        path, text = self.answers_of(function)
+        lines = answers.with_tries(answers.without_answers(text, edit.untried), function, [edit.tried] if edit.tried else [])
+        self.narrowed[function] = Narrowed(path, len(lines))
+        self.texts[path] = "\n".join(lines + answers.left_open(edit.untried))
+
+    def text(self, file):
+        return self.texts[file] if file in self.texts else sources.text_of(f"{self.crate.folder}/{file}")
+
+
+def batches_of(edits):
+    """Edits of functions' bodies stand side by side, in twins where a function has several. Every other edit, and what does not apply by itself,
+    stands alone."""
+    batches = []
+    for edit in sorted(edits, key=lambda it: it.is_control):
+        fits = [it for it in batches if edit.is_of_body and has_room(it, edit)]
+        if fits:
+            fits[0].append(edit)
+        else:
+            batches.append([edit])
+    return batches
+
+
+def has_room(batch, edit):
+    """Whether an edit can stand beside those of a batch."""
+    return all(other.function and (twins.can_be_twin(edit) or other.function != edit.function) for other in batch)

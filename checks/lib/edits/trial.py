@@ -1,0 +1,158 @@
+"""Tries edits of a crate: makes a copy with them, has it checked, and judges each by the report."""
+
+import dataclasses
+
+from lib.edits import notes
+from lib.edits.copy import Copy
+from lib.edits.report import Report, is_part
+from lib.edits.shut import shut_texts
+
+
+@dataclasses.dataclass(frozen=True)
+class Options:
+    """What checks/edits was asked for besides its verdicts."""
+
+    tells_times: bool = False
+    writes_notes: bool = False
+    has_all_twins: bool = False
+
+
+@dataclasses.dataclass(frozen=True)
+class Found:
+    """What is wrong with an edit, or nothing, and whether its refusal says little."""
+
+    edit: object
+    why: str
+    is_weak: bool = False
+
+
+@dataclasses.dataclass(frozen=True)
+class Checked:
+    """A copy of some edits with what its check said, and how it was checked: with functions shut, with goals left open."""
+
+    batch: list
+    copy: Copy
+    report: Report
+    shuts: bool
+    narrows: bool
+
+    def name_of(self, edit):
+        """The name by which the report tells of the function that an edit stands in."""
+        return self.report.name_of(self.copy.functions[edit])
+
+    @property
+    def is_settled(self):
+        """Whether the check says of each function what the edits did to it: it has a verdict, and nothing fails that no edit touches."""
+        names = [*map(self.name_of, self.batch), *map(self.report.name_of, self.copy.unedited.values())]
+        strange = [it for it in self.report.open if None not in names and not any(is_part(it, name) for name in names)]
+        return self.report.has_verdict and not self.report.unread and not strange
+
+    def is_refused(self, edit):
+        # (where no line tells of the function by its name, only a check of the edit alone can be judged, by all that fails)
+        name = self.name_of(edit)
+        return self.report.fails(name) if name else len(self.batch) == 1 and bool(self.report.failed)
+
+    def fault(self, edit):
+        """What is wrong with the edit, or nothing."""
+        report = self.report
+        if edit.is_control:
+            is_well = report.is_proved(self.name_of(edit))
+            return "" if is_well else "this control keeps the meaning, and its function is not reported as proved"
+        if report.unread or not report.has_verdict:
+            said = next((it for it in report.lines if "error" in it), report.lines[0])
+            return f"it does not reach the prover: {(report.unread or said)[:200]}"
+        return "" if self.is_refused(edit) else "NOT REFUSED: what it changes is still proved"
+
+    def is_weak(self, edit):
+        return self.report.is_weak(self.name_of(edit), self.copy.spans[edit])
+
+    def leaves_too_much(self, edit, found):
+        """Whether what its lines leave open keeps the edit from being judged."""
+        narrowed = self.copy.narrowed.get(self.copy.functions[edit])
+        if not narrowed:
+            return False
+        report, is_open = self.report, bool(found.why) or found.is_weak
+        is_open = is_open or not report.has_searched(narrowed, edit.tried) or report.misses(narrowed)
+        return is_open or report.may_have_lost(self.name_of(edit), edit.tried)
+
+
+class Trial:
+    """Tries edits of a crate over what is kept of it in a folder. `ask` gives what the prover says of a copy (prover.py)."""
+
+    def __init__(self, crate, kept, ask, options=Options()):
+        self.crate, self.kept, self.ask, self.options = crate, kept, ask, options
+
+    def report(self, copy, shuts):
+        """What the check of a copy says: of the edited functions alone, or of all where one is not one function's or is not found by its name.
+        Those that they call are shut, where that is asked for."""
+        if all(copy.named):
+            words = [word for it in copy.named for word in ("--only", it)]
+            holes = ["--allow-holes"] if shuts or copy.narrowed else []
+            texts = shut_texts(self.crate, copy.text, copy.named) if shuts else {}
+            output = self.ask(copy, [*holes, *words], self.kept, texts, self.options.tells_times)
+            if not output.has_found_none:
+                return Report(output, copy.edited)
+        return Report(self.ask(copy, [], self.kept, {}, self.options.tells_times), copy.edited)
+
+    def judged(self, batch, shuts, narrows=True):
+        """What is found of each edit of a batch. What its check does not settle is tried again: whole, with nothing shut, then in halves."""
+        copy = Copy(self.crate, batch, narrows, self.options.has_all_twins)
+        checked = Checked(batch, copy, self.report(copy, shuts), shuts, narrows)
+        if not checked.is_settled:
+            if copy.narrowed:
+                return self.judged(batch, shuts, False)
+            if shuts and all(copy.named):
+                return self.judged(batch, False, narrows)
+            if len(batch) > 1:
+                half = len(batch) // 2
+                return self.judged(batch[:half], shuts, narrows) + self.judged(batch[half:], shuts, narrows)
+        return [found for it in batch for found in self.judged_in(checked, it)]
+
+    def judged_in(self, checked, edit):
+        """What is found of an edit by the check of its batch, or by one more."""
+        shuts, narrows = checked.shuts, checked.narrows
+        if self.lacks(checked, edit):
+            return self.judged([edit], shuts, narrows)
+        why = checked.fault(edit)
+        found = Found(edit, why, not edit.is_control and not why and checked.is_weak(edit))
+        if edit.is_control:
+            return [found]
+        if checked.leaves_too_much(edit, found):
+            print(f"{edit.name}: its lines 'untried:' or 'tried:' leave too much or name what is not there, so it is tried whole", flush=True)
+            return self.judged([edit], shuts, False)
+        if why and len(checked.batch) > 1:
+            return self.judged([edit], shuts, narrows)
+        if self.options.writes_notes:
+            self.note(checked, found)
+        return [found]
+
+    def lacks(self, checked, edit):
+        """Whether the twin without an edit of its function is not proved, so that an edit in a twin may be refused for that alone."""
+        bare = checked.copy.unedited.get(edit.function)
+        if not bare or checked.report.proves(checked.report.name_of(bare)):
+            return False
+        print(f"{edit.name}: a twin of its function without an edit is not proved", flush=True)
+        return checked.copy.functions[edit] != edit.function
+
+    def note(self, checked, found):
+        """Writes into an edit that is refused which of its goals its check does not have to try."""
+        edit, copy, report = found.edit, checked.copy, checked.report
+        name = checked.name_of(edit)
+        if name and not found.why and not found.is_weak and name == copy.functions[edit] and not report.may_have_lost(name, ()):
+            known = edit.untried if copy.functions[edit] in copy.narrowed else ()
+            notes.note(edit, report.refused_goals(name), report.searched_goals(name, copy.spans[edit]), known)
+
+    def confirmed(self, edits):
+        """Gives each function as it is the answers by which edits of it are tried. The lines of those go that do not prove it, and of those whose
+        goal it does not have, since it is one of the edited function alone. Returns how many are left and how many went."""
+        trying, gone = [it for it in edits if it.tried and it.function and not it.is_control], 0
+        while trying:
+            copy = Copy(self.crate)
+            for function in dict.fromkeys(it.function for it in trying):
+                copy.try_goals(function, [it.tried for it in trying if it.function == function])
+            left = notes.without_wrong(trying, self.report(copy, False))
+            if len(left) == len(trying):
+                break
+            gone += len(trying) - len(left)
+            trying = left
+        return len(trying), gone

@@ -1,0 +1,76 @@
+"""What a copy with edits is made of."""
+
+import tempfile
+import unittest
+
+from lib.edits import answers, shut, twins
+from lib.edits.copy import Copy, Narrowed, batches_of
+from lib.edits.edit import read
+from lib.test import toy
+
+
+class Copies(unittest.TestCase):
+    def setUp(self):
+        self.room = tempfile.TemporaryDirectory()
+        self.addCleanup(self.room.cleanup)
+        self.crate = toy.Crate("toy", toy.lay(self.room.name))
+
+    def edits(self, *names):
+        return [read(self.crate, f"{self.crate.folder}/edits/{it}") for it in names]
+
+    def test_each_change_but_the_first_of_a_function_is_in_a_twin(self):
+        one, six = self.edits("one_is_three.edit", "two_is_six.edit")
+        copy = Copy(self.crate, [one, six])
+        self.assertEqual([copy.functions[it] for it in (one, six)], ["toy::other", "toy::other_twin_1"])
+        text = copy.texts["src/lib.rt"]
+        first, behind = text[: text.index("fn other_twin_1")], text[text.index("fn other_twin_1") :]
+        self.assertTrue("return 3;" in first and "{ 5 }" in first and "return TWO;" in behind and "{ 6 }" in behind)
+        (span,) = copy.spans[six]
+        self.assertIn("fn other_twin_1", "\n".join(text.split("\n")[span.first - 1 : span.last]))
+
+    def test_a_twin_of_a_method_has_an_impl_as_its_own(self):
+        (sets,) = self.edits("sets_nothing.edit")
+        twin = twins.twin_text(sets, "_twin_1", sets.changes)
+        self.assertTrue(twin.startswith("impl Mark {\n    /// Sets it.\n    pub fn set_twin_1(&mut self)"), twin)
+        self.assertTrue("self.is_set = false;" in twin and twin.endswith("    }\n}\n"))
+
+    def test_a_twin_has_the_proof_files_under_its_name(self):
+        turned, three = self.edits("turned_around.edit", "proved_is_three.edit")
+        copy = Copy(self.crate, [turned, three])
+        self.assertIn("use Rattle.toy.proofs.proved_twin_1.Goals as goal", copy.texts["proofs/proved_twin_1/Answers.antt"])
+
+    def test_a_proof_that_names_what_is_made_of_a_function_asks_for_a_bare_twin(self):
+        with open(f"{self.crate.folder}/proofs/Law.antt", "w", encoding="utf-8") as file:
+            file.write("use Rattle.toy.proofs.other.Goals as goal\n")
+        one, six = self.edits("one_is_three.edit", "two_is_six.edit")
+        self.assertEqual(Copy(self.crate, [one, six]).unedited, {"toy::other": "toy::other_twin_0"})
+
+    def test_a_batch_has_one_edit_that_is_no_bodys(self):
+        names = ("two_is_three.edit", "both.edit", "sets_nothing.edit", "one_is_three.edit", "two_is_six.edit")
+        self.assertEqual([len(it) for it in batches_of(self.edits(*names))], [1, 1, 3])
+
+    def test_what_is_shut_does_nothing_and_no_line_moves(self):
+        copy = Copy(self.crate, self.edits("full_is_empty.edit"))
+        texts = shut.shut_texts(self.crate, copy.text, copy.named)
+        text, was = texts["src/lib.rt"], copy.text("src/lib.rt")
+        self.assertEqual(text.count("\n"), was.count("\n"))
+        self.assertTrue("bytes.len()" not in text and "    is_empty(bytes)\n" in text)
+        self.assertIn("pub set_spec : {M : Type 1} → stated.statement M\nset_spec = shut", texts["proofs/Mark/set/Proof.antt"])
+        self.assertEqual((texts["proofs/proved/Answers.antt"], "proofs/is_full/Proof.antt" in texts), (None, False))
+
+    def test_goals_are_left_open_behind_the_answers(self):
+        (one,) = self.edits("one_is_three.edit")
+        copy = Copy(self.crate, [one], narrows=True)
+        lines = copy.texts["proofs/other/Answers.antt"].split("\n")
+        self.assertIn(f"{toy.ONE} c = {answers.TRIED}", lines)
+        self.assertIn(f"{toy.MORE} c = not_tried", lines)
+        narrowed = copy.narrowed["toy::other"]
+        self.assertEqual(narrowed, Narrowed("proofs/other/Answers.antt", lines.index("not_tried = ?") - 1))
+
+    def test_answers_to_goals_that_are_not_tried_go(self):
+        text = "use a\n\npub one : goal.one\none c =\n  b\n\npub two : goal.two\ntwo c = d\n"
+        self.assertEqual(answers.without_answers(text, ("one",)), ["use a", "", "pub two : goal.two", "two c = d", ""])
+
+
+if __name__ == "__main__":
+    unittest.main()
