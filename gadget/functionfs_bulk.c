@@ -137,9 +137,9 @@ static void fetch(struct bulk *bulk)
     bulk->is_left = !bulk->fills && bulk->in_left >= CHUNK;
     if (!transfer || bulk->halts_in || bulk->is_locked || bulk->is_left || !bulk->is_enabled)
         return;
-    size_t got, room = bulk->in_left == 0      ? bulk->disk->packet
-                       : bulk->in_left < CHUNK ? bulk->in_left
-                                               : CHUNK;
+    size_t got, room = bulk->disk->packet;
+    if (bulk->in_left)
+        room = bulk->in_left < CHUNK ? bulk->in_left : CHUNK;
     uint32_t code = disk_in(bulk->disk, transfer->bytes, room, &got);
     bool ends = code == USBDISK_STALL || (code == USBDISK_ACK && got < room);
     bulk->in_left = ends || got > bulk->in_left ? 0 : bulk->in_left - got;

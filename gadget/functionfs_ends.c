@@ -119,7 +119,7 @@ bool bind_controller(const char *gadget, const char *controller)
     while (folder && (entry = readdir(folder)) && entry->d_name[0] == '.')
         ;
     errno = ENODEV;
-    const char *name = controller ? controller : entry ? entry->d_name : NULL;
+    const char *name = entry ? entry->d_name : controller;
     bool is_bound = name && write_controller(gadget, name);
     int cause = errno;
     if (folder)

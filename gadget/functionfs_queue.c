@@ -135,8 +135,10 @@ int queue_send(struct engine *engine, struct queue *queue)
     if (!ready)
         return 0;
     long taken = syscall(SYS_io_submit, engine->context, (long)ready, calls);
-    queue->handed += taken > 0 ? (unsigned)taken : 0;
-    return taken < 0 ? errno : taken < (long)ready ? EAGAIN : 0;
+    if (taken < 0)
+        return errno;
+    queue->handed += (unsigned)taken;
+    return taken < (long)ready ? EAGAIN : 0;
 }
 
 struct transfer *queue_open_transfer(struct queue *queue)

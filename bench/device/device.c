@@ -145,7 +145,9 @@ static struct bench played(const struct workload *work, uint32_t format, uint64_
     start_disk(&bench.host);
     play(&bench, work, 3 * (unsigned)slots + 40, false);
     bench.device = (struct device){ .costs = *costs };
-    bench.most_calls = 0, bench.longest_event = 0, bench.flushes_of_steps = 0;
+    bench.most_calls = 0;
+    bench.longest_event = 0;
+    bench.flushes_of_steps = 0;
     play(&bench, work, work->writes, false);
     stop_disk(&bench.host);
     return bench;

@@ -32,10 +32,12 @@ static uint32_t start(struct usbdisk *disk, FILE *device)
         return USBDISK_READ_REFUSED;
     uint64_t near = usbdisk_near(sector) < SECTORS ? usbdisk_near(sector) : SECTORS;
     uint8_t *bytes = malloc(near * 512);
-    uint32_t code = !bytes                                   ? USBDISK_NO_MEMORY
-                    : !read_sectors(device, 0, bytes, near) ? USBDISK_READ_REFUSED
-                    : usbdisk_start(disk, bytes, near * 512, SECTORS, &name, &who, PACKET, SPAN,
-                                    usbdisk_room(FORMAT, SLOTS));
+    uint32_t code = USBDISK_NO_MEMORY;
+    if (bytes && !read_sectors(device, 0, bytes, near))
+        code = USBDISK_READ_REFUSED;
+    else if (bytes)
+        code = usbdisk_start(disk, bytes, near * 512, SECTORS, &name, &who, PACKET, SPAN,
+                             usbdisk_room(FORMAT, SLOTS));
     free(bytes);
     return code;
 }

@@ -111,8 +111,10 @@ static uint64_t most_of_start(uint32_t format, uint64_t room, uint32_t *answer)
     carry_out(&disk);
     attend(&disk);
     memcpy(head, medium + sizeof head, sizeof head);
-    for (int i = 0; i < SLOTS; i++, carry_out(&disk))
+    for (int i = 0; i < SLOTS; i++) {
         write_next(&disk, &address, FUA);
+        carry_out(&disk);
+    }
     usbdisk_stop(&disk);
     memcpy(medium + sizeof head, head, sizeof head);
     *answer = start(&disk, room);

@@ -104,7 +104,9 @@ int32_t tud_msc_write10_cb(uint8_t lun, uint32_t lba, uint32_t offset, uint8_t *
 
 int32_t tud_msc_scsi_cb(uint8_t lun, const uint8_t command[16], void *buffer, uint16_t bufsize)
 {
-    (void)lun, (void)buffer, (void)bufsize;
+    (void)lun;
+    (void)buffer;
+    (void)bufsize;
     switch (command[0]) {
     case 0x1B: /* START STOP UNIT. (TinyUSB asks by tud_msc_start_stop_cb: do the same there.) */
     case 0x35: /* SYNCHRONIZE CACHE(10) */

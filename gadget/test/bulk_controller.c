@@ -65,8 +65,10 @@ int queue_send(struct engine *engine, struct queue *queue)
 {
     unsigned before = queue->handed;
     (void)engine;
-    if (queue->count > before && below(16) == 0)
-        return refusals++, below(2) ? EAGAIN : ENOMEM;
+    if (queue->count > before && below(16) == 0) {
+        refusals++;
+        return below(2) ? EAGAIN : ENOMEM;
+    }
     queue->handed = queue->count > before + 1 && below(16) == 0 ? before + 1 : queue->count;
     if (queue->handed > before && below(16) == 0) {
         struct transfer *refused = &queue->ring[(queue->first + before) % DEPTH];

@@ -137,10 +137,14 @@ static int command(const uint8_t *block, size_t length, size_t size, bool sends)
     wrapper[14] = (uint8_t)length;
     memcpy(wrapper + 15, block, length);
     check(send(wrapper, sizeof wrapper) == sizeof wrapper, "a wrapper is not taken");
-    if (may_reset && below(40) == 0)
-        return recover(), -1;
+    if (may_reset && below(40) == 0) {
+        recover();
+        return -1;
+    }
     bulk_play(&bulk, below(2));
-    long moved = !size ? 0 : sends ? receive(data, size) : send(data, size);
+    long moved = 0;
+    if (size)
+        moved = sends ? receive(data, size) : send(data, size);
     check(moved != NOTHING, "data does not move");
     if (moved == STALLED)
         halted[sends] = false;

@@ -52,8 +52,10 @@ static void count_asking(void)
 static size_t length_of(const struct transfer *at, size_t *bytes)
 {
     size_t count = 0;
-    for (; at; at = at->next, count++)
+    for (; at; at = at->next) {
         *bytes += at->size;
+        count++;
+    }
     return count;
 }
 
@@ -257,7 +259,8 @@ static void begin(const char *image)
     judge(program_begin(name), "the program begins");
     server_begin(&server);
     judge(disk_open(&server.disk, image) && disk_start(&server.disk, 512), "the disk starts");
-    server.device.vendor = "a maker", server.device.product = "a disk";
+    server.device.vendor = "a maker";
+    server.device.product = "a disk";
     server.listener = socket(AF_UNIX, SOCK_STREAM | SOCK_CLOEXEC | SOCK_NONBLOCK, 0);
     address.sun_family = AF_UNIX;
     bool is_bound = bind(server.listener, (struct sockaddr *)&address, sizeof address.sun_family) ==

@@ -15,8 +15,10 @@ uint32_t below(struct source *source, uint32_t most)
 {
     uint32_t number = 0;
     if (source->is_bounded) {
-        for (int i = 0; i < 4 && source->left && most > 1u << (8 * i); i++, source->left--)
+        for (int i = 0; i < 4 && source->left && most > 1u << (8 * i); i++) {
             number = number << 8 | *source->bytes++;
+            source->left--;
+        }
         return most ? number % most : 0;
     }
     source->seed ^= source->seed << 13;
@@ -113,7 +115,8 @@ static size_t put_control(struct source *source, struct host *host, uint8_t *byt
     if (below(source, 4) == 0)
         setup[below(source, 8)] = (uint8_t)below(source, 256);
     bool in = below(source, 16) ? setup[0] >> 7 : below(source, 2);
-    uint32_t length = in || below(source, 4) == 0 ? below(source, in ? 300 : 100) : 0;
+    uint32_t most = in ? 300 : 100;
+    uint32_t length = in || below(source, 4) == 0 ? below(source, most) : 0;
     put_head(host, bytes, in, CONTROL, length);
     memcpy(bytes + 40, setup, 8);
     fill(source, bytes + HEAD, in ? 0 : length);
@@ -138,9 +141,11 @@ static size_t put_out(struct source *source, struct host *host, uint8_t *bytes)
 static size_t put_in(struct source *source, struct host *host, uint8_t *bytes)
 {
     uint32_t kind = below(source, 8);
-    uint32_t length = kind < 3   ? STATUS
-                      : kind < 7 ? 512 * below(source, 5)
-                                 : below(source, TRANSFER_MOST + 1);
+    uint32_t length = STATUS;
+    if (kind >= 7)
+        length = below(source, TRANSFER_MOST + 1);
+    else if (kind >= 3)
+        length = 512 * below(source, 5);
     put_head(host, bytes, true, BULK_IN, length);
     put(bytes + 20, below(source, 2));
     return HEAD;

@@ -76,7 +76,8 @@ static void hand_over(struct stranger *it, const uint8_t *bytes, size_t size)
             leave(it);
             return;
         }
-        bytes += sent, size -= (size_t)sent;
+        bytes += sent;
+        size -= (size_t)sent;
     }
 }
 
