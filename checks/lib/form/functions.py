@@ -1,0 +1,130 @@
+"""What the house rules say of functions: their sizes, their clauses, their edits, their errors."""
+
+import collections
+import dataclasses
+import functools
+import re
+
+from lib import sources
+from lib.edits.edit import triples
+
+
+@dataclasses.dataclass(frozen=True)
+class Body:
+    """A function with a body, its file, and its clauses but for those that an `impl` has to repeat from its trait."""
+
+    path: str
+    function: sources.Function
+    clauses: tuple
+
+    @property
+    def ensures(self):
+        return [it for it in self.clauses if it.word == "ensures"]
+
+    def __str__(self):
+        return f"{self.path}: {self.function.name}"
+
+
+@functools.lru_cache(maxsize=None)
+def paths():
+    """The sources of all crates."""
+    return tuple(sources.files_of_crates(".rt", "src"))
+
+
+def functions():
+    """All functions, with their files."""
+    for path in paths():
+        yield from ((path, it) for it in sources.functions_in(sources.text_of(path)))
+
+
+@functools.lru_cache(maxsize=None)
+def of_traits():
+    """The names of the clauses of each function of a trait."""
+    stands_in = lambda it: it.indent and it.owner and it.owner.kind == "trait"
+    return {(it.owner.trait, it.name): {(c.word, c.name) for c in it.declared_clauses} for _, it in functions() if stands_in(it)}
+
+
+@functools.lru_cache(maxsize=None)
+def bodies():
+    """The functions with a body."""
+    found = []
+    for path, it in functions():
+        if not it.is_declared_alone:
+            repeated = of_traits().get((it.owner.trait if it.owner else None, it.name), set())
+            found.append(Body(path, it, tuple(c for c in it.clauses if (c.word, c.name) not in repeated)))
+    return tuple(found)
+
+
+def long_ones():
+    return [f"{it} has {it.function.size}" for it in bodies() if it.function.size > 25]
+
+
+def most_ensures():
+    """The most clauses that a function ensures, one of a trait among them."""
+    traits = (sum(word == "ensures" for word, _ in it) for it in of_traits().values())
+    return max([*(len(it.ensures) for it in bodies()), *traits])
+
+
+def crate_of_most_clauses():
+    """The crate whose functions ensure the most clauses in the mean, those with none aside, and how many."""
+    crates = collections.defaultdict(list)
+    for it in bodies():
+        if it.ensures:
+            crates[sources.crate_of(it.path)].append(len(it.ensures))
+    mean, crate = max((sum(it) / len(it), name) for name, it in crates.items())
+    return crate, round(mean, 1)
+
+
+def over_five():
+    return [f"{it} has {len(it.clauses)}" for it in bodies() if len(it.clauses) > 5]
+
+
+def repeated(word):
+    """The clauses of this word that stand the same in another function. Those that an `impl` has to repeat are not counted."""
+    places = collections.defaultdict(list)
+    for it in bodies():
+        for clause in it.clauses:
+            if clause.word == word:
+                places[clause.says].append(str(it))
+    return [f"{it}: {{{says}" for says, there in places.items() if len({*there}) > 1 for it in there]
+
+
+def all_of(word):
+    """How many clauses of this word there are."""
+    return sum(clause.word == word for it in bodies() for clause in it.clauses)
+
+
+def edited():
+    """The lines of the sources that an edit of edits/ or must-fail/ changes: pairs of a file and the number of a line."""
+    for path in sources.files_of_crates(".edit", "edits", "must-fail"):
+        for file, kind, old, _ in triples(sources.text_of(path)):
+            file = f"crates/{sources.crate_of(path)}/{file}"
+            is_it = lambda line: old in line if kind == "old" else old.strip() == line.strip()
+            yield from ((file, number) for number, line in enumerate(sources.lines_of(file)) if is_it(line))
+
+
+def without_edit():
+    """The public functions of the libraries of which no edit changes the body and that checks/without_edit does not name, and how many it names
+    that have one, or are not there."""
+    changed, programs = {*edited()}, {sources.crate_of(it) for it in paths() if it.endswith("/src/main.rt")}
+    of_library = [it for it in bodies() if it.function.is_public and sources.crate_of(it.path) not in programs]
+    is_edited = lambda it: any((it.path, n) in changed for n in range(it.function.at, it.function.end + 1))
+    lacking = [str(it) for it in of_library if not is_edited(it)]
+    named = [it.rpartition(": ")[0] for it in sources.lines_of("checks/without_edit") if it and not it.startswith("#")]
+    for it in {*named} - {*lacking}:
+        print(f"checks/without_edit: {it} has an edit, or is not there")
+    return [it for it in lacking if it not in named], len({*named} - {*lacking})
+
+
+def without_errors():
+    """The public functions and methods of traits that answer a Result, and whose text does not say when it is an error."""
+    found = []
+    for path, it in functions():
+        if not it.is_public and not (it.indent and it.owner and it.owner.kind == "trait"):
+            continue
+        ends = (n for n in range(it.at, len(it.lines)) if it.lines[n].strip().startswith(sources.WORDS) or re.search(r"[{;]$", it.lines[n].rstrip()))
+        answer = " ".join(it.lines[it.at : next(ends, it.at) + 1]).partition("->")[2]
+        told = next((n for n in range(it.at - 1, -1, -1) if not re.match(r"\s*(///|#\[)", it.lines[n])), -1)
+        if re.match(r" *[\w:]*Result\b", answer) and not any("# Errors" in line for line in it.lines[told + 1 : it.at]):
+            found.append(f"{path}: {it.name}")
+    return found
