@@ -1,12 +1,13 @@
 -- Sectors that are cleared, call by call.
-use Rattle.std.proofs.Common.{◌≡◌, ◌≢◌, ◌⊎◌, ◌<◌, ◌≤◌, ◌+◌, ◌-◌, ℕ, List, inr, inl, ⊎_elim, ◌∙◌, arith, Ok, Result, replicate}
+use Rattle.std.proofs.Common.{◌≡◌, ◌≢◌, ◌<◌, ◌+◌, ℕ, List, inr, inl, ⊎_elim, ◌∙◌, arith, Ok, Result, replicate}
 use Rattle.std.proofs.lemmas.Bool.{cases_eq}
-use Rattle.medium.specs.Medium.{State, Within}
+use Rattle.medium.specs.Medium.{State}
 use Rattle.medium.specs.Performed.{Performed}
 use Rattle.medium.specs.declared.fault.MediumFault.{MediumFault}
 use Rattle.medium.specs.declared.medium_call.Call.TheVariants.{Write}
 use Rattle.medium.proofs.Moments.{gains_within}
-use Rattle.recovery.specs.Calls.{ClearView, HoldsCleared, cleared_at, IsBetween}
+use Rattle.recovery.specs.Calls.{cleared_at, IsBetween}
+use Rattle.recovery.specs.Driven.{ClearView, HoldsCleared}
 
 module _ {M : Type 0} {state : M → State} {at end : ℕ} {view : ClearView M} {m n : M} {got : List ℕ} (below : at < end)
     (held : HoldsCleared state at end view m) where

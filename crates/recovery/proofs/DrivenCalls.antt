@@ -1,5 +1,5 @@
 -- What the calls of a driven machine are that reads nothing.
-use Rattle.std.proofs.Common.{◌≡◌, ◌<◌, ℕ, Ok, Err, Result, IfErr}
+use Rattle.std.proofs.Common.{◌≡◌, ◌<◌, Ok, Err, Result, IfErr}
 use Rattle.medium.specs.Medium.{State, LooksOnly}
 use Rattle.medium.specs.Tally.{Tally, of_kind}
 use Rattle.medium.specs.declared.fault.MediumFault.{MediumFault}

@@ -1,7 +1,7 @@
 -- What the calls of a recovery, a migration or a format do, cost and make, and what a cut leaves.
 use Rattle.std.specs.Prelude.{◌≡◌, ◌≢◌, ◌⊎◌, ℕ, ◌+◌, ◌*◌, ◌<◌, ◌≤◌, List, [], ◌∷◌, length, All}
 use Rattle.std.specs.Prelude.{slice_index, replicate, Result, OnOk, IfErr, ◌^◌}
-use Rattle.medium.specs.Medium.{State, Image, Sets, CutLeaves, LooksOnly, Holds, Within}
+use Rattle.medium.specs.Medium.{State, Image, Sets, CutLeaves, LooksOnly, Holds}
 use Rattle.medium.specs.Moments.{LeavesOnly, SparesFrom, IsFlushed}
 use Rattle.medium.specs.Sent.{SendsUpTo}
 use Rattle.medium.specs.declared.fault.MediumFault.{MediumFault}
@@ -72,23 +72,6 @@ WithOrWithout s bytes sets image =
 -- the sector lies from the first on, before the end
 abbrev pub IsBetween : ℕ → ℕ → ℕ → Type 0
 IsBetween first end x = (first ≤ x) × (x < end)
-
--- the medium when its sectors from this one up to that one began to be cleared
-pub record ClearView (M : Type 0) : Type 0 where
-  pub start : M
-  pub from : ℕ
-  pub end : ℕ
-
--- Those before this one are cleared, and a cut may leave zeros in them all.
-pub record HoldsCleared {M : Type 0} (state : M → State) (at end : ℕ) (view : ClearView M) (m : M)
-    : Type 0 where
-  pub begun : view.from ≤ at
-  pub end_is : view.end ≡ end
-  pub zeros : (x : ℕ) → view.from ≤ x → x < at → (state m).content x ≡ replicate 512 0
-  pub elsewhere : (x : ℕ) → ¬ IsBetween view.from end x
-      → (state m).content x ≡ (state view.start).content x
-  pub within : Within (state m).may_leave
-      (cleared_at (IsBetween view.from view.end) (state view.start).may_leave)
 
 -- Calls that write to these sectors alone: this many where Ok, no more than that where the medium
 -- refused one. A cut at any moment of them leaves an image that has P.

@@ -8,34 +8,12 @@ ghost use Rattle.recovery.specs.Calls.{Copies, most_calls_of, IsHomeOf, IsHomeIn
 ghost use Rattle.recovery.specs.Calls.{IsHomeInRecords, AreBlocks, AreCopied};
 ghost use Rattle.journal.specs.Reading.{data_at};
 
+use crate::copying::Copying;
 use crate::found::Found;
-use journal::{Record, Super, copy_place, read_record, slot_of};
-use medium::{Medium, MediumFault};
-
-/// Copies the bytes of one sector to another, with these in place of the first.
-pub(crate) fn copy_sector<M: Medium>(
-    m: &mut M,
-    from: u64,
-    to: u64,
-    first: &[u8],
-) -> Result<(), MediumFault>
-    requires inside { (from < (M.state m.old).size) × (to < (M.state m.old).size) }
-    requires few { length first.now ≤ 512 }
-    ensures done { OnOk result (((M.state m.new).content to
-        ≡ first.now ++ drop (length first.now) ((M.state m.old).content from))
-        × ((M.state m.new).calls ≡ (M.state m.old).calls + 2)) }
-    ensures copies { Copies (λ s. s ≡ to) (λ s. s ≡ from) 2 1
-        (M.state m.old) (M.state m.new) result }
-    ensures follows { M.follows m.old m.new }
-{
-    let mut sector = [0; 512];
-    m.read(from, &mut sector)?;
-    sector[..first.len()].copy_from_slice(first);
-    m.write(to, &sector)
-}
+use journal::{Record, Super, read_record};
+use medium::{Medium, MediumFault, drive};
 
 // Copies the blocks home that the record of this stamp has.
-#[tactic(auto, using(crate::proofs::JoinedCalls::none_made))]
 fn copy_blocks<M: Medium>(
     m: &mut M,
     sizes: &Super,
@@ -57,16 +35,14 @@ fn copy_blocks<M: Medium>(
         (length read.now.numbers.items) (M.state m.old) (M.state m.new) result }
     ensures follows { M.follows m.old m.new }
 {
-    let slot = slot_of(stamp, sizes.slots);
-    for i in 0..read.numbers.len() {
-        copy_sector(
-            m,
-            copy_place(sizes.format, slot, i),
-            sizes.home_of(read.numbers[i]),
-            read.first(i),
-        )?;
-    }
-    Ok(())
+    let mut copying = Copying {
+        sizes: *sizes,
+        stamp,
+        read,
+        i: 0,
+        has_bytes: false,
+    };
+    drive(m, &mut copying, &mut [0; 512])
 }
 
 // Copies the record of this stamp home, which is whole. What is read of it goes through `read`.

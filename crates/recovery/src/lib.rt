@@ -3,6 +3,7 @@
 
 mod clearing;
 mod copies;
+mod copying;
 mod format_fault;
 mod formatting;
 mod found;

@@ -1,10 +1,11 @@
-use Rattle.std.proofs.Common.{◌≡◌, ◌<◌, ◌-◌, ℕ, inl, refl, ap, arith}
+use Rattle.std.proofs.Common.{inl, refl, ap, arith}
 use Rattle.std.proofs.lemmas.Result.{on_ok_weaker}
 use Rattle.medium.proofs.Tallies.{calls_most, calls_all, sends_most}
 use Rattle.medium.specs.Medium.{CutLeaves}
 use Rattle.medium.specs.Moments.{LeavesOnly}
-use Rattle.medium.specs.Tally.{Tally, none}
-use Rattle.recovery.specs.Calls.{ClearView, HoldsCleared, cleared_at, IsBetween}
+use Rattle.medium.specs.Tally.{Tally}
+use Rattle.recovery.specs.Calls.{cleared_at, IsBetween}
+use Rattle.recovery.specs.Driven.{HoldsCleared}
 use Rattle.recovery.proofs.DrivenCalls.{refused_call, none_read}
 use Rattle.recovery.proofs.sectors.clear.Goals as goal
 use Rattle.recovery.proofs.sectors.clear.Goals.{After-drive}

@@ -1,4 +1,4 @@
-use Rattle.std.proofs.Common.{◌≡◌, ◌<◌, ◌+◌, ◌-◌, ℕ, arith, refl}
+use Rattle.std.proofs.Common.{◌≡◌, ◌+◌, ◌-◌, arith, refl}
 use Rattle.recovery.proofs.ClearedSectors.{cleared_on, cleared_still}
 use Rattle.recovery.proofs.clearing.ClearingMachine.next.Goals as goal
 
