@@ -5,7 +5,7 @@ use Rattle.std.proofs.Math.ListN.{get_or-map}
 use Rattle.std.proofs.lemmas.Bool.{cases_eq}
 use Rattle.std.proofs.lemmas.List.{length-map}
 use Rattle.medium.specs.Medium.{State, Image, Sets, CutLeaves, Within, IsSound, LooksOnly, Holds, Stays, Passes}
-use Rattle.medium.specs.Moments.{LeavesOnly, StaysWithin, SparesFrom, IsQuiet, EachCut, IsFlushed}
+use Rattle.medium.specs.Moments.{LeavesOnly, StaysWithin, SparesFrom, IsQuiet, EachCut}
 use Rattle.medium.proofs.Moments.{at_exit, updated, updated_here, updated_elsewhere, quiet_joined, quiet_leaves}
 use Rattle.medium.proofs.Moments.{started_within, joined_same, weaker, quiet_call}
 use Rattle.medium.proofs.SparedSectors.{HasSpared, spared_joined, spared_behind, spared_quiet}
@@ -308,19 +308,6 @@ module _ {P : Image → Type 0} where
         → Writes P end (end - first) (state old) (state new) result
     clear_writes clears follows each =
         search (rules, weaker _ P _ _ each clears.moments, clear_spares _ _ _ _ sound clears.elsewhere clears.moments)
-
--- the super was cleared by the first two calls, and since then there is none, or the new one
-pub made_image : {X Y : Type 0} {shape : Shape} {end many : ℕ} {old mid new : State} {one : Result X MediumFault}
-    {two : Result Y MediumFault} {result : Result (Unit {0}) MediumFault} → Writes (λ image. CutLeaves old.may_leave image
-    ⊎ IsNoneOrWritten shape end old.content image) end 2 old mid one → mid.calls ≡ old.calls + 2
-    → Writes (IsNoneOrWritten shape end old.content) end many mid new two → 2 + many ≤ end + 5
-    → IfErr result (IsRefusedCall old new) → OnOk result (new.calls ≡ old.calls + (end + 5))
-    → OnOk result (IsWritten shape end old.content new.content × IsFlushed new) → WritesImage shape end old new result
-made_image first counted later fit cause exact done = record {
-  done = done;
-  writes = writes_on first (wider _ _ (λ image is. inr is) (omega arith) later) fit cause exact;
-  after_flush = λ more image since. later.moments.each image (rw (← counted) at since);
-}
 
 -- an image was written, good or refused, that is ours for this array
 pub image_made : {shape : Shape} {end : ℕ} {old new : State} {result : Result (Unit {0}) MediumFault} (array : Array)

@@ -1,3 +1,4 @@
+pub mod ImageCalls
 pub mod CopiedBlocks
 pub mod DrivenCalls
 pub mod ClearedSectors

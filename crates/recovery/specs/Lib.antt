@@ -1,4 +1,5 @@
 pub mod Calls
 pub mod Causes
 pub mod Driven
+pub mod NewImage
 pub mod Recovered

@@ -7,9 +7,10 @@ ghost use Rattle.recovery.specs.Calls.{CallsUpTo, AreSizes, IsFormatted, FormatL
 ghost use Rattle.recovery.specs.Calls.{IsFormatCause, Formats, WritesImage};
 
 use crate::FormatFault;
-use crate::sectors::{clear, write_through};
-use journal::{Head, LogFormat, Super};
-use medium::{Medium, MediumFault};
+use crate::image_stage::ImageStage;
+use crate::new_image::NewImage;
+use journal::{LogFormat, Super};
+use medium::{Medium, MediumFault, drive};
 
 /// The super of a new image of these sizes, where they are in their limits and this many sectors
 /// are enough for them.
@@ -39,10 +40,12 @@ pub(crate) fn write_image<M: Medium>(m: &mut M, sizes: &Super, end: u64) -> Resu
     ensures image { WritesImage (shape_of sizes.now) end (M.state m.old) (M.state m.new) result }
     ensures follows { M.follows m.old m.new }
 {
-    write_through(m, 0, &[0; 512])?;
-    clear(m, 1, end)?;
-    write_through(m, 1, &Head::new(1).encode())?;
-    write_through(m, 0, &sizes.encode())
+    let mut image = NewImage {
+        sizes: *sizes,
+        end,
+        stage: ImageStage::Wipe,
+    };
+    drive(m, &mut image, &mut [0; 512])
 }
 
 /// Makes an image of this format: `blocks` blocks of zeros, 1 to 2^31, and `slots` log slots, 1 to
