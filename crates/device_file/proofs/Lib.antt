@@ -4,3 +4,4 @@ pub mod Puts
 pub mod Gave
 pub mod Copies
 pub mod Given
+pub mod Carried

@@ -5,3 +5,4 @@ pub mod FileView
 pub mod First
 pub mod Reads
 pub mod Copied
+pub mod Carried

@@ -28,13 +28,13 @@ const PLACES: u64 = 1 << 63;
 /// That this file does what it is asked, until it refuses, is a premise: the standard library says
 /// nothing of what a file of the system holds.
 #[derive(Drop)]
-pub struct SystemFile<S> {
+pub struct SystemFile<S: ToldFile> {
     file: S,
     sectors: u64,
     story: Story,
 }
 
-impl<S> Model for SystemFile<S> {
+impl<S: ToldFile> Model for SystemFile<S> {
     ghost use Rattle.device_file.specs.FileValue.{ValueOver};
 
     ghost Value = { ValueOver S };
@@ -42,6 +42,10 @@ impl<S> Model for SystemFile<S> {
     ghost use Rattle.device_file.specs.FileView.{view_of};
 
     ghost view = { view_of };
+
+    ghost use Rattle.device_file.specs.Carried.{IsCarried};
+
+    ghost invariant = { λ m. IsCarried m.story.told (S.told m.file) };
 }
 
 /// The plain file at this path, opened for this: `Look`, where the system refuses its writes, or
@@ -104,9 +108,12 @@ fn access_for(replace: bool) -> Access
     }
 }
 
-impl<S> SystemFile<S> {
+impl<S: ToldFile> SystemFile<S> {
+    ghost use Rattle.device_file.specs.Carried.{IsCarried, IsOpening};
+
     // A file of `sectors` sectors, which was opened so and asked nothing since.
     fn over(file: S, path: &str, access: Access, sectors: u64) -> SystemFile<S>
+        requires { IsOpening access (S.told file).asked }
         ensures { result ≡ record {
           size = sectors;
           told = begun path.now access;
@@ -118,6 +125,14 @@ impl<S> SystemFile<S> {
             sectors,
             story: Story::new(&Use { access }, path.as_bytes()),
         }
+    }
+
+    /// Does nothing. Its contract says by which calls of the file behind it carried out what it was
+    /// asked: it was locked first, and each flush is one synchronising.
+    pub fn foresee(&self)
+        ensures { IsCarried self.now.told (S.told self.now.file) }
+    {
+        let _sectors = self.sectors;
     }
 }
 

@@ -1,0 +1,69 @@
+-- The calls of the file behind, part by part.
+use Rattle.std.proofs.Common.{◌≡◌, ℕ, List, [], ◌∷◌, ◌++◌, refl, sym, ◌∙◌, ap, subst, inl, inr, Bool, Result, Ok, Err}
+use Rattle.std.proofs.lemmas.List.{append_assoc, append-nil}
+use Rattle.std.proofs.lemmas.List.Elements.{All-nil, All-cons, All-append}
+use Rattle.medium.specs.FileStory as file
+use Rattle.medium.specs.declared.file_call.Access.{Access}
+use Rattle.medium.specs.declared.file_call.FileCall.{FileCall}
+use Rattle.medium.specs.declared.file_call.FileCall.TheVariants.{Sync}
+use Rattle.mirror.specs.declared.call.DeviceCall.{DeviceCall}
+use Rattle.mirror.specs.declared.call.DeviceCall.TheVariants.{Flush}
+use Rattle.device_file.specs.Asked.{Opening, Told, begun, writes_of}
+use Rattle.device_file.specs.Carried.{IsCarried, IsOpening, IsPart, Part, asked_in, calls_in}
+use Rattle.device_file.specs.FileValue.{PutsRun}
+use Rattle.device_file.specs.declared.fault.FileFault.{FileFault}
+use Rattle.device_file.specs.declared.run.Run.{Run}
+
+asked_more : (parts : List Part) (part : Part) → asked_in (parts ++ part ∷ []) ≡ asked_in parts ++ part.asked
+asked_more [] part = append-nil part.asked
+asked_more (p ∷ parts) part =
+    ap (λ (l : List DeviceCall). p.asked ++ l) (asked_more parts part) ∙ sym (append_assoc p.asked (asked_in parts) part.asked)
+
+calls_more : (parts : List Part) (part : Part) → calls_in (parts ++ part ∷ []) ≡ calls_in parts ++ part.calls
+calls_more [] part = append-nil part.calls
+calls_more (p ∷ parts) part =
+    ap (λ (l : List FileCall). p.calls ++ l) (calls_more parts part) ∙ sym (append_assoc p.calls (calls_in parts) part.calls)
+
+-- a file that was just opened
+pub carried_none : (path : List ℕ) (access : Access) (f : file.Told) → IsOpening access f.asked
+    → IsCarried (begun path access) f
+carried_none path access f opens = record {
+  opened = f.asked;
+  opens = opens;
+  parts = [];
+  each = All-nil IsPart;
+  asked = refl;
+  calls = sym (append-nil f.asked);
+}
+
+-- a part more
+carried_on : (t u : Told) (f g : file.Told) (part : Part) → IsPart part → IsCarried t f → u.opening ≡ t.opening
+    → u.asked ≡ t.asked ++ part.asked → g.asked ≡ f.asked ++ part.calls → IsCarried u g
+carried_on t u f g part is c same asked calls = record {
+  opened = c.opened;
+  opens = subst (λ (o : Opening). IsOpening o.access c.opened) (sym same) c.opens;
+  parts = c.parts ++ part ∷ [];
+  each = All-append IsPart c.parts (part ∷ []) c.each (All-cons IsPart part [] is (All-nil IsPart));
+  asked = asked ∙ ap (λ (l : List DeviceCall). l ++ part.asked) c.asked ∙ sym (asked_more c.parts part);
+  calls = calls ∙ ap (λ (l : List FileCall). l ++ part.calls) c.calls ∙ append_assoc c.opened (calls_in c.parts) part.calls
+      ∙ ap (λ (l : List FileCall). c.opened ++ l) (sym (calls_more c.parts part));
+}
+
+-- neighbouring sectors were to be written
+pub write_carried : (run : Run) (t u : Told) (f g : file.Told) (result : Result (Unit {0}) FileFault) → PutsRun run f g result
+    → IsCarried t f → u.opening ≡ t.opening → u.asked ≡ t.asked ++ writes_of run.first run.blocks.items → IsCarried u g
+write_carried run t u f g (Ok done) puts c same asked =
+    let p = puts.ok in
+    carried_on t u f g (record { asked = writes_of run.first run.blocks.items; calls = p.calls.calls })
+    (inl (record { first = run.first; blocks = run.blocks.items; asked_is = refl; within = p.calls.each })) c same asked p.calls.asked
+write_carried run t u f g (Err why) puts c same asked =
+    let p = puts.err in
+    carried_on t u f g (record { asked = writes_of run.first run.blocks.items; calls = p.calls.calls })
+    (inl (record { first = run.first; blocks = run.blocks.items; asked_is = refl; within = p.calls.each })) c same asked p.calls.asked
+
+-- all was to be made durable
+pub sync_carried : (good : Bool) (t u : Told) (f g : file.Told) → g ≡ file.answered good Sync f
+    → IsCarried t f → u.opening ≡ t.opening → u.asked ≡ t.asked ++ Flush ∷ [] → IsCarried u g
+sync_carried good t u f g is c same asked =
+    carried_on t u f g (record { asked = Flush ∷ []; calls = Sync ∷ [] }) (inr (record { asked_is = refl; calls_are = refl })) c same asked
+    (ap (λ (s : file.Told). s.asked) is)
