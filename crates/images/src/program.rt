@@ -20,7 +20,7 @@ ghost use Rattle.images.specs.Program.{
   made_text,
   version_text,
 };
-ghost use Rattle.images.specs.Opened.{made_at};
+ghost use Rattle.images.specs.Opened.{AreCalls, made_at};
 ghost use Rattle.images.specs.Task.{wanted_of};
 ghost use Rattle.journal.specs.Formats.{shape_of};
 
@@ -71,18 +71,35 @@ pub fn command<R: Files<File = File> + AllocGlobal, O: Write, E: Write + IsTermi
         → (refusal : Refusal) × (result.status ≡ status_of refusal)
         × IsRefusedFor device.now.bytes (O.contents out.old) (O.contents out.new) result.file
         result.raw (map (λ word. word.now) words.now) refusal }
+    ensures calls { AreCalls result.file × AreCalls result.raw }
 {
     match dispatch(rt, words, device, out, err) {
-        Ok(left) => Ended {
-            status: 0,
-            file: left.file,
-            raw: left.raw,
-        },
-        Err(refused) => Ended {
-            status: report(refused.refusal, words, err),
-            file: refused.files.file,
-            raw: refused.files.raw,
-        },
+        Ok(left) => end(0, left),
+        Err(refused) => end(report(refused.refusal, words, err), refused.files),
+    }
+}
+
+// How a command ended, of whose files is said by which calls of the system they did what they were
+// asked.
+fn end(status: u8, left: LeftFiles) -> Ended
+    ensures is { result ≡ record { status = status; file = left.file; raw = left.raw } }
+    ensures calls { AreCalls left.file × AreCalls left.raw }
+{
+    foresee(&left.file);
+    foresee(&left.raw);
+    Ended {
+        status,
+        file: left.file,
+        raw: left.raw,
+    }
+}
+
+// Does nothing. Its contract says by which calls of the system a file did what it was asked.
+fn foresee(left: &LeftFile)
+    ensures { AreCalls left.now }
+{
+    if let Some(file) = left {
+        file.foresee();
     }
 }
 
@@ -279,6 +296,7 @@ pub fn run_program<R: Files<File = File> + AllocGlobal, O: Write, E: Write + IsT
         (O.contents out.new) result.file result.raw (drop 1 (map string_bytes all.items)) refusal)
         (λ fault. HasNoWords device.now.bytes (O.contents out.old) (O.contents out.new) result.file
         result.raw fault refusal) }
+    ensures calls { AreCalls result.file × AreCalls result.raw }
 {
     let args = match args {
         Ok(args) => args,
