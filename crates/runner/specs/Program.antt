@@ -18,12 +18,13 @@ use Rattle.spec.specs.Packets.{bytes_of}
 use Rattle.bot_machine.specs.StartFaults.{StartFault}
 use Rattle.spec.specs.declared.packet_size.PacketSize.{PacketSize}
 use Rattle.console.specs.Streams.{AppendsSome}
+use Rattle.console.specs.declared.words.ArgumentFault.{ArgumentFault}
 use Rattle.runner.specs.declared.fault.ScriptFault.{ScriptFault}
 use Rattle.runner.specs.declared.refusal.Refusal.{Refusal}
 use Rattle.runner.specs.declared.refusal.Refusal.TheVariants as refused
 use Rattle.runner.specs.Outcome.{IsPlayed, IsRefused}
 use Rattle.runner.specs.OutcomeOfLives.{ArePlayed, AreRefused}
-use Rattle.runner.specs.Status.{refusal_of_fault, refusal_of_start}
+use Rattle.runner.specs.Status.{refusal_of_argument, refusal_of_fault, refusal_of_start}
 use Rattle.runner.specs.Task.{AreFormatWords, IsMigrateLine, IsScriptCommand, IsCommandLine}
 use Rattle.runner.specs.Text.{ended}
 
@@ -244,3 +245,9 @@ module _ (was now : Option (List ℕ)) where
     IsRefusedFor words refusal = ((refusal ≡ refused.NoMemory) × (back ≡ None) × Keeps was now)
         ⊎ (((refusal ≡ refused.Words) × (¬ IsCommandLine words) × (back ≡ None) × Keeps was now)
         ⊎ HasNotDone words refusal)
+
+    -- no words were had, for this cause: an argument is no text, or memory ran out
+    pub record HasNoWords (cause : ArgumentFault) (refusal : Refusal) : Type 0 where
+      pub none : back ≡ None
+      pub refused_is : refusal ≡ refusal_of_argument cause
+      pub kept : Keeps was now

@@ -1,6 +1,6 @@
 //! From the words of a command to its exit status.
-ghost use Rattle.std.specs.Prelude.{◌≡◌, ◌≢◌, ◌⊎◌, ◌≤◌, List, ℕ, Some, None, Ok, Err, IfOk, IfErr};
-ghost use Rattle.std.specs.Prelude.{MatchResult, OnOk, map, drop};
+ghost use Rattle.std.specs.Prelude.{◌≡◌, ◌≢◌, ◌⊎◌, ◌≤◌, Some, None, Ok, Err, IfOk, IfErr};
+ghost use Rattle.std.specs.Prelude.{MatchResult, OnOk, map, drop, string_bytes};
 ghost use Rattle.std.specs.Io.KnownBytes.{Appends};
 ghost use Rattle.console.specs.Streams.{AppendsSome};
 ghost use Rattle.medium.specs.Sim.{Sim};
@@ -11,7 +11,8 @@ ghost use Rattle.runner.specs.declared.refusal.Refusal.{Refusal};
 ghost use Rattle.runner.specs.OutcomeOfLives.{ArePlayed, AreRefused};
 ghost use Rattle.runner.specs.Status.{refusal_of_fault, status_of};
 ghost use Rattle.runner.specs.Task.{IsCommandLine};
-ghost use Rattle.runner.specs.Program.{HasDone, IsBack, IsFormat, IsFormatRefused, IsMigrated};
+ghost use Rattle.runner.specs.Program.{HasDone, HasNoWords, IsBack, IsFormat, IsFormatRefused};
+ghost use Rattle.runner.specs.Program.{IsMigrated};
 ghost use Rattle.runner.specs.Program.{IsMigration, IsMigrationRefused, IsNotMigrated};
 ghost use Rattle.runner.specs.Program.{IsRefusedFor, IsRun};
 ghost use Rattle.runner.specs.Program.{IsRunRefused, IsSim, IsSimRefused, migration_text};
@@ -24,11 +25,10 @@ use crate::script::run_script;
 use crate::sim::sim_script;
 use crate::task::{Task, read_words};
 use bot_machine::PacketSize;
-use console::{arguments, words_of, write_out};
+use console::{ArgumentFault, words_of, write_out};
 use journal::LogFormat;
 use medium::{FileMedium, Medium, SimMedium};
 use std::alloc::Global;
-use std::env::Env;
 use std::fs;
 use std::fs::{File, Files};
 use std::io::{Read, Write};
@@ -70,22 +70,24 @@ pub fn command<R: Files<File = File> + AllocGlobal, O: Write, E: Write>(
     }
 }
 
-/// Does what the program's arguments ask for, and gives the exit status.
-pub fn run_program<R: Env + Files<File = File> + AllocGlobal, O: Write, E: Write>(
+/// Does what the program's arguments ask for, and gives the exit status. Where they are not had, it
+/// tells that, and no file is touched.
+pub fn run_program<R: Files<File = File> + AllocGlobal, O: Write, E: Write>(
     rt: &R,
+    args: Result<Vec<String>, ArgumentFault>,
     out: &mut O,
     err: &mut E,
 ) -> Ended
     ensures statuses { result.status ≤ 5 }
-    ensures done { result.status ≡ 0 → ((args : List (List ℕ))
-        × HasDone (O.contents out.old) (O.contents out.new) result.medium (drop 1 args))
+    ensures done { result.status ≡ 0 → MatchResult args (λ all. HasDone (O.contents out.old)
+        (O.contents out.new) result.medium (drop 1 (map string_bytes all.items))) (λ fault. ⊥)
         × (err.new ≡ err.old) }
-    ensures refused { result.status ≢ 0 → (args : List (List ℕ)) × (refusal : Refusal)
-        × (result.status ≡ status_of refusal)
-        × IsRefusedFor (O.contents out.old) (O.contents out.new) result.medium (drop 1 args)
-        refusal }
+    ensures refused { result.status ≢ 0 → (refusal : Refusal) × (result.status ≡ status_of refusal)
+        × MatchResult args (λ all. IsRefusedFor (O.contents out.old) (O.contents out.new)
+        result.medium (drop 1 (map string_bytes all.items)) refusal) (λ fault. HasNoWords
+        (O.contents out.old) (O.contents out.new) result.medium fault refusal) }
 {
-    let args = match arguments(rt) {
+    let args = match args {
         Ok(args) => args,
         Err(fault) => return refuse(Refusal::from(fault), err),
     };

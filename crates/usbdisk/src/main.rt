@@ -2,9 +2,11 @@
 //! of an image file is what the runner gives back; here that is only let go of.
 #![tactic(auto)]
 
+use console::arguments;
 use std::process::ExitCode;
 
 fn main(rt: HostRuntime) -> ExitCode {
-    let ended = runner::run_program(&rt, &mut rt.stdout(), &mut rt.stderr());
+    let args = arguments(&rt);
+    let ended = runner::run_program(&rt, args, &mut rt.stdout(), &mut rt.stderr());
     ExitCode::from(ended.status)
 }
