@@ -1,14 +1,17 @@
 -- Which refusals the serving of an image file may have.
-use Rattle.std.proofs.Common.{◌≡◌, ◌≤◌, ℕ, List, refl, sym, ◌∙◌, ap, inl, inr, arith}
+use Rattle.std.proofs.Common.{◌≡◌, ◌⊎◌, ◌≤◌, ℕ, List, refl, sym, ◌∙◌, ap, inl, inr, arith}
 use Rattle.std.proofs.Common.{subst}
 use Rattle.std.specs.Prelude.{Option, Some, None, IfSome}
+use Rattle.std.specs.declared.io.ErrorKind.{ErrorKind}
+use Rattle.std.specs.declared.io.ErrorKind.TheVariants as causes
+use Rattle.medium.specs.declared.file_call.Access.TheVariants.{Change}
 use Rattle.mirror.specs.declared.call.DeviceCall.{DeviceCall}
 use Rattle.mirror.specs.declared.call.DeviceCall.TheVariants.{Write, Flush}
 use Rattle.device_file.specs.Outbox.{EndIn, kind_of}
 use Rattle.bot_machine.specs.StartFaults.{StartFault}
 use Rattle.bot_machine.specs.StartFaults as start
 use Rattle.device_file.specs.Asked.{Told}
-use Rattle.device_file.specs.FileValue.{FileValue, fresh}
+use Rattle.device_file.specs.FileValue.{FileValue, IsOpened}
 use Rattle.device_file.specs.declared.fault.FileCall.{FileCall}
 use Rattle.device_file.specs.declared.fault.FileCall.TheVariants as call
 use Rattle.device_file.specs.declared.fault.FileFault.{FileFault}
@@ -20,8 +23,9 @@ use Rattle.runner.specs.declared.player.ServeFault.{ServeFault}
 use Rattle.runner.specs.declared.player.ServeFault.TheVariants as serve
 use Rattle.live.specs.Missing.{DiskOn, medium_of}
 use Rattle.live.specs.Playing.{AnswersThrough, IsUnanswered}
-use Rattle.live.specs.Program.{IsUnopened, IsLiveRefusedFor, IsLiveStopped}
-use Rattle.live.specs.Status.{status_of, status_of_start, status_of_call, refusal_of_open, refusal_of_serving}
+use Rattle.images.specs.Status.{status_at, status_of_fault}
+use Rattle.live.specs.Program.{IsUnopened, IsUnasked, IsLiveRefusedFor, IsLiveStopped}
+use Rattle.live.specs.Status.{status_of, status_of_start, refusal_of_open, refusal_of_serving}
 use Rattle.live.specs.declared.refusal.Refusal.{Refusal}
 use Rattle.live.specs.declared.refusal.Refusal.TheVariants as refused
 
@@ -43,20 +47,23 @@ start_status start.BadHead = record { most = omega arith; some = λ is. omega (a
 start_status start.StampsUsedUp = record { most = omega arith; some = λ is. omega (arith, is); no_words = λ is. omega (arith, is) }
 start_status start.LogTooSmall = record { most = omega arith; some = λ is. omega (arith, is); no_words = λ is. omega (arith, is) }
 
-call_status : (kind : FileCall) → IsStatus (status_of_call kind)
-call_status call.Open = record { most = omega arith; some = λ is. omega (arith, is); no_words = λ is. omega (arith, is) }
-call_status call.Lock = record { most = omega arith; some = λ is. omega (arith, is); no_words = λ is. omega (arith, is) }
-call_status call.Length = record { most = omega arith; some = λ is. omega (arith, is); no_words = λ is. omega (arith, is) }
-call_status call.Read = record { most = omega arith; some = λ is. omega (arith, is); no_words = λ is. omega (arith, is) }
-call_status call.Write = record { most = omega arith; some = λ is. omega (arith, is); no_words = λ is. omega (arith, is) }
-call_status call.Sync = record { most = omega arith; some = λ is. omega (arith, is); no_words = λ is. omega (arith, is) }
+three_or_four : (kind : FileCall) (cause : ErrorKind) → (status_at kind cause ≡ 3) ⊎ (status_at kind cause ≡ 4)
+three_or_four call.Length causes.InvalidData = inl refl
+three_or_four _ _ = inr refl
+
+three_or_four_status : (n : ℕ) → (n ≡ 3) ⊎ (n ≡ 4) → IsStatus n
+three_or_four_status n (inl is) = rw is (record { most = omega arith; some = λ is. omega (arith, is); no_words = λ is. omega (arith, is) })
+three_or_four_status n (inr is) = rw is (record { most = omega arith; some = λ is. omega (arith, is); no_words = λ is. omega (arith, is) })
+
+file_status : (fault : FileFault) → IsStatus (status_of_fault fault)
+file_status fault = three_or_four_status _ (three_or_four fault.call fault.cause)
 
 -- a status is at most 5, and that of a refusal is never 0
 pub most_status : (refusal : Refusal) → status_of refusal ≤ 5
 most_status refused.Words = omega arith
 most_status (refused.Line number) = omega arith
 most_status (refused.Image fault) = (start_status fault).most
-most_status (refused.File fault) = (call_status fault.call).most
+most_status (refused.File fault) = (file_status fault).most
 most_status refused.Streams = omega arith
 most_status refused.Input = omega arith
 most_status refused.Output = omega arith
@@ -66,7 +73,7 @@ pub some_status : (refusal : Refusal) → status_of refusal ≡ 0 → ⊥
 some_status refused.Words is = omega (arith, is)
 some_status (refused.Line number) is = omega (arith, is)
 some_status (refused.Image fault) is = (start_status fault).some is
-some_status (refused.File fault) is = (call_status fault.call).some is
+some_status (refused.File fault) is = (file_status fault).some is
 some_status refused.Streams is = omega (arith, is)
 some_status refused.Input is = omega (arith, is)
 some_status refused.Output is = omega (arith, is)
@@ -76,7 +83,7 @@ status_of_words : (refusal : Refusal) → status_of refusal ≡ 2 → refusal �
 status_of_words refused.Words is = refl
 status_of_words (refused.Line number) is = absurd (omega (arith, is))
 status_of_words (refused.Image fault) is = absurd ((start_status fault).no_words is)
-status_of_words (refused.File fault) is = absurd ((call_status fault.call).no_words is)
+status_of_words (refused.File fault) is = absurd ((file_status fault).no_words is)
 status_of_words refused.Streams is = absurd (omega (arith, is))
 status_of_words refused.Input is = absurd (omega (arith, is))
 status_of_words refused.Output is = absurd (omega (arith, is))
@@ -97,11 +104,12 @@ unopened_not_words : (refusal : Refusal) → IsUnopened refusal → refusal ≡ 
 unopened_not_words refusal (inl is) words = cc
 unopened_not_words refusal (inr (fault, is)) words = cc
 
-module _ (was now left after : Option (List ℕ)) (back : Option FileValue) (words : List (List ℕ)) (refusal : Refusal) where
-  not_words : IsLiveRefusedFor was now left after back words refusal → refusal ≡ refused.Words → IsLiveLine words → ⊥
+module _ (device : List ℕ) (was now left after : Option (List ℕ)) (back : Option FileValue) (words : List (List ℕ))
+    (refusal : Refusal) where
+  not_words : IsLiveRefusedFor device was now left after back words refusal → refusal ≡ refused.Words → IsLiveLine words → ⊥
   not_words (inl (is, none, untouched)) same = none
   not_words (inr (image, size, are, inl (unopened, untouched))) same = absurd (unopened_not_words refusal unopened same)
-  not_words (inr (image, size, are, inr stopped)) same =
+  not_words (inr (image, size, are, inr (opened, is_opened, stopped))) same =
       elim stopped.refused [
         | inl (inl (inl (why, unopened, is), given), unread, kept) ↦ absurd (open_not_words why (sym is ∙ same))
         | inl (inl (inr is, given), unread, kept) ↦ cc
@@ -113,25 +121,26 @@ module _ (was now left after : Option (List ℕ)) (back : Option FileValue) (wor
       ]
 
   -- at status 2 the words are no command line, and where they are none the status is 2
-  pub no_line_at_two : IsLiveRefusedFor was now left after back words refusal → status_of refusal ≡ 2 → IsLiveLine words → ⊥
+  pub no_line_at_two : IsLiveRefusedFor device was now left after back words refusal → status_of refusal ≡ 2 → IsLiveLine words → ⊥
   no_line_at_two why two = not_words why (status_of_words refusal two)
 
-  pub two_without_line : IsLiveRefusedFor was now left after back words refusal → (IsLiveLine words → ⊥) → status_of refusal ≡ 2
+  pub two_without_line : IsLiveRefusedFor device was now left after back words refusal → (IsLiveLine words → ⊥) → status_of refusal ≡ 2
   two_without_line (inl (is, none, untouched)) never = ap status_of is
   two_without_line (inr (image, size, are, why)) never = absurd (never (image, size, are))
 
 -- ---- status 3
 
 -- the file refused the last of these calls that waited
-kind_not_three : (last : DeviceCall) → status_of_call (kind_of last) ≡ 3 → ⊥
-kind_not_three (Write w) is = omega (arith, is)
-kind_not_three Flush is = omega (arith, is)
+kind_not_three : (last : DeviceCall) (cause : ErrorKind) → status_at (kind_of last) cause ≡ 3 → ⊥
+kind_not_three (Write w) cause is = omega (arith, is)
+kind_not_three Flush cause is = omega (arith, is)
 
-waiting_not_three : (calls : List DeviceCall) (fault : FileFault) → EndIn calls fault.call → status_of_call fault.call ≡ 3 → ⊥
-waiting_not_three calls fault (before, last, parts, kind) is = kind_not_three last (sym (ap status_of_call kind) ∙ is)
+waiting_not_three : (calls : List DeviceCall) (fault : FileFault) → EndIn calls fault.call → status_of_fault fault ≡ 3 → ⊥
+waiting_not_three calls fault (before, last, parts, kind) is =
+    kind_not_three last fault.cause (sym (ap (λ (k : FileCall). status_at k fault.cause) kind) ∙ is)
 
 part_not_three : (calls : List DeviceCall) (why : Option FileFault) (fault : FileFault) → why ≡ Some fault
-    → IfSome why (λ fault. EndIn calls fault.call) → status_of_call fault.call ≡ 3 → ⊥
+    → IfSome why (λ fault. EndIn calls fault.call) → status_of_fault fault ≡ 3 → ⊥
 part_not_three calls why fault same named is =
     waiting_not_three calls fault (subst (λ (o : Option FileFault). IfSome o (λ fault. EndIn calls fault.call)) same named) is
 
@@ -152,14 +161,15 @@ serving_not_three told holds refuses most was now left after first last serve.Pl
     stops.gives_up.stops.1.plays.carried.named is
 
 abbrev Unasked : Option FileValue → Type 0
-Unasked back = IfSome back (λ file. file ≡ fresh file.size)
+Unasked back = IfSome back IsUnasked
 
-module _ (was now left after : Option (List ℕ)) (back : Option FileValue) where
-  stopped_unasked : (most : ℕ) (refusal : Refusal) → IsLiveStopped was now left after back most refusal → status_of refusal ≡ 3
-      → Unasked back
-  stopped_unasked most refusal stopped three =
-      let same : stopped.last ≡ stopped.opened → Unasked back
-      = λ same. subst Unasked (sym stopped.given) (subst (λ (f : FileValue). f ≡ fresh f.size) (sym same) stopped.unasked) in
+module _ (device : List ℕ) (was now left after : Option (List ℕ)) (back : Option FileValue) where
+  stopped_unasked : (image : List ℕ) (most : ℕ) (refusal : Refusal) → IsLiveStopped device was now left after back image most refusal
+      → status_of refusal ≡ 3 → Unasked back
+  stopped_unasked image most refusal (opened, is, stopped) three =
+      let same : stopped.last ≡ opened → Unasked back
+      = λ same. subst Unasked (sym stopped.given) (subst IsUnasked (sym same)
+      (subst (λ (path : List ℕ). IsOpened path Change opened) (sym is.path_is) is)) in
       elim stopped.refused [
         | inl (inl (none, given), unread, kept) ↦ same given
         | inl (inr on, unread, kept) ↦ elim on.refused [
@@ -173,8 +183,8 @@ module _ (was now left after : Option (List ℕ)) (back : Option FileValue) wher
       ]
 
   -- at status 3 the file was asked for nothing, where one was opened
-  pub three_unasked : (words : List (List ℕ)) (refusal : Refusal) → IsLiveRefusedFor was now left after back words refusal
+  pub three_unasked : (words : List (List ℕ)) (refusal : Refusal) → IsLiveRefusedFor device was now left after back words refusal
       → status_of refusal ≡ 3 → Unasked back
   three_unasked words refusal (inl (is, none, untouched)) three = subst Unasked (sym untouched.none) tt
   three_unasked words refusal (inr (image, size, are, inl (unopened, untouched))) three = subst Unasked (sym untouched.none) tt
-  three_unasked words refusal (inr (image, size, are, inr stopped)) three = stopped_unasked _ refusal stopped three
+  three_unasked words refusal (inr (image, size, are, inr stopped)) three = stopped_unasked image _ refusal stopped three

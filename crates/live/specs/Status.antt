@@ -4,11 +4,10 @@ use Rattle.bot_machine.specs.StartFaults.{StartFault}
 use Rattle.bot_machine.specs.StartFaults as start
 use Rattle.console.specs.declared.words.ArgumentFault.{ArgumentFault}
 use Rattle.console.specs.declared.words.ArgumentFault.TheVariants as argument
-use Rattle.device_file.specs.declared.fault.FileCall.{FileCall}
-use Rattle.device_file.specs.declared.fault.FileCall.TheVariants as call
 use Rattle.device_file.specs.declared.fault.FileFault.{FileFault}
 use Rattle.device_file.specs.declared.opening.OpenFault.{OpenFault}
 use Rattle.device_file.specs.declared.opening.OpenFault.TheVariants as opening
+use Rattle.images.specs.Status.{status_of_fault}
 use Rattle.runner.specs.declared.player.ServeFault.{ServeFault}
 use Rattle.runner.specs.declared.player.ServeFault.TheVariants as serve
 use Rattle.live.specs.declared.refusal.Refusal.{Refusal}
@@ -22,16 +21,12 @@ status_of_start start.Write = 4
 status_of_start start.Flush = 4
 status_of_start _ = 3
 
--- a file whose length is that of no image, or one that refuses another call
-abbrev pub status_of_call : FileCall → ℕ
-status_of_call call.Length = 3
-status_of_call _ = 4
-
+-- a file that refuses has the status that it has in `usbdisk_image`
 abbrev pub status_of : Refusal → ℕ
 status_of refused.Words = 2
 status_of (refused.Line number) = 1
 status_of (refused.Image fault) = status_of_start fault
-status_of (refused.File fault) = status_of_call fault.call
+status_of (refused.File fault) = status_of_fault fault
 status_of refused.Streams = 4
 status_of refused.Input = 4
 status_of refused.Output = 4

@@ -1,6 +1,7 @@
 //! How serving ended, and what it has left of its file.
 use crate::refusal::Refusal;
 use device_file::SystemFile;
+use medium::OpenedFile;
 use std::fs::File;
 
 /// How the program ended, and the file that it opened, exactly as it was left. Nothing is behind it
@@ -9,7 +10,7 @@ use std::fs::File;
 pub struct Ended {
     /// The exit status.
     pub status: u8,
-    pub file: Option<SystemFile<File>>,
+    pub file: Option<SystemFile<OpenedFile<File>>>,
 }
 
 /// Why an input was not served to its end, and the file as it was left.

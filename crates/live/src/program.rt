@@ -1,10 +1,10 @@
 //! The work of the program that serves an image file line by line.
-ghost use Rattle.std.specs.Prelude.{◌≡◌, ◌≢◌, List, ℕ, None, IfOk, IfErr, map, drop};
+ghost use Rattle.std.specs.Prelude.{◌≡◌, ◌≢◌, None, IfOk, IfErr, MatchResult};
+ghost use Rattle.std.specs.Prelude.{map, drop, string_bytes};
 ghost use Rattle.spec.specs.Packets.{bytes_of};
-ghost use Rattle.device_file.specs.FileValue.{fresh};
 ghost use Rattle.live.specs.declared.refusal.Refusal.{Refusal};
-ghost use Rattle.live.specs.Program.{HasDoneLive, IsLive, IsLiveRefusedFor, IsLiveStopped};
-ghost use Rattle.live.specs.Program.{IsLiveStatus, IsProgramRefused};
+ghost use Rattle.live.specs.Program.{HasDoneLive, HasNoWords, IsLiveOn, IsLiveRefusedFor};
+ghost use Rattle.live.specs.Program.{IsLiveStatus, IsProgramRefused, IsStoppedOn};
 ghost use Rattle.live.specs.Status.{status_of};
 ghost use Rattle.runner.specs.Live.{IsLiveLine};
 
@@ -12,44 +12,47 @@ use crate::ended::{Ended, Stopped};
 use crate::refusal::Refusal;
 use crate::serving::serve_file;
 use bot_machine::PacketSize;
-use console::{arguments, guard_streams, words_of};
+use console::{ArgumentFault, guard_streams, words_of};
 use device_file::SystemFile;
+use medium::{Access, OpenedFile};
 use runner::read_live_words;
 use std::alloc::Global;
-use std::env::Env;
 use std::fs::{File, Files};
 use std::io::{Read, Write};
 use window::DeviceHolds;
 
 /// The file of an image, where one was opened.
-type LeftFile = Option<SystemFile<File>>;
+type LeftFile = Option<SystemFile<OpenedFile<File>>>;
 
 /// Serves an image file, line by line of an input, and gives the exit status.
 ///
 /// The words are the image's, behind which `--packet 64` or `--packet 512` may stand: packets have
 /// at most that many bytes, 512 where nothing is told. A refusal names the image and the cause on
 /// `err`, and a line that is none of a script its number. At status 3, for a fault of the image,
-/// the file was asked for nothing.
+/// the file was asked for nothing. Behind the first sectors of the image the device holds what the
+/// caller says, whatever that is.
 pub fn live_command<R: Files<File = File> + AllocGlobal, I: Read, O: Write, E: Write>(
     rt: &R,
     words: &[&str],
+    device: &DeviceHolds,
     input: &mut I,
     out: &mut O,
     err: &mut E,
 ) -> Ended
     ensures statuses { IsLiveStatus result.status result.file }
-    ensures done { result.status ≡ 0 → HasDoneLive (O.contents out.old) (O.contents out.new)
-        (I.remaining input.old) (I.remaining input.new) result.file
+    ensures done { result.status ≡ 0 → HasDoneLive device.now.bytes (O.contents out.old)
+        (O.contents out.new) (I.remaining input.old) (I.remaining input.new) result.file
         (map (λ word. word.now) words.now) × (err.new ≡ err.old) }
     ensures words { result.status ≡ 2 → IsLiveLine (map (λ word. word.now) words.now) → ⊥ }
     ensures other_words { (IsLiveLine (map (λ word. word.now) words.now) → ⊥)
         → result.status ≡ 2 }
     ensures refused { result.status ≢ 0
         → (refusal : Refusal) × (result.status ≡ status_of refusal)
-        × IsLiveRefusedFor (O.contents out.old) (O.contents out.new) (I.remaining input.old)
-        (I.remaining input.new) result.file (map (λ word. word.now) words.now) refusal }
+        × IsLiveRefusedFor device.now.bytes (O.contents out.old) (O.contents out.new)
+        (I.remaining input.old) (I.remaining input.new) result.file
+        (map (λ word. word.now) words.now) refusal }
 {
-    match serve_image(rt, words, input, out) {
+    match serve_image(rt, words, device, input, out) {
         Ok(file) => Ended { status: 0, file },
         Err(stopped) => {
             report(stopped.refusal, words, err);
@@ -61,28 +64,34 @@ pub fn live_command<R: Files<File = File> + AllocGlobal, I: Read, O: Write, E: W
     }
 }
 
-/// Serves the image file that the program's arguments name, and gives the exit status.
-pub fn run_live<R: Env + Files<File = File> + AllocGlobal, I: Read, O: Write, E: Write>(
+/// Serves the image file that the program's arguments name, and gives the exit status. Where they
+/// are not had, it tells that, and no file is touched.
+pub fn run_live<R: Files<File = File> + AllocGlobal, I: Read, O: Write, E: Write>(
     rt: &R,
+    args: Result<Vec<String>, ArgumentFault>,
+    device: &DeviceHolds,
     input: &mut I,
     out: &mut O,
     err: &mut E,
 ) -> Ended
     ensures statuses { IsLiveStatus result.status result.file }
-    ensures done { result.status ≡ 0 → ((args : List (List ℕ))
-        × HasDoneLive (O.contents out.old) (O.contents out.new) (I.remaining input.old)
-        (I.remaining input.new) result.file (drop 1 args)) × (err.new ≡ err.old) }
+    ensures done { result.status ≡ 0 → MatchResult args (λ all. HasDoneLive device.now.bytes
+        (O.contents out.old) (O.contents out.new) (I.remaining input.old) (I.remaining input.new)
+        result.file (drop 1 (map string_bytes all.items))) (λ fault. ⊥) × (err.new ≡ err.old) }
     ensures refused { result.status ≢ 0
         → (refusal : Refusal) × (result.status ≡ status_of refusal)
-        × IsProgramRefused (O.contents out.old) (O.contents out.new) (I.remaining input.old)
-        (I.remaining input.new) result.file refusal }
+        × MatchResult args (λ all. IsProgramRefused device.now.bytes (O.contents out.old)
+        (O.contents out.new) (I.remaining input.old) (I.remaining input.new) result.file
+        (drop 1 (map string_bytes all.items)) refusal) (λ fault. HasNoWords (O.contents out.old)
+        (O.contents out.new) (I.remaining input.old) (I.remaining input.new) result.file fault
+        refusal) }
 {
-    let args = match arguments(rt) {
+    let args = match args {
         Ok(args) => args,
         Err(fault) => return refuse(Refusal::from(fault), err),
     };
     match words_of(rt.alloc(), args.as_slice()) {
-        Ok(words) => live_command(rt, words.as_slice(), input, out, err),
+        Ok(words) => live_command(rt, words.as_slice(), device, input, out, err),
         Err(_) => refuse(Refusal::NoMemory, err),
     }
 }
@@ -92,14 +101,16 @@ pub fn run_live<R: Env + Files<File = File> + AllocGlobal, I: Read, O: Write, E:
 fn serve_image<R: Files<File = File> + AllocGlobal, I: Read, O: Write>(
     rt: &R,
     words: &[&str],
+    device: &DeviceHolds,
     input: &mut I,
     out: &mut O,
 ) -> Result<LeftFile, Stopped<LeftFile>>
-    ensures done { IfOk result (λ back. HasDoneLive (O.contents out.old) (O.contents out.new)
-        (I.remaining input.old) (I.remaining input.new) back (map (λ word. word.now) words.now)) }
-    ensures refused { IfErr result (λ stopped. IsLiveRefusedFor (O.contents out.old)
-        (O.contents out.new) (I.remaining input.old) (I.remaining input.new) stopped.file
-        (map (λ word. word.now) words.now) stopped.refusal) }
+    ensures done { IfOk result (λ back. HasDoneLive device.now.bytes (O.contents out.old)
+        (O.contents out.new) (I.remaining input.old) (I.remaining input.new) back
+        (map (λ word. word.now) words.now)) }
+    ensures refused { IfErr result (λ stopped. IsLiveRefusedFor device.now.bytes
+        (O.contents out.old) (O.contents out.new) (I.remaining input.old) (I.remaining input.new)
+        stopped.file (map (λ word. word.now) words.now) stopped.refusal) }
 {
     let Some((image, size)) = read_live_words(words) else {
         return Err(stopped(Refusal::Words));
@@ -107,29 +118,29 @@ fn serve_image<R: Files<File = File> + AllocGlobal, I: Read, O: Write>(
     let Some(_streams) = guard_streams(rt) else {
         return Err(stopped(Refusal::Streams));
     };
-    match SystemFile::open(rt, image) {
-        Ok(file) => serve_opened(rt.alloc(), file, size, input, out),
+    match device_file::open(rt, image, Access::Change) {
+        Ok(file) => serve_opened(rt.alloc(), file, device, size, input, out),
         Err(fault) => Err(stopped(Refusal::File(fault))),
     }
 }
 
-// Serves a file that was just opened, which comes back.
+// Serves a file, which comes back.
 fn serve_opened<I: Read, O: Write>(
     alloc: Global,
-    file: SystemFile<File>,
+    file: SystemFile<OpenedFile<File>>,
+    device: &DeviceHolds,
     size: PacketSize,
     input: &mut I,
     out: &mut O,
 ) -> Result<LeftFile, Stopped<LeftFile>>
-    requires { file ≡ fresh file.size }
-    ensures done { IfOk result (λ back. IsLive (O.contents out.old) (O.contents out.new)
-        (I.remaining input.old) (I.remaining input.new) back (bytes_of size)) }
-    ensures refused { IfErr result (λ stopped. IsLiveStopped (O.contents out.old)
-        (O.contents out.new) (I.remaining input.old) (I.remaining input.new) stopped.file
+    ensures done { IfOk result (λ back. IsLiveOn device.now.bytes (O.contents out.old)
+        (O.contents out.new) (I.remaining input.old) (I.remaining input.new) back file
+        (bytes_of size)) }
+    ensures refused { IfErr result (λ stopped. IsStoppedOn device.now.bytes (O.contents out.old)
+        (O.contents out.new) (I.remaining input.old) (I.remaining input.new) stopped.file file
         (bytes_of size) stopped.refusal) }
 {
-    let device = DeviceHolds::any();
-    match serve_file(alloc, file, &device, size, input, out) {
+    match serve_file(alloc, file, device, size, input, out) {
         Ok(file) => Ok(Some(file)),
         Err(stopped) => Err(Stopped {
             refusal: stopped.refusal,

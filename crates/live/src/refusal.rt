@@ -1,10 +1,10 @@
 //! Why an image file was not served to the end of its input: the exit status, and the text.
 ghost use Rattle.std.specs.Prelude.{◌≡◌};
-ghost use Rattle.live.specs.Status.{status_of_call, status_of_start};
+ghost use Rattle.live.specs.Status.{status_of_start};
 
 use bot_machine::StartFault;
 use console::ArgumentFault;
-use device_file::{FileCall, FileFault};
+use device_file::FileFault;
 
 /// Why an image file was not served to the end of the input.
 #[derive(Clone, Copy, Debug, PartialEq, Eq)]
@@ -38,7 +38,7 @@ impl Refusal {
             Refusal::Words => 2,
             Refusal::Line(_) => 1,
             Refusal::Image(fault) => status_of_fault(fault),
-            Refusal::File(fault) => status_of_refused(fault.call),
+            Refusal::File(fault) => images::Refusal::File(fault).status(),
             Refusal::Streams => 4,
             Refusal::Input => 4,
             Refusal::Output => 4,
@@ -71,16 +71,6 @@ fn status_of_fault(fault: StartFault) -> u8
         StartFault::Write => 4,
         StartFault::Flush => 4,
         _ => 3,
-    }
-}
-
-// The status where the file refuses a call.
-fn status_of_refused(call: FileCall) -> u8
-    ensures { result ≡ status_of_call call }
-{
-    match call {
-        FileCall::Length => 3,
-        _ => 4,
     }
 }
 

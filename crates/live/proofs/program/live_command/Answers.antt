@@ -16,8 +16,8 @@ returns-in-Err-clause-statuses g c =
     let stopped = c.in-Err.stopped in
     record {
       most = rw c.status.ensures (most_status stopped.refusal);
-      unasked = λ three. three_unasked (contents c.args.out.now) (contents c.serve_image.new.out) (remaining c.args.input.now)
-          (remaining c.serve_image.new.input) stopped.file words stopped.refusal c.in-Err.ensures.refused
+      unasked = λ three. three_unasked c.args.device.now.bytes (contents c.args.out.now) (contents c.serve_image.new.out)
+          (remaining c.args.input.now) (remaining c.serve_image.new.input) stopped.file words stopped.refusal c.in-Err.ensures.refused
           (sym c.status.ensures ∙ three);
     }
 
@@ -30,7 +30,7 @@ returns-in-Err-clause-words g c two =
     let remaining = g.I.Read.remaining in
     let words = map (λ word. word.now) c.args.words.now in
     let stopped = c.in-Err.stopped in
-    no_line_at_two (contents c.args.out.now) (contents c.serve_image.new.out) (remaining c.args.input.now)
+    no_line_at_two c.args.device.now.bytes (contents c.args.out.now) (contents c.serve_image.new.out) (remaining c.args.input.now)
     (remaining c.serve_image.new.input) stopped.file words stopped.refusal c.in-Err.ensures.refused
     (sym c.status.ensures ∙ two)
 
@@ -41,5 +41,5 @@ returns-in-Err-clause-other_words g c never =
     let words = map (λ word. word.now) c.args.words.now in
     let stopped = c.in-Err.stopped in
     c.status.ensures
-    ∙ two_without_line (contents c.args.out.now) (contents c.serve_image.new.out) (remaining c.args.input.now)
+    ∙ two_without_line c.args.device.now.bytes (contents c.args.out.now) (contents c.serve_image.new.out) (remaining c.args.input.now)
     (remaining c.serve_image.new.input) stopped.file words stopped.refusal c.in-Err.ensures.refused never

@@ -1,4 +1,4 @@
-use Rattle.std.proofs.Common.{◌∙◌, ℕ, List, ap, subst, inl, inr, refl, map}
+use Rattle.std.proofs.Common.{◌∙◌, List, ℕ, ap, subst, inl, inr, refl, map, drop}
 use Rattle.std.proofs.KnownBytes.{Keeps-refl}
 use Rattle.std.specs.Prelude.{string_bytes}
 use Rattle.live.specs.Program.{HasDoneLive, IsLiveRefusedFor}
@@ -8,10 +8,17 @@ use Rattle.live.proofs.program.run_live.Goals as goal
 
 pub returns-clause-refused : goal.returns-clause-refused
 returns-clause-refused g c not =
-    let kept = Keeps-refl (g.O.Write.contents c.args.out.now) in (
+    let ended = c.refuse-in-Err-words_of.ensures in (
       refused.NoMemory,
-      ap (λ (ended : Ended). ended.status) c.refuse-in-Err-words_of.ensures,
-      inl (inr refl, record { none = ap (λ (ended : Ended). ended.file) c.refuse-in-Err-words_of.ensures; unread = refl; kept = kept }),
+      ap (λ (e : Ended). e.status) ended,
+      rw c.in-Ok.is (inl (record {
+        refused_is = refl;
+        untouched = record {
+          none = ap (λ (e : Ended). e.file) ended;
+          unread = refl;
+          kept = Keeps-refl (g.O.Write.contents c.args.out.now);
+        };
+      })),
     )
 
 pub returns-in-Ok-words_of-clause-done : goal.returns-in-Ok-words_of-clause-done
@@ -19,12 +26,12 @@ returns-in-Ok-words_of-clause-done g c zero =
     let contents = g.O.Write.contents in
     let remaining = g.I.Read.remaining in
     let so = c.live_command.ensures.done zero in
-    let same = ap (map (λ word. word.now)) c.as_slice-in-Ok-words_of.ensures.value ∙ c.in-Ok-words_of.ensures in (
-      (
-        map string_bytes c.as_slice.result.now,
-        subst (λ (words : List (List ℕ)). HasDoneLive (contents c.args.out.now) (contents c.live_command.new.out)
-            (remaining c.args.input.now) (remaining c.live_command.new.input) c.live_command.result.file words) same so.0,
-      ),
+    let same = ap (map (λ word. word.now)) c.as_slice-in-Ok-words_of.ensures.value
+    ∙ c.in-Ok-words_of.ensures
+    ∙ ap (λ all. drop 1 (map string_bytes all)) c.as_slice.ensures.value in
+    rw c.in-Ok.is (
+      subst (λ (words : List (List ℕ)). HasDoneLive c.args.device.now.bytes (contents c.args.out.now) (contents c.live_command.new.out)
+          (remaining c.args.input.now) (remaining c.live_command.new.input) c.live_command.result.file words) same so.0,
       so.1,
     )
 
@@ -33,12 +40,12 @@ returns-in-Ok-words_of-clause-refused g c not =
     let contents = g.O.Write.contents in
     let remaining = g.I.Read.remaining in
     let so = c.live_command.ensures.refused not in
-    let same = ap (map (λ word. word.now)) c.as_slice-in-Ok-words_of.ensures.value ∙ c.in-Ok-words_of.ensures in (
+    let same = ap (map (λ word. word.now)) c.as_slice-in-Ok-words_of.ensures.value
+    ∙ c.in-Ok-words_of.ensures
+    ∙ ap (λ all. drop 1 (map string_bytes all)) c.as_slice.ensures.value in (
       so.0,
       so.1,
-      inr (
-        map string_bytes c.as_slice.result.now,
-        subst (λ (words : List (List ℕ)). IsLiveRefusedFor (contents c.args.out.now) (contents c.live_command.new.out)
-            (remaining c.args.input.now) (remaining c.live_command.new.input) c.live_command.result.file words so.0) same so.2,
-      ),
+      rw c.in-Ok.is (inr (subst (λ (words : List (List ℕ)). IsLiveRefusedFor c.args.device.now.bytes (contents c.args.out.now)
+          (contents c.live_command.new.out) (remaining c.args.input.now) (remaining c.live_command.new.input)
+          c.live_command.result.file words so.0) same so.2)),
     )
