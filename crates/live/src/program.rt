@@ -1,7 +1,8 @@
 //! The work of the program that serves an image file line by line.
-ghost use Rattle.std.specs.Prelude.{◌≡◌, ◌≢◌, None, IfOk, IfErr, MatchResult};
+ghost use Rattle.std.specs.Prelude.{◌≡◌, ◌≢◌, ◌↔◌, None, IfOk, IfErr, MatchResult};
 ghost use Rattle.std.specs.Prelude.{map, drop, string_bytes};
 ghost use Rattle.spec.specs.Packets.{bytes_of};
+ghost use Rattle.images.specs.Opened.{AreCalls};
 ghost use Rattle.live.specs.declared.refusal.Refusal.{Refusal};
 ghost use Rattle.live.specs.Program.{HasDoneLive, HasNoWords, IsLiveOn, IsLiveRefusedFor};
 ghost use Rattle.live.specs.Program.{IsLiveStatus, IsProgramRefused, IsStoppedOn};
@@ -43,19 +44,22 @@ pub fn live_command<R: Files<File = File> + AllocGlobal, I: Read, O: Write, E: W
     ensures done { result.status ≡ 0 → HasDoneLive device.now.bytes (O.contents out.old)
         (O.contents out.new) (I.remaining input.old) (I.remaining input.new) result.file
         (map (λ word. word.now) words.now) × (err.new ≡ err.old) }
-    ensures words { result.status ≡ 2 → IsLiveLine (map (λ word. word.now) words.now) → ⊥ }
-    ensures other_words { (IsLiveLine (map (λ word. word.now) words.now) → ⊥)
-        → result.status ≡ 2 }
+    ensures words { (result.status ≡ 2) ↔ (IsLiveLine (map (λ word. word.now) words.now) → ⊥) }
     ensures refused { result.status ≢ 0
         → (refusal : Refusal) × (result.status ≡ status_of refusal)
         × IsLiveRefusedFor device.now.bytes (O.contents out.old) (O.contents out.new)
         (I.remaining input.old) (I.remaining input.new) result.file
         (map (λ word. word.now) words.now) refusal }
+    ensures calls { AreCalls result.file }
 {
     match serve_image(rt, words, device, input, out) {
-        Ok(file) => Ended { status: 0, file },
+        Ok(file) => {
+            foresee(&file);
+            Ended { status: 0, file }
+        }
         Err(stopped) => {
             report(stopped.refusal, words, err);
+            foresee(&stopped.file);
             Ended {
                 status: stopped.refusal.status(),
                 file: stopped.file,
@@ -85,6 +89,7 @@ pub fn run_live<R: Files<File = File> + AllocGlobal, I: Read, O: Write, E: Write
         (drop 1 (map string_bytes all.items)) refusal) (λ fault. HasNoWords (O.contents out.old)
         (O.contents out.new) (I.remaining input.old) (I.remaining input.new) result.file fault
         refusal) }
+    ensures calls { AreCalls result.file }
 {
     let args = match args {
         Ok(args) => args,
@@ -146,6 +151,15 @@ fn serve_opened<I: Read, O: Write>(
             refusal: stopped.refusal,
             file: Some(stopped.file),
         }),
+    }
+}
+
+// Does nothing. Its contract says by which calls of the system a file did what it was asked.
+fn foresee(left: &LeftFile)
+    ensures { AreCalls left.now }
+{
+    if let Some(file) = left {
+        file.foresee();
     }
 }
 

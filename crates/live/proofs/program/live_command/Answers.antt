@@ -2,8 +2,10 @@ use Rattle.std.proofs.Common.{◌∙◌, map, sym, arith}
 use Rattle.live.proofs.Refusals.{most_status, some_status, no_line_at_two, two_without_line, three_unasked}
 use Rattle.live.proofs.program.live_command.Goals as goal
 
-pub returns-in-Ok-clause-other_words : goal.returns-in-Ok-clause-other_words
-returns-in-Ok-clause-other_words g c never = let done = c.in-Ok.ensures.done in absurd (never (done.0, done.1, done.2))
+pub returns-in-Ok-clause-words : goal.returns-in-Ok-clause-words
+returns-in-Ok-clause-words g c =
+    let done = c.in-Ok.ensures.done in
+    (λ two. absurd (omega (arith, two)), λ never. absurd (never (done.0, done.1, done.2)))
 
 pub returns-in-Ok-clause-statuses : goal.returns-in-Ok-clause-statuses
 returns-in-Ok-clause-statuses g c = record { most = omega arith; unasked = λ three. absurd (omega (arith, three)) }
@@ -25,21 +27,16 @@ pub returns-in-Err-clause-done : goal.returns-in-Err-clause-done
 returns-in-Err-clause-done g c zero = absurd (some_status c.in-Err.stopped.refusal (sym c.status.ensures ∙ zero))
 
 pub returns-in-Err-clause-words : goal.returns-in-Err-clause-words
-returns-in-Err-clause-words g c two =
+returns-in-Err-clause-words g c =
     let contents = g.O.Write.contents in
     let remaining = g.I.Read.remaining in
     let words = map (λ word. word.now) c.args.words.now in
-    let stopped = c.in-Err.stopped in
-    no_line_at_two c.args.device.now.bytes (contents c.args.out.now) (contents c.serve_image.new.out) (remaining c.args.input.now)
-    (remaining c.serve_image.new.input) stopped.file words stopped.refusal c.in-Err.ensures.refused
-    (sym c.status.ensures ∙ two)
-
-pub returns-in-Err-clause-other_words : goal.returns-in-Err-clause-other_words
-returns-in-Err-clause-other_words g c never =
-    let contents = g.O.Write.contents in
-    let remaining = g.I.Read.remaining in
-    let words = map (λ word. word.now) c.args.words.now in
-    let stopped = c.in-Err.stopped in
-    c.status.ensures
-    ∙ two_without_line c.args.device.now.bytes (contents c.args.out.now) (contents c.serve_image.new.out) (remaining c.args.input.now)
-    (remaining c.serve_image.new.input) stopped.file words stopped.refusal c.in-Err.ensures.refused never
+    let stopped = c.in-Err.stopped in (
+      λ two. no_line_at_two c.args.device.now.bytes (contents c.args.out.now) (contents c.serve_image.new.out)
+          (remaining c.args.input.now) (remaining c.serve_image.new.input) stopped.file words stopped.refusal c.in-Err.ensures.refused
+          (sym c.status.ensures ∙ two),
+      λ never. c.status.ensures
+          ∙ two_without_line c.args.device.now.bytes (contents c.args.out.now) (contents c.serve_image.new.out)
+          (remaining c.args.input.now) (remaining c.serve_image.new.input) stopped.file words stopped.refusal c.in-Err.ensures.refused
+          never,
+    )
