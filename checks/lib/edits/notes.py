@@ -8,12 +8,19 @@ def note(edit, refused, searched, known):
     """Writes into an edit which goals its check does not have to try: those that were left open by its line, and of those that it leaves open now all
     but one. Where that one is searched, it is tried by an answer that asks for the search."""
     goals = [*refused, *searched]
-    tried = next((it for it in goals if it.startswith("returns")), "".join(goals[:1]))
+    tried = tried_of(edit, goals)
     untried = sorted({*known, *goals} - {tried})
     lines = [f"untried: {' '.join(untried)}"] if untried else []
     if twins.can_be_twin(edit) and (tried in searched or tried in edit.tried[:1]):
-        lines.append(f"tried: {' '.join(edit.tried or [tried, *answers.arguments_of(edit)])}")
+        words = edit.tried if tried in edit.tried[:1] else [tried, *answers.arguments_of(edit)]
+        lines.append(f"tried: {' '.join(words)}")
     write_notes(edit, ("untried:", "tried:"), lines)
+
+
+def tried_of(edit, goals):
+    """The goal that is tried of those that an edit leaves open: that of its line, or a clause of the function itself, or the first."""
+    wanted = [it for it in goals if it in edit.tried[:1]] + [it for it in goals if it.startswith("returns")]
+    return "".join([*wanted, *goals][:1])
 
 
 def write_notes(edit, marks, lines):

@@ -4,7 +4,7 @@ import tempfile
 import unittest
 
 from lib import sources
-from lib.edits import edit
+from lib.edits import edit, notes
 from lib.test import toy
 
 TRAIT = """pub trait Device<T> {
@@ -63,8 +63,8 @@ class Functions(unittest.TestCase):
         self.assertEqual([it.is_public for it in sources.functions_in("pub fn a() {\n}\npub(crate) fn b() {\n}\nfn c() {\n}\n")], [True, False, False])
 
 
-class Edits(unittest.TestCase):
-    """Which texts an edit changes, and whose body that is."""
+class OfToy(unittest.TestCase):
+    """Reads edits of the toy crate."""
 
     def setUp(self):
         self.room = tempfile.TemporaryDirectory()
@@ -76,6 +76,10 @@ class Edits(unittest.TestCase):
         with open(path, "w", encoding="utf-8") as file:
             file.write(text)
         return edit.read(self.crate, path)
+
+
+class Edits(OfToy):
+    """Which texts an edit changes, and whose body that is."""
 
     def test_a_body(self):
         found = self.read("file: src/lib.rt\nold: self.is_set = true\nnew: self.is_set = false\nuntried: a b\ntried: c g\n")
@@ -98,6 +102,27 @@ class Edits(unittest.TestCase):
         for text in ("", "file: src/lib.rt\nold: none\nnew: a\n", "file: src/lib.rt\nold: number\nnew: a\n", "file: ../a\nold: b\nnew: c\n"):
             self.assertTrue(self.read(text).why, text)
         self.assertEqual(self.read("file: src/lib.rt\nold: TWO: u32\nnew: TWO: u32\n").why, "it changes nothing")
+
+
+class Notes(OfToy):
+    """Which goals of an edit are left open."""
+
+    def noted(self, text, refused, searched):
+        found = self.read(f"file: src/lib.rt\nold: 5 }} else\nnew: 6 }} else\n{text}")
+        notes.note(found, refused, searched, found.untried)
+        return sources.text_of(found.path).split("\n", 3)[3]
+
+    def test_a_clause_of_the_function_itself_is_tried(self):
+        self.assertEqual(self.noted("", [], ["call", "returns-one", "left"]), "untried: call left\ntried: returns-one c\n")
+
+    def test_the_goal_of_its_line_stays(self):
+        self.assertEqual(self.noted("tried: left c d\n", [], ["returns", "left"]), "untried: returns\ntried: left c d\n")
+
+    def test_a_goal_that_is_gone_goes(self):
+        self.assertEqual(self.noted("tried: gone c d\n", [], ["returns", "left"]), "untried: left\ntried: returns c\n")
+
+    def test_an_answer_that_is_refused_needs_no_search(self):
+        self.assertEqual(self.noted("untried: left\n", ["returns"], []), "untried: left\n")
 
 
 if __name__ == "__main__":
