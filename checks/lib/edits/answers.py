@@ -47,11 +47,21 @@ def left_open(goals):
     return hole + [line for it in goals for line in (f"pub {it} : goal.{it}", f"{it} c = not_tried", "")]
 
 
+def answers_of(edit):
+    """The text of the answers of the edit's function."""
+    path = f"{edit.crate.folder}/{answers_path(edit.function)}"
+    return sources.text_of(path) if os.path.exists(path) else ""
+
+
+def goals_among(edit, names):
+    """Those of these names of answers that answer a goal. The others are lemmas, on which answers stand."""
+    answered = {*edit.tried[:1], *re.findall(r"^pub (\S+) : goal\.\1$", answers_of(edit), re.M)}
+    return [it for it in names if it in answered]
+
+
 def arguments_of(edit):
     """The arguments of an answer of the edit's function: those of one that it has, or else `g` too where the function is generic."""
-    path = f"{edit.crate.folder}/{answers_path(edit.function)}"
-    text = sources.text_of(path) if os.path.exists(path) else ""
-    found = re.search(r"^pub (\S+) : goal\.\1\n\1((?: \w+)+) =", text, re.M)
+    found = re.search(r"^pub (\S+) : goal\.\1\n\1((?: \w+)+) =", answers_of(edit), re.M)
     if found:
         return found[2].split()
     owner = edit.text.owner.line if edit.text.owner and edit.text.owner.kind == "impl" else ""

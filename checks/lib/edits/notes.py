@@ -7,7 +7,7 @@ from lib.edits import answers, twins
 def note(edit, refused, searched, known):
     """Writes into an edit which goals its check does not have to try: those that were left open by its line, and of those that it leaves open now all
     but one. Where that one is searched, it is tried by an answer that asks for the search."""
-    goals = [*refused, *searched]
+    goals = [*answers.goals_among(edit, refused), *searched]
     tried = tried_of(edit, goals)
     untried = sorted({*known, *goals} - {tried})
     lines = [f"untried: {' '.join(untried)}"] if untried else []

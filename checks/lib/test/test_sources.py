@@ -122,7 +122,13 @@ class Notes(OfToy):
         self.assertEqual(self.noted("tried: gone c d\n", [], ["returns", "left"]), "untried: left\ntried: returns c\n")
 
     def test_an_answer_that_is_refused_needs_no_search(self):
-        self.assertEqual(self.noted("untried: left\n", ["returns"], []), "untried: left\n")
+        text = "file: src/lib.rt\nold: { 2 } else\nnew: { 3 } else\n"
+        goal = "returns-then-number-eq1"
+        notes.note(self.read(text), [goal], ["left"], ())
+        self.assertEqual(sources.text_of(f"{self.crate.folder}/edits/tried.edit"), f"{text}untried: left\n")
+
+    def test_a_lemma_is_no_goal(self):
+        self.assertEqual(self.noted("", ["written"], ["returns", "left"]), "untried: left\ntried: returns c\n")
 
 
 if __name__ == "__main__":
