@@ -295,7 +295,7 @@ def it_refuses_by_name():
         run = subprocess.run([PROGRAM, *words], stderr=subprocess.PIPE, timeout=120, check=False)
         assert run.returncode == 2 and run.stderr.startswith(b"usbdisk-usbip IMAGE"), words
     for word, begin in (("--help", b"usbdisk-usbip IMAGE"), ("--version", b"usbdisk-usbip ")):
-        assert subprocess.run([PROGRAM, word], stdout=subprocess.PIPE, check=True).stdout.startswith(begin), word
+        assert subprocess.run([PROGRAM, word], stdout=subprocess.PIPE, timeout=120, check=True).stdout.startswith(begin), word
 
 
 def limit_writes(size):
