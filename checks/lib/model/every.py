@@ -1,6 +1,6 @@
-"""Every order: all interleavings of WRITEs, of batches and of calls that the rules allow, on a tiny store, breadth first, up to a number of WRITEs and
-of cuts. Each promise counts as told at the first moment at which it may be. Calls are of single sectors: a run in flight leaves what its single writes
-leave that are not flushed."""
+"""Every order: all interleavings of WRITEs, of batches and of calls that the rules allow, on a tiny store, breadth first, up to a number of WRITEs
+and of cuts. Each promise counts as told at the first moment at which it may be. Calls are of single sectors: a run in flight leaves what its single
+writes leave that are not flushed."""
 
 import collections
 import itertools
