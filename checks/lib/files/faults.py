@@ -5,7 +5,7 @@ it out."""
 from lib import exchanges
 from lib.files.disk import good
 from lib.programs import Ran, contents, copy, overwrite, write_file
-from lib.told import by_disk, by_live
+from lib.told import by_disk, by_file
 
 PLAIN = exchanges.request_sense() + exchanges.write_blocks(7, 2, 0xA5, is_forced=False)
 # A bad line in front of the write, and between it and a read.
@@ -39,7 +39,7 @@ def leave_faulty(disk):
         refused = by_disk(3, f"image refused: {number}")
         leaves = lambda wanted, words, **how: disk.leaves("faulty.img", "faulty.img", wanted, words, **how)
         for script in SCRIPTS:
-            leaves(by_live("new.img", cause), [disk.live, "new.img"], given=script)
+            leaves(by_file("new.img", cause), [disk.live, "new.img"], given=script)
         leaves(refused, [disk.disk, "run", "new.img", "plain.script"])
         leaves(refused, [disk.disk, "migrate", "new.img"])
         for script in ("first.bad", "middle.bad"):

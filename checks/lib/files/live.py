@@ -6,7 +6,7 @@ from lib import exchanges
 from lib.files.disk import good
 from lib.images.tool import are_longest, calls_of
 from lib.programs import AT_ONCE, Open, copy, part_of, write_file
-from lib.told import BAD_WORDS, by_live
+from lib.told import BAD_WORDS, by_file
 
 # The name of a large image, its blocks, and its format.
 LARGE = (("8GiB", 1 << 24, 1), ("8GiB", 1 << 24, 2), ("1TiB", 1 << 31, 1), ("1TiB", 1 << 31, 2))
@@ -114,7 +114,7 @@ def refuse_images(disk):
     write_file("odd.img", part_of("big.img", 0, 700))
     write_file("cut.img", part_of("big.img", 0, 69999616))
     for path, cause in REFUSED:
-        disk.ends([disk.live, path], by_live(path, cause), f"usbdisk_live {path}", given="all.script", seconds=AT_ONCE)
+        disk.ends([disk.live, path], by_file(path, cause), f"usbdisk_live {path}", given="all.script", seconds=AT_ONCE)
     os.remove("cut.img")
 
 
@@ -130,7 +130,7 @@ def refuse_write(disk):
     story.read(last, 0xB1)
     write_file("big.script", story.script)
     for text in (answered, b""):
-        wanted = by_live("big.img", "it was not written", text)
+        wanted = by_file("big.img", "it was not written", text)
         disk.ends([disk.live, "big.img"], wanted, "a write that the system refuses", given="big.script", blocks=100000)
     story = exchanges.Story()
     story.read(last, 0xB1)

@@ -4,7 +4,7 @@ import os
 
 from lib.files.disk import FIRST, SIZES, good
 from lib.programs import AT_ONCE, Open, Ran, contents, copy
-from lib.told import FILE_FAILED, NO_LENGTH, by_live
+from lib.told import FILE_FAILED, NO_LENGTH, by_file
 
 EVERY = (0, 1, 2)
 # A command, the image that it finds, what it writes, and what it leaves; the image that is left where no answer can be written; and where no line
@@ -27,7 +27,7 @@ def words_of(disk, command):
 def endings(disk, command, writes, unread):
     """How a command ends with each of the streams closed, and whether it leaves what it leaves else, what it leaves unanswered or unread."""
     whole = good(getattr(disk, writes))
-    failed = by_live("new.img", "an answer was not written") if command == "live" else FILE_FAILED
+    failed = by_file("new.img", "an answer was not written") if command == "live" else FILE_FAILED
     # (where standard error is closed too, nothing is told)
     dumb = good(b"") if unread else Ran(failed.status, b"", b"")
     return (
@@ -52,7 +52,7 @@ def close_streams(disk):
 def refuse_held(disk):
     """Each other program that would write to the image ends at once, and not a byte is changed. `sim` only reads, and takes no lock."""
     for command in ("format", "migrate", "run", "live"):
-        wanted = by_live("new.img", "another program has it locked") if command == "live" else FILE_FAILED
+        wanted = by_file("new.img", "another program has it locked") if command == "live" else FILE_FAILED
         disk.ends(words_of(disk, command), wanted, f"{command} on an image that another program holds", seconds=AT_ONCE)
         disk.same("before.img", "new.img", f"{command} on an image that another program holds: another image")
     name = "sim on an image that another program holds"

@@ -2,9 +2,8 @@
 
 import os
 
-from lib.images.tool import home
-from lib.programs import contents, copy, locked, overwrite, part_of, remove, write_file
-from lib.told import by_image
+from lib.programs import copy, locked, overwrite, part_of, write_file
+from lib.told import by_file
 
 ALL = ("show", "migrate", "export")
 NO_SECTORS, NO_IMAGE, NO_SIZES = "not an image: no whole sectors", "not an image", "the sizes in sector 0 do not fit the file"
@@ -131,7 +130,7 @@ def refuse_files(tool):
 
 def refuse_outputs(tool):
     """An output that takes nothing; a target that is larger than its system lets it be. (A migration changes its image all the same.)"""
-    wanted = by_image("small.raw", "the file system has no files of this length")
+    wanted = by_file("small.raw", "the file system has no files of this length")
     tool.ends([tool.image, "export", "trip.img", "small.raw"], wanted, "export: a target that is too large", blocks=100)
     for path, words in FULL:
         tool.refused(path, NO_ANSWER, *words.split(), out="/dev/full")

@@ -6,8 +6,8 @@ import shutil
 from lib import programs
 from lib.images.contents import BLOCKS
 from lib.images.tool import RECORDS, are_longest, calls_of
-from lib.programs import Ran, contents, copy, part_of, remove, write_file
-from lib.told import by_image
+from lib.programs import Ran, copy, part_of, remove, write_file
+from lib.told import by_file
 
 # What is asked of a new image of 9 blocks and one slot behind its opening, and of one of a plain file of 300 blocks.
 MADE = ["lock", "size 0", "size 31232", "sync", "write 512 512", "sync", "write 0 512", "sync"]
@@ -81,7 +81,7 @@ def read_as_nobody(tool):
     run = lambda *words: tool.run(programs.as_nobody(["./program", *words]))
     tool.expect(run("show", "trip.img").status == 0, "show by a user who may only read")
     tool.expect(run("export", "trip.img", "open/back.raw") == blocks, "export by a user who may only read")
-    wanted = by_image("trip.img", "opening it is not allowed")
+    wanted = by_file("trip.img", "opening it is not allowed")
     tool.expect(run("migrate", "trip.img") == wanted, "migrate by a user who may only read")
     os.chmod("trip.img", 0o644)
     return None

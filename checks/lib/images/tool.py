@@ -3,7 +3,7 @@
 import os
 
 from lib import exchanges, told
-from lib.programs import Ran, Trial, built, contents, copy, library
+from lib.programs import AT_ONCE, Ran, Trial, built, contents, copy, library
 
 # The least memory, in KiB, in which all but an export of many slots has to go.
 SMALL = 4096
@@ -23,8 +23,8 @@ class Tool(Trial):
         self.calls = library(f"{os.getcwd()}/calls.so", "calls.c")
 
     def refused(self, path, cause, *words, **how):
-        """The program ends with this cause on standard error, and writes nothing."""
-        self.ends([self.image, *words], told.by_file(path, cause), **how)
+        """The program ends at once with this cause on standard error, and writes nothing."""
+        self.ends([self.image, *words], told.by_file(path, cause), seconds=AT_ONCE, **how)
 
     def makes(self, path, blocks, slots, kind, *words):
         """The program makes an image, and says so."""
