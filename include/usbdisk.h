@@ -46,9 +46,9 @@
 extern "C" {
 #endif
 
-/* The version, 0.15.0: two bytes hold the first number, and one byte each of the others. The library
+/* The version, 0.16.0: two bytes hold the first number, and one byte each of the others. The library
  * tells its own. Where the two differ, header and library are not of one version. */
-#define USBDISK_VERSION 0x000F00u
+#define USBDISK_VERSION 0x001000u
 
 uint32_t usbdisk_version(void);
 

@@ -8,7 +8,7 @@ mod raw;
 use std::io;
 
 /// The version of usbdisk.h that this wrapper is written for.
-pub const VERSION: u32 = 0x000F00;
+pub const VERSION: u32 = 0x001000;
 
 const NEEDS: u32 = 3;
 
