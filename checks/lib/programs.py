@@ -198,8 +198,9 @@ class Open:
     def send(self, lines, answers, seconds):
         """Sends lines, and waits for so many answers, not longer than so many seconds."""
         until = time.monotonic() + seconds
-        self.program.stdin.write(lines)
-        self.program.stdin.flush()
+        with contextlib.suppress(BrokenPipeError):
+            self.program.stdin.write(lines)
+            self.program.stdin.flush()
         while contents("answers").count(b"\n") < answers and self.program.poll() is None and time.monotonic() < until:
             time.sleep(0.01)
         return contents("answers").count(b"\n") >= answers
