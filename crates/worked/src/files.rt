@@ -1,6 +1,7 @@
 //! Image files in the current folder, and files that refuse calls.
 use crate::answer::Answer;
 use crate::call::Call;
+use crate::devices::Devices;
 use crate::medium_calls;
 use crate::play::Player;
 use crate::stubborn::{Held, Refused, Shelf, Stubborn};
@@ -16,6 +17,7 @@ pub(crate) struct ImageFiles {
     rt: HostRuntime,
     file: Option<FileMedium<File>>,
     stubborn: Option<FileMedium<Stubborn>>,
+    devices: Devices,
     held: Option<Rc<Cell<Held>>>,
 }
 
@@ -26,6 +28,7 @@ enum Verb {
     Open,
     Close,
     Stubborn,
+    Device,
     Held,
     Asked,
     Exists,
@@ -36,11 +39,12 @@ enum Verb {
     OfMedium,
 }
 
-const VERBS: [(&str, Verb); 11] = [
+const VERBS: [(&str, Verb); 12] = [
     ("create", Verb::Create),
     ("open", Verb::Open),
     ("close", Verb::Close),
     ("stubborn", Verb::Stubborn),
+    ("device", Verb::Device),
     ("held", Verb::Held),
     ("asked", Verb::Asked),
     ("exists", Verb::Exists),
@@ -66,6 +70,7 @@ impl Player for ImageFiles {
             Verb::Open => self.open(call, answer),
             Verb::Close => self.file = None,
             Verb::Stubborn => self.take_stubborn(call, answer),
+            Verb::Device => self.play_device(call, answer),
             Verb::Held => self.tell_held(call, answer),
             Verb::Asked => self.tell_asked(answer),
             Verb::Exists => self.tell_exists(call, answer),
@@ -85,6 +90,7 @@ impl ImageFiles {
             rt,
             file: None,
             stubborn: None,
+            devices: Devices::new(rt.alloc()),
             held: None,
         }
     }
@@ -129,6 +135,29 @@ impl ImageFiles {
         self.held = held.clone().ok();
         let made = FileMedium::open(&(Shelf { refused, held }, self.rt.alloc()), "any");
         keep(made, &mut self.stubborn, answer);
+    }
+
+    // `device open REFUSED BYTE COUNT`, and the calls of the file of sectors that this opens.
+    fn play_device(&mut self, call: &Call, answer: &mut Answer) {
+        if call.word(1) != "open" {
+            return self.devices.play(call, answer);
+        }
+        let held = Held {
+            bytes: [call.byte(3); 1024],
+            length: call.size(4),
+            reads: 0,
+            syncs: 0,
+        };
+        match Rc::new(self.rt.alloc(), Cell::new(held)) {
+            Ok(held) => self.open_device(call, held, answer),
+            Err(_) => answer.no_memory(),
+        }
+    }
+
+    fn open_device(&mut self, call: &Call, held: Rc<Cell<Held>>, answer: &mut Answer) {
+        let refused = call.verb(2, &REFUSED, Refused::Nothing);
+        self.held = held.clone().ok();
+        self.devices.open(&Shelf { refused, held }, answer);
     }
 
     // `held SECTOR`: what that file holds there.

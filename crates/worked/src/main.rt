@@ -20,6 +20,7 @@ mod batch_difference;
 mod batches;
 mod call;
 mod commands;
+mod devices;
 mod difference;
 mod events;
 mod files;
