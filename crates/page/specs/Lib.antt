@@ -1,0 +1,5 @@
+pub mod Extents
+pub mod Books
+pub mod Scenes
+pub mod Scripts
+pub mod Roles

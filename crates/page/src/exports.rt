@@ -1,0 +1,171 @@
+//! The calls of the page.
+ghost use Rattle.std.specs.Prelude.{◌≡◌, ◌≤◌, ◌+◌, ◌*◌, [], IfSome};
+ghost use Rattle.medium.specs.Sim.{state_of};
+ghost use Rattle.journal.specs.Places.{Shape, slot_sectors_of};
+ghost use Rattle.recovery.specs.Calls.{IsFormatted};
+ghost use Rattle.page.specs.Scripts.{Begins, IsHead, IsReached};
+
+use crate::life::Life;
+use crate::looks::{look, sizes_of};
+use crate::picture::{append_waiting, numbers, plain_bytes, plain_numbers, served};
+use crate::plain::Plain;
+use crate::scene::{Played, Scene, start_on};
+use crate::script::{Head, code_of, head_of, play_all};
+use crate::step::{STEP, Step};
+use crate::watched::Watched;
+use recovery::make;
+use std::alloc::Global;
+
+/// The script is none.
+const NO_SCRIPT: u32 = 1;
+
+/// There is no memory.
+const NO_MEMORY: u32 = 2;
+
+/// There is too little room for the bytes.
+const LITTLE_ROOM: u32 = 3;
+
+#[unsafe(no_mangle)]
+pub extern "C" fn page_play(
+    alloc: Global,
+    script: &[u8],
+    told: &mut [u64; 16],
+    to: &mut [u8],
+) -> u32 {
+    let Some(head) = head_of(script) else {
+        return NO_SCRIPT;
+    };
+    match play(alloc, &head, script, told) {
+        Some(bytes) => hand_out(&bytes, to),
+        None => NO_MEMORY,
+    }
+}
+
+#[unsafe(no_mangle)]
+pub extern "C" fn page_plain(
+    alloc: Global,
+    script: &[u8],
+    told: &mut [u64; 16],
+    to: &mut [u8],
+) -> u32 {
+    let Some(head) = head_of(script) else {
+        return NO_SCRIPT;
+    };
+    match play_plain(alloc, &head, script, told) {
+        Some(bytes) => hand_out(&bytes, to),
+        None => NO_MEMORY,
+    }
+}
+
+#[unsafe(no_mangle)]
+pub extern "C" fn page_sector(
+    format: u32,
+    slots: u32,
+    blocks: u32,
+    sector: u64,
+    bytes: &[u8; 512],
+    words: &mut [u64; 8],
+) -> u32 {
+    let Some(sizes) = sizes_of(format, slots, blocks) else {
+        return 0;
+    };
+    let (role, said) = look(&sizes, sector, bytes);
+    *words = said;
+    role
+}
+
+// Plays a script on a new disk: what is there at its end.
+fn play(alloc: Global, head: &Head, script: &[u8], told: &mut [u64; 16]) -> Option<Vec<u8>>
+    requires { IsHead script.now head.now }
+{
+    let mut bytes = Vec::with_capacity(alloc, 0).ok()?;
+    let mut scene = reach(alloc, head, script, &mut bytes)?;
+    *told = numbers(&scene, &head.sizes);
+    let blocks = served(alloc, &mut scene, head.sizes.blocks as usize)?;
+    let medium = scene.place.medium();
+    bytes.extend_from_slice(&blocks).ok()?;
+    bytes.extend_from_slice(medium.durable()).ok()?;
+    if append_waiting(&mut bytes, medium.waiting()) {
+        Some(bytes)
+    } else {
+        None
+    }
+}
+
+// Plays a script on a disk without a log.
+fn play_plain(alloc: Global, head: &Head, script: &[u8], told: &mut [u64; 16]) -> Option<Vec<u8>>
+    requires { IsHead script.now head.now }
+{
+    let mut bytes = Vec::with_capacity(alloc, 0).ok()?;
+    let image = Vec::from_elem(alloc, 0u8, 512 * head.sizes.blocks as usize).ok()?;
+    let medium = Watched::new(alloc, image, 1024).ok()?;
+    let mut plain = Plain {
+        medium,
+        runs: true,
+        life: Life::new().next(),
+    };
+    for i in 1..script.len() / STEP {
+        let step = Step::decode(&script[STEP * i..STEP * i + STEP]);
+        bytes.push(code_of(&plain.play(&step))).ok()?;
+    }
+    *told = plain_numbers(&plain);
+    if plain_bytes(&mut bytes, &mut plain) {
+        Some(bytes)
+    } else {
+        None
+    }
+}
+
+// Bytes to the front of a room for them.
+fn hand_out(bytes: &[u8], to: &mut [u8]) -> u32 {
+    if to.len() < bytes.len() {
+        return LITTLE_ROOM;
+    }
+    to[..bytes.len()].copy_from_slice(bytes);
+    0
+}
+
+// Plays a script on a new disk, and appends how its steps went. `None` for want of memory.
+fn reach(alloc: Global, head: &Head, script: &[u8], answers: &mut Vec<u8>) -> Option<Scene>
+    requires { IsHead script.now head.now }
+    ensures { answers.old.items ≡ []
+        → IfSome result (IsReached head.now.sizes.blocks script.now answers.new.items) }
+{
+    match begin(alloc, head) {
+        Some(scene) => play_all(alloc, scene, script, answers),
+        None => None,
+    }
+}
+
+// A new medium, and a disk that has started on it. `None` for want of memory.
+fn begin(alloc: Global, head: &Head) -> Option<Scene>
+    requires slots { head.now.sizes.slots ≤ 4 }
+    requires blocks { head.now.sizes.blocks ≤ 32 }
+    requires home { head.now.sizes.home
+        ≡ 2 + slot_sectors_of head.now.sizes.format * head.now.sizes.slots }
+    ensures { IfSome result (Begins head.now.sizes.blocks) }
+{
+    let sizes = &head.sizes;
+    let sectors = sizes.sectors() as usize;
+    let bytes = Vec::from_elem(alloc, 0u8, 512 * sectors).ok()?;
+    let mut medium = Watched::new(alloc, bytes, sectors + 128).ok()?;
+    match make(&mut medium, sizes.format, sizes.blocks, sizes.slots) {
+        Ok(()) => start_first(alloc, medium, head.goes_ahead),
+        Err(_) => None,
+    }
+}
+
+// Starts a disk on a new image.
+fn start_first(alloc: Global, medium: Watched, goes_ahead: bool) -> Option<Scene>
+    ensures { (shape : Shape) → IsFormatted shape (state_of medium)
+        → IfSome result (Begins shape.blocks) }
+{
+    let Played {
+        scene,
+        result: went,
+    } = start_on(alloc, medium, Life::new(), goes_ahead);
+    match went {
+        Ok(()) => Some(scene),
+        Err(_) => None,
+    }
+}

@@ -1,0 +1,43 @@
+//! The numbers of a life.
+
+/// How many writes were accepted, and how many of them are promised; the same of the life before;
+/// and how many starts there were.
+#[derive(Clone, Copy)]
+pub(crate) struct Life {
+    pub(crate) accepted: u64,
+    pub(crate) promised: u64,
+    pub(crate) accepted_before: u64,
+    pub(crate) promised_before: u64,
+    pub(crate) starts: u64,
+}
+
+impl Life {
+    ghost use Rattle.std.specs.Prelude.{◌≡◌};
+
+    /// Before the first start.
+    pub(crate) fn new() -> Life {
+        Life {
+            accepted: 0,
+            promised: 0,
+            accepted_before: 0,
+            promised_before: 0,
+            starts: 0,
+        }
+    }
+
+    /// The life after a start.
+    pub(crate) fn next(self) -> Life
+        ensures accepted { result.accepted ≡ 0 }
+        ensures promised { result.promised ≡ 0 }
+        ensures accepted_before { result.accepted_before ≡ self.accepted }
+        ensures promised_before { result.promised_before ≡ self.promised }
+    {
+        Life {
+            accepted: 0,
+            promised: 0,
+            accepted_before: self.accepted,
+            promised_before: self.promised,
+            starts: self.starts.saturating_add(1),
+        }
+    }
+}
