@@ -6,7 +6,7 @@ import functools
 import re
 
 from lib import sources
-from lib.edits.edit import triples
+from lib.edits.edit import applied, triples
 
 
 @dataclasses.dataclass(frozen=True)
@@ -101,6 +101,13 @@ def edited():
             file = f"crates/{sources.crate_of(path)}/{file}"
             is_it = lambda line: old in line if kind == "old" else old.strip() == line.strip()
             yield from ((file, number) for number, line in enumerate(sources.lines_of(file)) if is_it(line))
+
+
+def without_place():
+    """The edits and controls that cannot be applied, with the reason. Where they are tried, each would be told only behind its crate's proof."""
+    edits = (it for it in sources.files_of_crates("", "edits", "must-fail") if it.endswith((".edit", ".control")))
+    found = ((it, applied(f"crates/{sources.crate_of(it)}", sources.text_of(it))[2]) for it in edits)
+    return [f"{path}: {why}" for path, why in found if why]
 
 
 def without_edit():
