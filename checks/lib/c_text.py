@@ -13,7 +13,7 @@ TOKEN = re.compile(r"\s+|(\"(?:\\.|[^\"\\])*\"|'(?:\\.|[^'\\])*'|\w+|->|[-+*/%&|
 CLOSES = {"(": ")", "[": "]", "{": "}"}
 # What a bracket stands behind that holds one expression.
 HEADS = {"if", "while", "switch", "return", "case", "for", "do", "else"}
-TYPES = set("auto char const double enum extern float int long register short signed static struct typedef union unsigned void volatile _Bool".split())
+TYPES = set("auto char const double enum extern float int long short signed static struct typedef union unsigned void volatile _Bool".split())
 
 
 @dataclasses.dataclass(frozen=True)

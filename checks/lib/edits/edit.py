@@ -83,8 +83,9 @@ def read(crate, path):
     functions = {it for it in functions if not any(it.startswith(own_proof(other) + "/") for other in functions)}
     found = [(function, span) for _, function, span in places if span]
     one = functions.pop() if len(functions) == 1 and found else None
-    spans = tuple(span for _, span in found)
-    return Edit(crate, path, texts, why, changes, one, found[0][0] if found else None, spans, words_behind("untried:", text), words_behind("tried:", text))
+    function, spans = found[0][0] if found else None, tuple(span for _, span in found)
+    notes = words_behind("untried:", text), words_behind("tried:", text)
+    return Edit(crate, path, texts, why, changes, one, function, spans, *notes)
 
 
 def words_behind(mark, text):

@@ -1,4 +1,4 @@
-"""Shuts the functions that no edit of a copy changes: each gets a body that does nothing and a hole for a proof, so that its contract alone is read."""
+"""Shuts the functions that no edit of a copy changes: each gets a body that does nothing and a hole for a proof, and its contract alone is read."""
 
 import os
 import re

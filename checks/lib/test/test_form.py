@@ -43,9 +43,11 @@ class OnTheFormat(unittest.TestCase):
     """Branches on the format of a log, however they are spelled."""
 
     def test_code(self):
-        for line in ("LogFormat::One => 1,", "if sizes.format != LogFormat::Two {", "if format.migrates() {", "format.flushes() == 1", "match version {"):
+        spelled = "LogFormat::One => 1,", "if sizes.format != LogFormat::Two {", "if format.migrates() {", "format.flushes() == 1", "match version {"
+        for line in spelled:
             self.assertIsNotNone(borders.BRANCHES.search(line), line)
-        for line in ('"1" => Some(LogFormat::One),', "make(m, LogFormat::One, blocks)", "LogFormat::Two => 2,", "match LogFormat::of_version(version) {"):
+        others = '"1" => Some(LogFormat::One),', "make(m, LogFormat::One, blocks)", "LogFormat::Two => 2,", "match LogFormat::of_version(version) {"
+        for line in others:
             self.assertIsNone(borders.BRANCHES.search(line), line)
 
     def test_equations(self):

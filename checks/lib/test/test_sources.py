@@ -60,7 +60,8 @@ class Functions(unittest.TestCase):
         self.assertEqual([(it.word, it.name) for it in self.stop.declared_clauses], [("requires", "open"), ("ensures", "ensures")])
 
     def test_only_what_all_may_call_is_public(self):
-        self.assertEqual([it.is_public for it in sources.functions_in("pub fn a() {\n}\npub(crate) fn b() {\n}\nfn c() {\n}\n")], [True, False, False])
+        found = sources.functions_in("pub fn a() {\n}\npub(crate) fn b() {\n}\nfn c() {\n}\n")
+        self.assertEqual([it.is_public for it in found], [True, False, False])
 
 
 class OfToy(unittest.TestCase):

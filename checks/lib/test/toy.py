@@ -1,4 +1,5 @@
-"""A small crate, edits of it, and what the prover has to be understood to say of them. `checks/tools --record` asks it, and the tests read what it said."""
+"""A small crate, edits of it, and what the prover has to be understood to say of them. `checks/tools --record` asks it, and the tests read what it
+said."""
 
 import dataclasses
 import os
@@ -79,9 +80,10 @@ pub returns-then-number-eq1 : goal.returns-then-number-eq1
 returns-then-number-eq1 c = search rules
 """
 ONE, MORE = "returns-then-number-eq1-clause-one", "returns-then-number-eq2-clause-more"
+CONTROL = "empty_is_less_than_one.control"
 EDITS = {
     "empty_is_one_byte.edit": "file: src/lib.rt\nold: bytes.len() == 0\nnew: bytes.len() == 1\n",
-    "empty_is_less_than_one.control": "file: src/lib.rt\nold: bytes.len() == 0\nnew: bytes.len() < 1\n",
+    CONTROL: "file: src/lib.rt\nold: bytes.len() == 0\nnew: bytes.len() < 1\n",
     "full_is_empty.edit": "file: src/lib.rt\nold: !is_empty(bytes)\nnew: is_empty(bytes)\n",
     "both.edit": "file: src/lib.rt\nold: bytes.len() == 0\nnew: bytes.len() == 1\nold: 5 } else\nnew: 6 } else\n",
     "one_is_three.edit": f"file: src/lib.rt\nline: return TWO;\nnew: return 3;\nuntried: {MORE}\ntried: {ONE} c\n",
@@ -119,9 +121,8 @@ class Question:
     weak: tuple = ()
 
 
-NO_CONTROL = "this control keeps the meaning, and its function is not reported as proved"
 QUESTIONS = (
-    Question("bodies", ("empty_is_one_byte.edit", "full_is_empty.edit", "sets_nothing.edit", "leaves_the_mark.edit", "empty_is_less_than_one.control")),
+    Question("bodies", ("empty_is_one_byte.edit", "full_is_empty.edit", "sets_nothing.edit", "leaves_the_mark.edit", CONTROL)),
     Question("tries", ("one_is_three.edit", "two_is_six.edit", "full_is_empty.edit")),
     Question("missed", ("others_are_seven.edit", "full_is_empty.edit"), wrong={"others_are_seven.edit": "NOT REFUSED"}),
     Question("wrong_notes", ("names_no_goal.edit", "leaves_all.edit", "sets_nothing.edit")),
