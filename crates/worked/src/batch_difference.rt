@@ -1,5 +1,4 @@
 //! What goes wrong with batches, and with a medium that remembers each moment.
-use crate::mismatch::Mismatch;
 use cache::BatchError;
 use medium::SimError;
 use std::alloc::AllocError;
@@ -8,8 +7,8 @@ use std::fmt;
 /// What is not as it should be, or why nothing could be played.
 #[derive(Drop)]
 pub(crate) enum Difference {
-    /// Another value than the worked one.
-    Value(Mismatch),
+    /// What has another value than the worked one.
+    Value(&'static str),
     /// No batch was made.
     Batch(BatchError),
     /// No medium was made.
@@ -21,17 +20,11 @@ pub(crate) enum Difference {
 impl fmt::Display for Difference {
     fn fmt<W: fmt::Write>(&self, f: &mut fmt::Formatter<W>) -> fmt::Result {
         match self {
-            Difference::Value(mismatch) => mismatch.fmt(f),
+            Difference::Value(what) => write!(f, "another value: {what}"),
             Difference::Batch(error) => error.fmt(f),
             Difference::Medium(error) => error.fmt(f),
             Difference::NoMemory(_) => f.write_str("out of memory"),
         }
-    }
-}
-
-impl From<Mismatch> for Difference {
-    fn from(mismatch: Mismatch) -> Difference {
-        Difference::Value(mismatch)
     }
 }
 

@@ -6,7 +6,7 @@ ghost use Rattle.medium.specs.Moments.{EachCut, SparesFrom};
 ghost use Rattle.medium.specs.Sim as sim;
 
 use crate::batch_difference::Difference;
-use crate::mismatch::{Mismatch, holds, same};
+use crate::compared::Compared;
 use crate::remembering::Remembering;
 use medium::{Medium, MediumFault, SimMedium};
 use std::alloc::Global;
@@ -54,17 +54,16 @@ fn put_twice(m: &mut Remembering, first: &[u8; 512], last: &[u8; 512]) -> Result
 /// A medium that remembers takes a sector twice.
 pub(crate) fn a_moment_between(alloc: Global) -> Result<(), Difference> {
     let mut m = Remembering::new(zeros(alloc, 2, 4)?);
-    Ok(play(&mut m)?)
+    play(&mut m)
 }
 
-fn play(m: &mut Remembering) -> Result<(), Mismatch> {
-    let sectors = m.sectors();
-    if sectors != 2 {
-        return holds("the count of sectors", false);
+fn play(m: &mut Remembering) -> Result<(), Difference> {
+    let mut values = Compared::new();
+    if m.sectors() == 2 {
+        let put = put_twice(m, &[1; 512], &[0; 512]);
+        values.same("a sector that is put twice", put, Ok(()));
+    } else {
+        values.holds("the count of sectors", false);
     }
-    same(
-        "a sector that is put twice",
-        put_twice(m, &[1; 512], &[0; 512]),
-        Ok(()),
-    )
+    values.told()
 }

@@ -1,6 +1,6 @@
 //! Blocks that come in any order, and are frozen in that of their numbers.
 use crate::batch_difference::Difference;
-use crate::mismatch::{Mismatch, holds, same};
+use crate::compared::Compared;
 use crate::put::{first_byte, put};
 use cache::{Batch, Frozen};
 use std::alloc::Global;
@@ -25,15 +25,21 @@ pub(crate) fn blocks_are_frozen_in_order(alloc: Global) -> Result<(), Difference
 }
 
 // Puts these blocks, each full of its number, and freezes them.
-fn freeze(order: &[u8; 8], batch: &mut Batch, frozen: &mut Frozen) -> Result<(), Mismatch> {
+fn freeze(order: &[u8; 8], batch: &mut Batch, frozen: &mut Frozen) -> Result<(), Difference> {
+    let mut values = Compared::new();
     for number in order {
-        put(batch, u64::from(*number), &[*number; 512])?;
+        put(batch, u64::from(*number), &[*number; 512], &mut values);
     }
     batch.freeze(frozen);
-    holds("whether the batch is empty then", batch.is_empty())?;
-    holds("whether frozen blocks are in order", are_in_order(frozen))?;
-    same("the last frozen block", first_byte(frozen.get(7)), Some(7))?;
-    holds("whether there is none behind it", frozen.get(8).is_none())
+    values.holds("whether the batch is empty then", batch.is_empty());
+    are_frozen(frozen, &mut values);
+    values.told()
+}
+
+fn are_frozen(frozen: &Frozen, values: &mut Compared) {
+    values.holds("whether frozen blocks are in order", are_in_order(frozen));
+    values.same("the last frozen block", first_byte(frozen.get(7)), Some(7));
+    values.holds("whether there is none behind it", frozen.get(8).is_none());
 }
 
 // Whether the blocks of a frozen batch are 0, 1, 2 and so on, each full of its number.

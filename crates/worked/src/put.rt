@@ -1,11 +1,11 @@
 //! Blocks that are put into a batch, and what is read of them.
 ghost use Rattle.std.specs.Prelude.{◌≡◌, ◌+◌, ◌/◌, ◌%◌, ◌^◌, ◌≤◌, length};
 
-use crate::mismatch::{Mismatch, holds};
+use crate::compared::Compared;
 use cache::Batch;
 
 /// Puts blocks, for which there has to be room.
-pub(crate) fn put(batch: &mut Batch, address: u64, bytes: &[u8]) -> Result<(), Mismatch>
+pub(crate) fn put(batch: &mut Batch, address: u64, bytes: &[u8], values: &mut Compared)
     requires some { 512 ≤ length bytes.now }
     requires whole { length bytes.now % 512 ≡ 0 }
     requires range { address + length bytes.now / 512 ≤ 2 ^ 31 }
@@ -14,7 +14,7 @@ pub(crate) fn put(batch: &mut Batch, address: u64, bytes: &[u8]) -> Result<(), M
     if fits {
         batch.put(address, bytes);
     }
-    holds("whether blocks fit that are to be put", fits)
+    values.holds("whether blocks fit that are to be put", fits);
 }
 
 /// The first byte of a block, where there is one.

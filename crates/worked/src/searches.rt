@@ -2,7 +2,7 @@
 ghost use Rattle.std.specs.Prelude.{◌≡◌, ◌+◌, ◌≤◌, [], length};
 
 use crate::batch_difference::Difference;
-use crate::mismatch::{Mismatch, holds, same};
+use crate::compared::Compared;
 use crate::put::put;
 use cache::{Batch, Steps};
 use std::alloc::Global;
@@ -26,57 +26,63 @@ fn search_among_none(batch: &Batch, block: u64, steps: &mut Steps) -> Result<usi
 /// A batch tells where each of 48 even numbers stands, and where each odd one would.
 pub(crate) fn halves_what_is_left(alloc: Global) -> Result<(), Difference> {
     let mut batch = Batch::new(alloc, 48)?;
-    find_none(&batch)?;
-    fill(&mut batch)?;
-    Ok(find_even_numbers(&batch)?)
+    search_all(&mut batch)
+}
+
+fn search_all(batch: &mut Batch) -> Result<(), Difference> {
+    let mut values = Compared::new();
+    find_none(batch, &mut values);
+    fill(batch, &mut values);
+    find_even_numbers(batch, &mut values);
+    values.told()
 }
 
 // Searches a new batch.
-fn find_none(batch: &Batch) -> Result<(), Mismatch> {
+fn find_none(batch: &Batch, values: &mut Compared) {
     let mut steps = Steps::new();
-    if !batch.is_empty() {
-        return holds("whether a new batch is empty", false);
+    if batch.is_empty() {
+        let found = search_among_none(batch, 1, &mut steps);
+        values.same("the search of a new batch", found, Err(0));
+    } else {
+        values.holds("whether a new batch is empty", false);
     }
-    let found = search_among_none(batch, 1, &mut steps);
-    same("the search of a new batch", found, Err(0))
 }
 
-fn fill(batch: &mut Batch) -> Result<(), Mismatch> {
+fn fill(batch: &mut Batch, values: &mut Compared) {
     for i in 0..48 {
-        put(batch, 2 * i, &[0; 512])?;
+        put(batch, 2 * i, &[0; 512], values);
     }
-    Ok(())
 }
 
-fn find_even_numbers(batch: &Batch) -> Result<(), Mismatch> {
+fn find_even_numbers(batch: &Batch, values: &mut Compared) {
     let mut steps = Steps::new();
-    if batch.len() != 48 {
-        return holds("the count of even numbers", false);
+    if batch.len() == 48 {
+        find_ends(batch, &mut steps, values);
+        find_each(batch, &mut steps, values);
+    } else {
+        values.holds("the count of even numbers", false);
     }
-    find_ends(batch, &mut steps)?;
-    find_each(batch, &mut steps)
 }
 
-fn find_ends(batch: &Batch, steps: &mut Steps) -> Result<(), Mismatch>
+fn find_ends(batch: &Batch, steps: &mut Steps, values: &mut Compared)
     requires { length batch.now.numbers ≡ 48 }
 {
     let last = search_among_48(batch, 94, steps);
     let behind = search_among_48(batch, 95, steps);
     let second = search_among_48(batch, 1, steps);
     let wanted = [Ok(47), Err(48), Err(1)];
-    same("the searches at both ends", [last, behind, second], wanted)
+    values.same("the searches at both ends", [last, behind, second], wanted);
 }
 
-fn find_each(batch: &Batch, steps: &mut Steps) -> Result<(), Mismatch>
+fn find_each(batch: &Batch, steps: &mut Steps, values: &mut Compared)
     requires { length batch.now.numbers ≡ 48 }
 {
     for place in 0..48usize {
         let number = 2 * place as u64;
         let found = [batch.search(number, steps), batch.search(number + 1, steps)];
         let wanted = [Ok(place), Err(place + 1)];
-        same("the searches of a number", found, wanted)?;
+        values.same("the searches of a number", found, wanted);
         let told = batch.number_at(place, steps);
-        same("the number that was searched", told, number)?;
+        values.same("the number that was searched", told, number);
     }
-    Ok(())
 }
