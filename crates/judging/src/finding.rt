@@ -31,23 +31,31 @@ pub enum Finding {
     NoMemory(AllocError),
 }
 
-impl fmt::Display for Finding {
-    fn fmt<W: fmt::Write>(&self, f: &mut fmt::Formatter<W>) -> fmt::Result {
-        let words = match *self {
-            Finding::Answer(place) => {
-                return write!(f, "the answer to event {place} is none of an abstract disk");
-            }
-            Finding::Off(place) => return write!(f, "the power went off in event {place}"),
-            Finding::Start(fault) => return write!(f, "a start was refused: {fault}"),
-            Finding::Medium(error) => return write!(f, "no image: {error}"),
-            Finding::NoFormat(fault) => return write!(f, "no format: {fault}"),
+impl Finding {
+    // The words of a finding that tells no more.
+    fn words(&self) -> &'static str {
+        match *self {
             Finding::Count => "another number of answers than of events",
             Finding::Blocks => "blocks that no beginning of the writes leaves",
             Finding::Packet => "a host with a packet that is too long",
             Finding::Identity => "no identity",
-            Finding::NoMemory(_) => "out of memory",
-        };
-        write!(f, "{words}")
+            _ => "out of memory",
+        }
+    }
+}
+
+impl fmt::Display for Finding {
+    fn fmt<W: fmt::Write>(&self, f: &mut fmt::Formatter<W>) -> fmt::Result {
+        match *self {
+            Finding::Answer(place) => {
+                write!(f, "the answer to event {place} is none of an abstract disk")
+            }
+            Finding::Off(place) => write!(f, "the power went off in event {place}"),
+            Finding::Start(fault) => write!(f, "a start was refused: {fault}"),
+            Finding::Medium(error) => write!(f, "no image: {error}"),
+            Finding::NoFormat(fault) => write!(f, "no format: {fault}"),
+            _ => f.write_str(self.words()),
+        }
     }
 }
 

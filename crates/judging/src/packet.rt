@@ -4,18 +4,13 @@ ghost use Rattle.std.specs.Prelude.{◌≡◌, IfSome};
 ghost use Rattle.judging.specs.Commands.{packet_out};
 
 use arrayvec::ArrayVec;
-use bot_machine::{Answer, Event};
+use bot_machine::Event;
 
 /// A packet to Bulk-Out. `None` where it has more than 512 bytes.
 pub(crate) fn to_device(bytes: &[u8]) -> Option<Event>
     ensures { IfSome result (λ event. event ≡ packet_out bytes.now) }
 {
     Some(Event::Out(ArrayVec::try_from(bytes).ok()?))
-}
-
-/// A packet of Bulk-In. `None` where it has more than 512 bytes.
-pub(crate) fn to_host(bytes: &[u8]) -> Option<Answer> {
-    Some(Answer::Data(ArrayVec::try_from(bytes).ok()?))
 }
 
 /// The command status wrapper with this tag of a command that passed and moved all that was

@@ -4,7 +4,7 @@ ghost use Rattle.judging.specs.Resting.{RestsUnfused};
 
 use crate::finding::Finding;
 use crate::host::Host;
-use crate::packet::{passed, power_on_sense, to_host};
+use crate::packet::{passed, power_on_sense};
 use crate::player::Player;
 use crate::playing::live;
 use abstract_disk::{Array, Block};
@@ -66,23 +66,18 @@ fn reading_life(alloc: Global, blocks: u32, limit: u32) -> Result<Life, Finding>
 fn blocks_in(alloc: Global, answers: &[Answer], blocks: u32, limit: u32) -> Result<Array, Finding>
     ensures { IfOk result (λ array. length array.blocks.items ≡ blocks) }
 {
-    let mut told = Told { answers, place: 0 };
-    told.ack()?;
-    told.data(&power_on_sense())?;
-    told.data(&passed(1))?;
     let mut array = Vec::new(alloc);
-    let mut tag: u32 = 1;
-    for address in (0..blocks).step_by(limit.max(1) as usize) {
-        told.ack()?;
-        told.blocks(count_at(address, blocks, limit)?, &mut array)?;
-        tag = tag.wrapping_add(1);
-        told.data(&passed(tag))?;
+    let mut told = Told {
+        answers,
+        place: 0,
+        found: None,
+    };
+    told.life(blocks, limit, &mut array);
+    match told.found {
+        Some(finding) => Err(finding),
+        None if array.len() != blocks as usize => Err(Finding::Blocks),
+        None => Ok(Array { blocks: array }),
     }
-    told.end()?;
-    if array.len() != blocks as usize {
-        return Err(Finding::Blocks);
-    }
-    Ok(Array { blocks: array })
 }
 
 // How many blocks the READ at this address reads.
@@ -91,62 +86,95 @@ fn count_at(address: u32, blocks: u32, limit: u32) -> Result<u16, Finding> {
     u16::try_from(count).map_err(|_| Finding::Packet)
 }
 
-// The answers to a life, and how many of them were looked at.
+// The answers to a life, how many of them were looked at, and what was found first.
 #[derive(Drop)]
 struct Told<'a> {
     answers: &'a [Answer],
     place: usize,
+    found: Option<Finding>,
 }
 
 impl<'a> Told<'a> {
+    // The answers to the whole life, whose blocks go to the end of these.
+    fn life(&mut self, blocks: u32, limit: u32, array: &mut Vec<Block>) {
+        self.ack();
+        self.data(&power_on_sense());
+        self.data(&passed(1));
+        let mut tag: u32 = 1;
+        for address in (0..blocks).step_by(limit.max(1) as usize) {
+            tag = tag.wrapping_add(1);
+            self.read(blocks.saturating_sub(address).min(limit.max(1)), tag, array);
+        }
+        if self.answers.len() != self.place {
+            self.find(Finding::Count);
+        }
+    }
+
+    // A READ with this tag of `count` blocks.
+    fn read(&mut self, count: u32, tag: u32, array: &mut Vec<Block>) {
+        self.ack();
+        for _ in 0..count {
+            self.block(array);
+        }
+        self.data(&passed(tag));
+    }
+
     // A packet of the host is taken.
-    fn ack(&mut self) -> Result<(), Finding> {
-        match self.next()? {
-            Answer::Ack => Ok(()),
-            _ => Err(self.wrong()),
+    fn ack(&mut self) {
+        if !matches!(self.next(), Some(Answer::Ack)) {
+            self.wrong();
         }
     }
 
     // A packet of these bytes.
-    fn data(&mut self, bytes: &[u8]) -> Result<(), Finding> {
-        let wanted = to_host(bytes).ok_or(Finding::Packet)?;
-        if *self.next()? == wanted {
-            Ok(())
-        } else {
-            Err(self.wrong())
+    fn data(&mut self, bytes: &[u8]) {
+        match self.next() {
+            Some(Answer::Data(packet)) if packet.as_slice() == bytes => {}
+            _ => self.wrong(),
         }
     }
 
-    // `count` blocks, which go to the end of these.
-    fn blocks(&mut self, count: u16, array: &mut Vec<Block>) -> Result<(), Finding> {
-        for _ in 0..count {
-            let Answer::Data(packet) = self.next()? else {
-                return Err(self.wrong());
-            };
-            let block = Block::try_from(packet.as_slice()).map_err(|_| self.wrong())?;
-            array.push(block).map_err(AllocError::from)?;
+    // A block.
+    fn block(&mut self, array: &mut Vec<Block>) {
+        match self.next() {
+            Some(Answer::Data(packet)) => self.put(packet.as_slice(), array),
+            _ => self.wrong(),
         }
-        Ok(())
     }
 
-    // No answer is left.
-    fn end(&self) -> Result<(), Finding> {
-        if self.answers.len() == self.place {
-            Ok(())
-        } else {
-            Err(Finding::Count)
+    // The bytes of a block go to the end of these.
+    fn put(&mut self, bytes: &[u8], array: &mut Vec<Block>) {
+        match Block::try_from(bytes) {
+            Ok(block) => {
+                if let Err(error) = array.push(block) {
+                    self.find(Finding::NoMemory(AllocError::from(error)));
+                }
+            }
+            Err(_) => self.wrong(),
         }
     }
 
     // The next answer.
-    fn next(&mut self) -> Result<&'a Answer, Finding> {
-        let answer = self.answers.get(self.place).ok_or(Finding::Count)?;
+    fn next(&mut self) -> Option<&'a Answer> {
+        let answer = self.answers.get(self.place);
         self.place = self.place.saturating_add(1);
-        Ok(answer)
+        answer
     }
 
-    // The answer that was looked at last is another one.
-    fn wrong(&self) -> Finding {
-        Finding::Answer(self.place.saturating_sub(1))
+    // The answer that was looked at last is another one, or none.
+    fn wrong(&mut self) {
+        let place = self.place.saturating_sub(1);
+        self.find(if place < self.answers.len() {
+            Finding::Answer(place)
+        } else {
+            Finding::Count
+        });
+    }
+
+    // Notes what was found first.
+    fn find(&mut self, finding: Finding) {
+        if self.found.is_none() {
+            self.found = Some(finding);
+        }
     }
 }
