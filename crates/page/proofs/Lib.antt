@@ -1,2 +1,1 @@
-mod Transfers
 mod Lives

@@ -1,12 +1,13 @@
 -- What steps leave of a life.
-use Rattle.std.proofs.Common.{◌≡◌, ℕ, ◌+◌, ◌-◌, ◌^◌, ◌≤◌, List, [], ◌∷◌, ◌++◌, length, min, true, refl, sym, subst, ap, ◌∙◌, arith, length-append, inl, inr, ⊎_elim, replicate, Ok, Err}
-use Rattle.medium.specs.Medium.{State, Image, CutLeaves}
-use Rattle.medium.specs.Moments.{EachCut, IsFlushed}
+use Rattle.std.proofs.Common.{◌≡◌, ℕ, ◌+◌, ◌-◌, ◌^◌, List, [], ◌∷◌, ◌++◌, length, min, true, refl, sym, subst, ap, arith, length-append}
+use Rattle.std.proofs.Common.{inl, inr, ⊎_elim, replicate, Ok, Err}
+use Rattle.medium.specs.Medium.{Image, CutLeaves}
+use Rattle.medium.specs.Moments.{IsFlushed}
 use Rattle.medium.specs.Sim.{Sim, state_of}
 use Rattle.medium.specs.SimLaws.{is_sound}
 use Rattle.medium.proofs.Moments.{only_image}
 use Rattle.spec.specs.Blocks.{Write}
-use Rattle.spec.specs.Book.{Book, after_first, opened, with_write}
+use Rattle.spec.specs.Book.{Book, after_first, opened}
 use Rattle.blocks.specs.Finding.{MayFind}
 use Rattle.blocks.specs.Opening.{OpensOn}
 use Rattle.blocks.specs.Started.{LeavesMedium}

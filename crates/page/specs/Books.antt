@@ -32,7 +32,8 @@ Carries command result old new = MatchResult result (λ _. new ≡ after_good co
 
 -- the power went off in a command: it was carried out or not
 abbrev pub MayCarry : Command → Book → Book → Type 0
-MayCarry command old new = (new ≡ old) ⊎ (new ≡ after_half command old) ⊎ (new ≡ after_good command old)
+MayCarry command old new =
+    (new ≡ old) ⊎ (new ≡ after_half command old) ⊎ (new ≡ after_good command old)
 
 -- A start finds the first writes of a book, none in part: the promised ones at least. With them the
 -- next book opens.

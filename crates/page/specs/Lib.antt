@@ -1,5 +1,6 @@
 pub mod Extents
 pub mod Books
+pub mod Cuts
 pub mod Scenes
 pub mod Scripts
 pub mod Roles

@@ -1,5 +1,5 @@
 -- What the sectors of an image are.
-use Rattle.std.specs.Prelude.{ℕ, ◌+◌, ◌-◌, ◌/◌, ◌%◌, ◌==◌, if◌then◌else◌, nat_lt}
+use Rattle.std.specs.Prelude.{ℕ, ◌-◌, ◌/◌, ◌%◌, ◌==◌, if◌then◌else◌, nat_lt}
 use Rattle.journal.specs.Places.{Shape, first_home, sectors_of, slot_sectors_of}
 use Rattle.page.specs.declared.sectors.Role.{Role}
 use Rattle.page.specs.declared.sectors.Role.TheVariants.{None, Super, Head, Log, Home}

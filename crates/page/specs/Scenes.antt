@@ -1,5 +1,5 @@
 -- What a scene holds.
-use Rattle.std.specs.Prelude.{◌≡◌, ◌-◌, ◌^◌, ℕ, true, [], min, length}
+use Rattle.std.specs.Prelude.{◌≡◌, ◌-◌, ◌^◌, true, [], min, length}
 use Rattle.medium.specs.Moments.{EachCut, IsFlushed}
 use Rattle.medium.specs.Sim.{Sim, state_of}
 use Rattle.spec.specs.Book.{Book}

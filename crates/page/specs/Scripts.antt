@@ -1,5 +1,6 @@
 -- Scripts as bytes, and what they make of a disk.
-use Rattle.std.specs.Prelude.{◌≡◌, ℕ, ◌+◌, ◌*◌, ◌-◌, ◌/◌, ◌==◌, zero, suc, true, List, [], ◌∷◌, ◌++◌, drop, slice_index, length, ◌≤◌}
+use Rattle.std.specs.Prelude.{◌≡◌, ℕ, ◌+◌, ◌*◌, ◌-◌, ◌/◌, ◌==◌, zero, suc, true, List}
+use Rattle.std.specs.Prelude.{[], ◌∷◌, ◌++◌, drop, slice_index, length, ◌≤◌}
 use Rattle.std.specs.Prelude.{slice_range, replicate, if◌then◌else◌, Ok, Err}
 use Rattle.byteorder.specs.Endian.{little_number}
 use Rattle.spec.specs.Book.{Book, opened}

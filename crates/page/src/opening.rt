@@ -19,8 +19,8 @@ pub(crate) fn open(
     medium: Watched,
     goes_ahead: bool,
 ) -> Result<Store<Watched>, Watched>
-    ensures { (book : Book) → LeavesBook medium book → book.ours ≡ true → IsFlushed (state_of medium)
-        → MatchResult result (Finds book) (IsLeft book) }
+    ensures { (book : Book) → LeavesBook medium book → book.ours ≡ true
+        → IsFlushed (state_of medium) → MatchResult result (Finds book) (IsLeft book) }
 {
     if goes_ahead {
         open_ahead(alloc, medium)
@@ -30,8 +30,8 @@ pub(crate) fn open(
 }
 
 fn open_late(alloc: Global, medium: Watched) -> Result<Store<Watched>, Watched>
-    ensures { (book : Book) → LeavesBook medium book → book.ours ≡ true → IsFlushed (state_of medium)
-        → MatchResult result (Finds book) (IsLeft book) }
+    ensures { (book : Book) → LeavesBook medium book → book.ours ≡ true
+        → IsFlushed (state_of medium) → MatchResult result (Finds book) (IsLeft book) }
 {
     match Store::start(alloc, medium) {
         Ok(store) => Ok(store),
@@ -40,8 +40,8 @@ fn open_late(alloc: Global, medium: Watched) -> Result<Store<Watched>, Watched>
 }
 
 fn open_ahead(alloc: Global, medium: Watched) -> Result<Store<Watched>, Watched>
-    ensures { (book : Book) → LeavesBook medium book → book.ours ≡ true → IsFlushed (state_of medium)
-        → MatchResult result (Finds book) (IsLeft book) }
+    ensures { (book : Book) → LeavesBook medium book → book.ours ≡ true
+        → IsFlushed (state_of medium) → MatchResult result (Finds book) (IsLeft book) }
 {
     match Store::start_ahead(alloc, medium) {
         Ok(store) => Ok(store),

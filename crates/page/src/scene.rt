@@ -189,8 +189,8 @@ fn fused(place: Place, writes: u64) -> Place
 
 /// Starts a disk on a medium of which nothing is unflushed.
 pub(crate) fn start_on(alloc: Global, medium: Watched, life: Life, goes_ahead: bool) -> Played
-    ensures { (book : Book) → LeavesBook medium book → book.ours ≡ true → IsFlushed (state_of medium)
-        → Started result.result book result.scene }
+    ensures { (book : Book) → LeavesBook medium book → book.ours ≡ true
+        → IsFlushed (state_of medium) → Started result.result book result.scene }
 {
     let life = life.next();
     match open(alloc, medium, goes_ahead) {

@@ -49,10 +49,7 @@ pub(crate) enum Part {
 
 /// What the sector of a slot with this number in it is.
 pub(crate) fn part_of(format: LogFormat, number: u64) -> Part {
-    let first = match format {
-        LogFormat::One => 1,
-        LogFormat::Two => 8,
-    };
+    let first = if format.lacks_firsts() { 8 } else { 1 };
     if number < first {
         return Part::Descriptor(number);
     }
@@ -79,15 +76,15 @@ pub(crate) fn words_of_head(sector: &[u8; 512]) -> [u64; 8] {
 
 /// The stamp of a descriptor, how many blocks it names, and the first three of them.
 pub(crate) fn words_of_descriptor(format: LogFormat, sector: &[u8; 512]) -> [u64; 8] {
-    match format {
-        LogFormat::One => match Descriptor::decode(sector) {
-            Some(it) => named(it.stamp, it.numbers.len() as u64, &it.numbers),
-            None => [0; 8],
-        },
-        LogFormat::Two => match Descriptor2::decode(sector) {
+    if format.lacks_firsts() {
+        return match Descriptor2::decode(sector) {
             Some(it) => named(it.stamp, it.count, &it.numbers),
             None => [0; 8],
-        },
+        };
+    }
+    match Descriptor::decode(sector) {
+        Some(it) => named(it.stamp, it.numbers.len() as u64, &it.numbers),
+        None => [0; 8],
     }
 }
 
@@ -103,22 +100,24 @@ fn named(stamp: u64, count: u64, numbers: &[u64]) -> [u64; 8] {
 
 /// The stamp of a commit, and how many blocks its record has.
 pub(crate) fn words_of_commit(format: LogFormat, sector: &[u8; 512]) -> [u64; 8] {
-    match format {
-        LogFormat::One => match Commit::decode(sector) {
+    if format.lacks_firsts() {
+        return match Commit2::decode(sector) {
             Some(it) => [0, 0, 1, it.stamp, it.count, 0, 0, 0],
             None => [0; 8],
-        },
-        LogFormat::Two => match Commit2::decode(sector) {
-            Some(it) => [0, 0, 1, it.stamp, it.count, 0, 0, 0],
-            None => [0; 8],
-        },
+        };
+    }
+    match Commit::decode(sector) {
+        Some(it) => [0, 0, 1, it.stamp, it.count, 0, 0, 0],
+        None => [0; 8],
     }
 }
 
 /// In format 2, the stamp in the first 8 bytes of a data place.
 pub(crate) fn words_of_data(format: LogFormat, sector: &[u8; 512]) -> [u64; 8] {
-    match format {
-        LogFormat::One => [0, 0, 1, 0, 0, 0, 0, 0],
-        LogFormat::Two => [0, 0, 1, LittleEndian::read_u64(&sector[..8]), 0, 0, 0, 0],
-    }
+    let stamp = if format.lacks_firsts() {
+        LittleEndian::read_u64(sector)
+    } else {
+        0
+    };
+    [0, 0, 1, stamp, 0, 0, 0, 0]
 }

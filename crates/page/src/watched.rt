@@ -1,10 +1,8 @@
 //! A medium in memory whose unflushed writes can be seen.
-ghost use Rattle.std.specs.Prelude.{◌≡◌, ◌≢◌, ◌⊎◌, ◌<◌, ◌+◌, ◌∷◌, ◌++◌, [], IfOk, OnOk, OnErr, true, is_ok, length};
-ghost use Rattle.medium.specs.Medium.{CutLeaves};
-ghost use Rattle.medium.specs.Moments.{IsFlushed};
+ghost use Rattle.std.specs.Prelude.{◌≡◌, [], IfOk};
 ghost use Rattle.medium.specs.Power.{powered};
 ghost use Rattle.medium.specs.Tally.{none};
-ghost use Rattle.medium.specs.Sim.{state_of, fits, IsCut};
+ghost use Rattle.page.specs.Cuts.{Settles};
 ghost use Rattle.medium.specs.Writes.{keeps};
 
 use medium::{Kept, Medium, MediumFault, SimError, SimMedium, Switch};
@@ -73,10 +71,7 @@ impl Watched {
 
     /// Cuts the power as `SimMedium::cut` does.
     pub(crate) fn cut(&mut self, kept: &Kept)
-        ensures cut { IsCut (keeps kept.now) self.old self.new }
-        ensures allowed { CutLeaves (state_of self.old).may_leave (state_of self.new).content }
-        ensures flushed { IsFlushed (state_of self.new) }
-        ensures size { (state_of self.new).size ≡ (state_of self.old).size }
+        ensures { Settles (keeps kept.now) self.old self.new }
     {
         self.sim.cut(kept);
         self.waiting.clear();

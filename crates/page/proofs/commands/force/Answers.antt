@@ -1,4 +1,4 @@
-use Rattle.std.proofs.Common.{refl, sym, subst, ap, ◌∙◌, inl, inr, ⊎_elim}
+use Rattle.std.proofs.Common.{inl, ⊎_elim}
 use Rattle.page.proofs.commands.force.Goals as goal
 
 pub returns-in-Ok : goal.returns-in-Ok

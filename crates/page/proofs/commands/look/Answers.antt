@@ -1,4 +1,4 @@
-use Rattle.std.proofs.Common.{refl, sym, subst, ap, ◌∙◌, inl, inr, ⊎_elim}
+use Rattle.std.proofs.Common.{refl, inl}
 use Rattle.page.proofs.commands.look.Goals as goal
 
 pub returns-in-Ok : goal.returns-in-Ok

@@ -1,4 +1,4 @@
-use Rattle.std.proofs.Common.{refl, sym, subst, ap, ◌∙◌, inl, inr, ⊎_elim}
+use Rattle.std.proofs.Common.{inr, ⊎_elim}
 use Rattle.spec.specs.Book.{with_write}
 use Rattle.page.specs.Extents.{filled}
 use Rattle.page.proofs.commands.promise.Goals as goal

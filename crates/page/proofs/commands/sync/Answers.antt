@@ -1,5 +1,5 @@
-use Rattle.std.proofs.Common.{◌≡◌, refl, sym, subst, ap, ◌∙◌, inl, inr, ⊎_elim, true, arith, ℕ}
-use Rattle.spec.specs.Book.{Book, promised}
+use Rattle.std.proofs.Common.{refl, inl}
+use Rattle.spec.specs.Book.{promised}
 use Rattle.page.proofs.commands.sync.Goals as goal
 
 pub returns-in-Ok : goal.returns-in-Ok

@@ -1,5 +1,5 @@
-use Rattle.std.proofs.Common.{◌≡◌, refl, sym, subst, ap, ◌∙◌, inl, inr, ⊎_elim, true, arith, ℕ}
-use Rattle.spec.specs.Book.{Book, with_write}
+use Rattle.std.proofs.Common.{refl, inl}
+use Rattle.spec.specs.Book.{with_write}
 use Rattle.page.proofs.Lives.{counts_one}
 use Rattle.page.specs.Extents.{filled}
 use Rattle.page.proofs.commands.take.Goals as goal

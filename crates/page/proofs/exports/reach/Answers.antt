@@ -1,6 +1,6 @@
 use Rattle.std.proofs.Common.{ℕ, List, ◌-◌, ◌/◌, length, Option, Some, None, IfSome, subst}
-use Rattle.page.specs.Books.{Phase, Opens, Standing, runs}
-use Rattle.page.specs.Scripts.{Begins, HasReached, IsReached, formatted}
+use Rattle.page.specs.Books.{Phase, runs}
+use Rattle.page.specs.Scripts.{Begins, HasReached, IsReached}
 use Rattle.page.specs.declared.scene.Scene.{Scene}
 use Rattle.page.proofs.exports.reach.Goals as goal
 

@@ -1,4 +1,4 @@
-use Rattle.std.proofs.Common.{◌≡◌, refl, sym, subst, ap, ◌∙◌, inl, inr, ⊎_elim, true, arith, ℕ}
+use Rattle.std.proofs.Common.{refl}
 use Rattle.medium.specs.Sim.{ComesAfter}
 use Rattle.page.proofs.Lives.{next_book, opens_next, on_next, refused}
 use Rattle.page.proofs.opening.open_late.Goals as goal

@@ -1,4 +1,3 @@
-use Rattle.std.proofs.Common.{refl, sym, subst, ap, ◌∙◌, inl, inr, ⊎_elim}
 use Rattle.page.proofs.place.stop.Goals as goal
 
 pub returns-clause-leaves : goal.returns-clause-leaves

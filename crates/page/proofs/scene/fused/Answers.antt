@@ -1,4 +1,4 @@
-use Rattle.std.proofs.Common.{◌≡◌, refl, sym, subst, ap, ◌∙◌, inl, inr, ⊎_elim, true, arith, ℕ}
+use Rattle.std.proofs.Common.{sym, subst}
 use Rattle.page.specs.Scenes.{HoldsAt}
 use Rattle.page.specs.declared.place.Place.TheVariants.{Between}
 use Rattle.medium.specs.Sim.{Sim}

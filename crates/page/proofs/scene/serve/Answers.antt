@@ -1,4 +1,4 @@
-use Rattle.std.proofs.Common.{◌≡◌, refl, sym, subst, ap, ◌∙◌, inl, inr, ⊎_elim, true, arith, ℕ}
+use Rattle.std.proofs.Common.{refl, inl, inr}
 use Rattle.page.proofs.Lives.{may_carry}
 use Rattle.page.proofs.scene.serve.Goals as goal
 

@@ -1,4 +1,4 @@
-use Rattle.std.proofs.Common.{◌≡◌, refl, sym, subst, ap, ◌∙◌, inl, inr, ⊎_elim, true, arith, ℕ}
+use Rattle.std.proofs.Common.{refl}
 use Rattle.page.proofs.Lives.{counts_none}
 use Rattle.page.proofs.scene.start_on.Goals as goal
 

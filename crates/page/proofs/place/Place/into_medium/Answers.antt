@@ -1,4 +1,3 @@
-use Rattle.std.proofs.Common.{refl, sym, subst, ap, ◌∙◌, inl, inr, ⊎_elim}
 use Rattle.page.proofs.place.Place.into_medium.Goals as goal
 
 pub returns-in-Runs : goal.returns-in-Runs

@@ -1,5 +1,5 @@
-use Rattle.std.proofs.Common.{◌≡◌, refl, sym, subst, ap, ◌∙◌, inl, inr, ⊎_elim, true, arith, ℕ}
-use Rattle.page.specs.Books.{Phase, Standing}
+use Rattle.std.proofs.Common.{ap}
+use Rattle.page.specs.Books.{Phase}
 use Rattle.page.proofs.scene.Scene.arm.Goals as goal
 
 pub returns : goal.returns

@@ -1,4 +1,3 @@
-use Rattle.std.proofs.Common.{refl, sym, subst, ap, ◌∙◌, inl, inr, ⊎_elim}
 use Rattle.page.proofs.scene.Scene.command.Goals as goal
 
 pub returns-in-Runs : goal.returns-in-Runs

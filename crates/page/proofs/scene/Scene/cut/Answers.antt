@@ -1,4 +1,4 @@
-use Rattle.std.proofs.Common.{◌≡◌, refl, sym, subst, ap, ◌∙◌, inl, inr, ⊎_elim, true, arith, ℕ}
+use Rattle.std.proofs.Common.{refl}
 use Rattle.page.proofs.Lives.{after_cut}
 use Rattle.page.proofs.scene.Scene.cut.Goals as goal
 

@@ -1,4 +1,3 @@
-use Rattle.std.proofs.Common.{refl, sym, subst, ap, ◌∙◌, inl, inr, ⊎_elim}
 use Rattle.page.proofs.scene.Scene.start.Goals as goal
 
 pub returns-in-Between : goal.returns-in-Between
