@@ -10,6 +10,8 @@ from lib.form.functions import bodies, paths
 # The crate that alone knows where each byte of the log lies, the one that hands its names on, and the judges, which reckon for themselves.
 OWNERS = {"journal", "log_layout"}
 JUDGES = {"abstract_disk", "judging", "power_loss", "random_lives", "damage", "worked", "bench"}
+# It tells a reader what a sector of either format is, and serves no device.
+SHOWS = {"page"}
 # The sizes of slots, of descriptors and of the rounds that bring a record home.
 PLACES = re.compile(r"\b(?:49|50|248|249)\b|[%/] 3[01]\b|\b3[01] \*|\* 3[01]\b|div_ceil\(30\)|\+ 16 \*")
 # What code asks of a format: a match on it, by its first arm, or on a version; what it is equal to; its questions; what a number of it is equal to.
@@ -51,7 +53,7 @@ def names_of_libraries():
 def lines_matching(pattern, files):
     """The lines of code of these files, comments aside, that match."""
     for path in files:
-        if sources.crate_of(path) not in OWNERS | JUDGES:
+        if sources.crate_of(path) not in OWNERS | JUDGES | SHOWS:
             code = (re.split("//|--", line)[0].rstrip() for line in sources.lines_of(path))
             yield from (f"{path}:{number}" for number, line in enumerate(code, 1) if pattern.search(line))
 
