@@ -4,3 +4,4 @@ pub mod Cuts
 pub mod Scenes
 pub mod Scripts
 pub mod Roles
+pub mod Pictures

@@ -1,8 +1,6 @@
 //! What a store does of a host's commands, and of the work in the background.
-ghost use Rattle.std.specs.Prelude.{◌≡◌, ◌*◌, replicate, length};
 ghost use Rattle.spec.specs.Book.{Book, with_write};
-ghost use Rattle.blocks.specs.StoreValue.{blocks_of};
-ghost use Rattle.page.specs.Extents.{LiesWithin, filled};
+ghost use Rattle.page.specs.Extents.{filled};
 ghost use Rattle.page.specs.Scenes.{Serves, Has, Carried};
 
 use crate::extent::Extent;
@@ -88,23 +86,8 @@ fn write(
     let Ok(bytes) = Vec::from_elem(alloc, extent.fill, 512 * extent.count) else {
         return Err(Fault::NoMemory);
     };
-    take(store, life, extent, &bytes)
-}
-
-// The bytes are those that fill the extent.
-fn take(
-    store: &mut Store<Watched>,
-    life: &mut Life,
-    extent: &Extent,
-    bytes: &[u8],
-) -> Result<(), Fault>
-    requires within { LiesWithin extent.now (blocks_of store.old.cached) }
-    requires bytes { bytes.now ≡ replicate (512 * extent.now.count) extent.now.fill }
-    ensures { (book : Book)
-        → Serves (Command.Write extent.now) result life.old store.old book life.new store.new }
-{
     let _ = store.limit();
-    match store.write(extent.first, bytes) {
+    match store.write(extent.first, &bytes) {
         Ok(()) => {
             life.accepted = life.accepted.saturating_add(1);
             Ok(())
@@ -142,23 +125,8 @@ fn read(
         return Err(Fault::NoMemory);
     };
     let mut to = to;
-    look(store, life, extent, &mut to)
-}
-
-// The room is that of the extent.
-fn look(
-    store: &mut Store<Watched>,
-    life: &Life,
-    extent: &Extent,
-    to: &mut [u8],
-) -> Result<(), Fault>
-    requires within { LiesWithin extent.now (blocks_of store.old.cached) }
-    requires room { length to.old ≡ 512 * extent.now.count }
-    ensures { (book : Book)
-        → Serves (Command.Read extent.now) result life.now store.old book life.now store.new }
-{
     let _ = store.limit();
-    match store.read(extent.first, to) {
+    match store.read(extent.first, &mut to) {
         Ok(()) => Ok(()),
         Err(_) => Err(Fault::Failed),
     }

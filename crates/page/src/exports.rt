@@ -7,7 +7,7 @@ ghost use Rattle.page.specs.Scripts.{Begins, IsHead, IsReached};
 
 use crate::life::Life;
 use crate::looks::{look, sizes_of};
-use crate::picture::{append_waiting, numbers, plain_bytes, plain_numbers, served};
+use crate::picture::{plain_bytes, plain_numbers, show};
 use crate::plain::Plain;
 use crate::scene::{Played, Scene, start_on};
 use crate::script::{Head, code_of, head_of, play_all};
@@ -35,9 +35,14 @@ pub extern "C" fn page_play(
     let Some(head) = head_of(script) else {
         return NO_SCRIPT;
     };
-    match play(alloc, &head, script, told) {
-        Some(bytes) => hand_out(&bytes, to),
-        None => NO_MEMORY,
+    let mut bytes = Vec::new(alloc);
+    let Some(scene) = reach(alloc, &head, script, &mut bytes) else {
+        return NO_MEMORY;
+    };
+    if show(alloc, scene, &head.sizes, told, &mut bytes) {
+        hand_out(&bytes, to)
+    } else {
+        NO_MEMORY
     }
 }
 
@@ -74,28 +79,8 @@ pub extern "C" fn page_sector(
     role
 }
 
-// Plays a script on a new disk: what is there at its end.
-fn play(alloc: Global, head: &Head, script: &[u8], told: &mut [u64; 16]) -> Option<Vec<u8>>
-    requires { IsHead script.now head.now }
-{
-    let mut bytes = Vec::with_capacity(alloc, 0).ok()?;
-    let mut scene = reach(alloc, head, script, &mut bytes)?;
-    *told = numbers(&scene, &head.sizes);
-    let blocks = served(alloc, &mut scene, head.sizes.blocks as usize)?;
-    let medium = scene.place.medium();
-    bytes.extend_from_slice(&blocks).ok()?;
-    bytes.extend_from_slice(medium.durable()).ok()?;
-    if append_waiting(&mut bytes, medium.waiting()) {
-        Some(bytes)
-    } else {
-        None
-    }
-}
-
 // Plays a script on a disk without a log.
-fn play_plain(alloc: Global, head: &Head, script: &[u8], told: &mut [u64; 16]) -> Option<Vec<u8>>
-    requires { IsHead script.now head.now }
-{
+fn play_plain(alloc: Global, head: &Head, script: &[u8], told: &mut [u64; 16]) -> Option<Vec<u8>> {
     let mut bytes = Vec::with_capacity(alloc, 0).ok()?;
     let image = Vec::from_elem(alloc, 0u8, 512 * head.sizes.blocks as usize).ok()?;
     let medium = Watched::new(alloc, image, 1024).ok()?;

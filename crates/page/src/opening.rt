@@ -23,27 +23,12 @@ pub(crate) fn open(
         → IsFlushed (state_of medium) → MatchResult result (Finds book) (IsLeft book) }
 {
     if goes_ahead {
-        open_ahead(alloc, medium)
-    } else {
-        open_late(alloc, medium)
+        return match Store::start_ahead(alloc, medium) {
+            Ok(store) => Ok(store),
+            Err(error) => Err(error.medium),
+        };
     }
-}
-
-fn open_late(alloc: Global, medium: Watched) -> Result<Store<Watched>, Watched>
-    ensures { (book : Book) → LeavesBook medium book → book.ours ≡ true
-        → IsFlushed (state_of medium) → MatchResult result (Finds book) (IsLeft book) }
-{
     match Store::start(alloc, medium) {
-        Ok(store) => Ok(store),
-        Err(error) => Err(error.medium),
-    }
-}
-
-fn open_ahead(alloc: Global, medium: Watched) -> Result<Store<Watched>, Watched>
-    ensures { (book : Book) → LeavesBook medium book → book.ours ≡ true
-        → IsFlushed (state_of medium) → MatchResult result (Finds book) (IsLeft book) }
-{
-    match Store::start_ahead(alloc, medium) {
         Ok(store) => Ok(store),
         Err(error) => Err(error.medium),
     }

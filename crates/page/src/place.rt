@@ -4,6 +4,7 @@ ghost use Rattle.medium.specs.Sim.{state_of};
 ghost use Rattle.spec.specs.Book.{Book};
 ghost use Rattle.blocks.specs.StoreValue.{FitsBook};
 ghost use Rattle.page.specs.Scenes.{HoldsAt, LeavesBook};
+ghost use Rattle.page.specs.Pictures.{medium_of, place_code};
 
 use crate::watched::Watched;
 use blocks::Store;
@@ -20,7 +21,9 @@ pub(crate) enum Place {
 
 impl Place {
     /// The medium.
-    pub(crate) fn medium(&self) -> &Watched {
+    pub(crate) fn medium(&self) -> &Watched
+        ensures { result.now ≡ medium_of self.now }
+    {
         match self {
             Place::Runs(store) => store.medium(),
             Place::Off(medium) => medium,
@@ -40,7 +43,9 @@ impl Place {
     }
 
     /// The place as a number.
-    pub(crate) fn code(&self) -> u64 {
+    pub(crate) fn code(&self) -> u64
+        ensures { result ≡ place_code self.now }
+    {
         match self {
             Place::Runs(_) => 0,
             Place::Off(_) => 1,
