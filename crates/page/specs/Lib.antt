@@ -5,3 +5,4 @@ pub mod Scenes
 pub mod Scripts
 pub mod Roles
 pub mod Pictures
+pub mod Told

@@ -1,6 +1,6 @@
 -- Scripts as bytes, and what they make of a disk.
 use Rattle.std.specs.Prelude.{◌≡◌, ℕ, ◌+◌, ◌*◌, ◌-◌, ◌/◌, ◌==◌, zero, suc, true, List}
-use Rattle.std.specs.Prelude.{[], ◌∷◌, ◌++◌, drop, slice_index, length, ◌≤◌}
+use Rattle.std.specs.Prelude.{[], ◌∷◌, ◌++◌, drop, slice_index, length, ◌≤◌, ◌⊎◌, ◌%◌}
 use Rattle.std.specs.Prelude.{slice_range, replicate, if◌then◌else◌, Ok, Err}
 use Rattle.byteorder.specs.Endian.{little_number}
 use Rattle.spec.specs.Book.{Book, opened}
@@ -92,6 +92,17 @@ pub record IsHead (script : List ℕ) (head : Head) : Type 0 where
   pub few : head.sizes.blocks ≤ 32
   pub home : head.sizes.home ≡ 2 + slot_sectors_of head.sizes.format * head.sizes.slots
   pub long : 16 ≤ length script
+
+-- the bytes are a head and whole steps, and the head asks for what there is
+pub record IsScript (script : List ℕ) : Type 0 where
+  pub long : 16 ≤ length script
+  pub whole : length script % 16 ≡ 0
+  pub format : (slice_index script 0 ≡ 1) ⊎ (slice_index script 0 ≡ 2)
+  pub some_slots : 1 ≤ slice_index script 1
+  pub few_slots : slice_index script 1 ≤ 4
+  pub policy : slice_index script 2 ≤ 1
+  pub some_blocks : 1 ≤ slice_index script 3
+  pub few_blocks : slice_index script 3 ≤ 32
 
 -- a disk that has just started on a new image
 pub record Begins (blocks : ℕ) (scene : Scene) : Type 0 where

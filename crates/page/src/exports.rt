@@ -1,9 +1,11 @@
 //! The calls of the page.
-ghost use Rattle.std.specs.Prelude.{◌≡◌, ◌≤◌, ◌+◌, ◌*◌, [], IfSome};
+ghost use Rattle.std.specs.Prelude.{◌≡◌, ◌<◌, ◌≤◌, ◌+◌, ◌*◌, ◌++◌, ◌↔◌, ◌⊎◌, [], length, drop};
+ghost use Rattle.std.specs.Prelude.{IfSome, IsTrue, false};
 ghost use Rattle.medium.specs.Sim.{state_of};
 ghost use Rattle.journal.specs.Places.{Shape, slot_sectors_of};
 ghost use Rattle.recovery.specs.Calls.{IsFormatted};
-ghost use Rattle.page.specs.Scripts.{Begins, IsHead, IsReached};
+ghost use Rattle.page.specs.Scripts.{Begins, IsHead, IsReached, IsScript};
+ghost use Rattle.page.specs.Told.{IsPlayed, LacksRoom};
 
 use crate::life::Life;
 use crate::looks::{look, sizes_of};
@@ -25,13 +27,21 @@ const NO_MEMORY: u32 = 2;
 /// There is too little room for the bytes.
 const LITTLE_ROOM: u32 = 3;
 
+/// Plays a script on a new disk: 0, and what there is at its end stands at the front of the room as
+/// `docs/page` spells it. 1 where the script is none, 2 for want of memory, 3 where the room is too
+/// little.
 #[unsafe(no_mangle)]
 pub extern "C" fn page_play(
     alloc: Global,
     script: &[u8],
     told: &mut [u64; 16],
     to: &mut [u8],
-) -> u32 {
+) -> u32
+    ensures played { result ≡ 0 → IsPlayed script.now told.new to.old to.new }
+    ensures none { (result ≡ 1) ↔ (IsScript script.now → ⊥) }
+    ensures room { result ≡ 3 → LacksRoom script.now told.new to.old }
+    ensures left { (result ≡ 0) ⊎ (to.new ≡ to.old) }
+{
     let Some(head) = head_of(script) else {
         return NO_SCRIPT;
     };
@@ -39,13 +49,14 @@ pub extern "C" fn page_play(
     let Some(scene) = reach(alloc, &head, script, &mut bytes) else {
         return NO_MEMORY;
     };
-    if show(alloc, scene, &head.sizes, told, &mut bytes) {
-        hand_out(&bytes, to)
-    } else {
-        NO_MEMORY
+    if !show(alloc, scene, &head.sizes, told, &mut bytes) {
+        return NO_MEMORY;
     }
+    if hand_out(&bytes, to) { 0 } else { LITTLE_ROOM }
 }
 
+/// Plays a script on a disk without a log, and answers as `page_play` does. This disk is there to
+/// compare, and promises nothing: it has no clauses.
 #[unsafe(no_mangle)]
 pub extern "C" fn page_plain(
     alloc: Global,
@@ -56,10 +67,10 @@ pub extern "C" fn page_plain(
     let Some(head) = head_of(script) else {
         return NO_SCRIPT;
     };
-    match play_plain(alloc, &head, script, told) {
-        Some(bytes) => hand_out(&bytes, to),
-        None => NO_MEMORY,
-    }
+    let Some(bytes) = play_plain(alloc, &head, script, told) else {
+        return NO_MEMORY;
+    };
+    if hand_out(&bytes, to) { 0 } else { LITTLE_ROOM }
 }
 
 #[unsafe(no_mangle)]
@@ -101,13 +112,17 @@ fn play_plain(alloc: Global, head: &Head, script: &[u8], told: &mut [u64; 16]) -
     }
 }
 
-// Bytes to the front of a room for them.
-fn hand_out(bytes: &[u8], to: &mut [u8]) -> u32 {
+// Bytes to the front of a room, where they fit.
+fn hand_out(bytes: &[u8], to: &mut [u8]) -> bool
+    ensures lacks { result ≡ false ↔ (length to.old < length bytes.now) }
+    ensures front { IsTrue result → to.new ≡ bytes.now ++ drop (length bytes.now) to.old }
+    ensures left { result ≡ false → to.new ≡ to.old }
+{
     if to.len() < bytes.len() {
-        return LITTLE_ROOM;
+        return false;
     }
     to[..bytes.len()].copy_from_slice(bytes);
-    0
+    true
 }
 
 // Plays a script on a new disk, and appends how its steps went. `None` for want of memory.

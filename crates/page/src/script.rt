@@ -1,8 +1,9 @@
 //! A script: a head, and steps.
-ghost use Rattle.std.specs.Prelude.{◌≡◌, ◌≤◌, ◌+◌, ◌-◌, ◌*◌, ◌/◌, [], length, slice_index, IfSome};
+ghost use Rattle.std.specs.Prelude.{◌≡◌, ◌≤◌, ◌+◌, ◌-◌, ◌*◌, ◌/◌, ◌↔◌, [], length, slice_index};
+ghost use Rattle.std.specs.Prelude.{IfSome, is_some, false};
 ghost use Rattle.spec.specs.Book.{Book};
 ghost use Rattle.page.specs.Scenes.{Shows, standing};
-ghost use Rattle.page.specs.Scripts.{code_of, step_at, HasReached, GoesOn, IsHead};
+ghost use Rattle.page.specs.Scripts.{code_of, step_at, HasReached, GoesOn, IsHead, IsScript};
 
 use crate::fault::Fault;
 use crate::scene::{Played, Scene};
@@ -20,7 +21,8 @@ pub(crate) struct Head {
 /// The head of a script: a format, 1 to 4 slots, a policy, and 1 to 32 blocks. `None` where it is
 /// none, or where the script has no whole steps.
 pub(crate) fn head_of(script: &[u8]) -> Option<Head>
-    ensures { IfSome result (IsHead script.now) }
+    ensures some { IfSome result (IsHead script.now) }
+    ensures none { is_some result ≡ false ↔ (IsScript script.now → ⊥) }
 {
     if script.len() < STEP || script.len() % STEP != 0 {
         return None;

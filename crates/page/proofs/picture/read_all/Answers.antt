@@ -1,4 +1,4 @@
-use Rattle.std.proofs.Common.{ℕ, List, ◌≡◌, length, take, drop, ◌++◌, ◌∙◌, sym, ap, arith}
+use Rattle.std.proofs.Common.{ℕ, ◌≡◌, length, take, drop, ◌++◌, ◌∙◌, ap, arith}
 use Rattle.std.proofs.Math.Seq.{take-append_seam}
 use Rattle.page.proofs.picture.read_all.Goals as goal
 
