@@ -5,6 +5,7 @@ ghost use Rattle.medium.specs.Sim.{state_of};
 ghost use Rattle.journal.specs.Places.{Shape, slot_sectors_of};
 ghost use Rattle.recovery.specs.Calls.{IsFormatted};
 ghost use Rattle.page.specs.Scripts.{Begins, IsHead, IsReached, IsScript};
+ghost use Rattle.page.specs.Roles.{AreSizes, TellsRole};
 ghost use Rattle.page.specs.Told.{IsPlayed, LacksRoom};
 
 use crate::life::Life;
@@ -73,6 +74,8 @@ pub extern "C" fn page_plain(
     if hand_out(&bytes, to) { 0 } else { LITTLE_ROOM }
 }
 
+/// Tells what a sector of an image of these sizes is, and what these bytes would say in it. 0 where
+/// the sizes are none of the page.
 #[unsafe(no_mangle)]
 pub extern "C" fn page_sector(
     format: u32,
@@ -81,7 +84,10 @@ pub extern "C" fn page_sector(
     sector: u64,
     bytes: &[u8; 512],
     words: &mut [u64; 8],
-) -> u32 {
+) -> u32
+    ensures role { AreSizes format slots blocks → TellsRole format slots blocks sector result }
+    ensures none { (AreSizes format slots blocks → ⊥) → result ≡ 0 }
+{
     let Some(sizes) = sizes_of(format, slots, blocks) else {
         return 0;
     };

@@ -1,5 +1,7 @@
 //! A sector of an image, looked at.
-ghost use Rattle.std.specs.Prelude.{◌≡◌, IfSome};
+ghost use Rattle.std.specs.Prelude.{◌≡◌, IfSome, IfNone};
+ghost use Rattle.journal.specs.Formats.{shape_of};
+ghost use Rattle.page.specs.Roles.{AreSizes, HasSizes, sector_code, part_code, part_of};
 
 use crate::sectors::{
     Part, Role, part_of, role_of, words_of_commit, words_of_data, words_of_descriptor,
@@ -8,7 +10,10 @@ use crate::sectors::{
 use journal::{LogFormat, Super};
 
 /// The sizes of an image of the page, where they are in their limits.
-pub(crate) fn sizes_of(format: u32, slots: u32, blocks: u32) -> Option<Super> {
+pub(crate) fn sizes_of(format: u32, slots: u32, blocks: u32) -> Option<Super>
+    ensures some { IfSome result (HasSizes format slots blocks) }
+    ensures none { IfNone result (AreSizes format slots blocks → ⊥) }
+{
     let format = match format {
         1 => LogFormat::One,
         2 => LogFormat::Two,
@@ -21,7 +26,9 @@ pub(crate) fn sizes_of(format: u32, slots: u32, blocks: u32) -> Option<Super> {
 }
 
 /// What a sector is, as a number, and what its bytes say.
-pub(crate) fn look(sizes: &Super, sector: u64, bytes: &[u8; 512]) -> (u32, [u64; 8]) {
+pub(crate) fn look(sizes: &Super, sector: u64, bytes: &[u8; 512]) -> (u32, [u64; 8])
+    ensures { result.0 ≡ sector_code (shape_of sizes.now) sector }
+{
     match role_of(sizes, sector) {
         Role::None => (0, [0; 8]),
         Role::Super => (1, words_of_super(bytes)),
@@ -32,7 +39,9 @@ pub(crate) fn look(sizes: &Super, sector: u64, bytes: &[u8; 512]) -> (u32, [u64;
 }
 
 // The same of a sector of a slot, which stands first in the numbers.
-fn look_in_slot(format: LogFormat, slot: u64, number: u64, bytes: &[u8; 512]) -> (u32, [u64; 8]) {
+fn look_in_slot(format: LogFormat, slot: u64, number: u64, bytes: &[u8; 512]) -> (u32, [u64; 8])
+    ensures { result.0 ≡ part_code (part_of format number) }
+{
     let (code, place, mut words) = match part_of(format, number) {
         Part::Descriptor(j) => (3, j, words_of_descriptor(format, bytes)),
         Part::Data(i) => (4, i, words_of_data(format, bytes)),

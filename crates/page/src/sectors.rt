@@ -1,6 +1,6 @@
 //! What the sectors of an image are, and what their bytes say.
 ghost use Rattle.std.specs.Prelude.{◌≡◌};
-ghost use Rattle.page.specs.Roles.{role_of};
+ghost use Rattle.page.specs.Roles.{role_of, part_of, descriptors_in};
 ghost use Rattle.journal.specs.Formats.{shape_of};
 
 use byteorder::{ByteOrder, LittleEndian};
@@ -48,8 +48,10 @@ pub(crate) enum Part {
 }
 
 /// What the sector of a slot with this number in it is.
-pub(crate) fn part_of(format: LogFormat, number: u64) -> Part {
-    let first = if format.lacks_firsts() { 8 } else { 1 };
+pub(crate) fn part_of(format: LogFormat, number: u64) -> Part
+    ensures { result ≡ part_of format number }
+{
+    let first = descriptors_in(format);
     if number < first {
         return Part::Descriptor(number);
     }
@@ -57,6 +59,16 @@ pub(crate) fn part_of(format: LogFormat, number: u64) -> Part {
         return Part::Data(number - first);
     }
     Part::Commit
+}
+
+// How many sectors of a slot are for descriptors.
+fn descriptors_in(format: LogFormat) -> u64
+    ensures { result ≡ descriptors_in format }
+{
+    match format {
+        LogFormat::One => 1,
+        LogFormat::Two => 8,
+    }
 }
 
 /// The numbers that a super or a head spells: whether it is one, and then what it says.
