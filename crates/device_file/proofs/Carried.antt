@@ -9,7 +9,7 @@ use Rattle.medium.specs.declared.file_call.FileCall.TheVariants.{Sync}
 use Rattle.mirror.specs.declared.call.DeviceCall.{DeviceCall}
 use Rattle.mirror.specs.declared.call.DeviceCall.TheVariants.{Flush}
 use Rattle.device_file.specs.Asked.{Opening, Told, begun, writes_of}
-use Rattle.device_file.specs.Carried.{IsCarried, IsOpening, IsPart, Part, asked_in, calls_in}
+use Rattle.device_file.specs.Carried.{AsksPart, IsCarried, IsOpening, IsPart, Part, asked_in, calls_in}
 use Rattle.device_file.specs.FileValue.{PutsRun}
 use Rattle.device_file.specs.declared.fault.FileFault.{FileFault}
 use Rattle.device_file.specs.declared.run.Run.{Run}
@@ -50,20 +50,44 @@ carried_on t u f g part is c same asked calls = record {
 }
 
 -- neighbouring sectors were to be written
-pub write_carried : (run : Run) (t u : Told) (f g : file.Told) (result : Result (Unit {0}) FileFault) → PutsRun run f g result
-    → IsCarried t f → u.opening ≡ t.opening → u.asked ≡ t.asked ++ writes_of run.first run.blocks.items → IsCarried u g
-write_carried run t u f g (Ok done) puts c same asked =
+pub write_part : (run : Run) (f g : file.Told) (result : Result (Unit {0}) FileFault) → PutsRun run f g result
+    → AsksPart (writes_of run.first run.blocks.items) f g
+write_part run f g (Ok done) puts =
     let p = puts.ok in
-    carried_on t u f g (record { asked = writes_of run.first run.blocks.items; calls = p.calls.calls })
-    (inl (record { first = run.first; blocks = run.blocks.items; asked_is = refl; within = p.calls.each })) c same asked p.calls.asked
-write_carried run t u f g (Err why) puts c same asked =
+    record {
+      part = record { asked = writes_of run.first run.blocks.items; calls = p.calls.calls };
+      is = inl (record { first = run.first; blocks = run.blocks.items; asked_is = refl; within = p.calls.each });
+      asked_is = refl;
+      calls_are = p.calls.asked;
+    }
+write_part run f g (Err why) puts =
     let p = puts.err in
-    carried_on t u f g (record { asked = writes_of run.first run.blocks.items; calls = p.calls.calls })
-    (inl (record { first = run.first; blocks = run.blocks.items; asked_is = refl; within = p.calls.each })) c same asked p.calls.asked
+    record {
+      part = record { asked = writes_of run.first run.blocks.items; calls = p.calls.calls };
+      is = inl (record { first = run.first; blocks = run.blocks.items; asked_is = refl; within = p.calls.each });
+      asked_is = refl;
+      calls_are = p.calls.asked;
+    }
 
 -- all was to be made durable
+pub sync_part : (good : Bool) (f g : file.Told) → g ≡ file.answered good Sync f → AsksPart (Flush ∷ []) f g
+sync_part good f g is = record {
+  part = record { asked = Flush ∷ []; calls = Sync ∷ [] };
+  is = inr (record { asked_is = refl; calls_are = refl });
+  asked_is = refl;
+  calls_are = ap (λ (s : file.Told). s.asked) is;
+}
+
+part_carried : (calls : List DeviceCall) (t u : Told) (f g : file.Told) → AsksPart calls f g → IsCarried t f
+    → u.opening ≡ t.opening → u.asked ≡ t.asked ++ calls → IsCarried u g
+part_carried calls t u f g p c same asked =
+    carried_on t u f g p.part p.is c same (asked ∙ ap (λ (l : List DeviceCall). t.asked ++ l) (sym p.asked_is)) p.calls_are
+
+pub write_carried : (run : Run) (t u : Told) (f g : file.Told) (result : Result (Unit {0}) FileFault) → PutsRun run f g result
+    → IsCarried t f → u.opening ≡ t.opening → u.asked ≡ t.asked ++ writes_of run.first run.blocks.items → IsCarried u g
+write_carried run t u f g result puts =
+    part_carried (writes_of run.first run.blocks.items) t u f g (write_part run f g result puts)
+
 pub sync_carried : (good : Bool) (t u : Told) (f g : file.Told) → g ≡ file.answered good Sync f
     → IsCarried t f → u.opening ≡ t.opening → u.asked ≡ t.asked ++ Flush ∷ [] → IsCarried u g
-sync_carried good t u f g is c same asked =
-    carried_on t u f g (record { asked = Flush ∷ []; calls = Sync ∷ [] }) (inr (record { asked_is = refl; calls_are = refl })) c same asked
-    (ap (λ (s : file.Told). s.asked) is)
+sync_carried good t u f g is = part_carried (Flush ∷ []) t u f g (sync_part good f g is)

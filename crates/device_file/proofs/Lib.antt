@@ -1,4 +1,5 @@
 pub mod Runs
+pub mod InRuns
 pub mod FirstParts
 pub mod Puts
 pub mod Gave

@@ -36,6 +36,13 @@ pub record IsSyncing (part : Part) : Type 0 where
 abbrev pub IsPart : Part → Type 0
 IsPart part = IsWriting part ⊎ IsSyncing part
 
+-- the file behind was asked for what carries out these calls as one part, and for nothing else
+pub record AsksPart (calls : List DeviceCall) (old new : file.Told) : Type 0 where
+  pub part : Part
+  pub is : IsPart part
+  pub asked_is : part.asked ≡ calls
+  pub calls_are : new.asked ≡ old.asked ++ part.calls
+
 abbrev pub asked_in : List Part → List DeviceCall
 asked_in [] = []
 asked_in (part ∷ parts) = part.asked ++ asked_in parts

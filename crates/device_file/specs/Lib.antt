@@ -1,5 +1,6 @@
 pub mod Asked
 pub mod Outbox
+pub mod InRuns
 pub mod FileValue
 pub mod FileView
 pub mod First

@@ -5,6 +5,7 @@ ghost use Rattle.mirror.specs.OutboxMedium.{first_of};
 ghost use Rattle.window.specs.Window.{without_first};
 ghost use Rattle.device_file.specs.Asked.{AsksFor, writes_of};
 ghost use Rattle.device_file.specs.Outbox.{LetsGo, CarriesOut, CarriesSome, Begins};
+ghost use Rattle.device_file.specs.InRuns.{AsksInRuns, AsksRun, IsLongest};
 
 use crate::fault::{FileCall, FileFault};
 use crate::file::DeviceFile;
@@ -22,7 +23,8 @@ pub fn carry_out<D: DeviceFile>(
     file: &mut D,
     run: &mut Run,
 ) -> Result<(), FileFault>
-    ensures { CarriesOut D.told D.size file.old file.new window.old window.new result }
+    ensures carries { CarriesOut D.told D.size file.old file.new window.old window.new result }
+    ensures runs { AsksInRuns D.at_once file.old file.new window.old.outbox window.new.outbox }
 {
     while let Some(call) = window.first() {
         carry_first(&call, window, file, run)?;
@@ -39,7 +41,8 @@ fn carry_first<D: DeviceFile>(
     run: &mut Run,
 ) -> Result<(), FileFault>
     requires { first_of window.old.outbox ≡ Some call.now }
-    ensures { CarriesSome D.told D.size file.old file.new window.old window.new result }
+    ensures some { CarriesSome D.told D.size file.old file.new window.old window.new result }
+    ensures run { AsksRun D.at_once file.old file.new window.old.outbox window.new.outbox }
 {
     match call {
         DeviceCall::Write(_) => {
@@ -53,6 +56,7 @@ fn carry_first<D: DeviceFile>(
 // Has a file carry out a flush that waits first.
 fn carry_flush<D: DeviceFile>(window: &mut WindowMedium, file: &mut D) -> Result<(), FileFault>
     ensures asks { AsksFor D.told D.size (Flush ∷ []) FileCall.Sync file.old file.new result }
+    ensures once { D.at_once file.old (Flush ∷ []) file.new }
     ensures taken { window.new ≡ without_first window.old }
 {
     let _flush = window.take();
@@ -64,6 +68,7 @@ fn carry_flush<D: DeviceFile>(window: &mut WindowMedium, file: &mut D) -> Result
 fn gather(window: &mut WindowMedium, run: &mut Run)
     ensures taken { LetsGo (writes_of run.new.first run.new.blocks.items) window.old window.new }
     ensures some { Begins window.old.outbox → length window.new.outbox < length window.old.outbox }
+    ensures longest { IsLongest run.new.first run.new.blocks.items window.new.outbox }
 {
     run.clear();
     'calls: for _ in 0..RUN_SECTORS {

@@ -1,5 +1,6 @@
 //! What is asked of a device that is a file.
 ghost use Rattle.std.specs.Prelude.{◌≡◌, ◌/◌, ℕ, List, [], ◌∷◌, IfErr, OnOk, OnErr, length};
+ghost use Rattle.mirror.specs.declared.call.DeviceCall.{DeviceCall};
 ghost use Rattle.mirror.specs.declared.call.DeviceCall.TheVariants.{Flush};
 ghost use Rattle.device_file.specs.Reads.{AreRead};
 ghost use Rattle.device_file.specs.Asked.{Told, AsksFor, writes_of};
@@ -24,6 +25,10 @@ pub trait DeviceFile {
     /// A read from this sector on, of this many sectors, was refused. Nothing else is known of it.
     ghost refuses: { Self → ℕ → ℕ → Type 0 };
 
+    /// One call of it was asked to carry these out at once, and made the second of the first, good
+    /// or refused. Nothing else is known of it.
+    ghost at_once: { Self → List DeviceCall → Self → Type 0 };
+
     /// How many sectors there are.
     fn sectors(&self) -> u64
         ensures { result ≡ size self.now };
@@ -45,8 +50,9 @@ pub trait DeviceFile {
     /// The file refused the call; the cause is the system's. It counts as asked, and any part of
     /// the sectors may be written.
     fn write(&mut self, run: &Run) -> Result<(), FileFault>
-        ensures { AsksFor told size (writes_of run.now.first run.now.blocks.items) FileCall.Write
-            self.old self.new result };
+        ensures asks { AsksFor told size (writes_of run.now.first run.now.blocks.items)
+            FileCall.Write self.old self.new result }
+        ensures once { at_once self.old (writes_of run.now.first run.now.blocks.items) self.new };
 
     /// Waits until all that was written before is durable.
     ///
@@ -55,5 +61,6 @@ pub trait DeviceFile {
     /// The file refused the call; the cause is the system's. It counts as asked, and what was
     /// written may be durable or not.
     fn sync(&mut self) -> Result<(), FileFault>
-        ensures { AsksFor told size (Flush ∷ []) FileCall.Sync self.old self.new result };
+        ensures asks { AsksFor told size (Flush ∷ []) FileCall.Sync self.old self.new result }
+        ensures once { at_once self.old (Flush ∷ []) self.new };
 }

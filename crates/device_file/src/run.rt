@@ -1,8 +1,9 @@
 //! Neighbouring sectors that are written at once.
 ghost use Rattle.std.specs.Prelude.{◌≡◌, ◌≤◌, ◌<◌, ◌+◌, ◌∷◌, ◌++◌, ◌↔◌};
-ghost use Rattle.std.specs.Prelude.{length, [], true, IfSome, IsSome, IsTrue, vec_capacity};
+ghost use Rattle.std.specs.Prelude.{length, [], true, IfSome, IsSome, IsNone, IsTrue, vec_capacity};
 ghost use Rattle.std.specs.Bool.{OnTrue, OnFalse};
 ghost use Rattle.device_file.specs.Asked.{writes_of, GoesOn};
+ghost use Rattle.device_file.specs.InRuns.{IsNoMore};
 ghost use Rattle.mirror.specs.declared.call.DeviceCall.TheVariants.{Write};
 
 use mirror::SectorWrite;
@@ -52,6 +53,8 @@ impl Run {
         ensures taken { OnTrue result (writes_of self.new.first self.new.blocks.items
             ≡ writes_of self.old.first self.old.blocks.items ++ Write write.now ∷ []) }
         ensures left { OnFalse result (self.new ≡ self.old) }
+        ensures no_more { OnFalse result
+            (IsNoMore self.old.first self.old.blocks.items write.now.sector) }
         ensures first { self.old.blocks.items ≡ [] → result ≡ true }
     {
         let Some(first) = self.first_with(write.sector) else {
@@ -65,6 +68,8 @@ impl Run {
     // The first sector of the run with this one behind it, where that is a run.
     fn first_with(&self, sector: u64) -> Option<u64>
         ensures some { IfSome result (GoesOn self.now.first self.now.blocks.items sector) }
+        ensures none { IsNone result
+            → IsNoMore self.now.first self.now.blocks.items sector }
         ensures room { IsSome result → length self.now.blocks.items < 256 }
         ensures first { self.now.blocks.items ≡ [] → IsSome result }
     {

@@ -195,6 +195,7 @@ impl<S: ToldFile> DeviceFile for SystemFile<S> {
     ghost use Rattle.medium.specs.declared.file_call.FileCall.TheVariants.{Sync};
     ghost use Rattle.device_file.specs.Asked.{AsksFor, writes_of};
     ghost use Rattle.device_file.specs.FileValue.{GivesBlock, PutsRun};
+    ghost use Rattle.device_file.specs.Carried.{AsksPart};
 
     ghost told = { λ file. file.told };
 
@@ -204,6 +205,8 @@ impl<S: ToldFile> DeviceFile for SystemFile<S> {
     ghost holds = { λ file sector block. GivesBlock (S.gives file.file) sector block };
 
     ghost refuses = { λ file first count. Unit {0} };
+
+    ghost at_once = { λ old calls new. AsksPart calls (S.told old.file) (S.told new.file) };
 
     fn sectors(&self) -> u64 {
         self.sectors
@@ -217,6 +220,8 @@ impl<S: ToldFile> DeviceFile for SystemFile<S> {
         ensures asks { AsksFor (λ file. file.told) (λ file. file.size)
             (writes_of run.now.first run.now.blocks.items) FileCall.Write self.old self.new
             result }
+        ensures once { AsksPart (writes_of run.now.first run.now.blocks.items)
+            (S.told self.old.file) (S.told self.new.file) }
         ensures puts { PutsRun run.now (S.told self.old.file) (S.told self.new.file) result }
     {
         self.story = self.story.wrote(run);
@@ -230,6 +235,7 @@ impl<S: ToldFile> DeviceFile for SystemFile<S> {
     fn sync(&mut self) -> Result<(), FileFault>
         ensures asks { AsksFor (λ file. file.told) (λ file. file.size) (Flush ∷ []) FileCall.Sync
             self.old self.new result }
+        ensures once { AsksPart (Flush ∷ []) (S.told self.old.file) (S.told self.new.file) }
         ensures syncs { S.told self.new.file
             ≡ answered (is_ok result) Sync (S.told self.old.file) }
     {

@@ -65,8 +65,8 @@ returns-in-Ok-write_behind g c =
             (told c.sync.new.self) c.in-Ok.ensures.in_order
             (goes_on super (Flush ∷ []) good (told c.write_behind.new.file) (told c.write_behind-2.new.file) (told c.sync.new.self)
             c.in-Ok-write_behind.ensures.in_order
-            (one_call Flush good (told c.write_behind-2.new.file) (told c.sync.new.self) c.sync.ensures.asked));
+            (one_call Flush good (told c.write_behind-2.new.file) (told c.sync.new.self) c.sync.ensures.asks.asked));
       };
-      size = c.sync.ensures.size ∙ c.in-Ok-write_behind.ensures.size ∙ c.in-Ok.ensures.size;
-      named = named_so c.sync.result c.sync.ensures.named;
+      size = c.sync.ensures.asks.size ∙ c.in-Ok-write_behind.ensures.size ∙ c.in-Ok.ensures.size;
+      named = named_so c.sync.result c.sync.ensures.asks.named;
     }

@@ -17,9 +17,9 @@ returns g c =
     let write = Write (record { sector = c.args.sector; block = c.args.block.now }) in
     record {
       in_order = goes_on (Flush ∷ []) (write ∷ []) (is_ok c.write_sector.result) (told c.args.file.now) (told c.sync.new.self)
-          (told c.write_sector.new.file) (one_call Flush true (told c.args.file.now) (told c.sync.new.self) c.in_ok-sync.ensures.asked)
+          (told c.write_sector.new.file) (one_call Flush true (told c.args.file.now) (told c.sync.new.self) c.in_ok-sync.ensures.asks.asked)
           (one_call write (is_ok c.write_sector.result) (told c.sync.new.self) (told c.write_sector.new.file)
           c.write_sector.ensures.asked);
-      size = c.write_sector.ensures.size ∙ c.in_ok-sync.ensures.size;
+      size = c.write_sector.ensures.size ∙ c.in_ok-sync.ensures.asks.size;
       named = named_so c.write_sector.result c.write_sector.ensures.named;
     }

@@ -10,14 +10,14 @@ returns g c =
     elim c.match-carry_out.branch [
       | in-Ok w ↦ (let all : Carries told c.args.self.now (record { window = new.window; file = new.file; run = new.run; fault = None })
           = record {
-            carried = w.in-Ok.ensures.carried;
-            all = λ is. w.in-Ok.ensures.all;
+            carried = w.in-Ok.ensures.carries.carried;
+            all = λ is. w.in-Ok.ensures.carries.all;
             named = tt;
           } in rw (w.self-is) all)
       | in-Err w ↦ (let part : Carries told c.args.self.now
           (record { window = new.window; file = new.file; run = new.run; fault = Some w.in-Err.fault }) = record {
-            carried = w.in-Err.ensures.carried;
+            carried = w.in-Err.ensures.carries.carried;
             all = λ is. absurd (cc);
-            named = w.in-Err.ensures.named;
+            named = w.in-Err.ensures.carries.named;
           } in rw (w.self-is) part)
     ]
