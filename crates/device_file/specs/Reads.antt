@@ -1,5 +1,5 @@
 -- What reads of a file gave.
-use Rattle.std.specs.Prelude.{◌+◌, ◌/◌, ◌<◌, ℕ, zero, suc, List, [], ◌∷◌, ◌++◌, length}
+use Rattle.std.specs.Prelude.{◌≡◌, ◌+◌, ◌/◌, ◌<◌, ℕ, zero, suc, List, [], ◌∷◌, ◌++◌, length, drop}
 use Rattle.medium.specs.Writes.{sector_of}
 
 -- A read gave each whole sector of these bytes, of the sectors from this one on.
@@ -17,3 +17,16 @@ AreReadFrom holds first (block ∷ blocks) =
 abbrev pub sectors_in : ℕ → List ℕ → List (List ℕ)
 sectors_in zero bytes = []
 sectors_in (suc count) bytes = sectors_in count bytes ++ sector_of bytes count ∷ []
+
+-- One read of a file from its first sector on gave all of these bytes but those of sector 0, which
+-- are these.
+pub record AreReadBehind (gave : ℕ → List ℕ → Type 0) (sector bytes : List ℕ) : Type 0 where
+  pub whole : List ℕ
+  pub read : gave 0 whole
+  pub are : bytes ≡ sector ++ drop 512 whole
+
+-- One read gave sector 0 alone, and one more the others of these first sectors.
+pub record AreReadByTwo (gave : ℕ → List ℕ → Type 0) (bytes : List ℕ) : Type 0 where
+  pub sector : List ℕ
+  pub first : gave 0 sector
+  pub others : AreReadBehind gave sector bytes

@@ -25,6 +25,9 @@ pub trait DeviceFile {
     /// A read from this sector on, of this many sectors, was refused. Nothing else is known of it.
     ghost refuses: { Self → ℕ → ℕ → Type 0 };
 
+    /// One read gave these bytes, of the sectors from this one on. Nothing else is known of it.
+    ghost gave: { Self → ℕ → List ℕ → Type 0 };
+
     /// One call of it was asked to carry these out at once, and made the second of the first, good
     /// or refused. Nothing else is known of it.
     ghost at_once: { Self → List DeviceCall → Self → Type 0 };
@@ -40,6 +43,7 @@ pub trait DeviceFile {
     /// The file refused the call; the cause is the system's. The bytes may be any then.
     fn read(&self, first: u64, to: &mut [u8]) -> Result<(), FileFault>
         ensures read { OnOk result (AreRead (holds self.now) first to.new) }
+        ensures once { OnOk result (gave self.now first to.new) }
         ensures unread { OnErr result (refuses self.now first (length to.new / 512)) }
         ensures named { IfErr result (λ fault. fault.call ≡ FileCall.Read) };
 

@@ -4,7 +4,7 @@ ghost use Rattle.std.specs.Prelude.{IfOk, IfErr, OnOk, OnErr, length, drop, min}
 ghost use Rattle.medium.specs.Moments.{IsFlushed};
 ghost use Rattle.medium.specs.Writes.{sector_of};
 ghost use Rattle.window.specs.Window.{fresh, state_of};
-ghost use Rattle.device_file.specs.Reads.{AreRead};
+ghost use Rattle.device_file.specs.Reads.{AreRead, AreReadBehind, AreReadByTwo};
 ghost use Rattle.device_file.specs.First.{IsUnopened, SpellsSuper, near_of};
 
 use crate::fault::{FileCall, FileFault};
@@ -56,6 +56,7 @@ impl FirstSectors {
         ensures ok { IfOk result (λ first. (first.sectors ≡ D.size file.now)
             × SpellsSuper first.sizes (sector_of first.bytes.items 0)) }
         ensures read { IfOk result (λ first. AreRead (D.holds file.now) 0 first.bytes.items) }
+        ensures calls { IfOk result (λ first. AreReadByTwo (D.gave file.now) first.bytes.items) }
         ensures err { IfErr result (IsUnopened (D.refuses file.now) (D.size file.now)) }
     {
         let sectors = count_some(file)?;
@@ -137,6 +138,7 @@ fn fill<D: DeviceFile>(file: &D, sector: &[u8; SECTOR], bytes: &mut [u8]) -> Res
     ensures front { OnOk result (sector_of bytes.new 0 ≡ sector.now) }
     ensures read { D.holds file.now 0 sector.now
         → OnOk result (AreRead (D.holds file.now) 0 bytes.new) }
+    ensures once { OnOk result (AreReadBehind (D.gave file.now) sector.now bytes.new) }
     ensures unread { OnErr result (D.refuses file.now 0 (length bytes.old / 512)) }
     ensures err { IfErr result (λ fault. fault.call ≡ FileCall.Read) }
 {

@@ -196,6 +196,7 @@ impl<S: ToldFile> DeviceFile for SystemFile<S> {
     ghost use Rattle.device_file.specs.Asked.{AsksFor, writes_of};
     ghost use Rattle.device_file.specs.FileValue.{GivesBlock, PutsRun};
     ghost use Rattle.device_file.specs.Carried.{AsksPart};
+    ghost use Rattle.device_file.specs.Reads.{AreRead};
 
     ghost told = { λ file. file.told };
 
@@ -205,6 +206,8 @@ impl<S: ToldFile> DeviceFile for SystemFile<S> {
     ghost holds = { λ file sector block. GivesBlock (S.gives file.file) sector block };
 
     ghost refuses = { λ file first count. Unit {0} };
+
+    ghost gave = { λ file first bytes. AreRead (GivesBlock (S.gives file.file)) first bytes };
 
     ghost at_once = { λ old calls new. AsksPart calls (S.told old.file) (S.told new.file) };
 
