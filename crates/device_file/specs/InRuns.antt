@@ -9,6 +9,13 @@ use Rattle.device_file.specs.Asked.{writes_of}
 abbrev pub IsNoMore : ℕ → List (List ℕ) → ℕ → Type 0
 IsNoMore first blocks sector = (256 ≤ length blocks) ⊎ (sector ≢ first + length blocks)
 
+-- Behind blocks that wait a block of this sector was to wait. Where it goes with them the file is
+-- asked nothing; else it is asked to write them, by one call.
+abbrev pub LetsWait : {D : Type 0} → (D → List DeviceCall → D → Type 0) → D → D → ℕ → List (List ℕ)
+    → ℕ → Type 0
+LetsWait at_once was is first blocks sector = (is ≡ was)
+    ⊎ (IsNoMore first blocks sector × at_once was (writes_of first blocks) is)
+
 -- a write to this sector comes first
 abbrev pub IsNext : ℕ → List DeviceCall → Type 0
 IsNext sector [] = ⊥

@@ -102,8 +102,9 @@ fn copy_run<S: DeviceFile, D: DeviceFile>(
     bytes: &mut [u8],
 ) -> Result<(), CopyFault>
     requires { (at + length bytes.old / 512 < 2 ^ 64) × (512 ≤ length bytes.old) }
-    ensures { TakesCopies D.told D.size (S.holds from.now) (S.refuses from.now) first
+    ensures takes { TakesCopies D.told D.size (S.holds from.now) (S.refuses from.now) first
         (length bytes.old / 512) at to.old to.new (waiting_in run.old) (waiting_in run.new) result }
+    ensures once { OnOk result (S.gave from.now first bytes.new) }
 {
     match from.read(first, bytes) {
         Err(fault) => Err(CopyFault::From(fault)),

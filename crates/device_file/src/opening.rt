@@ -1,6 +1,6 @@
 //! From a file that is open to a window over it.
 ghost use Rattle.std.specs.Prelude.{◌≡◌, ◌*◌, ◌/◌, ◌<◌, ◌≤◌, ◌++◌};
-ghost use Rattle.std.specs.Prelude.{IfOk, IfErr, OnOk, OnErr, length, drop, min};
+ghost use Rattle.std.specs.Prelude.{IfOk, IfErr, OnOk, length, drop, min};
 ghost use Rattle.medium.specs.Moments.{IsFlushed};
 ghost use Rattle.medium.specs.Writes.{sector_of};
 ghost use Rattle.window.specs.Window.{fresh, state_of};
@@ -139,8 +139,8 @@ fn fill<D: DeviceFile>(file: &D, sector: &[u8; SECTOR], bytes: &mut [u8]) -> Res
     ensures read { D.holds file.now 0 sector.now
         → OnOk result (AreRead (D.holds file.now) 0 bytes.new) }
     ensures once { OnOk result (AreReadBehind (D.gave file.now) sector.now bytes.new) }
-    ensures unread { OnErr result (D.refuses file.now 0 (length bytes.old / 512)) }
-    ensures err { IfErr result (λ fault. fault.call ≡ FileCall.Read) }
+    ensures err { IfErr result (λ fault. (fault.call ≡ FileCall.Read)
+        × D.refuses file.now 0 (length bytes.old / 512)) }
 {
     file.read(0, bytes)?;
     put_first(bytes, sector);

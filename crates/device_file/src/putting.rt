@@ -6,6 +6,7 @@ ghost use Rattle.mirror.specs.declared.call.DeviceCall.TheVariants.{Write};
 ghost use Rattle.device_file.specs.Reads.{sectors_in};
 ghost use Rattle.device_file.specs.Copied.{TakesCalls, is_zeros, some_write, some_writes};
 ghost use Rattle.device_file.specs.Copied.{waiting_in};
+ghost use Rattle.device_file.specs.InRuns.{LetsWait};
 
 use crate::fault::FileFault;
 use crate::file::DeviceFile;
@@ -25,8 +26,10 @@ pub(crate) fn put_block<D: DeviceFile>(
     run: &mut Run,
     write: &SectorWrite,
 ) -> Result<(), FileFault>
-    ensures { TakesCalls D.told D.size (Write write.now ∷ []) file.old file.new
+    ensures takes { TakesCalls D.told D.size (Write write.now ∷ []) file.old file.new
         (waiting_in run.old) (waiting_in run.new) result }
+    ensures waits { LetsWait D.at_once file.old file.new run.old.first run.old.blocks.items
+        write.now.sector }
 {
     if run.take(write) {
         return Ok(());

@@ -3,8 +3,8 @@ use Rattle.device_file.specs.Copied.{waiting_in}
 use Rattle.device_file.proofs.Copies.{copying_run, copied_run, copied_none}
 use Rattle.device_file.proofs.copying.copy_run.Goals as goal
 
-pub returns-in-Err : goal.returns-in-Err
-returns-in-Err g c = record {
+pub returns-in-Err-clause-takes : goal.returns-in-Err-clause-takes
+returns-in-Err-clause-takes g c = record {
   ok = tt;
   err = copied_none (g.S.DeviceFile.holds c.args.from.now) (g.S.DeviceFile.refuses c.args.from.now) c.args.first c.args.at
       (length c.args.bytes.now / 512) (g.D.DeviceFile.told c.args.to.now) (waiting_in c.args.run.now) c.in-Err.fault (omega arith)
@@ -13,8 +13,8 @@ returns-in-Err g c = record {
   size = refl;
 }
 
-pub returns-in-Ok-put_sectors : goal.returns-in-Ok-put_sectors
-returns-in-Ok-put_sectors g c = record {
+pub returns-in-Ok-put_sectors-clause-takes : goal.returns-in-Ok-put_sectors-clause-takes
+returns-in-Ok-put_sectors-clause-takes g c = record {
   ok = copying_run (g.S.DeviceFile.holds c.args.from.now) c.args.first c.args.at (length c.args.bytes.now / 512) c.read.new.to
       (g.D.DeviceFile.told c.args.to.now) (g.D.DeviceFile.told c.put_sectors.new.file) (waiting_in c.args.run.now)
       (waiting_in c.put_sectors.new.run) (omega arith) c.in-Ok.ensures.read c.in-Ok-put_sectors.ensures.ok;
@@ -22,8 +22,8 @@ returns-in-Ok-put_sectors g c = record {
   size = c.in-Ok-put_sectors.ensures.size;
 }
 
-pub returns-in-Err-put_sectors : goal.returns-in-Err-put_sectors
-returns-in-Err-put_sectors g c = record {
+pub returns-in-Err-put_sectors-clause-takes : goal.returns-in-Err-put_sectors-clause-takes
+returns-in-Err-put_sectors-clause-takes g c = record {
   ok = tt;
   err = copied_run (g.S.DeviceFile.holds c.args.from.now) (g.S.DeviceFile.refuses c.args.from.now) c.args.first c.args.at
       (length c.args.bytes.now / 512) c.read.new.to

@@ -11,8 +11,8 @@ returns-in-Err g c = record {
   err = copied_through (g.S.DeviceFile.holds c.args.from.now) (g.S.DeviceFile.refuses c.args.from.now) c.args.first c.runs.done _
       c.args.count c.args.at (g.D.DeviceFile.told c.args.to.now) (g.D.DeviceFile.told c.runs.to)
       (g.D.DeviceFile.told c.copy_run.new.to) [] (waiting_in c.runs.run) c.in-Err.fault (omega (arith, length-take {A = ℕ}))
-      c.runs.invariant.copying c.in-Err.ensures.err;
-  size = c.in-Err.ensures.size ∙ c.runs.invariant.size;
+      c.runs.invariant.copying c.in-Err.ensures.takes.err;
+  size = c.in-Err.ensures.takes.size ∙ c.runs.invariant.size;
 }
 
 pub runs-preserved : goal.runs-preserved
@@ -21,7 +21,7 @@ runs-preserved g c = record {
   copying = copying_through (g.S.DeviceFile.holds c.args.from.now) c.args.first c.runs.done _ (c.runs.done + c.min-part.result)
       c.args.at (g.D.DeviceFile.told c.args.to.now) (g.D.DeviceFile.told c.runs.to) (g.D.DeviceFile.told c.copy_run.new.to) []
       (waiting_in c.runs.run) (waiting_in c.copy_run.new.run) (omega (arith, length-take {A = ℕ})) c.runs.invariant.copying
-      c.in-Ok.ensures.ok;
-  size = c.in-Ok.ensures.size ∙ c.runs.invariant.size;
+      c.in-Ok.ensures.takes.ok;
+  size = c.in-Ok.ensures.takes.size ∙ c.runs.invariant.size;
   room = omega (arith, length-append {A = ℕ}, length-drop {A = ℕ}, length-take {A = ℕ});
 }
