@@ -41,7 +41,7 @@ pub extern "C" fn page_play(
     ensures played { result ≡ 0 → IsPlayed script.now told.new to.old to.new }
     ensures none { (result ≡ 1) ↔ (IsScript script.now → ⊥) }
     ensures room { result ≡ 3 → LacksRoom script.now told.new to.old }
-    ensures left { (result ≡ 0) ⊎ (to.new ≡ to.old) }
+    ensures left { (result ≡ 0) ⊎ ((result ≤ 3) × (to.new ≡ to.old)) }
 {
     let Some(head) = head_of(script) else {
         return NO_SCRIPT;
