@@ -8,16 +8,17 @@ use Rattle.std.proofs.lemmas.List.Elements.{All-nil, All-cons, All-append}
 use Rattle.medium.proofs.LaidOver.{laid_over, stays_before, lies_behind}
 use Rattle.medium.specs.declared.file_call.FileCall.{FileCall}
 use Rattle.medium.specs.declared.file_call.FileCall.TheVariants.{Read, Write}
-use Rattle.medium.specs.FileStory.{Told, Calls, AsksFor, KeepsBytes, Gives, Takes, TakesWithin, IsPut, MayPut, IsWriteWithin, IsRead, holds}
+use Rattle.medium.specs.FileStory.{Told, Calls, AsksFor, KeepsBytes, Gives, Takes, TakesWithin, IsPut, IsWriteWithin, IsRead, holds}
 
 -- no call
 pub no_calls : (P : FileCall → Type 0) (t : Told) → Calls P t t
-no_calls P t = record { calls = []; asked = sym (append-nil t.asked); each = All-nil P }
+no_calls P t = record { path_stays = refl; calls = []; asked = sym (append-nil t.asked); each = All-nil P }
 
 -- one call more
 pub one_call : (P : FileCall → Type 0) (call : FileCall) (good : Bool) (old mid new : Told) → Calls P old mid → AsksFor good call mid new
     → P call → Calls P old new
 one_call P call good old mid new c a p = record {
+  path_stays = a.path_stays ∙ c.path_stays;
   calls = c.calls ++ call ∷ [];
   asked = a.asked ∙ ap (λ (l : List FileCall). l ++ call ∷ []) c.asked ∙ append_assoc old.asked c.calls (call ∷ []);
   each = All-append P c.calls (call ∷ []) c.each (All-cons P call [] p (All-nil P));

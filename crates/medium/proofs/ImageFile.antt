@@ -5,7 +5,7 @@ use Rattle.std.proofs.lemmas.Bool.{cases_eq, cases_lt}
 use Rattle.std.proofs.lemmas.List.{get_or-drop, get_or-take}
 use Rattle.medium.specs.FileStory.{holds}
 use Rattle.medium.specs.Medium.{Passes}
-use Rattle.medium.specs.ImageFile.{Copied, state_of, refused, IsWritten, IsCopy, ComesAfter}
+use Rattle.medium.specs.ImageFile.{Copied, state_of, IsWritten, IsCopy, ComesAfter}
 use Rattle.medium.specs.Tally.{Tally, of_all, of_kind, one_more}
 use Rattle.medium.specs.Writes.{sector_of}
 use Rattle.medium.specs.declared.fault.MediumFault.{MediumFault}
@@ -84,6 +84,7 @@ module _ (s : ℕ) (block : List ℕ) (old new : Copied) (written : IsWritten s 
 
   pub written_follows : ComesAfter old new
   written_follows = record {
+    path_stays = written.put.calls.path_stays;
     length_stays = written.length_stays;
     later = omega (arith, written.calls_are);
     failures_stay = let same = ap of_all written.refused_stay in omega (arith, same);

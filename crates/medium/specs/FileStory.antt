@@ -139,6 +139,7 @@ IsWriteWithin from count Sync = ⊥
 
 -- These are the calls that were made, and each has P.
 pub record Calls (P : FileCall → Type 0) (old new : Told) : Type 0 where
+  pub path_stays : new.path ≡ old.path
   pub calls : List FileCall
   pub asked : new.asked ≡ old.asked ++ calls
   pub each : All P calls
@@ -153,16 +154,20 @@ pub record IsMeasured (bytes : ℕ) (old new : Told) : Type 0 where
   pub asked : new.asked ≡ old.asked ++ Lock ∷ Measure ∷ []
   pub size : new.size ≡ bytes
 
--- The file was opened to be changed, locked, measured, and then only read: these are its bytes.
-pub record IsReadWhole (bytes : List ℕ) (t : Told) : Type 0 where
+-- The file at this path was opened to be changed, locked, measured, and then only read: these are
+-- its bytes.
+pub record IsReadWhole (path bytes : List ℕ) (t : Told) : Type 0 where
+  pub path_is : t.path ≡ path
   pub reads : List FileCall
   pub asked : t.asked ≡ Open Change ∷ Lock ∷ Measure ∷ reads
   pub only : All IsRead reads
   pub size : t.size ≡ length bytes
   pub bytes_are : HoldsFirst bytes t
 
--- The file was opened to be replaced, locked, emptied, and then only written: these are its bytes.
-pub record IsMadeOf (bytes : List ℕ) (t : Told) : Type 0 where
+-- The file at this path was opened to be replaced, locked, emptied, and then only written: these
+-- are its bytes.
+pub record IsMadeOf (path bytes : List ℕ) (t : Told) : Type 0 where
+  pub path_is : t.path ≡ path
   pub writes : List FileCall
   pub asked : t.asked ≡ Open Replace ∷ Lock ∷ Resize 0 ∷ writes
   pub only : All (IsWriteWithin 0 (length bytes)) writes

@@ -81,6 +81,7 @@ pub record IsCopy (m : Copied) : Type 0 where
 
 -- the second comes after the first, by calls of a medium alone
 pub record ComesAfter (old new : Copied) : Type 0 where
+  pub path_stays : new.file.path ≡ old.file.path
   pub length_stays : length new.bytes ≡ length old.bytes
   pub later : old.calls ≤ new.calls
   pub failures_stay : of_all old.refused ≤ of_all new.refused

@@ -15,6 +15,7 @@ is_sound m = record {
 
 pub comes_after_itself : (m : Copied) → ComesAfter m m
 comes_after_itself m = record {
+  path_stays = refl;
   length_stays = refl;
   later = omega arith;
   failures_stay = omega arith;
@@ -24,6 +25,7 @@ comes_after_itself m = record {
 
 pub comes_after_through : (a b c : Copied) → ComesAfter a b → ComesAfter b c → ComesAfter a c
 comes_after_through a b c f g = record {
+  path_stays = g.path_stays ∙ f.path_stays;
   length_stays = g.length_stays ∙ f.length_stays;
   later = omega (arith, f.later, g.later);
   failures_stay = omega (arith, f.failures_stay, g.failures_stay);

@@ -86,7 +86,7 @@ impl<F: SectorFile + Drop> FileMedium<F> {
     ) -> Result<FileMedium<F>, FileError>
         ensures fresh { IfOk result (λ m. m ≡ fresh m.file m.bytes) }
         ensures image { IfOk result (λ m. IsImage m.bytes) }
-        ensures copied { IfOk result (λ m. IsReadWhole m.bytes m.file) }
+        ensures copied { IfOk result (λ m. IsReadWhole path.now m.bytes m.file) }
         ensures flushed { IfOk result (λ m. IsFlushed (state_of m)) }
     {
         let Ok(mut file) = OpenedFile::open(rt, path, Access::Change) else {
@@ -109,7 +109,7 @@ impl<F: SectorFile + Drop> FileMedium<F> {
         sectors: u64,
     ) -> Result<FileMedium<F>, FileError>
         ensures zeros { IfOk result (λ m. m ≡ fresh m.file (replicate (512 * sectors) 0)) }
-        ensures made { IfOk result (λ m. IsMadeOf (replicate (512 * sectors) 0) m.file) }
+        ensures made { IfOk result (λ m. IsMadeOf path.now (replicate (512 * sectors) 0) m.file) }
         ensures flushed { IfOk result (λ m. IsFlushed (state_of m)) }
         ensures none { IsErrOf result FileError.BadLength ↔ sectors ≡ 0 }
         ensures long { IsErrOf result FileError.TooLong ↔ 65536 < sectors }
@@ -141,7 +141,8 @@ impl<F> FileMedium<F> {
 fn bytes_of<S: ToldFile>(alloc: Global, file: &mut S) -> Result<Vec<u8>, FileError>
     requires { (S.told file.old).asked ≡ Open Access.Change ∷ [] }
     ensures image { IfOk result (λ bytes. IsImage bytes.items) }
-    ensures copied { IfOk result (λ bytes. IsReadWhole bytes.items (S.told file.new)) }
+    ensures copied { IfOk result (λ bytes.
+        IsReadWhole (S.told file.old).path bytes.items (S.told file.new)) }
 {
     let Ok(length) = lock_and_measure(file) else {
         return Err(FileError::File);
@@ -158,7 +159,7 @@ fn measured_bytes<S: ToldFile>(
     requires size { (S.told file.old).size ≡ length }
     requires asked { (S.told file.old).asked ≡ Open Access.Change ∷ Lock ∷ Measure ∷ [] }
     ensures { IfOk result (λ bytes. IsImage bytes.items
-        × IsReadWhole bytes.items (S.told file.new)) }
+        × IsReadWhole (S.told file.old).path bytes.items (S.told file.new)) }
 {
     let count = check_length(length)?;
     first_bytes(alloc, file, count)
@@ -198,7 +199,7 @@ fn made_file<F: SectorFile + Drop, R: Files<File = F>>(
 ) -> io::Result<OpenedFile<F>>
     requires some { 0 < length bytes.now }
     requires few { length bytes.now < 2 ^ 63 }
-    ensures { IfOk result (λ file. IsMadeOf bytes.now file) }
+    ensures { IfOk result (λ file. IsMadeOf path.now bytes.now file) }
 {
     let mut file = emptied_file(rt, path)?;
     put(&mut file, bytes, 0)?;
@@ -211,6 +212,7 @@ fn emptied_file<F: SectorFile + Drop, R: Files<File = F>>(
     rt: &R,
     path: &str,
 ) -> io::Result<OpenedFile<F>>
+    ensures path { IfOk result (λ file. file.path ≡ path.now) }
     ensures asked { IfOk result
         (λ file. file.asked ≡ Open Access.Replace ∷ Lock ∷ Resize 0 ∷ []) }
     ensures size { IfOk result (λ file. file.size ≡ 0) }

@@ -18,6 +18,7 @@ pub(crate) fn lock_and_measure<S: ToldFile>(file: &mut S) -> io::Result<u64>
 
 /// Locks a file, and only then empties it.
 pub(crate) fn lock_and_empty<S: ToldFile>(file: &mut S) -> io::Result<()>
+    ensures path { OnOk result ((S.told file.new).path ≡ (S.told file.old).path) }
     ensures asked { OnOk result ((S.told file.new).asked
         ≡ (S.told file.old).asked ++ Lock ∷ Resize 0 ∷ []) }
     ensures size { OnOk result ((S.told file.new).size ≡ 0) }
