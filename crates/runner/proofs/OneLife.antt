@@ -49,7 +49,7 @@ module _ {M : Type 0} (state : M → State) (most : ℕ) (remaining was now : Op
     (read : IsRead remaining script) (identity : Identification) (same : identity ≡ identification) (disk : DiskValue M)
     (opening : IsOpened (state medium) (state disk.unit.store.medium)
     (record { identity = identity; packet_size = most; retiring = Late }) disk)
-    (leaves : StartLeaves (state medium) (state disk.unit.store.medium)) where
+    (leaves : StartLeaves (state medium) (state disk.unit.store.medium)) (Follows : M → M → Type 0) where
   -- the disk played events
   abbrev lived : (events : List Event) (answers : List Answer) (refusals : List Bool) (new : DiskValue M) (after : M)
       → StepsThrough state disk events answers refusals new → new.unit.store.medium ≡ after
@@ -74,7 +74,7 @@ module _ {M : Type 0} (state : M → State) (most : ℕ) (remaining was now : Op
 
   -- a script that was played whole
   pub is_played : (after : M)
-      → (events : List Event) × (text : List ℕ) × Plays most (lines_of script) events × Leaves state disk events text after
+      → (events : List Event) × (text : List ℕ) × Plays most (lines_of script) events × Leaves state Follows disk events text after
       × Appends was now text
       → IsPlayed state most remaining was now medium after
   is_played after so = record {
@@ -89,7 +89,8 @@ module _ {M : Type 0} (state : M → State) (most : ℕ) (remaining was now : Op
   }
 
   -- a script whose writer failed
-  pub is_cut_short : (error : ErrorOf M) → (error.fault ≡ Writer) × BreaksOffAt state was now disk most (lines_of script) error.medium
+  pub is_cut_short : (error : ErrorOf M)
+      → (error.fault ≡ Writer) × BreaksOffAt state Follows was now disk most (lines_of script) error.medium
       → IsRefused state most remaining was now medium error.fault error.medium
   is_cut_short error (fault, so) =
       let breaks = so.breaks in

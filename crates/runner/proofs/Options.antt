@@ -41,3 +41,8 @@ pub match_result : {T E : Type 0} {P : E → Type 0} {Q : T → Type 0} {R : E �
     → ((e : E) → P e → R e) → IfErr r P → MatchResult r Q R
 match_result (Ok x) good bad holds = good x
 match_result (Err e) good bad holds = bad e holds
+
+-- what holds of a result either way
+pub both : {A E : Type 0} (r : Result A E) (P : A → Type 0) (Q : E → Type 0) → IfOk r P → IfErr r Q → MatchResult r P Q
+both (Ok a) P Q ok err = ok
+both (Err e) P Q ok err = err

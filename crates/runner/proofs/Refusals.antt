@@ -66,23 +66,24 @@ module _ (was now : Option (List ℕ)) (back : Option Copied) (words : List (Lis
   not_words (inl (image, format, blocks, slots, are, inl (is, sizes, none, kept))) same = cc
   not_words (inl (image, format, blocks, slots, are, inr (sizes, inl (is, none, kept)))) same = cc
   not_words (inl (image, format, blocks, slots, are, inr (sizes, inr (is, some)))) same = cc
-  not_words (inr (inl (line, inl without))) same = unread_not_words refusal without.unread same
-  not_words (inr (inl (line, inr stopped))) same =
+  not_words (inr (inl (image, line, inl without))) same = unread_not_words refusal without.unread same
+  not_words (inr (inl (image, line, inr stopped))) same =
       elim stopped.refused [
         | inl refused ↦ start_not_words refused.fault (sym refused.told ∙ same)
         | inr untold ↦ file_not_words refusal untold.failed same
       ]
-  not_words (inr (inr (inl (size, line, inl without)))) same = unread_not_words refusal without.unread same
-  not_words (inr (inr (inl (size, line, inr (inl script))))) same = file_not_words refusal script.failed same
-  not_words (inr (inr (inl (size, line, inr (inr play))))) same = script_not_words play.fault (sym play.told ∙ same)
+  not_words (inr (inr (inl (image, script, size, line, inl without)))) same = unread_not_words refusal without.unread same
+  not_words (inr (inr (inl (image, script, size, line, inr (inl unread))))) same = file_not_words refusal unread.failed same
+  not_words (inr (inr (inl (image, script, size, line, inr (inr play))))) same = script_not_words play.fault (sym play.told ∙ same)
   not_words (inr (inr (inr (size, line, inl without)))) same = unread_not_words refusal without.unread same
   not_words (inr (inr (inr (size, line, inr play)))) same = script_not_words play.fault (sym play.told ∙ same)
 
   -- what is not done was asked for
   not_asked : HasNotDone was now back words refusal → (IsCommandLine words → ⊥) → ⊥
   not_asked (inl (image, format, blocks, slots, are, not_done)) never = never (inl (image, format, blocks, slots, are))
-  not_asked (inr (inl (line, not_done))) never = never (inr (inl line))
-  not_asked (inr (inr (inl (size, line, not_done)))) never = never (inr (inr (inl (size, line))))
+  not_asked (inr (inl (image, line, not_done))) never = never (inr (inl (image, line)))
+  not_asked (inr (inr (inl (image, script, size, line, not_done)))) never =
+      never (inr (inr (inl (size, (image, script, line)))))
   not_asked (inr (inr (inr (size, line, not_done)))) never = never (inr (inr (inr (size, line))))
 
   -- at status 2 the words are no command line, and where they are none the status is 2 or 5

@@ -105,8 +105,12 @@ module _ {M : Type 0} where
     answers_of (event ∷ events) [] (refused ∷ refusals) old new steps = absurd steps
     answers_of (event ∷ events) (answer ∷ answers) [] old new steps = absurd steps
 
-    pub steps-one : (event : Event) (answer : Answer) (old new : DiskValue M)
+    pub steps-one : (Follows : M → M → Type 0) (event : Event) (answer : Answer) (old new : DiskValue M)
         → IsStep (state old.unit.store.medium) (state new.unit.store.medium) old event answer new
-        → StepsOn state old (event ∷ []) (answer ∷ []) new
-    steps-one event answer old new step =
-        (nat_lt (state old.unit.store.medium).failures (state new.unit.store.medium).failures ∷ [], step-one event answer old new step)
+        → Follows old.unit.store.medium new.unit.store.medium
+        → StepsOn state Follows old (event ∷ []) (answer ∷ []) new
+    steps-one Follows event answer old new step follows = (
+      nat_lt (state old.unit.store.medium).failures (state new.unit.store.medium).failures ∷ [],
+      step-one event answer old new step,
+      follows,
+    )

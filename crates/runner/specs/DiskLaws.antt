@@ -57,12 +57,15 @@ module _ {M : Type 0} (state : M → State) where
   one_each (e ∷ events) [] (r ∷ refusals) old new steps = absurd steps
   one_each (e ∷ events) (a ∷ answers) [] old new steps = absurd steps
 
-  pub disk_plays : IsPlayer (StepsOn state) packets_of
-  disk_plays = record {
-    none = λ d. ([], refl);
+  pub disk_plays : (Follows : M → M → Type 0) → ((m : M) → Follows m m)
+      → ((a b c : M) → Follows a b → Follows b c → Follows a c)
+      → IsPlayer (StepsOn state Follows) packets_of
+  disk_plays Follows itself follows_on = record {
+    none = λ d. ([], refl, itself d.unit.store.medium);
     through = λ a b c first rest told more done next. (
       done.0 ++ next.0,
       steps-append first rest told more done.0 next.0 a b c done.1 next.1,
+      follows_on _ _ _ done.2 next.2,
     );
     one_each = λ a b events answers done. one_each events answers done.0 a b done.1;
     most_stays = λ a b events answers done. packets_stay events answers done.0 a b done.1;

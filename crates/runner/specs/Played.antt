@@ -25,11 +25,12 @@ pub record Answers {M : Type 0} (before after : State) (old : DiskValue M) (even
       × FitsDisk after new later
       × (later.ours ≡ book.ours)
 
--- how a disk goes through events: step by step
-abbrev pub StepsOn : {M : Type 0} → (M → State) → DiskValue M → List Event → List Answer
-    → DiskValue M → Type 0
-StepsOn state old events answers new =
+-- how a disk goes through events: step by step, each of which follows for its medium
+abbrev pub StepsOn : {M : Type 0} → (M → State) → (M → M → Type 0) → DiskValue M → List Event
+    → List Answer → DiskValue M → Type 0
+StepsOn state Follows old events answers new =
     (refusals : List Bool) × StepsThrough state old events answers refusals new
+    × Follows old.unit.store.medium new.unit.store.medium
 
 -- the most bytes of a packet of a disk
 abbrev pub packets_of : {M : Type 0} → DiskValue M → ℕ
@@ -67,31 +68,31 @@ module _ {D : Type 0} (Goes : D → List Event → List Answer → D → Type 0)
     pub stops : Stops mid event new
 
 -- a disk played them step by step, with answers of this text
-abbrev pub Tells : {M : Type 0} → (M → State) → DiskValue M → List Event → List ℕ → DiskValue M
-    → Type 0
-Tells state old events text new = TellsBy (StepsOn state) old events text new
+abbrev pub Tells : {M : Type 0} → (M → State) → (M → M → Type 0) → DiskValue M → List Event
+    → List ℕ → DiskValue M → Type 0
+Tells state Follows old events text new = TellsBy (StepsOn state Follows) old events text new
 
 -- it did, and left this medium
-pub record Leaves {M : Type 0} (state : M → State) (old : DiskValue M) (events : List Event)
-    (text : List ℕ)
-    (after : M) : Type 0 where
+pub record Leaves {M : Type 0} (state : M → State) (Follows : M → M → Type 0) (old : DiskValue M)
+    (events : List Event) (text : List ℕ) (after : M) : Type 0 where
   pub new : DiskValue M
-  pub tells : Tells state old events text new
+  pub tells : Tells state Follows old events text new
   pub medium : new.unit.store.medium ≡ after
 
 -- a disk broke off at an event
-abbrev pub BreaksOff : {M : Type 0} → (M → State) → Option (List ℕ) → Option (List ℕ) → DiskValue M
-    → List Event → Event → DiskValue M → Type 0
-BreaksOff state was now old events event new =
-    BreaksOffBy (StepsOn state) was now old events event new
+abbrev pub BreaksOff : {M : Type 0} → (M → State) → (M → M → Type 0) → Option (List ℕ)
+    → Option (List ℕ) → DiskValue M → List Event → Event → DiskValue M → Type 0
+BreaksOff state Follows was now old events event new =
+    BreaksOffBy (StepsOn state Follows) was now old events event new
 
 -- it did at one of these lines, and left this medium
-pub record BreaksOffAt {M : Type 0} (state : M → State) (was now : Option (List ℕ))
-    (old : DiskValue M) (most : ℕ) (lines : List (List ℕ)) (after : M) : Type 0 where
+pub record BreaksOffAt {M : Type 0} (state : M → State) (Follows : M → M → Type 0)
+    (was now : Option (List ℕ)) (old : DiskValue M) (most : ℕ) (lines : List (List ℕ)) (after : M)
+    : Type 0 where
   pub first : List Event
   pub part : List Event
   pub event : Event
   pub stops : StopsAt (LinePlays most) lines first part event
   pub new : DiskValue M
-  pub breaks : BreaksOff state was now old (first ++ part) event new
+  pub breaks : BreaksOff state Follows was now old (first ++ part) event new
   pub medium : new.unit.store.medium ≡ after

@@ -25,16 +25,19 @@ use Rattle.runner.specs.declared.refusal.Refusal.TheVariants as refused
 use Rattle.runner.specs.Outcome.{IsPlayed, IsRefused}
 use Rattle.runner.specs.OutcomeOfLives.{ArePlayed, AreRefused}
 use Rattle.runner.specs.Status.{refusal_of_argument, refusal_of_fault, refusal_of_start}
-use Rattle.runner.specs.Task.{AreFormatWords, IsMigrateLine, IsScriptCommand, IsCommandLine}
+use Rattle.runner.specs.Task.{AreFormatWords, AreMigrateWords, AreScriptWords, IsCommandLine}
+use Rattle.runner.specs.Task.{IsScriptCommand}
 use Rattle.runner.specs.Text.{ended}
 
 -- `blocks` blocks and `slots` log slots of this format make an image of at most 65,536 sectors
 abbrev pub AreImageSizes : LogFormat → ℕ → ℕ → Type 0
 AreImageSizes format blocks slots = AreSizes 65536 (new_shape format blocks slots)
 
--- an image file of exactly the sectors that `blocks` blocks and `slots` log slots of this format
--- take, formatted
-pub record IsMade (format : LogFormat) (blocks slots : ℕ) (made : Copied) : Type 0 where
+-- an image file at this path, of exactly the sectors that `blocks` blocks and `slots` log slots of
+-- this format take, formatted
+pub record IsMade (path : List ℕ) (format : LogFormat) (blocks slots : ℕ) (made : Copied)
+    : Type 0 where
+  pub path_is : made.file.path ≡ path
   pub sizes : AreImageSizes format blocks slots
   pub exact : length made.bytes ≡ 512 * sectors_of (new_shape format blocks slots)
   pub formatted : IsFormatted (new_shape format blocks slots) (file.state_of made)
@@ -63,12 +66,12 @@ abbrev pub migration_text : Bool → List ℕ
 migration_text true = ended (codes "migrated")
 migration_text false = ended (codes "already format 2")
 
--- an image file was opened, and this is its medium before the first call
-pub record IsJustOpened (opened : Copied) : Type 0 where
+-- the image file at this path was opened, and this is its medium before the first call
+pub record IsJustOpened (path : List ℕ) (opened : Copied) : Type 0 where
   pub is_fresh : opened ≡ fresh opened.file opened.bytes
   pub is_image : IsImage opened.bytes
   -- it was locked, measured and read, and nothing else, and these are its bytes
-  pub is_read : IsReadWhole opened.bytes opened.file
+  pub is_read : IsReadWhole path opened.bytes opened.file
 
 -- the medium comes back, and this holds of it
 abbrev pub IsBack : {M : Type 0} → (M → Type 0) → Option M → Type 0
@@ -110,29 +113,32 @@ module _ (was now : Option (List ℕ)) where
   -- The medium of the image file comes back, where one was opened or made: with exactly what the
   -- work on it has left.
   module _ (back : Option Copied) where
-    -- an image file of this format and these sizes was made, and exactly this was appended
-    pub record IsFormat (format : LogFormat) (blocks slots : ℕ) : Type 0 where
+    -- an image file of this format and these sizes was made at this path, and exactly this was
+    -- appended
+    pub record IsFormat (path : List ℕ) (format : LogFormat) (blocks slots : ℕ) : Type 0 where
       pub made : Copied
       pub given : back ≡ Some made
-      pub is_made : IsMade format blocks slots made
+      pub is_made : IsMade path format blocks slots made
       pub written : Appends was now (ended (codes "formatted"))
 
-    -- some image file is of format 2 now, and exactly what is told of it was appended
-    pub record IsMigration : Type 0 where
+    -- the image file at this path is of format 2 now, and exactly what is told of it was appended
+    pub record IsMigration (path : List ℕ) : Type 0 where
       pub opened : Copied
-      pub is_opened : IsJustOpened opened
+      pub is_opened : IsJustOpened path opened
       pub after : Copied
       pub given : back ≡ Some after
+      pub path_is : after.file.path ≡ path
       pub migrated : IsMigrated file.state_of opened after
 
-    -- exactly the text of a life of some script's events on some image file was appended, with
-    -- packets of at most `most` bytes
-    pub record IsRun (most : ℕ) : Type 0 where
+    -- exactly the text of a life of some script's events on the image file at this path was
+    -- appended, with packets of at most `most` bytes
+    pub record IsRun (path : List ℕ) (most : ℕ) : Type 0 where
       pub opened : Copied
-      pub is_opened : IsJustOpened opened
+      pub is_opened : IsJustOpened path opened
       pub left : Option (List ℕ)
       pub after : Copied
       pub given : back ≡ Some after
+      pub path_is : after.file.path ≡ path
       pub played : IsPlayed file.state_of most left was now opened after
 
     -- exactly the text of lives by some script's lines over a copy of some image was appended, with
@@ -149,29 +155,31 @@ module _ (was now : Option (List ℕ)) where
     abbrev pub HasDone : List (List ℕ) → Type 0
     HasDone words = (
         (image : List ℕ) × (format : LogFormat) × (blocks : ℕ) × (slots : ℕ)
-        × AreFormatWords words image format blocks slots × IsFormat format blocks slots)
-        ⊎ ((IsMigrateLine words × IsMigration)
-        ⊎ (((size : PacketSize) × IsScriptCommand (codes "run") words size × IsRun (bytes_of size))
+        × AreFormatWords words image format blocks slots × IsFormat image format blocks slots)
+        ⊎ (((image : List ℕ) × AreMigrateWords words image × IsMigration image)
+        ⊎ (((image : List ℕ) × (script : List ℕ) × (size : PacketSize)
+        × AreScriptWords (codes "run") words image script size × IsRun image (bytes_of size))
         ⊎ ((size : PacketSize) × IsScriptCommand (codes "sim") words size
         × IsSim (bytes_of size))))
 
     -- an image was made, but not all of what is told of it was written
-    pub record IsFormatUntold (format : LogFormat) (blocks slots : ℕ) : Type 0 where
+    pub record IsFormatUntold (path : List ℕ) (format : LogFormat) (blocks slots : ℕ)
+        : Type 0 where
       pub made : Copied
       pub given : back ≡ Some made
-      pub is_made : IsMade format blocks slots made
+      pub is_made : IsMade path format blocks slots made
       pub written : AppendsSome was now (ended (codes "formatted"))
 
     -- No image file was made: the sizes are out of their limits. Or they are not, and there was no
     -- memory, or a file failed, the output perhaps.
-    abbrev pub IsFormatRefused : LogFormat → ℕ → ℕ → Refusal → Type 0
-    IsFormatRefused format blocks slots refusal =
+    abbrev pub IsFormatRefused : List ℕ → LogFormat → ℕ → ℕ → Refusal → Type 0
+    IsFormatRefused path format blocks slots refusal =
         ((refusal ≡ refused.ImageSize) × (¬ AreImageSizes format blocks slots)
         × (back ≡ None) × Keeps was now)
         ⊎ ((¬ (¬ AreImageSizes format blocks slots))
         × (((refusal ≡ refused.NoMemory) × (back ≡ None) × Keeps was now)
         ⊎ ((refusal ≡ refused.File)
-        × (((back ≡ None) × Keeps was now) ⊎ IsFormatUntold format blocks slots))))
+        × (((back ≡ None) × Keeps was now) ⊎ IsFormatUntold path format blocks slots))))
 
     -- no image file was opened, and nothing was written
     pub record NoImage (refusal : Refusal) : Type 0 where
@@ -179,33 +187,35 @@ module _ (was now : Option (List ℕ)) where
       pub none : back ≡ None
       pub kept : Keeps was now
 
-    -- an image file was not brought to format 2, or not all was told of it
-    pub record IsNotMigration (refusal : Refusal) : Type 0 where
+    -- the image file at this path was not brought to format 2, or not all was told of it
+    pub record IsNotMigration (path : List ℕ) (refusal : Refusal) : Type 0 where
       pub opened : Copied
-      pub is_opened : IsJustOpened opened
+      pub is_opened : IsJustOpened path opened
       pub after : Copied
       pub given : back ≡ Some after
+      pub path_is : after.file.path ≡ path
       pub refused : IsNotMigrated file.state_of opened after refusal
 
-    abbrev pub IsMigrationRefused : Refusal → Type 0
-    IsMigrationRefused refusal = NoImage refusal ⊎ IsNotMigration refusal
+    abbrev pub IsMigrationRefused : List ℕ → Refusal → Type 0
+    IsMigrationRefused path refusal = NoImage refusal ⊎ IsNotMigration path refusal
 
     -- a script file was not opened: the image file is as it was
-    pub record IsWithoutScript (refusal : Refusal) : Type 0 where
+    pub record IsWithoutScript (path : List ℕ) (refusal : Refusal) : Type 0 where
       pub opened : Copied
-      pub is_opened : IsJustOpened opened
+      pub is_opened : IsJustOpened path opened
       pub given : back ≡ Some opened
       pub failed : refusal ≡ refused.File
       pub kept : Keeps was now
 
-    -- a script on an image file was refused, and this is why
-    pub record IsPlayRefused (most : ℕ) (refusal : Refusal) : Type 0 where
+    -- a script on the image file at this path was refused, and this is why
+    pub record IsPlayRefused (path : List ℕ) (most : ℕ) (refusal : Refusal) : Type 0 where
       pub opened : Copied
-      pub is_opened : IsJustOpened opened
+      pub is_opened : IsJustOpened path opened
       pub left : Option (List ℕ)
       pub fault : ScriptFault
       pub after : Copied
       pub given : back ≡ Some after
+      pub path_is : after.file.path ≡ path
       pub refused : IsRefused file.state_of most left was now opened fault after
       pub told : refusal ≡ refusal_of_fault fault
 
@@ -220,9 +230,9 @@ module _ (was now : Option (List ℕ)) where
       pub refused : AreRefused most left was now (simulated image) fault after
       pub told : refusal ≡ refusal_of_fault fault
 
-    abbrev pub IsRunRefused : ℕ → Refusal → Type 0
-    IsRunRefused most refusal =
-        NoImage refusal ⊎ (IsWithoutScript refusal ⊎ IsPlayRefused most refusal)
+    abbrev pub IsRunRefused : List ℕ → ℕ → Refusal → Type 0
+    IsRunRefused path most refusal =
+        NoImage refusal ⊎ (IsWithoutScript path refusal ⊎ IsPlayRefused path most refusal)
 
     abbrev pub IsSimRefused : ℕ → Refusal → Type 0
     IsSimRefused most refusal = NoImage refusal ⊎ ArePlaysRefused most refusal
@@ -232,10 +242,11 @@ module _ (was now : Option (List ℕ)) where
     HasNotDone words refusal =
         ((image : List ℕ) × (format : LogFormat) × (blocks : ℕ) × (slots : ℕ)
         × AreFormatWords words image format blocks slots
-        × IsFormatRefused format blocks slots refusal)
-        ⊎ ((IsMigrateLine words × IsMigrationRefused refusal)
-        ⊎ (((size : PacketSize) × IsScriptCommand (codes "run") words size
-        × IsRunRefused (bytes_of size) refusal)
+        × IsFormatRefused image format blocks slots refusal)
+        ⊎ (((image : List ℕ) × AreMigrateWords words image × IsMigrationRefused image refusal)
+        ⊎ (((image : List ℕ) × (script : List ℕ) × (size : PacketSize)
+        × AreScriptWords (codes "run") words image script size
+        × IsRunRefused image (bytes_of size) refusal)
         ⊎ ((size : PacketSize) × IsScriptCommand (codes "sim") words size
         × IsSimRefused (bytes_of size) refusal)))
 

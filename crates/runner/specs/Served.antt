@@ -199,21 +199,22 @@ MayAsk {D} {S} Goes Stops most was old beginning left may_ask =
     → may_ask source now
 
 -- a disk was served
-module _ {M : Type 0} (state : M → State) (most : ℕ) (was now : Option (List ℕ))
-    (old new : DiskValue M) where
+module _ {M : Type 0} (state : M → State) (Follows : M → M → Type 0) (most : ℕ)
+    (was now : Option (List ℕ)) (old new : DiskValue M) where
   abbrev pub IsServed : Option (List ℕ) → Option (List ℕ) → Type 0
-  IsServed left after = IsServedBy (StepsOn state) HasNoAnswer most was now old new left after
+  IsServed left after =
+      IsServedBy (StepsOn state Follows) HasNoAnswer most was now old new left after
 
   abbrev pub IsStopped : Option (List ℕ) → Option (List ℕ) → LineFault → Type 0
   IsStopped left after (fault.Line number) =
-      IsStoppedBy (StepsOn state) HasNoAnswer most was now old new left after (Line number)
+      IsStoppedBy (StepsOn state Follows) HasNoAnswer most was now old new left after (Line number)
   IsStopped left after fault.Reader =
-      IsStoppedBy (StepsOn state) HasNoAnswer most was now old new left after Reader
+      IsStoppedBy (StepsOn state Follows) HasNoAnswer most was now old new left after Reader
   IsStopped left after fault.Writer =
-      IsStoppedBy (StepsOn state) HasNoAnswer most was now old new left after Writer
+      IsStoppedBy (StepsOn state Follows) HasNoAnswer most was now old new left after Writer
 
-abbrev pub MayAskInTurn : {M S : Type 0} (state : M → State) (most : ℕ) (was : Option (List ℕ))
-    (old : DiskValue M) (beginning : Option (List ℕ)) (left : S → Option (List ℕ))
-    (may_ask : S → Option (List ℕ) → Type 0) → Type 0
-MayAskInTurn state most was old beginning left may_ask =
-    MayAsk (StepsOn state) HasNoAnswer most was old beginning left may_ask
+abbrev pub MayAskInTurn : {M S : Type 0} (state : M → State) (Follows : M → M → Type 0) (most : ℕ)
+    (was : Option (List ℕ)) (old : DiskValue M) (beginning : Option (List ℕ))
+    (left : S → Option (List ℕ)) (may_ask : S → Option (List ℕ) → Type 0) → Type 0
+MayAskInTurn state Follows most was old beginning left may_ask =
+    MayAsk (StepsOn state Follows) HasNoAnswer most was old beginning left may_ask

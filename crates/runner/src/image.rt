@@ -30,7 +30,7 @@ pub(crate) fn make_image<R: Files<File = File> + AllocGlobal>(
     blocks: u64,
     slots: u64,
 ) -> Result<FileMedium<File>, Refusal>
-    ensures made { IfOk result (IsMade format blocks slots) }
+    ensures made { IfOk result (IsMade path.now format blocks slots) }
     ensures size { (result ≡ Err Refusal.ImageSize) ↔ ¬ AreImageSizes format blocks slots }
     ensures refused { IfErr result (λ refusal. (refusal ≡ Refusal.ImageSize)
         ⊎ ((refusal ≡ Refusal.File) ⊎ (refusal ≡ Refusal.NoMemory))) }
@@ -89,7 +89,7 @@ pub(crate) fn open_image<R: Files<File = File> + AllocGlobal>(
     rt: &R,
     path: &str,
 ) -> Result<FileMedium<File>, Refusal>
-    ensures opened { IfOk result IsJustOpened }
+    ensures opened { IfOk result (IsJustOpened path.now) }
     ensures refused { IfErr result (λ refusal. (refusal ≡ Refusal.ImageLength)
         ⊎ ((refusal ≡ Refusal.File) ⊎ (refusal ≡ Refusal.NoMemory))) }
 {

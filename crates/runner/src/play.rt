@@ -33,11 +33,12 @@ pub(crate) fn play<M: Medium, W: Write>(
     requires good { All (IsScriptLine ScriptKind.OneLife (bytes_of size)) (lines_of script.now) }
     requires packets { disk.line.packet_size ≡ bytes_of size }
     ensures played { IfOk result (λ after. (events : List Event) × (text : List ℕ)
-        × Plays (bytes_of size) (lines_of script.now) events × Leaves M.state disk events text after
+        × Plays (bytes_of size) (lines_of script.now) events
+        × Leaves M.state M.follows disk events text after
         × Appends (W.contents out.old) (W.contents out.new) text) }
     ensures cut_short { IfErr result (λ error. (error.fault ≡ ScriptFault.Writer)
-        × BreaksOffAt M.state (W.contents out.old) (W.contents out.new) disk (bytes_of size)
-        (lines_of script.now) error.medium) }
+        × BreaksOffAt M.state M.follows (W.contents out.old) (W.contents out.new) disk
+        (bytes_of size) (lines_of script.now) error.medium) }
 {
     match play_lines(&mut disk, size, script, out) {
         Ok(()) => Ok(disk.into_medium()),
@@ -59,11 +60,11 @@ fn play_lines<M: Medium, W: Write>(
     requires packets { disk.old.line.packet_size ≡ bytes_of size }
     ensures played { OnOk result ((events : List Event) × (text : List ℕ)
         × Plays (bytes_of size) (lines_of script.now) events
-        × Tells M.state disk.old events text disk.new
+        × Tells M.state M.follows disk.old events text disk.new
         × Appends (W.contents out.old) (W.contents out.new) text) }
     ensures cut_short { IfErr result (λ fault. (fault ≡ ScriptFault.Writer)
-        × BreaksOffAt M.state (W.contents out.old) (W.contents out.new) disk.old (bytes_of size)
-        (lines_of script.now) disk.new.unit.store.medium) }
+        × BreaksOffAt M.state M.follows (W.contents out.old) (W.contents out.new) disk.old
+        (bytes_of size) (lines_of script.now) disk.new.unit.store.medium) }
 {
     for line in Parts::lines(script) {
         if play_line(disk, size, line, out).is_err() {
@@ -84,12 +85,12 @@ fn play_line<M: Medium, W: Write>(
     requires packets { disk.old.line.packet_size ≡ bytes_of size }
     ensures played { OnOk result ((events : List Event) × (text : List ℕ)
         × LinePlays (bytes_of size) line.now events
-        × Tells M.state disk.old events text disk.new
+        × Tells M.state M.follows disk.old events text disk.new
         × Appends (W.contents out.old) (W.contents out.new) text) }
     ensures cut_short { OnErr result ((events : List Event) × (event : Event) × (rest : List Event)
         × LinePlays (bytes_of size) line.now (events ++ event ∷ rest)
-        × BreaksOff M.state (W.contents out.old) (W.contents out.new) disk.old events event
-        disk.new) }
+        × BreaksOff M.state M.follows (W.contents out.old) (W.contents out.new) disk.old events
+        event disk.new) }
 {
     let asked = read_line(ScriptKind::OneLife, size, line).unwrap();
     play_asked(disk, asked, out)

@@ -57,13 +57,13 @@ impl<M: Medium> Player for Disk<M> {
     ghost use Rattle.runner.specs.DiskLaws.{disk_plays};
     ghost use Rattle.runner.specs.Played.{StepsOn, HasNoAnswer, packets_of};
 
-    ghost goes = { StepsOn M.state };
+    ghost goes = { StepsOn M.state M.follows };
 
     ghost stops = { HasNoAnswer };
 
     ghost most = { packets_of };
 
-    ghost laws = { disk_plays M.state };
+    ghost laws = { disk_plays M.state M.follows M.follows_itself M.follows_through };
 
     fn longest_packet(&self) -> PacketSize {
         match self.packet_size() {

@@ -163,9 +163,9 @@ fn make<R: Files<File = File> + AllocGlobal, O: Write>(
     out: &mut O,
 ) -> Result<LeftImage, Stopped<LeftImage>>
     ensures done { IfOk result (λ back. IsFormat (O.contents out.old) (O.contents out.new) back
-        format blocks slots) }
+        image.now format blocks slots) }
     ensures refused { IfErr result (λ stopped. IsFormatRefused (O.contents out.old)
-        (O.contents out.new) stopped.medium format blocks slots stopped.refusal) }
+        (O.contents out.new) stopped.medium image.now format blocks slots stopped.refusal) }
 {
     let medium = make_image(rt, image, format, blocks, slots)?;
     tell_of(medium, b"formatted\n", out)
@@ -196,12 +196,14 @@ fn migrate<R: Files<File = File> + AllocGlobal, O: Write>(
     image: &str,
     out: &mut O,
 ) -> Result<LeftImage, Stopped<LeftImage>>
-    ensures done { IfOk result (IsMigration (O.contents out.old) (O.contents out.new)) }
+    ensures done { IfOk result (λ back.
+        IsMigration (O.contents out.old) (O.contents out.new) back image.now) }
     ensures refused { IfErr result (λ stopped. IsMigrationRefused (O.contents out.old)
-        (O.contents out.new) stopped.medium stopped.refusal) }
+        (O.contents out.new) stopped.medium image.now stopped.refusal) }
 {
     let _streams = hold(rt)?;
-    migrate_medium(open_image(rt, image)?, out)
+    let medium = open_image(rt, image)?;
+    migrate_medium(medium, out)
 }
 
 // Brings a medium to format 2, says whether it was of format 1, and gives the medium back.
@@ -209,10 +211,11 @@ fn migrate_medium<M: Medium, O: Write>(
     mut medium: M,
     out: &mut O,
 ) -> Result<Option<M>, Stopped<Option<M>>>
-    ensures done { IfOk result (IsBack (IsMigrated (O.contents out.old) (O.contents out.new)
-        M.state medium)) }
+    ensures done { IfOk result (IsBack (λ back. IsMigrated (O.contents out.old) (O.contents out.new)
+        M.state medium back × M.follows medium back)) }
     ensures refused { IfErr result (λ stopped. IsBack (λ back. IsNotMigrated (O.contents out.old)
-        (O.contents out.new) M.state medium back stopped.refusal) stopped.medium) }
+        (O.contents out.new) M.state medium back stopped.refusal × M.follows medium back)
+        stopped.medium) }
 {
     match recovery::migrate(&mut medium) {
         Ok((_, was_one)) => tell_of(medium, migration_line(was_one), out),
@@ -241,9 +244,9 @@ fn run<R: Files<File = File> + AllocGlobal, O: Write>(
     out: &mut O,
 ) -> Result<LeftImage, Stopped<LeftImage>>
     ensures done { IfOk result (λ back.
-        IsRun (O.contents out.old) (O.contents out.new) back (bytes_of size)) }
+        IsRun (O.contents out.old) (O.contents out.new) back image.now (bytes_of size)) }
     ensures refused { IfErr result (λ stopped. IsRunRefused (O.contents out.old)
-        (O.contents out.new) stopped.medium (bytes_of size) stopped.refusal) }
+        (O.contents out.new) stopped.medium image.now (bytes_of size) stopped.refusal) }
 {
     let _streams = hold(rt)?;
     let medium = open_image(rt, image)?;

@@ -39,6 +39,8 @@ pub fn run_script<M: Medium, R: Read, W: Write>(
         error.medium) }
     ensures taken { MatchResult result (λ _. IsAtEnd (R.remaining script.new)) (λ error.
         HasTaken error.fault (R.remaining script.old) (R.remaining script.new)) }
+    ensures follows { MatchResult result (M.follows medium) (λ error.
+        M.follows medium error.medium) }
 {
     match read_script(alloc, ScriptKind::OneLife, size, script) {
         Ok(script) => play_script(alloc, medium, script.as_slice(), out, size),
@@ -62,6 +64,8 @@ fn play_script<M: Medium, W: Write>(
         error.fault error.medium) }
     ensures taken { (left now : Option (List ℕ)) → IsAtEnd now → IfErr result (λ error.
         HasTaken error.fault left now) }
+    ensures follows { MatchResult result (λ back. M.follows medium back)
+        (λ error. M.follows medium error.medium) }
 {
     match Disk::start_with(alloc, medium, disk_identity(), size) {
         Ok(disk) => play(disk, size, script, out),

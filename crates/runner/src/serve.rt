@@ -85,10 +85,12 @@ pub fn serve_lines<M: Medium, R: Read, W: Write>(
     reader: &mut R,
     out: &mut W,
 ) -> Result<(), LineFault>
-    ensures served { OnOk result (IsServed M.state disk.old.line.packet_size (W.contents out.old)
-        (W.contents out.new) disk.old disk.new (R.remaining reader.old) (R.remaining reader.new)) }
-    ensures stopped { IfErr result (IsStopped M.state disk.old.line.packet_size (W.contents out.old)
-        (W.contents out.new) disk.old disk.new (R.remaining reader.old) (R.remaining reader.new)) }
+    ensures served { OnOk result (IsServed M.state M.follows disk.old.line.packet_size
+        (W.contents out.old) (W.contents out.new) disk.old disk.new
+        (R.remaining reader.old) (R.remaining reader.new)) }
+    ensures stopped { IfErr result (IsStopped M.state M.follows disk.old.line.packet_size
+        (W.contents out.old) (W.contents out.new) disk.old disk.new
+        (R.remaining reader.old) (R.remaining reader.new)) }
 {
     serve_source(disk, reader, out)
 }
@@ -105,12 +107,14 @@ pub fn serve_source<M: Medium, S: LineSource<W>, W: Write>(
     source: &mut S,
     out: &mut W,
 ) -> Result<(), LineFault>
-    requires asks { MayAskInTurn M.state disk.old.line.packet_size (W.contents out.old) disk.old
-        (S.left source.old) S.left S.may_ask }
-    ensures served { OnOk result (IsServed M.state disk.old.line.packet_size (W.contents out.old)
-        (W.contents out.new) disk.old disk.new (S.left source.old) (S.left source.new)) }
-    ensures stopped { IfErr result (IsStopped M.state disk.old.line.packet_size (W.contents out.old)
-        (W.contents out.new) disk.old disk.new (S.left source.old) (S.left source.new)) }
+    requires asks { MayAskInTurn M.state M.follows disk.old.line.packet_size (W.contents out.old)
+        disk.old (S.left source.old) S.left S.may_ask }
+    ensures served { OnOk result (IsServed M.state M.follows disk.old.line.packet_size
+        (W.contents out.old) (W.contents out.new) disk.old disk.new
+        (S.left source.old) (S.left source.new)) }
+    ensures stopped { IfErr result (IsStopped M.state M.follows disk.old.line.packet_size
+        (W.contents out.old) (W.contents out.new) disk.old disk.new
+        (S.left source.old) (S.left source.new)) }
 {
     match serve_player(disk, source, out) {
         Ok(()) => Ok(()),

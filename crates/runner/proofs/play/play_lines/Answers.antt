@@ -18,12 +18,14 @@ pub loop-line-init : goal.loop-line-init
 loop-line-init g c =
     let same = ap parts_left c.into_iter-line-iterator.ensures.into_iter_gives ∙ c.lines-line-items.ensures in
     let left = parts_left c.into_iter-line-iterator.result in
+    let goes = StepsOn g.M.Medium.state g.M.Medium.follows in
+    let laws = disk_plays g.M.Medium.state g.M.Medium.follows g.met.M.Medium.follows_itself g.met.M.Medium.follows_through in
     record {
       left = rw same c.requires.good;
       so_far = (
         [],
         [],
-        tells-none (StepsOn g.M.Medium.state) packets_of (disk_plays g.M.Medium.state) c.args.disk.now,
+        tells-none goes packets_of laws c.args.disk.now,
         given-start (LinePlays (bytes_of c.args.size)) (lines_of c.args.script.now) left same,
         Appends-nil (g.W.Write.contents c.args.out.now),
       );
@@ -33,17 +35,20 @@ pub play_line-requires : goal.play_line-requires
 play_line-requires g c =
     let left = rw c.in-Some.ensures.steps at c.loop-line.invariant.left in
     let told = c.loop-line.invariant.so_far.2 in
+    let goes = StepsOn g.M.Medium.state g.M.Medium.follows in
+    let laws = disk_plays g.M.Medium.state g.M.Medium.follows g.met.M.Medium.follows_itself g.met.M.Medium.follows_through in
     record {
       good = left 0 [] (omega arith);
       packets =
-          most_stays (StepsOn g.M.Medium.state) packets_of (disk_plays g.M.Medium.state) c.args.disk.now c.loop-line.disk
+          most_stays goes packets_of laws c.args.disk.now c.loop-line.disk
           c.loop-line.invariant.so_far.0 c.loop-line.invariant.so_far.1 told
           ∙ c.requires.packets;
     }
 
 pub loop-line-preserved : goal.loop-line-preserved
 loop-line-preserved g c =
-    let state = g.M.Medium.state in
+    let goes = StepsOn g.M.Medium.state g.M.Medium.follows in
+    let laws = disk_plays g.M.Medium.state g.M.Medium.follows g.met.M.Medium.follows_itself g.met.M.Medium.follows_through in
     let contents = g.W.Write.contents in
     let so = c.loop-line.invariant.so_far in
     let left = rw c.in-Some.ensures.steps at c.loop-line.invariant.left in
@@ -53,7 +58,7 @@ loop-line-preserved g c =
       so_far = (
         so.0 ++ here.0,
         so.1 ++ here.1,
-        tells-more (StepsOn state) packets_of (disk_plays state) c.args.disk.now c.loop-line.disk c.play_line.new.disk so.0 here.0 so.1
+        tells-more goes packets_of laws c.args.disk.now c.loop-line.disk c.play_line.new.disk so.0 here.0 so.1
             here.1 so.2 here.3,
         given-more (LinePlays (bytes_of c.args.size)) (lines_of c.args.script.now) (parts_left c.loop-line.line-iterator)
             (parts_left c.next.new.self) c.in-Some.line.now c.in-Some.ensures.steps so.0 here.0 so.3 here.2,
@@ -74,7 +79,8 @@ returns-clause-played g c =
 
 pub returns-then-is_err-clause-cut_short : goal.returns-then-is_err-clause-cut_short
 returns-then-is_err-clause-cut_short g c =
-    let state = g.M.Medium.state in
+    let goes = StepsOn g.M.Medium.state g.M.Medium.follows in
+    let laws = disk_plays g.M.Medium.state g.M.Medium.follows g.met.M.Medium.follows_itself g.met.M.Medium.follows_through in
     let contents = g.W.Write.contents in
     let so = c.loop-line.invariant.so_far in
     let here = on_err c.play_line.result c.if-is_err.ensures.value c.play_line.ensures.cut_short in
@@ -89,7 +95,7 @@ returns-then-is_err-clause-cut_short g c =
             (lines_of c.args.script.now) (parts_left c.loop-line.line-iterator) (parts_left c.next.new.self) c.in-Some.line.now
             c.in-Some.ensures.steps so.0 here.0 here.1 here.2 so.3 here.3 (λ k d lt. left (suc k) d (omega (arith, lt)));
         new = c.play_line.new.disk;
-        breaks = breaks-more (StepsOn state) packets_of (disk_plays state) (contents c.args.out.now) (contents c.loop-line.out) (contents
+        breaks = breaks-more goes packets_of laws (contents c.args.out.now) (contents c.loop-line.out) (contents
             c.play_line.new.out) c.args.disk.now
             c.loop-line.disk c.play_line.new.disk so.0 here.0 so.1 here.1 so.2 so.4 here.4;
         medium = refl;

@@ -17,7 +17,7 @@ invariant-loop-line g l =
     let contents = g.W.Write.contents in
     record {
       left : All (IsScriptLine OneLife (bytes_of l.size)) (parts_left l.line-iterator);
-      so_far : (events : List Event) × (text : List ℕ) × Tells g.M.Medium.state l.fn.disk events text l.disk
+      so_far : (events : List Event) × (text : List ℕ) × Tells g.M.Medium.state g.M.Medium.follows l.fn.disk events text l.disk
           × IsGivenTo (LinePlays (bytes_of l.size)) (lines_of l.script) (parts_left l.line-iterator) events
           × Appends (contents l.fn.out) (contents l.out) text;
     }

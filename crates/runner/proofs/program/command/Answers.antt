@@ -8,8 +8,8 @@ use Rattle.runner.proofs.program.command.Goals as goal
 -- what was done was asked for
 asked_for : (was now : Option (List ℕ)) (back : Option Copied) (words : List (List ℕ)) → HasDone was now back words → IsCommandLine words
 asked_for was now back words (inl done) = inl (done.0, done.1, done.2, done.3, done.4)
-asked_for was now back words (inr (inl done)) = inr (inl done.0)
-asked_for was now back words (inr (inr (inl done))) = inr (inr (inl (done.0, done.1)))
+asked_for was now back words (inr (inl done)) = inr (inl (done.0, done.1))
+asked_for was now back words (inr (inr (inl done))) = inr (inr (inl (done.2, (done.0, done.1, done.3))))
 asked_for was now back words (inr (inr (inr done))) = inr (inr (inr (done.0, done.1)))
 
 pub returns-in-Ok-clause-other_words : goal.returns-in-Ok-clause-other_words

@@ -10,17 +10,17 @@ returns-in-Format-clause-done g c =
 pub returns-in-Migrate-clause-done : goal.returns-in-Migrate-clause-done
 returns-in-Migrate-clause-done g c =
     let spelled = rw c.in-Migrate.is at c.in_ok-image.ensures.spelled in
-    if_ok c.migrate.result (λ back done. inr (inl ((c.in-Migrate.image.now, spelled), done))) c.migrate.ensures.done
+    if_ok c.migrate.result (λ back done. inr (inl (c.in-Migrate.image.now, spelled, done))) c.migrate.ensures.done
 
 pub returns-in-Migrate-clause-refused : goal.returns-in-Migrate-clause-refused
 returns-in-Migrate-clause-refused g c =
     let spelled = rw c.in-Migrate.is at c.in_ok-image.ensures.spelled in
-    if_err c.migrate.result (λ stopped why. inr (inr (inr (inl ((c.in-Migrate.image.now, spelled), why))))) c.migrate.ensures.refused
+    if_err c.migrate.result (λ stopped why. inr (inr (inr (inl (c.in-Migrate.image.now, spelled, why))))) c.migrate.ensures.refused
 
 pub returns-in-Run-clause-done : goal.returns-in-Run-clause-done
 returns-in-Run-clause-done g c =
     let spelled = rw c.in-Run.is at c.in_ok-image.ensures.spelled in
-    if_ok c.run.result (λ back done. inr (inr (inl (c.in-Run.size, (c.in-Run.image.now, c.in-Run.script.now, spelled), done))))
+    if_ok c.run.result (λ back done. inr (inr (inl (c.in-Run.image.now, c.in-Run.script.now, c.in-Run.size, spelled, done))))
     c.run.ensures.done
 
 pub returns-in-Ok-clause-done : goal.returns-in-Ok-clause-done

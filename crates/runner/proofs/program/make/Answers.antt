@@ -9,13 +9,13 @@ use Rattle.runner.proofs.Taken.{if-err}
 use Rattle.runner.proofs.program.make.Goals as goal
 
 -- why no image was made, where nothing was written
-not_made : {M : Type 0} (was : Option (List ℕ)) (format : LogFormat) (blocks slots : ℕ) (refusal : Refusal)
+not_made : {M : Type 0} (was : Option (List ℕ)) (path : List ℕ) (format : LogFormat) (blocks slots : ℕ) (refusal : Refusal)
     → (◌≡◌ {A = Result M Refusal} (Err refusal) (Err ImageSize)) ↔ ¬ AreImageSizes format blocks slots
-    → (refusal ≡ ImageSize) ⊎ ((refusal ≡ File) ⊎ (refusal ≡ NoMemory)) → IsFormatRefused was was None format blocks slots refusal
-not_made was format blocks slots refusal size (inl is) = inl (is, size.0 (ap Err is), refl, Keeps-refl was)
-not_made was format blocks slots refusal size (inr (inl is)) =
+    → (refusal ≡ ImageSize) ⊎ ((refusal ≡ File) ⊎ (refusal ≡ NoMemory)) → IsFormatRefused was was None path format blocks slots refusal
+not_made was path format blocks slots refusal size (inl is) = inl (is, size.0 (ap Err is), refl, Keeps-refl was)
+not_made was path format blocks slots refusal size (inr (inl is)) =
     inr (λ none. (let same = size.1 none in absurd (cc)), inr (is, inl (refl, Keeps-refl was)))
-not_made was format blocks slots refusal size (inr (inr is)) =
+not_made was path format blocks slots refusal size (inr (inr is)) =
     inr (λ none. (let same = size.1 none in absurd (cc)), inl (is, refl, Keeps-refl was))
 
 pub returns-in_err-medium-clause-refused : goal.returns-in_err-medium-clause-refused
@@ -23,9 +23,10 @@ returns-in_err-medium-clause-refused g c =
     let made = c.in_err-medium.ensures in
     let out = g.O.Write.contents c.args.out.now in
     if-err c.from_residual.result (λ stopped. stopped ≡ record { refusal = c.in_err-medium.field-0.0; medium = None })
-    (λ stopped. IsFormatRefused out out stopped.medium c.args.format c.args.blocks c.args.slots stopped.refusal)
+    (λ stopped. IsFormatRefused out out stopped.medium c.args.image.now c.args.format c.args.blocks c.args.slots stopped.refusal)
     c.from_residual.ensures.1
-    (λ stopped same. rw same (not_made out c.args.format c.args.blocks c.args.slots c.in_err-medium.field-0.0 made.size made.refused))
+    (λ stopped same. rw same (not_made out c.args.image.now c.args.format c.args.blocks c.args.slots c.in_err-medium.field-0.0 made.size
+    made.refused))
 
 pub returns-clause-done : goal.returns-clause-done
 returns-clause-done g c =

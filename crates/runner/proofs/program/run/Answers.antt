@@ -1,4 +1,4 @@
-use Rattle.std.proofs.Common.{◌≡◌, Option, Some, Result, Ok, Err, refl, inr}
+use Rattle.std.proofs.Common.{◌≡◌, ◌∙◌, Option, Some, Result, Ok, Err, refl, inr}
 use Rattle.std.specs.Prelude.{IfOk, IfErr, MatchResult}
 use Rattle.runner.specs.declared.ended.Stopped.{Stopped as StoppedOf}
 use Rattle.runner.specs.declared.fault.ScriptError.{ScriptError as ErrorOf}
@@ -24,6 +24,16 @@ left_err : {M : Type 0} (P : ErrorOf M → Type 0) (played : Result M (ErrorOf M
 left_err P (Ok after) result left holds = rw left tt
 left_err P (Err error) result left holds = rw left (error, refl, refl, holds)
 
+-- what holds of a good end, and of a bad one
+ok_both : {A E : Type 0} (r : Result A E) (P R : A → Type 0) (Q : E → Type 0) → IfOk r P → MatchResult r R Q → IfOk r (λ a. P a × R a)
+ok_both (Ok a) P R Q ok both = (ok, both)
+ok_both (Err e) P R Q ok both = tt
+
+err_both : {A E : Type 0} (r : Result A E) (P : E → Type 0) (R : A → Type 0) (Q : E → Type 0) → IfErr r P → MatchResult r R Q
+    → IfErr r (λ e. P e × Q e)
+err_both (Ok a) P R Q err both = tt
+err_both (Err e) P R Q err both = (err, both)
+
 pub returns-clause-done : goal.returns-clause-done
 returns-clause-done g c =
     if_ok c.left_by.result
@@ -33,9 +43,11 @@ returns-clause-done g c =
       left = _;
       after = is.0;
       given = is.1;
-      played = is.2;
+      path_is = is.2.1.path_stays ∙ c.in_ok-medium.ensures.opened.is_read.path_is;
+      played = is.2.0;
     })
-    (left_ok _ c.run_script.result c.left_by.result c.left_by.ensures c.run_script.ensures.played)
+    (left_ok _ c.run_script.result c.left_by.result c.left_by.ensures
+    (ok_both c.run_script.result _ _ _ c.run_script.ensures.played c.run_script.ensures.follows))
 
 pub returns-clause-refused : goal.returns-clause-refused
 returns-clause-refused g c =
@@ -47,7 +59,9 @@ returns-clause-refused g c =
       fault = is.0.fault;
       after = is.0.medium;
       given = is.1;
-      refused = is.3;
+      path_is = is.3.1.path_stays ∙ c.in_ok-medium.ensures.opened.is_read.path_is;
+      refused = is.3.0;
       told = is.2;
     })))
-    (left_err _ c.run_script.result c.left_by.result c.left_by.ensures c.run_script.ensures.refused)
+    (left_err _ c.run_script.result c.left_by.result c.left_by.ensures
+    (err_both c.run_script.result _ _ _ c.run_script.ensures.refused c.run_script.ensures.follows))

@@ -26,3 +26,6 @@ returns-in-Err-clause-refused g c =
     let text = g.W.Write.contents c.args.out.now in
     of_one_life g.M.Medium.state (bytes_of c.args.size) (g.R.Read.remaining c.args.script.now) text c.args.medium c.in-Err.fault
     c.in-Err.ensures.refused
+
+pub returns-in-Err-clause-follows : goal.returns-in-Err-clause-follows
+returns-in-Err-clause-follows g c = g.met.M.Medium.follows_itself c.args.medium
