@@ -2,6 +2,7 @@ pub mod Runs
 pub mod InRuns
 pub mod FirstParts
 pub mod Puts
+pub mod Joined
 pub mod Gave
 pub mod Copies
 pub mod Given

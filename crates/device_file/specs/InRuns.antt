@@ -1,20 +1,13 @@
 -- Calls that a file is asked in runs: by one call of it as many neighbouring sectors as there are.
 use Rattle.std.specs.Prelude.{◌≡◌, ◌≢◌, ◌⊎◌, ◌<◌, ◌≤◌, ℕ, zero, suc, ◌+◌, List, [], ◌∷◌, ◌++◌}
-use Rattle.std.specs.Prelude.{length}
+use Rattle.std.specs.Prelude.{length, Result, OnOk}
 use Rattle.mirror.specs.declared.call.DeviceCall.{DeviceCall}
 use Rattle.mirror.specs.declared.call.DeviceCall.TheVariants.{Write, Flush}
-use Rattle.device_file.specs.Asked.{writes_of}
+use Rattle.device_file.specs.Asked.{Told, writes_of}
 
 -- a run of these blocks is full, or this sector is not the one behind them
 abbrev pub IsNoMore : ℕ → List (List ℕ) → ℕ → Type 0
 IsNoMore first blocks sector = (256 ≤ length blocks) ⊎ (sector ≢ first + length blocks)
-
--- Behind blocks that wait a block of this sector was to wait. Where it goes with them the file is
--- asked nothing; else it is asked to write them, by one call.
-abbrev pub LetsWait : {D : Type 0} → (D → List DeviceCall → D → Type 0) → D → D → ℕ → List (List ℕ)
-    → ℕ → Type 0
-LetsWait at_once was is first blocks sector = (is ≡ was)
-    ⊎ (IsNoMore first blocks sector × at_once was (writes_of first blocks) is)
 
 -- a write to this sector comes first
 abbrev pub IsNext : ℕ → List DeviceCall → Type 0
@@ -56,3 +49,29 @@ AsksRuns {D = D} at_once (suc count) was is waited waits = (then : D) × (left :
 abbrev pub AsksInRuns : {D : Type 0} → (D → List DeviceCall → D → Type 0) → D → D
     → List DeviceCall → List DeviceCall → Type 0
 AsksInRuns at_once was is waited waits = (count : ℕ) × AsksRuns at_once count was is waited waits
+
+-- A file was to take these calls behind those that waited. In runs, whatever comes behind them, it
+-- was asked for a first part, and the others are left: they wait, where it refused none.
+pub record TakesInRuns {D E : Type 0} (told : D → Told) (at_once : D → List DeviceCall → D → Type 0)
+    (calls : List DeviceCall) (was is : D) (waited waits : List DeviceCall)
+    (result : Result (Unit {0}) E) : Type 0 where
+  pub part : List DeviceCall
+  pub left : List DeviceCall
+  pub parts : waited ++ calls ≡ part ++ left
+  pub asked : (told is).asked ≡ (told was).asked ++ part
+  pub runs : (behind : List DeviceCall)
+      → AsksInRuns at_once was is ((waited ++ calls) ++ behind) (left ++ behind)
+  pub all : OnOk result (left ≡ waits)
+
+-- it was to take some calls
+abbrev pub TakesSomeInRuns : {D E : Type 0} → (D → Told) → (D → List DeviceCall → D → Type 0) → D
+    → D → List DeviceCall → List DeviceCall → Result (Unit {0}) E → Type 0
+TakesSomeInRuns told at_once was is waited waits result = (calls : List DeviceCall)
+    × TakesInRuns told at_once calls was is waited waits result
+
+-- it was asked for some calls in runs, and for no others
+pub record IsAskedInRuns {D : Type 0} (told : D → Told) (at_once : D → List DeviceCall → D → Type 0)
+    (was is : D) : Type 0 where
+  pub calls : List DeviceCall
+  pub asked : (told is).asked ≡ (told was).asked ++ calls
+  pub runs : AsksInRuns at_once was is calls []

@@ -1,7 +1,9 @@
 //! Sectors of one file that are copied to another.
-ghost use Rattle.std.specs.Prelude.{◌≡◌, ◌+◌, ◌/◌, ◌<◌, ◌≤◌, ◌^◌, [], length, OnOk, IfErr};
+ghost use Rattle.std.specs.Prelude.{◌≡◌, ◌+◌, ◌/◌, ◌<◌, ◌≤◌, ◌^◌, ◌++◌, [], length};
+ghost use Rattle.std.specs.Prelude.{OnOk, IfErr};
 ghost use Rattle.device_file.specs.Copied.{CanCopy, IsCopied, IsCopiedInPart, TakesCopies};
 ghost use Rattle.device_file.specs.Copied.{EndsCopy, waiting_in};
+ghost use Rattle.device_file.specs.InRuns.{AsksInRuns, IsAskedInRuns, TakesSomeInRuns};
 
 use crate::fault::FileFault;
 use crate::file::DeviceFile;
@@ -45,6 +47,7 @@ pub fn copy_sectors<S: DeviceFile, D: DeviceFile, M: Meter>(
     ensures err { IfErr result (IsCopiedInPart (S.holds from.now) (S.refuses from.now) first count
         at (D.told to.old) (D.told to.new)) }
     ensures size { D.size to.new ≡ D.size to.old }
+    ensures runs { IsAskedInRuns D.told D.at_once to.old to.new }
 {
     match copy_runs(from, first, count, to, at, run, bytes, meter) {
         Err(fault) => Err(fault),
@@ -54,7 +57,9 @@ pub fn copy_sectors<S: DeviceFile, D: DeviceFile, M: Meter>(
 
 // Has what waits of a copy written.
 fn end_copy<D: DeviceFile>(to: &mut D, run: &mut Run) -> Result<(), CopyFault>
-    ensures { EndsCopy D.told D.size to.old to.new (waiting_in run.old) result }
+    ensures ends { EndsCopy D.told D.size to.old to.new (waiting_in run.old) result }
+    ensures asked { (D.told to.new).asked ≡ (D.told to.old).asked ++ waiting_in run.old }
+    ensures runs { AsksInRuns D.at_once to.old to.new (waiting_in run.old) [] }
 {
     match put_rest(to, run) {
         Ok(()) => Ok(()),
@@ -74,8 +79,9 @@ fn copy_runs<S: DeviceFile, D: DeviceFile, M: Meter>(
     meter: &mut M,
 ) -> Result<(), CopyFault>
     requires { CanCopy first count at (length bytes.old) }
-    ensures { TakesCopies D.told D.size (S.holds from.now) (S.refuses from.now) first count at
+    ensures takes { TakesCopies D.told D.size (S.holds from.now) (S.refuses from.now) first count at
         to.old to.new [] (waiting_in run.new) result }
+    ensures runs { TakesSomeInRuns D.told D.at_once to.old to.new [] (waiting_in run.new) result }
 {
     run.clear();
     let most = (bytes.len() / SECTOR) as u64;
@@ -105,6 +111,8 @@ fn copy_run<S: DeviceFile, D: DeviceFile>(
     ensures takes { TakesCopies D.told D.size (S.holds from.now) (S.refuses from.now) first
         (length bytes.old / 512) at to.old to.new (waiting_in run.old) (waiting_in run.new) result }
     ensures once { OnOk result (S.gave from.now first bytes.new) }
+    ensures runs { TakesSomeInRuns D.told D.at_once to.old to.new (waiting_in run.old)
+        (waiting_in run.new) result }
 {
     match from.read(first, bytes) {
         Err(fault) => Err(CopyFault::From(fault)),

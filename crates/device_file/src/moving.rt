@@ -2,6 +2,7 @@
 ghost use Rattle.std.specs.Prelude.{◌≡◌, ◌≤◌, [], true};
 ghost use Rattle.window.specs.Seen.{lies_in};
 ghost use Rattle.device_file.specs.Copied.{TakesCalls, moved_call, moved_calls, waiting_in};
+ghost use Rattle.device_file.specs.InRuns.{IsAskedInRuns, TakesInRuns};
 
 use crate::fault::FileFault;
 use crate::file::DeviceFile;
@@ -24,8 +25,9 @@ pub fn carry_moved<D: DeviceFile>(
     file: &mut D,
     run: &mut Run,
 ) -> Result<(), FileFault>
-    ensures { TakesCalls D.told D.size (moved_calls first count window.old.outbox) file.old
+    ensures takes { TakesCalls D.told D.size (moved_calls first count window.old.outbox) file.old
         file.new [] [] result }
+    ensures runs { IsAskedInRuns D.told D.at_once file.old file.new }
 {
     match move_all(window, first, count, file, run) {
         Err(fault) => Err(fault),
@@ -44,7 +46,9 @@ fn move_all<D: DeviceFile>(
     file: &mut D,
     run: &mut Run,
 ) -> Result<(), FileFault>
-    ensures { TakesCalls D.told D.size (moved_calls first count window.old.outbox) file.old
+    ensures takes { TakesCalls D.told D.size (moved_calls first count window.old.outbox) file.old
+        file.new [] (waiting_in run.new) result }
+    ensures runs { TakesInRuns D.told D.at_once (moved_calls first count window.old.outbox) file.old
         file.new [] (waiting_in run.new) result }
 {
     run.clear();
@@ -59,6 +63,7 @@ fn move_all<D: DeviceFile>(
 }
 
 // Has a call wait where it is a write to one of these sectors.
+#[tactic(auto, using(crate::proofs::Joined::takes_none))]
 fn move_call<D: DeviceFile>(
     call: &DeviceCall,
     first: u64,
@@ -66,7 +71,9 @@ fn move_call<D: DeviceFile>(
     file: &mut D,
     run: &mut Run,
 ) -> Result<(), FileFault>
-    ensures { TakesCalls D.told D.size (moved_call first count call.now) file.old file.new
+    ensures takes { TakesCalls D.told D.size (moved_call first count call.now) file.old file.new
+        (waiting_in run.old) (waiting_in run.new) result }
+    ensures runs { TakesInRuns D.told D.at_once (moved_call first count call.now) file.old file.new
         (waiting_in run.old) (waiting_in run.new) result }
 {
     let DeviceCall::Write(write) = call else {

@@ -1,12 +1,12 @@
 //! Blocks that a file is asked to write, neighbouring ones by one write.
 ghost use Rattle.std.specs.Prelude.{◌≡◌, ◌+◌, ◌*◌, ◌/◌, ◌<◌, ◌≤◌, ◌^◌, ◌∷◌};
-ghost use Rattle.std.specs.Prelude.{[], length};
+ghost use Rattle.std.specs.Prelude.{[], ◌++◌, length};
 ghost use Rattle.medium.specs.Writes.{sector_of};
 ghost use Rattle.mirror.specs.declared.call.DeviceCall.TheVariants.{Write};
 ghost use Rattle.device_file.specs.Reads.{sectors_in};
 ghost use Rattle.device_file.specs.Copied.{TakesCalls, is_zeros, some_write, some_writes};
 ghost use Rattle.device_file.specs.Copied.{waiting_in};
-ghost use Rattle.device_file.specs.InRuns.{LetsWait};
+ghost use Rattle.device_file.specs.InRuns.{AsksInRuns, TakesInRuns};
 
 use crate::fault::FileFault;
 use crate::file::DeviceFile;
@@ -28,8 +28,8 @@ pub(crate) fn put_block<D: DeviceFile>(
 ) -> Result<(), FileFault>
     ensures takes { TakesCalls D.told D.size (Write write.now ∷ []) file.old file.new
         (waiting_in run.old) (waiting_in run.new) result }
-    ensures waits { LetsWait D.at_once file.old file.new run.old.first run.old.blocks.items
-        write.now.sector }
+    ensures runs { TakesInRuns D.told D.at_once (Write write.now ∷ []) file.old file.new
+        (waiting_in run.old) (waiting_in run.new) result }
 {
     if run.take(write) {
         return Ok(());
@@ -46,7 +46,9 @@ pub(crate) fn put_block<D: DeviceFile>(
 ///
 /// The file refused that write.
 pub(crate) fn put_rest<D: DeviceFile>(file: &mut D, run: &mut Run) -> Result<(), FileFault>
-    ensures { TakesCalls D.told D.size [] file.old file.new (waiting_in run.old) [] result }
+    ensures takes { TakesCalls D.told D.size [] file.old file.new (waiting_in run.old) [] result }
+    ensures asked { (D.told file.new).asked ≡ (D.told file.old).asked ++ waiting_in run.old }
+    ensures runs { AsksInRuns D.at_once file.old file.new (waiting_in run.old) [] }
 {
     if run.is_empty() {
         return Ok(());
@@ -66,7 +68,10 @@ pub(crate) fn put_sectors<D: DeviceFile>(
     bytes: &[u8],
 ) -> Result<(), FileFault>
     requires { first + length bytes.now / 512 < 2 ^ 64 }
-    ensures { TakesCalls D.told D.size
+    ensures takes { TakesCalls D.told D.size
+        (some_writes first (sectors_in (length bytes.now / 512) bytes.now)) file.old file.new
+        (waiting_in run.old) (waiting_in run.new) result }
+    ensures runs { TakesInRuns D.told D.at_once
         (some_writes first (sectors_in (length bytes.now / 512) bytes.now)) file.old file.new
         (waiting_in run.old) (waiting_in run.new) result }
 {
@@ -84,13 +89,16 @@ pub(crate) fn put_sectors<D: DeviceFile>(
 }
 
 // Has one write more wait, but none of zeros.
+#[tactic(auto, using(crate::proofs::Joined::takes_none))]
 fn put_some<D: DeviceFile>(
     file: &mut D,
     run: &mut Run,
     write: &SectorWrite,
 ) -> Result<(), FileFault>
-    ensures { TakesCalls D.told D.size (some_write write.now.sector write.now.block) file.old
+    ensures takes { TakesCalls D.told D.size (some_write write.now.sector write.now.block) file.old
         file.new (waiting_in run.old) (waiting_in run.new) result }
+    ensures runs { TakesInRuns D.told D.at_once (some_write write.now.sector write.now.block)
+        file.old file.new (waiting_in run.old) (waiting_in run.new) result }
 {
     if has_zeros_alone(&write.block) {
         return Ok(());

@@ -18,6 +18,7 @@ pub struct Run {
     pub(crate) first: u64,
     pub(crate) blocks: Vec<[u8; 512]>,
     ghost room: { 256 ≤ vec_capacity blocks },
+    ghost few: { length blocks.items ≤ 256 },
 }
 
 impl Run {
