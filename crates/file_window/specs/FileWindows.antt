@@ -3,7 +3,9 @@ use Rattle.std.specs.Prelude.{◌≡◌, ℕ, Bool, true, false, List, [], Optio
 use Rattle.medium.specs.Medium.{State}
 use Rattle.window.specs.Window as window
 use Rattle.window.specs.Window.{Window, ComesAfter, IsShown}
+use Rattle.mirror.specs.declared.call.DeviceCall.{DeviceCall}
 use Rattle.device_file.specs.Asked.{Told}
+use Rattle.device_file.specs.InRuns.{AsksInRuns}
 use Rattle.device_file.specs.Outbox.{IsCarriedOut, EndIn}
 use Rattle.device_file.specs.declared.fault.FileFault.{FileFault}
 use Rattle.file_window.specs.declared.file.FileWindow.{FileWindow}
@@ -45,3 +47,9 @@ module _ {D : Type 0} where
     pub all : new.fault ≡ None → new.window.outbox ≡ []
     -- a fault is of that call: it names a write or a synchronising, as that was one
     pub named : IfSome new.fault (λ fault. EndIn carried.part fault.call)
+
+  -- by one call of the file for each flush and for each longest run of neighbouring sectors
+  abbrev pub CarriesInRuns : (D → List DeviceCall → D → Type 0) → FileWindow D → FileWindow D
+      → Type 0
+  CarriesInRuns at_once old new =
+      AsksInRuns at_once old.file new.file old.window.outbox new.window.outbox

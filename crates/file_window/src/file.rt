@@ -21,7 +21,7 @@ pub struct FileWindow<D> {
 }
 
 impl<D: DeviceFile> FileWindow<D> {
-    ghost use Rattle.file_window.specs.FileWindows.{IsOver, Carries};
+    ghost use Rattle.file_window.specs.FileWindows.{IsOver, Carries, CarriesInRuns};
 
     /// A window over this file, with the memory for the longest write.
     pub fn new(window: WindowMedium, file: D, run: Run) -> FileWindow<D>
@@ -70,7 +70,8 @@ impl<D: DeviceFile> FileWindow<D> {
 
     // Has the file carry out what waits.
     fn carry(&mut self)
-        ensures { Carries D.told self.old self.new }
+        ensures carries { Carries D.told self.old self.new }
+        ensures runs { CarriesInRuns D.at_once self.old self.new }
     {
         self.fault = match carry_out(&mut self.window, &mut self.file, &mut self.run) {
             Ok(()) => None,
@@ -115,9 +116,9 @@ impl<D: DeviceFile> Medium for FileWindow<D> {
 
 // To let go of what waits has the file carry it out.
 impl<D: DeviceFile> Outlet for FileWindow<D> {
-    ghost use Rattle.file_window.specs.FileWindows.{Carries};
+    ghost use Rattle.file_window.specs.FileWindows.{Carries, CarriesInRuns};
 
-    ghost given = { Carries D.told };
+    ghost given = { λ old new. Carries D.told old new × CarriesInRuns D.at_once old new };
 
     fn pop(&mut self) {
         self.carry();

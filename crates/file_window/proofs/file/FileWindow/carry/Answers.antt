@@ -3,8 +3,8 @@ use Rattle.file_window.specs.FileWindows.{Carries}
 use Rattle.file_window.proofs.file.FileWindow.carry.Goals as goal
 use Rattle.file_window.proofs.file.FileWindow.carry.Goals.{in-Ok, in-Err}
 
-pub returns : goal.returns
-returns g c =
+pub returns-clause-carries : goal.returns-clause-carries
+returns-clause-carries g c =
     let told = g.D.DeviceFile.told in
     let new = c.carry_out.new in
     elim c.match-carry_out.branch [
@@ -21,3 +21,9 @@ returns g c =
             named = w.in-Err.ensures.carries.named;
           } in rw (w.self-is) part)
     ]
+
+pub returns-clause-runs : goal.returns-clause-runs
+returns-clause-runs g c = elim c.match-carry_out.branch [
+  | in-Ok w ↦ w.in-Ok.ensures.runs
+  | in-Err w ↦ w.in-Err.ensures.runs
+]
