@@ -13,3 +13,4 @@ pub mod Asking
 pub mod Performing
 pub mod StoreCalls
 pub mod Reading
+pub mod Promising

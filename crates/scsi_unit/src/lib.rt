@@ -9,6 +9,7 @@ mod checks;
 mod commands;
 mod fault;
 mod laws;
+mod promising;
 mod reading;
 mod retiring;
 mod start;

@@ -1,0 +1,59 @@
+//! Which commands promise: they are good only when all accepted writes are durable.
+ghost use Rattle.std.specs.Prelude.{◌≡◌, ◌<◌, length};
+ghost use Rattle.spec.specs.Book.{Book};
+ghost use Rattle.spec.specs.Rules.{checked, forces_reading};
+ghost use Rattle.scsi_unit.specs.UnitValue.{state_of, FitsUnit};
+ghost use Rattle.scsi_unit.specs.Serving.{command_for};
+ghost use Rattle.scsi_unit.specs.Promising.{forces_writing, promises, promises_for};
+
+use crate::Unit;
+use cdb::{Command, Transfer};
+use medium::Medium;
+
+impl<M: Medium> Unit<M> {
+    /// Whether a command block, of 1 to 16 bytes, is one that is good only when all accepted writes
+    /// are durable, if it were carried out now: a READ or WRITE of some blocks with FUA, a WRITE of
+    /// some blocks without the write cache, or SYNCHRONIZE CACHE. A MODE SELECT is one where the
+    /// write cache is enabled, since it may disable it. One that is refused is none.
+    pub fn promises(&self, block: &[u8]) -> bool
+        requires { 0 < length block.now }
+        ensures is { result ≡ promises_for (command_for self.now block.now) self.now.write_cache }
+        ensures by_book { (book : Book) → FitsUnit (M.state self.now.store.medium) self.now book
+            → result ≡ promises_for (checked (state_of self.now book) block.now)
+            self.now.write_cache }
+    {
+        match self.command(block) {
+            Ok(command) => promises(&command, self.write_cache),
+            Err(_) => false,
+        }
+    }
+}
+
+// Whether a command promises, where the write cache is enabled or not.
+fn promises(command: &Command, write_cache: bool) -> bool
+    ensures { result ≡ promises command.now write_cache }
+{
+    match command {
+        Command::Read10(transfer) | Command::Read16(transfer) => forces_reading(transfer),
+        Command::Write10(transfer) | Command::Write16(transfer) => {
+            forces_writing(transfer, write_cache)
+        }
+        Command::SynchronizeCache10(_) | Command::SynchronizeCache16(_) => true,
+        Command::ModeSelect { .. } => write_cache,
+        _ => false,
+    }
+}
+
+// Whether a READ makes all accepted writes durable first.
+fn forces_reading(transfer: &Transfer) -> bool
+    ensures { result ≡ forces_reading transfer.now }
+{
+    transfer.fua && transfer.count > 0
+}
+
+// Whether a WRITE is good only when it is durable.
+fn forces_writing(transfer: &Transfer, write_cache: bool) -> bool
+    ensures { result ≡ forces_writing transfer.now write_cache }
+{
+    transfer.count > 0 && (transfer.fua || !write_cache)
+}
