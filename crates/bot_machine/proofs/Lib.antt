@@ -8,6 +8,7 @@ pub mod UnitMoments
 pub mod Cases
 pub mod ReadAtOnce
 pub mod ExchangeStarts
+pub mod ToldPromises
 pub mod TakenData
 pub mod AnswerLines
 pub mod OutPackets

@@ -10,6 +10,7 @@ pub use Rattle.scsi_unit.specs.UnitValue
 pub mod Device
 pub mod Turns
 pub mod Acts
+pub mod Promising
 pub mod Answers
 pub mod Fitting
 pub mod DiskValue

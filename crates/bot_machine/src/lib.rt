@@ -11,6 +11,7 @@ mod exchange;
 mod fault;
 mod laws;
 mod lives;
+mod promising;
 mod reading;
 mod request;
 mod run;
