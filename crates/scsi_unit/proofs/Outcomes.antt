@@ -1,19 +1,22 @@
 -- What comes of a command, by the way that it went.
 use Rattle.std.proofs.Common.{◌≡◌, ◌⊎◌, inl, inr, ⊎_elim, ℕ, Bool, true, false, List, [], ◌∷◌, ◌++◌, length, Some, None, Option, Result, Ok}
 use Rattle.std.proofs.Common.{Err, refl, ap, sym, ◌∙◌, subst}
-use Rattle.std.specs.Prelude.{if◌then◌else◌, ◌&&◌}
+use Rattle.std.specs.Prelude.{if◌then◌else◌, ◌&&◌, ◌||◌, not}
 use Rattle.std.proofs.lemmas.Bool.{false≢true}
 use Rattle.spec.specs.Blocks.{Write}
 use Rattle.spec.specs.Book.{Book, StampsOut}
 use Rattle.spec.specs.Sense.{Sense}
 use Rattle.spec.specs.declared.command.Command.{Command}
 use Rattle.spec.specs.Rules.{UnitState, Effect, fails_with, effect_of, checked, write_after, write_of_command, with_progress, IsByTable}
-use Rattle.spec.specs.Rules.{IsOutcome, needs_medium, intention}
+use Rattle.spec.specs.Rules.{IsOutcome, needs_medium, intention, reads_blocks, moves_blocks, write_by, clears, selected_by}
+use Rattle.spec.specs.declared.command.Command.TheVariants as command
 use Rattle.spec.specs.Waiting.{after_failure}
 use Rattle.scsi_unit.specs.Laws.{IsFunction, IsSameLife, KeepsLimit, KeepsWrites, StaysFaulted, TicksOnly, is_promising}
+use Rattle.scsi_unit.specs.Promising.{promises, promises_for}
 use Rattle.spec.specs.declared.intent.Intent.TheVariants as intent
 use Rattle.scsi_unit.proofs.PassedChecks.{passed_by, steady_by}
 use Rattle.scsi_unit.proofs.UnitTurns.{died_or_not}
+use Rattle.scsi_unit.proofs.WriteLines.{written}
 use Rattle.scsi_unit.proofs.Effects.{Leaves, appended, leaves, refused_leaves, ok_or_err, uses_no_blocks}
 
 -- what the table says of a command, or of its refusal
@@ -125,6 +128,61 @@ good_writes refused (Ok command) taken sent old new write is outcome =
     ∙ (leaves command taken old).writes_are ∙ ap (λ (w : Option Write). appended w old.book.writes) is
 good_writes refused (Err sense) taken sent old new write is outcome = cc
 
+-- a command that promises nothing, whatever bytes come for it, promises nothing over these
+clears_none : (write_cache : Bool) (chosen : Result Bool Sense) → write_cache ≡ false → clears write_cache chosen ≡ false
+clears_none true chosen none = absurd (false≢true (sym none))
+clears_none false (Ok enabled) none = refl
+clears_none false (Err sense) none = refl
+
+promises_none : (command : Command) (taken : List ℕ) (unit : UnitState) → promises command unit.write_cache ≡ false
+    → is_promising command taken unit ≡ false
+promises_none (command.ModeSelect size) taken unit none = clears_none unit.write_cache (selected_by size taken unit.write_cache) none
+promises_none (command.Read10 transfer) taken unit none = none
+promises_none (command.Read16 transfer) taken unit none = none
+promises_none (command.Write10 transfer) taken unit none = none
+promises_none (command.Write16 transfer) taken unit none = none
+promises_none (command.SynchronizeCache10 range) taken unit none = none
+promises_none (command.SynchronizeCache16 range) taken unit none = none
+promises_none other taken unit none = refl
+
+unpromising_mark : (refused : Bool) (told : Result Command Sense) (taken : List ℕ) (old new : UnitState)
+    (answer : Result (List ℕ) Sense) → promises_for told old.write_cache ≡ false → IsOutcome refused told taken old answer new
+    → new.book.mark ≡ old.book.mark
+unpromising_mark refused (Ok command) taken old new (Ok sent) none outcome =
+    ap (λ (u : UnitState). u.book.mark) (good_outcome refused command taken sent old new outcome)
+    ∙ (leaves command taken old).mark_is
+    ∙ ap (λ (b : Bool). if b then length (effect_of command taken old).after.book.writes else old.book.mark)
+    (promises_none command taken old none)
+unpromising_mark refused (Ok command) taken old new (Err sense) none outcome =
+    failed_mark refused (Ok command) taken old new sense outcome
+unpromising_mark refused (Err sense) taken old new answer none outcome = ap (λ (u : UnitState). u.book.mark) outcome.after
+
+-- by the table a WRITE is good
+writes_good : (moves durable : Bool) (write : Write) (unit : UnitState) (sense : Sense)
+    → (written moves durable write unit).answer ≡ Err sense → ⊥
+writes_good false durable write unit sense e = cc
+writes_good true true write unit sense e = cc
+writes_good true false write unit sense e = cc
+
+-- a command that is good by the table and reads no blocks faults the unit where it fails
+faults_if_bad : (refused : Bool) (command : Command) (taken : List ℕ) (old new : UnitState) (sense : Sense)
+    → ((effect_of command taken old).answer ≡ Err sense → ⊥) → reads_blocks command ≡ false
+    → IsOutcome refused (Ok command) taken old (Err sense) new → new.faulted ≡ true
+faults_if_bad refused command taken old new sense good none outcome = ⊎_elim
+    (λ o. absurd (good (sym o.answered)))
+    (λ bad. ⊎_elim (λ o. absurd (false≢true (sym none ∙ o.reads))) (λ o. ap (λ (u : UnitState). u.faulted) o.after) bad) outcome
+
+bad_write : (refused : Bool) (told : Result Command Sense) (taken : List ℕ) (old new : UnitState) (sense : Sense) (write : Write)
+    → write_after told taken ≡ Some write → IsOutcome refused told taken old (Err sense) new → new.faulted ≡ true
+bad_write refused (Ok (command.Write10 transfer)) taken old new sense write is outcome =
+    faults_if_bad refused (command.Write10 transfer) taken old new sense
+    (writes_good (moves_blocks transfer) (transfer.fua || not old.write_cache) (write_by transfer taken) old sense) refl outcome
+bad_write refused (Ok (command.Write16 transfer)) taken old new sense write is outcome =
+    faults_if_bad refused (command.Write16 transfer) taken old new sense
+    (writes_good (moves_blocks transfer) (transfer.fua || not old.write_cache) (write_by transfer taken) old sense) refl outcome
+bad_write refused (Ok other) taken old new sense write is outcome = cc
+bad_write refused (Err other) taken old new sense write is outcome = cc
+
 pub keeps_writes : KeepsWrites
 keeps_writes = record {
   life = λ refused block taken old new answer outcome.
@@ -145,8 +203,12 @@ keeps_writes = record {
       subst (λ (u : UnitState). u.book.mark ≡ (if is_promising command taken old then length u.book.writes else old.book.mark))
       (sym (good_outcome refused command taken sent old new o)) (leaves command taken old).mark_is;
   unpromised = λ refused block taken old new sense outcome. failed_mark refused (checked old block) taken old new sense outcome;
+  unpromising = λ refused block taken old new answer none outcome.
+      unpromising_mark refused (checked old block) taken old new answer none outcome;
   accepted = λ refused block taken sent old new write is outcome.
       good_writes refused (checked old block) taken sent old new write is outcome;
+  faulted = λ refused block taken old new sense write is outcome.
+      bad_write refused (checked old block) taken old new sense write is outcome;
 }
 
 -- ---- the most blocks of a transfer

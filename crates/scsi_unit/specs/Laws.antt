@@ -14,6 +14,7 @@ use Rattle.spec.specs.declared.intent.Intent.TheVariants as intent
 use Rattle.spec.specs.Rules.{UnitState, checked, intention, write_in_progress, with_progress}
 use Rattle.spec.specs.Rules.{forces_reading, moves_blocks, clears, selected_by, CarriesOut, Ticks}
 use Rattle.blocks.specs.Limit.{HasLimit}
+use Rattle.scsi_unit.specs.Promising.{forces_writing, promises_for}
 
 -- no stamp is wanting for a command, with its write counted
 abbrev pub HasStamps : List ℕ → List ℕ → UnitState → Type 0
@@ -72,10 +73,8 @@ pub record IsSameLife (old new : Book) : Type 0 where
 abbrev pub is_promising : Command → List ℕ → UnitState → Bool
 is_promising (command.Read10 transfer) taken unit = forces_reading transfer
 is_promising (command.Read16 transfer) taken unit = forces_reading transfer
-is_promising (command.Write10 transfer) taken unit =
-    moves_blocks transfer && (transfer.fua || not unit.write_cache)
-is_promising (command.Write16 transfer) taken unit =
-    moves_blocks transfer && (transfer.fua || not unit.write_cache)
+is_promising (command.Write10 transfer) taken unit = forces_writing transfer unit.write_cache
+is_promising (command.Write16 transfer) taken unit = forces_writing transfer unit.write_cache
 is_promising (command.SynchronizeCache10 range) taken unit = true
 is_promising (command.SynchronizeCache16 range) taken unit = true
 is_promising (command.ModeSelect length) taken unit =
@@ -101,11 +100,20 @@ pub record KeepsWrites : Type 0 where
   -- a command that fails leaves them
   pub unpromised : (refused : Bool) (block taken : List ℕ) (old new : UnitState) (sense : Sense)
       → CarriesOut refused block taken old (Err sense) new → new.book.mark ≡ old.book.mark
+  -- so does one that promises nothing, good or bad
+  pub unpromising : (refused : Bool) (block taken : List ℕ) (old new : UnitState)
+      (answer : Result (List ℕ) Sense)
+      → promises_for (checked old block) old.write_cache ≡ false
+      → CarriesOut refused block taken old answer new → new.book.mark ≡ old.book.mark
   -- a good WRITE is accepted
   pub accepted : (refused : Bool) (block taken sent : List ℕ) (old new : UnitState) (write : Write)
       → write_in_progress old block taken ≡ Some write
       → CarriesOut refused block taken old (Ok sent) new
       → new.book.writes ≡ old.book.writes ++ write ∷ []
+  -- one that fails faults the unit
+  pub faulted : (refused : Bool) (block taken : List ℕ) (old new : UnitState) (sense : Sense)
+      (write : Write) → write_in_progress old block taken ≡ Some write
+      → CarriesOut refused block taken old (Err sense) new → new.faulted ≡ true
 
 -- A write in progress, over as many bytes as were asked for, has at least one block, each of 512
 -- bytes, and all of them on the disk.
