@@ -1,6 +1,6 @@
 -- What follows from the rules of the logical unit, whatever its state.
 use Rattle.std.specs.Prelude.{◌≡◌, ◌≢◌, ◌⊎◌, ◌<◌, ◌≤◌, ◌*◌, ℕ, Bool, true, false, List, [], ◌∷◌}
-use Rattle.std.specs.Prelude.{◌++◌, length, ◌&&◌, ◌||◌, not, if◌then◌else◌, Option, Some, None}
+use Rattle.std.specs.Prelude.{◌++◌, length, if◌then◌else◌, Option, Some, None}
 use Rattle.std.specs.Prelude.{Result, Ok, Err, IfOk}
 use Rattle.medium.specs.Medium.{Image}
 use Rattle.spec.specs.Blocks.{Write, IsWrite}
@@ -12,7 +12,7 @@ use Rattle.spec.specs.declared.command.Command.{Command}
 use Rattle.spec.specs.declared.command.Command.TheVariants as command
 use Rattle.spec.specs.declared.intent.Intent.TheVariants as intent
 use Rattle.spec.specs.Rules.{UnitState, checked, intention, write_in_progress, with_progress}
-use Rattle.spec.specs.Rules.{forces_reading, moves_blocks, clears, selected_by, CarriesOut, Ticks}
+use Rattle.spec.specs.Rules.{forces_reading, clears, selected_by, CarriesOut, Ticks}
 use Rattle.blocks.specs.Limit.{HasLimit}
 use Rattle.scsi_unit.specs.Promising.{forces_writing, promises_for}
 

@@ -171,7 +171,7 @@ impl<M: Medium> Unit<M> {
         out: &mut [u8],
     ) -> Result<usize, Sense>
         requires there { HasModePage control page subpage }
-        requires room { length out.old ≡ 512 * unit_limit self.now }
+        requires room { 24 ≤ length out.old }
         ensures size { result ≡ Ok (min allocation 24) }
         ensures sent { IfOk result (λ sent. take sent out.new
             ≡ take allocation (mode_data control self.now.write_cache)) }

@@ -15,4 +15,5 @@ returns g c = λ bytes book fits.
     (take (size_of_way e.intended) (bytes ++ c.args.packet.now)) c.promises.result
     (record { size = c.if-packet-pending.false; last = c.if-pending-most.false; block_is = refl; taken_is = refl })
     (λ other came carries. carries.block_is)
-    (◌∙◌ {b = promises_by unit c.as_slice.result.now} (c.promises.ensures.by_book book fits) (ap (λ b. promises_by unit b) c.as_slice.ensures.value))
+    (◌∙◌ {b = promises_by unit c.as_slice.result.now} (c.promises.ensures.by_book book fits)
+    (ap (λ b. promises_by unit b) c.as_slice.ensures.value))

@@ -18,7 +18,8 @@ returns-in-AtOnce g c = λ book fits.
     told_by unit (CarriesOutAtOnce c.args.packet.now unit) e.command.block.items [] c.promises.result
     (carries_out _ _ book fits _ e c.in-Some.ensures c.in-AtOnce.ensures)
     (λ other bytes carries. (carried_at_once _ _ book fits _ e c.in-Some.ensures other bytes carries).1)
-    (◌∙◌ {b = promises_by unit c.as_slice.result.now} (c.promises.ensures.by_book book fits) (ap (λ b. promises_by unit b) c.as_slice.ensures.value))
+    (◌∙◌ {b = promises_by unit c.as_slice.result.now} (c.promises.ensures.by_book book fits)
+    (ap (λ b. promises_by unit b) c.as_slice.ensures.value))
 
 pub returns-in-AfterData : goal.returns-in-AfterData
 returns-in-AfterData g c = λ book fits block taken carries.
