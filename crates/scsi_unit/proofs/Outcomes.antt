@@ -137,13 +137,7 @@ clears_none false (Err sense) none = refl
 promises_none : (command : Command) (taken : List ℕ) (unit : UnitState) → promises command unit.write_cache ≡ false
     → is_promising command taken unit ≡ false
 promises_none (command.ModeSelect size) taken unit none = clears_none unit.write_cache (selected_by size taken unit.write_cache) none
-promises_none (command.Read10 transfer) taken unit none = none
-promises_none (command.Read16 transfer) taken unit none = none
-promises_none (command.Write10 transfer) taken unit none = none
-promises_none (command.Write16 transfer) taken unit none = none
-promises_none (command.SynchronizeCache10 range) taken unit none = none
-promises_none (command.SynchronizeCache16 range) taken unit none = none
-promises_none other taken unit none = refl
+promises_none other taken unit none = none
 
 unpromising_mark : (refused : Bool) (told : Result Command Sense) (taken : List ℕ) (old new : UnitState)
     (answer : Result (List ℕ) Sense) → promises_for told old.write_cache ≡ false → IsOutcome refused told taken old answer new

@@ -12,9 +12,9 @@ use Rattle.spec.specs.declared.command.Command.{Command}
 use Rattle.spec.specs.declared.command.Command.TheVariants as command
 use Rattle.spec.specs.declared.intent.Intent.TheVariants as intent
 use Rattle.spec.specs.Rules.{UnitState, checked, intention, write_in_progress, with_progress}
-use Rattle.spec.specs.Rules.{forces_reading, clears, selected_by, CarriesOut, Ticks}
+use Rattle.spec.specs.Rules.{clears, selected_by, CarriesOut, Ticks}
 use Rattle.blocks.specs.Limit.{HasLimit}
-use Rattle.scsi_unit.specs.Promising.{forces_writing, promises_for}
+use Rattle.scsi_unit.specs.Promising.{promises, promises_for}
 
 -- no stamp is wanting for a command, with its write counted
 abbrev pub HasStamps : List ℕ → List ℕ → UnitState → Type 0
@@ -68,18 +68,12 @@ pub record IsSameLife (old new : Book) : Type 0 where
   pub stamp : new.stamp ≡ old.stamp
   pub ours : new.ours ≡ old.ours
 
--- A good answer promises all accepted writes: to a READ or WRITE with FUA, to a WRITE without the
--- cache, each of one block or more, to SYNCHRONIZE CACHE, and to a MODE SELECT that clears WCE.
+-- A good answer promises all accepted writes: that to each command that promises, but to a MODE
+-- SELECT only where it clears WCE.
 abbrev pub is_promising : Command → List ℕ → UnitState → Bool
-is_promising (command.Read10 transfer) taken unit = forces_reading transfer
-is_promising (command.Read16 transfer) taken unit = forces_reading transfer
-is_promising (command.Write10 transfer) taken unit = forces_writing transfer unit.write_cache
-is_promising (command.Write16 transfer) taken unit = forces_writing transfer unit.write_cache
-is_promising (command.SynchronizeCache10 range) taken unit = true
-is_promising (command.SynchronizeCache16 range) taken unit = true
 is_promising (command.ModeSelect length) taken unit =
     clears unit.write_cache (selected_by length taken unit.write_cache)
-is_promising command taken unit = false
+is_promising command taken unit = promises command unit.write_cache
 
 -- accepted writes stay accepted, and promises are kept
 pub record KeepsWrites : Type 0 where

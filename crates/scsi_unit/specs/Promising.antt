@@ -10,8 +10,10 @@ use Rattle.spec.specs.Rules.{moves_blocks, forces_reading}
 abbrev pub forces_writing : Transfer → Bool → Bool
 forces_writing transfer write_cache = moves_blocks transfer && (transfer.fua || not write_cache)
 
--- The command promises, where the write cache is enabled or not. A MODE SELECT may do so where it
--- is: the list that it takes, which may not have come yet, says whether WCE goes from 1 to 0.
+-- The command promises, with the write cache or without: a READ or WRITE with FUA, a WRITE without
+-- the cache, each of one block or more, and SYNCHRONIZE CACHE. A MODE SELECT may do so where the
+-- cache is enabled: the list that it takes, which may not have come yet, tells whether it is
+-- to be disabled.
 abbrev pub promises : Command → Bool → Bool
 promises (command.Read10 transfer) write_cache = forces_reading transfer
 promises (command.Read16 transfer) write_cache = forces_reading transfer
