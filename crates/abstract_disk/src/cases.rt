@@ -24,6 +24,15 @@ pub(crate) enum Status {
 }
 
 impl Way {
+    /// `length` bytes in the direction that the flags of a wrapper tell, or none.
+    pub(crate) fn of(flags: u8, length: u32) -> Way {
+        if flags == 0x80 {
+            Way::to_host(length)
+        } else {
+            Way::to_device(length)
+        }
+    }
+
     /// `length` bytes from the device, or none.
     pub(crate) fn to_host(length: u32) -> Way {
         if length == 0 {

@@ -33,6 +33,27 @@ pub(crate) struct Outcome {
     pub(crate) write: Option<Write>,
 }
 
+/// What a setup packet asks for.
+#[derive(Clone, Copy)]
+enum Request {
+    Reset,
+    MaxLun,
+    ClearIn,
+    ClearOut,
+    StatusIn,
+    StatusOut,
+    Unknown,
+}
+
+const REQUESTS: [([u8; 8], Request); 6] = [
+    ([0x21, 0xff, 0, 0, 0, 0, 0, 0], Request::Reset),
+    ([0xa1, 0xfe, 0, 0, 0, 0, 1, 0], Request::MaxLun),
+    ([0x02, 0x01, 0, 0, 0x81, 0, 0, 0], Request::ClearIn),
+    ([0x02, 0x01, 0, 0, 0x02, 0, 0, 0], Request::ClearOut),
+    ([0x82, 0, 0, 0, 0x81, 0, 2, 0], Request::StatusIn),
+    ([0x82, 0, 0, 0, 0x02, 0, 2, 0], Request::StatusOut),
+];
+
 impl Disk {
     /// After a start.
     pub(crate) fn new(shape: Shape, packet: u32) -> Disk {
@@ -176,26 +197,36 @@ impl Disk {
 
     // A setup packet.
     fn setup(&mut self, packet: [u8; 8]) -> Answer {
-        match packet {
-            [0x21, 0xff, 0, 0, 0, 0, 0, 0] => {
+        match request_of(packet) {
+            Request::Reset => {
                 self.locked = false;
                 self.left = Left::Nothing;
                 Answer::Ack
             }
-            [0xa1, 0xfe, 0, 0, 0, 0, 1, 0] => Answer::Byte(0),
-            [0x02, 0x01, 0, 0, 0x81, 0, 0, 0] => {
+            Request::MaxLun => Answer::Byte(0),
+            Request::ClearIn => {
                 self.in_halted = self.in_halted && self.locked;
                 Answer::Ack
             }
-            [0x02, 0x01, 0, 0, 0x02, 0, 0, 0] => {
+            Request::ClearOut => {
                 self.out_halted = self.out_halted && self.locked;
                 Answer::Ack
             }
-            [0x82, 0, 0, 0, 0x81, 0, 2, 0] => Answer::Two([u8::from(self.in_halted), 0]),
-            [0x82, 0, 0, 0, 0x02, 0, 2, 0] => Answer::Two([u8::from(self.out_halted), 0]),
-            _ => Answer::Stall,
+            Request::StatusIn => Answer::Two([u8::from(self.in_halted), 0]),
+            Request::StatusOut => Answer::Two([u8::from(self.out_halted), 0]),
+            Request::Unknown => Answer::Stall,
         }
     }
+}
+
+// The request of a setup packet.
+fn request_of(packet: [u8; 8]) -> Request {
+    for (known, request) in &REQUESTS {
+        if *known == packet {
+            return *request;
+        }
+    }
+    Request::Unknown
 }
 
 // An answer to an event that nothing can befall.

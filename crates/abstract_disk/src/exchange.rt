@@ -55,26 +55,38 @@ pub(crate) struct Laid {
 impl Wrapper {
     /// The wrapper that a packet spells.
     pub(crate) fn read(packet: &[u8]) -> Option<Wrapper> {
-        let whole = <[u8; 31]>::try_from(packet).ok()?;
-        let [flags, unit, length] = [whole[12], whole[13], whole[14]];
-        if !whole.starts_with(b"USBC") || unit != 0 {
-            return None;
+        match packet {
+            [b'U', b'S', b'B', b'C', rest @ ..] => Wrapper::behind(rest),
+            _ => None,
         }
-        if ![0x00, 0x80].contains(&flags) || length == 0 || length > 16 {
-            return None;
+    }
+
+    // The wrapper of which this stands behind the signature.
+    fn behind(rest: &[u8]) -> Option<Wrapper> {
+        match rest {
+            [
+                _,
+                _,
+                _,
+                _,
+                _,
+                _,
+                _,
+                _,
+                flags @ (0x00 | 0x80),
+                0,
+                length @ 1..=16,
+                block @ ..,
+            ] if block.len() == 16 => {
+                Some(Wrapper {
+                    tag: part_of(rest, 0),
+                    host: Way::of(*flags, u32::from_le_bytes(part_of(rest, 4))),
+                    block: part_of(block, 0),
+                    length: usize::from(*length),
+                })
+            }
+            _ => None,
         }
-        let announced = u32::from_le_bytes(<[u8; 4]>::try_from(whole.get(8..12)?).ok()?);
-        let host = if flags == 0x80 {
-            Way::to_host(announced)
-        } else {
-            Way::to_device(announced)
-        };
-        Some(Wrapper {
-            tag: <[u8; 4]>::try_from(whole.get(4..8)?).ok()?,
-            host,
-            block: <[u8; 16]>::try_from(whole.get(15..)?).ok()?,
-            length: usize::from(length),
-        })
     }
 
     fn block(&self) -> &[u8] {
@@ -98,6 +110,15 @@ impl Wrapper {
             status: [b'U', b'S', b'B', b'S', a, b, c, d, e, f, g, h, status as u8],
         })
     }
+}
+
+// The bytes from this place on.
+fn part_of<const N: usize>(bytes: &[u8], from: usize) -> [u8; N] {
+    let mut part = [0; N];
+    for (to, byte) in part.iter_mut().zip(bytes.iter().skip(from)) {
+        *to = *byte;
+    }
+    part
 }
 
 /// The number of the case, and the exchange that a wrapper begins.
