@@ -3,6 +3,7 @@
 The power goes at a call that was chosen before. That call is not answered, the machine is ended, and of each sector that was not flushed either what it
 held stays or any of what was written to it since."""
 
+import contextlib
 import dataclasses
 import os
 import socket
@@ -41,7 +42,6 @@ class Device:
 
     def __init__(self, sectors, chance):
         self.held, self.waiting, self.chance = bytearray(SECTOR * sectors), {}, chance
-        self.calls = 0
 
     def read(self, place, size):
         found = bytearray(self.held[place : place + size])
@@ -78,31 +78,29 @@ class Server(threading.Thread):
 
     def __init__(self, device, path, cut):
         super().__init__(daemon=True)
-        self.device, self.cut, self.machine = device, cut, None
-        self.is_cut = False
+        self.device, self.cut, self.is_cut, self.machine = device, cut, False, None
         self.listening = socket.socket(socket.AF_UNIX)
         self.listening.bind(path)
         self.listening.listen(1)
-        self.stream = None
+        self.connection = self.stream = None
 
     def run(self):
-        try:
-            self.listening.settimeout(60)
+        # (the machine may be ended at any call)
+        with contextlib.suppress(OSError, EOFError):
             self.connection, _ = self.listening.accept()
             self.stream = self.connection.makefile("rb")
             self.greet()
             while self.answer():
                 pass
-        except (OSError, EOFError):
-            # (the machine was ended)
-            pass
 
     def close(self):
-        self.join(60)
-        if self.stream:
-            self.stream.close()
-            self.connection.close()
-        self.listening.close()
+        """Behind the end of the machine."""
+        with contextlib.suppress(OSError):
+            self.listening.shutdown(socket.SHUT_RDWR)
+        self.join()
+        for it in (self.stream, self.connection, self.listening):
+            if it:
+                it.close()
 
     def get(self, size):
         found = self.stream.read(size)
@@ -139,7 +137,6 @@ class Server(threading.Thread):
             self.device.write(place, data)
             if self.cut and self.cut.comes(kind == FLUSH):
                 return self.end()
-            self.device.calls += 1
         if kind == FLUSH:
             self.device.flush()
         found = self.device.read(place, size) if kind == READ else b""
