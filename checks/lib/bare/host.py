@@ -3,13 +3,14 @@
 import dataclasses
 import struct
 
-from lib.bare.machine import ACK, PowerLoss, Wrong
+from lib.bare.machine import ACK, TOO_LONG, PowerLoss, Wrong
 
 BLOCKS, MOST, BLOCK = 64, 6, 512
 WRAPPER = struct.Struct("<4sIIBBB")
 DATA_IN = 0x80
 TEST_UNIT_READY, READ, WRITE, SYNCHRONIZE = 0x00, 0x28, 0x2A, 0x35
 FORCED = 8
+MAX_LUN = bytes.fromhex("a1fe000000000100")
 
 
 @dataclasses.dataclass
@@ -75,9 +76,13 @@ class Host:
             raise Wrong(f"command {block[0]:02X}h fails")
         return found
 
-    def hear_attention(self):
-        """The first command behind a start is told that the power was off."""
-        if self.play(bytes(6))[0] != 1:
+    def begin(self):
+        """What a host asks first. The first command behind a start is told that the power was off."""
+        if self.machine.setup(MAX_LUN) != (ACK, b"\0"):
+            raise Wrong("GET MAX LUN is not 0")
+        if self.machine.bulk_out(bytes(BLOCK + 1)) != TOO_LONG:
+            raise Wrong("a packet of too many bytes is taken")
+        if self.play(command(TEST_UNIT_READY, 0, 0, 0)[:6])[0] != 1:
             raise Wrong("no unit attention behind a start")
 
     def numbers(self, address, count):
