@@ -1,0 +1,115 @@
+/* Carries out what the library asks of a device: neighbouring sectors by one write, in order. */
+#include "usbdisk_carry.h"
+#include <string.h>
+
+void *usbdisk_carry_alloc(size_t size)
+{
+    struct rattle_tried block = rattle_alloc(size, 16);
+    return block.ok ? block.at : NULL;
+}
+
+/* The device refused a call. Nothing that follows it may reach the device without it. */
+static void lose(struct usbdisk_carry *carry, uint32_t fault)
+{
+    carry->fault = fault;
+    carry->held = 0;
+    carry->refuse(carry->handle);
+}
+
+void usbdisk_carry_write(struct usbdisk_carry *carry)
+{
+    const struct usbdisk_io_device *device = carry->device;
+    if (carry->held == 0)
+        return;
+    carry->calls++;
+    if (!device->write(device->context, carry->place, carry->buffer, carry->held))
+        lose(carry, USBDISK_WRITE_REFUSED);
+    carry->held = 0;
+}
+
+static void flush(struct usbdisk_carry *carry)
+{
+    const struct usbdisk_io_device *device = carry->device;
+    usbdisk_carry_write(carry);
+    if (carry->fault)
+        return;
+    carry->calls++;
+    if (!device->flush(device->context))
+        lose(carry, USBDISK_FLUSH_REFUSED);
+}
+
+/* A run came out behind the one that is held. They are one where they are neighbours. */
+static void hold(struct usbdisk_carry *carry, uint64_t first, size_t count)
+{
+    size_t before = carry->held;
+    if (before && first != carry->place + before) {
+        usbdisk_carry_write(carry);
+        memmove(carry->buffer, carry->buffer + before * 512, count * 512);
+    }
+    if (carry->fault)
+        return;
+    carry->place = carry->held ? carry->place : first;
+    carry->held += count;
+}
+
+void usbdisk_carry_take(struct usbdisk_carry *carry)
+{
+    while (!carry->fault) {
+        uint64_t first = 0;
+        size_t count = 1;
+        if (carry->held == carry->most)
+            usbdisk_carry_write(carry);
+        switch (carry->take(carry->handle, &first, carry->buffer + carry->held * 512,
+                            (carry->most - carry->held) * 512, &count)) {
+        case USBDISK_WRITE:
+            hold(carry, first, count);
+            break;
+        case USBDISK_FLUSH:
+            flush(carry);
+            break;
+        default:
+            return;
+        }
+    }
+}
+
+void usbdisk_carry_all(struct usbdisk_carry *carry)
+{
+    usbdisk_carry_take(carry);
+    usbdisk_carry_write(carry);
+}
+
+/* These sectors, by calls of at most USBDISK_IO_MOST. */
+static bool read_sectors(const struct usbdisk_io_device *device, uint8_t *bytes, uint64_t end)
+{
+    for (uint64_t at = 0; at < end;) {
+        size_t count = end - at < USBDISK_IO_MOST ? (size_t)(end - at) : USBDISK_IO_MOST;
+        if (!device->read(device->context, at, bytes + at * 512, count))
+            return false;
+        at += count;
+    }
+    return true;
+}
+
+uint32_t usbdisk_first_read(struct usbdisk_first *first, const struct usbdisk_io_device *device)
+{
+    uint8_t *sector = usbdisk_carry_alloc(512);
+    *first = (struct usbdisk_first){ .room = 1 };
+    if (!sector)
+        return USBDISK_NO_MEMORY;
+    bool is_read = device->sectors && device->read(device->context, 0, sector, 1);
+    uint64_t near = is_read ? usbdisk_near(sector) : 0;
+    if (is_read && !usbdisk_look(sector, &first->layout))
+        first->room = usbdisk_room(first->layout.format, first->layout.slots);
+    rattle_dealloc(sector);
+    near = near < device->sectors ? near : device->sectors;
+    first->size = (size_t)near * 512;
+    first->bytes = is_read ? usbdisk_carry_alloc(first->size) : NULL;
+    if (!first->bytes)
+        return is_read ? USBDISK_NO_MEMORY : USBDISK_READ_REFUSED;
+    if (read_sectors(device, first->bytes, near))
+        return 0;
+    rattle_dealloc(first->bytes);
+    first->bytes = NULL;
+    return USBDISK_READ_REFUSED;
+}

@@ -1,0 +1,216 @@
+/* A disk of the library over a device, by whole transfers. */
+#include "usbdisk_carry.h"
+#include <string.h>
+
+/* SHORT, LONG: blocks of the longest transfer in format 1 and in format 2. PACKET: bytes of the
+ * longest packet. */
+enum { SHORT = 48, LONG = 240, PACKET = 512 };
+
+struct usbdisk_io {
+    struct usbdisk core;
+    struct usbdisk_device name;
+    struct usbdisk_carry carry;
+    struct usbdisk_layout layout;
+    uint32_t packet;
+    uint64_t steps;  /* in the background, one behind the other, with more left behind each */
+    uint64_t behind; /* the sector behind the last READ */
+    uint64_t before; /* how many sectors the READ before it had */
+    uint64_t ahead;  /* how many from there on were shown before they were asked for */
+    bool reads_on;   /* the last READ began where the one before it ended */
+};
+
+static uint32_t take(void *core, uint64_t *first, uint8_t *bytes, size_t size, size_t *count)
+{
+    return usbdisk_take_run(core, first, bytes, size, count);
+}
+
+static uint32_t refuse(void *core)
+{
+    return usbdisk_refused(core);
+}
+
+/* A disk that is not started yet, with a buffer for the longest transfer. NULL: no memory. */
+static struct usbdisk_io *make(const struct usbdisk_io_device *device, uint32_t packet,
+                               const struct usbdisk_layout *layout)
+{
+    size_t most = layout->format == 1 ? SHORT : LONG;
+    struct usbdisk_io *io = usbdisk_carry_alloc(sizeof *io);
+    uint8_t *buffer = io ? usbdisk_carry_alloc(most * 512) : NULL;
+    if (!buffer) {
+        if (io)
+            rattle_dealloc(io);
+        return NULL;
+    }
+    *io = (struct usbdisk_io){ .core = USBDISK_NONE,
+                               .layout = *layout,
+                               .packet = packet,
+                               .carry = { .device = device, .buffer = buffer, .most = most } };
+    io->carry.take = take;
+    io->carry.refuse = refuse;
+    io->carry.handle = &io->core;
+    return io;
+}
+
+static uint32_t begin(struct usbdisk_io *io, const struct usbdisk_first *first,
+                      const struct usbdisk_identity *identity)
+{
+    uint32_t code =
+        usbdisk_start(&io->core, first->bytes, first->size, io->carry.device->sectors, &io->name,
+                      identity, io->packet, (uint32_t)io->carry.most, (size_t)first->room);
+    if (code)
+        return code;
+    usbdisk_carry_all(&io->carry);
+    return io->carry.fault;
+}
+
+uint32_t usbdisk_io_start(struct usbdisk_io **io, const struct usbdisk_io_device *device,
+                          const struct usbdisk_identity *identity, uint32_t packet)
+{
+    struct usbdisk_first first;
+    uint32_t code = usbdisk_first_read(&first, device);
+    if (code)
+        return code;
+    struct usbdisk_io *made = make(device, packet, &first.layout);
+    code = made ? begin(made, &first, identity) : USBDISK_NO_MEMORY;
+    rattle_dealloc(first.bytes);
+    if (code)
+        usbdisk_io_stop(made);
+    else
+        *io = made;
+    return code;
+}
+
+void usbdisk_io_stop(struct usbdisk_io *io)
+{
+    if (!io)
+        return;
+    usbdisk_stop(&io->core);
+    rattle_dealloc(io->carry.buffer);
+    rattle_dealloc(io);
+}
+
+/* More steps than these are never left, but on a disk that faulted in a call of its own, where they
+ * are left for ever. */
+bool usbdisk_io_has_faulted(const struct usbdisk_io *io)
+{
+    return io->carry.fault || io->steps > (io->layout.slots + 4) * (2 * io->carry.most + 16);
+}
+
+/* Reads sectors of the device and shows them to the disk. False: they are not read. */
+static bool show(struct usbdisk_io *io, uint64_t first, uint64_t count)
+{
+    const struct usbdisk_io_device *device = io->carry.device;
+    uint8_t *buffer = io->carry.buffer;
+    return count <= io->carry.most && device->read(device->context, first, buffer, (size_t)count) &&
+           !usbdisk_show(&io->core, first, buffer, (size_t)count * 512);
+}
+
+/* A packet to the disk, which may ask for sectors of the device before a READ. Where these cannot
+ * be read the READ ends alone, and the disk goes on. */
+static uint32_t bulk_out(struct usbdisk_io *io, const uint8_t *packet, size_t size)
+{
+    uint64_t first = 0;
+    uint32_t count = 0, code;
+    io->steps = 0;
+    while ((code = usbdisk_bulk_out(&io->core, packet, size, &first, &count)) == USBDISK_NEEDS) {
+        io->reads_on = first == io->behind;
+        io->behind = first + count;
+        io->ahead = 0;
+        if (!show(io, first, count)) {
+            code = usbdisk_bulk_out_unread(&io->core, packet, size);
+            break;
+        }
+    }
+    usbdisk_carry_all(&io->carry);
+    return code;
+}
+
+uint32_t usbdisk_io_out(struct usbdisk_io *io, const uint8_t *bytes, size_t size, size_t *taken)
+{
+    static const uint8_t none[1];
+    *taken = 0;
+    do {
+        size_t left = size - *taken, packet = left < io->packet ? left : io->packet;
+        uint32_t code = bulk_out(io, packet ? bytes + *taken : none, packet);
+        if (code != USBDISK_ACK)
+            return code;
+        *taken += packet;
+    } while (*taken < size);
+    return USBDISK_ACK;
+}
+
+uint32_t usbdisk_io_in(struct usbdisk_io *io, uint8_t *bytes, size_t size, size_t *got)
+{
+    uint8_t packet[PACKET];
+    *got = 0;
+    for (;;) {
+        size_t left = size - *got;
+        uint8_t *to = left < sizeof packet ? packet : bytes + *got;
+        uint32_t count = 0, code = usbdisk_bulk_in(&io->core, to, &count);
+        if (code != USBDISK_ACK)
+            return code;
+        if (count > left)
+            return USBDISK_IO_OVERFLOW;
+        if (to == packet && count)
+            memcpy(bytes + *got, packet, count);
+        *got += count;
+        if (count < io->packet || *got == size)
+            return USBDISK_ACK;
+    }
+}
+
+uint32_t usbdisk_io_setup(struct usbdisk_io *io, const uint8_t setup[8], uint8_t data[2],
+                          uint32_t *size)
+{
+    *size = 0;
+    return usbdisk_setup(&io->core, setup, data, size);
+}
+
+void usbdisk_io_clear_halt(struct usbdisk_io *io, uint8_t endpoint)
+{
+    const uint8_t setup[8] = { 0x02, 0x01, 0, 0, endpoint, 0, 0, 0 };
+    uint8_t data[2];
+    uint32_t size;
+    usbdisk_io_setup(io, setup, data, &size);
+}
+
+/* What a host's reset recovery does: class reset, both halts cleared. */
+void usbdisk_io_reset(struct usbdisk_io *io)
+{
+    static const uint8_t class_reset[8] = { 0x21, 0xFF, 0, 0, 0, 0, 0, 0 };
+    uint8_t data[2];
+    uint32_t size;
+    usbdisk_io_setup(io, class_reset, data, &size);
+    usbdisk_io_clear_halt(io, 0x81);
+    usbdisk_io_clear_halt(io, 0x02);
+}
+
+/* What the steps send is carried out where it no longer joins into one run. */
+bool usbdisk_io_idle(struct usbdisk_io *io)
+{
+    uint64_t calls = io->carry.calls;
+    bool is_left = !usbdisk_io_has_faulted(io);
+    while (is_left && calls == io->carry.calls) {
+        is_left = usbdisk_tick(&io->core) == 1;
+        io->steps = is_left ? io->steps + 1 : 0;
+        usbdisk_carry_take(&io->carry);
+        is_left = is_left && !usbdisk_io_has_faulted(io);
+    }
+    usbdisk_carry_write(&io->carry);
+    return is_left && !usbdisk_io_has_faulted(io);
+}
+
+void usbdisk_io_look_ahead(struct usbdisk_io *io, uint64_t size)
+{
+    uint64_t count = size / 512, next = io->before, end = io->layout.near + io->layout.blocks;
+    bool is_found = io->ahead && io->ahead == count;
+    if (!count || (io->ahead && !is_found))
+        return;
+    io->before = count;
+    io->behind += io->ahead;
+    io->ahead = 0;
+    if (!(is_found || io->reads_on) || !next || next > end - io->behind)
+        return;
+    if (show(io, io->behind, next))
+        io->ahead = next;
+}
