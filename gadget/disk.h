@@ -6,12 +6,7 @@
 #ifndef DISK_H
 #define DISK_H
 
-#include "usbdisk.h"
-
-/* What a call answers beside USBDISK_ACK, USBDISK_NAK and USBDISK_STALL. */
-enum {
-    DISK_OVERFLOW = 65 /* the disk sent a packet that is longer than the host's room (a babble) */
-};
+#include "usbdisk_io.h"
 
 /* How many loop devices may stand one over another. */
 enum { LOCKS_MOST = 4 };
@@ -39,25 +34,20 @@ struct counters {
 
 /* A disk. The fields are disk.c's own, but those with a comment may be read. */
 struct disk {
-    struct usbdisk core;
-    struct usbdisk_device device;
+    struct usbdisk_io *io;
+    struct usbdisk_io_device device;
     struct usbdisk_identity identity;
     const char *path;
     int file;
     int locked[LOCKS_MOST]; /* the files under it, where it is a loop device */
     unsigned locks;         /* how many */
-    uint8_t (*window)[512]; /* sectors on their way: to be shown, or to be written */
-    uint64_t held, place;   /* how many of them are to be written, and the first one's number */
-    uint64_t sectors, near, slots, steps;
-    uint64_t behind; /* the sector behind the last READ */
-    uint64_t before; /* how many sectors the READ before it had */
-    uint64_t ahead;  /* how many from there on were shown before they were asked for */
-    bool reads_on;   /* the last READ began where the one before it ended */
+    uint64_t sectors, slots;
     uint64_t blocks; /* how many blocks the host sees */
     uint32_t format; /* 1 or 2 */
     uint32_t packet; /* bytes of a packet, 64 or 512; 0 while no disk is started */
     char serial[13]; /* 12 hexadecimal digits, of the path and the machine or by disk_name */
     struct counters counters;
+    bool looks_ahead;
     bool has_faulted; /* the device refused a write or a flush since the start */
     int status;       /* the exit status that belongs to the last refusal */
 };
@@ -83,8 +73,7 @@ uint32_t disk_out(struct disk *disk, const uint8_t *bytes, size_t size, size_t *
 /* The host waits for `size` bytes from Bulk-In: collects packets, and tells how many bytes there
  * are. ACK: the room is full, or a short packet ended the transfer. NAK: nothing more is there now;
  * call again with the rest of the room. STALL: the endpoint is halted behind these bytes.
- * DISK_OVERFLOW: a packet did not fit, and is lost; never so where the room is a multiple of the
- * packet. It makes no call of the device. */
+ * USBDISK_IO_OVERFLOW: a packet did not fit, and is lost. It makes no call of the device. */
 uint32_t disk_in(struct disk *disk, uint8_t *bytes, size_t size, size_t *got);
 
 /* `size` bytes are on their way to the host, and nothing else is to be done. Where READs follow
@@ -102,10 +91,10 @@ void disk_clear_halt(struct disk *disk, uint8_t endpoint);
 /* A bus reset: a class reset, both halts cleared. What was accepted stays. */
 void disk_bus_reset(struct disk *disk);
 
-/* Steps in the background, as many as write one run of neighbouring sectors or make one flush.
- * Answers 1 while steps are left, 0 where all is at home or the disk has faulted and will get no
- * further. */
-uint32_t disk_tick(struct disk *disk);
+/* Steps in the background, as many as write one run of neighbouring sectors or make one flush. True
+ * while steps are left; false where all is at home or the disk has faulted and will get no further.
+ */
+bool disk_tick(struct disk *disk);
 
 /* Steps until all is at home and durable, and says so. False: said why. */
 bool disk_settle(struct disk *disk);

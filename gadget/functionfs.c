@@ -52,7 +52,7 @@ static void make_steps(struct gadget *gadget, struct pollfd files[2], unsigned a
         reader_lock(reader);
         for (int steps = 0; steps < STEPS && gadget->has_steps && reader->arrivals == arrivals;
              steps++)
-            gadget->has_steps = disk_tick(&gadget->disk) == 1;
+            gadget->has_steps = disk_tick(&gadget->disk);
         is_idle = gadget->has_steps && reader->arrivals == arrivals;
         reader_unlock(reader);
         is_idle = is_idle && wait_for(files, 2, 0) == 0 && !is_asked_to_end();

@@ -208,95 +208,52 @@ static bool may_make(const struct options *options, struct place *place, uint64_
     return refuse(&place->disk, STATUS_REFUSED, cause);
 }
 
-/* What the library answers in place of a handle. */
+/* What the port layer answers in place of an image. What the device refused is said already. */
 static bool refuse_image(struct place *place, uint32_t fault)
 {
-    switch (fault) {
-    case USBDISK_NO_MEMORY:
-        return refuse(&place->disk, STATUS_MEMORY, "no memory");
-    case USBDISK_BAD_SUPER:
-        return refuse(&place->disk, STATUS_REFUSED, "no image: sector 0 is not ours");
-    case USBDISK_BAD_VERSION:
-        return refuse(&place->disk, STATUS_REFUSED, "an image of a later version");
-    case USBDISK_BAD_SIZE:
-        return refuse(&place->disk, STATUS_REFUSED,
-                      "the sizes in sector 0 do not fit: it was cut off, or changed");
-    case USBDISK_BAD_HEAD:
-        return refuse(&place->disk, STATUS_REFUSED, "sector 1 is no head: it was torn, or changed");
-    case USBDISK_STAMPS_USED_UP:
-        return refuse(&place->disk, STATUS_REFUSED, "its sequence numbers are used up");
-    case USBDISK_LOG_TOO_SMALL:
-        return refuse(&place->disk, STATUS_REFUSED,
-                      "its log is too small for format 2: it has fewer than 5 slots");
-    default:
-        return refuse(&place->disk, STATUS_REFUSED, "the sizes are out of their limits");
-    }
+    if (fault >= USBDISK_READ_REFUSED && fault <= USBDISK_FLUSH_REFUSED)
+        return false;
+    int status = fault == USBDISK_NO_MEMORY ? STATUS_MEMORY : STATUS_REFUSED;
+    return refuse(&place->disk, status, usbdisk_text(fault));
 }
 
-/* Begins an image in the handle: a log alone around the blocks that are there, or all of it. */
-static bool lay(const struct options *options, struct place *place, struct usbdisk_image *image,
-                uint64_t blocks)
-{
-    static const struct usbdisk_device device;
-    uint8_t sector[512];
-    if (!read_sectors(&place->disk, sector, 0, 1))
-        return refuse(&place->disk, STATUS_FILE, "sector 0 is not read");
-    uint32_t fault = (options->zeroes ? usbdisk_format : usbdisk_lay_log)(
-        image, sector, 512, place->disk.sectors, &device, (uint32_t)options->format, blocks,
-        options->slots);
-    return !fault || refuse_image(place, fault);
-}
-
-/* Makes the image. False: said why. */
+/* Makes the image: a log alone around the blocks that are there, or all of it. False: said why. */
 static bool make(const struct options *options, struct place *place)
 {
-    struct usbdisk_image image = USBDISK_IMAGE_NONE;
     uint64_t sectors = wanted_sectors(options, place), blocks = wanted_blocks(options, sectors);
     if (!may_make(options, place, sectors) || !place_fill(place, sectors))
         return false;
     if (sectors > place->disk.sectors)
         return refuse(&place->disk, STATUS_REFUSED, "too small: it is shorter than that");
-    if (!lay(options, place, &image, blocks))
-        return false;
-    uint64_t writes = home_of(options) + (options->zeroes ? blocks : 0);
-    bool is_made = place_carry_out(place, &image, writes);
-    usbdisk_end(&image);
-    if (is_made)
-        printf("made: format %" PRIu64 ", %" PRIu64 " slots, %" PRIu64 " blocks (%" PRIu64
-               ".%" PRIu64 " MiB)\n",
-               options->format, options->slots, blocks, blocks / 2048, blocks % 2048 * 10 / 2048);
-    return is_made;
+    place_begin(place, home_of(options) + (options->zeroes ? blocks : 0));
+    uint32_t fault = (options->zeroes ? usbdisk_io_format : usbdisk_io_lay_log)(
+        &place->device, (uint32_t)options->format, options->slots, blocks);
+    if (fault)
+        return refuse_image(place, fault);
+    place_keep(place);
+    printf("made: format %" PRIu64 ", %" PRIu64 " slots, %" PRIu64 " blocks (%" PRIu64 ".%" PRIu64
+           " MiB)\n",
+           options->format, options->slots, blocks, blocks / 2048, blocks % 2048 * 10 / 2048);
+    return true;
 }
 
-/* Reads what image there is, and its first sectors, which are to be freed. NULL: said why. */
-static uint8_t *read_near(struct place *place, struct usbdisk_layout *layout)
+/* Reads what image there is. False: said why. */
+static bool read_layout(struct place *place, struct usbdisk_layout *layout)
 {
     uint8_t sector[512];
-    if (!place->disk.sectors || !read_sectors(&place->disk, sector, 0, 1)) {
-        refuse(&place->disk, STATUS_FILE,
-               place->disk.sectors ? "sector 0 is not read" : "it is empty");
-        return NULL;
-    }
+    if (!place->disk.sectors || !read_sectors(&place->disk, sector, 0, 1))
+        return refuse(&place->disk, STATUS_FILE,
+                      place->disk.sectors ? "sector 0 is not read" : "it is empty");
     uint32_t fault = usbdisk_look(sector, layout);
-    if (fault || layout->sectors > place->disk.sectors) {
-        refuse_image(place, fault ? fault : USBDISK_BAD_SIZE);
-        return NULL;
-    }
-    uint8_t *near = malloc(layout->near * 512);
-    if (!near)
-        refuse(&place->disk, STATUS_MEMORY, "no memory");
-    else if (!read_sectors(&place->disk, near, 0, layout->near)) {
-        refuse(&place->disk, STATUS_FILE, strerror(errno));
-        free(near);
-        return NULL;
-    }
-    return near;
+    if (!fault && layout->sectors > place->disk.sectors)
+        fault = USBDISK_BAD_SIZE;
+    return !fault || refuse_image(place, fault);
 }
 
 /* Starts a disk on it in memory alone: nothing of what it would write is carried out. Answers as
  * usbdisk_start. */
-static uint32_t start(const struct place *place, const uint8_t *near,
-                      const struct usbdisk_layout *layout, uint64_t room)
+static uint32_t start(const struct place *place, const struct usbdisk_layout *layout, uint64_t room,
+                      const uint8_t *near)
 {
     static const struct usbdisk_device device;
     struct usbdisk disk = USBDISK_NONE;
@@ -311,12 +268,18 @@ static uint32_t start(const struct place *place, const uint8_t *near,
 static bool show(struct place *place)
 {
     struct usbdisk_layout layout;
-    uint8_t *near = read_near(place, &layout);
-    if (!near)
+    if (!read_layout(place, &layout))
         return false;
     uint64_t room = usbdisk_room(layout.format, layout.slots);
-    uint32_t span = layout.format == 1 ? 48 : 240, fault = start(place, near, &layout, room);
+    uint32_t span = layout.format == 1 ? 48 : 240;
+    uint8_t *near = malloc(layout.near * 512);
+    if (!near)
+        return refuse(&place->disk, STATUS_MEMORY, "no memory");
+    bool is_read = read_sectors(&place->disk, near, 0, layout.near);
+    uint32_t fault = is_read ? start(place, &layout, room, near) : 0;
     free(near);
+    if (!is_read)
+        return refuse_call(&place->disk, "its log is not read");
     printf("format %" PRIu32 "\nblocks %" PRIu64 "\nslots %" PRIu64 "\nhome %" PRIu64 "\n",
            layout.format, layout.blocks, layout.slots, layout.near);
     printf("memory %" PRIu64 "\n",
@@ -329,23 +292,16 @@ static bool show(struct place *place)
 
 static bool migrate(struct place *place)
 {
-    static const struct usbdisk_device device;
-    struct usbdisk_image image = USBDISK_IMAGE_NONE;
     struct usbdisk_layout layout;
-    uint8_t *near = read_near(place, &layout);
-    if (!near)
+    if (!read_layout(place, &layout))
         return false;
-    uint64_t room = layout.format == 1 ? 98 * layout.slots + 9 : 240 * layout.slots + 4;
-    uint32_t fault =
-        usbdisk_migrate(&image, near, layout.near * 512, place->disk.sectors, &device, room);
-    free(near);
+    place_begin(place, layout.near);
+    uint32_t fault = usbdisk_io_migrate(&place->device);
     if (fault)
         return refuse_image(place, fault);
-    bool is_done = place_carry_out(place, &image, layout.near);
-    usbdisk_end(&image);
-    if (is_done)
-        puts(layout.format == 2 ? "already format 2" : "migrated");
-    return is_done;
+    place_keep(place);
+    puts(layout.format == 2 ? "already format 2" : "migrated");
+    return true;
 }
 
 static bool work(const struct options *options, struct place *place)

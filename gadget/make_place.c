@@ -14,9 +14,8 @@
 #include <blkid/blkid.h>
 #endif
 
-/* SEEN: how many first bytes are looked at for marks. RUN: how many neighbouring sectors are
- * written by one write, and how many zeros at a time. TOLD: after how many sectors a terminal is
- * told how far it is (16 MiB). */
+/* SEEN: how many first bytes are looked at for marks. RUN: how many sectors of zeros are written at
+ * a time. TOLD: after how many sectors a terminal is told how far it is (16 MiB). */
 enum { SEEN = 68 * 1024, RUN = 2048, TOLD = 32768 };
 
 /* Makes the file where none is there; but none among the devices, where a name is mistyped. */
@@ -108,12 +107,15 @@ const char *place_holds(const struct place *place)
     return NULL;
 }
 
-/* How far it is, on one line of a terminal. */
-static void tell(uint64_t done, uint64_t all)
+/* So many sectors more are written: how far it is, on one line of a terminal. */
+static void tell(struct place *place, uint64_t count)
 {
-    if (all >= TOLD && (done % TOLD == 0 || done == all) && isatty(2))
-        fprintf(stderr, "\r%llu of %llu MiB%s", (unsigned long long)done / 2048,
-                (unsigned long long)all / 2048, done == all ? "\n" : "");
+    uint64_t told = place->done / TOLD;
+    place->done += count;
+    bool is_last = place->done == place->all;
+    if (place->all >= TOLD && (place->done / TOLD > told || is_last) && isatty(2))
+        fprintf(stderr, "\r%llu of %llu MiB%s", (unsigned long long)place->done / 2048,
+                (unsigned long long)place->all / 2048, is_last ? "\n" : "");
 }
 
 /* Whether a signal asks to end; signals come in a wait alone. */
@@ -127,6 +129,8 @@ static bool is_stopped(void)
 static bool write_zeros(struct place *place, uint64_t first, uint64_t end)
 {
     static uint8_t zeros[RUN * 512];
+    place->done = 0;
+    place->all = end - first;
     for (uint64_t at = first; at < end;) {
         uint64_t count = end - at < RUN ? end - at : RUN;
         if (is_stopped())
@@ -134,7 +138,7 @@ static bool write_zeros(struct place *place, uint64_t first, uint64_t end)
         if (!write_sectors(&place->disk, zeros, at, count))
             return refuse_call(&place->disk, "no room for it");
         at += count;
-        tell(at - first, end - first);
+        tell(place, count);
     }
     return true;
 }
@@ -154,38 +158,36 @@ bool place_fill(struct place *place, uint64_t sectors)
     return true;
 }
 
-/* A run of neighbouring sectors that waits to be written. */
-struct run {
-    uint8_t bytes[RUN][512];
-    uint64_t first, count, done, all;
-};
-
-static bool write_run(struct place *place, struct run *run)
+static bool read_for(void *context, uint64_t first, uint8_t *bytes, size_t count)
 {
+    struct place *place = context;
+    return read_sectors(&place->disk, bytes, first, count) ||
+           refuse_call(&place->disk, "a read was refused");
+}
+
+static bool write_for(void *context, uint64_t first, const uint8_t *bytes, size_t count)
+{
+    struct place *place = context;
     if (is_stopped())
         return refuse(&place->disk, STATUS_FILE, "stopped on the way: run it again");
-    if (!write_sectors(&place->disk, run->bytes[0], run->first, run->count))
+    if (!write_sectors(&place->disk, bytes, first, count))
         return refuse_call(&place->disk, "a write was refused");
-    run->done += run->count;
-    run->count = 0;
+    tell(place, count);
     return true;
 }
 
-/* One call of the handle: a write joins the run, or begins the next; a flush comes behind all
- * writes. */
-static bool play(struct place *place, struct run *run, uint32_t kind, uint64_t sector,
-                 const uint8_t bytes[512])
+static bool flush_for(void *context)
 {
-    bool joins = kind == USBDISK_WRITE && run->count < RUN && sector == run->first + run->count;
-    if (!joins && !write_run(place, run))
-        return false;
-    if (kind == USBDISK_FLUSH)
-        return flush(&place->disk) || refuse_call(&place->disk, "a flush was refused");
-    if (!joins)
-        run->first = sector;
-    memcpy(run->bytes[run->count++], bytes, 512);
-    tell(run->done + run->count, run->all);
-    return true;
+    struct place *place = context;
+    return flush(&place->disk) || refuse_call(&place->disk, "a flush was refused");
+}
+
+void place_begin(struct place *place, uint64_t sectors)
+{
+    place->done = 0;
+    place->all = sectors;
+    place->device =
+        (struct usbdisk_io_device){ place, place->disk.sectors, read_for, write_for, flush_for };
 }
 
 /* The folder of a new file keeps its name only once it is flushed too. Some file systems cannot do
@@ -201,22 +203,10 @@ static void keep_name(const struct place *place)
     free(path);
 }
 
-bool place_carry_out(struct place *place, struct usbdisk_image *image, uint64_t sectors)
+void place_keep(const struct place *place)
 {
-    static struct run run;
-    uint8_t bytes[512];
-    uint64_t sector = 0;
-    run.count = 0;
-    run.done = 0;
-    run.all = sectors;
-    for (uint32_t kind; (kind = usbdisk_next(image, &sector, bytes)) != USBDISK_NOTHING;)
-        if (!play(place, &run, kind, sector, bytes))
-            return false;
-    if (!write_run(place, &run))
-        return false;
     if (place->is_new)
         keep_name(place);
-    return true;
 }
 
 void place_close(struct place *place, bool has_image)

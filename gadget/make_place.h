@@ -9,6 +9,8 @@ struct place {
     struct disk disk; /* its path, file, sectors and status */
     bool is_new; /* the file was made by place_open, and goes away where no image is made on it */
     bool is_device; /* a block device, whose length stays */
+    struct usbdisk_io_device device;
+    uint64_t done, all; /* sectors that are written, and that are to be */
 };
 
 /* How it is opened: to be read alone; to be changed; or to be made, where no file is there. */
@@ -24,9 +26,12 @@ const char *place_holds(const struct place *place);
  * why. */
 bool place_fill(struct place *place, uint64_t sectors);
 
-/* Carries out all that waits in the handle, some `sectors` of writes, and makes the file's name
- * durable. False: said why. */
-bool place_carry_out(struct place *place, struct usbdisk_image *image, uint64_t sectors);
+/* Makes it a device of the port layer, of which some `sectors` are to be written. What it refuses
+ * it says, and a signal that asks to end is a refusal of a write. */
+void place_begin(struct place *place, uint64_t sectors);
+
+/* There is an image: makes the file's name durable. */
+void place_keep(const struct place *place);
 
 /* Lets it go. A new file on which no image was made is removed. */
 void place_close(struct place *place, bool has_image);

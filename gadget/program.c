@@ -1,6 +1,5 @@
 /* What both gadgets share as programs. */
 #include "program.h"
-#include "usbdisk.h"
 #include <errno.h>
 #include <fcntl.h>
 #include <signal.h>
@@ -16,7 +15,7 @@
  * are looked for. */
 enum { BUSY = 64 };
 
-/* A signal's handler and the library's memory know of no struct. */
+/* A signal's handler knows of no struct. */
 static volatile sig_atomic_t asked_to_end, asked_to_count;
 static sigset_t caught, while_waiting;
 static unsigned busy;
@@ -150,17 +149,4 @@ bool read_number(const char *text, uint64_t least, uint64_t most, uint64_t *numb
         return false;
     *number = strtoull(text, &end, 10);
     return !errno && !*end && *number >= least && *number <= most;
-}
-
-struct rattle_tried rattle_alloc(size_t size, size_t alignment)
-{
-    static char nowhere;
-    (void)alignment; /* at most 16, which malloc keeps on targets of 64 bits */
-    void *block = malloc(size ? size : 1);
-    return (struct rattle_tried){ block != NULL, block ? block : &nowhere };
-}
-
-void rattle_dealloc(void *at)
-{
-    free(at);
 }

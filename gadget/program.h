@@ -1,5 +1,5 @@
-/* What both gadgets share as programs: standard streams, messages, signals, the service manager,
- * and the library's memory. */
+/* What both gadgets share as programs: standard streams, messages, signals, and the service
+ * manager. */
 #ifndef PROGRAM_H
 #define PROGRAM_H
 

@@ -134,7 +134,7 @@ static enum outcome answer_control(struct client *client, struct usb_device *dev
 /* The status of a transfer of which the disk says this. */
 static int32_t status_of(uint32_t code)
 {
-    if (code == DISK_OVERFLOW)
+    if (code == USBDISK_IO_OVERFLOW)
         return OVERFLOWED;
     return code == USBDISK_ACK ? GOOD : STALLED;
 }

@@ -240,7 +240,7 @@ void server_turn(struct server *server, bool waits)
     if (something)
         server->has_steps = true;
     else if (server->has_steps)
-        server->has_steps = disk_tick(&server->disk) == 1;
+        server->has_steps = disk_tick(&server->disk);
 }
 
 bool server_end(struct server *server)
