@@ -50,7 +50,8 @@ VERSIONS = {
     "crates/usbdisk_c/specs/Codes.antt": r"\nVERSION = (\w+)",
     "crates/images/src/program.rt": r'const VERSION: .*"usbdisk_image ([\d.]+)',
     "crates/images/specs/Program.antt": r'"usbdisk_image ([\d.]+)"',
-    "examples/rust/src/lib.rs": r"const VERSION: u32 = (\w+);",
+    "rust/usbdisk/src/lib.rs": r"const VERSION: u32 = (\w+);",
+    "rust/usbdisk/Cargo.toml": r'\nversion = "([\d.]+)\.0"',
 }
 
 

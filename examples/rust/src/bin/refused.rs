@@ -1,7 +1,7 @@
 //! A device that refuses a call once, and a caller that logs the error and goes on: a WRITE with FUA
 //! during which a call was refused is never answered good, whichever call it was, in both formats.
-use std::io;
-use usbdisk::{format, room, Answer, Device, Error, Identity, UsbDisk};
+use std::cell::Cell;
+use usbdisk::{first_size, format, Answer, Device, Disk, Error, Identity, BUFFER};
 
 const BLOCKS: u64 = 64;
 const SLOTS: u64 = 3;
@@ -14,43 +14,53 @@ const WHO: Identity = Identity {
     serial: *b"000000000001",
 };
 
+#[derive(Debug)]
+struct Refused;
+
 /// What is written is durable behind the next flush. The call of this number is refused.
 struct Memory {
     bytes: Vec<u8>,
     durable: Vec<u8>,
-    calls: u32,
-    refused: u32,
+    left: Cell<u32>,
 }
 
 impl Memory {
-    fn call(&mut self) -> io::Result<()> {
-        self.calls += 1;
-        if self.calls == self.refused {
-            return Err(io::Error::new(io::ErrorKind::Other, "refused once"));
+    /// The call of this number from now is refused, or none at 0.
+    fn refuse(&self, number: u32) {
+        self.left.set(number);
+    }
+
+    fn call(&self) -> Result<(), Refused> {
+        let left = self.left.get();
+        self.left.set(left.saturating_sub(1));
+        if left == 1 {
+            return Err(Refused);
         }
         Ok(())
     }
 }
 
 impl Device for Memory {
+    type Error = Refused;
+
     fn sectors(&self) -> u64 {
         self.bytes.len() as u64 / 512
     }
 
-    fn read(&mut self, first: u64, bytes: &mut [u8]) -> io::Result<()> {
+    fn read(&mut self, first: u64, bytes: &mut [u8]) -> Result<(), Refused> {
         let at = first as usize * 512;
         bytes.copy_from_slice(&self.bytes[at..at + bytes.len()]);
         Ok(())
     }
 
-    fn write(&mut self, first: u64, bytes: &[u8]) -> io::Result<()> {
+    fn write(&mut self, first: u64, bytes: &[u8]) -> Result<(), Refused> {
         self.call()?;
         let at = first as usize * 512;
         self.bytes[at..at + bytes.len()].copy_from_slice(bytes);
         Ok(())
     }
 
-    fn flush(&mut self) -> io::Result<()> {
+    fn flush(&mut self) -> Result<(), Refused> {
         self.call()?;
         self.durable.copy_from_slice(&self.bytes);
         Ok(())
@@ -67,55 +77,74 @@ fn wrapper(length: u16, flags: u8, command: &[u8]) -> [u8; 31] {
     bytes
 }
 
+type Lent<'d, 'b> = Disk<'b, &'d mut Memory>;
+
 /// A disk whose unit attention was told.
-fn start(device: &mut Memory, log: u32) -> Result<UsbDisk, Error> {
-    let mut disk = UsbDisk::start(device, &WHO, 512, 240, room(log, SLOTS))?;
-    disk.bulk_out(device, &wrapper(18, 0x80, &[3, 0, 0, 0, 18, 0]))?;
-    disk.bulk_in()?;
-    disk.bulk_in()?;
+fn start<'d, 'b>(
+    device: &'d mut Memory,
+    buffer: &'b mut [u8],
+) -> Result<Lent<'d, 'b>, Error<Refused>> {
+    let mut near = vec![0; first_size(device).map_err(Error::Device)?];
+    let mut disk = Disk::start(device, &mut near, buffer, &WHO, 512)?;
+    disk.bulk_out(&wrapper(18, 0x80, &[3, 0, 0, 0, 18, 0]))?;
+    disk.bulk_in();
+    disk.bulk_in();
     Ok(disk)
 }
 
 /// The status of a WRITE with FUA during which the call of this number was refused; none where it
 /// made fewer.
-fn write(disk: &mut UsbDisk, device: &mut Memory, refused: u32) -> Result<Option<u8>, Error> {
-    device.calls = 0;
-    device.refused = refused;
-    disk.bulk_out(device, &wrapper(512, 0, &[0x2A, 8, 0, 0, 0, 5, 0, 0, 1, 0]))?;
-    if disk.bulk_out(device, &WRITTEN).is_ok() {
+fn write(device: &mut Memory, refused: u32) -> Result<Option<u8>, Error<Refused>> {
+    let mut buffer = [0; BUFFER];
+    let mut disk = start(device, &mut buffer)?;
+    disk.device().refuse(refused);
+    disk.bulk_out(&wrapper(512, 0, &[0x2A, 8, 0, 0, 0, 5, 0, 0, 1, 0]))?;
+    if disk.bulk_out(&WRITTEN).is_ok() {
         return Ok(None);
     }
-    match disk.bulk_in()? {
+    match disk.bulk_in() {
         Answer::Ack(status) => Ok(status.last().copied()),
         _ => Ok(Some(0xFF)),
     }
 }
 
 /// Whether the block is there behind a cut.
-fn is_there(device: &mut Memory, log: u32) -> Result<bool, Error> {
+fn is_there(device: &mut Memory) -> Result<bool, Error<Refused>> {
+    let mut buffer = [0; BUFFER];
     device.bytes.copy_from_slice(&device.durable);
-    device.refused = 0;
-    let mut disk = start(device, log)?;
+    device.refuse(0);
+    let mut disk = start(device, &mut buffer)?;
     let read = [0x28, 0, 0, 0, 0, 5, 0, 0, 1, 0];
-    disk.bulk_out(device, &wrapper(512, 0x80, &read))?;
-    Ok(disk.bulk_in()? == Answer::Ack(&WRITTEN))
+    disk.bulk_out(&wrapper(512, 0x80, &read))?;
+    Ok(disk.bulk_in() == Answer::Ack(&WRITTEN))
 }
 
-fn main() -> Result<(), Error> {
+/// The status of the WRITE, and whether its block is there.
+fn live(log: u32, slot: u64, refused: u32) -> Result<Option<(u8, bool)>, Error<Refused>> {
+    let bytes = vec![0; 512 * (2 + slot * SLOTS + BLOCKS) as usize];
+    let durable = bytes.clone();
+    let mut device = Memory {
+        bytes,
+        durable,
+        left: Cell::new(0),
+    };
+    format(&mut device, log, BLOCKS, SLOTS)?;
+    match write(&mut device, refused)? {
+        Some(status) => Ok(Some((status, is_there(&mut device)?))),
+        None => Ok(None),
+    }
+}
+
+fn main() -> Result<(), Error<Refused>> {
     for (log, slot) in [(1, 50), (2, 249)] {
-        for refused in 1.. {
-            let mut bytes = vec![0; 512 * (2 + slot * SLOTS + BLOCKS) as usize];
-            format(&mut bytes, log, BLOCKS, SLOTS)?;
-            let durable = bytes.clone();
-            let mut device = Memory { bytes, durable, calls: 0, refused: 0 };
-            let mut disk = start(&mut device, log)?;
-            let Some(status) = write(&mut disk, &mut device, refused)? else {
-                break;
-            };
-            drop(disk);
-            let there = is_there(&mut device, log)?;
+        let mut refused = 1;
+        while let Some((status, there)) = live(log, slot, refused)? {
             println!("format {log}, call {refused} refused: status {status}");
-            assert!(status != GOOD || there, "a WRITE that was answered good is lost");
+            assert!(
+                status != GOOD || there,
+                "a WRITE that was answered good is lost"
+            );
+            refused += 1;
         }
     }
     Ok(())
