@@ -12,11 +12,13 @@ enum { HEAD = 16 };
 
 struct rattle_tried rattle_alloc(size_t size, size_t alignment)
 {
-    static char nowhere;
+    char *nowhere = (char *)(uintptr_t)1; /* not to be read */
     int fails = heap_fails && --heap_fails == 0;
-    char *block = !fails && alignment <= HEAD ? malloc(size + HEAD) : NULL;
+    if (size == 0 || alignment == 0 || alignment > HEAD || alignment & (alignment - 1))
+        abort(); /* no library that keeps usbdisk.h asks for that */
+    char *block = fails ? NULL : malloc(size + HEAD);
     if (!block)
-        return (struct rattle_tried){ false, &nowhere };
+        return (struct rattle_tried){ false, nowhere };
     memcpy(block, &size, sizeof size);
     heap_now += size;
     heap_blocks++;

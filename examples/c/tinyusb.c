@@ -1,14 +1,14 @@
-/* The store behind a stack that has SCSI in it: the callbacks, and what they need. Then a host in their
- * place, which cuts the power: what was promised is there after. Last a device that refuses a call.
+/* The blocks behind a stack that has SCSI in it (port/usbdisk_blocks.h): the callbacks, and what
+ * they need. Then a host in their place, which cuts the power: what was promised is there after.
+ * Last a device that refuses a call.
  *
- * TinyUSB shows its host no write cache, so that no host sends SYNCHRONIZE CACHE: each write is made
- * durable before it is answered. Where your stack shows a cache (MODE SENSE, page 08h, WCE), and hands
- * SYNCHRONIZE CACHE and FUA on, build with -DSHOWS_CACHE=1. */
+ * TinyUSB shows its host no write cache, so that no host sends SYNCHRONIZE CACHE: each write is
+ * made durable before it is answered. Where your stack shows a cache (MODE SENSE, page 08h, WCE),
+ * and hands SYNCHRONIZE CACHE and FUA on, build with -DSHOWS_CACHE=1. */
+#include "tinyusb.h"
 #include "device.h"
 #include "gadget.h"
-#include "image.h"
-#include "tinyusb.h"
-#include "usbdisk.h"
+#include "usbdisk_blocks.h"
 #include <stdio.h>
 #include <stdlib.h>
 #include <string.h>
@@ -17,9 +17,12 @@
 #define SHOWS_CACHE 0
 #endif
 
-enum { BLOCKS = 200, SLOTS = 4, SECTORS = 2 + 249 * SLOTS + BLOCKS, SPAN = 8, RUN = 16 };
+/* SPAN: how many blocks the stack's buffer has. */
+enum { BLOCKS = 200, SLOTS = 4, SECTORS = 2 + 249 * SLOTS + BLOCKS, SPAN = 8 };
 
-static struct usbdisk_store store = USBDISK_STORE_NONE;
+static struct usbdisk_blocks *disk;
+
+/* ---- the device */
 
 /* For the test: the device refuses the call of this number from here on, or none. */
 static uint32_t refuses;
@@ -29,133 +32,157 @@ static bool is_refused(void)
     return refuses && --refuses == 0;
 }
 
-/* ---- the callbacks */
-
-/* One command of your device; this one writes sector by sector, and may refuse in the middle. */
-static bool write_run(uint64_t sector, const uint8_t *bytes, size_t count)
+static bool read_run(void *context, uint64_t first, uint8_t *bytes, size_t count)
 {
+    (void)context;
     for (size_t i = 0; i < count; i++)
-        if (is_refused() || !device_write(sector + i, bytes + 512 * i))
+        if (!device_read(first + i, bytes + 512 * i))
             return false;
     return true;
 }
 
-/* Carries out what waits, in order. Where the device refuses a call the store is told: nothing waits then,
- * and each later read, write and sync answers DEAD until the next start. */
-static bool carry_out(void)
+/* One command of your device; this one writes sector by sector, and may refuse in the middle. */
+static bool write_run(void *context, uint64_t first, const uint8_t *bytes, size_t count)
 {
-    static uint8_t bytes[RUN * 512];
-    uint64_t sector;
-    size_t count;
-    for (bool good = true; good;)
-        switch (usbdisk_store_take_run(&store, &sector, bytes, sizeof bytes, &count)) {
-        case USBDISK_NOTHING: return true;
-        case USBDISK_WRITE: good = write_run(sector, bytes, count); break;
-        case USBDISK_FLUSH: good = !is_refused() && device_flush(); break;
-        default: good = false;
-        }
-    usbdisk_store_refused(&store);
-    return false;
+    (void)context;
+    for (size_t i = 0; i < count; i++)
+        if (is_refused() || !device_write(first + i, bytes + 512 * i))
+            return false;
+    return true;
+}
+
+static bool flush(void *context)
+{
+    (void)context;
+    return !is_refused() && device_flush();
+}
+
+static const struct usbdisk_io_device device = { NULL, SECTORS, read_run, write_run, flush };
+
+/* ---- the callbacks */
+
+/* Answers the stack: `good` where the call was, and else an error, of which the host is told the
+ * sense. Without it a stack may say that there is no medium. */
+static int32_t answered(uint8_t lun, uint32_t code, int32_t good)
+{
+    uint32_t sense = usbdisk_blocks_sense(code);
+    if (code == 0)
+        return good;
+    tud_msc_set_sense(lun, (uint8_t)(sense >> 16), (uint8_t)(sense >> 8), (uint8_t)sense);
+    return -1;
+}
+
+void tud_msc_inquiry_cb(uint8_t lun, uint8_t vendor[8], uint8_t product[16], uint8_t revision[4])
+{
+    (void)lun;
+    memcpy(vendor, "EXAMPLE ", 8);
+    memcpy(product, "POWER SAFE DISK ", 16);
+    memcpy(revision, "0001", 4);
+}
+
+/* Ready from the start on. After a refusal of the device each command says what is wrong. */
+bool tud_msc_test_unit_ready_cb(uint8_t lun)
+{
+    (void)lun;
+    return disk != NULL;
 }
 
 void tud_msc_capacity_cb(uint8_t lun, uint32_t *block_count, uint16_t *block_size)
 {
-    uint64_t blocks = 0;
-    uint32_t limit;
     (void)lun;
-    usbdisk_store_sizes(&store, &blocks, &limit);
-    *block_count = (uint32_t)blocks;
+    *block_count = (uint32_t)usbdisk_blocks_count(disk);
     *block_size = 512;
 }
 
-int32_t tud_msc_read10_cb(uint8_t lun, uint32_t lba, uint32_t offset, void *buffer, uint32_t bufsize)
+/* With a buffer of whole blocks the stack asks for whole blocks. */
+static bool is_whole(uint32_t offset, uint32_t bufsize)
 {
-    static uint8_t shown[SPAN * 512];
-    uint64_t first;
-    uint32_t code, count;
-    (void)lun;
-    if (offset)
-        return -1;
-    while ((code = usbdisk_store_read(&store, lba, buffer, bufsize, &first, &count)) == USBDISK_NEEDS) {
-        for (uint32_t i = 0; i < count && i < SPAN; i++)
-            if (!device_read(first + i, shown + 512 * i))
-                return -1;
-        if (count > SPAN || usbdisk_store_show(&store, first, shown, 512 * count))
-            return -1;
-    }
-    return code ? -1 : (int32_t)bufsize;
+    return offset == 0 && bufsize % 512 == 0;
 }
 
-/* All that was written is durable. */
-static bool synchronise(void)
+int32_t tud_msc_read10_cb(uint8_t lun, uint32_t lba, uint32_t offset, void *buffer,
+                          uint32_t bufsize)
 {
-    uint32_t code = usbdisk_store_sync(&store);
-    return carry_out() && !code;
+    uint32_t code = USBDISK_BAD_LENGTH;
+    if (is_whole(offset, bufsize))
+        code = usbdisk_blocks_read(disk, lba, buffer, bufsize / 512);
+    return answered(lun, code, (int32_t)bufsize);
 }
 
-int32_t tud_msc_write10_cb(uint8_t lun, uint32_t lba, uint32_t offset, uint8_t *buffer, uint32_t bufsize)
+int32_t tud_msc_write10_cb(uint8_t lun, uint32_t lba, uint32_t offset, uint8_t *buffer,
+                           uint32_t bufsize)
 {
-    (void)lun;
-    if (offset)
-        return -1;
-    uint32_t code = usbdisk_store_write(&store, lba, buffer, bufsize);
-    return carry_out() && !code && (SHOWS_CACHE || synchronise()) ? (int32_t)bufsize : -1;
+    uint32_t code = USBDISK_BAD_LENGTH;
+    if (is_whole(offset, bufsize))
+        code = usbdisk_blocks_write(disk, lba, buffer, bufsize / 512);
+    if (!code && !SHOWS_CACHE)
+        code = usbdisk_blocks_sync(disk);
+    return answered(lun, code, (int32_t)bufsize);
+}
+
+/* START STOP UNIT: a host that lets the disk go has what it wrote. */
+bool tud_msc_start_stop_cb(uint8_t lun, uint8_t power_condition, bool start, bool load_eject)
+{
+    (void)power_condition;
+    (void)start;
+    (void)load_eject;
+    return answered(lun, usbdisk_blocks_sync(disk), 0) == 0;
 }
 
 int32_t tud_msc_scsi_cb(uint8_t lun, const uint8_t command[16], void *buffer, uint16_t bufsize)
 {
-    (void)lun;
     (void)buffer;
     (void)bufsize;
     switch (command[0]) {
-    case 0x1B: /* START STOP UNIT. (TinyUSB asks by tud_msc_start_stop_cb: do the same there.) */
     case 0x35: /* SYNCHRONIZE CACHE(10) */
     case 0x91: /* SYNCHRONIZE CACHE(16) */
-        return synchronise() ? 0 : -1;
-    default:
+        return answered(lun, usbdisk_blocks_sync(disk), 0);
+    default: /* ILLEGAL REQUEST, invalid command operation code */
+        tud_msc_set_sense(lun, 0x05, 0x20, 0x00);
         return -1;
     }
 }
 
-/* While the bus is idle. False at the end of the work, and on a store that is dead: there is none left. */
-static bool step(void)
-{
-    uint32_t code = usbdisk_store_tick(&store);
-    return carry_out() && code == 1;
-}
-
 /* ---- a start, and a host */
 
-static const uint8_t synchronize[3][16] = { { 0x35 }, { 0x91 }, { 0x1B } };
+static uint32_t sense;
+
+bool tud_msc_set_sense(uint8_t lun, uint8_t key, uint8_t code, uint8_t qualifier)
+{
+    (void)lun;
+    sense = (uint32_t)key << 16 | (uint32_t)code << 8 | qualifier;
+    return true;
+}
 
 static void must(bool good, const char *what)
 {
-    if (!good) {
-        printf("tinyusb: %s\n", what);
-        exit(1);
-    }
+    if (good)
+        return;
+    printf("tinyusb: %s\n", what);
+    exit(1);
 }
 
 static void start(void)
 {
-    static const struct usbdisk_device device;
-    static uint8_t near[SECTORS * 512];
-    struct usbdisk_layout layout;
-    must(device_read(0, near) && !usbdisk_look(near, &layout), "no image");
-    must(layout.format == 2 && layout.slots == SLOTS && layout.blocks == BLOCKS, "another image");
-    must(layout.sectors == SECTORS && layout.near == usbdisk_near(near), "its sectors");
-    for (uint64_t i = 0; i < layout.near; i++)
-        must(device_read(i, near + 512 * i), "no near sector");
-    must(!usbdisk_store_start(&store, near, 512 * layout.near, SECTORS, &device, SPAN,
-                              usbdisk_room(layout.format, layout.slots)), "no start");
-    must(carry_out(), "the start is not carried out");
+    uint32_t code = usbdisk_blocks_start(&disk, &device, SPAN);
+    must(!code, usbdisk_text(code));
 }
 
 /* The power goes: what was written and not flushed may be lost. */
 static void restart(void)
 {
-    must(!usbdisk_store_stop(&store) && device_cut(), "the cut");
+    usbdisk_blocks_stop(disk);
+    must(device_cut(), "the cut");
     start();
+}
+
+/* The host's SYNCHRONIZE CACHE(10) and (16), and START STOP UNIT. */
+static bool synchronise(unsigned which)
+{
+    static const uint8_t commands[2][16] = { { 0x35 }, { 0x91 } };
+    if (which == 2)
+        return tud_msc_start_stop_cb(0, 0, false, true);
+    return !tud_msc_scsi_cb(0, commands[which], NULL, 0);
 }
 
 static bool write_blocks(uint32_t lba, unsigned char fill)
@@ -169,7 +196,8 @@ static bool has_blocks(uint32_t lba, unsigned char fill)
 {
     uint8_t bytes[SPAN * 512] = { 0 }, wanted[SPAN * 512];
     memset(wanted, fill, sizeof wanted);
-    return tud_msc_read10_cb(0, lba, 0, bytes, sizeof bytes) == sizeof bytes && !memcmp(bytes, wanted, sizeof bytes);
+    return tud_msc_read10_cb(0, lba, 0, bytes, sizeof bytes) == sizeof bytes &&
+           !memcmp(bytes, wanted, sizeof bytes);
 }
 
 /* A host that is shown no cache sends no sync: then what was written is there. */
@@ -178,8 +206,8 @@ static void live(unsigned round)
     for (uint32_t lba = 0; lba < BLOCKS; lba += SPAN)
         must(write_blocks(lba, (unsigned char)(round + lba)), "a write");
     if (SHOWS_CACHE || round % 2)
-        must(!tud_msc_scsi_cb(0, synchronize[round / 2 % 3], NULL, 0), "a sync");
-    while (round % 3 == 0 && step())
+        must(synchronise(round / 2 % 3), "a sync");
+    while (round % 3 == 0 && usbdisk_blocks_idle(disk))
         ;
     restart();
     for (uint32_t lba = 0; lba < BLOCKS; lba += SPAN)
@@ -188,80 +216,80 @@ static void live(unsigned round)
 
 /* ---- a device that refuses a call */
 
-/* Behind a refusal nothing waits, nothing comes to wait, and no call does more than to say so. */
+/* Behind a refusal each call says so, and the device is asked for nothing. */
 static void is_dead(void)
 {
-    uint8_t bytes[512] = { 0 };
-    uint64_t sector;
-    uint32_t missing;
-    size_t count;
-    must(usbdisk_store_take_run(&store, &sector, bytes, sizeof bytes, &count) == USBDISK_NOTHING, "a call waits behind a refused one");
-    must(usbdisk_store_write(&store, 0, bytes, sizeof bytes) == USBDISK_DEAD, "a write behind a refused call");
-    must(usbdisk_store_read(&store, 0, bytes, sizeof bytes, &sector, &missing) == USBDISK_DEAD, "a read behind a refused call");
-    must(usbdisk_store_sync(&store) == USBDISK_DEAD && usbdisk_store_tick(&store) == 1, "a sync or a step behind a refused call");
-    must(usbdisk_store_take(&store, &sector, bytes) == USBDISK_NOTHING, "a dead store asks for something");
+    refuses = 1;
+    must(!write_blocks(0, 3) && sense == 0x044400, "a write behind a refused call");
+    must(!has_blocks(0, 3) && sense == 0x044400, "a read behind a refused call");
+    must(!synchronise(0) && sense == 0x044400, "a sync behind a refused call");
+    must(!usbdisk_blocks_idle(disk) && refuses == 1, "a dead store asks for something");
+    refuses = 0;
 }
 
-/* Writes, synchronises and makes all steps, on a device that refuses its call of this number. Answers
- * whether it was reached. What was promised is there behind a cut, and a write is there whole or not. */
+/* Writes, synchronises and makes all steps, on a device that refuses its call of this number.
+ * Answers whether it was reached. What was promised is there behind a cut, and a write is there
+ * whole or not. */
 static bool refuse_one(uint32_t call, unsigned char was, unsigned char fill)
 {
     refuses = call;
+    sense = 0;
     bool is_begun = write_blocks(0, fill), is_written = is_begun && write_blocks(SPAN, fill);
-    bool is_synchronised = is_written && !tud_msc_scsi_cb(0, synchronize[0], NULL, 0);
+    bool is_synchronised = is_written && synchronise(0);
     bool first = is_synchronised || (!SHOWS_CACHE && is_begun);
     bool second = is_synchronised || (!SHOWS_CACHE && is_written);
-    while (is_synchronised && step())
+    while (is_synchronised && usbdisk_blocks_idle(disk))
         ;
     bool is_reached = refuses == 0;
     refuses = 0;
+    must(is_synchronised || sense == 0x030C00, "another sense");
     if (is_reached)
         is_dead();
     must(is_reached || is_synchronised, "a call fails, and the device refused none");
     restart();
     must(has_blocks(0, fill) || (!first && has_blocks(0, was)), "a write is in part, or lost");
-    must(has_blocks(SPAN, fill) || (!second && has_blocks(SPAN, was)), "a write is in part, or lost");
-    must(has_blocks(0, fill) || has_blocks(SPAN, was), "the second write is there without the first");
-    must(write_blocks(0, was) && write_blocks(SPAN, was) && !tud_msc_scsi_cb(0, synchronize[0], NULL, 0), "the next writes");
+    must(has_blocks(SPAN, fill) || (!second && has_blocks(SPAN, was)),
+         "a write is in part, or lost");
+    must(has_blocks(0, fill) || has_blocks(SPAN, was),
+         "the second write is there without the first");
+    must(write_blocks(0, was) && write_blocks(SPAN, was) && synchronise(0), "the next writes");
     return is_reached;
 }
 
 static void misuse(void)
 {
-    static struct usbdisk_store none = USBDISK_STORE_NONE;
     uint8_t bytes[512] = { 0 };
-    uint64_t sector;
-    size_t count;
-    must(tud_msc_scsi_cb(0, bytes, NULL, 0) < 0, "a command that is none of the three");
-    must(usbdisk_store_write(&store, BLOCKS, bytes, 512) == USBDISK_BAD_RANGE, "a block behind the last one");
-    must(usbdisk_store_take_run(&store, &sector, bytes, 0, &count) == USBDISK_BAD_LENGTH, "room for no sector");
-    must(usbdisk_store_take_run(&store, &sector, bytes, 511, &count) == USBDISK_BAD_LENGTH, "room for a part of a sector");
-    must(usbdisk_store_take_run(&none, &sector, bytes, 512, &count) == USBDISK_EMPTY, "a run of no store");
-    must(usbdisk_store_refused(&none) == USBDISK_EMPTY, "a refusal of no store");
-    must(!usbdisk_store_stop(&store) && usbdisk_store_sync(&store) == USBDISK_EMPTY && !heap_blocks, "the end");
-    struct usbdisk_layout layout = { .slots = 7 };
-    must(usbdisk_look(bytes, &layout) == USBDISK_BAD_SUPER && layout.slots == 7, "zeros are no image");
+    must(tud_msc_scsi_cb(0, bytes, NULL, 0) < 0 && sense == 0x052000,
+         "a command that is not known");
+    must(tud_msc_read10_cb(0, 0, 1, bytes, 512) < 0 && sense == 0x052400, "a read within a block");
+    must(tud_msc_write10_cb(0, BLOCKS, 0, bytes, 512) < 0 && sense == 0x052100,
+         "a block behind the last one");
+    must(tud_msc_read10_cb(0, BLOCKS, 0, bytes, 512) < 0 && sense == 0x052100,
+         "a block behind the last one");
+    usbdisk_blocks_stop(disk);
+    disk = NULL;
+    must(!tud_msc_test_unit_ready_cb(0) && !heap_blocks, "the end");
 }
 
 int main(void)
 {
-    static uint8_t image[SECTORS * 512];
+    uint8_t vendor[8], product[16], revision[4];
     uint32_t blocks;
     uint16_t size;
-    must(!format_memory(image, sizeof image, 2, BLOCKS, SLOTS) && device_open(SECTORS), "no format");
-    for (uint64_t i = 0; i < SECTORS; i++)
-        must(device_write(i, image + 512 * i) && device_flush(), "no room");
+    must(device_open(SECTORS) && !usbdisk_io_format(&device, 2, SLOTS, BLOCKS), "no format");
     start();
+    tud_msc_inquiry_cb(0, vendor, product, revision);
     tud_msc_capacity_cb(0, &blocks, &size);
-    must(blocks == BLOCKS && size == 512, "the capacity");
+    must(tud_msc_test_unit_ready_cb(0) && blocks == BLOCKS && size == 512, "the capacity");
     for (unsigned round = 1; round <= 20; round++)
         live(round);
-    must(write_blocks(0, 1) && write_blocks(SPAN, 1) && !tud_msc_scsi_cb(0, synchronize[0], NULL, 0), "the first writes");
+    must(write_blocks(0, 1) && write_blocks(SPAN, 1) && synchronise(0), "the first writes");
     uint32_t calls = 1;
     while (refuse_one(calls, 1, 2))
         calls++;
     misuse();
-    printf("a stack with SCSI in it, %s: 20 cuts and %u refused calls, all that was promised is there\n",
+    printf("a stack with SCSI in it, %s: 20 cuts and %u refused calls, all that was promised is "
+           "there\n",
            SHOWS_CACHE ? "a write cache shown" : "no write cache shown", calls - 1);
     return 0;
 }
