@@ -2,6 +2,9 @@
  * (USB Mass Storage Class Bulk-Only Transport 1.0), behind any USB controller, over any medium of
  * sectors of 512 bytes, of any size.
  *
+ * Most programs need not this page but port/usbdisk_io.h, a layer over it in C: three functions of a
+ * device, and whole transfers. docs/MAKERS.md begins with it.
+ *
  * There are two ways in. The calls usbdisk_start to usbdisk_refused are the whole disk, for a controller
  * that hands packets over. The calls usbdisk_store_* are the store without the transport, for a stack that
  * speaks SCSI itself, as TinyUSB does. They come last here. If you use these, first read this page, the
@@ -28,7 +31,8 @@
  *
  * Link the program with libusbdisk_c.a, and define the two functions at the end of this file.
  *
- * Threads: a disk or a store is used by one thread, the one that started it. No call may be made from a signal
+ * Threads: a disk or a store is used by one thread at a time. The library has no data of its own, and none of
+ * a thread, so it may go from one to another behind a lock of the program's. No call may be made from a signal
  * handler or from an interrupt that can interrupt another call. No call waits. Only usbdisk_start,
  * usbdisk_store_start, usbdisk_format, usbdisk_lay_log and usbdisk_migrate take memory.
  *
@@ -59,7 +63,8 @@ struct usbdisk {
 
 #define USBDISK_NONE { 0 }
 
-/* Who the disk is, as INQUIRY tells it: printable ASCII, padded with spaces, with no final 0. */
+/* Who the disk is, as INQUIRY tells it: printable ASCII, padded with spaces, with no final 0. A start
+ * copies it. */
 struct usbdisk_identity {
     char vendor[8];
     char product[16];
@@ -68,7 +73,7 @@ struct usbdisk_identity {
 };
 
 /* The device, as a name for what the contracts speak of: the bytes that it holds when the disk starts
- * on it. The library never reads it. Any object will do. */
+ * on it. The library never reads it. Any object will do, and it may go when the call is back. */
 struct usbdisk_device {
     unsigned char mark;
 };
@@ -160,11 +165,19 @@ uint32_t usbdisk_look(const uint8_t sector[512], struct usbdisk_layout *layout);
  * packet: 64 at full speed, 512 at high speed. room: how many calls the outbox has room for, at least as
  * many as usbdisk_room tells for the image.
  *
- * Answers 0, a number from 1 to 10, or STARTED, BAD_PACKET_SIZE, BAD_IDENTITY, LITTLE_ROOM or BAD_LENGTH:
- * the first that applies, in this order, before those from 1 to 10; but NO_MEMORY may come before
- * BAD_LENGTH. LITTLE_ROOM comes exactly where sector 0 is a super and the room is less than usbdisk_room
- * tells for it. At all but 0 the handle stays as it was, and no memory is kept; at the first four none is
- * taken. */
+ * The first command behind a start, other than INQUIRY and REQUEST SENSE, ends with CHECK CONDITION and
+ * 6/29/00: the power was off. REQUEST SENSE tells it too, and ends it.
+ *
+ * Answers 0, or the first of these that applies:
+ *
+ *   STARTED          the handle holds a disk
+ *   BAD_PACKET_SIZE
+ *   BAD_IDENTITY
+ *   LITTLE_ROOM      exactly where sector 0 is a super, and the room is less than usbdisk_room tells for it
+ *   BAD_LENGTH       of `near`; NO_MEMORY may come before it
+ *   1 to 10          what is wrong with the image, or NO_MEMORY
+ *
+ * At all but 0 the handle stays as it was, and no memory is kept; at the first four none is taken. */
 uint32_t usbdisk_start(struct usbdisk *disk, const uint8_t *near, size_t near_size, uint64_t sectors,
                        const struct usbdisk_device *device, const struct usbdisk_identity *identity,
                        uint32_t packet, uint32_t span, size_t room);
@@ -205,7 +218,8 @@ uint32_t usbdisk_bulk_in(struct usbdisk *disk, uint8_t packet[512], uint32_t *si
 
 /* A request for the mass storage interface or one of its endpoints came to the control endpoint: the
  * class reset, GET MAX LUN, CLEAR_FEATURE(ENDPOINT_HALT) and GET_STATUS of an endpoint. `setup` is
- * the setup packet. At ACK `*size` bytes, 0 to 2, go to the host. It makes no call of the medium.
+ * the setup packet, for interface 0 and the endpoints 81h and 02h: with other numbers rewrite its byte 4,
+ * which in the first two is the interface. At ACK `*size` bytes, 0 to 2, go to the host. It makes no call of the medium.
  * Answers ACK, STALL or EMPTY. */
 uint32_t usbdisk_setup(struct usbdisk *disk, const uint8_t setup[8], uint8_t data[2], uint32_t *size);
 
@@ -392,8 +406,9 @@ uint32_t usbdisk_store_refused(struct usbdisk_store *store);
 
 /* What the program gives to the library.
  *
- * rattle_alloc: `size` bytes, aligned to `alignment`, a power of two up to 16; `ok` is false where
- * there are none. rattle_dealloc: frees a block. */
+ * rattle_alloc: `size` bytes, 1 or more, aligned to `alignment`, a power of two up to 16; `ok` is false
+ * where there are none, and then `at` is not read. rattle_dealloc: frees a block. port/usbdisk_heap.c has
+ * both over malloc, port/usbdisk_arena.c out of one array. */
 struct rattle_tried {
     bool ok;
     void *at;
