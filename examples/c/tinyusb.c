@@ -24,8 +24,10 @@ static struct usbdisk_blocks *disk;
 
 /* ---- the device */
 
-/* For the test: the device refuses the call of this number from here on, or none. */
+/* For the test: the device refuses the write or flush of this number from here on, or none; and it
+ * cannot read this sector, or any. */
 static uint32_t refuses;
+static uint64_t worn = UINT64_MAX;
 
 static bool is_refused(void)
 {
@@ -36,7 +38,7 @@ static bool read_run(void *context, uint64_t first, uint8_t *bytes, size_t count
 {
     (void)context;
     for (size_t i = 0; i < count; i++)
-        if (!device_read(first + i, bytes + 512 * i))
+        if (first + i == worn || !device_read(first + i, bytes + 512 * i))
             return false;
     return true;
 }
@@ -256,6 +258,28 @@ static bool refuse_one(uint32_t call, unsigned char was, unsigned char fill)
     return is_reached;
 }
 
+/* A sector that cannot be read fails one read, or a start; and so does a lack of memory. */
+static void play_worn(void)
+{
+    uint32_t code = USBDISK_NO_MEMORY;
+    restart();
+    worn = SECTORS - BLOCKS + 3;
+    must(!has_blocks(0, 1) && sense == 0x031100, "a read of a worn sector");
+    must(has_blocks(SPAN, 1), "a read beside a worn sector");
+    usbdisk_blocks_stop(disk);
+    for (worn = 0; worn < SECTORS - BLOCKS; worn += 100)
+        must(usbdisk_blocks_start(&disk, &device, SPAN) == USBDISK_READ_REFUSED && !heap_blocks,
+             "a start over a worn sector");
+    worn = UINT64_MAX;
+    for (int number = 1; code; number++) {
+        heap_fails = number;
+        code = usbdisk_blocks_start(&disk, &device, SPAN);
+        heap_fails = 0;
+        must(!code || (code == USBDISK_NO_MEMORY && !heap_blocks), "a start without memory");
+    }
+    must(has_blocks(0, 1), "a sector that can be read again");
+}
+
 static void misuse(void)
 {
     uint8_t bytes[512] = { 0 };
@@ -287,6 +311,7 @@ int main(void)
     uint32_t calls = 1;
     while (refuse_one(calls, 1, 2))
         calls++;
+    play_worn();
     misuse();
     printf("a stack with SCSI in it, %s: 20 cuts and %u refused calls, all that was promised is "
            "there\n",
