@@ -299,35 +299,6 @@ static void keep_image(uint32_t format)
     memcpy(device.kept, device.now, sizeof device.now);
 }
 
-/* How transfers end that do not fit, and what the numbers mean. */
-static void play_transfers(void)
-{
-    static const uint8_t inquiry[31] = {
-        'U', 'S', 'B', 'C', [8] = 36, [12] = TO_HOST, [14] = 6, 0x12, [19] = 36
-    };
-    uint8_t bytes[36];
-    size_t moved = 9;
-    memcpy(device.now, device.kept, sizeof device.now);
-    struct usbdisk_io *io = start(64);
-    must(usbdisk_io_in(io, bytes, sizeof bytes, &moved) == USBDISK_NAK && moved == 0,
-         "nothing to send");
-    must(!usbdisk_io_out(io, inquiry, sizeof inquiry, &moved) && moved == sizeof inquiry,
-         "an INQUIRY");
-    must(usbdisk_io_in(io, bytes, 20, &moved) == USBDISK_IO_OVERFLOW && moved == 0,
-         "a packet that does not fit");
-    usbdisk_io_reset(io);
-    must(usbdisk_io_in(io, bytes, sizeof bytes, &moved) == USBDISK_NAK,
-         "a reset leaves something to send");
-    must(!usbdisk_io_out(io, NULL, 0, &moved), "an empty packet");
-    must(usbdisk_io_out(io, inquiry, sizeof inquiry, &moved) == USBDISK_STALL,
-         "a wrapper behind what is none");
-    usbdisk_io_stop(io);
-    usbdisk_io_stop(NULL);
-    for (uint32_t code = 0; code < 100; code++)
-        must(strlen(usbdisk_text(code)) > 3, "no text");
-    must(!strcmp(usbdisk_text(12), usbdisk_text(UINT32_MAX)), "a text for a number that is none");
-}
-
 int main(void)
 {
     unsigned lives = 0, starts = 0;
@@ -342,7 +313,6 @@ int main(void)
                 starts++;
         play_worn();
         play_memory();
-        play_transfers();
     }
     for (enum kind kind = READ; kind <= FLUSH; kind++) {
         play_making(format_one, kind);
