@@ -20,6 +20,11 @@ static uint32_t refuse(void *core)
     return usbdisk_store_refused(core);
 }
 
+static uint32_t tick(void *core)
+{
+    return usbdisk_store_tick(core);
+}
+
 static struct usbdisk_blocks *make(const struct usbdisk_io_device *device, size_t most)
 {
     struct usbdisk_blocks *blocks = usbdisk_carry_alloc(sizeof *blocks);
@@ -33,6 +38,7 @@ static struct usbdisk_blocks *make(const struct usbdisk_io_device *device, size_
                                        .carry = { .device = device,
                                                   .take = take,
                                                   .refuse = refuse,
+                                                  .tick = tick,
                                                   .buffer = buffer,
                                                   .most = most } };
     blocks->carry.handle = &blocks->core;
@@ -47,6 +53,7 @@ static uint32_t begin(struct usbdisk_blocks *blocks, const struct usbdisk_first 
     if (code)
         return code;
     usbdisk_store_sizes(&blocks->core, &blocks->count, &blocks->limit);
+    blocks->carry.bound = usbdisk_carry_bound(first->layout.slots, blocks->limit);
     usbdisk_carry_all(&blocks->carry);
     return blocks->carry.fault;
 }
@@ -127,6 +134,7 @@ uint32_t usbdisk_blocks_read(struct usbdisk_blocks *blocks, uint64_t first, uint
 /* What a call that may write answers, once the device has carried out what it sent. */
 static uint32_t carried(struct usbdisk_blocks *blocks, uint32_t code)
 {
+    blocks->carry.steps = 0;
     if (blocks->carry.fault)
         return code;
     usbdisk_carry_all(&blocks->carry);
@@ -146,11 +154,9 @@ uint32_t usbdisk_blocks_sync(struct usbdisk_blocks *blocks)
     return carried(blocks, usbdisk_store_sync(&blocks->core));
 }
 
-/* A dead store does nothing, and has steps for ever. */
 bool usbdisk_blocks_idle(struct usbdisk_blocks *blocks)
 {
-    uint32_t code = blocks->carry.fault ? 0 : usbdisk_store_tick(&blocks->core);
-    return !carried(blocks, 0) && !blocks->carry.fault && code == 1;
+    return usbdisk_carry_idle(&blocks->carry);
 }
 
 uint32_t usbdisk_blocks_sense(uint32_t code)

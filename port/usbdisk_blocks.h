@@ -51,7 +51,8 @@ uint32_t usbdisk_blocks_write(struct usbdisk_blocks *blocks, uint64_t first, con
 /* Makes every accepted write durable. Answers 0; WRITE_REFUSED or FLUSH_REFUSED, as above; DEAD. */
 uint32_t usbdisk_blocks_sync(struct usbdisk_blocks *blocks);
 
-/* Nothing came for a while: a step in the background. Answers true while more is left. */
+/* Nothing came for a while: brings home some of what was written, by one write of neighbouring
+ * sectors or one flush. Answers true while more is left. */
 bool usbdisk_blocks_idle(struct usbdisk_blocks *blocks);
 
 /* Stops, and frees the memory. It writes nothing: what was not synchronised is lost as by a cut. Of

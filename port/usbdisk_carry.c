@@ -79,6 +79,30 @@ void usbdisk_carry_all(struct usbdisk_carry *carry)
     usbdisk_carry_write(carry);
 }
 
+bool usbdisk_carry_has_ended(const struct usbdisk_carry *carry)
+{
+    return carry->fault || carry->steps > carry->bound;
+}
+
+uint64_t usbdisk_carry_bound(uint64_t slots, uint64_t limit)
+{
+    return (slots + 4) * (2 * limit + 16);
+}
+
+bool usbdisk_carry_idle(struct usbdisk_carry *carry)
+{
+    uint64_t calls = carry->calls;
+    bool is_left = !usbdisk_carry_has_ended(carry);
+    while (is_left && calls == carry->calls) {
+        is_left = carry->tick(carry->handle) == 1;
+        carry->steps = is_left ? carry->steps + 1 : 0;
+        usbdisk_carry_take(carry);
+        is_left = is_left && !usbdisk_carry_has_ended(carry);
+    }
+    usbdisk_carry_write(carry);
+    return is_left && !usbdisk_carry_has_ended(carry);
+}
+
 /* These sectors, by calls of at most USBDISK_IO_MOST. */
 static bool read_sectors(const struct usbdisk_io_device *device, uint8_t *bytes, uint64_t end)
 {

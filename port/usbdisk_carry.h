@@ -14,11 +14,14 @@ struct usbdisk_carry {
     const struct usbdisk_io_device *device;
     usbdisk_taking *take;
     uint32_t (*refuse)(void *handle); /* tells the library that the device refused a call */
+    uint32_t (*tick)(void *handle);   /* makes a step in the background; 1: more are left */
     void *handle;
     uint8_t *buffer;
     size_t most, held; /* sectors that the buffer has room for, and those of the run */
     uint64_t place;    /* the run's first sector */
     uint64_t calls;    /* writes and flushes that were made */
+    uint64_t steps;    /* in the background, one behind the other, with more left behind each */
+    uint64_t bound;    /* more steps are never left, but where they come to no end */
     uint32_t fault;    /* WRITE_REFUSED or FLUSH_REFUSED once the device refused one */
 };
 
@@ -34,6 +37,17 @@ void usbdisk_carry_write(struct usbdisk_carry *carry);
 
 /* Both: nothing is left to carry out. */
 void usbdisk_carry_all(struct usbdisk_carry *carry);
+
+/* Makes steps in the background until what they send no longer joins into one run, and carries that
+ * out: one write or one flush. True while more are left. */
+bool usbdisk_carry_idle(struct usbdisk_carry *carry);
+
+/* Whether the device refused a call, or steps come to no end: no block is served any more. */
+bool usbdisk_carry_has_ended(const struct usbdisk_carry *carry);
+
+/* How many steps an image with so many slots may want, whose longest transfer has `limit` blocks.
+ */
+uint64_t usbdisk_carry_bound(uint64_t slots, uint64_t limit);
 
 /* What image begins on a device, and its first sectors, which are to be freed. */
 struct usbdisk_first {

@@ -12,7 +12,6 @@ struct usbdisk_io {
     struct usbdisk_carry carry;
     struct usbdisk_layout layout;
     uint32_t packet;
-    uint64_t steps;  /* in the background, one behind the other, with more left behind each */
     uint64_t behind; /* the sector behind the last READ */
     uint64_t before; /* how many sectors the READ before it had */
     uint64_t ahead;  /* how many from there on were shown before they were asked for */
@@ -27,6 +26,11 @@ static uint32_t take(void *core, uint64_t *first, uint8_t *bytes, size_t size, s
 static uint32_t refuse(void *core)
 {
     return usbdisk_refused(core);
+}
+
+static uint32_t tick(void *core)
+{
+    return usbdisk_tick(core);
 }
 
 /* A disk that is not started yet, with a buffer for the longest transfer. NULL: no memory. */
@@ -47,7 +51,9 @@ static struct usbdisk_io *make(const struct usbdisk_io_device *device, uint32_t 
                                .carry = { .device = device, .buffer = buffer, .most = most } };
     io->carry.take = take;
     io->carry.refuse = refuse;
+    io->carry.tick = tick;
     io->carry.handle = &io->core;
+    io->carry.bound = usbdisk_carry_bound(layout->slots, most);
     return io;
 }
 
@@ -89,11 +95,9 @@ void usbdisk_io_stop(struct usbdisk_io *io)
     rattle_dealloc(io);
 }
 
-/* More steps than these are never left, but on a disk that faulted in a call of its own, where they
- * are left for ever. */
 bool usbdisk_io_has_faulted(const struct usbdisk_io *io)
 {
-    return io->carry.fault || io->steps > (io->layout.slots + 4) * (2 * io->carry.most + 16);
+    return usbdisk_carry_has_ended(&io->carry);
 }
 
 /* Reads sectors of the device and shows them to the disk. False: they are not read. */
@@ -111,7 +115,7 @@ static uint32_t bulk_out(struct usbdisk_io *io, const uint8_t *packet, size_t si
 {
     uint64_t first = 0;
     uint32_t count = 0, code;
-    io->steps = 0;
+    io->carry.steps = 0;
     while ((code = usbdisk_bulk_out(&io->core, packet, size, &first, &count)) == USBDISK_NEEDS) {
         io->reads_on = first == io->behind;
         io->behind = first + count;
@@ -185,19 +189,9 @@ void usbdisk_io_reset(struct usbdisk_io *io)
     usbdisk_io_clear_halt(io, 0x02);
 }
 
-/* What the steps send is carried out where it no longer joins into one run. */
 bool usbdisk_io_idle(struct usbdisk_io *io)
 {
-    uint64_t calls = io->carry.calls;
-    bool is_left = !usbdisk_io_has_faulted(io);
-    while (is_left && calls == io->carry.calls) {
-        is_left = usbdisk_tick(&io->core) == 1;
-        io->steps = is_left ? io->steps + 1 : 0;
-        usbdisk_carry_take(&io->carry);
-        is_left = is_left && !usbdisk_io_has_faulted(io);
-    }
-    usbdisk_carry_write(&io->carry);
-    return is_left && !usbdisk_io_has_faulted(io);
+    return usbdisk_carry_idle(&io->carry);
 }
 
 void usbdisk_io_look_ahead(struct usbdisk_io *io, uint64_t size)
