@@ -1,0 +1,398 @@
+/* Judges the calls usbdisk_drive_*: lives of a disk whose device carries out one call at a time,
+ * and takes as long as it likes, while a host goes on with WRITEs, READs, SYNCHRONIZE CACHEs, MODE
+ * SELECTs, class resets and wrong packets. Between any two calls the power may go, and of the
+ * writes since the last flush, those of a run under way among them, any may be missing. A disk that
+ * starts on what is left must find the blocks after the first k of the accepted writes, in order,
+ * none in part: all that were promised by a status that the host was given. No answer may wait that
+ * promises nothing, and none where the device rests.
+ *
+ * behind [LIVES [FIRST SEED]] */
+#include "behind.h"
+#include "image.h"
+#include <errno.h>
+#include <limits.h>
+#include <stdio.h>
+#include <stdlib.h>
+#include <string.h>
+
+enum { WRITES = 400, STEPS = 2000, LIVES_OF_AN_IMAGE = 10, CUTS_AT_ONCE = 3 };
+
+struct write {
+    unsigned address, count;
+    uint32_t number;
+};
+
+/* What the judge knows of a life: the blocks that it began with, the accepted writes behind them,
+ * the blocks after all of these, and how many were promised to the host. */
+static struct {
+    uint32_t opening[BLOCKS], blocks[BLOCKS];
+    struct write writes[WRITES];
+    size_t accepted, promised, mark; /* mark: of the last command, where it is good */
+    bool is_cached;                  /* the host sees the write cache enabled */
+    bool is_settled;                 /* no step is left since the last write */
+    bool is_plain;     /* nearly all of its commands are WRITEs that promise nothing */
+    uint8_t key, code; /* of the sense that is told next, or 0 */
+} book;
+
+static struct {
+    uint64_t cuts, writes, behind, reads, unread, faults, resets, wrong;
+} counts;
+
+static struct bench bench, other;
+
+static void put(uint32_t blocks[BLOCKS], const struct write *write)
+{
+    for (unsigned i = 0; i < write->count; i++)
+        blocks[write->address + i] = write->number;
+}
+
+/* ---- what a start finds */
+
+/* The number in a block, or one that no write has where it is filled with several. */
+static uint32_t number_in(const uint8_t block[512])
+{
+    uint32_t number;
+    memcpy(&number, block, 4);
+    for (int i = 4; i < 512; i += 4)
+        if (memcmp(block + i, block, 4))
+            return UINT32_MAX;
+    return number;
+}
+
+/* Starts a disk on the other device, and reads all blocks. The first command hears that power was
+ * off. */
+static bool find(uint32_t found[BLOCKS])
+{
+    static const struct command sense = { .code = 0x03 }, read = { .code = 0x28, .count = BLOCKS };
+    bool good = bench_start(&other, 512) && bench_run(&other, &sense) && bench_run(&other, &read);
+    if (good && other.host.status)
+        good = fails("a READ behind a start is not good");
+    for (unsigned i = 0; good && i < BLOCKS; i++)
+        found[i] = number_in(other.host.data + 512 * i);
+    bench_stop(&other);
+    return good;
+}
+
+/* Whether these are the blocks after the first k writes, for a k that the book allows. */
+static bool is_allowed(const uint32_t found[BLOCKS])
+{
+    uint32_t blocks[BLOCKS];
+    memcpy(blocks, book.opening, sizeof blocks);
+    for (size_t k = 0; k <= book.accepted; k++) {
+        if (k >= book.promised && !memcmp(blocks, found, sizeof blocks))
+            return true;
+        put(blocks, &book.writes[k]);
+    }
+    return fails("a start finds what no cut may leave");
+}
+
+static bool cut(unsigned kept, uint32_t found[BLOCKS])
+{
+    device_cut(&bench.device, kept, &other.device);
+    counts.cuts++;
+    return find(found) && is_allowed(found);
+}
+
+/* What a cut leaves here: each part of a few unflushed writes, or some parts of many. */
+static bool cut_here(void)
+{
+    uint32_t found[BLOCKS];
+    bool are_few = bench.device.count <= FEW, good = true;
+    unsigned ways = are_few ? 1u << bench.device.count : CUTS_AT_ONCE;
+    for (unsigned i = 0; good && i < ways; i++)
+        good = cut(are_few ? i : ANY, found);
+    return good;
+}
+
+/* ---- what the host does */
+
+static bool writes(const struct command *command)
+{
+    return command->code == 0x2A || command->code == 0x8A;
+}
+
+static bool reads(const struct command *command)
+{
+    return command->code == 0x28 || command->code == 0x88;
+}
+
+static bool promises(const struct command *command)
+{
+    if (writes(command))
+        return command->flags || !book.is_cached;
+    if (reads(command))
+        return command->flags;
+    return command->code == 0x15 ? book.is_cached : command->code != 0x03;
+}
+
+/* WRITEs and READs, of a few blocks or many, some forced, and what promises without data. */
+static struct command some_command(void)
+{
+    static uint32_t numbers = 1;
+    static const uint8_t codes[16] = { 0x35, 0x91, 0x15, 0x28, 0x88, 0x28, 0x28, 0x8A };
+    unsigned count = 1 + random_below(random_below(8) ? 4 : BLOCKS), which = random_below(16);
+    if (book.is_plain && random_below(64))
+        return (struct command){
+            .code = 0x2A, .count = BLOCKS - 1, .address = which & 1, .number = numbers++
+        };
+    struct command command = { .code = codes[which] ? codes[which] : 0x2A, .count = count };
+    command.address = random_below(BLOCKS - count + 1);
+    if (writes(&command) || reads(&command))
+        command.flags = random_below(8) ? 0 : 8;
+    if (command.code == 0x15)
+        command = (struct command){ .code = 0x15, .flags = 0x10, .cache = random_below(4) != 0 };
+    if (command.code == 0x35 || command.code == 0x91)
+        command.address = command.count = 0;
+    command.number = numbers++;
+    return command;
+}
+
+static void begin(void)
+{
+    struct command command = book.key ? (struct command){ .code = 0x03 } : some_command();
+    host_begin(&bench.host, &command, promises(&command));
+}
+
+/* The last packet of a command was taken: what it wrote is accepted from here on. */
+static void note_command(void)
+{
+    const struct command *command = &bench.host.command;
+    if (bench.is_faulted)
+        return;
+    if (writes(command)) {
+        struct write write = { command->address, command->count, command->number };
+        book.writes[book.accepted++] = write;
+        put(book.blocks, &write);
+        book.is_settled = false;
+        counts.writes++;
+        counts.behind += bench.device.call.kind != USBDISK_NOTHING;
+    }
+    if (command->code == 0x15)
+        book.is_cached = command->cache;
+    book.mark = book.accepted;
+}
+
+static bool judge_sense(void)
+{
+    const uint8_t *sense = bench.host.data;
+    uint8_t key = sense[2] & 15, code = sense[12];
+    bool is_told = book.key == key && book.code == code;
+    bool is_unread = key == 3 && code == 0x11, is_later = key == 4 && code == 0x44;
+    book.key = 0;
+    return is_told || (bench.is_faulted && (is_unread || is_later)) ||
+           fails("a sense is not that of what went wrong");
+}
+
+static bool judge_read(const struct command *command)
+{
+    counts.reads++;
+    for (unsigned i = 0; i < command->count; i++)
+        if (number_in(bench.host.data + 512 * i) != book.blocks[command->address + i])
+            return fails("a READ sends other bytes than the last WRITE");
+    return true;
+}
+
+static bool judge_failure(const struct command *command)
+{
+    if (bench.is_faulted) {
+        book.key = 3;
+        book.code = 0x0C;
+        return true;
+    }
+    if (!reads(command) || !bench.is_unread)
+        return fails("a command is not good");
+    bench.is_unread = false;
+    book.key = 3;
+    book.code = 0x11;
+    return true;
+}
+
+/* A status came. One that is good and promises is what a cut is held to. */
+static bool judge_status(void)
+{
+    const struct command *command = &bench.host.command;
+    if (bench.host.status)
+        return judge_failure(command);
+    if (command->code == 0x03)
+        return judge_sense();
+    if (bench.is_faulted)
+        return fails("a command is good though the device refused a call");
+    /* (a MODE SELECT that leaves the write cache on may wait like one that turns it off, and
+     * promises nothing) */
+    if (bench.host.promises && !(command->code == 0x15 && command->cache))
+        book.promised = book.mark;
+    return !reads(command) || judge_read(command);
+}
+
+/* A class reset. A sense that was on its way is told to nobody. */
+static void give_up(void)
+{
+    if (bench.host.command.code == 0x03 && bench.host.stage != WRAPPER)
+        book.key = 0;
+    counts.resets++;
+    host_reset(&bench.host);
+}
+
+static bool play_host(void)
+{
+    bool is_busy = bench.host.stage != AT_REST && bench.host.stage != RESET;
+    if (bench.host.stage == AT_REST)
+        begin();
+    if (is_busy && !random_below(256)) {
+        give_up();
+    }
+    if (is_busy && !random_below(256)) {
+        counts.wrong++;
+        bench.rests = false;
+        return host_errs(&bench.host);
+    }
+    switch (bench_host(&bench)) {
+    case WRONG:
+        return false;
+    case CARRIED_OUT:
+        note_command();
+        return true;
+    case ENDED:
+        return judge_status();
+    default:
+        return true;
+    }
+}
+
+/* ---- lives */
+
+static bool play_idle(void)
+{
+    uint32_t left = usbdisk_drive_idle(&bench.drive);
+    bench.rests = false;
+    book.is_settled = left == 0 && !bench.is_faulted;
+    return left <= 1 || fails("idle answers an error");
+}
+
+static bool play_device(void)
+{
+    if (!bench_device(&bench))
+        return false;
+    if (bench.rests && book.is_settled && !bench.is_faulted)
+        book.promised = book.accepted;
+    return true;
+}
+
+static bool judge_state(void)
+{
+    uint32_t state = usbdisk_drive_state(&bench.drive);
+    if ((state == USBDISK_FAULTED) != bench.is_faulted)
+        return fails("the state of a disk is not told");
+    return !bench.rests || state != USBDISK_STARTING || fails("a start never ends");
+}
+
+/* Steps of the host, the device and the background, until the power goes or something is wrong. */
+static bool live(void)
+{
+    static const unsigned speeds[] = { 1, 4, 16, 32, 56 };
+    unsigned speed = speeds[random_below(5)], idle = random_below(3) * 2;
+    unsigned steps = random_below(STEPS);
+    bool goes_on = true;
+    for (unsigned i = 0; goes_on && i < steps && book.accepted < WRITES; i++) {
+        unsigned turn = random_below(64);
+        if (turn < speed)
+            goes_on = play_device();
+        else if (turn < speed + idle)
+            goes_on = play_idle();
+        else
+            goes_on = play_host();
+        if (goes_on && !random_below(128))
+            goes_on = judge_state() && cut_here();
+    }
+    counts.faults += bench.is_faulted;
+    return goes_on;
+}
+
+/* A life on what the last one's cut left. Its own may come at once, before its start is carried
+ * out. */
+static bool play_life(void)
+{
+    uint32_t found[BLOCKS];
+    bench.goes_on = random_below(3) ? 0 : 60;
+    book.accepted = book.promised = 0;
+    book.is_cached = true;
+    book.is_settled = false;
+    book.is_plain = random_below(4) == 0;
+    book.key = 6; /* the first command is told that the power was off */
+    book.code = 0x29;
+    memcpy(book.blocks, book.opening, sizeof book.blocks);
+    bool good = bench_start(&bench, random_below(4) ? 512 : 64) && live();
+    bench_stop(&bench);
+    if (!good)
+        return false;
+    device_cut(&bench.device, ANY, &other.device);
+    memcpy(bench.device.durable, other.device.now, (size_t)SECTORS * 512);
+    memcpy(bench.device.now, other.device.now, (size_t)SECTORS * 512);
+    bench.device.count = 0;
+    bench.device.call.kind = USBDISK_NOTHING;
+    counts.cuts++;
+    good = find(found) && is_allowed(found);
+    memcpy(book.opening, found, sizeof found);
+    return good;
+}
+
+static bool make_image(uint32_t format)
+{
+    struct device *device = &bench.device;
+    if (format_memory(device->now, (size_t)SECTORS * 512, format, BLOCKS,
+                      1 + random_below(MOST_SLOTS)))
+        return fails("no image is made");
+    memcpy(device->durable, device->now, (size_t)SECTORS * 512);
+    device->count = 0;
+    memset(&book, 0, sizeof book);
+    return true;
+}
+
+static bool play_lives(uint32_t format, long lives)
+{
+    memset(&counts, 0, sizeof counts);
+    for (long life = 0; life < lives; life++) {
+        if ((life % LIVES_OF_AN_IMAGE == 0 && !make_image(format)) || !play_life()) {
+            printf("format %u, life %ld: %s\n", format, life, wrong);
+            return false;
+        }
+    }
+    printf("format %u: %ld lives, %lu cuts, each start finds what it may; %lu writes accepted, %lu "
+           "of them while a "
+           "call was under way\n",
+           format, lives, counts.cuts, counts.writes, counts.behind);
+    printf("  %lu reads, %lu lives with a refusal, %lu resets, %lu wrong packets\n", counts.reads,
+           counts.faults, counts.resets, counts.wrong);
+    return counts.behind > 0;
+}
+
+/* A number in digits, from `least` to `most`, and nothing else; else false. */
+static bool read_number(const char *text, uint64_t least, uint64_t most, uint64_t *number)
+{
+    char *end;
+    errno = 0;
+    if (*text < '0' || *text > '9')
+        return false;
+    *number = strtoull(text, &end, 10);
+    return !errno && !*end && *number >= least && *number <= most;
+}
+
+int main(int count, char **words)
+{
+    uint64_t lives = 1000, first = 1;
+    if (count > 3 || (count > 1 && !read_number(words[1], 1, LONG_MAX, &lives)) ||
+        (count > 2 && !read_number(words[2], 0, UINT64_MAX, &first))) {
+        fprintf(stderr, "behind [LIVES [FIRST SEED]]: numbers in digits, of lives at least 1\n");
+        return 2;
+    }
+    seed = first * 0x9E3779B97F4A7C15u;
+    if (!seed)
+        seed = 1; /* at 0 the generator stands still */
+    setvbuf(stdout, NULL, _IOLBF, 0);
+    if (!device_open(&bench.device) || !device_open(&other.device))
+        return EXIT_FAILURE;
+    bool good = play_lives(1, (long)lives) && play_lives(2, (long)lives);
+    device_close(&bench.device);
+    device_close(&other.device);
+    return good ? EXIT_SUCCESS : EXIT_FAILURE;
+}

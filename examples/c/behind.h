@@ -1,0 +1,114 @@
+/* What the parts of the judge behind.c share: a device with a cache that carries out one call at a
+ * time, a host that sends one packet at a time, and a bench of both with a disk between. */
+#ifndef BEHIND_H
+#define BEHIND_H
+
+#include "usbdisk.h"
+
+enum { BLOCKS = 40, MOST_SLOTS = 6, SECTORS = 2 + 249 * MOST_SLOTS + BLOCKS, LONGEST = 240 };
+
+extern uint64_t seed;
+unsigned random_below(unsigned most);
+
+/* Says what is wrong. Answers false, as all do that end a life. */
+extern const char *wrong;
+bool fails(const char *what);
+
+/* ---- the device */
+
+struct unflushed {
+    uint64_t sector;
+    uint8_t bytes[512];
+};
+
+/* What it holds for good, what it reads as, and the writes between, in order; those of a run that
+ * is under way come last. */
+struct device {
+    uint8_t *durable, *now;
+    struct unflushed *unflushed;
+    size_t count;
+    struct usbdisk_drive_call call; /* under way, or none */
+    uint8_t buffer[LONGEST * 512];
+};
+
+bool device_open(struct device *device);
+void device_close(struct device *device);
+
+/* Begins the call in `call`. A WRITE has its bytes in the buffer. */
+bool device_begin(struct device *device);
+
+/* Ends it; where it is not good a READ gives nothing, and any part of a WRITE may be there. */
+void device_end(struct device *device, bool is_good);
+
+/* Leaves on another device what a cut may leave of this one: of the unflushed writes those of
+ * `kept`, where they are few, else any. */
+enum { FEW = 4, ANY = 1 << FEW };
+void device_cut(const struct device *device, unsigned kept, struct device *other);
+
+/* ---- the host */
+
+struct command {
+    uint8_t code, flags;
+    unsigned address, count; /* of blocks, or of the bytes that it wants */
+    uint32_t number;         /* that fills each block of a WRITE */
+    bool cache;              /* that a MODE SELECT sets */
+};
+
+enum stage { AT_REST, WRAPPER, DATA_OUT, DATA_IN, STATUS, RESET };
+enum outcome { WRONG, GOES_ON, CARRIED_OUT, ENDED };
+
+struct host {
+    struct usbdisk_drive *drive;
+    unsigned packet;
+    enum stage stage;
+    struct command command;
+    unsigned length, moved; /* of its data */
+    int requests;           /* made of a reset */
+    uint8_t data[BLOCKS * 512];
+    uint8_t status;
+    bool promises;   /* the command is good only when all is durable */
+    bool waits;      /* a promise was asked for, and the disk may wait for its device */
+    bool is_refused; /* the last packet was, or the last token */
+    unsigned commands;
+};
+
+/* Begins a command, where none is in progress. `promises`: it is good only when all is durable. */
+void host_begin(struct host *host, const struct command *command, bool promises);
+
+/* Sends the next packet or token. ENDED: the status came, and the data before it lies in `data`. */
+enum outcome host_step(struct host *host);
+
+/* Gives the command up, and makes a class reset and clears both halts, by the next three steps. */
+void host_reset(struct host *host);
+
+/* Sends a packet that is wrong where the disk is now. */
+bool host_errs(struct host *host);
+
+/* ---- the bench */
+
+struct bench {
+    struct usbdisk_drive drive;
+    struct device device;
+    struct host host;
+    bool rests;      /* nothing is under way, and the disk has nothing for the device */
+    bool is_faulted; /* the device refused a call */
+    bool is_unread;  /* it could not read this sector, */
+    uint64_t unread;
+    unsigned unread_in; /* while this command was in progress */
+    unsigned goes_on;   /* one call in so many is refused, or none is */
+};
+
+/* Starts a disk on what the device holds. */
+bool bench_start(struct bench *bench, unsigned packet);
+void bench_stop(struct bench *bench);
+
+/* The device takes the next call, or ends the one that it is at. */
+bool bench_device(struct bench *bench);
+
+/* The host's next packet or token. It may have to wait, but never where the device rests. */
+enum outcome bench_host(struct bench *bench);
+
+/* A command, with a device that is as fast as the host. */
+bool bench_run(struct bench *bench, const struct command *command);
+
+#endif

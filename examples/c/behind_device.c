@@ -1,0 +1,109 @@
+/* A device in memory with a volatile cache, which carries out one call at a time and may take as
+ * long as it likes. Of the writes since its last flush, those of a run under way among them, a cut
+ * keeps any. */
+#include "behind.h"
+#include <stdlib.h>
+#include <string.h>
+
+enum { ROOM = 16384 };
+
+uint64_t seed;
+const char *wrong;
+
+unsigned random_below(unsigned most)
+{
+    seed ^= seed << 13;
+    seed ^= seed >> 7;
+    seed ^= seed << 17;
+    return (unsigned)(seed >> 33) % most;
+}
+
+bool fails(const char *what)
+{
+    wrong = what;
+    return false;
+}
+
+bool device_open(struct device *device)
+{
+    *device = (struct device){ .durable = calloc(SECTORS, 512),
+                               .now = calloc(SECTORS, 512),
+                               .unflushed = calloc(ROOM, sizeof *device->unflushed) };
+    return device->durable && device->now && device->unflushed;
+}
+
+void device_close(struct device *device)
+{
+    free(device->durable);
+    free(device->now);
+    free(device->unflushed);
+}
+
+/* A write goes into the cache. */
+static void keep(struct device *device, uint64_t sector, const uint8_t *bytes)
+{
+    struct unflushed *last = &device->unflushed[device->count++];
+    last->sector = sector;
+    memcpy(last->bytes, bytes, 512);
+}
+
+bool device_begin(struct device *device)
+{
+    const struct usbdisk_drive_call *call = &device->call;
+    if (call->kind == USBDISK_FLUSH)
+        return true;
+    if (!call->count || call->count > LONGEST || call->sector > SECTORS ||
+        call->count > SECTORS - call->sector)
+        return fails("a call is not within the device");
+    if (call->kind == USBDISK_READ)
+        return true;
+    if (device->count + call->count > ROOM)
+        return fails("the disk never flushes");
+    for (uint32_t i = 0; i < call->count; i++)
+        keep(device, call->sector + i, device->buffer + 512 * (size_t)i);
+    return true;
+}
+
+void device_end(struct device *device, bool is_good)
+{
+    struct usbdisk_drive_call call = device->call;
+    device->call.kind = USBDISK_NOTHING;
+    uint8_t *place = device->now + 512 * call.sector;
+    if (!is_good)
+        memset(device->buffer, 0xEE, sizeof device->buffer);
+    else if (call.kind == USBDISK_READ)
+        memcpy(device->buffer, place, 512 * (size_t)call.count);
+    else if (call.kind == USBDISK_WRITE)
+        memcpy(place, device->buffer, 512 * (size_t)call.count);
+    else
+        for (; device->count > 0; device->count--) {
+            uint64_t sector = device->unflushed[device->count - 1].sector;
+            memcpy(device->durable + 512 * sector, device->now + 512 * sector, 512);
+        }
+}
+
+/* How many of 16 unflushed writes a cut keeps: none, all, most, half, few. In the last way, the
+ * first. */
+static const unsigned ways[] = { 0, 16, 14, 8, 2 };
+enum { WAYS = sizeof ways / sizeof *ways };
+
+static bool is_kept(unsigned way, size_t behind, size_t number)
+{
+    return way < WAYS ? random_below(16) < ways[way] : number < behind;
+}
+
+void device_cut(const struct device *device, unsigned kept, struct device *other)
+{
+    unsigned way = random_below(WAYS + 1);
+    size_t behind = random_below((unsigned)device->count + 1);
+    memcpy(other->durable, device->durable, (size_t)SECTORS * 512);
+    for (size_t i = 0; i < device->count; i++) {
+        const struct unflushed *write = &device->unflushed[i];
+        bool stays = kept < ANY ? kept >> i & 1 : is_kept(way, behind, i);
+        if (stays)
+            memcpy(other->durable + 512 * write->sector, write->bytes, 512);
+    }
+    memcpy(other->now, other->durable, (size_t)SECTORS * 512);
+    other->count = 0;
+    other->call.kind = USBDISK_NOTHING;
+}
