@@ -272,19 +272,18 @@ static bool is_busy(const struct model *it)
 /* Plays a packet, but for one before which the device is to read. */
 static uint32_t play(struct model *it, const uint8_t *packet, size_t size)
 {
-    uint64_t first;
-    uint32_t count;
+    uint64_t first = 0;
+    uint32_t count = 0;
     uint32_t code = usbdisk_bulk_out(&it->disk, packet, size, &first, &count);
-    if (code != USBDISK_NEEDS)
-        return code;
     bool is_unread =
         it->is_unread && it->lack.first == first && it->lack.count == count && PLANTED != 9;
-    if (is_unread) {
-        it->is_unread = false;
-        return usbdisk_bulk_out_unread(&it->disk, packet, size);
-    }
-    it->is_wanted = true;
+    if (code == USBDISK_NEEDS && is_unread)
+        code = usbdisk_bulk_out_unread(&it->disk, packet, size);
+    bool is_played = code != USBDISK_NEEDS;
+    it->is_wanted = !is_played;
     it->is_unread = false;
+    if (is_played)
+        return code;
     it->lack = (struct run){ first, count };
     return USBDISK_NAK;
 }
@@ -342,9 +341,9 @@ uint32_t usbdisk_drive_idle(struct usbdisk_drive *drive)
     struct model *it = model_of(drive);
     if (!it)
         return USBDISK_EMPTY;
-    bool is_reading = it->asked == USBDISK_READ && PLANTED != 3;
     uint32_t left = 1;
-    if (is_reading || it->is_wanted || it->waiting == START)
+    bool reads = it->is_wanted || it->asked == USBDISK_READ;
+    if (it->waiting == START || (reads && PLANTED != 3))
         return left;
     for (int i = 0; i < STEPS && left && it->count < FEW; i++) {
         left = usbdisk_tick(&it->disk);

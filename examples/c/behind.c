@@ -15,7 +15,7 @@
 #include <stdlib.h>
 #include <string.h>
 
-enum { WRITES = 400, STEPS = 2000, LIVES_OF_AN_IMAGE = 10, CUTS_AT_ONCE = 3 };
+enum { WRITES = 400, STEPS = 3000, LIVES_OF_AN_IMAGE = 10, CUTS_AT_ONCE = 3 };
 
 struct write {
     unsigned address, count;
@@ -59,16 +59,25 @@ static uint32_t number_in(const uint8_t block[512])
     return number;
 }
 
+static bool read_blocks(uint32_t found[BLOCKS], unsigned address)
+{
+    unsigned left = BLOCKS - address, count = left < MOST ? left : MOST;
+    const struct command read = { .code = 0x28, .address = address, .count = count };
+    if (!bench_run(&other, &read))
+        return false;
+    for (unsigned i = 0; i < count; i++)
+        found[address + i] = number_in(other.host.data + 512 * i);
+    return !other.host.status || fails("a READ behind a start is not good");
+}
+
 /* Starts a disk on the other device, and reads all blocks. The first command hears that power was
  * off. */
 static bool find(uint32_t found[BLOCKS])
 {
-    static const struct command sense = { .code = 0x03 }, read = { .code = 0x28, .count = BLOCKS };
-    bool good = bench_start(&other, 512) && bench_run(&other, &sense) && bench_run(&other, &read);
-    if (good && other.host.status)
-        good = fails("a READ behind a start is not good");
-    for (unsigned i = 0; good && i < BLOCKS; i++)
-        found[i] = number_in(other.host.data + 512 * i);
+    static const struct command sense = { .code = 0x03 };
+    bool good = bench_start(&other, 512) && bench_run(&other, &sense);
+    for (unsigned i = 0; good && i < BLOCKS; i += MOST)
+        good = read_blocks(found, i);
     bench_stop(&other);
     return good;
 }
@@ -130,15 +139,15 @@ static struct command some_command(void)
 {
     static uint32_t numbers = 1;
     static const uint8_t codes[16] = { 0x35, 0x91, 0x15, 0x28, 0x88, 0x28, 0x28, 0x8A };
-    unsigned count = 1 + random_below(random_below(8) ? 4 : BLOCKS), which = random_below(16);
-    if (book.is_plain && random_below(64))
-        return (struct command){
-            .code = 0x2A, .count = BLOCKS - 1, .address = which & 1, .number = numbers++
-        };
+    unsigned which = random_below(16), count = 1 + random_below(random_below(8) ? 4 : MOST);
+    if (book.is_plain && random_below(64)) {
+        which = 15;
+        count = MOST;
+    }
     struct command command = { .code = codes[which] ? codes[which] : 0x2A, .count = count };
-    command.address = random_below(BLOCKS - count + 1);
+    command.address = random_below((random_below(4) && count < MOST ? MOST : BLOCKS) - count + 1);
     if (writes(&command) || reads(&command))
-        command.flags = random_below(8) ? 0 : 8;
+        command.flags = random_below(8) || which == 15 ? 0 : 8;
     if (command.code == 0x15)
         command = (struct command){ .code = 0x15, .flags = 0x10, .cache = random_below(4) != 0 };
     if (command.code == 0x35 || command.code == 0x91)
@@ -235,13 +244,14 @@ static void give_up(void)
 
 static bool play_host(void)
 {
+    unsigned often = book.is_plain ? 4096 : 256;
     bool is_busy = bench.host.stage != AT_REST && bench.host.stage != RESET;
     if (bench.host.stage == AT_REST)
         begin();
-    if (is_busy && !random_below(256)) {
+    if (is_busy && !random_below(often)) {
         give_up();
     }
-    if (is_busy && !random_below(256)) {
+    if (is_busy && !random_below(often)) {
         counts.wrong++;
         bench.rests = false;
         return host_errs(&bench.host);
@@ -290,12 +300,13 @@ static bool judge_state(void)
 static bool live(void)
 {
     static const unsigned speeds[] = { 1, 4, 16, 32, 56 };
-    unsigned speed = speeds[random_below(5)], idle = random_below(3) * 2;
+    unsigned speed = speeds[random_below(5)], idle = book.is_plain ? 0 : random_below(3) * 2;
     unsigned steps = random_below(STEPS);
     bool goes_on = true;
     for (unsigned i = 0; goes_on && i < steps && book.accepted < WRITES; i++) {
+        bool is_slow = book.is_plain && book.accepted;
         unsigned turn = random_below(64);
-        if (turn < speed)
+        if (turn < (is_slow ? 1 : speed))
             goes_on = play_device();
         else if (turn < speed + idle)
             goes_on = play_idle();

@@ -5,7 +5,13 @@
 
 #include "usbdisk.h"
 
-enum { BLOCKS = 40, MOST_SLOTS = 6, SECTORS = 2 + 249 * MOST_SLOTS + BLOCKS, LONGEST = 240 };
+enum {
+    BLOCKS = 300,
+    MOST = 40,
+    MOST_SLOTS = 6,
+    SECTORS = 2 + 249 * MOST_SLOTS + BLOCKS,
+    LONGEST = 240
+};
 
 extern uint64_t seed;
 unsigned random_below(unsigned most);
@@ -64,7 +70,7 @@ struct host {
     struct command command;
     unsigned length, moved; /* of its data */
     int requests;           /* made of a reset */
-    uint8_t data[BLOCKS * 512];
+    uint8_t data[MOST * 512];
     uint8_t status;
     bool promises;   /* the command is good only when all is durable */
     bool waits;      /* a promise was asked for, and the disk may wait for its device */

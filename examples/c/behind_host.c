@@ -62,6 +62,7 @@ static unsigned spell_block(const struct command *command, uint8_t block[16])
         return 6;
     }
     bool is_long = command->code >= 0x80;
+    block[is_long ? 8 : 4] = (uint8_t)(command->address >> 8);
     block[is_long ? 9 : 5] = (uint8_t)command->address;
     block[is_long ? 13 : 8] = (uint8_t)command->count;
     return is_long ? 16 : 10;

@@ -1,7 +1,7 @@
 /* A maker's loop whose device works while packets come, by the calls usbdisk_drive_*; and beside it
  * the loop by which each packet waits for the device. Prints what plain WRITEs of 120 KiB reach on
- * a link of 35 MB/s by each: drive [WRITES]. Device and link are models that take real time
- * (drive_device.c). */
+ * a link of 35 MB/s by each: drive [WRITES]. What device and link take is a model (drive_device.c).
+ */
 #include "drive.h"
 #include "image.h"
 #include <stdio.h>
@@ -9,7 +9,7 @@
 #include <string.h>
 
 enum { SLOTS = 6, BLOCKS = 60000, SECTORS = 2 + 249 * SLOTS + BLOCKS, NEAR = 2 + 249 * SLOTS };
-enum { WARM = 60, QUIET = 1000000 };
+enum { WARM = 60 };
 
 /* ---- device and bus at once */
 
@@ -35,29 +35,40 @@ static bool begin(struct usbdisk_drive *drive, struct device *device,
     return true;
 }
 
+/* It has ended. This device refuses none. */
+static void end(struct usbdisk_drive *drive, const struct usbdisk_drive_call *call,
+                const uint8_t *buffer)
+{
+    usbdisk_drive_done(drive, true, buffer,
+                       call->kind == USBDISK_READ ? 512 * (size_t)call->count : 0);
+}
+
 static void serve(struct usbdisk_drive *drive, struct device *device, struct host *host)
 {
     static uint8_t buffer[240 * 512];
     struct usbdisk_drive_call call;
-    uint64_t last = now();
     bool is_at_work = false;
     while (!host_is_done(host)) {
         if (is_at_work && device_has_ended(device)) {
-            size_t given = call.kind == USBDISK_READ ? 512 * (size_t)call.count : 0;
-            usbdisk_drive_done(drive, true, buffer, given);
+            end(drive, &call, buffer);
             is_at_work = false;
         }
         if (!is_at_work)
             is_at_work = begin(drive, device, &call, buffer, sizeof buffer);
         if (host_is_ready(host)) {
             serve_bus(drive, host);
-            last = now();
-        } else if (!is_at_work && now() - last > QUIET) {
-            usbdisk_drive_idle(drive);
+            continue;
         }
+        if (!is_at_work && host_rests(host)) {
+            usbdisk_drive_idle(drive);
+            is_at_work = begin(drive, device, &call, buffer, sizeof buffer);
+        }
+        wait_for_either(device, host);
     }
-    if (is_at_work)
+    if (is_at_work) {
         device_wait(device);
+        end(drive, &call, buffer);
+    }
 }
 
 /* ---- a packet waits for the device */
@@ -82,7 +93,7 @@ static void serve_by_turns(struct usbdisk *disk, struct device *device, struct h
     uint32_t count, code;
     while (!host_is_done(host)) {
         if (!host_is_ready(host))
-            continue;
+            wait_for_either(device, host);
         uint32_t size = host_packet(host, packet);
         if (size)
             code = usbdisk_bulk_out(disk, packet, size, &first, &count);
@@ -102,7 +113,7 @@ static double measure(const struct costs *costs, uint8_t *bytes, uint32_t writes
     struct usbdisk_drive drive = USBDISK_DRIVE_NONE;
     struct device device;
     struct host host;
-    if (!device_open(&device, costs, bytes, SECTORS) ||
+    if (!device_open(&device, costs, bytes) ||
         usbdisk_drive_start(&drive, &options, bytes, NEAR * 512))
         return 0;
     host_open(&host, WARM, BLOCKS);
@@ -123,7 +134,7 @@ static double measure_by_turns(const struct costs *costs, uint8_t *bytes, uint32
     struct usbdisk disk = USBDISK_NONE;
     struct device device;
     struct host host;
-    if (!device_open(&device, costs, bytes, SECTORS) ||
+    if (!device_open(&device, costs, bytes) ||
         usbdisk_start(&disk, bytes, NEAR * 512, SECTORS, &name, &who, PACKET, 240,
                       usbdisk_room(2, SLOTS)))
         return 0;

@@ -20,15 +20,14 @@ struct device {
     pthread_cond_t changed;
     const struct costs *costs;
     uint8_t *bytes;
-    uint64_t sectors;
+    uint64_t end; /* when the call under way has ended */
     /* the call under way, and where its bytes lie; under the lock */
     struct usbdisk_drive_call call;
     uint8_t *buffer;
     bool is_over;
 };
 
-bool device_open(struct device *device, const struct costs *costs, uint8_t *bytes,
-                 uint64_t sectors);
+bool device_open(struct device *device, const struct costs *costs, uint8_t *bytes);
 void device_close(struct device *device);
 
 /* Begins a call: its bytes are the device's until it has ended. */
@@ -36,6 +35,8 @@ void device_begin(struct device *device, const struct usbdisk_drive_call *call, 
 
 /* Whether it has ended; this device refuses none. */
 bool device_has_ended(struct device *device);
+
+/* Waits until it has. */
 void device_wait(struct device *device);
 
 /* ---- the host: WRITEs of 120 KiB, packet by packet */
@@ -56,6 +57,9 @@ bool host_is_done(const struct host *host);
 /* Whether a packet is there, or the host asks for one. */
 bool host_is_ready(const struct host *host);
 
+/* Nothing comes from it for a while. */
+bool host_rests(const struct host *host);
+
 /* The packet to Bulk-Out; its size, or 0 where the host asks Bulk-In. */
 uint32_t host_packet(const struct host *host, uint8_t packet[PACKET]);
 
@@ -65,6 +69,7 @@ void host_hears(struct host *host, uint32_t code, const uint8_t *packet, uint32_
 /* MB/s since host_open. */
 double host_speed(const struct host *host);
 
-uint64_t now(void);
+/* Waits for what comes first: the end of a call that is under way, or the host. */
+void wait_for_either(const struct device *device, const struct host *host);
 
 #endif

@@ -2,23 +2,10 @@
  * tell, and a packet as long as a link of 35 MB/s takes for it. */
 #include "drive.h"
 #include <string.h>
-#include <time.h>
 
-enum { SECOND = 1000000000, PACKET_TIME = 14629 };
+enum { PACKET_TIME = 14629, AGAIN = 1000, QUIET = 1000000 };
 
-uint64_t now(void)
-{
-    struct timespec time;
-    clock_gettime(CLOCK_MONOTONIC, &time);
-    return (uint64_t)time.tv_sec * SECOND + (uint64_t)time.tv_nsec;
-}
-
-static void wait_until(uint64_t end)
-{
-    struct timespec time = { .tv_sec = (time_t)(end / SECOND), .tv_nsec = (long)(end % SECOND) };
-    while (clock_nanosleep(CLOCK_MONOTONIC, TIMER_ABSTIME, &time, NULL))
-        ;
-}
+static uint64_t now; /* nanoseconds; of the program's thread alone */
 
 /* ---- the device */
 
@@ -26,14 +13,10 @@ static void carry_out(struct device *device, const struct usbdisk_drive_call *ca
 {
     uint8_t *place = device->bytes + 512 * call->sector;
     size_t size = 512 * (size_t)call->count;
-    uint64_t end = now() + device->costs->command + call->count * device->costs->sector;
-    if (call->kind == USBDISK_FLUSH)
-        end += device->costs->flush;
-    else if (call->kind == USBDISK_READ)
+    if (call->kind == USBDISK_READ)
         memcpy(buffer, place, size);
-    else
+    else if (call->kind == USBDISK_WRITE)
         memcpy(place, buffer, size);
-    wait_until(end);
 }
 
 static void *work(void *it)
@@ -57,9 +40,9 @@ static void *work(void *it)
     return NULL;
 }
 
-bool device_open(struct device *device, const struct costs *costs, uint8_t *bytes, uint64_t sectors)
+bool device_open(struct device *device, const struct costs *costs, uint8_t *bytes)
 {
-    *device = (struct device){ .costs = costs, .bytes = bytes, .sectors = sectors };
+    *device = (struct device){ .costs = costs, .bytes = bytes };
     return !pthread_mutex_init(&device->lock, NULL) && !pthread_cond_init(&device->changed, NULL) &&
            !pthread_create(&device->thread, NULL, work, device);
 }
@@ -77,6 +60,9 @@ void device_close(struct device *device)
 
 void device_begin(struct device *device, const struct usbdisk_drive_call *call, uint8_t *buffer)
 {
+    const struct costs *costs = device->costs;
+    bool is_flush = call->kind == USBDISK_FLUSH;
+    device->end = now + costs->command + (is_flush ? costs->flush : call->count * costs->sector);
     pthread_mutex_lock(&device->lock);
     device->call = *call;
     device->buffer = buffer;
@@ -84,28 +70,35 @@ void device_begin(struct device *device, const struct usbdisk_drive_call *call, 
     pthread_mutex_unlock(&device->lock);
 }
 
-bool device_has_ended(struct device *device)
-{
-    pthread_mutex_lock(&device->lock);
-    bool has_ended = device->call.kind == USBDISK_NOTHING;
-    pthread_mutex_unlock(&device->lock);
-    return has_ended;
-}
-
 void device_wait(struct device *device)
 {
+    if (now < device->end)
+        now = device->end;
     pthread_mutex_lock(&device->lock);
     while (device->call.kind != USBDISK_NOTHING)
         pthread_cond_wait(&device->changed, &device->lock);
     pthread_mutex_unlock(&device->lock);
 }
 
+bool device_has_ended(struct device *device)
+{
+    if (now < device->end)
+        return false;
+    device_wait(device);
+    return true;
+}
+
+void wait_for_either(const struct device *device, const struct host *host)
+{
+    bool device_is_next = device->end > now && device->end < host->due;
+    now = device_is_next ? device->end : host->due;
+}
+
 /* ---- the host */
 
-/* The first command is told that the power was off: TEST UNIT READY, which is not counted. */
 void host_open(struct host *host, uint32_t writes, uint32_t blocks)
 {
-    *host = (struct host){ .writes = writes, .blocks = blocks, .due = now(), .begun = now() };
+    *host = (struct host){ .writes = writes, .blocks = blocks, .due = now, .begun = now };
 }
 
 bool host_is_done(const struct host *host)
@@ -115,7 +108,12 @@ bool host_is_done(const struct host *host)
 
 bool host_is_ready(const struct host *host)
 {
-    return now() >= host->due;
+    return now >= host->due;
+}
+
+bool host_rests(const struct host *host)
+{
+    return host->due > now + QUIET;
 }
 
 uint32_t host_packet(const struct host *host, uint8_t packet[PACKET])
@@ -160,7 +158,7 @@ uint32_t host_packet(const struct host *host, uint8_t packet[PACKET])
 void host_hears(struct host *host, uint32_t code, const uint8_t *packet, uint32_t size)
 {
     bool is_status = host->sent > TRANSFER;
-    host->due = now() + (code == USBDISK_NAK ? PACKET_TIME / 8 : PACKET_TIME);
+    host->due = now + (code == USBDISK_NAK ? AGAIN : PACKET_TIME);
     if (code != USBDISK_ACK)
         return;
     host->sent = is_status ? 0 : host->sent + 1;
@@ -169,5 +167,5 @@ void host_hears(struct host *host, uint32_t code, const uint8_t *packet, uint32_
 
 double host_speed(const struct host *host)
 {
-    return 1e3 * host->written * TRANSFER * 512 / (double)(now() - host->begun);
+    return 1e3 * host->written * TRANSFER * 512 / (double)(now - host->begun);
 }
