@@ -17,7 +17,9 @@
  * 13 SYNCHRONIZE CACHE(16) is taken for a command that promises nothing
  * 14 so is MODE SELECT
  * 15 and a READ with FUA
- * 16 a status that waits is told when a call has ended, though others wait behind it */
+ * 16 a status that waits is told when a call has ended, though others wait behind it
+ * 17 no packet is taken while a call is under way
+ * 18 a READ is played without the sectors that it lacks */
 #include "model.h"
 #include <stdlib.h>
 #include <string.h>
@@ -266,7 +268,8 @@ static bool ends_promising(struct model *it, const uint8_t *packet, size_t size)
 /* Whether a packet has to wait, whatever it is. */
 static bool is_busy(const struct model *it)
 {
-    return it->waiting == START || (it->asked == USBDISK_READ && PLANTED != 3);
+    bool is_held = it->asked == USBDISK_READ ? PLANTED != 3 : it->asked && PLANTED == 17;
+    return it->waiting == START || is_held;
 }
 
 /* Plays a packet, but for one before which the device is to read. */
@@ -277,7 +280,7 @@ static uint32_t play(struct model *it, const uint8_t *packet, size_t size)
     uint32_t code = usbdisk_bulk_out(&it->disk, packet, size, &first, &count);
     bool is_unread =
         it->is_unread && it->lack.first == first && it->lack.count == count && PLANTED != 9;
-    if (code == USBDISK_NEEDS && is_unread)
+    if (code == USBDISK_NEEDS && (is_unread || PLANTED == 18))
         code = usbdisk_bulk_out_unread(&it->disk, packet, size);
     bool is_played = code != USBDISK_NEEDS;
     it->is_wanted = !is_played;
@@ -343,7 +346,7 @@ uint32_t usbdisk_drive_idle(struct usbdisk_drive *drive)
         return USBDISK_EMPTY;
     uint32_t left = 1;
     bool reads = it->is_wanted || it->asked == USBDISK_READ;
-    if (it->waiting == START || (reads && PLANTED != 3))
+    if (it->waiting != NONE || (reads && PLANTED != 3))
         return left;
     for (int i = 0; i < STEPS && left && it->count < FEW; i++) {
         left = usbdisk_tick(&it->disk);

@@ -15,91 +15,32 @@
 #include <stdlib.h>
 #include <string.h>
 
-enum { WRITES = 400, STEPS = 3000, LIVES_OF_AN_IMAGE = 10, CUTS_AT_ONCE = 3 };
+enum { STEPS = 3000, LIVES_OF_AN_IMAGE = 10, CUTS_AT_ONCE = 3 };
 
-struct write {
-    unsigned address, count;
-    uint32_t number;
-};
-
-/* What the judge knows of a life: the blocks that it began with, the accepted writes behind them,
- * the blocks after all of these, and how many were promised to the host. */
+/* What the judge knows of a life besides what was promised. */
+static struct history history;
 static struct {
-    uint32_t opening[BLOCKS], blocks[BLOCKS];
-    struct write writes[WRITES];
-    size_t accepted, promised, mark; /* mark: of the last command, where it is good */
-    bool is_cached;                  /* the host sees the write cache enabled */
-    bool is_settled;                 /* no step is left since the last write */
-    bool is_plain;     /* nearly all of its commands are WRITEs that promise nothing */
-    uint8_t key, code; /* of the sense that is told next, or 0 */
+    uint32_t blocks[BLOCKS]; /* after all accepted writes */
+    size_t mark;             /* the writes that the last command promises, where it is good */
+    bool is_cached;          /* the host sees the write cache enabled */
+    bool is_settled;         /* no step is left since the last write */
+    bool is_plain;           /* nearly all of its commands are WRITEs that promise nothing */
+    uint8_t key, code;       /* of the sense that is told next, or 0 */
 } book;
 
 static struct {
-    uint64_t cuts, writes, behind, reads, unread, faults, resets, wrong;
+    uint64_t cuts, starting, faulted; /* cuts, those of a start, and those behind a refusal */
+    uint64_t writes, behind, reads, refused, resets, waiting, wrong;
 } counts;
 
-static struct bench bench, other;
-
-static void put(uint32_t blocks[BLOCKS], const struct write *write)
-{
-    for (unsigned i = 0; i < write->count; i++)
-        blocks[write->address + i] = write->number;
-}
-
-/* ---- what a start finds */
-
-/* The number in a block, or one that no write has where it is filled with several. */
-static uint32_t number_in(const uint8_t block[512])
-{
-    uint32_t number;
-    memcpy(&number, block, 4);
-    for (int i = 4; i < 512; i += 4)
-        if (memcmp(block + i, block, 4))
-            return UINT32_MAX;
-    return number;
-}
-
-static bool read_blocks(uint32_t found[BLOCKS], unsigned address)
-{
-    unsigned left = BLOCKS - address, count = left < MOST ? left : MOST;
-    const struct command read = { .code = 0x28, .address = address, .count = count };
-    if (!bench_run(&other, &read))
-        return false;
-    for (unsigned i = 0; i < count; i++)
-        found[address + i] = number_in(other.host.data + 512 * i);
-    return !other.host.status || fails("a READ behind a start is not good");
-}
-
-/* Starts a disk on the other device, and reads all blocks. The first command hears that power was
- * off. */
-static bool find(uint32_t found[BLOCKS])
-{
-    static const struct command sense = { .code = 0x03 };
-    bool good = bench_start(&other, 512) && bench_run(&other, &sense);
-    for (unsigned i = 0; good && i < BLOCKS; i += MOST)
-        good = read_blocks(found, i);
-    bench_stop(&other);
-    return good;
-}
-
-/* Whether these are the blocks after the first k writes, for a k that the book allows. */
-static bool is_allowed(const uint32_t found[BLOCKS])
-{
-    uint32_t blocks[BLOCKS];
-    memcpy(blocks, book.opening, sizeof blocks);
-    for (size_t k = 0; k <= book.accepted; k++) {
-        if (k >= book.promised && !memcmp(blocks, found, sizeof blocks))
-            return true;
-        put(blocks, &book.writes[k]);
-    }
-    return fails("a start finds what no cut may leave");
-}
+static struct bench bench;
 
 static bool cut(unsigned kept, uint32_t found[BLOCKS])
 {
-    device_cut(&bench.device, kept, &other.device);
     counts.cuts++;
-    return find(found) && is_allowed(found);
+    counts.starting += usbdisk_drive_state(&bench.drive) == USBDISK_STARTING;
+    counts.faulted += bench.is_faulted;
+    return finds_what_it_may(&bench.device, kept, &history, found);
 }
 
 /* What a cut leaves here: each part of a few unflushed writes, or some parts of many. */
@@ -170,7 +111,7 @@ static void note_command(void)
         return;
     if (writes(command)) {
         struct write write = { command->address, command->count, command->number };
-        book.writes[book.accepted++] = write;
+        history.writes[history.accepted++] = write;
         put(book.blocks, &write);
         book.is_settled = false;
         counts.writes++;
@@ -178,7 +119,7 @@ static void note_command(void)
     }
     if (command->code == 0x15)
         book.is_cached = command->cache;
-    book.mark = book.accepted;
+    book.mark = history.accepted;
 }
 
 static bool judge_sense(void)
@@ -211,6 +152,7 @@ static bool judge_failure(const struct command *command)
     if (!reads(command) || !bench.is_unread)
         return fails("a command is not good");
     bench.is_unread = false;
+    counts.refused++;
     book.key = 3;
     book.code = 0x11;
     return true;
@@ -229,7 +171,7 @@ static bool judge_status(void)
     /* (a MODE SELECT that leaves the write cache on may wait like one that turns it off, and
      * promises nothing) */
     if (bench.host.promises && !(command->code == 0x15 && command->cache))
-        book.promised = book.mark;
+        history.promised = book.mark;
     return !reads(command) || judge_read(command);
 }
 
@@ -239,6 +181,7 @@ static void give_up(void)
     if (bench.host.command.code == 0x03 && bench.host.stage != WRAPPER)
         book.key = 0;
     counts.resets++;
+    counts.waiting += bench.host.waits && bench.host.stage == STATUS;
     host_reset(&bench.host);
 }
 
@@ -284,7 +227,7 @@ static bool play_device(void)
     if (!bench_device(&bench))
         return false;
     if (bench.rests && book.is_settled && !bench.is_faulted)
-        book.promised = book.accepted;
+        history.promised = history.accepted;
     return true;
 }
 
@@ -303,8 +246,8 @@ static bool live(void)
     unsigned speed = speeds[random_below(5)], idle = book.is_plain ? 0 : random_below(3) * 2;
     unsigned steps = random_below(STEPS);
     bool goes_on = true;
-    for (unsigned i = 0; goes_on && i < steps && book.accepted < WRITES; i++) {
-        bool is_slow = book.is_plain && book.accepted;
+    for (unsigned i = 0; goes_on && i < steps && history.accepted < WRITES; i++) {
+        bool is_slow = book.is_plain && history.accepted;
         unsigned turn = random_below(64);
         if (turn < (is_slow ? 1 : speed))
             goes_on = play_device();
@@ -315,7 +258,6 @@ static bool live(void)
         if (goes_on && !random_below(128))
             goes_on = judge_state() && cut_here();
     }
-    counts.faults += bench.is_faulted;
     return goes_on;
 }
 
@@ -325,25 +267,20 @@ static bool play_life(void)
 {
     uint32_t found[BLOCKS];
     bench.goes_on = random_below(3) ? 0 : 60;
-    book.accepted = book.promised = 0;
+    history.accepted = history.promised = 0;
     book.is_cached = true;
     book.is_settled = false;
     book.is_plain = random_below(4) == 0;
     book.key = 6; /* the first command is told that the power was off */
     book.code = 0x29;
-    memcpy(book.blocks, book.opening, sizeof book.blocks);
+    memcpy(book.blocks, history.opening, sizeof book.blocks);
     bool good = bench_start(&bench, random_below(4) ? 512 : 64) && live();
     bench_stop(&bench);
     if (!good)
         return false;
-    device_cut(&bench.device, ANY, &other.device);
-    memcpy(bench.device.durable, other.device.now, (size_t)SECTORS * 512);
-    memcpy(bench.device.now, other.device.now, (size_t)SECTORS * 512);
-    bench.device.count = 0;
-    bench.device.call.kind = USBDISK_NOTHING;
-    counts.cuts++;
-    good = find(found) && is_allowed(found);
-    memcpy(book.opening, found, sizeof found);
+    device_cut(&bench.device, ANY, &bench.device);
+    good = cut(ANY, found);
+    memcpy(history.opening, found, sizeof found);
     return good;
 }
 
@@ -355,7 +292,7 @@ static bool make_image(uint32_t format)
         return fails("no image is made");
     memcpy(device->durable, device->now, (size_t)SECTORS * 512);
     device->count = 0;
-    memset(&book, 0, sizeof book);
+    memset(&history, 0, sizeof history);
     return true;
 }
 
@@ -368,12 +305,16 @@ static bool play_lives(uint32_t format, long lives)
             return false;
         }
     }
-    printf("format %u: %ld lives, %lu cuts, each start finds what it may; %lu writes accepted, %lu "
-           "of them while a "
-           "call was under way\n",
-           format, lives, counts.cuts, counts.writes, counts.behind);
-    printf("  %lu reads, %lu lives with a refusal, %lu resets, %lu wrong packets\n", counts.reads,
-           counts.faults, counts.resets, counts.wrong);
+    printf("format %u: %ld lives, each start finds what it may\n", format, lives);
+    printf("  %lu cuts, %lu of them while a start was under way, %lu behind a refusal\n",
+           counts.cuts, counts.starting, counts.faulted);
+    printf("  %lu writes accepted, %lu of them while a call was under way; %lu reads, %lu of "
+           "refused sectors\n",
+           counts.writes, counts.behind, counts.reads, counts.refused);
+    printf("  %lu class resets, %lu of them while a promise waited; %lu wrong packets\n",
+           counts.resets, counts.waiting, counts.wrong);
+    if (!counts.behind)
+        printf("format %u: no write was accepted while a call was under way\n", format);
     return counts.behind > 0;
 }
 
@@ -400,10 +341,10 @@ int main(int count, char **words)
     if (!seed)
         seed = 1; /* at 0 the generator stands still */
     setvbuf(stdout, NULL, _IOLBF, 0);
-    if (!device_open(&bench.device) || !device_open(&other.device))
+    if (!device_open(&bench.device) || !finds_open())
         return EXIT_FAILURE;
     bool good = play_lives(1, (long)lives) && play_lives(2, (long)lives);
     device_close(&bench.device);
-    device_close(&other.device);
+    finds_close();
     return good ? EXIT_SUCCESS : EXIT_FAILURE;
 }

@@ -46,8 +46,8 @@ bool device_begin(struct device *device);
 /* Ends it; where it is not good a READ gives nothing, and any part of a WRITE may be there. */
 void device_end(struct device *device, bool is_good);
 
-/* Leaves on another device what a cut may leave of this one: of the unflushed writes those of
- * `kept`, where they are few, else any. */
+/* Leaves on another device, or on this one, what a cut may leave of it: of the unflushed writes
+ * those of `kept`, where they are few, else any. */
 enum { FEW = 4, ANY = 1 << FEW };
 void device_cut(const struct device *device, unsigned kept, struct device *other);
 
@@ -116,5 +116,35 @@ enum outcome bench_host(struct bench *bench);
 
 /* A command, with a device that is as fast as the host. */
 bool bench_run(struct bench *bench, const struct command *command);
+
+/* ---- what a start finds */
+
+struct write {
+    unsigned address, count;
+    uint32_t number;
+};
+
+/* What a host knows of a life: the blocks that it began with, the accepted writes behind them, and
+ * how many of these were promised to it. */
+enum { WRITES = 400 };
+struct history {
+    uint32_t opening[BLOCKS];
+    struct write writes[WRITES];
+    size_t accepted, promised;
+};
+
+bool finds_open(void);
+void finds_close(void);
+
+/* A write is put into blocks. */
+void put(uint32_t blocks[BLOCKS], const struct write *write);
+
+/* The number in a block, or one that no write has where it is filled with several. */
+uint32_t number_in(const uint8_t block[512]);
+
+/* Cuts a device, starts a disk on what is left of another one, and reads all blocks of that.
+ * Whether they are those after the first k writes, for a k that may be. */
+bool finds_what_it_may(const struct device *device, unsigned kept, const struct history *history,
+                       uint32_t found[BLOCKS]);
 
 #endif

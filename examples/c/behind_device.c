@@ -96,7 +96,8 @@ void device_cut(const struct device *device, unsigned kept, struct device *other
 {
     unsigned way = random_below(WAYS + 1);
     size_t behind = random_below((unsigned)device->count + 1);
-    memcpy(other->durable, device->durable, (size_t)SECTORS * 512);
+    if (other != device)
+        memcpy(other->durable, device->durable, (size_t)SECTORS * 512);
     for (size_t i = 0; i < device->count; i++) {
         const struct unflushed *write = &device->unflushed[i];
         bool stays = kept < ANY ? kept >> i & 1 : is_kept(way, behind, i);
