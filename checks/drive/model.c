@@ -28,7 +28,13 @@
 #define PLANTED 0
 #endif
 
-enum { STEPS = 32, FEW = 64, LONGEST = 240 };
+#ifndef AHEAD
+#define AHEAD 256
+#endif
+
+/* How many steps a call makes, and while how few calls wait. A packet is taken while at most AHEAD
+ * do. */
+enum { STEPS = 32, FEW = 64 };
 enum waiting { NONE, PROMISE, START };
 
 struct run {
@@ -46,8 +52,7 @@ struct sent {
 struct model {
     struct usbdisk disk;
     uint32_t packet;
-    uint64_t room, most; /* calls that may wait, and those that a packet may make */
-    uint64_t slots;      /* places of the outbox */
+    uint64_t slots; /* places of the outbox */
     struct sent *outbox;
     size_t oldest, count;
     uint32_t asked; /* a kind of call that is under way, and its sectors */
@@ -60,9 +65,6 @@ struct model {
     uint64_t due;
     bool promises, is_select, is_cached;
 };
-
-/* What the program has besides, as the calls of the library have no address for it. */
-static const struct usbdisk_device name;
 
 static struct model *model_of(const struct usbdisk_drive *drive)
 {
@@ -82,21 +84,10 @@ static void take_out(struct model *it)
     }
 }
 
-/* Pads a text with spaces, where it fits. */
-static bool is_padded(const char *text, char *field, size_t size)
-{
-    size_t length = strlen(text);
-    memset(field, ' ', size);
-    if (length <= size)
-        memcpy(field, text, length);
-    return length <= size;
-}
-
 uint32_t usbdisk_drive_start(struct usbdisk_drive *drive,
                              const struct usbdisk_drive_options *options, const uint8_t *near,
                              size_t near_size)
 {
-    struct usbdisk_identity who;
     struct usbdisk_layout layout = { .format = 2, .slots = 64 };
     struct model *it = calloc(1, sizeof *it);
     if (drive->at || !it) {
@@ -105,21 +96,17 @@ uint32_t usbdisk_drive_start(struct usbdisk_drive *drive,
     }
     if (near_size >= 512)
         usbdisk_look(near, &layout);
-    it->most = usbdisk_room(layout.format, layout.slots);
-    it->room = 2 * it->most;
-    it->slots = 3 * it->most;
+    uint64_t room = usbdisk_room(layout.format, layout.slots);
+    it->slots =
+        room + 2 * AHEAD; /* the planted fault 10 may send more than the room of an outbox */
     it->packet = options->packet;
     it->is_cached = true;
     it->outbox = calloc(it->slots, sizeof *it->outbox);
-    uint32_t code = USBDISK_BAD_IDENTITY;
-    if (!it->outbox)
-        code = USBDISK_NO_MEMORY;
-    else if (is_padded(options->vendor, who.vendor, sizeof who.vendor) &&
-             is_padded(options->product, who.product, sizeof who.product) &&
-             is_padded(options->revision, who.revision, sizeof who.revision) &&
-             is_padded(options->serial, who.serial, sizeof who.serial))
-        code = usbdisk_start(&it->disk, near, near_size, options->sectors, &name, &who,
-                             options->packet, LONGEST, it->room);
+    uint32_t code = USBDISK_NO_MEMORY;
+    if (it->outbox)
+        code = usbdisk_start(&it->disk, near, near_size, options->sectors, &options->device,
+                             &options->identity, options->packet, layout.format == 1 ? 48 : 240,
+                             room + AHEAD);
     if (code) {
         free(it->outbox);
         free(it);
@@ -148,18 +135,18 @@ static void hand_out(struct model *it, struct usbdisk_drive_call *call, uint8_t 
                      size_t size)
 {
     struct sent *first = &it->outbox[it->oldest];
-    uint32_t most = first->kind == USBDISK_WRITE ? (uint32_t)(size / 512) : 1, count = 0;
+    size_t most = first->kind == USBDISK_WRITE ? size / 512 : 1, count = 0;
     while (count < most && count < it->count) {
         struct sent *next = &it->outbox[(it->oldest + count) % it->slots];
         if (next->kind != first->kind || (count && next->sector != first->sector + count))
             break;
         if (next->kind == USBDISK_WRITE)
-            memcpy(buffer + 512 * (size_t)count, next->bytes, 512);
+            memcpy(buffer + 512 * count, next->bytes, 512);
         count++;
     }
     bool is_write = first->kind == USBDISK_WRITE;
-    *call = (struct usbdisk_drive_call){ first->kind, is_write ? count : 0,
-                                         is_write ? first->sector : 0 };
+    *call = (struct usbdisk_drive_call){ first->kind, is_write ? first->sector : 0,
+                                         is_write ? count : 0 };
     it->oldest = (it->oldest + count) % it->slots;
     it->count -= count;
     bool skips =
@@ -183,9 +170,9 @@ uint32_t usbdisk_drive_next(struct usbdisk_drive *drive, struct usbdisk_drive_ca
     if (it->count && !reads_first)
         hand_out(it, call, buffer, size);
     else if (it->is_wanted)
-        *call = (struct usbdisk_drive_call){ USBDISK_READ, it->lack.count, it->lack.first };
+        *call = (struct usbdisk_drive_call){ USBDISK_READ, it->lack.first, it->lack.count };
     it->asked = call->kind;
-    it->sectors = (struct run){ call->sector, call->count };
+    it->sectors = (struct run){ call->sector, (uint32_t)call->count };
     return 0;
 }
 
@@ -298,7 +285,7 @@ uint32_t usbdisk_drive_out(struct usbdisk_drive *drive, const uint8_t *packet, s
         return USBDISK_EMPTY;
     if (size > it->packet)
         return USBDISK_TOO_LONG;
-    bool lacks_room = it->room < it->count + it->most;
+    bool lacks_room = it->count > AHEAD;
     if (is_busy(it) || (lacks_room && PLANTED != 10))
         return USBDISK_NAK;
     uint32_t code = play(it, packet, size);

@@ -27,13 +27,15 @@ struct usbdisk_drive {
 
 struct usbdisk_drive_options {
     uint64_t sectors;
+    struct usbdisk_identity identity;
     uint32_t packet;
-    const char *vendor, *product, *revision, *serial;
+    struct usbdisk_device device;
 };
 
 struct usbdisk_drive_call {
-    uint32_t kind, count;
+    uint32_t kind;
     uint64_t sector;
+    uint64_t count;
 };
 
 enum { USBDISK_READ = 3 };

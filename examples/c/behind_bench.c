@@ -7,11 +7,8 @@ bool bench_start(struct bench *bench, unsigned packet)
     uint64_t near = usbdisk_near(device->now);
     struct usbdisk_drive_options options = {
         .sectors = SECTORS,
+        .identity = { "EXAMPLE ", "BEHIND          ", "0001", "000000000001" },
         .packet = packet,
-        .vendor = "EXAMPLE",
-        .product = "BEHIND",
-        .revision = "0001",
-        .serial = "000000000001",
     };
     bench->rests = bench->is_faulted = bench->is_unread = false;
     bench->host = (struct host){ .drive = &bench->drive, .packet = packet };

@@ -59,8 +59,8 @@ bool device_begin(struct device *device)
         return true;
     if (device->count + call->count > ROOM)
         return fails("the disk never flushes");
-    for (uint32_t i = 0; i < call->count; i++)
-        keep(device, call->sector + i, device->buffer + 512 * (size_t)i);
+    for (uint64_t i = 0; i < call->count; i++)
+        keep(device, call->sector + i, device->buffer + 512 * i);
     return true;
 }
 

@@ -108,8 +108,11 @@ static void serve_by_turns(struct usbdisk *disk, struct device *device, struct h
 
 static double measure(const struct costs *costs, uint8_t *bytes, uint32_t writes)
 {
-    static const struct usbdisk_drive_options options = { SECTORS, PACKET, "EXAMPLE",
-                                                          "DRIVE", "0001", "000000000001" };
+    static const struct usbdisk_drive_options options = {
+        .sectors = SECTORS,
+        .identity = { "EXAMPLE ", "DRIVE           ", "0001", "000000000001" },
+        .packet = PACKET,
+    };
     struct usbdisk_drive drive = USBDISK_DRIVE_NONE;
     struct device device;
     struct host host;
