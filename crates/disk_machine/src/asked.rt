@@ -1,0 +1,14 @@
+//! What the device was asked for last.
+use scsi_unit::HomeSectors;
+
+/// What the device was asked for last, and has not told done.
+#[derive(Clone, Copy, Debug, PartialEq, Eq)]
+pub enum Asked {
+    Nothing,
+    /// So many calls of the outbox: one flush, or writes to neighbouring sectors.
+    Calls(usize),
+    /// Home sectors, which a READ lacks.
+    Read(HomeSectors),
+    /// It refused so many calls, and is asked for nothing until the next start.
+    Refused(usize),
+}
