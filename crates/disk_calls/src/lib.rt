@@ -26,5 +26,9 @@ pub use codes::{
 };
 pub use handle::{Opaque, UsbDisk};
 pub use look::{UsbDiskLayout, layout_of, super_code};
+pub use play::{answer_request, make_step, play_packet, send_packet, show_sectors};
+pub use refused::refuse;
+pub use run::gather;
 pub use sizes::{memory_for, room_for};
 pub use start::UsbDiskIdentity;
+pub use wanted::unseen;

@@ -59,9 +59,10 @@ pub(crate) fn take_unread(disk: &mut Disk<WindowMedium>, packet: &[u8]) -> u32
     play_packet(disk, packet)
 }
 
-// Plays a packet that is no longer than those of the disk.
+/// Plays a packet that is no longer than those of the disk, whatever of the sectors that it reads
+/// is in sight.
 #[inline]
-fn play_packet(disk: &mut Disk<WindowMedium>, packet: &[u8]) -> u32
+pub fn play_packet(disk: &mut Disk<WindowMedium>, packet: &[u8]) -> u32
     requires { length packet.now ≤ disk.old.line.packet_size }
     ensures { PlaysPacket disk.old packet.now disk.new result }
 {
@@ -74,14 +75,14 @@ fn play_packet(disk: &mut Disk<WindowMedium>, packet: &[u8]) -> u32
 }
 
 /// Sectors as the device holds them.
-pub(crate) fn show_sectors(disk: &mut Disk<WindowMedium>, first: u64, bytes: &[u8]) -> bool
+pub fn show_sectors(disk: &mut Disk<WindowMedium>, first: u64, bytes: &[u8]) -> bool
     ensures { Sees disk.old first bytes.now disk.new result }
 {
     disk.show(first, bytes)
 }
 
 /// A token to Bulk-In. The packet that the disk lends is copied once.
-pub(crate) fn send_packet(disk: &mut Disk<WindowMedium>, to: &mut [u8; 512], size: &mut u32) -> u32
+pub fn send_packet(disk: &mut Disk<WindowMedium>, to: &mut [u8; 512], size: &mut u32) -> u32
     ensures { SendsPacket disk.old to.old disk.new to.new size.new result }
 {
     *size = 0;
@@ -98,7 +99,7 @@ pub(crate) fn send_packet(disk: &mut Disk<WindowMedium>, to: &mut [u8; 512], siz
 }
 
 /// A control request.
-pub(crate) fn answer_request(
+pub fn answer_request(
     disk: &mut Disk<WindowMedium>,
     packet: &[u8; 8],
     to: &mut [u8; 2],
@@ -125,7 +126,7 @@ pub(crate) fn answer_request(
 }
 
 /// A step in the background: 1 while steps are left, 0 where all is at home.
-pub(crate) fn make_step(disk: &mut Disk<WindowMedium>) -> u32
+pub fn make_step(disk: &mut Disk<WindowMedium>) -> u32
     ensures { MakesStep disk.old disk.new result }
 {
     tick(disk);

@@ -5,7 +5,7 @@ use bot_machine::Disk;
 use window::WindowMedium;
 
 /// The device refused the call that was handed out last.
-pub(crate) fn refuse(disk: &mut Disk<WindowMedium>)
+pub fn refuse(disk: &mut Disk<WindowMedium>)
     ensures { IsRefused disk.old disk.new }
 {
     drain(disk);

@@ -41,9 +41,9 @@ pub(crate) fn next_run(
     }
 }
 
-// Lets go of writes to the sectors from this one on, as long as they wait first and have room, and
-// copies their bytes. How many they were.
-fn gather(disk: &mut Disk<WindowMedium>, first: u64, to: &mut [u8]) -> usize
+/// Lets go of writes to the sectors from this one on, as long as they wait first and have room, and
+/// copies their bytes. How many they were.
+pub fn gather(disk: &mut Disk<WindowMedium>, first: u64, to: &mut [u8]) -> usize
     ensures run { IsLongestRun (medium_of disk.old) (medium_of disk.new) first result
         to.old to.new }
     ensures rest { KeepsRest disk.old disk.new }

@@ -11,7 +11,7 @@ use window::WindowMedium;
 
 /// The home sectors of the blocks that this packet has read, as far as they are not in sight: the
 /// first, and how many.
-pub(crate) fn unseen(disk: &Disk<WindowMedium>, packet: &[u8]) -> Option<(u64, u32)>
+pub fn unseen(disk: &Disk<WindowMedium>, packet: &[u8]) -> Option<(u64, u32)>
     ensures { MatchOption result (WantsNone disk.now packet.now)
         (λ asked. Wants disk.now packet.now asked.0 asked.1) }
 {
