@@ -11,8 +11,7 @@ use Rattle.spec.specs.Conversation.{Conversation}
 use Rattle.spec.specs.UnitConversation.{UnitStep, write_of_event}
 use Rattle.spec.specs.declared.event.Event.{Event}
 use Rattle.spec.specs.declared.event.Answer.{Answer}
-use Rattle.blocks.specs.Finding.{StandsAs}
-use Rattle.scsi_unit.specs.Books.{MayFind, FoundWith}
+use Rattle.scsi_unit.specs.Books.{StandsAs, MayFind, FoundWith}
 use Rattle.scsi_unit.specs.Laws.{IsSameLife}
 use Rattle.bot_machine.specs.Promising.{PromisesNone}
 use Rattle.disk_machine.specs.Machine.{promising, Finds}

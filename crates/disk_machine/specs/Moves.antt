@@ -1,25 +1,40 @@
--- What each call does to a machine.
-use Rattle.std.specs.Prelude.{◌≡◌, ◌≢◌, ◌⊎◌, ◌↔◌, ℕ, ◌+◌, ◌*◌, ◌/◌, ◌<◌, ◌≤◌, Bool, true, false, List, length}
-use Rattle.std.specs.Prelude.{Option, Some, None}
-use Rattle.inlet.specs.Inlet.{AreHeld}
-use Rattle.mirror.specs.OutboxMedium.{first_of}
+-- What each call leaves true of a machine.
+use Rattle.std.specs.Prelude.{◌≡◌, ◌⊎◌, ◌↔◌, ℕ, ◌≤◌, Bool, true, false, List, [], ◌∷◌}
+use Rattle.mirror.specs.declared.call.DeviceCall.{DeviceCall}
 use Rattle.window.specs.Window.{state_of}
 use Rattle.spec.specs.Book.{Book}
-use Rattle.spec.specs.UnitConversation.{UnitStep, on_line}
+use Rattle.spec.specs.UnitConversation.{UnitStep}
 use Rattle.spec.specs.declared.event.Event.{Event}
 use Rattle.spec.specs.declared.event.Event.TheVariants as event
 use Rattle.spec.specs.declared.event.Answer.{Answer}
-use Rattle.scsi_unit.specs.UnitValue.{state_of as unit_state}
-use Rattle.bot_machine.specs.Disk.{over}
-use Rattle.disk_calls.specs.Plays.{Disk, medium_of, Plays, layout_on}
-use Rattle.disk_calls.specs.Room.{room_for}
-use Rattle.disk_calls.specs.Wanted.{Wants}
-use Rattle.disk_machine.specs.Machine.{Machine, Serves, IsCaughtUp}
+use Rattle.bot_machine.specs.Disk.{FitsDisk, over}
+use Rattle.disk_calls.specs.Plays.{Disk, medium_of}
+use Rattle.disk_machine.specs.Machine.{Machine, Serves, IsCaughtUp, has_refused}
 use Rattle.disk_machine.specs.declared.asked.Asked.TheVariants as asked
+use Rattle.disk_machine.specs.declared.waiting.Waiting.{Waiting}
 use Rattle.disk_machine.specs.declared.waiting.Waiting.TheVariants as waiting
 use Rattle.disk_machine.specs.declared.lack.Lack.TheVariants as lack
 
--- ---- what stays true
+-- packets wait for calls that a start made
+abbrev pub waiting_for : List DeviceCall → Waiting
+waiting_for [] = waiting.Nothing
+waiting_for (call ∷ calls) = waiting.Start
+
+-- a machine over a disk that has just started
+abbrev pub begun : Disk → ℕ → Machine
+begun disk most = record {
+  disk = disk;
+  most = most;
+  asked = asked.Nothing;
+  waiting = waiting_for (medium_of disk).outbox;
+  lack = lack.Nothing;
+}
+
+-- where the device has carried out all, each life that the disk fits is served, and all is told
+-- that it promises
+abbrev pub ServesAtRest : Machine → Type 0
+ServesAtRest s = IsCaughtUp s → (book : Book)
+    → FitsDisk (state_of (medium_of s.disk)) s.disk book → Serves s book.mark book
 
 -- whatever life it serves it serves on, with the same book, and no promise is told
 abbrev pub ServesOn : Machine → Machine → Type 0
@@ -33,20 +48,9 @@ ServesEvent old event answer new = (told : ℕ) (book : Book) → Serves old tol
     × UnitStep refused (over old.disk book) event answer (over new.disk later)
     × Serves new told later
 
--- the same, and each promise that was made is told
+-- A token to Bulk-In: all that the book promises is told, and kept, unless the device refused a
+-- call.
 abbrev pub ServesToken : Machine → Answer → Machine → Type 0
 ServesToken old answer new = (told : ℕ) (book : Book) → Serves old told book
     → UnitStep false (over old.disk book) event.In answer (over new.disk book)
-    × Serves new told book × (Serves new book.mark book ⊎ ((unit_state new.disk.unit book).faulted ≡ true))
-
--- ---- packets
-
--- Why a packet to Bulk-Out is not taken now: the device has not carried out the calls of the start,
--- or it reads, or so many calls wait that those of a packet might have no room, or it is to read
--- home sectors first, which it could not read when it was asked.
-abbrev pub IsBusy : Machine → List ℕ → Type 0
-IsBusy s packet = (s.waiting ≡ waiting.Start)
-    ⊎ ((first : ℕ) × (count : ℕ) × (s.asked ≡ asked.Read (record { first = first; count = count })))
-    ⊎ ((medium_of s.disk).room < length (medium_of s.disk).outbox + room_for (layout_on s.disk))
-    ⊎ ((first : ℕ) × (count : ℕ) × Wants s.disk packet first count
-    × (s.lack ≢ lack.Unread (record { first = first; count = count })))
+    × Serves new told book × (has_refused new.asked ≡ false → Serves new book.mark book)

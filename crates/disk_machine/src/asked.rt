@@ -9,6 +9,7 @@ pub enum Asked {
     Calls(usize),
     /// Home sectors, which a READ lacks.
     Read(HomeSectors),
-    /// It refused so many calls, and is asked for nothing until the next start.
-    Refused(usize),
+    /// It refused so many calls, behind which so many waited that it is not asked for. It is asked
+    /// for nothing until the next start.
+    Refused(usize, usize),
 }

@@ -1,0 +1,44 @@
+-- A device that has carried out all.
+use Rattle.std.proofs.Common.{◌≡◌, ◌≤◌, ℕ, ◌++◌, inl, true, length, arith, subst, sym, ap, length-append}
+use Rattle.std.specs.Prelude.{List}
+use Rattle.medium.specs.Medium.{Image}
+use Rattle.medium.specs.Moments.{EachCut}
+use Rattle.mirror.specs.OutboxMedium.{sent}
+use Rattle.mirror.specs.declared.call.DeviceCall.{DeviceCall}
+use Rattle.window.specs.Window.{Window, state_of, mirror_of, ComesAfter}
+use Rattle.window.specs.WindowLaws.{is_sound, comes_after_itself}
+use Rattle.spec.specs.Book.{Book}
+use Rattle.scsi_unit.specs.Books.{MayFind}
+use Rattle.bot_machine.specs.Disk.{FitsDisk}
+use Rattle.disk_calls.specs.Parts.{CoversParts}
+use Rattle.disk_calls.specs.Plays.{medium_of}
+use Rattle.disk_machine.specs.Machine.{Machine, MayLeave, Keeps, Serves, IsCaughtUp}
+use Rattle.disk_machine.specs.Moves.{ServesAtRest}
+
+module _ (s : Machine) (parts : (new : Window) → ComesAfter (medium_of s.disk) new → CoversParts (medium_of s.disk) new)
+    (at_rest : (book : Book) → FitsDisk (state_of (medium_of s.disk)) s.disk book → book.ours ≡ true
+    → EachCut (MayFind (state_of (medium_of s.disk)).size book) (state_of (medium_of s.disk))) where
+  -- it was sent no more than it has carried out
+  no_more : IsCaughtUp s → (image : Image) → (left : MayLeave s image) → length (sent (mirror_of (medium_of s.disk))) ≤ left.count
+  no_more up image left = omega (
+    arith,
+    left.reaches,
+    up.none_under_way,
+    length-append (medium_of s.disk).seen.told.taken (medium_of s.disk).outbox,
+    ap (λ (l : List DeviceCall). length l) up.none_waits,
+  )
+
+  keeps_all : IsCaughtUp s → (book : Book) → FitsDisk (state_of (medium_of s.disk)) s.disk book → Keeps s book.mark book
+  keeps_all up book fits ours image left =
+      let m = medium_of s.disk in
+      inl (at_rest book fits ours image ((is_sound m).only_now image
+      (parts m (comes_after_itself m) left.count left.done image (no_more up image left) left.are left.cut)))
+
+  pub serves_at_rest : ServesAtRest s
+  serves_at_rest up book fits = record {
+    fits = fits;
+    fewer = omega arith;
+    keeps = keeps_all up book fits;
+    all = λ none fine. keeps_all up book fits;
+    faulted = λ refused. absurd (cc (up.none_refused, refused));
+  }

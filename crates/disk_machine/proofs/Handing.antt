@@ -1,0 +1,153 @@
+-- Calls leave the outbox, and are under way.
+use Rattle.std.proofs.Common.{◌≡◌, ◌≤◌, ◌<◌, ◌+◌, ◌++◌, ◌∷◌, [], ℕ, zero, suc, length, List, inl, refl, sym, ◌∙◌, ap, subst, arith}
+use Rattle.std.proofs.Common.{append_assoc, length-append, add-one}
+use Rattle.std.specs.Prelude.{Some}
+use Rattle.medium.specs.Medium.{Image}
+use Rattle.medium.specs.Writes.{sector_of}
+use Rattle.mirror.specs.OutboxMedium.{sent, first_of}
+use Rattle.mirror.specs.declared.call.DeviceCall.{DeviceCall}
+use Rattle.mirror.specs.declared.call.DeviceCall.TheVariants.{Write, Flush}
+use Rattle.window.specs.Window.{Window, state_of, mirror_of, take_first}
+use Rattle.spec.specs.Book.{Book}
+use Rattle.store_calls.specs.Outbox.{without, writes_of, IsRun}
+use Rattle.bot_machine.specs.Disk.{FitsDisk, IsRearmed}
+use Rattle.disk_calls.specs.Plays.{Disk, medium_of}
+use Rattle.disk_machine.specs.Asking.{AsksFor, HandsOut}
+use Rattle.disk_machine.specs.Machine.{Machine, LeavesOf, MayLeave, carried, under_way, has_refused}
+use Rattle.disk_machine.specs.Moves.{ServesOn}
+use Rattle.disk_machine.specs.declared.ask.DeviceAsk.{DeviceAsk}
+use Rattle.disk_machine.specs.declared.ask.DeviceAsk.TheVariants as ask
+use Rattle.disk_machine.specs.declared.asked.Asked.{Asked}
+use Rattle.disk_machine.proofs.Standing.{Stands, serves_still}
+
+-- what was sent stays, however much of it has left the outbox
+pub record IsSentStill (old new : Window) : Type 0 where
+  pub opening : new.seen.told.opening ≡ old.seen.told.opening
+  pub sent : sent (mirror_of new) ≡ sent (mirror_of old)
+  pub size : (state_of new).size ≡ (state_of old).size
+
+one_goes : (calls : List DeviceCall) (w : Window) → w.outbox ≡ calls → IsSentStill w (take_first calls w)
+one_goes [] w is = record { opening = refl; sent = refl; size = refl }
+one_goes (call ∷ calls) w is = record {
+  opening = refl;
+  sent = append_assoc w.seen.told.taken (call ∷ []) calls ∙ ap (λ (l : List DeviceCall). w.seen.told.taken ++ l) (sym is);
+  size = refl;
+}
+
+pub some_go : (count : ℕ) (w : Window) → IsSentStill w (without count w)
+some_go zero w = record { opening = refl; sent = refl; size = refl }
+some_go (suc count) w =
+    let before = some_go count w in
+    let last = one_goes (without count w).outbox (without count w) refl in record {
+      opening = last.opening ∙ before.opening;
+      sent = last.sent ∙ before.sent;
+      size = last.size ∙ before.size;
+    }
+
+one_fewer : (calls : List DeviceCall) (w : Window) → w.outbox ≡ calls → 0 < length calls
+    → length (take_first calls w).outbox + 1 ≡ length w.outbox
+one_fewer [] w is some = absurd (omega (arith, some))
+one_fewer (call ∷ calls) w is some = omega (arith, ap (λ (l : List DeviceCall). length l) is)
+
+pub fewer_wait : (count : ℕ) (w : Window) → count ≤ length w.outbox → length (without count w).outbox + count ≡ length w.outbox
+fewer_wait zero w le = omega arith
+fewer_wait (suc count) w le =
+    let before = fewer_wait count w (omega (arith, le)) in
+    omega (arith, before, one_fewer (without count w).outbox (without count w) refl (omega (arith, before, le)))
+
+-- so many have left it
+pub taken_by : (count : ℕ) (w : Window) → count ≤ length w.outbox
+    → length (without count w).seen.told.taken ≡ length w.seen.told.taken + count
+taken_by count w le = omega (
+  arith,
+  fewer_wait count w le,
+  ap (λ (l : List DeviceCall). length l) (some_go count w).sent,
+  length-append (without count w).seen.told.taken (without count w).outbox,
+  length-append w.seen.told.taken w.outbox,
+)
+
+-- a device that told no fewer done leaves no more
+pub leaves_no_more : (old new : Machine) → IsSentStill (medium_of old.disk) (medium_of new.disk) → carried old ≤ carried new
+    → (image : Image) → MayLeave new image → MayLeave old image
+leaves_no_more old new same reaches image left =
+    subst (λ (bytes : List ℕ). LeavesOf bytes (sent (mirror_of (medium_of old.disk))) (carried old) image) same.opening
+    (subst (λ (calls : List DeviceCall). LeavesOf (medium_of new.disk).seen.told.opening calls (carried old) image) same.sent (record {
+      count = left.count;
+      done = left.done;
+      reaches = omega (arith, left.reaches, reaches);
+      are = left.are;
+      cut = left.cut;
+    }))
+
+abbrev FitsOver : Book → Disk → Type 0
+FitsOver book d = FitsDisk (state_of (medium_of d)) d book
+
+-- the disk stays, and the device told no fewer done
+pub stays : (old new : Machine) → new.disk ≡ old.disk → carried old ≤ carried new → Stands old new
+stays old new same reaches = record {
+  others = subst (λ (d : Disk). IsRearmed old.disk d) (sym same) refl;
+  fits = λ book fits. subst (λ (d : Disk). FitsOver book d) (sym same) fits;
+  size = ap (λ (d : Disk). (state_of (medium_of d)).size) same;
+  leaves = leaves_no_more old new (subst (λ (w : Window). IsSentStill (medium_of old.disk) w) (sym (ap (λ (d : Disk). medium_of d) same))
+      (record { opening = refl; sent = refl; size = refl })) reaches;
+}
+
+-- calls that left the outbox are under way
+handed_stands : (old new : Machine) (count : ℕ) → HandsOut old count new → count ≤ length (medium_of old.disk).outbox → Stands old new
+handed_stands old new count hands le =
+    let same = subst (λ (w : Window). IsSentStill (medium_of old.disk) w) (sym hands.gone) (some_go count (medium_of old.disk)) in record {
+      others = hands.rest.others;
+      fits = hands.rest.fits;
+      size = same.size;
+      leaves = leaves_no_more old new same (omega (
+        arith,
+        ap under_way hands.free,
+        ap (λ (s : Machine). under_way s.asked) hands.others,
+        taken_by count (medium_of old.disk) le,
+        ap (λ (w : Window). length w.seen.told.taken) hands.gone,
+      ));
+    }
+
+handed_serves : (old new : Machine) (count : ℕ) → HandsOut old count new → count ≤ length (medium_of old.disk).outbox → ServesOn old new
+handed_serves old new count hands le =
+    serves_still old new (handed_stands old new count hands le)
+    (λ none. inl (sym (ap (λ (s : Machine). s.waiting) hands.others) ∙ none))
+    (ap (λ (s : Machine). has_refused s.asked) hands.others ∙ sym (ap (λ (a : Asked). has_refused a) hands.free))
+
+some_first : (calls : List DeviceCall) (call : DeviceCall) → first_of calls ≡ Some call → 1 ≤ length calls
+some_first [] call is = cc
+some_first (first ∷ calls) call is = omega arith
+
+length_of_writes : (count sector : ℕ) (bytes : List ℕ) → length (writes_of count sector bytes) ≡ count
+length_of_writes zero sector bytes = refl
+length_of_writes (suc count) sector bytes = omega (
+  arith,
+  length_of_writes count sector bytes,
+  length-append (writes_of count sector bytes) (Write (record { sector = sector + count; block = sector_of bytes count }) ∷ []),
+)
+
+run_waits : (old new : Window) (sector count : ℕ) (room filled : List ℕ) → IsRun old new sector count room filled → count ≤ length old.outbox
+run_waits old new sector count room filled run = omega (
+  arith,
+  ap (λ (l : List DeviceCall). length l) run.writes,
+  length-append (writes_of count sector filled) new.outbox,
+  length_of_writes count sector filled,
+)
+
+-- the device is asked for the next
+pub asks_serves : (old new : Machine) (room : List ℕ) (what : DeviceAsk) (filled : List ℕ) → AsksFor old room what new filled → ServesOn old new
+asks_serves old new room ask.Nothing filled asks =
+    subst (λ (s : Machine). ServesOn old s) (sym asks.1) (λ told book serves. serves)
+asks_serves old new room (ask.Write first count) filled asks =
+    handed_serves old new count asks.0
+    (run_waits (medium_of old.disk) (medium_of new.disk) first count room filled asks.2.run)
+asks_serves old new room ask.Flush filled asks = handed_serves old new 1 asks.0 (some_first (medium_of old.disk).outbox Flush asks.1)
+asks_serves old new room (ask.Read home) filled asks =
+    serves_still old new (stays old new (ap (λ (s : Machine). s.disk) asks.3) (omega (
+      arith,
+      ap under_way asks.0,
+      ap (λ (s : Machine). under_way s.asked) asks.3,
+      ap (λ (s : Machine). length (medium_of s.disk).seen.told.taken) asks.3,
+    )))
+    (λ none. inl (sym (ap (λ (s : Machine). s.waiting) asks.3) ∙ none))
+    (ap (λ (s : Machine). has_refused s.asked) asks.3 ∙ sym (ap (λ (a : Asked). has_refused a) asks.0))

@@ -1,0 +1,21 @@
+use Rattle.std.proofs.Common.{◌≡◌, refl, sym, ◌∙◌, ap, Some}
+use Rattle.mirror.specs.OutboxMedium.{first_of}
+use Rattle.mirror.specs.declared.call.DeviceCall.{DeviceCall}
+use Rattle.window.specs.Window.{Window}
+use Rattle.disk_machine.proofs.machine.DiskMachine.ask.Goals as goal
+
+pub returns-in-Some-Flush : goal.returns-in-Some-Flush
+returns-in-Some-Flush c = (
+  record {
+    free = c.requires.free;
+    gone = c.pop.ensures.given;
+    rest = record { others = c.pop.ensures.others; fits = c.pop.ensures.fits };
+    others = refl;
+  },
+  ap (λ (w : Window). first_of w.outbox) (sym c.medium.ensures.is) ∙ sym c.first.ensures ∙ c.in-Some-Flush.is
+      ∙ ap (λ (call : DeviceCall). Some call) c.in-Some-Flush.field-0-is,
+  refl,
+)
+
+pub returns-in-None : goal.returns-in-None
+returns-in-None c = c.ask_to_read.ensures c.args.buffer.now

@@ -1,0 +1,8 @@
+use Rattle.std.proofs.Common.{refl}
+use Rattle.disk_machine.proofs.Hearing.{done_serves}
+use Rattle.disk_machine.proofs.Events.{serves_event}
+use Rattle.disk_machine.proofs.Events.{serves_event}
+use Rattle.disk_machine.proofs.machine.DiskMachine.done.Goals as goal
+
+pub returns-clause-serves : goal.returns-clause-serves
+returns-clause-serves c = λ honest. done_serves _ _ _ _ _ _ refl c.hear-told.ensures c.rest.ensures honest

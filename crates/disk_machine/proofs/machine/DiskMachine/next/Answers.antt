@@ -1,0 +1,5 @@
+use Rattle.disk_machine.proofs.Handing.{asks_serves}
+use Rattle.disk_machine.proofs.machine.DiskMachine.next.Goals as goal
+
+pub returns-in-Nothing-clause-serves : goal.returns-in-Nothing-clause-serves
+returns-in-Nothing-clause-serves c = asks_serves _ _ _ _ _ c.ask.ensures

@@ -1,0 +1,4 @@
+pub mod Asking
+pub mod BookLaws
+pub mod Machine
+pub mod Moves

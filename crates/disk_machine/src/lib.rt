@@ -1,0 +1,18 @@
+//! A disk that says what its device is to do next, while packets come.
+#![tactic(auto)]
+
+mod ask;
+mod asked;
+mod device;
+mod done_fault;
+mod lack;
+mod machine;
+mod told;
+mod waiting;
+
+pub use ask::DeviceAsk;
+pub use asked::Asked;
+pub use done_fault::DoneFault;
+pub use lack::Lack;
+pub use machine::DiskMachine;
+pub use waiting::Waiting;

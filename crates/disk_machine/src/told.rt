@@ -1,0 +1,101 @@
+//! What the device tells of what it was asked for.
+ghost use Rattle.std.specs.Prelude.{◌≡◌};
+ghost use Rattle.disk_machine.specs.Asking.{IsDone, IsHonest, HasRead, IsGivenUp, IsShownTo};
+ghost use Rattle.disk_machine.specs.Asking.{counted};
+ghost use Rattle.disk_machine.specs.Moves.{ServesOn, ServesAtRest};
+
+use crate::asked::Asked;
+use crate::done_fault::DoneFault;
+use crate::lack::Lack;
+use crate::machine::DiskMachine;
+use crate::waiting::Waiting;
+use disk_calls::{refuse, show_sectors};
+use scsi_unit::HomeSectors;
+
+const SECTOR: usize = 512;
+
+impl DiskMachine {
+    /// What the device was asked for last has ended, good or not; of a read these are the bytes of
+    /// the sectors, and of other calls no bytes are looked at. Writes that ended good need not be
+    /// durable before the next flush has. A call that it refused is its last: it is asked for
+    /// nothing more, and the disk is faulted.
+    ///
+    /// # Errors
+    /// `NothingAsked` where the device is at no call, and `BadLength` where the bytes are not as
+    /// many as those of the sectors that it was to read. Nothing changes then.
+    pub fn done(&mut self, ok: bool, bytes: &[u8]) -> Result<(), DoneFault>
+        ensures is { IsDone self.old.asked ok self.old bytes.now result self.new }
+        ensures serves { IsHonest self.old ok bytes.now → ServesOn self.old self.new }
+        ensures rest { ServesAtRest self.new }
+    {
+        let told = self.hear(ok, bytes);
+        self.rest();
+        told
+    }
+
+    // The same, of which nothing is said where the device has carried out all.
+    fn hear(&mut self, ok: bool, bytes: &[u8]) -> Result<(), DoneFault>
+        ensures { IsDone self.old.asked ok self.old bytes.now result self.new }
+    {
+        match self.asked {
+            Asked::Nothing | Asked::Refused(_, _) => Err(DoneFault::NothingAsked),
+            Asked::Read(home) => self.take_read(home, ok, bytes),
+            Asked::Calls(count) => {
+                if ok {
+                    self.count();
+                } else {
+                    self.give_up(count);
+                }
+                Ok(())
+            }
+        }
+    }
+
+    // The calls that the device was asked for are carried out.
+    fn count(&mut self)
+        ensures { self.new ≡ counted self.old }
+    {
+        self.asked = Asked::Nothing;
+        if self.disk.medium().waiting() == 0 {
+            self.waiting = Waiting::Nothing;
+        }
+    }
+
+    // The device refused so many calls.
+    fn give_up(&mut self, count: usize)
+        ensures { IsGivenUp self.old count self.new }
+    {
+        let behind = self.disk.medium().waiting();
+        refuse(&mut self.disk);
+        self.asked = Asked::Refused(count, behind);
+        self.waiting = Waiting::Nothing;
+    }
+
+    // A read of these sectors has ended, good or not.
+    fn take_read(&mut self, home: HomeSectors, ok: bool, bytes: &[u8]) -> Result<(), DoneFault>
+        ensures { HasRead home ok self.old bytes.now result self.new }
+    {
+        if !ok {
+            self.asked = Asked::Nothing;
+            self.lack = Lack::Unread(home);
+            return Ok(());
+        }
+        if bytes.len() != SECTOR * home.count as usize {
+            return Err(DoneFault::BadLength);
+        }
+        self.show(home, bytes);
+        Ok(())
+    }
+
+    // The device read these sectors. Those that the disk does not take count as unread.
+    fn show(&mut self, home: HomeSectors, bytes: &[u8])
+        ensures { IsShownTo self.old home bytes.now self.new }
+    {
+        self.asked = Asked::Nothing;
+        self.lack = if show_sectors(&mut self.disk, home.first, bytes) {
+            Lack::Nothing
+        } else {
+            Lack::Unread(home)
+        };
+    }
+}
