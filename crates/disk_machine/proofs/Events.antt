@@ -1,5 +1,5 @@
 -- One event of the disk, wherever the device is.
-use Rattle.std.proofs.Common.{◌≡◌, ◌⊎◌, ◌≤◌, ◌<◌, ◌++◌, inl, inr, List, ℕ, Bool, true, length, take, refl, sym, ◌∙◌, ap, subst, arith, append_assoc}
+use Rattle.std.proofs.Common.{◌≡◌, ◌⊎◌, ◌≤◌, ◌<◌, ◌++◌, inl, inr, List, ℕ, Bool, true, false, length, take, refl, sym, ◌∙◌, ap, subst, arith, append_assoc}
 use Rattle.std.proofs.lemmas.Bool.{cases_lt}
 use Rattle.std.proofs.lemmas.List.{take-append-le}
 use Rattle.medium.specs.Medium.{Image, CutLeaves}
@@ -21,10 +21,11 @@ use Rattle.scsi_unit.specs.UnitValue.{state_of as unit_state}
 use Rattle.bot_machine.specs.Disk.{FitsDisk, Proceeds, over}
 use Rattle.bot_machine.specs.Promising.{PromisesNone}
 use Rattle.disk_calls.specs.Plays.{Disk, medium_of, Plays}
-use Rattle.disk_machine.specs.Machine.{Machine, MayLeave, Finds, Keeps, Serves, IsCaughtUp, has_refused, under_way, carried}
-use Rattle.disk_machine.specs.Moves.{ServesAtRest, ServesEvent}
+use Rattle.disk_machine.specs.Machine.{Machine, MayLeave, Finds, Keeps, Serves, has_refused, under_way, carried}
+use Rattle.disk_machine.specs.Moves.{ServesEvent}
 use Rattle.disk_machine.specs.declared.asked.Asked.{Asked}
 use Rattle.disk_machine.specs.declared.waiting.Waiting.TheVariants as waiting
+use Rattle.disk_machine.proofs.Standing.{KeepsAll}
 use Rattle.disk_machine.proofs.StepLaws.{faulted_stays, mark_stays, mark_grows, finds_on, finds_with}
 
 module _ (old new : Machine) (event : Event) (answer : Answer) (plays : Plays old.disk event answer new.disk) (same : new.asked ≡ old.asked) where
@@ -88,11 +89,11 @@ module _ (old new : Machine) (event : Event) (answer : Answer) (plays : Plays ol
     keeps_all none kept = subst (λ (n : ℕ). Keeps new n later) (sym (mark_stays refused before behind event answer by_rules none))
         (keeps book.mark (omega arith) kept)
 
-  -- no promise is made, or the device has carried out all
-  pub serves_event : (new.waiting ≡ waiting.Nothing → ((old.waiting ≡ waiting.Nothing) × ((book : Book)
-      → FitsDisk (state_of (medium_of old.disk)) old.disk book → PromisesNone (over old.disk book) event)) ⊎ IsCaughtUp new)
-      → ServesAtRest new → ServesEvent old event answer new
-  serves_event waits rest told book serves =
+  -- where it refused nothing: no promise is made, or all is kept
+  pub serves_event : (new.waiting ≡ waiting.Nothing → has_refused new.asked ≡ false → ((old.waiting ≡ waiting.Nothing) × ((book : Book)
+      → FitsDisk (state_of (medium_of old.disk)) old.disk book → PromisesNone (over old.disk book) event)) ⊎ KeepsAll new)
+      → ServesEvent old event answer new
+  serves_event waits told book serves =
       let fits = serves.fits in
       let still : has_refused new.asked ≡ has_refused old.asked = ap (λ (a : Asked). has_refused a) same in (
         refused book fits,
@@ -102,9 +103,9 @@ module _ (old new : Machine) (event : Event) (answer : Answer) (plays : Plays ol
           fits = (plays.step.proceeds book fits).fits;
           fewer = omega (arith, serves.fewer, grows book fits);
           keeps = keeps book fits told serves.fewer serves.keeps;
-          all = λ none fine. elim (waits none) [
+          all = λ none fine. elim (waits none fine) [
             | inl before ↦ keeps_all book fits (before.1 book fits) (serves.all before.0 (sym still ∙ fine))
-            | inr up ↦ (rest up (later book fits) (plays.step.proceeds book fits).fits).keeps
+            | inr kept ↦ kept (later book fits) (plays.step.proceeds book fits).fits
           ];
           faulted = λ gone. (faulted_stays (refused book fits) (before book fits) (behind book fits) event answer (by_rules book fits)
               (serves.faulted (sym still ∙ gone))).0;

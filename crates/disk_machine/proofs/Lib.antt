@@ -6,3 +6,4 @@ pub mod Events
 pub mod StepParts
 pub mod StepBooks
 pub mod StepLaws
+pub mod Playing

@@ -2,3 +2,4 @@ pub mod Asking
 pub mod BookLaws
 pub mod Machine
 pub mod Moves
+pub mod Packets

@@ -7,6 +7,8 @@ mod device;
 mod done_fault;
 mod lack;
 mod machine;
+mod packets;
+mod tokens;
 mod told;
 mod waiting;
 

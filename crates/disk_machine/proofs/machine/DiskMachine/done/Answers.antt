@@ -1,7 +1,5 @@
 use Rattle.std.proofs.Common.{refl}
 use Rattle.disk_machine.proofs.Hearing.{done_serves}
-use Rattle.disk_machine.proofs.Events.{serves_event}
-use Rattle.disk_machine.proofs.Events.{serves_event}
 use Rattle.disk_machine.proofs.machine.DiskMachine.done.Goals as goal
 
 pub returns-clause-serves : goal.returns-clause-serves

@@ -1,0 +1,118 @@
+-- Packets, tokens, requests and steps, wherever the device is.
+use Rattle.std.proofs.Common.{◌≡◌, ◌⊎◌, ◌≤◌, inl, inr, [], ◌∷◌, List, ℕ, Bool, true, false, ◌&&◌, refl, sym, ◌∙◌, ap, subst, arith}
+use Rattle.mirror.specs.declared.call.DeviceCall.{DeviceCall}
+use Rattle.window.specs.Window.{state_of}
+use Rattle.spec.specs.Book.{Book}
+use Rattle.spec.specs.Conversation.{Conversation}
+use Rattle.spec.specs.Rules.{UnitState, Ticks}
+use Rattle.spec.specs.UnitConversation.{UnitStep}
+use Rattle.spec.specs.declared.event.Event.{Event}
+use Rattle.spec.specs.declared.event.Event.TheVariants as event
+use Rattle.spec.specs.declared.event.Answer.{Answer}
+use Rattle.spec.specs.declared.event.Answer.TheVariants as answer
+use Rattle.bot_machine.specs.Acts.{EventCarriesOut}
+use Rattle.bot_machine.specs.Disk.{over}
+use Rattle.disk_calls.specs.Plays.{Disk, medium_of, Plays}
+use Rattle.disk_machine.specs.Machine.{Machine, Serves, IsCaughtUp, has_refused, under_way}
+use Rattle.disk_machine.specs.Moves.{ServesAtRest, ServesOn, ServesEvent, ServesToken}
+use Rattle.disk_machine.specs.Packets.{PlaysOut, ServesOut, is_behind, waits_for}
+use Rattle.disk_machine.specs.declared.asked.Asked.{Asked}
+use Rattle.disk_machine.specs.declared.asked.Asked.TheVariants as asked
+use Rattle.disk_machine.specs.declared.waiting.Waiting.{Waiting}
+use Rattle.disk_machine.specs.declared.waiting.Waiting.TheVariants as waiting
+use Rattle.disk_machine.proofs.Standing.{keeps_all}
+use Rattle.disk_machine.proofs.Events.{serves_event}
+
+-- ---- a packet
+
+-- nothing waits since nothing promises, or since the device is not behind
+not_waiting : (promises behind : Bool) (was : Waiting) → waits_for (promises && behind) was ≡ waiting.Nothing
+    → ((promises ≡ false) × (was ≡ waiting.Nothing)) ⊎ (behind ≡ false)
+not_waiting false behind was none = inl (refl, none)
+not_waiting true false was none = inr refl
+not_waiting true true was none = cc
+
+not_behind : (a : Asked) (calls : List DeviceCall) → is_behind a calls ≡ false → has_refused a ≡ false → (calls ≡ []) × (under_way a ≡ 0)
+not_behind asked.Nothing [] is fine = (refl, refl)
+not_behind asked.Nothing (call ∷ calls) is fine = cc
+not_behind (asked.Calls count) calls is fine = cc
+not_behind (asked.Read home) [] is fine = (refl, refl)
+not_behind (asked.Read home) (call ∷ calls) is fine = cc
+not_behind (asked.Refused count left) calls is fine = cc
+
+pub out_serves : (old new : Machine) (packet : List ℕ) (code : ℕ) → PlaysOut old packet new code → ServesAtRest new
+    → ServesOut old packet new code
+out_serves old new packet code plays rest =
+    let same : new.asked ≡ old.asked = ap (λ (s : Machine). s.asked) plays.others in (
+      plays,
+      serves_event old new (event.Out (record { items = packet })) plays.answer plays.plays same (λ none fine. elim
+          (not_waiting plays.promises (is_behind old.asked (medium_of new.disk).outbox) old.waiting
+          (sym (ap (λ (s : Machine). s.waiting) plays.others) ∙ none)) [
+            | inl before ↦ inl (before.1, plays.none before.0)
+            | inr there ↦
+                let up = not_behind old.asked (medium_of new.disk).outbox there (sym (ap (λ (a : Asked). has_refused a) same) ∙ fine) in
+                inr (keeps_all new rest (record {
+                  none_waits = up.0;
+                  none_under_way = ap (λ (a : Asked). under_way a) same ∙ up.1;
+                  none_refused = fine;
+                }))
+          ]),
+    )
+
+-- ---- an event in which no command is carried out
+
+module _ (old new : Machine) (event : Event) (answer : Answer) (plays : Plays old.disk event answer new.disk)
+    (others : new ≡ record old { disk = new.disk })
+    (none : (book : Book) (block taken : List ℕ) → EventCarriesOut (over old.disk book) event block taken → ⊥) where
+  pub quiet_serves : ServesEvent old event answer new
+  quiet_serves = serves_event old new event answer plays (ap (λ (s : Machine). s.asked) others)
+      (λ nothing fine. inl (
+        sym (ap (λ (s : Machine). s.waiting) others) ∙ nothing,
+        λ book fits block taken carried_out. absurd (none book block taken carried_out),
+      ))
+
+-- all that is promised is told
+all_told : (s : Machine) (told : ℕ) (book : Book) → Serves s told book → s.waiting ≡ waiting.Nothing → has_refused s.asked ≡ false
+    → Serves s book.mark book
+all_told s told book serves none fine = record {
+  fits = serves.fits;
+  fewer = omega arith;
+  keeps = serves.all none fine;
+  all = serves.all;
+  faulted = serves.faulted;
+}
+
+-- ---- a token
+
+module _ (old new : Machine) (answer : Answer) (plays : Plays old.disk event.In answer new.disk)
+    (others : new ≡ record old { disk = new.disk }) where
+  one_token : (told : ℕ) (book : Book) → Serves old told book
+      → UnitStep false (over old.disk book) event.In answer (over new.disk book) × Serves new told book
+  one_token told book serves =
+      let played = quiet_serves old new event.In answer plays others (λ book block taken carried_out. carried_out) told book serves in
+      let same : played.1 ≡ book = ap (λ (s : Conversation UnitState). s.unit.book) played.2.1 in (
+        subst (λ (b : Book). UnitStep false (over old.disk book) event.In answer (over new.disk b)) same played.2,
+        subst (λ (b : Book). Serves new told b) same played.3,
+      )
+
+  pub token_serves : old.waiting ≡ waiting.Nothing → ServesToken old answer new
+  token_serves none told book serves =
+      let played = one_token told book serves in (
+        played.0,
+        played.1,
+        λ fine. (one_token book.mark book (all_told old told book serves none
+            (sym (ap (λ (s : Machine). has_refused s.asked) others) ∙ fine))).1,
+      )
+
+-- ---- a step in the background
+
+module _ (old new : Machine) (plays : Plays old.disk event.Tick answer.Ticked new.disk) (others : new ≡ record old { disk = new.disk }) where
+  same_book : (refused : Bool) (was now : UnitState) → Ticks refused was now → now.book ≡ was.book
+  same_book refused was now (inl same) = ap (λ (u : UnitState). u.book) same
+  same_book refused was now (inr faulted) = ap (λ (u : UnitState). u.book) faulted.after
+
+  pub tick_serves : ServesOn old new
+  tick_serves told book serves =
+      let played = quiet_serves old new event.Tick answer.Ticked plays others (λ book block taken carried_out. carried_out) told book serves in
+      let same : played.1 ≡ book = same_book played.0 (over old.disk book).unit (over new.disk played.1).unit played.2.1 in
+      subst (λ (b : Book). Serves new told b) same played.3

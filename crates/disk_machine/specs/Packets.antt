@@ -1,0 +1,121 @@
+-- What packets do to a machine.
+use Rattle.std.specs.Prelude.{◌≡◌, ◌≢◌, ◌⊎◌, ℕ, ◌<◌, ◌≤◌, Bool, true, false, ◌&&◌, if◌then◌else◌}
+use Rattle.std.specs.Prelude.{List, [], ◌∷◌, length}
+use Rattle.mirror.specs.declared.call.DeviceCall.{DeviceCall}
+use Rattle.window.specs.Window.{state_of}
+use Rattle.spec.specs.Book.{Book}
+use Rattle.spec.specs.declared.event.Event.{Event}
+use Rattle.spec.specs.declared.event.Event.TheVariants as event
+use Rattle.spec.specs.declared.event.Answer.{Answer}
+use Rattle.scsi_unit.specs.declared.reading.HomeSectors.{HomeSectors}
+use Rattle.bot_machine.specs.Disk.{FitsDisk, over}
+use Rattle.bot_machine.specs.Promising.{PromisesIn, PromisesNone}
+use Rattle.disk_calls.specs.Codes.{TOO_LONG, code_of}
+use Rattle.disk_calls.specs.Plays.{medium_of, Plays, Tells}
+use Rattle.disk_calls.specs.Wanted.{Wants, WantsNone}
+use Rattle.disk_machine.specs.Machine.{Machine}
+use Rattle.disk_machine.specs.Moves.{ServesOn, ServesEvent, ServesToken}
+use Rattle.disk_machine.specs.declared.asked.Asked.{Asked}
+use Rattle.disk_machine.specs.declared.asked.Asked.TheVariants as asked
+use Rattle.disk_machine.specs.declared.lack.Lack.TheVariants as lack
+use Rattle.disk_machine.specs.declared.waiting.Waiting.{Waiting}
+use Rattle.disk_machine.specs.declared.waiting.Waiting.TheVariants as waiting
+
+-- ---- whether a packet is taken
+
+-- the device reads
+abbrev pub is_reading : Asked → Bool
+is_reading asked.Nothing = false
+is_reading (asked.Calls count) = false
+is_reading (asked.Read home) = true
+is_reading (asked.Refused count left) = false
+
+-- it has not carried out all that the start made
+abbrev pub is_starting : Waiting → Bool
+is_starting waiting.Nothing = false
+is_starting waiting.Promise = false
+is_starting waiting.Start = true
+
+-- No packet to Bulk-Out is taken now: the device has not carried out the calls of the start, or it
+-- reads, or so many calls wait that those of a packet might have no room.
+abbrev pub HoldsBack : Machine → Type 0
+HoldsBack s = (is_starting s.waiting ≡ true) ⊎ ((is_reading s.asked ≡ true)
+    ⊎ (s.most < length (medium_of s.disk).outbox))
+
+-- the packet is not taken before the device has read these home sectors
+abbrev pub Lacks : Machine → List ℕ → HomeSectors → Type 0
+Lacks s packet home = Wants s.disk packet home.first home.count × (s.lack ≢ lack.Unread home)
+
+-- what the packet has read is in sight, or the device could not read it when it was asked
+abbrev pub LacksNone : Machine → List ℕ → Type 0
+LacksNone s packet = WantsNone s.disk packet
+    ⊎ ((home : HomeSectors) × Wants s.disk packet home.first home.count
+    × (s.lack ≡ lack.Unread home))
+
+-- ---- what a packet does
+
+-- the device has told none of its calls refused, and not all of them done
+abbrev pub is_behind : Asked → List DeviceCall → Bool
+is_behind (asked.Refused count left) calls = false
+is_behind (asked.Calls count) calls = true
+is_behind (asked.Read home) [] = false
+is_behind (asked.Read home) (call ∷ calls) = true
+is_behind asked.Nothing [] = false
+is_behind asked.Nothing (call ∷ calls) = true
+
+-- a status that promises waits where the device is behind
+abbrev pub waits_for : Bool → Waiting → Waiting
+waits_for true was = waiting.Promise
+waits_for false was = was
+
+-- A packet is played, once. Where a command is carried out that promises, its status waits for a
+-- device that is behind.
+pub record PlaysOut (old : Machine) (packet : List ℕ) (new : Machine) (code : ℕ) : Type 0 where
+  pub answer : Answer
+  pub plays : Plays old.disk (event.Out (record { items = packet })) answer new.disk
+  pub code_is : code ≡ code_of answer
+  pub promises : Bool
+  pub none : promises ≡ false → (book : Book)
+      → FitsDisk (state_of (medium_of old.disk)) old.disk book
+      → PromisesNone (over old.disk book) (event.Out (record { items = packet }))
+  pub some : promises ≡ true → (book : Book)
+      → FitsDisk (state_of (medium_of old.disk)) old.disk book
+      → PromisesIn (over old.disk book) (event.Out (record { items = packet }))
+  pub others : new ≡ record old {
+    disk = new.disk;
+    waiting = waits_for (promises && is_behind old.asked (medium_of new.disk).outbox) old.waiting;
+    lack = lack.Nothing;
+  }
+
+-- the same, by the rules, and each life that is served is served on
+abbrev pub ServesOut : Machine → List ℕ → Machine → ℕ → Type 0
+ServesOut old packet new code = (plays : PlaysOut old packet new code)
+    × ServesEvent old (event.Out (record { items = packet })) plays.answer new
+
+-- A packet to Bulk-Out that is too long changes nothing. One that is not taken now is told to come
+-- again, and the disk does not see it: the sectors that it lacks are to be read. Each other is played.
+pub record TakesOut (old : Machine) (packet : List ℕ) (new : Machine) (code : ℕ) : Type 0 where
+  pub one : ((old.disk.line.packet_size < length packet) × (code ≡ TOO_LONG) × (new ≡ old))
+      ⊎ ((length packet ≤ old.disk.line.packet_size)
+      × ((HoldsBack old × (code ≡ 1) × (new ≡ old))
+      ⊎ ((¬ HoldsBack old) × (((home : HomeSectors) × Lacks old packet home × (code ≡ 1)
+      × (new ≡ record old { lack = lack.Wanted home }) × ServesOn old new)
+      ⊎ (LacksNone old packet × ServesOut old packet new code)))))
+
+-- ---- tokens and requests
+
+-- A token to Bulk-In is told to come again while something waits for the device; else it is played,
+-- and all that is promised is told.
+abbrev pub SendsIn : Machine → List ℕ → Machine → List ℕ → ℕ → ℕ → Type 0
+SendsIn old room new filled size code =
+    ((old.waiting ≢ waiting.Nothing) × (code ≡ 1) × (new ≡ old) × (filled ≡ room) × (size ≡ 0))
+    ⊎ ((old.waiting ≡ waiting.Nothing) × ((answer : Answer)
+    × Plays old.disk event.In answer new.disk × Tells answer room filled size code
+    × (new ≡ record old { disk = new.disk }) × ServesToken old answer new))
+
+-- a request is answered at any time
+abbrev pub AnswersSetup : Machine → List ℕ → List ℕ → Machine → List ℕ → ℕ → ℕ → Type 0
+AnswersSetup old packet room new filled size code = (answer : Answer)
+    × Plays old.disk (event.Setup packet) answer new.disk × Tells answer room filled size code
+    × (new ≡ record old { disk = new.disk })
+    × ServesEvent old (event.Setup packet) answer new

@@ -1,0 +1,116 @@
+//! What a machine does with a packet to Bulk-Out.
+ghost use Rattle.std.specs.Prelude.{◌≡◌, ◌≤◌, ◌⊎◌, ◌↔◌, IsTrue, MatchOption, length};
+ghost use Rattle.disk_calls.specs.Plays.{medium_of};
+ghost use Rattle.disk_machine.specs.Packets.{HoldsBack, Lacks, LacksNone, PlaysOut, TakesOut};
+ghost use Rattle.disk_machine.specs.Packets.{is_behind, is_reading, is_starting};
+ghost use Rattle.disk_machine.specs.declared.lack.Lack.TheVariants as lack;
+
+use crate::asked::Asked;
+use crate::lack::Lack;
+use crate::machine::DiskMachine;
+use crate::waiting::Waiting;
+use disk_calls::{NAK, TOO_LONG, play_packet, unseen};
+use scsi_unit::HomeSectors;
+
+impl DiskMachine {
+    /// A packet to Bulk-Out, and the number of its answer. It is told to come again while the
+    /// device carries out the calls of the start, reads, or is so far behind that those of a packet
+    /// might have no room; and before a READ whose sectors the device is to read first.
+    pub fn out(&mut self, packet: &[u8]) -> u32
+        ensures { TakesOut self.old packet.now self.new result }
+    {
+        if packet.len() > self.disk.packet_size() as usize {
+            return TOO_LONG;
+        }
+        if self.holds_back() {
+            return NAK;
+        }
+        match self.lacks(packet) {
+            Some(home) => {
+                self.lack = Lack::Wanted(home);
+                NAK
+            }
+            None => {
+                let code = self.play(packet);
+                self.rest();
+                code
+            }
+        }
+    }
+
+    // Plays a packet. A status that promises waits for a device that is behind.
+    fn play(&mut self, packet: &[u8]) -> u32
+        requires { length packet.now ≤ self.old.disk.line.packet_size }
+        ensures { PlaysOut self.old packet.now self.new result }
+    {
+        let promises = self.disk.promises(packet);
+        let code = play_packet(&mut self.disk, packet);
+        self.lack = Lack::Nothing;
+        if promises && self.is_behind() {
+            self.waiting = Waiting::Promise;
+        }
+        code
+    }
+
+    // Whether no packet is taken now.
+    fn holds_back(&self) -> bool
+        ensures { IsTrue result ↔ HoldsBack self.now }
+    {
+        self.is_starting() || self.is_reading() || self.disk.medium().waiting() > self.most
+    }
+
+    // Whether the device has not carried out all that the start made.
+    pub(crate) fn is_starting(&self) -> bool
+        ensures { result ≡ is_starting self.now.waiting }
+    {
+        match self.waiting {
+            Waiting::Nothing | Waiting::Promise => false,
+            Waiting::Start => true,
+        }
+    }
+
+    // Whether the device reads.
+    pub(crate) fn is_reading(&self) -> bool
+        ensures { result ≡ is_reading self.now.asked }
+    {
+        match self.asked {
+            Asked::Nothing | Asked::Calls(_) | Asked::Refused(_, _) => false,
+            Asked::Read(_) => true,
+        }
+    }
+
+    // Whether the device has told none of its calls refused, and not all of them done.
+    fn is_behind(&self) -> bool
+        ensures { result ≡ is_behind self.now.asked (medium_of self.now.disk).outbox }
+    {
+        match self.asked {
+            Asked::Refused(_, _) => false,
+            Asked::Calls(_) => true,
+            Asked::Read(_) | Asked::Nothing => self.disk.medium().waiting() > 0,
+        }
+    }
+
+    // The home sectors that the device is to read before this packet is taken.
+    fn lacks(&self, packet: &[u8]) -> Option<HomeSectors>
+        ensures { MatchOption result (LacksNone self.now packet.now) (Lacks self.now packet.now) }
+    {
+        let Some((first, count)) = unseen(&self.disk, packet) else {
+            return None;
+        };
+        let home = HomeSectors { first, count };
+        if self.is_unread(home) {
+            return None;
+        }
+        Some(home)
+    }
+
+    // Whether the device could not read these home sectors when it was asked.
+    fn is_unread(&self, home: HomeSectors) -> bool
+        ensures { IsTrue result ↔ (self.now.lack ≡ lack.Unread home) }
+    {
+        match self.lack {
+            Lack::Unread(unread) => unread == home,
+            Lack::Nothing | Lack::Wanted(_) => false,
+        }
+    }
+}
