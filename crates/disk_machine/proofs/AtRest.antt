@@ -1,5 +1,5 @@
 -- A device that has carried out all.
-use Rattle.std.proofs.Common.{◌≡◌, ◌≤◌, ℕ, ◌++◌, inl, true, length, arith, subst, sym, ap, length-append}
+use Rattle.std.proofs.Common.{◌≡◌, ◌≤◌, inl, true, length, arith, ap, length-append}
 use Rattle.std.specs.Prelude.{List}
 use Rattle.medium.specs.Medium.{Image}
 use Rattle.medium.specs.Moments.{EachCut}
@@ -12,7 +12,7 @@ use Rattle.scsi_unit.specs.Books.{MayFind}
 use Rattle.bot_machine.specs.Disk.{FitsDisk}
 use Rattle.disk_calls.specs.Parts.{CoversParts}
 use Rattle.disk_calls.specs.Plays.{medium_of}
-use Rattle.disk_machine.specs.Machine.{Machine, MayLeave, Keeps, Serves, IsCaughtUp}
+use Rattle.disk_machine.specs.Machine.{Machine, MayLeave, Keeps, IsCaughtUp}
 use Rattle.disk_machine.specs.Moves.{ServesAtRest}
 
 module _ (s : Machine) (parts : (new : Window) → ComesAfter (medium_of s.disk) new → CoversParts (medium_of s.disk) new)

@@ -1,5 +1,5 @@
 -- One event of the disk, wherever the device is.
-use Rattle.std.proofs.Common.{◌≡◌, ◌⊎◌, ◌≤◌, ◌<◌, ◌++◌, inl, inr, List, ℕ, Bool, true, false, length, take, refl, sym, ◌∙◌, ap, subst, arith, append_assoc}
+use Rattle.std.proofs.Common.{◌≡◌, ◌⊎◌, ◌≤◌, ◌++◌, inl, inr, List, ℕ, Bool, true, false, length, take, sym, ◌∙◌, ap, subst, arith, append_assoc}
 use Rattle.std.proofs.lemmas.Bool.{cases_lt}
 use Rattle.std.proofs.lemmas.List.{take-append-le}
 use Rattle.medium.specs.Medium.{Image, CutLeaves}
@@ -12,16 +12,14 @@ use Rattle.window.specs.Window.{state_of, mirror_of}
 use Rattle.spec.specs.Book.{Book}
 use Rattle.spec.specs.Conversation.{Conversation}
 use Rattle.spec.specs.Rules.{UnitState}
-use Rattle.spec.specs.UnitConversation.{UnitStep, write_of_event}
+use Rattle.spec.specs.UnitConversation.{UnitStep}
 use Rattle.spec.specs.declared.event.Event.{Event}
 use Rattle.spec.specs.declared.event.Answer.{Answer}
-use Rattle.scsi_unit.specs.Books.{FoundWith}
 use Rattle.scsi_unit.specs.Serving as serving
-use Rattle.scsi_unit.specs.UnitValue.{state_of as unit_state}
-use Rattle.bot_machine.specs.Disk.{FitsDisk, Proceeds, over}
+use Rattle.bot_machine.specs.Disk.{FitsDisk, over}
 use Rattle.bot_machine.specs.Promising.{PromisesNone}
-use Rattle.disk_calls.specs.Plays.{Disk, medium_of, Plays}
-use Rattle.disk_machine.specs.Machine.{Machine, MayLeave, Finds, Keeps, Serves, has_refused, under_way, carried}
+use Rattle.disk_calls.specs.Plays.{medium_of, Plays}
+use Rattle.disk_machine.specs.Machine.{Machine, MayLeave, Finds, Keeps, has_refused, under_way, carried}
 use Rattle.disk_machine.specs.Moves.{ServesEvent}
 use Rattle.disk_machine.specs.declared.asked.Asked.{Asked}
 use Rattle.disk_machine.specs.declared.waiting.Waiting.TheVariants as waiting

@@ -1,6 +1,6 @@
 -- Calls leave the outbox, and are under way.
 use Rattle.std.proofs.Common.{◌≡◌, ◌≤◌, ◌<◌, ◌+◌, ◌++◌, ◌∷◌, [], ℕ, zero, suc, length, List, inl, refl, sym, ◌∙◌, ap, subst, arith}
-use Rattle.std.proofs.Common.{append_assoc, length-append, add-one}
+use Rattle.std.proofs.Common.{append_assoc, length-append}
 use Rattle.std.specs.Prelude.{Some}
 use Rattle.medium.specs.Medium.{Image}
 use Rattle.medium.specs.Writes.{sector_of}

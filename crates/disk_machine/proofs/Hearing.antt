@@ -1,28 +1,24 @@
 -- What the device was asked for has ended.
-use Rattle.std.proofs.Common.{◌≡◌, ◌⊎◌, ◌≤◌, ◌+◌, ◌/◌, ◌*◌, inl, inr, [], ◌∷◌, List, ℕ, Bool, true, false, length, refl, sym, ◌∙◌, ap, subst, arith}
+use Rattle.std.proofs.Common.{◌≡◌, ◌⊎◌, ◌≤◌, ◌/◌, inl, inr, [], ◌∷◌, List, ℕ, Bool, true, false, length, refl, sym, ◌∙◌, ap, subst, arith}
 use Rattle.std.specs.Prelude.{Result}
 use Rattle.std.proofs.lemmas.Bool.{false≢true}
-use Rattle.medium.specs.Medium.{Image}
 use Rattle.mirror.specs.declared.call.DeviceCall.{DeviceCall}
 use Rattle.window.specs.Window.{Window, state_of, moved}
 use Rattle.inlet.specs.Inlet.{AreHeld}
 use Rattle.spec.specs.Book.{Book}
-use Rattle.spec.specs.Rules.{UnitState}
 use Rattle.scsi_unit.specs.UnitValue.{state_of as unit_state}
 use Rattle.scsi_unit.specs.declared.reading.HomeSectors.{HomeSectors}
-use Rattle.bot_machine.specs.Disk.{IsRearmed}
 use Rattle.store_calls.specs.Outbox.{without}
 use Rattle.disk_calls.specs.Plays.{Disk, medium_of, Sees}
-use Rattle.disk_calls.specs.Refused.{IsRefused}
 use Rattle.disk_machine.specs.Asking.{counted, waits_behind, IsGivenUp, IsShownTo, IsDone, HasRead, HasEnded, IsHonest}
-use Rattle.disk_machine.specs.Machine.{Machine, MayLeave, Finds, Keeps, Serves, IsCaughtUp, has_refused, under_way, carried}
+use Rattle.disk_machine.specs.Machine.{Machine, Finds, has_refused, under_way, carried}
 use Rattle.disk_machine.specs.Moves.{ServesAtRest, ServesOn}
 use Rattle.disk_machine.specs.declared.asked.Asked.{Asked}
 use Rattle.disk_machine.specs.declared.asked.Asked.TheVariants as asked
 use Rattle.disk_machine.specs.declared.done_fault.DoneFault.{DoneFault}
 use Rattle.disk_machine.specs.declared.waiting.Waiting.{Waiting}
 use Rattle.disk_machine.specs.declared.waiting.Waiting.TheVariants as waiting
-use Rattle.disk_machine.proofs.Standing.{Stands, keeps_all, serves_still}
+use Rattle.disk_machine.proofs.Standing.{keeps_all, serves_still}
 use Rattle.disk_machine.proofs.Handing.{IsSentStill, some_go, taken_by, leaves_no_more, stays}
 use Rattle.disk_machine.proofs.StepLaws.{finds_same}
 

@@ -1,7 +1,6 @@
 -- Packets, tokens, requests and steps, wherever the device is.
-use Rattle.std.proofs.Common.{◌≡◌, ◌⊎◌, ◌≤◌, inl, inr, [], ◌∷◌, List, ℕ, Bool, true, false, ◌&&◌, refl, sym, ◌∙◌, ap, subst, arith}
+use Rattle.std.proofs.Common.{◌≡◌, ◌⊎◌, inl, inr, [], ◌∷◌, List, ℕ, zero, suc, Bool, true, false, ◌&&◌, refl, sym, ◌∙◌, ap, subst, arith}
 use Rattle.mirror.specs.declared.call.DeviceCall.{DeviceCall}
-use Rattle.window.specs.Window.{state_of}
 use Rattle.spec.specs.Book.{Book}
 use Rattle.spec.specs.Conversation.{Conversation}
 use Rattle.spec.specs.Rules.{UnitState, Ticks}
@@ -13,7 +12,8 @@ use Rattle.spec.specs.declared.event.Answer.TheVariants as answer
 use Rattle.bot_machine.specs.Acts.{EventCarriesOut}
 use Rattle.bot_machine.specs.Disk.{over}
 use Rattle.disk_calls.specs.Plays.{Disk, medium_of, Plays}
-use Rattle.disk_machine.specs.Machine.{Machine, Serves, IsCaughtUp, has_refused, under_way}
+use Rattle.disk_machine.specs.Machine.{Machine, Serves, has_refused, under_way}
+use Rattle.disk_machine.specs.Idling.{StepsOn, MakesSteps}
 use Rattle.disk_machine.specs.Moves.{ServesAtRest, ServesOn, ServesEvent, ServesToken}
 use Rattle.disk_machine.specs.Packets.{PlaysOut, ServesOut, is_behind, waits_for}
 use Rattle.disk_machine.specs.declared.asked.Asked.{Asked}
@@ -116,3 +116,18 @@ module _ (old new : Machine) (plays : Plays old.disk event.Tick answer.Ticked ne
       let played = quiet_serves old new event.Tick answer.Ticked plays others (λ book block taken carried_out. carried_out) told book serves in
       let same : played.1 ≡ book = same_book played.0 (over old.disk book).unit (over new.disk played.1).unit played.2.1 in
       subst (λ (b : Book). Serves new told b) same played.3
+
+abbrev with_disk : Machine → Disk → Machine
+with_disk s disk = record s { disk = disk }
+
+-- steps, one by one
+pub steps_serve : (most count : ℕ) (old : Machine) (new : Disk) → StepsOn most count old.disk new → ServesOn old (with_disk old new)
+steps_serve most zero old new same =
+    subst (λ (d : Disk). ServesOn old (with_disk old d)) (sym same) (λ told book serves. serves)
+steps_serve most (suc count) old new steps = λ told book serves.
+    tick_serves (with_disk old steps.0) (with_disk old new) steps.3 refl told book
+    (steps_serve most count old steps.0 steps.1 told book serves)
+
+pub idle_serves : (old new : Machine) → new ≡ record old { disk = new.disk } → MakesSteps old.most old.disk new.disk → ServesOn old new
+idle_serves old new others made =
+    subst (λ (s : Machine). ServesOn old s) (sym others) (steps_serve old.most made.count old new.disk made.steps)

@@ -1,5 +1,5 @@
 -- A machine whose disk is as it was but for its medium, over a device that leaves no more.
-use Rattle.std.proofs.Common.{◌≡◌, ◌⊎◌, ℕ, refl, sym, ◌∙◌, ap, subst, inl, inr}
+use Rattle.std.proofs.Common.{◌≡◌, ◌⊎◌, ℕ, sym, ◌∙◌, ap, subst, inl, inr}
 use Rattle.medium.specs.Medium.{Image}
 use Rattle.window.specs.Window.{state_of}
 use Rattle.spec.specs.Book.{Book}
@@ -7,7 +7,7 @@ use Rattle.spec.specs.Rules.{UnitState}
 use Rattle.scsi_unit.specs.UnitValue.{state_of as unit_state}
 use Rattle.bot_machine.specs.Disk.{FitsDisk, IsRearmed}
 use Rattle.disk_calls.specs.Plays.{Disk, medium_of}
-use Rattle.disk_machine.specs.Machine.{Machine, MayLeave, Finds, Keeps, Serves, IsCaughtUp, has_refused}
+use Rattle.disk_machine.specs.Machine.{Machine, MayLeave, Finds, Keeps, IsCaughtUp, has_refused}
 use Rattle.disk_machine.specs.Moves.{ServesAtRest, ServesOn}
 use Rattle.disk_machine.specs.declared.waiting.Waiting.TheVariants as waiting
 

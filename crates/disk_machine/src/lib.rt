@@ -5,6 +5,7 @@ mod ask;
 mod asked;
 mod device;
 mod done_fault;
+mod idle;
 mod lack;
 mod machine;
 mod packets;

@@ -48,6 +48,20 @@ impl DiskMachine {
         machine
     }
 
+    /// What the device was asked for last, and has not told done.
+    pub fn asked(&self) -> Asked
+        ensures { result ≡ self.now.asked }
+    {
+        self.asked
+    }
+
+    /// Gives the disk back, wherever its device is.
+    pub fn into_disk(self) -> Disk<WindowMedium>
+        ensures { result ≡ self.disk }
+    {
+        self.disk
+    }
+
     // Does nothing. Where the device has carried out all, each promise stands.
     pub(crate) fn rest(&self)
         ensures { ServesAtRest self.now }

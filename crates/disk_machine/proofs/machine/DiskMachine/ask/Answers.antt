@@ -1,4 +1,4 @@
-use Rattle.std.proofs.Common.{◌≡◌, refl, sym, ◌∙◌, ap, Some}
+use Rattle.std.proofs.Common.{refl, sym, ◌∙◌, ap, Some}
 use Rattle.mirror.specs.OutboxMedium.{first_of}
 use Rattle.mirror.specs.declared.call.DeviceCall.{DeviceCall}
 use Rattle.window.specs.Window.{Window}

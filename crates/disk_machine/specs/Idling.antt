@@ -1,0 +1,53 @@
+-- What a machine does in the background.
+use Rattle.std.specs.Prelude.{◌≡◌, ◌⊎◌, ◌↔◌, ℕ, zero, suc, ◌<◌, ◌≤◌, Bool, true, false, length}
+use Rattle.spec.specs.declared.event.Event.TheVariants as event
+use Rattle.spec.specs.declared.event.Answer.TheVariants as answer
+use Rattle.scsi_unit.specs.Background.{is_dead, steps_left}
+use Rattle.disk_calls.specs.Plays.{Disk, medium_of, Plays}
+use Rattle.disk_machine.specs.Machine.{Machine}
+use Rattle.disk_machine.specs.Packets.{is_reading, is_starting}
+use Rattle.disk_machine.specs.declared.lack.Lack.{Lack}
+use Rattle.disk_machine.specs.declared.lack.Lack.TheVariants as lack
+
+-- a READ lacks sectors that are to be read
+abbrev pub is_wanted : Lack → Bool
+is_wanted lack.Nothing = false
+is_wanted (lack.Wanted home) = true
+is_wanted (lack.Unread home) = false
+
+-- No step is made now: the device has not carried out the calls of the start, or it reads, or is to
+-- read.
+abbrev pub IsHeld : Machine → Type 0
+IsHeld s = (is_starting s.waiting ≡ true)
+    ⊎ ((is_reading s.asked ≡ true) ⊎ (is_wanted s.lack ≡ true))
+
+-- so few calls wait that a step is made
+abbrev pub IsShort : ℕ → Disk → Type 0
+IsShort most disk = (length (medium_of disk).outbox ≤ most) × (length (medium_of disk).outbox < 64)
+
+-- so many steps in the background, one by one, each while few calls wait
+abbrev pub StepsOn : ℕ → ℕ → Disk → Disk → Type 0
+StepsOn most zero old new = new ≡ old
+StepsOn most (suc count) old new = (mid : Disk) × StepsOn most count old mid × IsShort most mid
+    × Plays mid event.Tick answer.Ticked new
+
+-- no step is left, as `Disk::is_settled` tells
+abbrev pub IsAllDone : Disk → Type 0
+IsAllDone disk = (is_dead disk.unit.store.cached ≡ false) × (steps_left disk.unit.store.cached ≡ 0)
+
+-- at most 32 steps, and fewer only where many calls wait or none is left
+pub record MakesSteps (most : ℕ) (old new : Disk) : Type 0 where
+  pub count : ℕ
+  pub few : count ≤ 32
+  pub steps : StepsOn most count old new
+  pub ends : (count ≡ 32) ⊎ (IsAllDone new ⊎ (¬ IsShort most new))
+
+-- steps are made where none is held back
+pub record HasStepped (old new : Machine) : Type 0 where
+  pub held : IsHeld old → new ≡ old
+  pub steps : ¬ IsHeld old → MakesSteps old.most old.disk new.disk
+  pub others : new ≡ record old { disk = new.disk }
+
+-- and whether some are left is told
+abbrev pub Idles : Machine → Machine → Bool → Type 0
+Idles old new left = HasStepped old new × ((left ≡ false) ↔ IsAllDone new.disk)

@@ -1,0 +1,76 @@
+//! What a machine does in the background.
+ghost use Rattle.std.specs.Prelude.{◌≡◌, ◌↔◌, IsTrue};
+ghost use Rattle.disk_machine.specs.Idling.{Idles, HasStepped, IsHeld, IsShort, MakesSteps, is_wanted};
+ghost use Rattle.disk_machine.specs.Moves.{ServesOn};
+
+use crate::lack::Lack;
+use crate::machine::DiskMachine;
+use bot_machine::Disk;
+use disk_calls::make_step;
+use window::WindowMedium;
+
+// How many steps are made at most, so that their writes come in long runs.
+const MOST_STEPS: u32 = 32;
+
+// How many calls wait at most when a step is made.
+const MOST_WAITING: usize = 63;
+
+impl DiskMachine {
+    /// Steps in the background: where no packet comes, and the device is at no read. Whether some
+    /// are left; of a faulted disk some always are.
+    pub fn idle(&mut self) -> bool
+        ensures is { Idles self.old self.new result }
+        ensures serves { ServesOn self.old self.new }
+    {
+        self.step();
+        !self.disk.is_settled()
+    }
+
+    // Steps in the background, where none is held back.
+    fn step(&mut self)
+        ensures is { HasStepped self.old self.new }
+        ensures serves { ServesOn self.old self.new }
+    {
+        if self.is_held() {
+            return;
+        }
+        make_steps(&mut self.disk, self.most);
+    }
+
+    // Whether no step is made now.
+    fn is_held(&self) -> bool
+        ensures { IsTrue result ↔ IsHeld self.now }
+    {
+        self.is_starting() || self.is_reading() || self.is_wanted()
+    }
+
+    // Whether the device is to read sectors that a READ lacks.
+    fn is_wanted(&self) -> bool
+        ensures { result ≡ is_wanted self.now.lack }
+    {
+        match self.lack {
+            Lack::Nothing | Lack::Unread(_) => false,
+            Lack::Wanted(_) => true,
+        }
+    }
+}
+
+// Steps in the background, as long as some are left and few calls wait.
+fn make_steps(disk: &mut Disk<WindowMedium>, most: usize)
+    ensures { MakesSteps most disk.old disk.new }
+{
+    for _made in 0..MOST_STEPS {
+        if disk.is_settled() || !is_short(disk, most) {
+            return;
+        }
+        let _left = make_step(disk);
+    }
+}
+
+// Whether so few calls wait that a step is made.
+fn is_short(disk: &Disk<WindowMedium>, most: usize) -> bool
+    ensures { IsTrue result ↔ IsShort most disk.now }
+{
+    let waiting = disk.medium().waiting();
+    waiting <= most && waiting <= MOST_WAITING
+}
