@@ -1,5 +1,6 @@
 -- One event of the disk, wherever the device is.
-use Rattle.std.proofs.Common.{◌≡◌, ◌⊎◌, ◌≤◌, ◌++◌, inl, inr, List, ℕ, Bool, true, false, length, take, sym, ◌∙◌, ap, subst, arith, append_assoc}
+use Rattle.std.proofs.Common.{◌≡◌, ◌⊎◌, ◌≤◌, ◌++◌, inl, inr, List, ℕ, Bool, true, false, length, take, sym, ◌∙◌, ap, subst, arith}
+use Rattle.std.proofs.Common.{append_assoc}
 use Rattle.std.proofs.lemmas.Bool.{cases_lt}
 use Rattle.std.proofs.lemmas.List.{take-append-le}
 use Rattle.medium.specs.Medium.{Image, CutLeaves}
@@ -26,7 +27,8 @@ use Rattle.disk_machine.specs.declared.waiting.Waiting.TheVariants as waiting
 use Rattle.disk_machine.proofs.Standing.{KeepsAll}
 use Rattle.disk_machine.proofs.StepLaws.{faulted_stays, mark_stays, mark_grows, finds_on, finds_with}
 
-module _ (old new : Machine) (event : Event) (answer : Answer) (plays : Plays old.disk event answer new.disk) (same : new.asked ≡ old.asked) where
+module _ (old new : Machine) (event : Event) (answer : Answer) (plays : Plays old.disk event answer new.disk)
+    (same : new.asked ≡ old.asked) where
   -- what was sent before is the first part of what was sent
   more_sent : sent (mirror_of (medium_of new.disk)) ≡ sent (mirror_of (medium_of old.disk)) ++ given plays.follows.since
   more_sent = (λ i. plays.follows.taken_stays i ++ plays.follows.outbox i)
@@ -36,7 +38,8 @@ module _ (old new : Machine) (event : Event) (answer : Answer) (plays : Plays ol
   as_far = omega (arith, ap under_way same, ap (λ (l : List DeviceCall). length l) plays.follows.taken_stays)
 
   -- a device that has none of what the event sent
-  left_before : (image : Image) → (left : MayLeave new image) → left.count ≤ length (sent (mirror_of (medium_of old.disk))) → MayLeave old image
+  left_before : (image : Image) → (left : MayLeave new image) → left.count ≤ length (sent (mirror_of (medium_of old.disk)))
+      → MayLeave old image
   left_before image left early = record {
     count = left.count;
     done = left.done;

@@ -1,7 +1,7 @@
 -- Calls leave the outbox, and are under way.
 use Rattle.std.proofs.Common.{◌≡◌, ◌≤◌, ◌<◌, ◌+◌, ◌++◌, ◌∷◌, [], ℕ, zero, suc, length, List, inl, refl, sym, ◌∙◌, ap, subst, arith}
 use Rattle.std.proofs.Common.{append_assoc, length-append}
-use Rattle.std.specs.Prelude.{Some}
+use Rattle.std.specs.Prelude.{Some, None}
 use Rattle.medium.specs.Medium.{Image}
 use Rattle.medium.specs.Writes.{sector_of}
 use Rattle.mirror.specs.OutboxMedium.{sent, first_of}
@@ -118,6 +118,10 @@ some_first : (calls : List DeviceCall) (call : DeviceCall) → first_of calls �
 some_first [] call is = cc
 some_first (first ∷ calls) call is = omega arith
 
+pub none_first : (calls : List DeviceCall) → first_of calls ≡ None → calls ≡ []
+none_first [] is = refl
+none_first (call ∷ calls) is = cc
+
 length_of_writes : (count sector : ℕ) (bytes : List ℕ) → length (writes_of count sector bytes) ≡ count
 length_of_writes zero sector bytes = refl
 length_of_writes (suc count) sector bytes = omega (
@@ -126,7 +130,8 @@ length_of_writes (suc count) sector bytes = omega (
   length-append (writes_of count sector bytes) (Write (record { sector = sector + count; block = sector_of bytes count }) ∷ []),
 )
 
-run_waits : (old new : Window) (sector count : ℕ) (room filled : List ℕ) → IsRun old new sector count room filled → count ≤ length old.outbox
+run_waits : (old new : Window) (sector count : ℕ) (room filled : List ℕ) → IsRun old new sector count room filled
+    → count ≤ length old.outbox
 run_waits old new sector count room filled run = omega (
   arith,
   ap (λ (l : List DeviceCall). length l) run.writes,
@@ -135,7 +140,8 @@ run_waits old new sector count room filled run = omega (
 )
 
 -- the device is asked for the next
-pub asks_serves : (old new : Machine) (room : List ℕ) (what : DeviceAsk) (filled : List ℕ) → AsksFor old room what new filled → ServesOn old new
+pub asks_serves : (old new : Machine) (room : List ℕ) (what : DeviceAsk) (filled : List ℕ) → AsksFor old room what new filled
+    → ServesOn old new
 asks_serves old new room ask.Nothing filled asks =
     subst (λ (s : Machine). ServesOn old s) (sym asks.1) (λ told book serves. serves)
 asks_serves old new room (ask.Write first count) filled asks =

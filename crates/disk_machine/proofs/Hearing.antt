@@ -24,7 +24,8 @@ use Rattle.disk_machine.proofs.StepLaws.{finds_same}
 
 -- ---- calls are carried out
 
-waits_or_none : (calls : List DeviceCall) (was : Waiting) → waits_behind calls was ≡ waiting.Nothing → (was ≡ waiting.Nothing) ⊎ (calls ≡ [])
+waits_or_none : (calls : List DeviceCall) (was : Waiting) → waits_behind calls was ≡ waiting.Nothing
+    → (was ≡ waiting.Nothing) ⊎ (calls ≡ [])
 waits_or_none [] was is = inr refl
 waits_or_none (call ∷ calls) was is = inl is
 
@@ -53,7 +54,8 @@ module _ (old new : Machine) (count : ℕ) (was : old.asked ≡ asked.Calls coun
   gone = given_up.refused.emptied.medium
 
   same : IsSentStill (medium_of old.disk) (medium_of new.disk)
-  same = subst (λ (w : Window). IsSentStill (medium_of old.disk) w) (sym gone) (some_go (length (medium_of old.disk).outbox) (medium_of old.disk))
+  same = subst (λ (w : Window). IsSentStill (medium_of old.disk) w) (sym gone)
+      (some_go (length (medium_of old.disk).outbox) (medium_of old.disk))
 
   reaches : carried old ≤ carried new
   reaches = omega (

@@ -13,7 +13,7 @@ use Rattle.bot_machine.specs.Acts.{EventCarriesOut}
 use Rattle.bot_machine.specs.Disk.{over}
 use Rattle.disk_calls.specs.Plays.{Disk, medium_of, Plays}
 use Rattle.disk_machine.specs.Machine.{Machine, Serves, has_refused, under_way}
-use Rattle.disk_machine.specs.Idling.{StepsOn, MakesSteps}
+use Rattle.disk_machine.specs.Idling.{StepsOn, HasStepped}
 use Rattle.disk_machine.specs.Moves.{ServesAtRest, ServesOn, ServesEvent, ServesToken}
 use Rattle.disk_machine.specs.Packets.{PlaysOut, ServesOut, is_behind, waits_for}
 use Rattle.disk_machine.specs.declared.asked.Asked.{Asked}
@@ -106,14 +106,16 @@ module _ (old new : Machine) (answer : Answer) (plays : Plays old.disk event.In 
 
 -- ---- a step in the background
 
-module _ (old new : Machine) (plays : Plays old.disk event.Tick answer.Ticked new.disk) (others : new ≡ record old { disk = new.disk }) where
+module _ (old new : Machine) (plays : Plays old.disk event.Tick answer.Ticked new.disk)
+    (others : new ≡ record old { disk = new.disk }) where
   same_book : (refused : Bool) (was now : UnitState) → Ticks refused was now → now.book ≡ was.book
   same_book refused was now (inl same) = ap (λ (u : UnitState). u.book) same
   same_book refused was now (inr faulted) = ap (λ (u : UnitState). u.book) faulted.after
 
   pub tick_serves : ServesOn old new
   tick_serves told book serves =
-      let played = quiet_serves old new event.Tick answer.Ticked plays others (λ book block taken carried_out. carried_out) told book serves in
+      let played = quiet_serves old new event.Tick answer.Ticked plays others (λ book block taken carried_out. carried_out)
+      told book serves in
       let same : played.1 ≡ book = same_book played.0 (over old.disk book).unit (over new.disk played.1).unit played.2.1 in
       subst (λ (b : Book). Serves new told b) same played.3
 
@@ -128,6 +130,7 @@ steps_serve most (suc count) old new steps = λ told book serves.
     tick_serves (with_disk old steps.0) (with_disk old new) steps.3 refl told book
     (steps_serve most count old steps.0 steps.1 told book serves)
 
-pub idle_serves : (old new : Machine) → new ≡ record old { disk = new.disk } → MakesSteps old.most old.disk new.disk → ServesOn old new
-idle_serves old new others made =
-    subst (λ (s : Machine). ServesOn old s) (sym others) (steps_serve old.most made.count old new.disk made.steps)
+pub idle_serves : (old new : Machine) → HasStepped old new → ServesOn old new
+idle_serves old new (inl held) = subst (λ (s : Machine). ServesOn old s) (sym held.1) (λ told book serves. serves)
+idle_serves old new (inr made) =
+    subst (λ (s : Machine). ServesOn old s) (sym made.2) (steps_serve old.most made.1.count old new.disk made.1.steps)

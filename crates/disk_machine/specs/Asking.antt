@@ -38,8 +38,8 @@ IsAtRest s = (s.asked ≢ asked.Nothing)
     ⊎ (((medium_of s.disk).outbox ≡ [])
     × ((home : HomeSectors) → s.lack ≢ lack.Wanted home))
 
--- The next of the outbox: a flush, or the longest run of writes for which the buffer has room. Where
--- none waits, the sectors that a READ lacks.
+-- The next of the outbox: a flush, or the longest run of writes for which the buffer has room.
+-- Where none waits, the sectors that a READ lacks.
 abbrev pub AsksFor : Machine → List ℕ → DeviceAsk → Machine → List ℕ → Type 0
 AsksFor old room ask.Nothing new filled = IsAtRest old × (new ≡ old) × (filled ≡ room)
 AsksFor old room (ask.Write first count) new filled =
@@ -119,6 +119,9 @@ IsDone (asked.Calls count) ok old bytes result new = HasEnded count ok old resul
 IsDone (asked.Read home) ok old bytes result new = HasRead home ok old bytes result new
 IsDone (asked.Refused count behind) ok old bytes result new =
     IsNotDone fault.NothingAsked old result new
+
+abbrev pub Hears : Machine → Bool → List ℕ → Result (Unit {0}) DoneFault → Machine → Type 0
+Hears old ok bytes result new = IsDone old.asked ok old bytes result new
 
 -- the bytes are those that the device holds, where it read some
 abbrev pub IsHonest : Machine → Bool → List ℕ → Type 0

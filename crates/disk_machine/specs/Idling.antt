@@ -43,10 +43,10 @@ pub record MakesSteps (most : ℕ) (old new : Disk) : Type 0 where
   pub ends : (count ≡ 32) ⊎ (IsAllDone new ⊎ (¬ IsShort most new))
 
 -- steps are made where none is held back
-pub record HasStepped (old new : Machine) : Type 0 where
-  pub held : IsHeld old → new ≡ old
-  pub steps : ¬ IsHeld old → MakesSteps old.most old.disk new.disk
-  pub others : new ≡ record old { disk = new.disk }
+abbrev pub HasStepped : Machine → Machine → Type 0
+HasStepped old new = (IsHeld old × (new ≡ old))
+    ⊎ ((¬ IsHeld old) × MakesSteps old.most old.disk new.disk
+    × (new ≡ record old { disk = new.disk }))
 
 -- and whether some are left is told
 abbrev pub Idles : Machine → Machine → Bool → Type 0

@@ -92,7 +92,8 @@ ServesOut old packet new code = (plays : PlaysOut old packet new code)
     × ServesEvent old (event.Out (record { items = packet })) plays.answer new
 
 -- A packet to Bulk-Out that is too long changes nothing. One that is not taken now is told to come
--- again, and the disk does not see it: the sectors that it lacks are to be read. Each other is played.
+-- again, and the disk does not see it: the sectors that it lacks are to be read. Each other is
+-- played.
 pub record TakesOut (old : Machine) (packet : List ℕ) (new : Machine) (code : ℕ) : Type 0 where
   pub one : ((old.disk.line.packet_size < length packet) × (code ≡ TOO_LONG) × (new ≡ old))
       ⊎ ((length packet ≤ old.disk.line.packet_size)

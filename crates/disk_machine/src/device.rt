@@ -29,9 +29,8 @@ impl DiskMachine {
 
     // What a device that is at no call is to do next.
     fn ask(&mut self, buffer: &mut [u8]) -> DeviceAsk
-        requires free { self.old.asked ≡ asked.Nothing }
-        requires room { ¬ IsNoRoom (length buffer.old) }
-        ensures { AsksFor self.old buffer.old result self.new buffer.new }
+        ensures { self.old.asked ≡ asked.Nothing → ¬ IsNoRoom (length buffer.old)
+            → AsksFor self.old buffer.old result self.new buffer.new }
     {
         match self.disk.medium().first() {
             Some(DeviceCall::Write(write)) => {
@@ -53,9 +52,8 @@ impl DiskMachine {
 
     // The sectors that a READ lacks, where no call waits.
     fn ask_to_read(&mut self) -> DeviceAsk
-        requires free { self.old.asked ≡ asked.Nothing }
-        requires empty { (medium_of self.old.disk).outbox ≡ [] }
-        ensures { (buffer : List ℕ) → AsksFor self.old buffer result self.new buffer }
+        ensures { self.old.asked ≡ asked.Nothing → (medium_of self.old.disk).outbox ≡ []
+            → (buffer : List ℕ) → AsksFor self.old buffer result self.new buffer }
     {
         match self.lack {
             Lack::Wanted(home) => {

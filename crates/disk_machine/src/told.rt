@@ -1,7 +1,7 @@
 //! What the device tells of what it was asked for.
 ghost use Rattle.std.specs.Prelude.{◌≡◌};
-ghost use Rattle.disk_machine.specs.Asking.{IsDone, IsHonest, HasRead, IsGivenUp, IsShownTo};
-ghost use Rattle.disk_machine.specs.Asking.{counted};
+ghost use Rattle.disk_machine.specs.Asking.{Hears, IsDone, IsHonest, HasRead};
+ghost use Rattle.disk_machine.specs.Asking.{IsGivenUp, IsShownTo, counted};
 ghost use Rattle.disk_machine.specs.Moves.{ServesOn, ServesAtRest};
 
 use crate::asked::Asked;
@@ -24,7 +24,7 @@ impl DiskMachine {
     /// `NothingAsked` where the device is at no call, and `BadLength` where the bytes are not as
     /// many as those of the sectors that it was to read. Nothing changes then.
     pub fn done(&mut self, ok: bool, bytes: &[u8]) -> Result<(), DoneFault>
-        ensures is { IsDone self.old.asked ok self.old bytes.now result self.new }
+        ensures is { Hears self.old ok bytes.now result self.new }
         ensures serves { IsHonest self.old ok bytes.now → ServesOn self.old self.new }
         ensures rest { ServesAtRest self.new }
     {

@@ -2,12 +2,13 @@ use Rattle.std.proofs.Common.{refl, sym, ◌∙◌, ap, Some}
 use Rattle.mirror.specs.OutboxMedium.{first_of}
 use Rattle.mirror.specs.declared.call.DeviceCall.{DeviceCall}
 use Rattle.window.specs.Window.{Window}
+use Rattle.disk_machine.proofs.Handing.{none_first}
 use Rattle.disk_machine.proofs.machine.DiskMachine.ask.Goals as goal
 
 pub returns-in-Some-Flush : goal.returns-in-Some-Flush
-returns-in-Some-Flush c = (
+returns-in-Some-Flush c = λ free room. (
   record {
-    free = c.requires.free;
+    free = free;
     gone = c.pop.ensures.given;
     rest = record { others = c.pop.ensures.others; fits = c.pop.ensures.fits };
     others = refl;
@@ -18,4 +19,6 @@ returns-in-Some-Flush c = (
 )
 
 pub returns-in-None : goal.returns-in-None
-returns-in-None c = c.ask_to_read.ensures c.args.buffer.now
+returns-in-None c = λ free room.
+    let none = ap (λ (w : Window). first_of w.outbox) (sym c.medium.ensures.is) ∙ sym c.first.ensures ∙ c.in-None.is in
+    c.ask_to_read.ensures free (none_first _ none) c.args.buffer.now
