@@ -2,7 +2,6 @@
 ghost use Rattle.std.specs.Prelude.{◌≡◌, ◌↔◌, IsTrue};
 ghost use Rattle.disk_machine.specs.Idling.{Idles, HasStepped, IsHeld, IsShort, MakesSteps};
 ghost use Rattle.disk_machine.specs.Idling.{is_wanted};
-ghost use Rattle.disk_machine.specs.Moves.{ServesOn};
 
 use crate::lack::Lack;
 use crate::machine::DiskMachine;
@@ -20,8 +19,7 @@ impl DiskMachine {
     /// Steps in the background: where no packet comes, and the device is at no read. Whether some
     /// are left; of a faulted disk some always are.
     pub fn idle(&mut self) -> bool
-        ensures is { Idles self.old self.new result }
-        ensures serves { ServesOn self.old self.new }
+        ensures { Idles self.old self.new result }
     {
         self.step();
         !self.disk.is_settled()

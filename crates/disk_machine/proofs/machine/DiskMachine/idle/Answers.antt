@@ -1,5 +1,16 @@
+use Rattle.std.proofs.Common.{◌↔◌, ◌≡◌, Bool, true, false, not, IsTrue, refl, sym}
+use Rattle.std.proofs.lemmas.Bool.{false≢true}
 use Rattle.disk_machine.proofs.Playing.{idle_serves}
 use Rattle.disk_machine.proofs.machine.DiskMachine.idle.Goals as goal
 
-pub returns-clause-serves : goal.returns-clause-serves
-returns-clause-serves c = idle_serves _ _ c.step.ensures
+-- some are left where not all is settled
+told : (settled : Bool) (P : Type 0) → IsTrue settled ↔ P → (not settled ≡ false) ↔ P
+told true P is = (λ none. is.0 refl, λ all. refl)
+told false P is = (λ some. absurd (false≢true (sym some)), λ all. absurd (false≢true (is.1 all)))
+
+pub returns : goal.returns
+returns c = record {
+  stepped = c.step.ensures;
+  none_left = told _ _ c.is_settled.ensures.steps;
+  serves = idle_serves _ _ c.step.ensures;
+}
