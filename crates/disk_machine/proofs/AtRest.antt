@@ -13,7 +13,7 @@ use Rattle.bot_machine.specs.Disk.{FitsDisk}
 use Rattle.disk_calls.specs.Parts.{CoversParts}
 use Rattle.disk_calls.specs.Plays.{medium_of}
 use Rattle.disk_machine.specs.Machine.{Machine, MayLeave, Keeps, IsCaughtUp}
-use Rattle.disk_machine.specs.Moves.{ServesAtRest}
+use Rattle.disk_machine.specs.Moves.{ServesAtRest, BeginsBehind}
 
 module _ (s : Machine) (parts : (new : Window) → ComesAfter (medium_of s.disk) new → CoversParts (medium_of s.disk) new)
     (at_rest : (book : Book) → FitsDisk (state_of (medium_of s.disk)) s.disk book → book.ours ≡ true
@@ -42,3 +42,10 @@ module _ (s : Machine) (parts : (new : Window) → ComesAfter (medium_of s.disk)
     all = λ none fine. keeps_all up book fits;
     faulted = λ refused. absurd (cc (up.none_refused, refused));
   }
+
+-- ---- at the start
+
+-- where none was sent before, all that may be left is of the start
+pub begins_behind : (s : Machine) → BeginsBehind s
+begins_behind s first none covers image left =
+    covers left.count left.done image (omega (arith, ap (λ (l : List DeviceCall). length l) none)) left.are left.cut

@@ -9,15 +9,17 @@ use Rattle.mirror.specs.declared.call.DeviceCall.{DeviceCall}
 use Rattle.mirror.specs.declared.call.DeviceCall.TheVariants.{Write, Flush}
 use Rattle.window.specs.Window.{Window, state_of, mirror_of, take_first}
 use Rattle.spec.specs.Book.{Book}
+use Rattle.scsi_unit.specs.declared.reading.HomeSectors.{HomeSectors}
 use Rattle.store_calls.specs.Outbox.{without, writes_of, IsRun}
 use Rattle.bot_machine.specs.Disk.{FitsDisk, IsRearmed}
 use Rattle.disk_calls.specs.Plays.{Disk, medium_of}
 use Rattle.disk_machine.specs.Asking.{AsksFor, HandsOut}
 use Rattle.disk_machine.specs.Machine.{Machine, LeavesOf, MayLeave, carried, under_way, has_refused}
-use Rattle.disk_machine.specs.Moves.{ServesOn}
+use Rattle.disk_machine.specs.Moves.{ServesOn, LeavesNoMore}
 use Rattle.disk_machine.specs.declared.ask.DeviceAsk.{DeviceAsk}
 use Rattle.disk_machine.specs.declared.ask.DeviceAsk.TheVariants as ask
 use Rattle.disk_machine.specs.declared.asked.Asked.{Asked}
+use Rattle.disk_machine.specs.declared.asked.Asked.TheVariants as asked
 use Rattle.disk_machine.proofs.Standing.{Stands, serves_still}
 
 -- what was sent stays, however much of it has left the outbox
@@ -139,6 +141,16 @@ run_waits old new sector count room filled run = omega (
   length_of_writes count sector filled,
 )
 
+-- the device is asked to read
+reads_stand : (old new : Machine) (home : HomeSectors) → old.asked ≡ asked.Nothing → new ≡ record old { asked = asked.Read home }
+    → Stands old new
+reads_stand old new home free is = stays old new (ap (λ (s : Machine). s.disk) is) (omega (
+  arith,
+  ap under_way free,
+  ap (λ (s : Machine). under_way s.asked) is,
+  ap (λ (s : Machine). length (medium_of s.disk).seen.told.taken) is,
+))
+
 -- the device is asked for the next
 pub asks_serves : (old new : Machine) (room : List ℕ) (what : DeviceAsk) (filled : List ℕ) → AsksFor old room what new filled
     → ServesOn old new
@@ -149,11 +161,16 @@ asks_serves old new room (ask.Write first count) filled asks =
     (run_waits (medium_of old.disk) (medium_of new.disk) first count room filled asks.2.run)
 asks_serves old new room ask.Flush filled asks = handed_serves old new 1 asks.0 (some_first (medium_of old.disk).outbox Flush asks.1)
 asks_serves old new room (ask.Read home) filled asks =
-    serves_still old new (stays old new (ap (λ (s : Machine). s.disk) asks.3) (omega (
-      arith,
-      ap under_way asks.0,
-      ap (λ (s : Machine). under_way s.asked) asks.3,
-      ap (λ (s : Machine). length (medium_of s.disk).seen.told.taken) asks.3,
-    )))
+    serves_still old new (reads_stand old new home asks.0 asks.3)
     (λ none. inl (sym (ap (λ (s : Machine). s.waiting) asks.3) ∙ none))
     (ap (λ (s : Machine). has_refused s.asked) asks.3 ∙ sym (ap (λ (a : Asked). has_refused a) asks.0))
+
+pub asks_leave : (old new : Machine) (room : List ℕ) (what : DeviceAsk) (filled : List ℕ) → AsksFor old room what new filled
+    → LeavesNoMore old new
+asks_leave old new room ask.Nothing filled asks = subst (λ (s : Machine). LeavesNoMore old s) (sym asks.1) (λ image left. left)
+asks_leave old new room (ask.Write first count) filled asks =
+    (handed_stands old new count asks.0
+    (run_waits (medium_of old.disk) (medium_of new.disk) first count room filled asks.2.run)).leaves
+asks_leave old new room ask.Flush filled asks =
+    (handed_stands old new 1 asks.0 (some_first (medium_of old.disk).outbox Flush asks.1)).leaves
+asks_leave old new room (ask.Read home) filled asks = (reads_stand old new home asks.0 asks.3).leaves

@@ -12,13 +12,13 @@ use Rattle.store_calls.specs.Outbox.{without}
 use Rattle.disk_calls.specs.Plays.{Disk, medium_of, Sees}
 use Rattle.disk_machine.specs.Asking.{counted, waits_behind, IsGivenUp, IsShownTo, IsDone, HasRead, HasEnded, IsHonest}
 use Rattle.disk_machine.specs.Machine.{Machine, Finds, has_refused, under_way, carried}
-use Rattle.disk_machine.specs.Moves.{ServesAtRest, ServesOn}
+use Rattle.disk_machine.specs.Moves.{ServesAtRest, ServesOn, LeavesNoMore}
 use Rattle.disk_machine.specs.declared.asked.Asked.{Asked}
 use Rattle.disk_machine.specs.declared.asked.Asked.TheVariants as asked
 use Rattle.disk_machine.specs.declared.done_fault.DoneFault.{DoneFault}
 use Rattle.disk_machine.specs.declared.waiting.Waiting.{Waiting}
 use Rattle.disk_machine.specs.declared.waiting.Waiting.TheVariants as waiting
-use Rattle.disk_machine.proofs.Standing.{keeps_all, serves_still}
+use Rattle.disk_machine.proofs.Standing.{Stands, keeps_all, serves_still}
 use Rattle.disk_machine.proofs.Handing.{IsSentStill, some_go, taken_by, leaves_no_more, stays}
 use Rattle.disk_machine.proofs.StepLaws.{finds_same}
 
@@ -69,6 +69,9 @@ module _ (old new : Machine) (count : ℕ) (was : old.asked ≡ asked.Calls coun
   dead : (book : Book) → (unit_state new.disk.unit book).faulted ≡ true
   dead book = ap (λ s. s.unit.faulted) (given_up.refused.by_rules book)
 
+  pub given_up_leaves : LeavesNoMore old new
+  given_up_leaves = leaves_no_more old new same reaches
+
   pub given_up_serves : ServesOn old new
   given_up_serves told book serves = record {
     fits = given_up.refused.fits book serves.fits;
@@ -89,6 +92,9 @@ module _ (old new : Machine) (home : HomeSectors) (was : old.asked ≡ asked.Rea
 
   same_refused : has_refused new.asked ≡ has_refused old.asked
   same_refused = ap (λ (a : Asked). has_refused a) now ∙ sym (ap (λ (a : Asked). has_refused a) was)
+
+  pub unread_leaves : new.disk ≡ old.disk → LeavesNoMore old new
+  unread_leaves disk = (stays old new disk (as_far (ap (λ (d : Disk). (medium_of d).seen.told.taken) disk))).leaves
 
   pub unread_serves : new.disk ≡ old.disk → new.waiting ≡ old.waiting → ServesOn old new
   unread_serves disk waits =
@@ -113,20 +119,24 @@ same_sent old new first count (inr moves) = (
   ap (λ (w : Window). w.seen.told.taken) moves,
 )
 
-pub shown_serves : (old new : Machine) (home : HomeSectors) (bytes : List ℕ) → old.asked ≡ asked.Read home → IsShownTo old home bytes new
-    → AreHeld (state_of (medium_of old.disk)).content home.first (length bytes / 512) bytes → ServesOn old new
-shown_serves old new home bytes was shown held =
-    let now = ap (λ (s : Machine). s.asked) shown.others in
+shown_stands : (old new : Machine) (home : HomeSectors) (bytes : List ℕ) → old.asked ≡ asked.Read home → IsShownTo old home bytes new
+    → AreHeld (state_of (medium_of old.disk)).content home.first (length bytes / 512) bytes → Stands old new
+shown_stands old new home bytes was shown held =
     let sent = same_sent old.disk new.disk home.first (length bytes / 512)
-    (shown_medium old.disk new.disk home.first bytes shown.taken shown.sees held) in
-    serves_still old new
-    (record {
+    (shown_medium old.disk new.disk home.first bytes shown.taken shown.sees held) in record {
       others = shown.sees.others;
       fits = shown.sees.fits held;
       size = sent.0.size;
-      leaves = leaves_no_more old new sent.0 (as_far old new home was now sent.1);
-    })
-    (λ none. inl (sym (ap (λ (s : Machine). s.waiting) shown.others) ∙ none)) (same_refused old new home was now)
+      leaves = leaves_no_more old new sent.0
+          (as_far old new home was (ap (λ (s : Machine). s.asked) shown.others) sent.1);
+    }
+
+pub shown_serves : (old new : Machine) (home : HomeSectors) (bytes : List ℕ) → old.asked ≡ asked.Read home → IsShownTo old home bytes new
+    → AreHeld (state_of (medium_of old.disk)).content home.first (length bytes / 512) bytes → ServesOn old new
+shown_serves old new home bytes was shown held =
+    serves_still old new (shown_stands old new home bytes was shown held)
+    (λ none. inl (sym (ap (λ (s : Machine). s.waiting) shown.others) ∙ none))
+    (same_refused old new home was (ap (λ (s : Machine). s.asked) shown.others))
 
 -- ---- what the device was asked for last
 
@@ -154,3 +164,29 @@ done_serves asked.Nothing ok old new bytes result was done rest honest = nothing
 done_serves (asked.Calls count) ok old new bytes result was done rest honest = calls_serve count ok old new result was done rest
 done_serves (asked.Read home) ok old new bytes result was done rest honest = read_serves home ok old new bytes result was done honest
 done_serves (asked.Refused count left) ok old new bytes result was done rest honest = nothing_changes old new done.1
+
+-- ---- and what a loss of power leaves
+
+nothing_more : (old new : Machine) → new ≡ old → LeavesNoMore old new
+nothing_more old new same = subst (λ (s : Machine). LeavesNoMore old s) (sym same) (λ image left. left)
+
+read_leaves : (home : HomeSectors) (ok : Bool) (old new : Machine) (bytes : List ℕ) (result : Result (Unit {0}) DoneFault)
+    → old.asked ≡ asked.Read home → HasRead home ok old bytes result new → IsHonest old ok bytes → LeavesNoMore old new
+read_leaves home true old new bytes result was (inl bad) honest = nothing_more old new bad.1.1
+read_leaves home true old new bytes result was (inr good) honest =
+    (shown_stands old new home bytes was good.2 (honest refl home was)).leaves
+read_leaves home false old new bytes result was read honest =
+    unread_leaves old new home was (ap (λ (s : Machine). s.asked) read.1) (ap (λ (s : Machine). s.disk) read.1)
+
+calls_leave : (count : ℕ) (ok : Bool) (old new : Machine) (result : Result (Unit {0}) DoneFault)
+    → old.asked ≡ asked.Calls count → HasEnded count ok old result new → LeavesNoMore old new
+calls_leave count true old new result was ended =
+    subst (λ (s : Machine). LeavesNoMore old s) (sym ended.1) (stays old (counted old) refl (omega arith)).leaves
+calls_leave count false old new result was ended = given_up_leaves old new count was ended.1
+
+pub done_leaves : (a : Asked) (ok : Bool) (old new : Machine) (bytes : List ℕ) (result : Result (Unit {0}) DoneFault)
+    → old.asked ≡ a → IsDone a ok old bytes result new → IsHonest old ok bytes → LeavesNoMore old new
+done_leaves asked.Nothing ok old new bytes result was done honest = nothing_more old new done.1
+done_leaves (asked.Calls count) ok old new bytes result was done honest = calls_leave count ok old new result was done
+done_leaves (asked.Read home) ok old new bytes result was done honest = read_leaves home ok old new bytes result was done honest
+done_leaves (asked.Refused count left) ok old new bytes result was done honest = nothing_more old new done.1

@@ -1,6 +1,7 @@
 -- Packets, tokens, requests and steps, wherever the device is.
-use Rattle.std.proofs.Common.{◌≡◌, ◌⊎◌, inl, inr, [], ◌∷◌, List, ℕ, zero, suc, Bool, true, false, ◌&&◌, refl, sym, ◌∙◌, ap, subst, arith}
+use Rattle.std.proofs.Common.{◌≡◌, ◌⊎◌, inl, inr, [], ◌∷◌, List, ℕ, zero, suc, Bool, true, false, ◌&&◌, length, refl, sym, ◌∙◌, ap, subst, arith}
 use Rattle.mirror.specs.declared.call.DeviceCall.{DeviceCall}
+use Rattle.window.specs.Window.{Window, state_of}
 use Rattle.spec.specs.Book.{Book}
 use Rattle.spec.specs.Conversation.{Conversation}
 use Rattle.spec.specs.Rules.{UnitState, Ticks}
@@ -9,17 +10,18 @@ use Rattle.spec.specs.declared.event.Event.{Event}
 use Rattle.spec.specs.declared.event.Event.TheVariants as event
 use Rattle.spec.specs.declared.event.Answer.{Answer}
 use Rattle.spec.specs.declared.event.Answer.TheVariants as answer
-use Rattle.bot_machine.specs.Acts.{EventCarriesOut}
-use Rattle.bot_machine.specs.Disk.{over}
-use Rattle.disk_calls.specs.Plays.{Disk, medium_of, Plays}
+use Rattle.bot_machine.specs.Acts.{Acts, EventCarriesOut}
+use Rattle.bot_machine.specs.Disk.{FitsDisk, over}
+use Rattle.disk_calls.specs.Plays.{Disk, medium_of, Plays, AnswersRequest}
 use Rattle.disk_machine.specs.Machine.{Machine, Serves, has_refused, under_way}
 use Rattle.disk_machine.specs.Idling.{StepsOn, HasStepped}
-use Rattle.disk_machine.specs.Moves.{ServesAtRest, ServesOn, ServesEvent, ServesToken}
-use Rattle.disk_machine.specs.Packets.{PlaysOut, ServesOut, is_behind, waits_for}
+use Rattle.disk_machine.specs.Moves.{ServesAtRest, LeavesNoMore, ServesOn, ServesEvent, ServesToken}
+use Rattle.disk_machine.specs.Packets.{AnswersSetup, PlaysOut, ServesOut, is_behind, waits_for}
 use Rattle.disk_machine.specs.declared.asked.Asked.{Asked}
 use Rattle.disk_machine.specs.declared.asked.Asked.TheVariants as asked
 use Rattle.disk_machine.specs.declared.waiting.Waiting.{Waiting}
 use Rattle.disk_machine.specs.declared.waiting.Waiting.TheVariants as waiting
+use Rattle.disk_machine.proofs.Handing.{IsSentStill, leaves_no_more}
 use Rattle.disk_machine.proofs.Standing.{keeps_all}
 use Rattle.disk_machine.proofs.Events.{serves_event}
 
@@ -70,6 +72,28 @@ module _ (old new : Machine) (event : Event) (answer : Answer) (plays : Plays ol
         sym (ap (λ (s : Machine). s.waiting) others) ∙ nothing,
         λ book fits block taken carried_out. absurd (none book block taken carried_out),
       ))
+
+  -- the unit and its medium stay
+  pub quiet_leaves : (book : Book) → FitsDisk (state_of (medium_of old.disk)) old.disk book → ¬ Acts (over old.disk book) event
+      → LeavesNoMore old new
+  quiet_leaves book fits rests =
+      let same : medium_of new.disk ≡ medium_of old.disk = ap (λ u. u.store.medium) (plays.step.rests book fits rests) in
+      leaves_no_more old new
+      (subst (λ (w : Window). IsSentStill (medium_of old.disk) w) (sym same) (record { opening = refl; sent = refl; size = refl }))
+      (omega (arith, ap (λ (w : Window). length w.seen.told.taken) same, ap (λ (s : Machine). under_way s.asked) others))
+
+-- a request
+pub setup_answers : (old new : Machine) (packet room filled : List ℕ) (size code : ℕ) → new ≡ record old { disk = new.disk }
+    → AnswersRequest old.disk packet room new.disk filled size code → AnswersSetup old packet room new filled size code
+setup_answers old new packet room filled size code others answers = (
+  answers.0,
+  answers.1,
+  answers.2,
+  others,
+  quiet_serves old new (event.Setup packet) answers.0 answers.1 others (λ book block taken carried_out. carried_out),
+  λ book fits. quiet_leaves old new (event.Setup packet) answers.0 answers.1 others (λ book block taken carried_out. carried_out)
+      book fits (λ acts. acts),
+)
 
 -- all that is promised is told
 all_told : (s : Machine) (told : ℕ) (book : Book) → Serves s told book → s.waiting ≡ waiting.Nothing → has_refused s.asked ≡ false

@@ -1,16 +1,22 @@
 -- What each call leaves true of a machine.
-use Rattle.std.specs.Prelude.{◌≡◌, ℕ, Bool, false, List, [], ◌∷◌}
+use Rattle.std.specs.Prelude.{◌≡◌, ℕ, Bool, false, List, [], ◌∷◌, if◌then◌else◌}
+use Rattle.medium.specs.Medium.{Image}
 use Rattle.mirror.specs.declared.call.DeviceCall.{DeviceCall}
-use Rattle.window.specs.Window.{state_of}
+use Rattle.mirror.specs.OutboxMedium.{sent}
+use Rattle.window.specs.Window as window
+use Rattle.window.specs.Window.{Window}
 use Rattle.spec.specs.Book.{Book}
 use Rattle.spec.specs.UnitConversation.{UnitStep}
 use Rattle.spec.specs.declared.event.Event.{Event}
 use Rattle.spec.specs.declared.event.Event.TheVariants as event
 use Rattle.spec.specs.declared.event.Answer.{Answer}
 use Rattle.bot_machine.specs.Disk.{FitsDisk, over}
+use Rattle.disk_calls.specs.Parts.{CoversParts}
 use Rattle.disk_calls.specs.Plays.{Disk, medium_of}
-use Rattle.disk_machine.specs.Machine.{Machine, Serves, IsCaughtUp, has_refused}
+use Rattle.disk_machine.specs.Machine.{Machine, MayLeave, Serves, IsCaughtUp, has_refused}
 use Rattle.disk_machine.specs.declared.asked.Asked.TheVariants as asked
+use Rattle.disk_machine.specs.declared.state.MachineState.{MachineState}
+use Rattle.disk_machine.specs.declared.state.MachineState.TheVariants as state
 use Rattle.disk_machine.specs.declared.waiting.Waiting.{Waiting}
 use Rattle.disk_machine.specs.declared.waiting.Waiting.TheVariants as waiting
 use Rattle.disk_machine.specs.declared.lack.Lack.TheVariants as lack
@@ -30,11 +36,38 @@ begun disk most = record {
   lack = lack.Nothing;
 }
 
+-- ---- what a machine is at
+
+-- where the device refused nothing
+abbrev pub state_by : Waiting → MachineState
+state_by waiting.Nothing = state.Serving
+state_by waiting.Promise = state.Serving
+state_by waiting.Start = state.Starting
+
+abbrev pub state_of : Machine → MachineState
+state_of s = if has_refused s.asked then state.Refused else state_by s.waiting
+
+-- ---- what stays true
+
+-- a loss of power leaves no more than before: so a start that is under way is as safe as it was
+abbrev pub LeavesNoMore : Machine → Machine → Type 0
+LeavesNoMore old new = (image : Image) → MayLeave new image → MayLeave old image
+
+-- what a loss of power leaves, a cut of the start on this medium could leave
+abbrev pub LeavesOfStart : Window → Machine → Type 0
+LeavesOfStart first s = (image : Image) → MayLeave s image
+    → (window.state_of (medium_of s.disk)).left_since (window.state_of first).calls image
+
+-- so it is of a machine over a disk that has just started, on a medium of which nothing was sent
+abbrev pub BeginsBehind : Machine → Type 0
+BeginsBehind s = (first : Window) → sent (window.mirror_of first) ≡ []
+    → CoversParts first (medium_of s.disk) → LeavesOfStart first s
+
 -- where the device has carried out all, each life that the disk fits is served, and all is told
 -- that it promises
 abbrev pub ServesAtRest : Machine → Type 0
 ServesAtRest s = IsCaughtUp s → (book : Book)
-    → FitsDisk (state_of (medium_of s.disk)) s.disk book → Serves s book.mark book
+    → FitsDisk (window.state_of (medium_of s.disk)) s.disk book → Serves s book.mark book
 
 -- whatever life it serves it serves on, with the same book, and no promise is told
 abbrev pub ServesOn : Machine → Machine → Type 0

@@ -13,7 +13,7 @@ use Rattle.disk_calls.specs.Codes.{TOO_LONG, code_of}
 use Rattle.disk_calls.specs.Plays.{medium_of, Plays, Tells}
 use Rattle.disk_calls.specs.Wanted.{Wants, WantsNone}
 use Rattle.disk_machine.specs.Machine.{Machine}
-use Rattle.disk_machine.specs.Moves.{ServesOn, ServesEvent, ServesToken}
+use Rattle.disk_machine.specs.Moves.{ServesOn, ServesEvent, ServesToken, LeavesNoMore}
 use Rattle.disk_machine.specs.declared.asked.Asked.{Asked}
 use Rattle.disk_machine.specs.declared.asked.Asked.TheVariants as asked
 use Rattle.disk_machine.specs.declared.lack.Lack.TheVariants as lack
@@ -113,9 +113,11 @@ SendsIn old room new filled size code =
     × Plays old.disk event.In answer new.disk × Tells answer room filled size code
     × (new ≡ record old { disk = new.disk }) × ServesToken old answer new))
 
--- a request is answered at any time
+-- A request is answered at any time. It asks the device for nothing, of whatever life the disk is.
 abbrev pub AnswersSetup : Machine → List ℕ → List ℕ → Machine → List ℕ → ℕ → ℕ → Type 0
 AnswersSetup old packet room new filled size code = (answer : Answer)
     × Plays old.disk (event.Setup packet) answer new.disk × Tells answer room filled size code
     × (new ≡ record old { disk = new.disk })
     × ServesEvent old (event.Setup packet) answer new
+    × ((book : Book) → FitsDisk (state_of (medium_of old.disk)) old.disk book
+    → LeavesNoMore old new)

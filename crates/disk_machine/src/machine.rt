@@ -1,9 +1,10 @@
 //! A disk, and the device behind it, which may be behind.
 ghost use Rattle.std.specs.Prelude.{◌≡◌};
-ghost use Rattle.disk_machine.specs.Moves.{ServesAtRest, begun};
+ghost use Rattle.disk_machine.specs.Moves.{ServesAtRest, BeginsBehind, begun, state_by, state_of};
 
 use crate::asked::Asked;
 use crate::lack::Lack;
+use crate::state::MachineState;
 use crate::waiting::Waiting;
 use bot_machine::Disk;
 use medium::Medium;
@@ -31,6 +32,7 @@ impl DiskMachine {
     pub fn new(disk: Disk<WindowMedium>, most: usize) -> DiskMachine
         ensures is { result ≡ begun disk most }
         ensures serves { ServesAtRest result }
+        ensures starts { BeginsBehind result }
     {
         let waiting = if disk.medium().waiting() == 0 {
             Waiting::Nothing
@@ -48,11 +50,24 @@ impl DiskMachine {
         machine
     }
 
-    /// What the device was asked for last, and has not told done.
-    pub fn asked(&self) -> Asked
-        ensures { result ≡ self.now.asked }
+    /// What the machine is at.
+    pub fn state(&self) -> MachineState
+        ensures { result ≡ state_of self.now }
     {
-        self.asked
+        match self.asked {
+            Asked::Refused(_, _) => MachineState::Refused,
+            Asked::Nothing | Asked::Calls(_) | Asked::Read(_) => self.starting_or_serving(),
+        }
+    }
+
+    // What a machine is at whose device refused nothing.
+    fn starting_or_serving(&self) -> MachineState
+        ensures { result ≡ state_by self.now.waiting }
+    {
+        match self.waiting {
+            Waiting::Start => MachineState::Starting,
+            Waiting::Nothing | Waiting::Promise => MachineState::Serving,
+        }
     }
 
     /// Gives the disk back, wherever its device is.
@@ -62,9 +77,11 @@ impl DiskMachine {
         self.disk
     }
 
-    // Does nothing. Where the device has carried out all, each promise stands.
+    // Does nothing. Where the device has carried out all, each promise stands; where it has carried
+    // out none, a start does.
     pub(crate) fn rest(&self)
-        ensures { ServesAtRest self.now }
+        ensures serves { ServesAtRest self.now }
+        ensures starts { BeginsBehind self.now }
     {
         let _waiting = self.disk.medium().waiting();
         device_laws();

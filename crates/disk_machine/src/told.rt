@@ -2,7 +2,7 @@
 ghost use Rattle.std.specs.Prelude.{◌≡◌};
 ghost use Rattle.disk_machine.specs.Asking.{Hears, IsDone, IsHonest, HasRead};
 ghost use Rattle.disk_machine.specs.Asking.{IsGivenUp, IsShownTo, counted};
-ghost use Rattle.disk_machine.specs.Moves.{ServesOn, ServesAtRest};
+ghost use Rattle.disk_machine.specs.Moves.{ServesOn, ServesAtRest, LeavesNoMore};
 
 use crate::asked::Asked;
 use crate::done_fault::DoneFault;
@@ -26,6 +26,7 @@ impl DiskMachine {
     pub fn done(&mut self, ok: bool, bytes: &[u8]) -> Result<(), DoneFault>
         ensures is { Hears self.old ok bytes.now result self.new }
         ensures serves { IsHonest self.old ok bytes.now → ServesOn self.old self.new }
+        ensures leaves { IsHonest self.old ok bytes.now → LeavesNoMore self.old self.new }
         ensures rest { ServesAtRest self.new }
     {
         let told = self.hear(ok, bytes);

@@ -1,13 +1,8 @@
 use Rattle.std.proofs.Common.{refl}
-use Rattle.disk_machine.proofs.Playing.{quiet_serves}
+use Rattle.disk_machine.proofs.Playing.{setup_answers}
 use Rattle.disk_machine.proofs.machine.DiskMachine.setup.Goals as goal
 
 pub returns : goal.returns
 returns c =
-    let answers = c.answer_request.ensures in (
-      answers.0,
-      answers.1,
-      answers.2,
-      refl,
-      quiet_serves _ _ _ _ answers.1 refl (λ book block taken carried_out. carried_out),
-    )
+    setup_answers c.args.self.now (record c.args.self.now { disk = c.answer_request.new.disk }) c.args.packet.now c.args.to.now
+    c.answer_request.new.to c.answer_request.new.size c.answer_request.result refl c.answer_request.ensures
