@@ -7,3 +7,4 @@ pub mod StepParts
 pub mod StepBooks
 pub mod StepLaws
 pub mod Playing
+pub mod Staying

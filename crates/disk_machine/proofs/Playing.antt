@@ -1,5 +1,6 @@
 -- Packets, tokens, requests and steps, wherever the device is.
-use Rattle.std.proofs.Common.{◌≡◌, ◌⊎◌, inl, inr, [], ◌∷◌, List, ℕ, zero, suc, Bool, true, false, ◌&&◌, length, refl, sym, ◌∙◌, ap, subst, arith}
+use Rattle.std.proofs.Common.{◌≡◌, ◌⊎◌, inl, inr, [], ◌∷◌, List, ℕ, zero, suc, Bool, true, false, ◌&&◌, length}
+use Rattle.std.proofs.Common.{refl, sym, ◌∙◌, ap, subst, arith}
 use Rattle.mirror.specs.declared.call.DeviceCall.{DeviceCall}
 use Rattle.window.specs.Window.{Window, state_of}
 use Rattle.spec.specs.Book.{Book}
@@ -16,7 +17,7 @@ use Rattle.disk_calls.specs.Plays.{Disk, medium_of, Plays, AnswersRequest}
 use Rattle.disk_machine.specs.Machine.{Machine, Serves, has_refused, under_way}
 use Rattle.disk_machine.specs.Idling.{StepsOn, HasStepped}
 use Rattle.disk_machine.specs.Moves.{ServesAtRest, LeavesNoMore, ServesOn, ServesEvent, ServesToken}
-use Rattle.disk_machine.specs.Packets.{AnswersSetup, PlaysOut, ServesOut, is_behind, waits_for}
+use Rattle.disk_machine.specs.Packets.{AnswersSetup, HoldsBack, PlaysOut, ServesOut, is_behind, waits_for}
 use Rattle.disk_machine.specs.declared.asked.Asked.{Asked}
 use Rattle.disk_machine.specs.declared.asked.Asked.TheVariants as asked
 use Rattle.disk_machine.specs.declared.waiting.Waiting.{Waiting}
@@ -24,6 +25,7 @@ use Rattle.disk_machine.specs.declared.waiting.Waiting.TheVariants as waiting
 use Rattle.disk_machine.proofs.Handing.{IsSentStill, leaves_no_more}
 use Rattle.disk_machine.proofs.Standing.{keeps_all}
 use Rattle.disk_machine.proofs.Events.{serves_event}
+use Rattle.disk_machine.proofs.Staying.{event_room, has_room}
 
 -- ---- a packet
 
@@ -42,12 +44,14 @@ not_behind (asked.Read home) [] is fine = (refl, refl)
 not_behind (asked.Read home) (call ∷ calls) is fine = cc
 not_behind (asked.Refused count left) calls is fine = cc
 
-pub out_serves : (old new : Machine) (packet : List ℕ) (code : ℕ) → PlaysOut old packet new code → ServesAtRest new
+pub out_serves : (old new : Machine) (packet : List ℕ) (code : ℕ) → ¬ HoldsBack old → PlaysOut old packet new code → ServesAtRest new
     → ServesOut old packet new code
-out_serves old new packet code plays rest =
-    let same : new.asked ≡ old.asked = ap (λ (s : Machine). s.asked) plays.others in (
-      plays,
-      serves_event old new (event.Out (record { items = packet })) plays.answer plays.plays same (λ none fine. elim
+out_serves old new packet code free plays rest =
+    let same : new.asked ≡ old.asked = ap (λ (s : Machine). s.asked) plays.others in record {
+      played = plays;
+      has_room = has_room old free;
+      room = event_room old new _ _ plays.plays (ap (λ (s : Machine). s.most) plays.others);
+      serves = serves_event old new (event.Out (record { items = packet })) plays.answer plays.plays same (λ none fine. elim
           (not_waiting plays.promises (is_behind old.asked (medium_of new.disk).outbox) old.waiting
           (sym (ap (λ (s : Machine). s.waiting) plays.others) ∙ none)) [
             | inl before ↦ inl (before.1, plays.none before.0)
@@ -58,8 +62,8 @@ out_serves old new packet code plays rest =
                   none_under_way = ap (λ (a : Asked). under_way a) same ∙ up.1;
                   none_refused = fine;
                 }))
-          ]),
-    )
+          ]);
+    }
 
 -- ---- an event in which no command is carried out
 
@@ -93,6 +97,7 @@ setup_answers old new packet room filled size code others answers = (
   quiet_serves old new (event.Setup packet) answers.0 answers.1 others (λ book block taken carried_out. carried_out),
   λ book fits. quiet_leaves old new (event.Setup packet) answers.0 answers.1 others (λ book block taken carried_out. carried_out)
       book fits (λ acts. acts),
+  event_room old new (event.Setup packet) answers.0 answers.1 (ap (λ (s : Machine). s.most) others),
 )
 
 -- all that is promised is told

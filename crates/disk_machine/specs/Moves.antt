@@ -1,5 +1,5 @@
 -- What each call leaves true of a machine.
-use Rattle.std.specs.Prelude.{◌≡◌, ℕ, Bool, false, List, [], ◌∷◌, if◌then◌else◌}
+use Rattle.std.specs.Prelude.{◌≡◌, ◌≤◌, ◌+◌, ℕ, Bool, false, List, [], ◌∷◌, if◌then◌else◌}
 use Rattle.medium.specs.Medium.{Image}
 use Rattle.mirror.specs.declared.call.DeviceCall.{DeviceCall}
 use Rattle.mirror.specs.OutboxMedium.{sent}
@@ -12,7 +12,8 @@ use Rattle.spec.specs.declared.event.Event.TheVariants as event
 use Rattle.spec.specs.declared.event.Answer.{Answer}
 use Rattle.bot_machine.specs.Disk.{FitsDisk, over}
 use Rattle.disk_calls.specs.Parts.{CoversParts}
-use Rattle.disk_calls.specs.Plays.{Disk, medium_of}
+use Rattle.disk_calls.specs.Plays.{Disk, medium_of, layout_on}
+use Rattle.disk_calls.specs.Room.{room_for}
 use Rattle.disk_machine.specs.Machine.{Machine, MayLeave, Serves, IsCaughtUp, has_refused}
 use Rattle.disk_machine.specs.declared.asked.Asked.TheVariants as asked
 use Rattle.disk_machine.specs.declared.state.MachineState.{MachineState}
@@ -72,6 +73,20 @@ ServesAtRest s = IsCaughtUp s → (book : Book)
 -- whatever life it serves it serves on, with the same book, and no promise is told
 abbrev pub ServesOn : Machine → Machine → Type 0
 ServesOn old new = (told : ℕ) (book : Book) → Serves old told book → Serves new told book
+
+-- The outbox has room for the calls of a packet beside the most that wait when one is taken: so it
+-- is of a machine that is made with what `usbdisk_room` leaves of the room.
+abbrev pub HasRoomBeside : Machine → Type 0
+HasRoomBeside s = s.most + room_for (layout_on s.disk) ≤ (medium_of s.disk).room
+
+abbrev pub KeepsRoom : Machine → Machine → Type 0
+KeepsRoom old new = HasRoomBeside old → HasRoomBeside new
+
+-- a call that is no event of the disk
+pub record StaysSafe (old new : Machine) : Type 0 where
+  pub serves : ServesOn old new
+  pub leaves : LeavesNoMore old new
+  pub room : KeepsRoom old new
 
 -- One event of the disk: by the rules, for each life that the machine serves, and it serves that on
 -- with the book of behind it. No promise is told.

@@ -11,9 +11,11 @@ use Rattle.bot_machine.specs.Disk.{FitsDisk, over}
 use Rattle.bot_machine.specs.Promising.{PromisesIn, PromisesNone}
 use Rattle.disk_calls.specs.Codes.{TOO_LONG, code_of}
 use Rattle.disk_calls.specs.Plays.{medium_of, Plays, Tells}
+use Rattle.disk_calls.specs.Refusals.{HasRoom}
 use Rattle.disk_calls.specs.Wanted.{Wants, WantsNone}
 use Rattle.disk_machine.specs.Machine.{Machine}
-use Rattle.disk_machine.specs.Moves.{ServesOn, ServesEvent, ServesToken, LeavesNoMore}
+use Rattle.disk_machine.specs.Moves.{ServesEvent, ServesToken, StaysSafe, LeavesNoMore}
+use Rattle.disk_machine.specs.Moves.{KeepsRoom, HasRoomBeside}
 use Rattle.disk_machine.specs.declared.asked.Asked.{Asked}
 use Rattle.disk_machine.specs.declared.asked.Asked.TheVariants as asked
 use Rattle.disk_machine.specs.declared.lack.Lack.TheVariants as lack
@@ -86,10 +88,13 @@ pub record PlaysOut (old : Machine) (packet : List ℕ) (new : Machine) (code : 
     lack = lack.Nothing;
   }
 
--- the same, by the rules, and each life that is served is served on
-abbrev pub ServesOut : Machine → List ℕ → Machine → ℕ → Type 0
-ServesOut old packet new code = (plays : PlaysOut old packet new code)
-    × ServesEvent old (event.Out (record { items = packet })) plays.answer new
+-- The same, by the rules, and each life that is served is served on. None of its calls is refused
+-- for want of room (`Plays.refuses`).
+pub record ServesOut (old : Machine) (packet : List ℕ) (new : Machine) (code : ℕ) : Type 0 where
+  pub played : PlaysOut old packet new code
+  pub serves : ServesEvent old (event.Out (record { items = packet })) played.answer new
+  pub has_room : HasRoomBeside old → HasRoom old.disk
+  pub room : KeepsRoom old new
 
 -- A packet to Bulk-Out that is too long changes nothing. One that is not taken now is told to come
 -- again, and the disk does not see it: the sectors that it lacks are to be read. Each other is
@@ -99,7 +104,7 @@ pub record TakesOut (old : Machine) (packet : List ℕ) (new : Machine) (code : 
       ⊎ ((length packet ≤ old.disk.line.packet_size)
       × ((HoldsBack old × (code ≡ 1) × (new ≡ old))
       ⊎ ((¬ HoldsBack old) × (((home : HomeSectors) × Lacks old packet home × (code ≡ 1)
-      × (new ≡ record old { lack = lack.Wanted home }) × ServesOn old new)
+      × (new ≡ record old { lack = lack.Wanted home }) × StaysSafe old new)
       ⊎ (LacksNone old packet × ServesOut old packet new code)))))
 
 -- ---- tokens and requests
@@ -111,7 +116,8 @@ SendsIn old room new filled size code =
     ((old.waiting ≢ waiting.Nothing) × (code ≡ 1) × (new ≡ old) × (filled ≡ room) × (size ≡ 0))
     ⊎ ((old.waiting ≡ waiting.Nothing) × ((answer : Answer)
     × Plays old.disk event.In answer new.disk × Tells answer room filled size code
-    × (new ≡ record old { disk = new.disk }) × ServesToken old answer new))
+    × (new ≡ record old { disk = new.disk }) × ServesToken old answer new
+    × KeepsRoom old new))
 
 -- A request is answered at any time. It asks the device for nothing, of whatever life the disk is.
 abbrev pub AnswersSetup : Machine → List ℕ → List ℕ → Machine → List ℕ → ℕ → ℕ → Type 0
@@ -120,4 +126,4 @@ AnswersSetup old packet room new filled size code = (answer : Answer)
     × (new ≡ record old { disk = new.disk })
     × ServesEvent old (event.Setup packet) answer new
     × ((book : Book) → FitsDisk (state_of (medium_of old.disk)) old.disk book
-    → LeavesNoMore old new)
+    → LeavesNoMore old new) × KeepsRoom old new

@@ -3,7 +3,7 @@ ghost use Rattle.std.specs.Prelude.{◌≡◌, List, [], ℕ, length};
 ghost use Rattle.store_calls.specs.Outbox.{IsNoRoom};
 ghost use Rattle.disk_calls.specs.Plays.{medium_of};
 ghost use Rattle.disk_machine.specs.Asking.{AsksFor};
-ghost use Rattle.disk_machine.specs.Moves.{ServesOn, LeavesNoMore};
+ghost use Rattle.disk_machine.specs.Moves.{StaysSafe};
 ghost use Rattle.disk_machine.specs.declared.asked.Asked.TheVariants as asked;
 
 use crate::ask::DeviceAsk;
@@ -19,8 +19,7 @@ impl DiskMachine {
     pub fn next(&mut self, buffer: &mut [u8]) -> DeviceAsk
         requires { ¬ IsNoRoom (length buffer.old) }
         ensures asks { AsksFor self.old buffer.old result self.new buffer.new }
-        ensures serves { ServesOn self.old self.new }
-        ensures leaves { LeavesNoMore self.old self.new }
+        ensures stays { StaysSafe self.old self.new }
     {
         match self.asked {
             Asked::Nothing => self.ask(buffer),

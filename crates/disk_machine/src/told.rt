@@ -2,7 +2,7 @@
 ghost use Rattle.std.specs.Prelude.{◌≡◌};
 ghost use Rattle.disk_machine.specs.Asking.{Hears, IsDone, IsHonest, HasRead};
 ghost use Rattle.disk_machine.specs.Asking.{IsGivenUp, IsShownTo, counted};
-ghost use Rattle.disk_machine.specs.Moves.{ServesOn, ServesAtRest, LeavesNoMore};
+ghost use Rattle.disk_machine.specs.Moves.{StaysSafe, ServesAtRest};
 
 use crate::asked::Asked;
 use crate::done_fault::DoneFault;
@@ -25,8 +25,7 @@ impl DiskMachine {
     /// many as those of the sectors that it was to read. Nothing changes then.
     pub fn done(&mut self, ok: bool, bytes: &[u8]) -> Result<(), DoneFault>
         ensures is { Hears self.old ok bytes.now result self.new }
-        ensures serves { IsHonest self.old ok bytes.now → ServesOn self.old self.new }
-        ensures leaves { IsHonest self.old ok bytes.now → LeavesNoMore self.old self.new }
+        ensures stays { IsHonest self.old ok bytes.now → StaysSafe self.old self.new }
         ensures rest { ServesAtRest self.new }
     {
         let told = self.hear(ok, bytes);

@@ -1,8 +1,22 @@
 use Rattle.std.proofs.Common.{inr, refl}
+use Rattle.disk_machine.specs.Machine.{Machine}
 use Rattle.disk_machine.proofs.Playing.{token_serves}
+use Rattle.disk_machine.proofs.Staying.{event_room}
 use Rattle.disk_machine.proofs.machine.DiskMachine.token.Goals as goal
 
 pub returns-in-Nothing : goal.returns-in-Nothing
 returns-in-Nothing c =
     let sends = c.send_packet.ensures in
-    inr (c.in-Nothing.is, (sends.0, sends.1, sends.2, refl, token_serves _ _ _ sends.1 refl c.in-Nothing.is))
+    let old : Machine = c.args.self.now in
+    let new : Machine = record old { disk = c.send_packet.new.disk } in
+    inr (
+      c.in-Nothing.is,
+      (
+        sends.0,
+        sends.1,
+        sends.2,
+        refl,
+        token_serves old new sends.0 sends.1 refl c.in-Nothing.is,
+        event_room old new _ sends.0 sends.1 refl,
+      ),
+    )

@@ -1,0 +1,130 @@
+-- A call that is no event of the disk, and the room that each call keeps.
+use Rattle.std.proofs.Common.{◌≡◌, inl, inr, [], ◌∷◌, List, ℕ, zero, suc, Bool, true, false, length, refl, sym, ◌∙◌, ap, subst, arith}
+use Rattle.std.specs.Prelude.{Result}
+use Rattle.std.proofs.lemmas.Bool.{cases_lt}
+use Rattle.journal.specs.Places.{Shape}
+use Rattle.mirror.specs.declared.call.DeviceCall.{DeviceCall}
+use Rattle.window.specs.Window.{Window, take_first}
+use Rattle.spec.specs.declared.event.Event.{Event}
+use Rattle.spec.specs.declared.event.Answer.{Answer}
+use Rattle.scsi_unit.specs.declared.reading.HomeSectors.{HomeSectors}
+use Rattle.store_calls.specs.Outbox.{without}
+use Rattle.disk_calls.specs.Plays.{Disk, medium_of, layout_on, Plays}
+use Rattle.disk_calls.specs.Refusals.{HasRoom}
+use Rattle.disk_calls.specs.Room.{room_for}
+use Rattle.disk_machine.specs.Asking.{AsksFor, HandsOut, IsDone, HasRead, HasEnded, IsGivenUp, IsShownTo, IsHonest}
+use Rattle.disk_machine.specs.Idling.{StepsOn, HasStepped}
+use Rattle.disk_machine.specs.Machine.{Machine}
+use Rattle.disk_machine.specs.Moves.{ServesAtRest, StaysSafe, KeepsRoom, HasRoomBeside}
+use Rattle.disk_machine.specs.Packets.{HoldsBack}
+use Rattle.disk_machine.specs.declared.ask.DeviceAsk.{DeviceAsk}
+use Rattle.disk_machine.specs.declared.ask.DeviceAsk.TheVariants as ask
+use Rattle.disk_machine.specs.declared.asked.Asked.{Asked}
+use Rattle.disk_machine.specs.declared.asked.Asked.TheVariants as asked
+use Rattle.disk_machine.specs.declared.done_fault.DoneFault.{DoneFault}
+use Rattle.disk_machine.proofs.Handing.{asks_serves, asks_leave}
+use Rattle.disk_machine.proofs.Hearing.{done_serves, done_leaves}
+
+keeps_room : (old new : Machine) → new.most ≡ old.most → layout_on new.disk ≡ layout_on old.disk
+    → (medium_of new.disk).room ≡ (medium_of old.disk).room → KeepsRoom old new
+keeps_room old new most layout room fits = omega (arith, most, room, ap (λ (s : Shape). room_for s) layout, fits)
+
+same_room : (old new : Machine) → new ≡ old → KeepsRoom old new
+same_room old new same = subst (λ (s : Machine). KeepsRoom old s) (sym same) (λ fits. fits)
+
+-- ---- calls that leave the outbox
+
+one_goes : (calls : List DeviceCall) (w : Window) → (take_first calls w).room ≡ w.room
+one_goes [] w = refl
+one_goes (call ∷ calls) w = refl
+
+some_go : (count : ℕ) (w : Window) → (without count w).room ≡ w.room
+some_go zero w = refl
+some_go (suc count) w = one_goes (without count w).outbox (without count w) ∙ some_go count w
+
+handed_room : (old new : Machine) (count : ℕ) → HandsOut old count new → KeepsRoom old new
+handed_room old new count hands = keeps_room old new (ap (λ (s : Machine). s.most) hands.others)
+    (ap (λ (d : Disk). layout_on d) hands.rest.others)
+    (ap (λ (w : Window). w.room) hands.gone ∙ some_go count (medium_of old.disk))
+
+disk_stays : (old new : Machine) → new.most ≡ old.most → new.disk ≡ old.disk → KeepsRoom old new
+disk_stays old new most same = keeps_room old new most (ap (λ (d : Disk). layout_on d) same) (ap (λ (d : Disk). (medium_of d).room) same)
+
+asks_room : (old new : Machine) (room : List ℕ) (what : DeviceAsk) (filled : List ℕ) → AsksFor old room what new filled
+    → KeepsRoom old new
+asks_room old new room ask.Nothing filled asks = same_room old new asks.1
+asks_room old new room (ask.Write first count) filled asks = handed_room old new count asks.0
+asks_room old new room ask.Flush filled asks = handed_room old new 1 asks.0
+asks_room old new room (ask.Read home) filled asks =
+    disk_stays old new (ap (λ (s : Machine). s.most) asks.3) (ap (λ (s : Machine). s.disk) asks.3)
+
+pub asks_safe : (old new : Machine) (room : List ℕ) (what : DeviceAsk) (filled : List ℕ) → AsksFor old room what new filled
+    → StaysSafe old new
+asks_safe old new room what filled asks = record {
+  serves = asks_serves old new room what filled asks;
+  leaves = asks_leave old new room what filled asks;
+  room = asks_room old new room what filled asks;
+}
+
+-- ---- calls that have ended
+
+given_up_room : (old new : Machine) (count : ℕ) → IsGivenUp old count new → KeepsRoom old new
+given_up_room old new count gone = keeps_room old new (ap (λ (s : Machine). s.most) gone.others)
+    (ap (λ (d : Disk). layout_on d) gone.refused.others)
+    (ap (λ (w : Window). w.room) gone.refused.emptied.medium ∙ some_go (length (medium_of old.disk).outbox) (medium_of old.disk))
+
+shown_room : (old new : Machine) (home : HomeSectors) (bytes : List ℕ) → IsShownTo old home bytes new → KeepsRoom old new
+shown_room old new home bytes shown = keeps_room old new (ap (λ (s : Machine). s.most) shown.others)
+    (ap (λ (d : Disk). layout_on d) shown.sees.others) (ap (λ (w : Window). w.room) shown.sees.shown.others)
+
+read_room : (home : HomeSectors) (ok : Bool) (old new : Machine) (bytes : List ℕ) (result : Result (Unit {0}) DoneFault)
+    → HasRead home ok old bytes result new → KeepsRoom old new
+read_room home true old new bytes result (inl bad) = same_room old new bad.1.1
+read_room home true old new bytes result (inr good) = shown_room old new home bytes good.2
+read_room home false old new bytes result read =
+    disk_stays old new (ap (λ (s : Machine). s.most) read.1) (ap (λ (s : Machine). s.disk) read.1)
+
+calls_room : (count : ℕ) (ok : Bool) (old new : Machine) (result : Result (Unit {0}) DoneFault) → HasEnded count ok old result new
+    → KeepsRoom old new
+calls_room count true old new result ended =
+    disk_stays old new (ap (λ (s : Machine). s.most) ended.1) (ap (λ (s : Machine). s.disk) ended.1)
+calls_room count false old new result ended = given_up_room old new count ended.1
+
+done_room : (a : Asked) (ok : Bool) (old new : Machine) (bytes : List ℕ) (result : Result (Unit {0}) DoneFault)
+    → IsDone a ok old bytes result new → KeepsRoom old new
+done_room asked.Nothing ok old new bytes result done = same_room old new done.1
+done_room (asked.Calls count) ok old new bytes result done = calls_room count ok old new result done
+done_room (asked.Read home) ok old new bytes result done = read_room home ok old new bytes result done
+done_room (asked.Refused count left) ok old new bytes result done = same_room old new done.1
+
+pub done_safe : (a : Asked) (ok : Bool) (old new : Machine) (bytes : List ℕ) (result : Result (Unit {0}) DoneFault)
+    → old.asked ≡ a → IsDone a ok old bytes result new → ServesAtRest new → IsHonest old ok bytes → StaysSafe old new
+done_safe a ok old new bytes result was done rest honest = record {
+  serves = done_serves a ok old new bytes result was done rest honest;
+  leaves = done_leaves a ok old new bytes result was done honest;
+  room = done_room a ok old new bytes result done;
+}
+
+-- ---- events
+
+pub event_room : (old new : Machine) (event : Event) (answer : Answer) → Plays old.disk event answer new.disk → new.most ≡ old.most
+    → KeepsRoom old new
+event_room old new event answer plays most = keeps_room old new most plays.step.few.layout_stays plays.follows.room_stays
+
+-- a packet is taken where it has room
+pub has_room : (s : Machine) → ¬ HoldsBack s → HasRoomBeside s → HasRoom s.disk
+has_room s free fits = elim (cases_lt s.most (length (medium_of s.disk).outbox)) [
+  | inl many ↦ absurd (free (inr (inr many)))
+  | inr few ↦ omega (arith, few, fits)
+]
+
+step_room : (old : Machine) (most count : ℕ) (new : Disk) → StepsOn most count old.disk new → KeepsRoom old (record old { disk = new })
+step_room old most zero new same = disk_stays old (record old { disk = new }) refl same
+step_room old most (suc count) new steps = λ fits.
+    event_room (record old { disk = steps.0 }) (record old { disk = new }) _ _ steps.3 refl
+    (step_room old most count steps.0 steps.1 fits)
+
+pub idle_room : (old new : Machine) → HasStepped old new → KeepsRoom old new
+idle_room old new (inl held) = same_room old new held.1
+idle_room old new (inr made) = subst (λ (s : Machine). KeepsRoom old s) (sym made.2)
+    (step_room old old.most made.1.count new.disk made.1.steps)
