@@ -6,9 +6,11 @@ use Rattle.scsi_unit.specs.Background.{is_dead, steps_left}
 use Rattle.disk_calls.specs.Plays.{Disk, medium_of, Plays}
 use Rattle.disk_machine.specs.Machine.{Machine}
 use Rattle.disk_machine.specs.Moves.{ServesOn, KeepsRoom}
-use Rattle.disk_machine.specs.Packets.{is_reading, is_starting}
+use Rattle.disk_machine.specs.Packets.{is_reading}
 use Rattle.disk_machine.specs.declared.lack.Lack.{Lack}
 use Rattle.disk_machine.specs.declared.lack.Lack.TheVariants as lack
+use Rattle.disk_machine.specs.declared.waiting.Waiting.{Waiting}
+use Rattle.disk_machine.specs.declared.waiting.Waiting.TheVariants as waiting
 
 -- a READ lacks sectors that are to be read
 abbrev pub is_wanted : Lack → Bool
@@ -16,10 +18,15 @@ is_wanted lack.Nothing = false
 is_wanted (lack.Wanted home) = true
 is_wanted (lack.Unread home) = false
 
--- No step is made now: the device has not carried out the calls of the start, or it reads, or is to
--- read.
+-- something waits until the device has carried out all: steps would put it off
+abbrev pub is_waiting : Waiting → Bool
+is_waiting waiting.Nothing = false
+is_waiting waiting.Promise = true
+is_waiting waiting.Start = true
+
+-- No step is made now: something waits for the device, or it reads, or is to read.
 abbrev pub IsHeld : Machine → Type 0
-IsHeld s = (is_starting s.waiting ≡ true)
+IsHeld s = (is_waiting s.waiting ≡ true)
     ⊎ ((is_reading s.asked ≡ true) ⊎ (is_wanted s.lack ≡ true))
 
 -- so few calls wait that a step is made

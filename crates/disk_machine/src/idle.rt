@@ -1,10 +1,11 @@
 //! What a machine does in the background.
 ghost use Rattle.std.specs.Prelude.{◌≡◌, ◌↔◌, IsTrue};
 ghost use Rattle.disk_machine.specs.Idling.{Idles, HasStepped, IsHeld, IsShort, MakesSteps};
-ghost use Rattle.disk_machine.specs.Idling.{is_wanted};
+ghost use Rattle.disk_machine.specs.Idling.{is_waiting, is_wanted};
 
 use crate::lack::Lack;
 use crate::machine::DiskMachine;
+use crate::waiting::Waiting;
 use bot_machine::Disk;
 use disk_calls::make_step;
 use window::WindowMedium;
@@ -16,8 +17,9 @@ const MOST_STEPS: u32 = 32;
 const MOST_WAITING: usize = 63;
 
 impl DiskMachine {
-    /// Steps in the background: where no packet comes, and the device is at no read. Whether some
-    /// are left; of a faulted disk some always are.
+    /// Steps in the background, for when no packet comes: none while a promise or the calls of the
+    /// start wait for the device, or it reads or is to read, or many calls wait. Whether some are
+    /// left; of a faulted disk some always are.
     pub fn idle(&mut self) -> bool
         ensures { Idles self.old self.new result }
     {
@@ -39,7 +41,17 @@ impl DiskMachine {
     fn is_held(&self) -> bool
         ensures { IsTrue result ↔ IsHeld self.now }
     {
-        self.is_starting() || self.is_reading() || self.is_wanted()
+        self.is_waiting() || self.is_reading() || self.is_wanted()
+    }
+
+    // Whether something waits until the device has carried out all.
+    fn is_waiting(&self) -> bool
+        ensures { result ≡ is_waiting self.now.waiting }
+    {
+        match self.waiting {
+            Waiting::Nothing => false,
+            Waiting::Promise | Waiting::Start => true,
+        }
     }
 
     // Whether the device is to read sectors that a READ lacks.

@@ -60,7 +60,7 @@ impl DiskMachine {
     }
 
     // Whether the device has not carried out all that the start made.
-    pub(crate) fn is_starting(&self) -> bool
+    fn is_starting(&self) -> bool
         ensures { result ≡ is_starting self.now.waiting }
     {
         match self.waiting {
