@@ -8,3 +8,4 @@ pub mod StepBooks
 pub mod StepLaws
 pub mod Playing
 pub mod Staying
+pub mod Lagging

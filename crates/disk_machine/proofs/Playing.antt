@@ -16,8 +16,8 @@ use Rattle.bot_machine.specs.Disk.{FitsDisk, over}
 use Rattle.disk_calls.specs.Plays.{Disk, medium_of, Plays, AnswersRequest}
 use Rattle.disk_machine.specs.Machine.{Machine, Serves, has_refused, under_way}
 use Rattle.disk_machine.specs.Idling.{StepsOn, HasStepped}
-use Rattle.disk_machine.specs.Moves.{ServesAtRest, LeavesNoMore, ServesOn, ServesEvent, ServesToken}
-use Rattle.disk_machine.specs.Packets.{AnswersSetup, HoldsBack, PlaysOut, ServesOut, is_behind, waits_for}
+use Rattle.disk_machine.specs.Moves.{is_behind, ServesAtRest, LeavesNoMore, ServesOn, ServesEvent, ServesToken}
+use Rattle.disk_machine.specs.Packets.{AnswersSetup, HoldsBack, PlaysOut, ServesOut, waits_for}
 use Rattle.disk_machine.specs.declared.asked.Asked.{Asked}
 use Rattle.disk_machine.specs.declared.asked.Asked.TheVariants as asked
 use Rattle.disk_machine.specs.declared.waiting.Waiting.{Waiting}
@@ -25,7 +25,7 @@ use Rattle.disk_machine.specs.declared.waiting.Waiting.TheVariants as waiting
 use Rattle.disk_machine.proofs.Handing.{IsSentStill, leaves_no_more}
 use Rattle.disk_machine.proofs.Standing.{keeps_all}
 use Rattle.disk_machine.proofs.Events.{serves_event}
-use Rattle.disk_machine.proofs.Staying.{event_room, has_room}
+use Rattle.disk_machine.proofs.Staying.{event_goes_on, out_goes_on, has_room}
 
 -- ---- a packet
 
@@ -50,7 +50,7 @@ out_serves old new packet code free plays rest =
     let same : new.asked ≡ old.asked = ap (λ (s : Machine). s.asked) plays.others in record {
       played = plays;
       has_room = has_room old free;
-      room = event_room old new _ _ plays.plays (ap (λ (s : Machine). s.most) plays.others);
+      goes_on = out_goes_on old new packet code plays;
       serves = serves_event old new (event.Out (record { items = packet })) plays.answer plays.plays same (λ none fine. elim
           (not_waiting plays.promises (is_behind old.asked (medium_of new.disk).outbox) old.waiting
           (sym (ap (λ (s : Machine). s.waiting) plays.others) ∙ none)) [
@@ -97,7 +97,7 @@ setup_answers old new packet room filled size code others answers = (
   quiet_serves old new (event.Setup packet) answers.0 answers.1 others (λ book block taken carried_out. carried_out),
   λ book fits. quiet_leaves old new (event.Setup packet) answers.0 answers.1 others (λ book block taken carried_out. carried_out)
       book fits (λ acts. acts),
-  event_room old new (event.Setup packet) answers.0 answers.1 (ap (λ (s : Machine). s.most) others),
+  event_goes_on old new (event.Setup packet) answers.0 answers.1 others,
 )
 
 -- all that is promised is told

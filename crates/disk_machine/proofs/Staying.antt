@@ -15,22 +15,27 @@ use Rattle.disk_calls.specs.Room.{room_for}
 use Rattle.disk_machine.specs.Asking.{AsksFor, HandsOut, IsDone, HasRead, HasEnded, IsGivenUp, IsShownTo, IsHonest}
 use Rattle.disk_machine.specs.Idling.{StepsOn, HasStepped}
 use Rattle.disk_machine.specs.Machine.{Machine}
-use Rattle.disk_machine.specs.Moves.{ServesAtRest, StaysSafe, KeepsRoom, HasRoomBeside}
-use Rattle.disk_machine.specs.Packets.{HoldsBack}
+use Rattle.disk_machine.specs.Moves.{ServesAtRest, StaysSafe, KeepsGoing, HasRoomBeside}
+use Rattle.disk_machine.specs.Packets.{HoldsBack, PlaysOut}
 use Rattle.disk_machine.specs.declared.ask.DeviceAsk.{DeviceAsk}
 use Rattle.disk_machine.specs.declared.ask.DeviceAsk.TheVariants as ask
 use Rattle.disk_machine.specs.declared.asked.Asked.{Asked}
 use Rattle.disk_machine.specs.declared.asked.Asked.TheVariants as asked
+use Rattle.disk_machine.specs.declared.lack.Lack.TheVariants as lack
 use Rattle.disk_machine.specs.declared.done_fault.DoneFault.{DoneFault}
 use Rattle.disk_machine.proofs.Handing.{asks_serves, asks_leave}
+use Rattle.disk_machine.proofs.Lagging.{asks_wait, done_wait, event_waits, out_waits, idle_waits}
 use Rattle.disk_machine.proofs.Hearing.{done_serves, done_leaves}
 
+abbrev RoomStays : Machine → Machine → Type 0
+RoomStays old new = HasRoomBeside old → HasRoomBeside new
+
 keeps_room : (old new : Machine) → new.most ≡ old.most → layout_on new.disk ≡ layout_on old.disk
-    → (medium_of new.disk).room ≡ (medium_of old.disk).room → KeepsRoom old new
+    → (medium_of new.disk).room ≡ (medium_of old.disk).room → RoomStays old new
 keeps_room old new most layout room fits = omega (arith, most, room, ap (λ (s : Shape). room_for s) layout, fits)
 
-same_room : (old new : Machine) → new ≡ old → KeepsRoom old new
-same_room old new same = subst (λ (s : Machine). KeepsRoom old s) (sym same) (λ fits. fits)
+same_room : (old new : Machine) → new ≡ old → RoomStays old new
+same_room old new same = subst (λ (s : Machine). RoomStays old s) (sym same) (λ fits. fits)
 
 -- ---- calls that leave the outbox
 
@@ -42,16 +47,16 @@ some_go : (count : ℕ) (w : Window) → (without count w).room ≡ w.room
 some_go zero w = refl
 some_go (suc count) w = one_goes (without count w).outbox (without count w) ∙ some_go count w
 
-handed_room : (old new : Machine) (count : ℕ) → HandsOut old count new → KeepsRoom old new
+handed_room : (old new : Machine) (count : ℕ) → HandsOut old count new → RoomStays old new
 handed_room old new count hands = keeps_room old new (ap (λ (s : Machine). s.most) hands.others)
     (ap (λ (d : Disk). layout_on d) hands.rest.others)
     (ap (λ (w : Window). w.room) hands.gone ∙ some_go count (medium_of old.disk))
 
-disk_stays : (old new : Machine) → new.most ≡ old.most → new.disk ≡ old.disk → KeepsRoom old new
+disk_stays : (old new : Machine) → new.most ≡ old.most → new.disk ≡ old.disk → RoomStays old new
 disk_stays old new most same = keeps_room old new most (ap (λ (d : Disk). layout_on d) same) (ap (λ (d : Disk). (medium_of d).room) same)
 
 asks_room : (old new : Machine) (room : List ℕ) (what : DeviceAsk) (filled : List ℕ) → AsksFor old room what new filled
-    → KeepsRoom old new
+    → RoomStays old new
 asks_room old new room ask.Nothing filled asks = same_room old new asks.1
 asks_room old new room (ask.Write first count) filled asks = handed_room old new count asks.0
 asks_room old new room ask.Flush filled asks = handed_room old new 1 asks.0
@@ -63,35 +68,35 @@ pub asks_safe : (old new : Machine) (room : List ℕ) (what : DeviceAsk) (filled
 asks_safe old new room what filled asks = record {
   serves = asks_serves old new room what filled asks;
   leaves = asks_leave old new room what filled asks;
-  room = asks_room old new room what filled asks;
+  goes_on = record { room = asks_room old new room what filled asks; waits = asks_wait old new room what filled asks };
 }
 
 -- ---- calls that have ended
 
-given_up_room : (old new : Machine) (count : ℕ) → IsGivenUp old count new → KeepsRoom old new
+given_up_room : (old new : Machine) (count : ℕ) → IsGivenUp old count new → RoomStays old new
 given_up_room old new count gone = keeps_room old new (ap (λ (s : Machine). s.most) gone.others)
     (ap (λ (d : Disk). layout_on d) gone.refused.others)
     (ap (λ (w : Window). w.room) gone.refused.emptied.medium ∙ some_go (length (medium_of old.disk).outbox) (medium_of old.disk))
 
-shown_room : (old new : Machine) (home : HomeSectors) (bytes : List ℕ) → IsShownTo old home bytes new → KeepsRoom old new
+shown_room : (old new : Machine) (home : HomeSectors) (bytes : List ℕ) → IsShownTo old home bytes new → RoomStays old new
 shown_room old new home bytes shown = keeps_room old new (ap (λ (s : Machine). s.most) shown.others)
     (ap (λ (d : Disk). layout_on d) shown.sees.others) (ap (λ (w : Window). w.room) shown.sees.shown.others)
 
 read_room : (home : HomeSectors) (ok : Bool) (old new : Machine) (bytes : List ℕ) (result : Result (Unit {0}) DoneFault)
-    → HasRead home ok old bytes result new → KeepsRoom old new
+    → HasRead home ok old bytes result new → RoomStays old new
 read_room home true old new bytes result (inl bad) = same_room old new bad.1.1
 read_room home true old new bytes result (inr good) = shown_room old new home bytes good.2
 read_room home false old new bytes result read =
     disk_stays old new (ap (λ (s : Machine). s.most) read.1) (ap (λ (s : Machine). s.disk) read.1)
 
 calls_room : (count : ℕ) (ok : Bool) (old new : Machine) (result : Result (Unit {0}) DoneFault) → HasEnded count ok old result new
-    → KeepsRoom old new
+    → RoomStays old new
 calls_room count true old new result ended =
     disk_stays old new (ap (λ (s : Machine). s.most) ended.1) (ap (λ (s : Machine). s.disk) ended.1)
 calls_room count false old new result ended = given_up_room old new count ended.1
 
 done_room : (a : Asked) (ok : Bool) (old new : Machine) (bytes : List ℕ) (result : Result (Unit {0}) DoneFault)
-    → IsDone a ok old bytes result new → KeepsRoom old new
+    → IsDone a ok old bytes result new → RoomStays old new
 done_room asked.Nothing ok old new bytes result done = same_room old new done.1
 done_room (asked.Calls count) ok old new bytes result done = calls_room count ok old new result done
 done_room (asked.Read home) ok old new bytes result done = read_room home ok old new bytes result done
@@ -102,13 +107,13 @@ pub done_safe : (a : Asked) (ok : Bool) (old new : Machine) (bytes : List ℕ) (
 done_safe a ok old new bytes result was done rest honest = record {
   serves = done_serves a ok old new bytes result was done rest honest;
   leaves = done_leaves a ok old new bytes result was done honest;
-  room = done_room a ok old new bytes result done;
+  goes_on = record { room = done_room a ok old new bytes result done; waits = done_wait a ok old new bytes result was done };
 }
 
 -- ---- events
 
-pub event_room : (old new : Machine) (event : Event) (answer : Answer) → Plays old.disk event answer new.disk → new.most ≡ old.most
-    → KeepsRoom old new
+event_room : (old new : Machine) (event : Event) (answer : Answer) → Plays old.disk event answer new.disk → new.most ≡ old.most
+    → RoomStays old new
 event_room old new event answer plays most = keeps_room old new most plays.step.few.layout_stays plays.follows.room_stays
 
 -- a packet is taken where it has room
@@ -118,13 +123,43 @@ has_room s free fits = elim (cases_lt s.most (length (medium_of s.disk).outbox))
   | inr few ↦ omega (arith, few, fits)
 ]
 
-step_room : (old : Machine) (most count : ℕ) (new : Disk) → StepsOn most count old.disk new → KeepsRoom old (record old { disk = new })
+step_room : (old : Machine) (most count : ℕ) (new : Disk) → StepsOn most count old.disk new → RoomStays old (record old { disk = new })
 step_room old most zero new same = disk_stays old (record old { disk = new }) refl same
 step_room old most (suc count) new steps = λ fits.
     event_room (record old { disk = steps.0 }) (record old { disk = new }) _ _ steps.3 refl
     (step_room old most count steps.0 steps.1 fits)
 
-pub idle_room : (old new : Machine) → HasStepped old new → KeepsRoom old new
+idle_room : (old new : Machine) → HasStepped old new → RoomStays old new
 idle_room old new (inl held) = same_room old new held.1
-idle_room old new (inr made) = subst (λ (s : Machine). KeepsRoom old s) (sym made.2)
+idle_room old new (inr made) = subst (λ (s : Machine). RoomStays old s) (sym made.2)
     (step_room old old.most made.1.count new.disk made.1.steps)
+
+pub event_goes_on : (old new : Machine) (event : Event) (answer : Answer) → Plays old.disk event answer new.disk
+    → new ≡ record old { disk = new.disk } → KeepsGoing old new
+event_goes_on old new event answer plays others = record {
+  room = event_room old new event answer plays (ap (λ (s : Machine). s.most) others);
+  waits = event_waits old new event answer plays (ap (λ (s : Machine). s.asked) others) (ap (λ (s : Machine). s.waiting) others);
+}
+
+pub out_goes_on : (old new : Machine) (packet : List ℕ) (code : ℕ) → PlaysOut old packet new code → KeepsGoing old new
+out_goes_on old new packet code plays = record {
+  room = event_room old new _ _ plays.plays (ap (λ (s : Machine). s.most) plays.others);
+  waits = out_waits old new packet code plays;
+}
+
+pub idle_goes_on : (old new : Machine) → HasStepped old new → KeepsGoing old new
+idle_goes_on old new stepped = record { room = idle_room old new stepped; waits = idle_waits old new stepped }
+
+-- what is to be read changes nothing else
+pub lacking_safe : (s : Machine) (home : HomeSectors) → StaysSafe s (record s { lack = lack.Wanted home })
+lacking_safe s home = record {
+  serves = λ told book serves. record {
+    fits = serves.fits;
+    fewer = serves.fewer;
+    keeps = serves.keeps;
+    all = serves.all;
+    faulted = serves.faulted;
+  };
+  leaves = λ image left. left;
+  goes_on = record { room = λ fits. fits; waits = λ waits. waits };
+}

@@ -5,7 +5,7 @@ use Rattle.spec.specs.declared.event.Answer.TheVariants as answer
 use Rattle.scsi_unit.specs.Background.{is_dead, steps_left}
 use Rattle.disk_calls.specs.Plays.{Disk, medium_of, Plays}
 use Rattle.disk_machine.specs.Machine.{Machine}
-use Rattle.disk_machine.specs.Moves.{ServesOn, KeepsRoom}
+use Rattle.disk_machine.specs.Moves.{ServesOn, KeepsGoing}
 use Rattle.disk_machine.specs.Packets.{is_reading}
 use Rattle.disk_machine.specs.declared.lack.Lack.{Lack}
 use Rattle.disk_machine.specs.declared.lack.Lack.TheVariants as lack
@@ -61,4 +61,4 @@ pub record Idles (old new : Machine) (left : Bool) : Type 0 where
   pub stepped : HasStepped old new
   pub none_left : (left ≡ false) ↔ IsAllDone new.disk
   pub serves : ServesOn old new
-  pub room : KeepsRoom old new
+  pub goes_on : KeepsGoing old new

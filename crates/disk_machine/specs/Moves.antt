@@ -1,5 +1,5 @@
 -- What each call leaves true of a machine.
-use Rattle.std.specs.Prelude.{◌≡◌, ◌≤◌, ◌+◌, ℕ, Bool, false, List, [], ◌∷◌, if◌then◌else◌}
+use Rattle.std.specs.Prelude.{◌≡◌, ◌≢◌, ◌≤◌, ◌+◌, ℕ, Bool, true, false, List, [], ◌∷◌, if◌then◌else◌}
 use Rattle.medium.specs.Medium.{Image}
 use Rattle.mirror.specs.declared.call.DeviceCall.{DeviceCall}
 use Rattle.mirror.specs.OutboxMedium.{sent}
@@ -15,6 +15,7 @@ use Rattle.disk_calls.specs.Parts.{CoversParts}
 use Rattle.disk_calls.specs.Plays.{Disk, medium_of, layout_on}
 use Rattle.disk_calls.specs.Room.{room_for}
 use Rattle.disk_machine.specs.Machine.{Machine, MayLeave, Serves, IsCaughtUp, has_refused}
+use Rattle.disk_machine.specs.declared.asked.Asked.{Asked}
 use Rattle.disk_machine.specs.declared.asked.Asked.TheVariants as asked
 use Rattle.disk_machine.specs.declared.state.MachineState.{MachineState}
 use Rattle.disk_machine.specs.declared.state.MachineState.TheVariants as state
@@ -79,14 +80,30 @@ ServesOn old new = (told : ℕ) (book : Book) → Serves old told book → Serve
 abbrev pub HasRoomBeside : Machine → Type 0
 HasRoomBeside s = s.most + room_for (layout_on s.disk) ≤ (medium_of s.disk).room
 
-abbrev pub KeepsRoom : Machine → Machine → Type 0
-KeepsRoom old new = HasRoomBeside old → HasRoomBeside new
+-- the device has told none of its calls refused, and not all of them done
+abbrev pub is_behind : Asked → List DeviceCall → Bool
+is_behind (asked.Refused count left) calls = false
+is_behind (asked.Calls count) calls = true
+is_behind (asked.Read home) [] = false
+is_behind (asked.Read home) (call ∷ calls) = true
+is_behind asked.Nothing [] = false
+is_behind asked.Nothing (call ∷ calls) = true
+
+-- Nothing waits for a device that is not behind: so where something does, the device is at a call,
+-- or `next` tells it one.
+abbrev pub WaitsForDevice : Machine → Type 0
+WaitsForDevice s = s.waiting ≢ waiting.Nothing
+    → is_behind s.asked (medium_of s.disk).outbox ≡ true
+
+pub record KeepsGoing (old new : Machine) : Type 0 where
+  pub room : HasRoomBeside old → HasRoomBeside new
+  pub waits : WaitsForDevice old → WaitsForDevice new
 
 -- a call that is no event of the disk
 pub record StaysSafe (old new : Machine) : Type 0 where
   pub serves : ServesOn old new
   pub leaves : LeavesNoMore old new
-  pub room : KeepsRoom old new
+  pub goes_on : KeepsGoing old new
 
 -- One event of the disk: by the rules, for each life that the machine serves, and it serves that on
 -- with the book of behind it. No promise is told.

@@ -1,7 +1,6 @@
 -- What packets do to a machine.
 use Rattle.std.specs.Prelude.{◌≡◌, ◌≢◌, ◌⊎◌, ℕ, ◌<◌, ◌≤◌, Bool, true, false, ◌&&◌}
-use Rattle.std.specs.Prelude.{List, [], ◌∷◌, length}
-use Rattle.mirror.specs.declared.call.DeviceCall.{DeviceCall}
+use Rattle.std.specs.Prelude.{List, length}
 use Rattle.window.specs.Window.{state_of}
 use Rattle.spec.specs.Book.{Book}
 use Rattle.spec.specs.declared.event.Event.TheVariants as event
@@ -15,7 +14,7 @@ use Rattle.disk_calls.specs.Refusals.{HasRoom}
 use Rattle.disk_calls.specs.Wanted.{Wants, WantsNone}
 use Rattle.disk_machine.specs.Machine.{Machine}
 use Rattle.disk_machine.specs.Moves.{ServesEvent, ServesToken, StaysSafe, LeavesNoMore}
-use Rattle.disk_machine.specs.Moves.{KeepsRoom, HasRoomBeside}
+use Rattle.disk_machine.specs.Moves.{KeepsGoing, HasRoomBeside, is_behind}
 use Rattle.disk_machine.specs.declared.asked.Asked.{Asked}
 use Rattle.disk_machine.specs.declared.asked.Asked.TheVariants as asked
 use Rattle.disk_machine.specs.declared.lack.Lack.TheVariants as lack
@@ -55,15 +54,6 @@ LacksNone s packet = WantsNone s.disk packet
 
 -- ---- what a packet does
 
--- the device has told none of its calls refused, and not all of them done
-abbrev pub is_behind : Asked → List DeviceCall → Bool
-is_behind (asked.Refused count left) calls = false
-is_behind (asked.Calls count) calls = true
-is_behind (asked.Read home) [] = false
-is_behind (asked.Read home) (call ∷ calls) = true
-is_behind asked.Nothing [] = false
-is_behind asked.Nothing (call ∷ calls) = true
-
 -- a status that promises waits where the device is behind
 abbrev pub waits_for : Bool → Waiting → Waiting
 waits_for true was = waiting.Promise
@@ -94,7 +84,7 @@ pub record ServesOut (old : Machine) (packet : List ℕ) (new : Machine) (code :
   pub played : PlaysOut old packet new code
   pub serves : ServesEvent old (event.Out (record { items = packet })) played.answer new
   pub has_room : HasRoomBeside old → HasRoom old.disk
-  pub room : KeepsRoom old new
+  pub goes_on : KeepsGoing old new
 
 -- A packet to Bulk-Out that is too long changes nothing. One that is not taken now is told to come
 -- again, and the disk does not see it: the sectors that it lacks are to be read. Each other is
@@ -117,7 +107,7 @@ SendsIn old room new filled size code =
     ⊎ ((old.waiting ≡ waiting.Nothing) × ((answer : Answer)
     × Plays old.disk event.In answer new.disk × Tells answer room filled size code
     × (new ≡ record old { disk = new.disk }) × ServesToken old answer new
-    × KeepsRoom old new))
+    × KeepsGoing old new))
 
 -- A request is answered at any time. It asks the device for nothing, of whatever life the disk is.
 abbrev pub AnswersSetup : Machine → List ℕ → List ℕ → Machine → List ℕ → ℕ → ℕ → Type 0
@@ -126,4 +116,4 @@ AnswersSetup old packet room new filled size code = (answer : Answer)
     × (new ≡ record old { disk = new.disk })
     × ServesEvent old (event.Setup packet) answer new
     × ((book : Book) → FitsDisk (state_of (medium_of old.disk)) old.disk book
-    → LeavesNoMore old new) × KeepsRoom old new
+    → LeavesNoMore old new) × KeepsGoing old new

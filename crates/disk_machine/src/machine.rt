@@ -1,6 +1,7 @@
 //! A disk, and the device behind it, which may be behind.
 ghost use Rattle.std.specs.Prelude.{◌≡◌};
-ghost use Rattle.disk_machine.specs.Moves.{ServesAtRest, BeginsBehind, begun, state_by, state_of};
+ghost use Rattle.disk_machine.specs.Moves.{ServesAtRest, BeginsBehind, WaitsForDevice};
+ghost use Rattle.disk_machine.specs.Moves.{begun, state_by, state_of};
 
 use crate::asked::Asked;
 use crate::lack::Lack;
@@ -33,6 +34,7 @@ impl DiskMachine {
         ensures is { result ≡ begun disk most }
         ensures serves { ServesAtRest result }
         ensures starts { BeginsBehind result }
+        ensures waits { WaitsForDevice result }
     {
         let waiting = if disk.medium().waiting() == 0 {
             Waiting::Nothing

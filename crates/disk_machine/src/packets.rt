@@ -2,7 +2,8 @@
 ghost use Rattle.std.specs.Prelude.{◌≡◌, ◌≤◌, ◌⊎◌, ◌↔◌, IsTrue, MatchOption, length};
 ghost use Rattle.disk_calls.specs.Plays.{medium_of};
 ghost use Rattle.disk_machine.specs.Packets.{HoldsBack, Lacks, LacksNone, PlaysOut, TakesOut};
-ghost use Rattle.disk_machine.specs.Packets.{is_behind, is_reading, is_starting};
+ghost use Rattle.disk_machine.specs.Packets.{is_reading, is_starting};
+ghost use Rattle.disk_machine.specs.Moves.{is_behind};
 ghost use Rattle.disk_machine.specs.declared.lack.Lack.TheVariants as lack;
 
 use crate::asked::Asked;

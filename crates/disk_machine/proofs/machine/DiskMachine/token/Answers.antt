@@ -1,7 +1,7 @@
 use Rattle.std.proofs.Common.{inr, refl}
 use Rattle.disk_machine.specs.Machine.{Machine}
 use Rattle.disk_machine.proofs.Playing.{token_serves}
-use Rattle.disk_machine.proofs.Staying.{event_room}
+use Rattle.disk_machine.proofs.Staying.{event_goes_on}
 use Rattle.disk_machine.proofs.machine.DiskMachine.token.Goals as goal
 
 pub returns-in-Nothing : goal.returns-in-Nothing
@@ -17,6 +17,6 @@ returns-in-Nothing c =
         sends.2,
         refl,
         token_serves old new sends.0 sends.1 refl c.in-Nothing.is,
-        event_room old new _ sends.0 sends.1 refl,
+        event_goes_on old new _ sends.0 sends.1 refl,
       ),
     )
