@@ -1,5 +1,6 @@
 -- What each call leaves true of a machine.
-use Rattle.std.specs.Prelude.{◌≡◌, ◌≢◌, ◌≤◌, ◌+◌, ℕ, Bool, true, false, List, [], ◌∷◌, if◌then◌else◌}
+use Rattle.std.specs.Prelude.{◌≡◌, ◌≢◌, ◌≤◌, ◌+◌, ℕ, Bool, true, false, List, [], ◌∷◌}
+use Rattle.std.specs.Prelude.{if◌then◌else◌}
 use Rattle.medium.specs.Medium.{Image}
 use Rattle.mirror.specs.declared.call.DeviceCall.{DeviceCall}
 use Rattle.mirror.specs.OutboxMedium.{sent}
