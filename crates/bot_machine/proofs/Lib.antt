@@ -13,6 +13,8 @@ pub mod TakenData
 pub mod AnswerLines
 pub mod OutPackets
 pub mod EventParts
+pub mod EventActs
+pub mod BookLaws
 pub mod Alternation
 pub mod Runs
 pub mod OneStep

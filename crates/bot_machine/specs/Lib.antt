@@ -11,6 +11,7 @@ pub mod Device
 pub mod Turns
 pub mod Acts
 pub mod Promising
+pub mod BookLaws
 pub mod Answers
 pub mod Fitting
 pub mod DiskValue

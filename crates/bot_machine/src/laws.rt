@@ -1,4 +1,5 @@
 //! What holds of every conversation.
+ghost use Rattle.bot_machine.specs.BookLaws.{AreBookLaws};
 ghost use Rattle.bot_machine.specs.Policy.{KeepsPolicy, PolicyIsUnseen};
 ghost use Rattle.bot_machine.specs.Striking.{TicksAreStruck};
 ghost use Rattle.bot_machine.specs.Transfers.{SizesAreAlike};
@@ -14,6 +15,13 @@ pub fn conversation_laws()
 /// whatever the size of a packet.
 pub fn packet_laws()
     ensures { SizesAreAlike }
+{}
+
+/// Does nothing: its contract says what an event does to the book of a life. A write in progress is
+/// the last one accepted, or the unit is faulted; the promises stay, or a command promises all
+/// accepted writes; nothing that the life opened with changes; a faulted unit keeps its book.
+pub fn book_laws()
+    ensures { AreBookLaws }
 {}
 
 /// Does nothing: its contract says that over its lives a disk retires as was asked at their start,
