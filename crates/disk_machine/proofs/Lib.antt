@@ -3,8 +3,6 @@ pub mod AtRest
 pub mod Handing
 pub mod Hearing
 pub mod Events
-pub mod StepParts
-pub mod StepBooks
 pub mod StepLaws
 pub mod Playing
 pub mod Staying

@@ -14,9 +14,9 @@ use Rattle.spec.specs.declared.event.Answer.{Answer}
 use Rattle.scsi_unit.specs.Books.{StandsAs, MayFind, FoundWith}
 use Rattle.scsi_unit.specs.Laws.{IsSameLife}
 use Rattle.bot_machine.specs.Promising.{PromisesNone}
+use Rattle.bot_machine.specs.BookLaws.{GrowsBy}
+use Rattle.bot_machine.proofs.BookLaws.{book_laws}
 use Rattle.disk_machine.specs.Machine.{promising, Finds}
-use Rattle.disk_machine.specs.BookLaws.{GrowsBy}
-use Rattle.disk_machine.proofs.StepBooks.{book_laws}
 
 -- ---- what may be found, from book to book
 

@@ -1,5 +1,4 @@
 pub mod Asking
-pub mod BookLaws
 pub mod Idling
 pub mod Machine
 pub mod Moves
