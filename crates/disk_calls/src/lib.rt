@@ -30,5 +30,5 @@ pub use play::{answer_request, make_step, play_packet, send_packet, show_sectors
 pub use refused::refuse;
 pub use run::gather;
 pub use sizes::{memory_for, room_for};
-pub use start::UsbDiskIdentity;
+pub use start::{Refusal, UsbDiskIdentity, begin};
 pub use wanted::unseen;

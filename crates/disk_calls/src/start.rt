@@ -25,7 +25,7 @@ pub struct UsbDiskIdentity {
 
 /// Why no disk was started.
 #[derive(Clone, Copy)]
-pub(crate) enum Refusal {
+pub enum Refusal {
     Identity,
     PacketSize,
     LittleRoom,
@@ -35,7 +35,7 @@ pub(crate) enum Refusal {
 
 impl Refusal {
     /// The number that C is told.
-    pub(crate) fn code(self) -> u32
+    pub fn code(self) -> u32
         ensures { result ≡ code_of_refusal self }
     {
         match self {
@@ -82,7 +82,7 @@ fn read_identity(identity: &UsbDiskIdentity) -> Option<Identity>
 /// In this order: `PacketSize` for packets of another size than 64 or 512 bytes, `Identity` for a
 /// text that is not printable, `LittleRoom`, `Length` as `store_calls::window_of`, or `Fault` with
 /// why the start was refused; with `NoMemory` also where the window or the disk found none.
-pub(crate) fn begin(
+pub fn begin(
     alloc: Global,
     near: &[u8],
     sectors: u64,

@@ -1,0 +1,3 @@
+pub mod Values
+pub mod InHandle
+pub mod Begun

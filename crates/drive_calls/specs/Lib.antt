@@ -1,0 +1,5 @@
+pub mod DriveRow
+pub mod Held
+pub mod Asks
+pub mod Starting
+pub mod Exports
