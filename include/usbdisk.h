@@ -5,10 +5,12 @@
  * Most programs need not this page but port/usbdisk_io.h, a layer over it in C: three functions of a
  * device, and whole transfers. docs/MAKERS.md begins with it.
  *
- * There are two ways in. The calls usbdisk_start to usbdisk_refused are the whole disk, for a controller
- * that hands packets over. The calls usbdisk_store_* are the store without the transport, for a stack that
- * speaks SCSI itself, as TinyUSB does. They come last here. If you use these, first read this page, the
- * numbers, usbdisk_room, usbdisk_memory, usbdisk_look, usbdisk_format and usbdisk_lay_log.
+ * There are three ways in. The calls usbdisk_start to usbdisk_refused are the whole disk, for a controller
+ * that hands packets over; the device carries out what a call made before the next call comes. The calls
+ * usbdisk_drive_* are the same disk for a device that works while packets come, by DMA or in a thread of
+ * its own. The calls usbdisk_store_* are the store without the transport, for a stack that speaks SCSI
+ * itself, as TinyUSB does. They come last here. If you use these, first read this page, the numbers,
+ * usbdisk_room, usbdisk_memory, usbdisk_look, usbdisk_format and usbdisk_lay_log.
  *
  * The disk has the device's first sectors in memory: the super (sector 0, which tells the sizes of the
  * image), the head (sector 1) and the log. The blocks lie in home sectors behind these, and stay on the
@@ -34,7 +36,7 @@
  * Threads: a disk or a store is used by one thread at a time. The library has no data of its own, and none of
  * a thread, so it may go from one to another behind a lock of the program's. No call may be made from a signal
  * handler or from an interrupt that can interrupt another call. No call waits. Only usbdisk_start,
- * usbdisk_store_start, usbdisk_format, usbdisk_lay_log and usbdisk_migrate take memory.
+ * usbdisk_drive_start, usbdisk_store_start, usbdisk_format, usbdisk_lay_log and usbdisk_migrate take memory.
  *
  * Errors: a call that answers one of the numbers from 16 on changed nothing, neither the disk nor
  * what its pointers point to. No pointer may be null, also where the size beside it is 0, and no two
@@ -115,14 +117,16 @@ enum {
     USBDISK_BAD_SIZES = 22,       /* sizes out of their limits, or too few bytes for them */
     USBDISK_NOT_TAKEN = 23,       /* sectors that cannot be shown */
     USBDISK_BAD_RANGE = 24,       /* a block behind the last one */
-    USBDISK_LITTLE_ROOM = 25      /* the outbox has less room than usbdisk_room tells for the image */
+    USBDISK_LITTLE_ROOM = 25,     /* the outbox has less room than usbdisk_room tells for the image */
+    USBDISK_NOT_ASKED = 26        /* no call of the device is under way */
 };
 
-/* What a call took out of the outbox. */
+/* What a call took out of the outbox, or what a drive wants of its device. */
 enum {
     USBDISK_NOTHING = 0,
     USBDISK_WRITE = 1,
-    USBDISK_FLUSH = 2
+    USBDISK_FLUSH = 2,
+    USBDISK_READ = 3 /* of a drive alone */
 };
 
 /* How many writes and flushes the outbox must have room for: for an image of this format (1 or 2) with
@@ -253,6 +257,122 @@ uint32_t usbdisk_take_run(struct usbdisk *disk, uint64_t *sector, uint8_t *bytes
  * What was promised before is on the device. WRITEs that were answered good and not promised may be
  * lost, as by a cut. Answers 0 or EMPTY. */
 uint32_t usbdisk_refused(struct usbdisk *disk);
+
+/* The whole disk, for a device that works while packets come: what the disk wants of the device is told one call
+ * at a time, the maker begins it, and until it has ended the disk takes packets, tokens and requests as ever.
+ * docs/MAKERS.md has a section on it, and examples/c/drive.c has a loop. What is told above of pointers, threads,
+ * the first sectors, identity, packets and requests holds here too; usbdisk_show, the outbox and the order "carry
+ * out, then answer" do not: these calls keep it.
+ *
+ *     for (;;) {
+ *         if (the device has ended the call)
+ *             usbdisk_drive_done(&drive, ok, bytes, of a READ: call.count * 512, else 0);
+ *         if (the device is free)
+ *             usbdisk_drive_next(&drive, &call, buffer, sizeof buffer), and begin it where there is one
+ *         if (the bus has a packet, a token or a request)
+ *             usbdisk_drive_out, usbdisk_drive_in, usbdisk_drive_setup
+ *         else if (the bus rests)
+ *             usbdisk_drive_idle(&drive)
+ *     }
+ *
+ * What a loss of power leaves is the same, wherever the device is: the next start finds the accepted writes in
+ * order, none in part, and all that were promised to the host. A status that promises (of a WRITE with FUA or
+ * with the write cache off, a READ with FUA, a SYNCHRONIZE CACHE, a MODE SELECT while the write cache is on)
+ * is handed out when the device has carried out all that waited. No other answer waits for the device, but while a
+ * promise does.
+ *
+ * A handle. Set it to USBDISK_DRIVE_NONE before usbdisk_drive_start; never write or copy it after. */
+struct usbdisk_drive {
+    void *at;
+};
+
+#define USBDISK_DRIVE_NONE { 0 }
+
+/* What a drive is started with. All is copied: nothing of it has to stay. */
+struct usbdisk_drive_options {
+    uint64_t sectors; /* how many sectors the device has */
+    struct usbdisk_identity identity;
+    uint32_t packet;              /* 64 at full speed, 512 at high speed */
+    struct usbdisk_device device; /* not looked at: a name for the device, of which the contracts speak */
+};
+
+/* A call of the device: `count` sectors, at least 1, from sector `sector` on, are to be read or written. Of NOTHING
+ * and FLUSH both are 0. */
+struct usbdisk_drive_call {
+    uint32_t kind; /* NOTHING, WRITE, FLUSH or READ */
+    uint64_t sector;
+    uint64_t count;
+};
+
+/* What a drive is at. */
+enum {
+    USBDISK_STARTING = 0, /* the device has not carried out the calls of the start: no packet is taken */
+    USBDISK_SERVING = 1,
+    USBDISK_FAULTED = 2 /* the device refused a WRITE or a FLUSH: it is asked for nothing until the next start */
+};
+
+/* Starts a disk, as usbdisk_start; near and near_size are as there. Room and span are the library's own: it takes as
+ * many bytes as usbdisk_memory tells for a span of 48 in format 1, 240 in format 2, and a room of 256 more than
+ * usbdisk_room tells, and some 64 more. Where power was lost the device has calls to carry out first: until then
+ * the drive is STARTING, and answers each packet NAK.
+ *
+ * Answers 0, a number from 1 to 10, or STARTED, BAD_PACKET_SIZE, BAD_IDENTITY or BAD_LENGTH, in the order of
+ * usbdisk_start. At all but 0 the handle stays as it was, and no memory is kept. */
+uint32_t usbdisk_drive_start(struct usbdisk_drive *drive, const struct usbdisk_drive_options *options,
+                             const uint8_t *near, size_t near_size);
+
+/* Stops the disk, and frees all memory. It writes nothing: what was not synchronised is lost as by a cut. A call that
+ * is under way is the device's own: let it end, or not. Answers 0 or EMPTY. */
+uint32_t usbdisk_drive_stop(struct usbdisk_drive *drive);
+
+/* The next call of the device, which is under way from then on, until usbdisk_drive_done tells that it has ended.
+ * NOTHING: the disk wants none now, or one is under way; ask again behind the next packet, request or idle.
+ *
+ * WRITE: the bytes lie in `buffer`, `count` sectors one behind the other, as many as wait in a row and as it has room
+ * for: one write of the device. FLUSH: all writes that were told done are to be made durable. READ: `count`
+ * sectors, at most 240, are to be read, into any place. The buffer is the maker's, who may have the device read
+ * it until usbdisk_drive_done: the library writes it in this call alone, and never keeps its address.
+ *
+ * size: 512 for each sector that there is room for; 122,880 is enough for each run and each READ.
+ *
+ * Answers 0; or EMPTY, or BAD_LENGTH where size is 0 or no multiple of 512, and `*call` and the buffer stay. */
+uint32_t usbdisk_drive_next(struct usbdisk_drive *drive, struct usbdisk_drive_call *call, uint8_t *buffer, size_t size);
+
+/* The call that is under way has ended. ok: the device carried it out. Of a READ `bytes` are what it gave, 512 for each
+ * sector; of the others they are not looked at: pass any address, and 0.
+ *
+ * Not ok, a READ: the READ of the host that lacks these sectors ends with CHECK CONDITION and 3/11/00, when its packet
+ * is handed in again, and the disk goes on. Not ok, a WRITE or FLUSH: as usbdisk_refused tells. The disk is
+ * faulted, no promise is told that was not told before, and the device is asked for nothing more. Any part of
+ * the WRITE may be on the device.
+ *
+ * Answers 0. Errors, in this order: EMPTY; NOT_ASKED where no call is under way; BAD_LENGTH where the bytes of a
+ * good READ are not as many as were asked for: the call is still under way. */
+uint32_t usbdisk_drive_done(struct usbdisk_drive *drive, bool ok, const uint8_t *bytes, size_t size);
+
+/* A packet came to the Bulk-Out endpoint. Answers ACK, NAK or STALL; or EMPTY or TOO_LONG.
+ *
+ * NAK: nothing happened to the packet. The disk waits for its device (the start is not carried out, it reads, or so
+ * much waits for it that the packet may have no room), or the packet is a READ that lacks home sectors, which
+ * usbdisk_drive_next tells from now on; or the host has not taken the status of the command before. Hand the
+ * same packet in again, behind the next done, idle or status; where a bus reset comes first, let go of it. */
+uint32_t usbdisk_drive_out(struct usbdisk_drive *drive, const uint8_t *packet, size_t size);
+
+/* The host asks the Bulk-In endpoint for a packet, as of usbdisk_bulk_in. NAK also while a status that promises waits
+ * for the device. Answers ACK, NAK, STALL or EMPTY. */
+uint32_t usbdisk_drive_in(struct usbdisk_drive *drive, uint8_t packet[512], uint32_t *size);
+
+/* A request came to the control endpoint, as of usbdisk_setup: it is answered whatever the device is at. A class
+ * reset drops an answer that waits, and takes no accepted write back. Answers ACK, STALL or EMPTY. */
+uint32_t usbdisk_drive_setup(struct usbdisk_drive *drive, const uint8_t setup[8], uint8_t data[2], uint32_t *size);
+
+/* Background work, up to 32 steps, while few calls wait for the device and no promise does. Call it while the bus is
+ * idle; it may be called at any time. Answers 1 while steps are left, or EMPTY; 0 where every accepted write is
+ * durable and at its home place once the device has carried out what waits. On a faulted disk it stays 1. */
+uint32_t usbdisk_drive_idle(struct usbdisk_drive *drive);
+
+/* Answers STARTING, SERVING or FAULTED, or EMPTY. */
+uint32_t usbdisk_drive_state(struct usbdisk_drive *drive);
 
 /* A handle with the calls that make an image on a device, or change its format. Set it to USBDISK_IMAGE_NONE
  * before usbdisk_format, usbdisk_lay_log or usbdisk_migrate; never write or copy it after. */

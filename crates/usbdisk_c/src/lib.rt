@@ -2,11 +2,16 @@
 #![tactic(auto)]
 
 mod codes;
+mod drive_exports;
 mod exports;
 mod image_exports;
 mod look;
 mod store_exports;
 
+pub use drive_exports::{
+    usbdisk_drive_done, usbdisk_drive_idle, usbdisk_drive_in, usbdisk_drive_next, usbdisk_drive_out,
+    usbdisk_drive_setup, usbdisk_drive_start, usbdisk_drive_state, usbdisk_drive_stop,
+};
 pub use exports::{
     usbdisk_bulk_in, usbdisk_bulk_out, usbdisk_memory, usbdisk_near, usbdisk_refused, usbdisk_room,
     usbdisk_setup, usbdisk_show, usbdisk_start, usbdisk_stop, usbdisk_take, usbdisk_take_run,
