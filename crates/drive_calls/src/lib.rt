@@ -7,7 +7,6 @@ mod bus;
 mod device;
 mod handle;
 mod moves;
-mod parts;
 mod start;
 mod turns;
 

@@ -2,8 +2,8 @@
 ghost use Rattle.std.specs.Prelude.{◌≡◌, true, false, Some, None, IsSome, MatchOption};
 
 use crate::handle::UsbDrive;
-use crate::parts::Parts;
 use crate::turns::{empty, handle_of, parts_of};
+use disk_calls::Parts;
 use disk_machine::DiskMachine;
 use std::alloc::Global;
 use std::mem;

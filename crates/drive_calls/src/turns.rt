@@ -2,7 +2,7 @@
 ghost use Rattle.std.specs.Prelude.{◌≡◌, Some, None, MatchOption};
 
 use crate::handle::{Opaque, UsbDrive};
-use crate::parts::Parts;
+use disk_calls::Parts;
 use disk_machine::DiskMachine;
 use std::alloc::Global;
 use std::ptr;
