@@ -7,3 +7,4 @@ pub mod StepLaws
 pub mod Playing
 pub mod Staying
 pub mod Lagging
+pub mod Dying

@@ -24,6 +24,7 @@ use Rattle.disk_machine.specs.declared.asked.Asked.TheVariants as asked
 use Rattle.disk_machine.specs.declared.lack.Lack.TheVariants as lack
 use Rattle.disk_machine.specs.declared.done_fault.DoneFault.{DoneFault}
 use Rattle.disk_machine.proofs.Handing.{asks_serves, asks_leave}
+use Rattle.disk_machine.proofs.Dying.{asks_dead, done_dead, event_dead, idle_dead}
 use Rattle.disk_machine.proofs.Lagging.{asks_wait, done_wait, event_waits, out_waits, idle_waits}
 use Rattle.disk_machine.proofs.Hearing.{done_serves, done_leaves}
 
@@ -68,7 +69,11 @@ pub asks_safe : (old new : Machine) (room : List ℕ) (what : DeviceAsk) (filled
 asks_safe old new room what filled asks = record {
   serves = asks_serves old new room what filled asks;
   leaves = asks_leave old new room what filled asks;
-  goes_on = record { room = asks_room old new room what filled asks; waits = asks_wait old new room what filled asks };
+  goes_on = record {
+    room = asks_room old new room what filled asks;
+    waits = asks_wait old new room what filled asks;
+    dead = λ dead. (asks_leave old new room what filled asks, asks_dead old new room what filled asks dead);
+  };
 }
 
 -- ---- calls that have ended
@@ -107,7 +112,11 @@ pub done_safe : (a : Asked) (ok : Bool) (old new : Machine) (bytes : List ℕ) (
 done_safe a ok old new bytes result was done rest honest = record {
   serves = done_serves a ok old new bytes result was done rest honest;
   leaves = done_leaves a ok old new bytes result was done honest;
-  goes_on = record { room = done_room a ok old new bytes result done; waits = done_wait a ok old new bytes result was done };
+  goes_on = record {
+    room = done_room a ok old new bytes result done;
+    waits = done_wait a ok old new bytes result was done;
+    dead = λ dead. (done_leaves a ok old new bytes result was done honest, done_dead a ok old new bytes result done dead);
+  };
 }
 
 -- ---- events
@@ -139,16 +148,22 @@ pub event_goes_on : (old new : Machine) (event : Event) (answer : Answer) → Pl
 event_goes_on old new event answer plays others = record {
   room = event_room old new event answer plays (ap (λ (s : Machine). s.most) others);
   waits = event_waits old new event answer plays (ap (λ (s : Machine). s.asked) others) (ap (λ (s : Machine). s.waiting) others);
+  dead = event_dead old new event answer plays (ap (λ (s : Machine). s.asked) others);
 }
 
 pub out_goes_on : (old new : Machine) (packet : List ℕ) (code : ℕ) → PlaysOut old packet new code → KeepsGoing old new
 out_goes_on old new packet code plays = record {
   room = event_room old new _ _ plays.plays (ap (λ (s : Machine). s.most) plays.others);
   waits = out_waits old new packet code plays;
+  dead = event_dead old new _ _ plays.plays (ap (λ (s : Machine). s.asked) plays.others);
 }
 
 pub idle_goes_on : (old new : Machine) → HasStepped old new → KeepsGoing old new
-idle_goes_on old new stepped = record { room = idle_room old new stepped; waits = idle_waits old new stepped }
+idle_goes_on old new stepped = record {
+  room = idle_room old new stepped;
+  waits = idle_waits old new stepped;
+  dead = idle_dead old new stepped;
+}
 
 -- what is to be read changes nothing else
 pub lacking_safe : (s : Machine) (home : HomeSectors) → StaysSafe s (record s { lack = lack.Wanted home })
@@ -161,5 +176,5 @@ lacking_safe s home = record {
     faulted = serves.faulted;
   };
   leaves = λ image left. left;
-  goes_on = record { room = λ fits. fits; waits = λ waits. waits };
+  goes_on = record { room = λ fits. fits; waits = λ waits. waits; dead = λ dead. (λ image left. left, dead) };
 }

@@ -11,6 +11,7 @@ use Rattle.spec.specs.UnitConversation.{UnitStep}
 use Rattle.spec.specs.declared.event.Event.{Event}
 use Rattle.spec.specs.declared.event.Event.TheVariants as event
 use Rattle.spec.specs.declared.event.Answer.{Answer}
+use Rattle.scsi_unit.specs.Background.{is_dead}
 use Rattle.bot_machine.specs.Disk.{FitsDisk, over}
 use Rattle.disk_calls.specs.Parts.{CoversParts}
 use Rattle.disk_calls.specs.Plays.{Disk, medium_of, layout_on}
@@ -96,9 +97,16 @@ abbrev pub WaitsForDevice : Machine → Type 0
 WaitsForDevice s = s.waiting ≢ waiting.Nothing
     → is_behind s.asked (medium_of s.disk).outbox ≡ true
 
+-- no write is accepted, and the device is asked for nothing new, until the next start
+abbrev pub IsDead : Machine → Type 0
+IsDead s = is_dead s.disk.unit.store.cached ≡ true
+
+-- What each call keeps. Of a faulted disk, however far its start had come, a loss of power leaves
+-- no more than before.
 pub record KeepsGoing (old new : Machine) : Type 0 where
   pub room : HasRoomBeside old → HasRoomBeside new
   pub waits : WaitsForDevice old → WaitsForDevice new
+  pub dead : IsDead old → LeavesNoMore old new × IsDead new
 
 -- a call that is no event of the disk
 pub record StaysSafe (old new : Machine) : Type 0 where

@@ -17,7 +17,7 @@ impl DiskMachine {
     /// A packet to Bulk-Out, and the number of its answer. It is told to come again while the
     /// device carries out the calls of the start, reads, or is so far behind that those of a packet
     /// might have no room; and before a READ whose sectors the device is to read first.
-    pub fn out(&mut self, packet: &[u8]) -> u32
+    pub fn bulk_out(&mut self, packet: &[u8]) -> u32
         ensures { TakesOut self.old packet.now self.new result }
     {
         if packet.len() > self.disk.packet_size() as usize {

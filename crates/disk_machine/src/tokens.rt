@@ -8,7 +8,7 @@ use disk_calls::{NAK, answer_request, send_packet};
 impl DiskMachine {
     /// A token to Bulk-In: the packet to send, how many bytes it has, and the number of the answer.
     /// It is told to come again while a status waits that promises what the device has not yet.
-    pub fn token(&mut self, to: &mut [u8; 512], size: &mut u32) -> u32
+    pub fn bulk_in(&mut self, to: &mut [u8; 512], size: &mut u32) -> u32
         ensures { SendsIn self.old to.old self.new to.new size.new result }
     {
         match self.waiting {
