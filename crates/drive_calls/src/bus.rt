@@ -17,7 +17,7 @@ pub fn take_out(alloc: Global, h: &mut UsbDrive, packet: &[u8]) -> u32
     let Some(mut held) = reclaim(h, alloc) else {
         return EMPTY;
     };
-    let code = held.packet(packet);
+    let code = held.bulk_out(packet);
     adopt(h, alloc, held);
     code
 }
@@ -30,7 +30,7 @@ pub fn send_in(alloc: Global, h: &mut UsbDrive, to: &mut [u8; 512], size: &mut u
     let Some(mut held) = reclaim(h, alloc) else {
         return EMPTY;
     };
-    let code = held.token(to, size);
+    let code = held.bulk_in(to, size);
     adopt(h, alloc, held);
     code
 }

@@ -3,4 +3,4 @@ use Rattle.drive_calls.proofs.InHandle.{in_handle}
 use Rattle.drive_calls.proofs.bus.take_out.Goals as goal
 
 pub returns : goal.returns
-returns c = in_handle _ _ _ _ _ _ _ _ _ c.in-Some.ensures.value c.adopt.ensures (search rules) (search rules) c.packet-code.ensures
+returns c = in_handle _ _ _ _ _ _ _ _ _ c.in-Some.ensures.value c.adopt.ensures (search rules) (search rules) c.bulk_out-code.ensures
