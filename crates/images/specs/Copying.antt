@@ -2,12 +2,16 @@
 use Rattle.std.specs.Prelude.{◌≡◌, ℕ, List, Result, OnOk, IfErr}
 use Rattle.device_file.specs.Asked.{Told}
 use Rattle.device_file.specs.Copied.{IsCopied, IsCopiedInPart}
+use Rattle.device_file.specs.InRuns.{IsAskedInRuns}
+use Rattle.mirror.specs.declared.call.DeviceCall.{DeviceCall}
 use Rattle.device_file.specs.declared.copying.CopyFault.{CopyFault}
 
--- All count sectors were copied, or a file refused a call. The file written is as large as before.
-pub record Copies {D : Type 0} (told : D → Told) (sectors : D → ℕ) (holds : ℕ → List ℕ → Type 0)
-    (refuses : ℕ → ℕ → Type 0) (first count at : ℕ) (old new : D)
-    (result : Result (Unit {0}) CopyFault) : Type 0 where
+-- All count sectors were copied, or a file refused a call. The file written is as large as before,
+-- and was asked in runs.
+pub record Copies {D : Type 0} (told : D → Told) (at_once : D → List DeviceCall → D → Type 0)
+    (sectors : D → ℕ) (holds : ℕ → List ℕ → Type 0) (refuses : ℕ → ℕ → Type 0)
+    (first count at : ℕ) (old new : D) (result : Result (Unit {0}) CopyFault) : Type 0 where
   pub ok : OnOk result (IsCopied holds first count at (told old) (told new))
   pub err : IfErr result (IsCopiedInPart holds refuses first count at (told old) (told new))
   pub size : sectors new ≡ sectors old
+  pub runs : IsAskedInRuns told at_once old new

@@ -14,6 +14,7 @@ use Rattle.device_file.specs.Asked.{Told, asked_for}
 use Rattle.device_file.specs.Reads.{AreReadFrom}
 use Rattle.device_file.specs.Copied.{some_writes, moved_calls, asked_until, IsAskedInPart}
 use Rattle.device_file.specs.Copied.{MissesNext}
+use Rattle.device_file.specs.InRuns.{IsAskedInRuns}
 use Rattle.device_file.specs.declared.copying.CopyFault.{CopyFault}
 use Rattle.device_file.specs.declared.copying.CopyFault.TheVariants as stopped
 use Rattle.device_file.specs.declared.fault.FileCall.TheVariants as call
@@ -101,3 +102,10 @@ pub record GoesHome {D : Type 0} (told : D → Told) (sectors : D → ℕ) (size
   pub ok : OnOk result (told new ≡ asked_for (going_home sizes waiting) (told old))
   pub err : OnErr result (IsAskedInPart (going_home sizes waiting) (told old) (told new))
   pub size : sectors new ≡ sectors old
+
+-- It was asked in runs, and behind them to synchronise, or for nothing.
+pub record GoesInRuns {D : Type 0} (told : D → Told) (at_once : D → List DeviceCall → D → Type 0)
+    (old new : D) : Type 0 where
+  pub between : D
+  pub runs : IsAskedInRuns told at_once old between
+  pub ends : (new ≡ between) ⊎ at_once between (Flush ∷ []) new

@@ -16,6 +16,7 @@ ghost use Rattle.images.specs.Exported.{
 };
 ghost use Rattle.images.specs.Exporting.{
   GoesHome,
+  GoesInRuns,
   HasBlocks,
   HasSomeBlocks,
   IsNotRecoveredIn,
@@ -312,8 +313,8 @@ fn copy_home<S: DeviceFile, D: DeviceFile, M: Meter>(
     meter: &mut M,
 ) -> Result<(), CopyFault>
     requires { 512 ≤ length bytes.old }
-    ensures { Copies D.told D.size (S.holds image.now) (S.refuses image.now) sizes.now.home
-        sizes.now.blocks 0 plain.old plain.new result }
+    ensures { Copies D.told D.at_once D.size (S.holds image.now) (S.refuses image.now)
+        sizes.now.home sizes.now.blocks 0 plain.old plain.new result }
 {
     copy_sectors(image, sizes.home, sizes.blocks, plain, 0, run, bytes, meter)
 }
@@ -325,7 +326,8 @@ fn carry_home<D: DeviceFile>(
     plain: &mut D,
     run: &mut Run,
 ) -> Result<(), FileFault>
-    ensures { GoesHome D.told D.size sizes.now window.old.outbox plain.old plain.new result }
+    ensures goes { GoesHome D.told D.size sizes.now window.old.outbox plain.old plain.new result }
+    ensures runs { GoesInRuns D.told D.at_once plain.old plain.new }
 {
     match carry_moved(window, sizes.home, sizes.blocks, plain, run) {
         Ok(()) => make_durable(plain),
@@ -335,7 +337,8 @@ fn carry_home<D: DeviceFile>(
 
 // Makes durable what a plain file was asked to write.
 fn make_durable<D: DeviceFile>(plain: &mut D) -> Result<(), FileFault>
-    ensures { AsksFor D.told D.size (Flush ∷ []) FileCall.Sync plain.old plain.new result }
+    ensures asks { AsksFor D.told D.size (Flush ∷ []) FileCall.Sync plain.old plain.new result }
+    ensures once { D.at_once plain.old (Flush ∷ []) plain.new }
 {
     plain.sync()
 }

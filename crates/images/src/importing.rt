@@ -185,8 +185,8 @@ fn copy_blocks<S: DeviceFile, D: DeviceFile, M: Meter>(
     meter: &mut M,
 ) -> Result<(), CopyFault>
     requires { 512 ≤ length bytes.old }
-    ensures { Copies D.told D.size (S.holds plain.now) (S.refuses plain.now) 0 sizes.now.blocks
-        sizes.now.home image.old image.new result }
+    ensures { Copies D.told D.at_once D.size (S.holds plain.now) (S.refuses plain.now) 0
+        sizes.now.blocks sizes.now.home image.old image.new result }
 {
     copy_sectors(plain, 0, sizes.blocks, image, sizes.home, run, bytes, meter)
 }

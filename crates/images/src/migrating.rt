@@ -2,6 +2,7 @@
 ghost use Rattle.std.specs.Prelude.{◌≡◌, IfOk, IfErr};
 ghost use Rattle.device_file.specs.Asked.{Told};
 ghost use Rattle.device_file.specs.Outbox.{CarriesOut};
+ghost use Rattle.device_file.specs.InRuns.{AsksInRuns};
 ghost use Rattle.images.specs.Migrating.{IsMigratedIn, IsMigratedOn, IsNotMigratedOn};
 ghost use Rattle.images.specs.Migrating.{IsMigratedOf, IsNotMigratedOf};
 ghost use Rattle.images.specs.Migrating.{migration_room, migration_text};
@@ -134,7 +135,8 @@ fn carry_all<D: DeviceFile>(
     image: &mut D,
     run: &mut Run,
 ) -> Result<(), FileFault>
-    ensures { CarriesOut D.told D.size image.old image.new window.old window.new result }
+    ensures carries { CarriesOut D.told D.size image.old image.new window.old window.new result }
+    ensures runs { AsksInRuns D.at_once image.old image.new window.old.outbox window.new.outbox }
 {
     carry_out(window, image, run)
 }

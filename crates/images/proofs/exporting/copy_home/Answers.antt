@@ -5,4 +5,5 @@ returns g c = record {
   ok = c.copy_sectors.ensures.ok;
   err = c.copy_sectors.ensures.err;
   size = c.copy_sectors.ensures.size;
+  runs = c.copy_sectors.ensures.runs;
 }
