@@ -10,7 +10,9 @@ CAUSES = {
     "it was not opened": 4,
     "it is no plain file": 4,
     "another program has it locked": 4,
+    "it was not read": 4,
     "it was not written": 4,
+    "it was not synchronised": 4,
     "the answer was not written": 4,
     "an answer was not written": 4,
     "the file system has no files of this length": 4,
@@ -23,6 +25,7 @@ CAUSES = {
     "a broken head in sector 1": 3,
     "the stamps are used up": 3,
     "the log is too small for format 2": 3,
+    "no memory": 5,
 }
 # What no file is named for.
 BAD_WORDS = Ran(2, b"", b"bad command line\n")

@@ -5,6 +5,8 @@ use Rattle.std.specs.declared.io.ErrorKind.TheVariants as cause
 use Rattle.device_file.specs.declared.fault.FileCall.{FileCall}
 use Rattle.device_file.specs.declared.fault.FileCall.TheVariants as call
 use Rattle.device_file.specs.declared.fault.FileFault.{FileFault}
+use Rattle.recovery.specs.declared.start_fault.StartFault.{StartFault}
+use Rattle.recovery.specs.declared.start_fault.StartFault.TheVariants as start
 use Rattle.console.specs.declared.words.ArgumentFault.{ArgumentFault}
 use Rattle.console.specs.declared.words.ArgumentFault.TheVariants as argument
 use Rattle.images.specs.declared.refusal.Refusal.{Refusal}
@@ -18,10 +20,18 @@ status_at _ _ = 4
 abbrev pub status_of_fault : FileFault → ℕ
 status_of_fault fault = status_at fault.call fault.cause
 
+-- a start that is refused: for want of memory, for its medium, or for a fault of the image
+abbrev pub status_of_start : StartFault → ℕ
+status_of_start start.NoMemory = 5
+status_of_start start.Read = 4
+status_of_start start.Write = 4
+status_of_start start.Flush = 4
+status_of_start _ = 3
+
 abbrev pub status_of : Refusal → ℕ
 status_of refused.Words = 2
 status_of refused.Sizes = 3
-status_of (refused.Image fault) = 3
+status_of (refused.Image fault) = status_of_start fault
 status_of (refused.File fault) = status_of_fault fault
 status_of (refused.Plain fault) = 4
 status_of (refused.Target fault) = status_of_fault fault

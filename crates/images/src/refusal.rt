@@ -1,6 +1,6 @@
 //! Why a command was refused: its exit status and its text.
 ghost use Rattle.std.specs.Prelude.{◌≡◌};
-ghost use Rattle.images.specs.Status.{status_of_fault};
+ghost use Rattle.images.specs.Status.{status_of_fault, status_of_start};
 ghost use Rattle.images.specs.declared.refusal.Refusal.TheVariants as refused;
 
 use console::ArgumentFault;
@@ -39,7 +39,7 @@ impl Refusal {
         match self {
             Refusal::Words => 2,
             Refusal::Sizes => 3,
-            Refusal::Image(_) => 3,
+            Refusal::Image(fault) => status_of_image(fault),
             Refusal::File(fault) => status_of_refused(fault),
             Refusal::Plain(_) => 4,
             Refusal::Target(fault) => status_of_refused(fault),
@@ -70,6 +70,19 @@ fn status_of_refused(fault: FileFault) -> u8
     match (fault.call, fault.cause) {
         (FileCall::Length, ErrorKind::InvalidData) => 3,
         _ => 4,
+    }
+}
+
+// The status where a start is refused, as that of the same text where a file refuses.
+fn status_of_image(fault: StartFault) -> u8
+    ensures { result ≡ status_of_start fault }
+{
+    match fault {
+        StartFault::NoMemory => 5,
+        StartFault::Read => 4,
+        StartFault::Write => 4,
+        StartFault::Flush => 4,
+        _ => 3,
     }
 }
 
