@@ -1,5 +1,5 @@
 //! Lives that are played event by event.
-ghost use Rattle.std.specs.Prelude.{◌≡◌, ◌<◌, [], ◌∷◌, length, IfOk, MatchResult};
+ghost use Rattle.std.specs.Prelude.{◌≡◌, ◌<◌, ◌+◌, [], ◌∷◌, length, IfOk, OnOk, MatchResult};
 ghost use Rattle.spec.specs.Lives.{starts};
 ghost use Rattle.bot_machine.specs.LivesValue.{medium_in, LivesGoOn, LivesRefuseStart};
 ghost use Rattle.bot_machine.specs.declared.lives.disk_state.DiskState.TheVariants.{Stopped};
@@ -94,10 +94,24 @@ impl Player {
         ensures { IfOk result (λ answers. length answers.items ≡ length events.now) }
     {
         let mut answers = Vec::new(alloc);
+        self.play_each(alloc, events, &mut answers)?;
+        Ok(answers)
+    }
+
+    // Plays events, and puts their answers behind these.
+    fn play_each(
+        &mut self,
+        alloc: Global,
+        events: &[Event],
+        answers: &mut Vec<Answer>,
+    ) -> Result<(), Finding>
+        ensures { OnOk result (length answers.new.items
+            ≡ length answers.old.items + length events.now) }
+    {
         for event in events {
             let answer = self.lives.event(alloc, event).map_err(Finding::Start)?;
             answers.push(answer).map_err(AllocError::from)?;
         }
-        Ok(answers)
+        Ok(())
     }
 }
