@@ -206,7 +206,8 @@ static bool play_host(void)
         note_command();
         return true;
     case ENDED:
-        return judge_status();
+        /* what a promise is worth shows where the power goes next */
+        return judge_status() && (random_below(8) || cut_here());
     default:
         return true;
     }
@@ -255,6 +256,8 @@ static bool live(void)
             goes_on = play_idle();
         else
             goes_on = play_host();
+        if (bench.is_faulted && !random_below(64))
+            steps = i;
         if (goes_on && !random_below(128))
             goes_on = judge_state() && cut_here();
     }
