@@ -52,9 +52,9 @@
 extern "C" {
 #endif
 
-/* The version, 0.16.0: two bytes hold the first number, and one byte each of the others. The library
+/* The version, 0.17.0: two bytes hold the first number, and one byte each of the others. The library
  * tells its own. Where the two differ, header and library are not of one version. */
-#define USBDISK_VERSION 0x001000u
+#define USBDISK_VERSION 0x001100u
 
 uint32_t usbdisk_version(void);
 

@@ -7,7 +7,6 @@ mod codes;
 mod handle;
 mod look;
 mod moves;
-mod parts;
 mod play;
 mod refused;
 mod run;
@@ -26,7 +25,6 @@ pub use codes::{
 };
 pub use handle::{Opaque, UsbDisk};
 pub use look::{UsbDiskLayout, layout_of, super_code};
-pub use parts::Parts;
 pub use play::{answer_request, make_step, play_packet, send_packet, show_sectors};
 pub use refused::refuse;
 pub use run::gather;

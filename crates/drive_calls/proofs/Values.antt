@@ -31,7 +31,7 @@ use Rattle.std.specs.contracts.impls.GlobalAllocator.TheImpl.{ghosts}
 use Rattle.drive_calls.specs.Held.{chunk, held}
 use Rattle.drive_calls.specs.contracts.handle.UsbDrive as handle
 use Rattle.drive_calls.specs.DriveRow.{drive_row}
-use Rattle.disk_calls.specs.contracts.parts.Parts as parts
+use Rattle.store_calls.specs.contracts.parts.Parts as parts
 
 -- the disk, the allocator, the handle and the parts as rows
 abbrev pub R : RattleType

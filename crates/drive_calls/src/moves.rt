@@ -3,10 +3,10 @@ ghost use Rattle.std.specs.Prelude.{◌≡◌, true, false, Some, None, IsSome, 
 
 use crate::handle::UsbDrive;
 use crate::turns::{empty, handle_of, parts_of};
-use disk_calls::Parts;
 use disk_machine::DiskMachine;
 use std::alloc::Global;
 use std::mem;
+use store_calls::Parts;
 
 /// The handle's drive, which leaves the handle empty.
 pub(crate) fn reclaim(h: &mut UsbDrive, alloc: Global) -> Option<Box<DiskMachine>>

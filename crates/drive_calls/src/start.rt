@@ -1,6 +1,7 @@
 //! How a drive starts on the first sectors of a device.
 ghost use Rattle.std.specs.Prelude.{◌≡◌, IfOk, IfErr, MatchOption};
-ghost use Rattle.drive_calls.specs.Starting.{IsReserve, StartsOn, IsRefusedOn, HasSuper, IsTheSuper};
+ghost use Rattle.drive_calls.specs.Starting.{IsReserve, StartsOn, IsRefusedOn, HasSuper};
+ghost use Rattle.drive_calls.specs.Starting.{IsTheSuper};
 ghost use Rattle.journal.specs.Formats.{shape_of};
 
 use bot_machine::StartFault;

@@ -2,10 +2,10 @@
 ghost use Rattle.std.specs.Prelude.{◌≡◌, Some, None, MatchOption};
 
 use crate::handle::{Opaque, UsbDrive};
-use disk_calls::Parts;
 use disk_machine::DiskMachine;
 use std::alloc::Global;
 use std::ptr;
+use store_calls::Parts;
 
 /// The handle of no drive.
 pub(crate) fn empty() -> UsbDrive

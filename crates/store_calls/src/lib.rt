@@ -25,6 +25,7 @@ pub use calls::{
 };
 pub use handle::{Opaque, UsbDiskStore};
 pub use outbox::show_call;
+pub use parts::Parts;
 pub use reading::Missing;
 pub use room::{has_little_room, room_for};
 pub use run::block_for;

@@ -27,7 +27,7 @@ pub use store::Store;
 use core::fmt;
 
 /// The version of `usbdisk.h` that this crate is written for.
-pub const VERSION: u32 = 0x001000;
+pub const VERSION: u32 = 0x001100;
 
 /// Bytes of a sector and of a block.
 pub const SECTOR: usize = 512;
