@@ -13,61 +13,53 @@ enum { WARM = 60 };
 
 /* ---- device and bus at once */
 
+struct maker {
+    struct usbdisk_drive drive;
+    struct device device;
+    struct host host;
+    struct usbdisk_drive_call call; /* under way, or none */
+    uint8_t buffer[240 * 512];      /* of that call */
+};
+
+/* The device has ended its call, or is at none: it takes the next one, where there is one. This
+ * device refuses none. */
+static void serve_device(struct maker *it)
+{
+    size_t given = it->call.kind == USBDISK_READ ? 512 * it->call.count : 0;
+    if (it->call.kind != USBDISK_NOTHING && !device_has_ended(&it->device))
+        return;
+    if (it->call.kind != USBDISK_NOTHING)
+        usbdisk_drive_done(&it->drive, true, it->buffer, given);
+    usbdisk_drive_next(&it->drive, &it->call, it->buffer, sizeof it->buffer);
+    if (it->call.kind != USBDISK_NOTHING)
+        device_begin(&it->device, &it->call, it->buffer);
+}
+
 /* The bus has a packet, or asks for one. */
-static void serve_bus(struct usbdisk_drive *drive, struct host *host)
+static void serve_bus(struct maker *it)
 {
     uint8_t packet[512];
-    uint32_t size = host_packet(host, packet), code;
+    uint32_t size = host_packet(&it->host, packet), code;
     if (size)
-        code = usbdisk_drive_out(drive, packet, size);
+        code = usbdisk_drive_out(&it->drive, packet, size);
     else
-        code = usbdisk_drive_in(drive, packet, &size);
-    host_hears(host, code, packet, size);
+        code = usbdisk_drive_in(&it->drive, packet, &size);
+    host_hears(&it->host, code, packet, size);
 }
 
-/* The device is free: it takes the next call, where there is one. */
-static bool begin(struct usbdisk_drive *drive, struct device *device,
-                  struct usbdisk_drive_call *call, uint8_t *buffer, size_t size)
+static void serve(struct maker *it)
 {
-    if (usbdisk_drive_next(drive, call, buffer, size) || call->kind == USBDISK_NOTHING)
-        return false;
-    device_begin(device, call, buffer);
-    return true;
-}
-
-/* It has ended. This device refuses none. */
-static void end(struct usbdisk_drive *drive, const struct usbdisk_drive_call *call,
-                const uint8_t *buffer)
-{
-    usbdisk_drive_done(drive, true, buffer,
-                       call->kind == USBDISK_READ ? 512 * (size_t)call->count : 0);
-}
-
-static void serve(struct usbdisk_drive *drive, struct device *device, struct host *host)
-{
-    static uint8_t buffer[240 * 512];
-    struct usbdisk_drive_call call;
-    bool is_at_work = false;
-    while (!host_is_done(host)) {
-        if (is_at_work && device_has_ended(device)) {
-            end(drive, &call, buffer);
-            is_at_work = false;
-        }
-        if (!is_at_work)
-            is_at_work = begin(drive, device, &call, buffer, sizeof buffer);
-        if (host_is_ready(host)) {
-            serve_bus(drive, host);
+    while (!host_is_done(&it->host)) {
+        serve_device(it);
+        if (host_is_ready(&it->host)) {
+            serve_bus(it);
             continue;
         }
-        if (!is_at_work && host_rests(host)) {
-            usbdisk_drive_idle(drive);
-            is_at_work = begin(drive, device, &call, buffer, sizeof buffer);
+        if (it->call.kind == USBDISK_NOTHING && host_rests(&it->host)) {
+            usbdisk_drive_idle(&it->drive);
+            serve_device(it);
         }
-        wait_for_either(device, host);
-    }
-    if (is_at_work) {
-        device_wait(device);
-        end(drive, &call, buffer);
+        wait_for_either(&it->device, &it->host);
     }
 }
 
@@ -113,19 +105,18 @@ static double measure(const struct costs *costs, uint8_t *bytes, uint32_t writes
         .identity = { "EXAMPLE ", "DRIVE           ", "0001", "000000000001" },
         .packet = PACKET,
     };
-    struct usbdisk_drive drive = USBDISK_DRIVE_NONE;
-    struct device device;
-    struct host host;
-    if (!device_open(&device, costs, bytes) ||
-        usbdisk_drive_start(&drive, &options, bytes, NEAR * 512))
+    static struct maker maker;
+    maker = (struct maker){ .drive = USBDISK_DRIVE_NONE };
+    if (!device_open(&maker.device, costs, bytes) ||
+        usbdisk_drive_start(&maker.drive, &options, bytes, NEAR * 512))
         return 0;
-    host_open(&host, WARM, BLOCKS);
-    serve(&drive, &device, &host);
-    host_open(&host, writes, BLOCKS);
-    serve(&drive, &device, &host);
-    double speed = host_speed(&host);
-    device_close(&device);
-    usbdisk_drive_stop(&drive);
+    host_open(&maker.host, WARM, BLOCKS);
+    serve(&maker);
+    host_open(&maker.host, writes, BLOCKS);
+    serve(&maker);
+    double speed = host_speed(&maker.host);
+    device_close(&maker.device);
+    usbdisk_drive_stop(&maker.drive);
     return speed;
 }
 
