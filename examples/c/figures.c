@@ -128,7 +128,8 @@ int main(int count, char **words)
     struct stacks most;
     for (uint32_t format = 1; format <= 2; format++)
         for (uint64_t slots = 1; slots <= 64; slots++)
-            good &= is_memory_told(format, slots, !quiet && slots % 21 == 1) && is_drive_told(format, slots);
+            good &= is_memory_told(format, slots, !quiet && slots % 21 == 1) &&
+                    is_drive_told(format, slots);
     good &= measure_stacks(&most);
     if (!quiet)
         printf("stack: %zu bytes in a start, %zu in an event\n", most.start, most.event);
