@@ -23,9 +23,9 @@ use Rattle.runner.specs.declared.player.ServeFault.{ServeFault}
 use Rattle.runner.specs.declared.player.ServeFault.TheVariants as serve
 use Rattle.live.specs.Missing.{DiskOn, medium_of}
 use Rattle.live.specs.Playing.{AnswersThrough, IsUnanswered}
-use Rattle.images.specs.Status.{status_at, status_of_fault}
+use Rattle.images.specs.Status.{status_at, status_of_fault, status_of_start}
 use Rattle.live.specs.Program.{IsUnopened, IsUnasked, IsLiveRefusedFor, IsLiveStopped}
-use Rattle.live.specs.Status.{status_of, status_of_start, refusal_of_open, refusal_of_serving}
+use Rattle.live.specs.Status.{status_of, refusal_of_open, refusal_of_serving}
 use Rattle.live.specs.declared.refusal.Refusal.{Refusal}
 use Rattle.live.specs.declared.refusal.Refusal.TheVariants as refused
 

@@ -1,27 +1,17 @@
 -- Why an image file was not served to the end of the input, and the exit status.
 use Rattle.std.specs.Prelude.{ℕ, Option, Some, None}
-use Rattle.bot_machine.specs.StartFaults.{StartFault}
-use Rattle.bot_machine.specs.StartFaults as start
 use Rattle.console.specs.declared.words.ArgumentFault.{ArgumentFault}
 use Rattle.console.specs.declared.words.ArgumentFault.TheVariants as argument
 use Rattle.device_file.specs.declared.fault.FileFault.{FileFault}
 use Rattle.device_file.specs.declared.opening.OpenFault.{OpenFault}
 use Rattle.device_file.specs.declared.opening.OpenFault.TheVariants as opening
-use Rattle.images.specs.Status.{status_of_fault}
+use Rattle.images.specs.Status.{status_of_fault, status_of_start}
 use Rattle.runner.specs.declared.player.ServeFault.{ServeFault}
 use Rattle.runner.specs.declared.player.ServeFault.TheVariants as serve
 use Rattle.live.specs.declared.refusal.Refusal.{Refusal}
 use Rattle.live.specs.declared.refusal.Refusal.TheVariants as refused
 
--- a disk that does not start: for want of memory, for its medium, or for a fault of the image
-abbrev pub status_of_start : StartFault → ℕ
-status_of_start start.NoMemory = 5
-status_of_start start.Read = 4
-status_of_start start.Write = 4
-status_of_start start.Flush = 4
-status_of_start _ = 3
-
--- a file that refuses has the status that it has in `usbdisk_image`
+-- a start or a file that refuses has the status that it has in `usbdisk_image`
 abbrev pub status_of : Refusal → ℕ
 status_of refused.Words = 2
 status_of (refused.Line number) = 1

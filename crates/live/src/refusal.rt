@@ -1,6 +1,5 @@
 //! Why an image file was not served to the end of its input: the exit status, and the text.
 ghost use Rattle.std.specs.Prelude.{◌≡◌};
-ghost use Rattle.live.specs.Status.{status_of_start};
 
 use bot_machine::StartFault;
 use console::ArgumentFault;
@@ -37,7 +36,7 @@ impl Refusal {
         match *self {
             Refusal::Words => 2,
             Refusal::Line(_) => 1,
-            Refusal::Image(fault) => status_of_fault(fault),
+            Refusal::Image(fault) => images::Refusal::Image(fault).status(),
             Refusal::File(fault) => images::Refusal::File(fault).status(),
             Refusal::Streams => 4,
             Refusal::Input => 4,
@@ -58,19 +57,6 @@ impl Refusal {
             Refusal::Output => "an answer was not written",
             Refusal::NoMemory => "no memory",
         }
-    }
-}
-
-// The status where a disk does not start.
-fn status_of_fault(fault: StartFault) -> u8
-    ensures { result ≡ status_of_start fault }
-{
-    match fault {
-        StartFault::NoMemory => 5,
-        StartFault::Read => 4,
-        StartFault::Write => 4,
-        StartFault::Flush => 4,
-        _ => 3,
     }
 }
 
