@@ -7,35 +7,31 @@ use crate::numbers::number_or_zero;
 use crate::places::{Shared, Stretch};
 use crate::shape::LAST_STAMP;
 use crate::standing::Standing;
-use std::alloc::{AllocError, Global};
 
 /// Each byte of these stretches is set to 0, to 255, to one more, and has one bit flipped.
-pub(crate) fn each_byte(judge: &mut Judge, stretches: &[Stretch]) -> Result<(), AllocError> {
+pub(crate) fn each_byte(judge: &mut Judge, stretches: &[Stretch]) {
     for stretch in stretches {
-        bytes_of_stretch(judge, *stretch)?;
+        bytes_of_stretch(judge, *stretch);
     }
-    Ok(())
 }
 
-fn bytes_of_stretch(judge: &mut Judge, stretch: Stretch) -> Result<(), AllocError> {
+fn bytes_of_stretch(judge: &mut Judge, stretch: Stretch) {
     for place in stretch.start..stretch.start.saturating_add(stretch.count) {
-        bytes_of_number(judge, place)?;
+        bytes_of_number(judge, place);
     }
-    Ok(())
 }
 
 // Each byte of one number.
-fn bytes_of_number(judge: &mut Judge, place: usize) -> Result<(), AllocError> {
+fn bytes_of_number(judge: &mut Judge, place: usize) {
     let old = number_or_zero(&judge.image, place);
     for byte in 0..8_u32 {
         count(&mut judge.counts.bytes);
-        others_of_byte(judge, place, old, byte)?;
+        others_of_byte(judge, place, old, byte);
     }
-    Ok(())
 }
 
 // This byte of a number is set to each of the other values, once.
-fn others_of_byte(judge: &mut Judge, place: usize, old: u64, byte: u32) -> Result<(), AllocError>
+fn others_of_byte(judge: &mut Judge, place: usize, old: u64, byte: u32)
     requires { byte < 8 }
 {
     let shift = byte * 8;
@@ -43,35 +39,28 @@ fn others_of_byte(judge: &mut Judge, place: usize, old: u64, byte: u32) -> Resul
     let others = [0, 0xff, (was + 1) & 0xff, was ^ (1 << byte)];
     for (number, value) in others.iter().enumerate() {
         if *value != was && !others[..number].contains(value) {
-            judge.change(&[patch(place, old & !(0xff << shift) | *value << shift)])?;
+            judge.change(&[patch(place, old & !(0xff << shift) | *value << shift)]);
         }
     }
-    Ok(())
 }
 
 /// Each number of these stretches that is not 0, and each of the first eight, is set to others that
 /// may spell something else: its neighbours, counts, stamps and sizes at their limits.
-pub(crate) fn each_number(
-    judge: &mut Judge,
-    stretches: &[Stretch],
-    standing: &Standing,
-) -> Result<(), AllocError> {
+pub(crate) fn each_number(judge: &mut Judge, stretches: &[Stretch], standing: &Standing) {
     for stretch in stretches {
-        numbers_of(judge, *stretch, standing)?;
+        numbers_of(judge, *stretch, standing);
     }
-    Ok(())
 }
 
-fn numbers_of(judge: &mut Judge, stretch: Stretch, standing: &Standing) -> Result<(), AllocError> {
+fn numbers_of(judge: &mut Judge, stretch: Stretch, standing: &Standing) {
     for behind in 0..stretch.count {
         let place = stretch.start.saturating_add(behind);
         let old = number_or_zero(&judge.image, place);
         if old != 0 || behind < 8 {
-            set_each(judge, place, &near(old, standing))?;
-            set_each(judge, place, &LIMITS)?;
+            set_each(judge, place, &near(old, standing));
+            set_each(judge, place, &LIMITS);
         }
     }
-    Ok(())
 }
 
 // Numbers that are limits somewhere.
@@ -92,14 +81,13 @@ const LIMITS: [u64; 13] = [
 ];
 
 // The number at this place is set to each of these that is another one.
-fn set_each(judge: &mut Judge, place: usize, numbers: &[u64]) -> Result<(), AllocError> {
+fn set_each(judge: &mut Judge, place: usize, numbers: &[u64]) {
     let old = number_or_zero(&judge.image, place);
     for number in numbers {
         if *number != old {
-            judge.change(&[patch(place, *number)])?;
+            judge.change(&[patch(place, *number)]);
         }
     }
-    Ok(())
 }
 
 // Numbers near one, and near the sizes of the image.
@@ -121,22 +109,20 @@ fn near(old: u64, standing: &Standing) -> [u64; 11] {
 }
 
 /// Every two of the faults of super and head at once, so that their order is seen.
-pub(crate) fn two_faults(judge: &mut Judge, standing: &Standing) -> Result<(), AllocError> {
+pub(crate) fn two_faults(judge: &mut Judge, standing: &Standing) {
     let faults = faults_of(standing);
     for first in &faults {
-        fault_with_each(judge, *first, &faults)?;
+        fault_with_each(judge, *first, &faults);
     }
-    Ok(())
 }
 
 // A fault, and each of these at another place behind it.
-fn fault_with_each(judge: &mut Judge, first: Patch, faults: &[Patch]) -> Result<(), AllocError> {
+fn fault_with_each(judge: &mut Judge, first: Patch, faults: &[Patch]) {
     for second in faults {
         if first.place != second.place {
-            judge.change(&[first, *second])?;
+            judge.change(&[first, *second]);
         }
     }
-    Ok(())
 }
 
 // One change for each rule of super and head.
@@ -159,32 +145,25 @@ fn faults_of(standing: &Standing) -> [Patch; 12] {
 }
 
 /// Other supers, of both versions.
-pub(crate) fn supers(judge: &mut Judge, standing: &Standing) -> Result<(), AllocError> {
+pub(crate) fn supers(judge: &mut Judge, standing: &Standing) {
     for version in [1, 2] {
         for slots in 1..7 {
-            supers_of(judge, standing, version, slots)?;
+            supers_of(judge, standing, version, slots);
         }
     }
-    Ok(())
 }
 
 // Supers of a version with `slots` slots: homes at the limits, and numbers of blocks.
-fn supers_of(
-    judge: &mut Judge,
-    standing: &Standing,
-    version: u64,
-    slots: u64,
-) -> Result<(), AllocError> {
+fn supers_of(judge: &mut Judge, standing: &Standing, version: u64, slots: u64) {
     let blocks = standing.shape.blocks;
     for home in homes(slots, standing.shape.home) {
         let placed = [patch(1, version), patch(3, slots), patch(5, home)];
-        supers_like(judge, &placed, blocks)?;
+        supers_like(judge, &placed, blocks);
     }
-    Ok(())
 }
 
 // Supers with these numbers, and numbers of blocks around this one.
-fn supers_like(judge: &mut Judge, placed: &[Patch; 3], blocks: u64) -> Result<(), AllocError> {
+fn supers_like(judge: &mut Judge, placed: &[Patch; 3], blocks: u64) {
     let [version, slots, home] = *placed;
     for count in [
         1,
@@ -192,9 +171,8 @@ fn supers_like(judge: &mut Judge, placed: &[Patch; 3], blocks: u64) -> Result<()
         blocks,
         blocks.saturating_add(1),
     ] {
-        judge.change(&[version, patch(2, count), slots, home])?;
+        judge.change(&[version, patch(2, count), slots, home]);
     }
-    Ok(())
 }
 
 // The first home sectors around the limits of both formats, and that of the image.
@@ -214,13 +192,7 @@ fn homes(slots: u64, home: u64) -> [u64; 8] {
 }
 
 /// The stamp of a waiting record is another one in all of its sectors, and the head's too.
-pub(crate) fn stamps(
-    judge: &mut Judge,
-    alloc: Global,
-    shared: &Shared,
-    stamp: u64,
-    slots: u64,
-) -> Result<(), AllocError> {
+pub(crate) fn stamps(judge: &mut Judge, shared: &Shared, stamp: u64, slots: u64) {
     let others = [
         0,
         1,
@@ -236,31 +208,24 @@ pub(crate) fn stamps(
         u64::MAX,
     ];
     for other in others {
-        let mut patches = same(alloc, &shared.stamps, other)?;
-        heads_around(judge, &mut patches, other)?;
+        same(judge, &shared.stamps, other);
+        heads_around(judge, other);
     }
-    Ok(())
 }
 
 // The stamp stands in all sectors of the record, and then stamps up to it in the head too.
-fn heads_around(judge: &mut Judge, patches: &mut Vec<Patch>, stamp: u64) -> Result<(), AllocError> {
-    judge.change(patches)?;
+fn heads_around(judge: &mut Judge, stamp: u64) {
+    judge.change_added();
     for behind in 0..3 {
-        patches.push(patch(65, stamp.wrapping_sub(behind)))?;
-        judge.change(patches)?;
+        judge.add(65, stamp.wrapping_sub(behind));
+        judge.change_added();
     }
-    Ok(())
 }
 
 /// The count of a waiting record is another one in all of its sectors, with the entries behind it
 /// as they were, and as zeros.
-pub(crate) fn counts(
-    judge: &mut Judge,
-    alloc: Global,
-    shared: &Shared,
-    count: u64,
-) -> Result<(), AllocError> {
-    for other in [
+pub(crate) fn counts(judge: &mut Judge, shared: &Shared, count: u64) {
+    let others = [
         0,
         1,
         count.wrapping_sub(1),
@@ -269,37 +234,31 @@ pub(crate) fn counts(
         49,
         240,
         241,
-    ] {
-        let mut patches = same(alloc, &shared.counts, other)?;
-        judge.change(&patches)?;
-        clear_entries(&mut patches, shared, other as usize)?;
-        judge.change(&patches)?;
+    ];
+    for other in others {
+        same(judge, &shared.counts, other);
+        judge.change_added();
+        clear_entries(judge, shared, other as usize);
+        judge.change_added();
     }
-    Ok(())
 }
 
 // The entries from this one on are zeros.
-fn clear_entries(
-    patches: &mut Vec<Patch>,
-    shared: &Shared,
-    first: usize,
-) -> Result<(), AllocError> {
+fn clear_entries(judge: &mut Judge, shared: &Shared, first: usize) {
     for entry in shared.entries.get(first..).unwrap_or(&[]) {
-        patches.push(patch(*entry, 0))?;
+        judge.add(*entry, 0);
         if shared.width == 2 {
-            patches.push(patch(entry.saturating_add(1), 0))?;
+            judge.add(entry.saturating_add(1), 0);
         }
     }
-    Ok(())
 }
 
-// The same number at many places.
-fn same(alloc: Global, places: &[usize], number: u64) -> Result<Vec<Patch>, AllocError> {
-    let mut patches = Vec::new(alloc);
+// A change begins with the same number at many places.
+fn same(judge: &mut Judge, places: &[usize], number: u64) {
+    judge.begin();
     for place in places {
-        patches.push(patch(*place, number))?;
+        judge.add(*place, number);
     }
-    Ok(patches)
 }
 
 fn patch(place: usize, number: u64) -> Patch {

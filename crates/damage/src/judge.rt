@@ -4,6 +4,7 @@ use crate::finding::Finding;
 use crate::numbers::{number_at, put};
 use crate::trial::try_image;
 use std::alloc::{AllocError, Global};
+use std::mem;
 
 /// A number at a place of an image, counted in numbers of eight bytes.
 #[derive(Clone, Copy)]
@@ -18,6 +19,8 @@ pub(crate) struct Judge {
     alloc: Global,
     pub(crate) image: Vec<u8>,
     pub(crate) counts: Counts,
+    // The numbers of a change of many.
+    added: Vec<Patch>,
     /// The first thing that is not as the definition has it, and what was changed.
     pub(crate) found: Option<(Vec<Patch>, Finding)>,
 }
@@ -29,17 +32,35 @@ impl Judge {
             alloc,
             image,
             counts: Counts::default(),
+            added: Vec::new(alloc),
             found: None,
         }
     }
 
     /// Judges the image with these numbers at their places, and puts the old ones back.
-    pub(crate) fn change(&mut self, patches: &[Patch]) -> Result<(), AllocError> {
-        match self.try_with(patches) {
-            Ok(()) => Ok(()),
-            Err(Finding::NoMemory(_)) => Err(AllocError),
-            Err(finding) => self.note(patches, finding),
+    pub(crate) fn change(&mut self, patches: &[Patch]) {
+        if let Err(finding) = self.try_with(patches) {
+            self.note(patches, finding);
         }
+    }
+
+    /// Begins a change of many numbers.
+    pub(crate) fn begin(&mut self) {
+        self.added.clear();
+    }
+
+    /// One more number of that change.
+    pub(crate) fn add(&mut self, place: usize, number: u64) {
+        if self.added.push(Patch { place, number }).is_err() {
+            self.lacks_memory();
+        }
+    }
+
+    /// Judges the image with all numbers that were added.
+    pub(crate) fn change_added(&mut self) {
+        let added = mem::replace(&mut self.added, Vec::new(self.alloc));
+        self.change(&added);
+        self.added = added;
     }
 
     // Tries the image with these numbers, and puts the old ones back.
@@ -69,16 +90,21 @@ impl Judge {
     }
 
     /// Judges the image as it is.
-    pub(crate) fn whole(&mut self) -> Result<(), AllocError> {
-        self.change(&[])
+    pub(crate) fn whole(&mut self) {
+        self.change(&[]);
     }
 
-    // One more that is outside.
-    fn note(&mut self, patches: &[Patch], finding: Finding) -> Result<(), AllocError> {
+    /// Not all was judged, since memory ran out.
+    pub(crate) fn lacks_memory(&mut self) {
+        self.note(&[], Finding::NoMemory(AllocError));
+    }
+
+    /// One more that is outside. What was found first stays.
+    pub(crate) fn note(&mut self, patches: &[Patch], finding: Finding) {
         count(&mut self.counts.outside);
         if self.found.is_none() {
-            self.found = Some((Vec::from_slice(self.alloc, patches)?, finding));
+            let patches = Vec::from_slice(self.alloc, patches);
+            self.found = Some((patches.unwrap_or(Vec::new(self.alloc)), finding));
         }
-        Ok(())
     }
 }

@@ -8,19 +8,23 @@ use std::alloc::{AllocError, Global};
 /// Judges the beginnings of the image of a few sectors, those of a few sectors less than all, and
 /// the image with a few sectors more; and that no medium is made of lengths that are none of
 /// sectors.
-pub(crate) fn try_lengths(alloc: Global, judge: &mut Judge) -> Result<(), Finding> {
+pub(crate) fn try_lengths(alloc: Global, judge: &mut Judge) {
     for length in [0, 1, 511, 513, 1023, judge.image.len().saturating_sub(1)] {
-        try_no_sectors(alloc, length, judge)?;
+        count(&mut judge.counts.images);
+        if let Err(finding) = try_no_sectors(alloc, length) {
+            judge.note(&[], finding);
+        }
     }
-    let whole = Vec::from_slice(alloc, &judge.image)?;
-    try_sectors(judge, &whole)?;
-    Ok(())
+    match Vec::from_slice(alloc, &judge.image) {
+        Ok(whole) => try_sectors(judge, &whole),
+        Err(_) => judge.lacks_memory(),
+    }
 }
 
 // Tries images with fewer sectors and with more than the whole one.
-fn try_sectors(judge: &mut Judge, whole: &[u8]) -> Result<(), AllocError> {
+fn try_sectors(judge: &mut Judge, whole: &[u8]) {
     let all = whole.len() / 512;
-    for sectors in [
+    let numbers = [
         1,
         2,
         3,
@@ -29,24 +33,25 @@ fn try_sectors(judge: &mut Judge, whole: &[u8]) -> Result<(), AllocError> {
         all.saturating_sub(1),
         all + 1,
         all + 2,
-    ] {
-        try_resized(judge, sectors.saturating_mul(512), whole)?;
+    ];
+    for sectors in numbers {
+        if try_resized(judge, sectors.saturating_mul(512), whole).is_err() {
+            judge.lacks_memory();
+        }
     }
-    Ok(())
 }
 
 // Tries the image with `bytes` bytes, and makes it whole again.
 fn try_resized(judge: &mut Judge, bytes: usize, whole: &[u8]) -> Result<(), AllocError> {
     judge.image.resize(bytes, 0xff)?;
-    judge.whole()?;
+    judge.whole();
     judge.image.clear();
     judge.image.extend_from_slice(whole)?;
     Ok(())
 }
 
 // No medium has `length` bytes.
-fn try_no_sectors(alloc: Global, length: usize, judge: &mut Judge) -> Result<(), Finding> {
-    count(&mut judge.counts.images);
+fn try_no_sectors(alloc: Global, length: usize) -> Result<(), Finding> {
     let bytes = vec![in alloc; 0u8; length]?;
     match SimMedium::new(alloc, bytes, 1) {
         Err(SimError::BadLength) => Ok(()),

@@ -36,7 +36,7 @@ use judge::{Judge, Patch};
 use places::{shared_by, stretches};
 use record::Record;
 use standing::Standing;
-use std::alloc::{AllocError, Global};
+use std::alloc::Global;
 use std::io;
 use std::io::Write;
 use std::process::ExitCode;
@@ -99,43 +99,38 @@ fn tell_finding<W: Write>(finding: &Finding, out: &mut W) -> io::Result<bool> {
 fn try_subject(alloc: Global, subject: Subject) -> Result<Judge, Finding> {
     let Made { image, standing } = subject.make(alloc)?;
     let mut judge = Judge::new(alloc, image);
-    try_changes(alloc, &mut judge, &standing)?;
+    try_changes(alloc, &mut judge, &standing);
     Ok(judge)
 }
 
 // Changes an image that stands for this.
-fn try_changes(alloc: Global, judge: &mut Judge, standing: &Standing) -> Result<(), Finding> {
-    change_numbers(alloc, judge, standing)?;
-    lengths::try_lengths(alloc, judge)
-}
-
-fn change_numbers(alloc: Global, judge: &mut Judge, standing: &Standing) -> Result<(), AllocError> {
-    judge.whole()?;
-    change_stretches(alloc, judge, standing)?;
-    changes::two_faults(judge, standing)?;
-    changes::supers(judge, standing)?;
-    change_records(alloc, judge, standing)
+fn try_changes(alloc: Global, judge: &mut Judge, standing: &Standing) {
+    judge.whole();
+    change_stretches(alloc, judge, standing);
+    changes::two_faults(judge, standing);
+    changes::supers(judge, standing);
+    change_records(alloc, judge, standing);
+    lengths::try_lengths(alloc, judge);
 }
 
 // Changes the bytes and the numbers that are no block of the host's.
-fn change_stretches(
-    alloc: Global,
-    judge: &mut Judge,
-    standing: &Standing,
-) -> Result<(), AllocError> {
-    let stretches = stretches(alloc, standing)?;
-    changes::each_byte(judge, &stretches)?;
-    changes::each_number(judge, &stretches, standing)
+fn change_stretches(alloc: Global, judge: &mut Judge, standing: &Standing) {
+    match stretches(alloc, standing) {
+        Ok(stretches) => {
+            changes::each_byte(judge, &stretches);
+            changes::each_number(judge, &stretches, standing);
+        }
+        Err(_) => judge.lacks_memory(),
+    }
 }
 
 // Changes the numbers that all sectors of a record share.
-fn change_records(alloc: Global, judge: &mut Judge, standing: &Standing) -> Result<(), AllocError> {
+fn change_records(alloc: Global, judge: &mut Judge, standing: &Standing) {
     let mut stamp = standing.head;
     for record in &standing.records {
-        change_record(alloc, judge, standing, record, stamp)?;
+        change_record(alloc, judge, standing, record, stamp);
         stamp = stamp.saturating_add(1);
     }
-    Ok(())
 }
 
 fn change_record(
@@ -144,9 +139,13 @@ fn change_record(
     standing: &Standing,
     record: &Record,
     stamp: u64,
-) -> Result<(), AllocError> {
+) {
     let count = record.blocks.len() as u64;
-    let shared = shared_by(alloc, standing, record.slot, count)?;
-    changes::stamps(judge, alloc, &shared, stamp, standing.shape.slots)?;
-    changes::counts(judge, alloc, &shared, count)
+    match shared_by(alloc, standing, record.slot, count) {
+        Ok(shared) => {
+            changes::stamps(judge, &shared, stamp, standing.shape.slots);
+            changes::counts(judge, &shared, count);
+        }
+        Err(_) => judge.lacks_memory(),
+    }
 }
