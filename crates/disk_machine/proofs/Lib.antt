@@ -8,3 +8,4 @@ pub mod Playing
 pub mod Staying
 pub mod Lagging
 pub mod Dying
+pub mod Living

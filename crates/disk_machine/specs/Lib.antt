@@ -1,5 +1,6 @@
 pub mod Asking
 pub mod Idling
+pub mod Lives
 pub mod Machine
 pub mod Moves
 pub mod Packets
