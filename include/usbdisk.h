@@ -313,8 +313,8 @@ enum {
 
 /* Starts a disk, as usbdisk_start; near and near_size are as there. Room and span are the library's own: it takes as
  * many bytes as usbdisk_memory tells for a span of 48 in format 1, 240 in format 2, and a room of 256 more than
- * usbdisk_room tells, and 64 more. Where power was lost the device has calls to carry out first: until then
- * the drive is STARTING, and answers each packet NAK.
+ * usbdisk_room tells, and 64 more. The device has calls of the start to carry out first (three flushes and a write
+ * of the head; where power was lost, blocks too): until then the drive is STARTING, and answers each packet NAK.
  *
  * Answers 0, a number from 1 to 10, or STARTED, BAD_PACKET_SIZE, BAD_IDENTITY or BAD_LENGTH, in the order of
  * usbdisk_start. At all but 0 the handle stays as it was, and no memory is kept. */
