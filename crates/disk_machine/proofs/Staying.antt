@@ -21,7 +21,7 @@ use Rattle.disk_machine.specs.declared.ask.DeviceAsk.{DeviceAsk}
 use Rattle.disk_machine.specs.declared.ask.DeviceAsk.TheVariants as ask
 use Rattle.disk_machine.specs.declared.asked.Asked.{Asked}
 use Rattle.disk_machine.specs.declared.asked.Asked.TheVariants as asked
-use Rattle.disk_machine.specs.declared.lack.Lack.TheVariants as lack
+use Rattle.disk_machine.specs.declared.lack.Lack.{Lack}
 use Rattle.disk_machine.specs.declared.done_fault.DoneFault.{DoneFault}
 use Rattle.disk_machine.proofs.Handing.{asks_serves, asks_leave}
 use Rattle.disk_machine.proofs.Dying.{asks_dead, done_dead, event_dead, idle_dead}
@@ -166,8 +166,8 @@ idle_goes_on old new stepped = record {
 }
 
 -- what is to be read changes nothing else
-pub lacking_safe : (s : Machine) (home : HomeSectors) → StaysSafe s (record s { lack = lack.Wanted home })
-lacking_safe s home = record {
+pub reading_safe : (s : Machine) (lacks : Lack) → StaysSafe s (record s { lack = lacks })
+reading_safe s lacks = record {
   serves = λ told book serves. record {
     fits = serves.fits;
     fewer = serves.fewer;

@@ -1,6 +1,6 @@
 -- What the device is asked for, and what it tells.
 use Rattle.std.specs.Prelude.{◌≡◌, ◌≢◌, ◌⊎◌, ℕ, ◌*◌, ◌/◌, ◌<◌, Bool, true, false, List, [], ◌∷◌}
-use Rattle.std.specs.Prelude.{length, Some, Result, Ok, Err}
+use Rattle.std.specs.Prelude.{length, Option, Some, None, Result, Ok, Err, if◌then◌else◌, ◌||◌}
 use Rattle.inlet.specs.Inlet.{AreHeld}
 use Rattle.mirror.specs.OutboxMedium.{first_of}
 use Rattle.mirror.specs.declared.call.DeviceCall.{DeviceCall}
@@ -32,14 +32,21 @@ pub record HandsOut (old : Machine) (count : ℕ) (new : Machine) : Type 0 where
   pub rest : KeepsRest old.disk new.disk
   pub others : new ≡ record old { disk = new.disk; asked = asked.Calls count }
 
+-- the sectors that are to be read: a READ lacks them, or they are read ahead
+abbrev pub to_read : Lack → Option HomeSectors
+to_read lack.Nothing = None
+to_read (lack.Wanted home) = Some home
+to_read (lack.Ahead home) = Some home
+to_read lack.Ended = None
+to_read (lack.Unread home) = None
+
 -- the device is at a call that it was asked for, or there is none for it
 abbrev pub IsAtRest : Machine → Type 0
 IsAtRest s = (s.asked ≢ asked.Nothing)
-    ⊎ (((medium_of s.disk).outbox ≡ [])
-    × ((home : HomeSectors) → s.lack ≢ lack.Wanted home))
+    ⊎ (((medium_of s.disk).outbox ≡ []) × (to_read s.lack ≡ None))
 
 -- The next of the outbox: a flush, or the longest run of writes for which the buffer has room.
--- Where none waits, the sectors that a READ lacks.
+-- Where none waits, the sectors that are to be read.
 abbrev pub AsksFor : Machine → List ℕ → DeviceAsk → Machine → List ℕ → Type 0
 AsksFor old room ask.Nothing new filled = IsAtRest old × (new ≡ old) × (filled ≡ room)
 AsksFor old room (ask.Write first count) new filled =
@@ -50,7 +57,7 @@ AsksFor old room ask.Flush new filled =
     × (filled ≡ room)
 AsksFor old room (ask.Read home) new filled =
     (old.asked ≡ asked.Nothing) × ((medium_of old.disk).outbox ≡ [])
-    × (old.lack ≡ lack.Wanted home)
+    × (to_read old.lack ≡ Some home)
     × (new ≡ record old { asked = asked.Read home }) × (filled ≡ room)
 
 -- ---- what it tells
@@ -77,21 +84,30 @@ pub record IsGivenUp (old : Machine) (count : ℕ) (new : Machine) : Type 0 wher
     waiting = waiting.Nothing;
   }
 
--- sectors that the disk did not take count as unread
-abbrev pub lack_behind : Bool → HomeSectors → Lack
-lack_behind true home = lack.Nothing
-lack_behind false home = lack.Unread home
+-- they are read ahead
+abbrev pub is_ahead : Lack → Bool
+is_ahead lack.Nothing = false
+is_ahead (lack.Wanted home) = false
+is_ahead (lack.Ahead home) = true
+is_ahead lack.Ended = false
+is_ahead (lack.Unread home) = false
+
+-- Sectors that a READ lacks, and that the disk did not take, count as unread: its packet is played
+-- without them. Those that were read ahead do not: a READ that lacks them has them read.
+abbrev pub lack_behind : Lack → HomeSectors → Bool → Lack
+lack_behind was home taken = if taken || is_ahead was then lack.Ended else lack.Unread home
+
+-- a read of these sectors is over, and the disk took them or not
+abbrev pub read_over : Machine → HomeSectors → Bool → Machine
+read_over s home taken =
+    record s { asked = asked.Nothing; lack = lack_behind s.lack home taken }
 
 -- the device read these sectors
 pub record IsShownTo (old : Machine) (home : HomeSectors) (bytes : List ℕ) (new : Machine)
     : Type 0 where
   pub taken : Bool
   pub sees : Sees old.disk home.first bytes new.disk taken
-  pub others : new ≡ record old {
-    disk = new.disk;
-    asked = asked.Nothing;
-    lack = lack_behind taken home;
-  }
+  pub others : new ≡ record (read_over old home taken) { disk = new.disk }
 
 -- nothing changes
 abbrev pub IsNotDone : DoneFault → Machine → Result (Unit {0}) DoneFault → Machine → Type 0
@@ -104,7 +120,7 @@ HasRead home true old bytes result new =
     ((length bytes ≢ 512 * home.count) × IsNotDone fault.BadLength old result new)
     ⊎ ((length bytes ≡ 512 * home.count) × (result ≡ Ok tt) × IsShownTo old home bytes new)
 HasRead home false old bytes result new = (result ≡ Ok tt)
-    × (new ≡ record old { asked = asked.Nothing; lack = lack.Unread home })
+    × (new ≡ read_over old home false)
 
 -- calls have ended, good or not
 abbrev pub HasEnded : ℕ → Bool → Machine → Result (Unit {0}) DoneFault → Machine → Type 0

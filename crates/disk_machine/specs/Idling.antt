@@ -12,10 +12,12 @@ use Rattle.disk_machine.specs.declared.lack.Lack.TheVariants as lack
 use Rattle.disk_machine.specs.declared.waiting.Waiting.{Waiting}
 use Rattle.disk_machine.specs.declared.waiting.Waiting.TheVariants as waiting
 
--- a READ lacks sectors that are to be read
+-- sectors are to be read
 abbrev pub is_wanted : Lack → Bool
 is_wanted lack.Nothing = false
 is_wanted (lack.Wanted home) = true
+is_wanted (lack.Ahead home) = true
+is_wanted lack.Ended = false
 is_wanted (lack.Unread home) = false
 
 -- something waits until the device has carried out all: steps would put it off

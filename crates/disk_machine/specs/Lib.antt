@@ -1,3 +1,4 @@
+pub mod Ahead
 pub mod Asking
 pub mod Idling
 pub mod Lives

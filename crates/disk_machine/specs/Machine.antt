@@ -20,8 +20,8 @@ use Rattle.disk_machine.specs.declared.machine.DiskMachine.{DiskMachine}
 use Rattle.disk_machine.specs.declared.waiting.Waiting.TheVariants as waiting
 
 -- a disk, how many calls may wait in its outbox when a packet is taken, what the device was asked
--- for last and has not told done, what waits until the device has carried out all, and the home
--- sectors that a READ lacks
+-- for last and has not told done, what waits until the device has carried out all, and the
+-- sectors that it is to read
 abbrev pub Machine : Type 0
 Machine = DiskMachine
 

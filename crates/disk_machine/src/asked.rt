@@ -7,7 +7,7 @@ pub enum Asked {
     Nothing,
     /// So many calls of the outbox: one flush, or writes to neighbouring sectors.
     Calls(usize),
-    /// Home sectors, which a READ lacks.
+    /// Sectors, which a READ lacks or may lack.
     Read(HomeSectors),
     /// It refused so many calls, behind which so many waited that it is not asked for. It is asked
     /// for nothing until the next start.

@@ -50,13 +50,13 @@ impl DiskMachine {
         }
     }
 
-    // The sectors that a READ lacks, where no call waits.
+    // The sectors that are to be read, where no call waits.
     fn ask_to_read(&mut self) -> DeviceAsk
         ensures { self.old.asked ≡ asked.Nothing → (medium_of self.old.disk).outbox ≡ []
             → (buffer : List ℕ) → AsksFor self.old buffer result self.new buffer }
     {
         match self.lack {
-            Lack::Wanted(home) => {
+            Lack::Wanted(home) | Lack::Ahead(home) => {
                 self.asked = Asked::Read(home);
                 DeviceAsk::Read(home)
             }

@@ -54,13 +54,13 @@ impl DiskMachine {
         }
     }
 
-    // Whether the device is to read sectors that a READ lacks.
+    // Whether the device is to read sectors.
     fn is_wanted(&self) -> bool
         ensures { result ≡ is_wanted self.now.lack }
     {
         match self.lack {
-            Lack::Nothing | Lack::Unread(_) => false,
-            Lack::Wanted(_) => true,
+            Lack::Nothing | Lack::Ended | Lack::Unread(_) => false,
+            Lack::Wanted(_) | Lack::Ahead(_) => true,
         }
     }
 }

@@ -1,12 +1,16 @@
-//! What a READ lacks.
+//! What the device is to read, and what became of it.
 use scsi_unit::HomeSectors;
 
-/// The home sectors that a READ lacks.
+/// The sectors that the device is to read, or was asked to, since a packet was played.
 #[derive(Clone, Copy, Debug, PartialEq, Eq)]
 pub enum Lack {
     Nothing,
-    /// They are to be read.
+    /// A READ lacks these home sectors: they are to be read.
     Wanted(HomeSectors),
-    /// The device could not read them.
+    /// No READ lacks these sectors yet: they are to be read ahead.
+    Ahead(HomeSectors),
+    /// The read has ended, of a READ good: nothing is read ahead before the next packet is played.
+    Ended,
+    /// The device could not read these home sectors, which a READ lacks.
     Unread(HomeSectors),
 }

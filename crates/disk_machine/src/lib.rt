@@ -1,6 +1,7 @@
 //! A disk that says what its device is to do next, while packets come.
 #![tactic(auto)]
 
+mod ahead;
 mod ask;
 mod asked;
 mod device;

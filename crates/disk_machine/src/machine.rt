@@ -23,7 +23,7 @@ pub struct DiskMachine {
     pub(crate) asked: Asked,
     // What waits until the device has carried out all.
     pub(crate) waiting: Waiting,
-    // The home sectors that a READ lacks.
+    // The sectors that it is to read, or was asked to, since a packet was played.
     pub(crate) lack: Lack,
 }
 

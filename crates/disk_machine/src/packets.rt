@@ -111,7 +111,7 @@ impl DiskMachine {
     {
         match self.lack {
             Lack::Unread(unread) => unread == home,
-            Lack::Nothing | Lack::Wanted(_) => false,
+            Lack::Nothing | Lack::Wanted(_) | Lack::Ahead(_) | Lack::Ended => false,
         }
     }
 }

@@ -1,7 +1,7 @@
 //! What the device tells of what it was asked for.
 ghost use Rattle.std.specs.Prelude.{◌≡◌};
 ghost use Rattle.disk_machine.specs.Asking.{Hears, IsDone, IsHonest, HasRead};
-ghost use Rattle.disk_machine.specs.Asking.{IsGivenUp, IsShownTo, counted};
+ghost use Rattle.disk_machine.specs.Asking.{IsGivenUp, counted, is_ahead, read_over};
 ghost use Rattle.disk_machine.specs.Moves.{StaysSafe, ServesAtRest};
 
 use crate::asked::Asked;
@@ -18,7 +18,8 @@ impl DiskMachine {
     /// What the device was asked for last has ended, good or not; of a read these are the bytes of
     /// the sectors, and of other calls no bytes are looked at. Writes that ended good need not be
     /// durable before the next flush has. A call that it refused is its last: it is asked for
-    /// nothing more, and the disk is faulted.
+    /// nothing more, and the disk is faulted. What it could not read ahead is read anew for a READ
+    /// that lacks it.
     ///
     /// # Errors
     /// `NothingAsked` where the device is at no call, and `BadLength` where the bytes are not as
@@ -76,26 +77,36 @@ impl DiskMachine {
         ensures { HasRead home ok self.old bytes.now result self.new }
     {
         if !ok {
-            self.asked = Asked::Nothing;
-            self.lack = Lack::Unread(home);
+            self.end_read(home, false);
             return Ok(());
         }
         if bytes.len() != SECTOR * home.count as usize {
             return Err(DoneFault::BadLength);
         }
-        self.show(home, bytes);
+        let taken = show_sectors(&mut self.disk, home.first, bytes);
+        self.end_read(home, taken);
         Ok(())
     }
 
-    // The device read these sectors. Those that the disk does not take count as unread.
-    fn show(&mut self, home: HomeSectors, bytes: &[u8])
-        ensures { IsShownTo self.old home bytes.now self.new }
+    // A read of these sectors is over, and the disk took them or not.
+    fn end_read(&mut self, home: HomeSectors, taken: bool)
+        ensures { self.new ≡ read_over self.old home taken }
     {
         self.asked = Asked::Nothing;
-        self.lack = if show_sectors(&mut self.disk, home.first, bytes) {
-            Lack::Nothing
+        self.lack = if taken || self.is_ahead() {
+            Lack::Ended
         } else {
             Lack::Unread(home)
         };
+    }
+
+    // Whether the device reads ahead, or is to.
+    fn is_ahead(&self) -> bool
+        ensures { result ≡ is_ahead self.now.lack }
+    {
+        match self.lack {
+            Lack::Nothing | Lack::Wanted(_) | Lack::Ended | Lack::Unread(_) => false,
+            Lack::Ahead(_) => true,
+        }
     }
 }
