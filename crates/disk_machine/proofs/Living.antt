@@ -13,7 +13,7 @@ use Rattle.spec.specs.declared.event.Answer.{Answer}
 use Rattle.scsi_unit.specs.Laws.{IsSameLife}
 use Rattle.bot_machine.specs.BookLaws.{GrowsBy}
 use Rattle.bot_machine.specs.Disk.{over}
-use Rattle.disk_machine.specs.Lives.{Call, next, done, bulk_out, bulk_in, setup, idle, IsMade, ServesLater, ServesThroughout}
+use Rattle.disk_machine.specs.Lives.{Call, next, done, bulk_out, bulk_in, setup, idle, look_ahead, IsMade, ServesLater, ServesThroughout}
 use Rattle.disk_machine.specs.Machine.{Machine, Serves, has_refused}
 use Rattle.disk_machine.specs.Moves.{ServesOn, ServesEvent, ServesToken}
 use Rattle.disk_machine.specs.Packets.{TakesOut, SendsIn}
@@ -107,6 +107,7 @@ one (bulk_out packet) old new made = taken_out old new packet made.0 made.1
 one (bulk_in room) old new made = sent_in old new room made.0 made.1 made.2 made.3
 one (setup packet room) old new made = served_event old new (event.Setup packet) made.3.0 made.3.4
 one idle old new made = served_on old new made.1.serves
+one (look_ahead first count) old new made = served_on old new made.1.stays.serves
 
 then : (mid new : Machine) (told : ℕ) (book : Book) → ServesLater told book mid → LivesOn mid new → ServesLater told book new
 then mid new told book first on =

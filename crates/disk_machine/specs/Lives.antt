@@ -3,6 +3,7 @@ use Rattle.std.specs.Prelude.{◌≡◌, ℕ, ◌≤◌, Bool, List, [], ◌∷�
 use Rattle.spec.specs.Blocks.{Write}
 use Rattle.spec.specs.Book.{Book}
 use Rattle.scsi_unit.specs.Laws.{IsSameLife}
+use Rattle.disk_machine.specs.Ahead.{LooksAhead}
 use Rattle.disk_machine.specs.Asking.{AsksFor, Hears, IsHonest}
 use Rattle.disk_machine.specs.Idling.{Idles}
 use Rattle.disk_machine.specs.Machine.{Machine, Serves}
@@ -19,6 +20,7 @@ pub data Call : Type 0 where
   bulk_in : List ℕ → Call
   setup : List ℕ → List ℕ → Call
   idle : Call
+  look_ahead : ℕ → ℕ → Call
 
 -- the call is made, as its contract says; what the device read is told as it is
 abbrev pub IsMade : Call → Machine → Machine → Type 0
@@ -33,6 +35,7 @@ IsMade (bulk_in room) old new = (filled : List ℕ) × (size : ℕ) × (code : �
 IsMade (setup packet room) old new = (filled : List ℕ) × (size : ℕ) × (code : ℕ)
     × AnswersSetup old packet room new filled size code
 IsMade idle old new = (left : Bool) × Idles old new left
+IsMade (look_ahead first count) old new = (reads : Bool) × LooksAhead old first count new reads
 
 abbrev pub AreMade : List Call → Machine → Machine → Type 0
 AreMade [] old new = new ≡ old
