@@ -6,6 +6,7 @@ use Rattle.disk_calls.specs.Codes.{EMPTY, BAD_LENGTH}
 use Rattle.disk_machine.specs.Machine.{Machine}
 use Rattle.disk_machine.specs.Moves.{StaysSafe, ServesAtRest}
 use Rattle.disk_machine.specs.Moves.{state_of}
+use Rattle.disk_machine.specs.Ahead.{LooksAhead}
 use Rattle.disk_machine.specs.Asking.{AsksFor, Hears, IsHonest}
 use Rattle.disk_machine.specs.Idling.{Idles}
 use Rattle.disk_machine.specs.declared.ask.DeviceAsk.{DeviceAsk}
@@ -54,6 +55,15 @@ pub record TellsDone (ok : Bool) (bytes : List ℕ) (old new : Machine) (code : 
       × Hears old ok bytes result new
   pub stays : IsHonest old ok bytes → StaysSafe old new
   pub rest : ServesAtRest new
+
+abbrev pub code_of_ahead : Bool → ℕ
+code_of_ahead false = 0
+code_of_ahead true = 1
+
+-- whether the device is to read these sectors when it is free
+abbrev pub ReadsAhead : ℕ → ℕ → Machine → Machine → ℕ → Type 0
+ReadsAhead first count old new code =
+    (reads : Bool) × (code ≡ code_of_ahead reads) × LooksAhead old first count new reads
 
 abbrev pub code_of_steps : Bool → ℕ
 code_of_steps false = 0

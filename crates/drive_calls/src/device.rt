@@ -2,7 +2,7 @@
 ghost use Rattle.std.specs.Prelude.{◌≡◌};
 ghost use Rattle.drive_calls.specs.Starting.{Starts};
 ghost use Rattle.drive_calls.specs.Exports.{Stops, InHandle, HandsOut, TellsDone, code_of_done};
-ghost use Rattle.drive_calls.specs.Exports.{TellsState, code_of_state};
+ghost use Rattle.drive_calls.specs.Exports.{ReadsAhead, TellsState, code_of_state};
 ghost use Rattle.disk_machine.specs.Moves.{state_of};
 
 use crate::asks::{UsbDriveCall, told};
@@ -96,6 +96,25 @@ fn code_of(told: Result<(), DoneFault>) -> u32
         Err(DoneFault::NothingAsked) => NOT_ASKED,
         Err(DoneFault::BadLength) => BAD_LENGTH,
     }
+}
+
+/// The device is to read these sectors when it is free.
+pub fn look_ahead(alloc: Global, h: &mut UsbDrive, first: u64, count: u32) -> u32
+    ensures { InHandle (ReadsAhead first count) (Unit {0}) h.old.drive h.new.drive result }
+{
+    let Some(mut held) = reclaim(h, alloc) else {
+        return EMPTY;
+    };
+    let code = wish(&mut held, first, count);
+    adopt(h, alloc, held);
+    code
+}
+
+// Tells whether the device is to read these sectors when it is free.
+fn wish(drive: &mut DiskMachine, first: u64, count: u32) -> u32
+    ensures { ReadsAhead first count drive.old drive.new result }
+{
+    if drive.look_ahead(first, count) { 1 } else { 0 }
 }
 
 /// What the drive behind a handle is at.

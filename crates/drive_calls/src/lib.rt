@@ -12,6 +12,6 @@ mod turns;
 
 pub use asks::UsbDriveCall;
 pub use bus::{answer_setup, make_steps, send_in, take_out};
-pub use device::{next_call, start_drive, stop_drive, tell_done, tell_state};
+pub use device::{look_ahead, next_call, start_drive, stop_drive, tell_done, tell_state};
 pub use handle::{Opaque, UsbDrive};
 pub use start::UsbDriveOptions;
