@@ -371,6 +371,20 @@ uint32_t usbdisk_drive_setup(struct usbdisk_drive *drive, const uint8_t setup[8]
  * durable and at its home place once the device has carried out what waits. On a faulted disk it stays 1. */
 uint32_t usbdisk_drive_idle(struct usbdisk_drive *drive);
 
+/* The device is to read `count` sectors from sector `first` of the device on before a READ of the host lacks them:
+ * those behind the last READ that usbdisk_drive_next told, say. It tells them as a READ, once no other call is left.
+ * A READ of the host inside of them needs no device then, as long as no other sectors were read since. Call it
+ * when the bus rests, or while the host takes the bytes of a READ.
+ *
+ * Answers 1 where they will be read, or EMPTY. Else 0, and nothing changes: where count is 0, or more than the
+ * limit of a READ of the host (48 in format 1, 240 in format 2), or the device has not as many; or the device is at a
+ * call, or calls wait for it; or since the last packet that was taken sectors were read, or are to be.
+ *
+ * A packet that comes before the device has begun with them takes the wish away; one that comes while it reads
+ * gets NAK. Where it cannot read them (usbdisk_drive_done with ok false) no READ of the host ends for
+ * that: one that lacks them has them read anew. */
+uint32_t usbdisk_drive_ahead(struct usbdisk_drive *drive, uint64_t first, uint32_t count);
+
 /* Answers STARTING, SERVING or FAULTED, or EMPTY. */
 uint32_t usbdisk_drive_state(struct usbdisk_drive *drive);
 

@@ -4,7 +4,7 @@ ghost use Rattle.std.specs.Prelude.{◌≡◌};
 ghost use Rattle.disk_machine.specs.Packets.{TakesOut, SendsIn, AnswersSetup};
 ghost use Rattle.drive_calls.specs.Starting.{Starts};
 ghost use Rattle.drive_calls.specs.Exports.{Stops, InHandle, HandsOut, TellsDone, MakesSteps};
-ghost use Rattle.drive_calls.specs.Exports.{TellsState};
+ghost use Rattle.drive_calls.specs.Exports.{ReadsAhead, TellsState};
 
 use drive_calls::{UsbDrive, UsbDriveCall, UsbDriveOptions};
 use std::alloc::Global;
@@ -94,6 +94,19 @@ pub extern "C" fn usbdisk_drive_idle(alloc: Global, drive: &mut UsbDrive) -> u32
     ensures { InHandle MakesSteps (Unit {0}) drive.old.drive drive.new.drive result }
 {
     drive_calls::make_steps(alloc, drive)
+}
+
+#[unsafe(no_mangle)]
+pub extern "C" fn usbdisk_drive_ahead(
+    alloc: Global,
+    drive: &mut UsbDrive,
+    first: u64,
+    count: u32,
+) -> u32
+    ensures { InHandle (ReadsAhead first count) (Unit {0})
+        drive.old.drive drive.new.drive result }
+{
+    drive_calls::look_ahead(alloc, drive, first, count)
 }
 
 #[unsafe(no_mangle)]

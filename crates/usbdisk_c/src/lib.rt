@@ -9,8 +9,9 @@ mod look;
 mod store_exports;
 
 pub use drive_exports::{
-    usbdisk_drive_done, usbdisk_drive_idle, usbdisk_drive_in, usbdisk_drive_next, usbdisk_drive_out,
-    usbdisk_drive_setup, usbdisk_drive_start, usbdisk_drive_state, usbdisk_drive_stop,
+    usbdisk_drive_ahead, usbdisk_drive_done, usbdisk_drive_idle, usbdisk_drive_in,
+    usbdisk_drive_next, usbdisk_drive_out, usbdisk_drive_setup, usbdisk_drive_start,
+    usbdisk_drive_state, usbdisk_drive_stop,
 };
 pub use exports::{
     usbdisk_bulk_in, usbdisk_bulk_out, usbdisk_memory, usbdisk_near, usbdisk_refused, usbdisk_room,
