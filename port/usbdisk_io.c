@@ -208,3 +208,37 @@ void usbdisk_io_look_ahead(struct usbdisk_io *io, uint64_t size)
     if (show(io, io->behind, next))
         io->ahead = next;
 }
+
+/* A request, whose bytes are the setup packet, and room for what goes to the host. */
+static uint32_t play_setup(struct usbdisk_io *io, struct usbdisk_io_event *event)
+{
+    uint32_t size, code = usbdisk_io_setup(io, event->bytes, event->bytes + 8, &size);
+    event->moved = size;
+    return code;
+}
+
+/* The part of a transfer that has not moved yet. */
+static uint32_t play_transfer(struct usbdisk_io *io, struct usbdisk_io_event *event)
+{
+    uint8_t *rest = event->bytes + event->moved;
+    size_t size = event->size - event->moved, moved;
+    uint32_t code = event->kind == USBDISK_IO_OUT ? usbdisk_io_out(io, rest, size, &moved)
+                                                  : usbdisk_io_in(io, rest, size, &moved);
+    event->moved += moved;
+    return code;
+}
+
+uint32_t usbdisk_io_play(struct usbdisk_io *io, struct usbdisk_io_event *event)
+{
+    switch (event->kind) {
+    case USBDISK_IO_SETUP:
+        return play_setup(io, event);
+    case USBDISK_IO_RESET:
+        usbdisk_io_reset(io);
+        return USBDISK_ACK;
+    case USBDISK_IO_IDLE:
+        return usbdisk_io_idle(io) ? USBDISK_ACK : USBDISK_NAK;
+    default:
+        return play_transfer(io, event);
+    }
+}

@@ -18,6 +18,9 @@
  * memory functions of your own (usbdisk.h, rattle_alloc). Of usbdisk.h this file needs the answers
  * ACK, NAK and STALL, the numbers of what is wrong, and the identity.
  *
+ * Where your controller's events come out of one queue, usbdisk_io_play takes each of them, and
+ * examples/c/client.c is a whole program over it.
+ *
  * What usbdisk.h says of threads holds here too: one thread at a time, and no call from an
  * interrupt that can interrupt another one. A call waits for your functions, and for nothing else.
  */
@@ -110,6 +113,23 @@ bool usbdisk_io_idle(struct usbdisk_io *io);
  * is guessed wrong costs one read of the device. */
 void usbdisk_io_look_ahead(struct usbdisk_io *io, uint64_t size);
 
+/* What the bus brought. `bytes` are, of OUT, those that came; of IN, room for as many as the host
+ * waits for; of SETUP, the setup packet and then, from the ninth on, room for the 2 that go to the
+ * host. RESET and IDLE have none. */
+enum { USBDISK_IO_OUT, USBDISK_IO_IN, USBDISK_IO_SETUP, USBDISK_IO_RESET, USBDISK_IO_IDLE };
+
+struct usbdisk_io_event {
+    uint32_t kind;
+    uint8_t *bytes;
+    size_t size;
+    size_t moved; /* 0 at first; then how many of them were taken, or go to the host */
+};
+
+/* Plays an event by the call of its kind, with that call's answer; of RESET ACK, of IDLE ACK while
+ * more is left, and NAK where not. An OUT or an IN that was answered NAK goes on behind what it has
+ * moved when it is handed in again. */
+uint32_t usbdisk_io_play(struct usbdisk_io *io, struct usbdisk_io_event *event);
+
 /* Whether the device has refused a write or a flush, or what else keeps the disk from serving
  * blocks until the next start. */
 bool usbdisk_io_has_faulted(const struct usbdisk_io *io);
@@ -131,6 +151,13 @@ uint32_t usbdisk_io_format(const struct usbdisk_io_device *device, uint32_t form
                            uint64_t blocks);
 uint32_t usbdisk_io_lay_log(const struct usbdisk_io_device *device, uint32_t format, uint64_t slots,
                             uint64_t blocks);
+
+/* As usbdisk_io_format, where the device is blank: each byte of sector 0 is 00h, or each is FFh.
+ * What lies behind it is not looked at. A format that was cut off leaves no image and such a
+ * sector, or what was there before. Any other device stays as it is, for a start to tell what is on
+ * it. Answers as usbdisk_io_format, and 0 where the device is not blank. */
+uint32_t usbdisk_io_format_blank(const struct usbdisk_io_device *device, uint32_t format,
+                                 uint64_t slots, uint64_t blocks);
 
 /* Turns an image of format 1 into one of format 2 with the same blocks; one of format 2 is
  * recovered. After a cut, call it again. Answers as a start does, or LOG_TOO_SMALL. */

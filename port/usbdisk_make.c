@@ -1,5 +1,6 @@
 /* Images on a device, and what the numbers mean. */
 #include "usbdisk_carry.h"
+#include <string.h>
 
 /* Blocks of the longest transfer in format 1. */
 enum { SHORT = 48 };
@@ -69,6 +70,27 @@ uint32_t usbdisk_io_format(const struct usbdisk_io_device *device, uint32_t form
                            uint64_t blocks)
 {
     return make(device, usbdisk_format, format, slots, blocks);
+}
+
+/* Reads sector 0, and tells whether each of its bytes is 00h, or each is FFh. */
+static uint32_t look_for_blank(const struct usbdisk_io_device *device, bool *is_blank)
+{
+    uint8_t *sector = usbdisk_carry_alloc(512);
+    if (!sector)
+        return USBDISK_NO_MEMORY;
+    bool is_read = device->sectors && device->read(device->context, 0, sector, 1);
+    bool is_even = is_read && !memcmp(sector, sector + 1, 511);
+    *is_blank = is_even && (sector[0] == 0x00 || sector[0] == 0xFF);
+    rattle_dealloc(sector);
+    return is_read ? 0 : USBDISK_READ_REFUSED;
+}
+
+uint32_t usbdisk_io_format_blank(const struct usbdisk_io_device *device, uint32_t format,
+                                 uint64_t slots, uint64_t blocks)
+{
+    bool is_blank = false;
+    uint32_t code = look_for_blank(device, &is_blank);
+    return is_blank ? usbdisk_io_format(device, format, slots, blocks) : code;
 }
 
 uint32_t usbdisk_io_lay_log(const struct usbdisk_io_device *device, uint32_t format, uint64_t slots,

@@ -262,6 +262,12 @@ static uint32_t format_one(void)
     return usbdisk_io_format(&memory, 1, SLOTS, BLOCKS);
 }
 
+static uint32_t format_blank(void)
+{
+    memset(device.now[0], 0xFF, sizeof device.now[0]);
+    return usbdisk_io_format_blank(&memory, 2, SLOTS, BLOCKS);
+}
+
 static uint32_t lay_two(void)
 {
     return usbdisk_io_lay_log(&memory, 2, SLOTS, 0);
@@ -316,6 +322,7 @@ int main(void)
     }
     for (enum kind kind = READ; kind <= FLUSH; kind++) {
         play_making(format_one, kind);
+        play_making(format_blank, kind);
         play_making(lay_two, kind);
         keep_image(1);
         play_making(migrate, kind);

@@ -138,6 +138,53 @@ static void play_ends(struct usbdisk_io *io)
     must(!ask(io, test, 0, 0) && is_good(io), "a command behind the reset");
 }
 
+/* Where a block lies on the device. */
+static const uint8_t *home_of(uint64_t block)
+{
+    return device[usbdisk_near(device[0]) + block];
+}
+
+/* The data of a WRITE and the next wrapper in one event, which waits in between: it goes on where
+ * it was. A rest of the bus brings the block home. */
+static void play_rest(struct usbdisk_io *io)
+{
+    static const uint8_t command[10] = { 0x2A, [5] = 9, [8] = 1 },
+                         test[31] = { 'U', 'S', 'B', 'C', [14] = 6 };
+    struct usbdisk_io_event both = { USBDISK_IO_OUT, data, 512 + sizeof test, 0 },
+                            idle = { .kind = USBDISK_IO_IDLE };
+    memcpy(data + 512, test, sizeof test);
+    must(!ask(io, command, 0, 512), "a WRITE");
+    must(usbdisk_io_play(io, &both) == USBDISK_NAK && both.moved == 512, "a part has to wait");
+    must(is_good(io) && !usbdisk_io_play(io, &both) && both.moved == both.size && is_good(io),
+         "a part that had to wait");
+    must(!usbdisk_io_play(io, &idle), "a WRITE leaves nothing to bring home");
+    while (!usbdisk_io_play(io, &idle))
+        ;
+    must(!memcmp(data, home_of(9), 512), "what was written is not at home");
+}
+
+/* The same by events: a wrapper that has to wait for a status, a request and a reset. */
+static void play_events(struct usbdisk_io *io)
+{
+    uint8_t lun[10] = { 0xA1, 0xFE, [6] = 1, [8] = 0xEE },
+            test[31] = { 'U', 'S', 'B', 'C', [14] = 6 }, status[13];
+    struct usbdisk_io_event command = { USBDISK_IO_OUT, test, sizeof test, 0 }, again = command,
+                            answer = { USBDISK_IO_IN, status, sizeof status, 0 },
+                            request = { USBDISK_IO_SETUP, lun, 8, 0 },
+                            reset = { .kind = USBDISK_IO_RESET },
+                            idle = { .kind = USBDISK_IO_IDLE };
+    must(usbdisk_io_play(io, &answer) == USBDISK_NAK && !answer.moved, "a status of no command");
+    must(!usbdisk_io_play(io, &command) && command.moved == sizeof test, "a command by an event");
+    must(usbdisk_io_play(io, &again) == USBDISK_NAK && !again.moved, "a command that has to wait");
+    must(!usbdisk_io_play(io, &answer) && answer.moved == 13 && !status[12], "its status");
+    must(!usbdisk_io_play(io, &again) && again.moved == sizeof test, "a command handed in again");
+    must(!usbdisk_io_play(io, &request) && request.moved == 1 && !lun[8], "a request by an event");
+    must(!usbdisk_io_play(io, &reset), "a reset by an event");
+    answer.moved = 0;
+    must(usbdisk_io_play(io, &answer) == USBDISK_NAK, "a reset by an event leaves a status");
+    must(usbdisk_io_play(io, &idle) == USBDISK_NAK, "more is left than nothing");
+}
+
 /* READs of 48 blocks, one behind the other: from the third on nothing is left to read when one
  * comes. */
 static void play_ahead(struct usbdisk_io *io)
@@ -156,6 +203,32 @@ static void play_ahead(struct usbdisk_io *io)
     must(waited <= 3, "READs that follow each other wait for the device");
 }
 
+/* A device is made an image of where it is blank, and else is left as it is. */
+static void play_blank(void)
+{
+    static const struct usbdisk_io_device none = { NULL, 0, read, write, flush };
+    struct usbdisk_layout layout;
+    for (int blank = 0x00; blank <= 0xFF; blank += 0xFF) {
+        memset(device[0], blank, 512);
+        device[0][511] ^= 1;
+        must(!usbdisk_io_format_blank(&memory, 2, SLOTS, 0), "a device that is not blank");
+        must(device[0][0] == blank && device[0][511] == (blank ^ 1), "it is written");
+        device[0][511] ^= 1;
+        must(usbdisk_io_format_blank(&memory, 2, SLOTS, SECTORS) == USBDISK_BAD_SIZES &&
+                 device[0][0] == blank && device[0][511] == blank,
+             "sizes that do not fit");
+        must(!usbdisk_io_format_blank(&memory, 2, SLOTS, 0), "a blank device");
+        must(!usbdisk_look(device[0], &layout) && layout.blocks == BLOCKS, "its image");
+    }
+    memset(device[1], 0x77, 512);
+    must(!usbdisk_io_format_blank(&memory, 2, SLOTS, 0) && device[1][0] == 0x77,
+         "an image is made anew");
+    memset(device[0], 0x77, 512);
+    must(!usbdisk_io_format_blank(&memory, 2, SLOTS, 0) && device[0][0] == 0x77, "bytes of others");
+    must(usbdisk_io_format_blank(&none, 2, SLOTS, 0) == USBDISK_READ_REFUSED, "no sector");
+    must(!heap_blocks, "memory is left of an image");
+}
+
 int main(void)
 {
     for (uint32_t format = 1; format <= 2; format++) {
@@ -166,6 +239,8 @@ int main(void)
             while (usbdisk_io_idle(io))
                 ;
             play_ends(io);
+            play_events(io);
+            play_rest(io);
             if (format == 2)
                 play_ahead(io);
             usbdisk_io_stop(io);
@@ -173,6 +248,7 @@ int main(void)
         }
     }
     usbdisk_io_stop(NULL);
+    play_blank();
     for (uint32_t code = 0; code < 100; code++)
         must(strlen(usbdisk_text(code)) > 3, "no text");
     must(!strcmp(usbdisk_text(12), usbdisk_text(UINT32_MAX)), "a text for a number that is none");
