@@ -15,6 +15,21 @@ pub enum Answer<'a> {
     Stall,
 }
 
+/// What the bus brought, for [`Disk::play`].
+#[derive(Debug, Clone, Copy, PartialEq, Eq)]
+pub enum Event<'p> {
+    /// A packet came to Bulk-Out.
+    Out(&'p [u8]),
+    /// The host asks Bulk-In for a packet.
+    In,
+    /// A request came for the mass storage interface or one of its endpoints.
+    Setup([u8; 8]),
+    /// A bus reset.
+    Reset,
+    /// Nothing came for a while.
+    Idle,
+}
+
 /// A disk over a device, which it owns. The buffer is for sectors on their way.
 #[derive(Debug)]
 pub struct Disk<'b, D> {
@@ -69,6 +84,25 @@ impl<'b, D: Device> Disk<'b, D> {
         };
         disk.persist()?;
         Ok(disk)
+    }
+
+    /// Plays an event by the call of its kind, with that call's answer; of a bus reset [`Answer::Ack`], of
+    /// a step in the background [`Answer::Ack`] while more are left, and [`Answer::Nak`] where not.
+    pub fn play(&mut self, event: Event<'_>) -> Result<Answer<'_>, Error<D::Error>> {
+        match event {
+            Event::Out(packet) => self.bulk_out(packet),
+            Event::In => Ok(self.bulk_in()),
+            Event::Setup(request) => Ok(self.setup(&request)),
+            Event::Reset => {
+                self.bus_reset();
+                Ok(Answer::Ack(&[]))
+            }
+            Event::Idle => match self.tick() {
+                Ok(true) => Ok(Answer::Ack(&[])),
+                Ok(false) => Ok(Answer::Nak),
+                Err(error) => Err(Error::Device(error)),
+            },
+        }
     }
 
     /// A packet came to Bulk-Out. A READ of sectors that the device cannot read ends alone, with a check
@@ -184,7 +218,7 @@ impl<'b, D: Device> Disk<'b, D> {
     }
 }
 
-fn answer(code: u32, bytes: &[u8]) -> Result<Answer<'_>, Refusal> {
+pub fn answer(code: u32, bytes: &[u8]) -> Result<Answer<'_>, Refusal> {
     match code {
         0 => Ok(Answer::Ack(bytes)),
         1 => Ok(Answer::Nak),

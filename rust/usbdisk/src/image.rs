@@ -54,6 +54,11 @@ fn make<D: Device>(
     device.read(0, &mut first).map_err(Error::Device)?;
     let mut image = Image::none();
     let (near, sectors) = (first.as_ptr(), device.sectors());
+    let blocks = if blocks == 0 {
+        most_blocks(sectors, format, slots)
+    } else {
+        blocks
+    };
     // SAFETY: the handle holds nothing, and all that is pointed to is lent for the call.
     let code = unsafe {
         making(
@@ -71,8 +76,15 @@ fn make<D: Device>(
     image.carry_out(device)
 }
 
-/// Makes an image of zeros, of format 1 or 2, with so many blocks and log slots. A cut leaves what was
-/// there before, no image, or the new one, whole.
+// How many blocks there is room for behind the log.
+fn most_blocks(sectors: u64, format: u32, slots: u64) -> u64 {
+    let slot = if format == 1 { 50 } else { 249 };
+    let home = slots.saturating_mul(slot).saturating_add(2);
+    sectors.saturating_sub(home).min(1 << 31)
+}
+
+/// Makes an image of zeros, of format 1 or 2, with so many blocks and log slots; 0 blocks: as many as
+/// there is room for. A cut leaves what was there before, no image, or the new one, whole.
 pub fn format<D: Device>(
     device: &mut D,
     format: u32,
@@ -80,6 +92,24 @@ pub fn format<D: Device>(
     slots: u64,
 ) -> Result<(), Error<D::Error>> {
     make(sys::usbdisk_format, device, format, blocks, slots)
+}
+
+/// Makes an image as [`format`](fn@format) does, where the device is blank: each byte of sector 0 is 00h,
+/// or each is FFh. What lies behind it is not looked at. A format that was cut off leaves no image and
+/// such a sector, or what was there before. Any other device stays as it is, for a start to tell what is
+/// on it.
+pub fn format_blank<D: Device>(
+    device: &mut D,
+    log: u32,
+    blocks: u64,
+    slots: u64,
+) -> Result<(), Error<D::Error>> {
+    let mut sector = [0; SECTOR];
+    device.read(0, &mut sector).map_err(Error::Device)?;
+    if sector != [0x00; SECTOR] && sector != [0xFF; SECTOR] {
+        return Ok(());
+    }
+    format(device, log, blocks, slots)
 }
 
 /// Makes an image around the blocks that the device holds behind its log, by writing the log alone. A

@@ -20,8 +20,8 @@ mod store;
 #[allow(missing_docs, non_camel_case_types)]
 pub mod sys;
 
-pub use disk::{Answer, Disk};
-pub use image::{format, lay_log, migrate};
+pub use disk::{Answer, Disk, Event};
+pub use image::{format, format_blank, lay_log, migrate};
 pub use store::Store;
 
 use core::fmt;
@@ -86,6 +86,32 @@ pub struct Identity {
     pub revision: [u8; 4],
     /// Its serial number, of hexadecimal digits where USB tells it too.
     pub serial: [u8; 12],
+}
+
+impl Identity {
+    /// These texts, padded with spaces.
+    ///
+    /// # Panics
+    ///
+    /// Where one is too long. Of a constant the compiler tells that.
+    pub const fn new(vendor: &str, product: &str, revision: &str, serial: &str) -> Self {
+        Identity {
+            vendor: padded(vendor),
+            product: padded(product),
+            revision: padded(revision),
+            serial: padded(serial),
+        }
+    }
+}
+
+const fn padded<const SIZE: usize>(text: &str) -> [u8; SIZE] {
+    let (text, mut bytes, mut at) = (text.as_bytes(), [b' '; SIZE], 0);
+    assert!(text.len() <= SIZE, "a text of the identity is too long");
+    while at < text.len() {
+        bytes[at] = text[at];
+        at += 1;
+    }
+    bytes
 }
 
 /// What image begins with a sector 0.

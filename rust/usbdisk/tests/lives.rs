@@ -1,20 +1,15 @@
 //! Disks and stores over memory, of which a call is refused: whichever it is, what was answered good is
 //! there behind a cut.
-use usbdisk::{first_size, format, lay_log, look, memory, migrate, room, version};
+use usbdisk::{first_size, format, format_blank, lay_log, look, memory, migrate, room, version};
 use usbdisk::{
-    Answer, Device, Disk, Error, Identity, Layout, Refusal, Store, BUFFER, SECTOR, VERSION,
+    Answer, Device, Disk, Error, Event, Identity, Layout, Refusal, Store, BUFFER, SECTOR, VERSION,
 };
 
 const BLOCKS: u64 = 64;
 const SLOTS: u64 = 5;
 const SIZE: usize = (2 + 249 * SLOTS + BLOCKS) as usize * SECTOR;
 const NEAR: usize = (2 + 249 * SLOTS) as usize * SECTOR;
-const WHO: Identity = Identity {
-    vendor: *b"EXAMPLE ",
-    product: *b"MEMORY          ",
-    revision: *b"0001",
-    serial: *b"000000000001",
-};
+const WHO: Identity = Identity::new("EXAMPLE", "MEMORY", "0001", "000000000001");
 
 #[derive(Debug, Clone, Copy, PartialEq)]
 struct Refused;
@@ -184,6 +179,10 @@ fn live(log: u32, refused: u32) -> bool {
 #[test]
 fn a_refused_call_is_never_answered_good() {
     assert_eq!(version(), VERSION);
+    assert_eq!(
+        (WHO.vendor, WHO.product),
+        (*b"EXAMPLE ", *b"MEMORY          ")
+    );
     for log in 1..=2 {
         let lives = (1..).take_while(|refused| live(log, *refused)).count();
         assert!(lives > 4, "{lives}");
@@ -329,6 +328,51 @@ fn images_are_laid_and_migrated_over_what_is_there() {
         Ok((2, BLOCKS))
     );
     assert!(is_there(&mut device));
+}
+
+#[test]
+fn a_blank_device_alone_gets_an_image() {
+    for blank in [0x00, 0xFF] {
+        let mut device = Memory::new();
+        device.bytes[..SECTOR].fill(blank);
+        device.bytes[SECTOR - 1] ^= 1;
+        assert_eq!(format_blank(&mut device, 2, 0, SLOTS), Ok(()));
+        assert_eq!(device.calls, 0);
+        device.bytes[SECTOR - 1] ^= 1;
+        let bad = Err(Error::Refused(Refusal::BadSizes));
+        assert_eq!(format_blank(&mut device, 2, BLOCKS + 1, SLOTS), bad);
+        assert_eq!(format_blank(&mut device, 2, 0, u64::MAX), bad);
+        assert_eq!(format_blank(&mut device, 2, 0, SLOTS), Ok(()));
+        let layout = look(device.bytes[..SECTOR].try_into().unwrap()).unwrap();
+        assert_eq!((layout.format, layout.blocks), (2, BLOCKS));
+        device.calls = 0;
+        assert_eq!(format_blank(&mut device, 2, 0, SLOTS), Ok(()));
+        assert_eq!(device.calls, 0);
+    }
+}
+
+#[test]
+fn an_event_is_played_by_the_call_of_its_kind() {
+    let (mut near, mut buffer) = (vec![0; NEAR], vec![0; BUFFER]);
+    let mut device = Memory::with_image(2);
+    let mut disk = Disk::start(&mut device, &mut near, &mut buffer, &WHO, 512).unwrap();
+    let sense = wrapper(18, 0x80, &[3, 0, 0, 0, 18, 0]);
+    assert_eq!(disk.play(Event::In), Ok(Answer::Nak));
+    assert_eq!(disk.play(Event::Out(&sense)), Ok(Answer::Ack(&[])));
+    assert_eq!(disk.play(Event::Out(&sense)), Ok(Answer::Nak));
+    assert!(matches!(disk.play(Event::In), Ok(Answer::Ack(bytes)) if bytes.len() == 18));
+    assert_eq!(disk.play(Event::Reset), Ok(Answer::Ack(&[])));
+    assert_eq!(disk.play(Event::In), Ok(Answer::Nak));
+    let lun = Event::Setup([0xA1, 0xFE, 0, 0, 0, 0, 1, 0]);
+    assert_eq!(disk.play(lun), Ok(Answer::Ack(&[0])));
+    let long = Err(Error::Refused(Refusal::TooLong));
+    assert_eq!(disk.play(Event::Out(&[0; 513])), long);
+    assert_eq!(disk.play(Event::Idle), Ok(Answer::Nak));
+    assert!(write(&mut disk).0);
+    assert_eq!(disk.play(Event::Idle), Ok(Answer::Ack(&[])));
+    while disk.play(Event::Idle) == Ok(Answer::Ack(&[])) {}
+    drop(disk);
+    assert_eq!(device.bytes[NEAR + 5 * SECTOR], 0xA5);
 }
 
 #[test]
