@@ -3,7 +3,8 @@
 //!
 //! A [`Device`] is three functions over sectors of 512 bytes. A [`Disk`] over it takes the packets of a
 //! USB controller; a [`Store`] takes blocks, from a stack that speaks SCSI itself. Whatever a call
-//! writes is on the device when the call is back: persist first, then send.
+//! writes is on the device when the call is back: persist first, then send. A [`Drive`] is the disk for
+//! a device that works by itself while packets come.
 //!
 //! The build takes the library from the folder that the environment's `USBDISK_LIB` names. The library
 //! asks the program for memory at a start, by `rattle_alloc` and `rattle_dealloc` of `usbdisk.h`: the
@@ -12,6 +13,7 @@
 #![deny(missing_docs)]
 
 mod disk;
+mod drive;
 #[cfg(feature = "alloc")]
 mod heap;
 mod image;
@@ -21,6 +23,7 @@ mod store;
 pub mod sys;
 
 pub use disk::{Answer, Disk, Event};
+pub use drive::{Call, Drive, State};
 pub use image::{format, format_blank, lay_log, migrate};
 pub use store::Store;
 
@@ -175,10 +178,12 @@ pub enum Refusal {
     BadRange = 24,
     /// The outbox has less room than the image wants.
     LittleRoom = 25,
+    /// No call of the device is under way.
+    NotAsked = 26,
 }
 
 impl Refusal {
-    const ALL: [Refusal; 21] = [
+    const ALL: [Refusal; 22] = [
         Refusal::NoMemory,
         Refusal::ReadRefused,
         Refusal::WriteRefused,
@@ -200,6 +205,7 @@ impl Refusal {
         Refusal::NotTaken,
         Refusal::BadRange,
         Refusal::LittleRoom,
+        Refusal::NotAsked,
     ];
 
     // A call that succeeds answers 0.
@@ -235,6 +241,7 @@ impl fmt::Display for Refusal {
             Refusal::NotTaken => "sectors that cannot be shown",
             Refusal::BadRange => "a block behind the last one",
             Refusal::LittleRoom => "too little room in the outbox",
+            Refusal::NotAsked => "no call of the device is under way",
         })
     }
 }

@@ -25,6 +25,8 @@ macro_rules! handle {
 handle! {
     /// `struct usbdisk`
     usbdisk;
+    /// `struct usbdisk_drive`
+    usbdisk_drive;
     /// `struct usbdisk_image`
     usbdisk_image;
     /// `struct usbdisk_store`
@@ -41,6 +43,25 @@ pub struct usbdisk_device {
 
 /// The device of every call here.
 pub static DEVICE: usbdisk_device = usbdisk_device { mark: 0 };
+
+/// `struct usbdisk_drive_options`
+#[repr(C)]
+#[derive(Debug)]
+pub struct usbdisk_drive_options {
+    pub sectors: u64,
+    pub identity: crate::Identity,
+    pub packet: u32,
+    pub device: usbdisk_device,
+}
+
+/// `struct usbdisk_drive_call`
+#[repr(C)]
+#[derive(Debug, Default)]
+pub struct usbdisk_drive_call {
+    pub kind: u32,
+    pub sector: u64,
+    pub count: u64,
+}
 
 extern "C" {
     pub fn usbdisk_version() -> u32;
@@ -87,6 +108,36 @@ extern "C" {
         count: *mut usize,
     ) -> u32;
     pub fn usbdisk_refused(disk: *mut usbdisk) -> u32;
+
+    pub fn usbdisk_drive_start(
+        drive: *mut usbdisk_drive,
+        options: *const usbdisk_drive_options,
+        near: *const u8,
+        near_size: usize,
+    ) -> u32;
+    pub fn usbdisk_drive_stop(drive: *mut usbdisk_drive) -> u32;
+    pub fn usbdisk_drive_next(
+        drive: *mut usbdisk_drive,
+        call: *mut usbdisk_drive_call,
+        buffer: *mut u8,
+        size: usize,
+    ) -> u32;
+    pub fn usbdisk_drive_done(
+        drive: *mut usbdisk_drive,
+        ok: bool,
+        bytes: *const u8,
+        size: usize,
+    ) -> u32;
+    pub fn usbdisk_drive_out(drive: *mut usbdisk_drive, packet: *const u8, size: usize) -> u32;
+    pub fn usbdisk_drive_in(drive: *mut usbdisk_drive, packet: *mut u8, size: *mut u32) -> u32;
+    pub fn usbdisk_drive_setup(
+        drive: *mut usbdisk_drive,
+        setup: *const u8,
+        data: *mut u8,
+        size: *mut u32,
+    ) -> u32;
+    pub fn usbdisk_drive_idle(drive: *mut usbdisk_drive) -> u32;
+    pub fn usbdisk_drive_state(drive: *mut usbdisk_drive) -> u32;
 
     pub fn usbdisk_format(
         image: *mut usbdisk_image,
