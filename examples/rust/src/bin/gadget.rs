@@ -7,12 +7,7 @@ use usbdisk::{
 
 const BLOCKS: u64 = 64;
 const SLOTS: u64 = 2;
-const WHO: Identity = Identity {
-    vendor: *b"EXAMPLE ",
-    product: *b"MEMORY          ",
-    revision: *b"0001",
-    serial: *b"000000000001",
-};
+const WHO: Identity = Identity::new("EXAMPLE", "MEMORY", "0001", "000000000001");
 
 struct Memory {
     bytes: Vec<u8>,

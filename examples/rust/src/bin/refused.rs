@@ -7,12 +7,7 @@ const BLOCKS: u64 = 64;
 const SLOTS: u64 = 3;
 const GOOD: u8 = 0;
 const WRITTEN: [u8; 512] = [0xA5; 512];
-const WHO: Identity = Identity {
-    vendor: *b"EXAMPLE ",
-    product: *b"MEMORY          ",
-    revision: *b"0001",
-    serial: *b"000000000001",
-};
+const WHO: Identity = Identity::new("EXAMPLE", "MEMORY", "0001", "000000000001");
 
 #[derive(Debug)]
 struct Refused;
