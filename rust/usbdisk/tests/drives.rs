@@ -248,6 +248,23 @@ fn a_plain_write_is_answered_while_the_device_works_and_a_promise_is_not() {
 }
 
 #[test]
+fn a_bus_reset_drops_an_answer_and_clears_the_halts() {
+    let mut device = Memory::with_image(1);
+    let mut bench = Bench::new(&mut device, 0);
+    bench.catch_up();
+    let sense = wrapper(18, 0x80, &[3, 0, 0, 0, 18, 0]);
+    assert_eq!(bench.drive.bulk_out(&sense), Ok(Answer::Ack(&[])));
+    bench.drive.bus_reset();
+    assert_eq!(bench.drive.bulk_in(), Answer::Nak);
+    bench.drive.bulk_out(&[0; 3]).unwrap();
+    assert_eq!(bench.drive.bulk_out(&sense), Ok(Answer::Stall));
+    assert_eq!(bench.drive.bulk_in(), Answer::Stall);
+    bench.drive.bus_reset();
+    assert_eq!(bench.drive.bulk_in(), Answer::Nak);
+    assert_eq!(bench.sense(), [0, 0, 0]);
+}
+
+#[test]
 fn a_read_waits_for_its_sectors_and_ends_where_they_are_refused() {
     let mut device = Memory::with_image(2);
     let home = (2 + 249 * SLOTS + 5) as usize * SECTOR;
