@@ -164,6 +164,15 @@ impl Drive {
         unsafe { sys::usbdisk_drive_idle(&mut self.handle.0) == 1 }
     }
 
+    /// The device is to read `count` sectors from sector `first` on before a READ of the host lacks them,
+    /// for when the bus rests: whether they will be read. False, and nothing changes: there are not as
+    /// many, or more than a READ may have (48 in format 1, 240 in format 2); the device is at a call, or
+    /// calls wait for it; or since the last packet that was taken sectors were read, or are to be.
+    pub fn look_ahead(&mut self, first: u64, count: u32) -> bool {
+        // SAFETY: the handle is lent to this call alone.
+        unsafe { sys::usbdisk_drive_ahead(&mut self.handle.0, first, count) == 1 }
+    }
+
     /// What the drive is at.
     pub fn state(&mut self) -> State {
         // SAFETY: the handle is lent to this call alone.

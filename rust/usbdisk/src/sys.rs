@@ -137,6 +137,7 @@ extern "C" {
         size: *mut u32,
     ) -> u32;
     pub fn usbdisk_drive_idle(drive: *mut usbdisk_drive) -> u32;
+    pub fn usbdisk_drive_ahead(drive: *mut usbdisk_drive, first: u64, count: u32) -> u32;
     pub fn usbdisk_drive_state(drive: *mut usbdisk_drive) -> u32;
 
     pub fn usbdisk_format(
