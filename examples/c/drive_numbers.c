@@ -51,6 +51,7 @@ static void play_calls(bool is_empty)
          is_empty ? USBDISK_EMPTY : USBDISK_ACK, "setup");
     must(usbdisk_drive_state(&drive), is_empty ? USBDISK_EMPTY : USBDISK_STARTING, "state");
     must(usbdisk_drive_idle(&drive), is_empty ? USBDISK_EMPTY : 0, "idle");
+    must(usbdisk_drive_ahead(&drive, NEAR, 1), is_empty ? USBDISK_EMPTY : 0, "ahead in a start");
     must(usbdisk_drive_stop(&drive), is_empty ? USBDISK_EMPTY : 0, "stop");
 }
 
@@ -87,6 +88,39 @@ static int refuse_memory(void)
     return blocks - 1;
 }
 
+/* The device carries out what the start made. */
+static void carry_out(void)
+{
+    struct usbdisk_drive_call call;
+    for (;;) {
+        must(usbdisk_drive_next(&drive, &call, bytes, sizeof bytes), 0, "next");
+        if (call.kind == USBDISK_NOTHING)
+            return;
+        if (call.kind == USBDISK_WRITE)
+            memcpy(image + call.sector * 512, bytes, call.count * 512);
+        must(usbdisk_drive_done(&drive, true, bytes, 0), 0, "done");
+    }
+}
+
+/* What is read ahead, and what is not: sectors that are none, too many or not all there; and more
+ * than once before the next packet. One that fails leaves no trace. */
+static void read_ahead(void)
+{
+    struct usbdisk_drive_call call;
+    carry_out();
+    must(usbdisk_drive_ahead(&drive, NEAR, 0), 0, "no sectors ahead");
+    must(usbdisk_drive_ahead(&drive, NEAR, 241), 0, "too many ahead");
+    must(usbdisk_drive_ahead(&drive, SECTORS - 1, 2), 0, "sectors ahead that are not there");
+    must(usbdisk_drive_ahead(&drive, SECTORS - 2, 2), 1, "the last two ahead");
+    must(usbdisk_drive_ahead(&drive, NEAR, 2), 0, "a second time ahead");
+    must(usbdisk_drive_next(&drive, &call, bytes, sizeof bytes), 0, "next");
+    must(call.kind == USBDISK_READ && call.sector == SECTORS - 2 && call.count == 2, true,
+         "what is read ahead");
+    must(usbdisk_drive_done(&drive, false, bytes, 0), 0, "a reading ahead that fails");
+    must(usbdisk_drive_ahead(&drive, NEAR, 2), 0, "ahead before a packet");
+    must(usbdisk_drive_state(&drive), USBDISK_SERVING, "the state behind it");
+}
+
 int main(void)
 {
     uint64_t told =
@@ -104,5 +138,8 @@ int main(void)
     play_calls(false);
     must((uint32_t)heap_blocks, 0, "a stop, which keeps blocks,");
     play_calls(true);
+    must(start(&good, NEAR), 0, "a start");
+    read_ahead();
+    must(usbdisk_drive_stop(&drive), 0, "stop");
     return EXIT_SUCCESS;
 }
