@@ -1,6 +1,11 @@
-/* Carries out what the library asks of a device: neighbouring sectors by one write, in order. */
+/* Carries out what the library asks of a device: neighbouring sectors by one write, in order. And
+ * whole transfers over packets. */
 #include "usbdisk_carry.h"
 #include <string.h>
+
+/* SHORT, LONG: blocks of the longest transfer in format 1 and in format 2. PACKET: bytes of the
+ * longest packet. */
+enum { SHORT = 48, LONG = 240, PACKET = 512 };
 
 void *usbdisk_carry_alloc(size_t size)
 {
@@ -136,4 +141,92 @@ uint32_t usbdisk_first_read(struct usbdisk_first *first, const struct usbdisk_io
     rattle_dealloc(first->bytes);
     first->bytes = NULL;
     return USBDISK_READ_REFUSED;
+}
+
+size_t usbdisk_carry_longest(const struct usbdisk_layout *layout)
+{
+    return layout->format == 1 ? SHORT : LONG;
+}
+
+uint32_t usbdisk_packets_out(const struct usbdisk_packets *packets, const uint8_t *bytes,
+                             size_t size, size_t *taken)
+{
+    static const uint8_t none[1];
+    *taken = 0;
+    do {
+        size_t left = size - *taken, packet = left < packets->size ? left : packets->size;
+        uint32_t code = packets->out(packets->disk, packet ? bytes + *taken : none, packet);
+        if (code != USBDISK_ACK)
+            return code;
+        *taken += packet;
+    } while (*taken < size);
+    return USBDISK_ACK;
+}
+
+uint32_t usbdisk_packets_in(const struct usbdisk_packets *packets, uint8_t *bytes, size_t size,
+                            size_t *got)
+{
+    uint8_t packet[PACKET];
+    *got = 0;
+    for (;;) {
+        size_t left = size - *got;
+        uint8_t *to = left < sizeof packet ? packet : bytes + *got;
+        uint32_t count = 0, code = packets->in(packets->disk, to, &count);
+        if (code != USBDISK_ACK)
+            return code;
+        if (count > left)
+            return USBDISK_IO_OVERFLOW;
+        if (to == packet && count)
+            memcpy(bytes + *got, packet, count);
+        *got += count;
+        if (count < packets->size || *got == size)
+            return USBDISK_ACK;
+    }
+}
+
+uint32_t usbdisk_packets_setup(const struct usbdisk_packets *packets, const uint8_t setup[8],
+                               uint8_t data[2], uint32_t *size)
+{
+    *size = 0;
+    return packets->setup(packets->disk, setup, data, size);
+}
+
+void usbdisk_packets_clear_halt(const struct usbdisk_packets *packets, uint8_t endpoint)
+{
+    const uint8_t setup[8] = { 0x02, 0x01, 0, 0, endpoint, 0, 0, 0 };
+    uint8_t data[2];
+    uint32_t size;
+    usbdisk_packets_setup(packets, setup, data, &size);
+}
+
+/* What a host's reset recovery does: class reset, both halts cleared. */
+void usbdisk_packets_reset(const struct usbdisk_packets *packets)
+{
+    static const uint8_t class_reset[8] = { 0x21, 0xFF, 0, 0, 0, 0, 0, 0 };
+    uint8_t data[2];
+    uint32_t size;
+    usbdisk_packets_setup(packets, class_reset, data, &size);
+    usbdisk_packets_clear_halt(packets, 0x81);
+    usbdisk_packets_clear_halt(packets, 0x02);
+}
+
+void usbdisk_guess_asked(struct usbdisk_guess *guess, uint64_t first, uint64_t count)
+{
+    guess->reads_on = first == guess->behind;
+    guess->behind = first + count;
+    guess->ahead = 0;
+}
+
+uint64_t usbdisk_guess_next(struct usbdisk_guess *guess, uint64_t size,
+                            const struct usbdisk_layout *layout)
+{
+    uint64_t count = size / 512, next = guess->before, end = layout->near + layout->blocks;
+    bool is_found = guess->ahead && guess->ahead == count;
+    if (!count || (guess->ahead && !is_found))
+        return 0;
+    guess->before = count;
+    guess->behind += guess->ahead;
+    guess->ahead = 0;
+    bool follows = is_found || guess->reads_on;
+    return follows && next <= end - guess->behind ? next : 0;
 }

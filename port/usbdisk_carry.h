@@ -1,4 +1,5 @@
-/* How calls leave the library and reach a device: for the files beside this one alone. */
+/* How calls leave the library and reach a device, and how transfers are packets: for the files beside
+ * this one alone. */
 #ifndef USBDISK_CARRY_H
 #define USBDISK_CARRY_H
 
@@ -60,5 +61,43 @@ struct usbdisk_first {
 
 /* Answers 0, READ_REFUSED or NO_MEMORY. */
 uint32_t usbdisk_first_read(struct usbdisk_first *first, const struct usbdisk_io_device *device);
+
+/* Blocks of the longest transfer: 48 in format 1, 240 in format 2. */
+size_t usbdisk_carry_longest(const struct usbdisk_layout *layout);
+
+/* A disk of either kind, by packets of `size` bytes; each call answers as that of usbdisk.h. */
+struct usbdisk_packets {
+    void *disk;
+    uint32_t size;
+    uint32_t (*out)(void *disk, const uint8_t *packet, size_t size);
+    uint32_t (*in)(void *disk, uint8_t packet[512], uint32_t *size);
+    uint32_t (*setup)(void *disk, const uint8_t setup[8], uint8_t data[2], uint32_t *size);
+};
+
+/* As usbdisk_io_out, usbdisk_io_in, usbdisk_io_setup, usbdisk_io_clear_halt and usbdisk_io_reset. */
+uint32_t usbdisk_packets_out(const struct usbdisk_packets *packets, const uint8_t *bytes,
+                             size_t size, size_t *taken);
+uint32_t usbdisk_packets_in(const struct usbdisk_packets *packets, uint8_t *bytes, size_t size,
+                            size_t *got);
+uint32_t usbdisk_packets_setup(const struct usbdisk_packets *packets, const uint8_t setup[8],
+                               uint8_t data[2], uint32_t *size);
+void usbdisk_packets_clear_halt(const struct usbdisk_packets *packets, uint8_t endpoint);
+void usbdisk_packets_reset(const struct usbdisk_packets *packets);
+
+/* What the READs that follow each other will ask for next. */
+struct usbdisk_guess {
+    uint64_t behind; /* the sector behind the last READ */
+    uint64_t before; /* how many sectors the READ before it had */
+    uint64_t ahead;  /* how many from there on were shown before they were asked for */
+    bool reads_on;   /* the last READ began where the one before it ended */
+};
+
+/* A READ asks for these sectors. */
+void usbdisk_guess_asked(struct usbdisk_guess *guess, uint64_t first, uint64_t count);
+
+/* The data of a READ is on its way, `size` bytes. Answers how many sectors from guess->behind on to
+ * show ahead, or 0; where they are shown, they go into guess->ahead. */
+uint64_t usbdisk_guess_next(struct usbdisk_guess *guess, uint64_t size,
+                            const struct usbdisk_layout *layout);
 
 #endif

@@ -1,21 +1,13 @@
 /* A disk of the library over a device, by whole transfers. */
 #include "usbdisk_carry.h"
-#include <string.h>
-
-/* SHORT, LONG: blocks of the longest transfer in format 1 and in format 2. PACKET: bytes of the
- * longest packet. */
-enum { SHORT = 48, LONG = 240, PACKET = 512 };
 
 struct usbdisk_io {
     struct usbdisk core;
     struct usbdisk_device name;
     struct usbdisk_carry carry;
     struct usbdisk_layout layout;
-    uint32_t packet;
-    uint64_t behind; /* the sector behind the last READ */
-    uint64_t before; /* how many sectors the READ before it had */
-    uint64_t ahead;  /* how many from there on were shown before they were asked for */
-    bool reads_on;   /* the last READ began where the one before it ended */
+    struct usbdisk_packets packets;
+    struct usbdisk_guess guess;
 };
 
 static uint32_t take(void *core, uint64_t *first, uint8_t *bytes, size_t size, size_t *count)
@@ -33,11 +25,51 @@ static uint32_t tick(void *core)
     return usbdisk_tick(core);
 }
 
+/* Reads sectors of the device and shows them to the disk. False: they are not read. */
+static bool show(struct usbdisk_io *io, uint64_t first, uint64_t count)
+{
+    const struct usbdisk_io_device *device = io->carry.device;
+    uint8_t *buffer = io->carry.buffer;
+    return count <= io->carry.most && device->read(device->context, first, buffer, (size_t)count) &&
+           !usbdisk_show(&io->core, first, buffer, (size_t)count * 512);
+}
+
+/* A packet to the disk, which may ask for sectors of the device before a READ. Where these cannot
+ * be read the READ ends alone, and the disk goes on. */
+static uint32_t bulk_out(void *disk, const uint8_t *packet, size_t size)
+{
+    struct usbdisk_io *io = disk;
+    uint64_t first = 0;
+    uint32_t count = 0, code;
+    io->carry.steps = 0;
+    while ((code = usbdisk_bulk_out(&io->core, packet, size, &first, &count)) == USBDISK_NEEDS) {
+        usbdisk_guess_asked(&io->guess, first, count);
+        if (!show(io, first, count)) {
+            code = usbdisk_bulk_out_unread(&io->core, packet, size);
+            break;
+        }
+    }
+    usbdisk_carry_all(&io->carry);
+    return code;
+}
+
+static uint32_t bulk_in(void *disk, uint8_t packet[512], uint32_t *size)
+{
+    struct usbdisk_io *io = disk;
+    return usbdisk_bulk_in(&io->core, packet, size);
+}
+
+static uint32_t setup(void *disk, const uint8_t request[8], uint8_t data[2], uint32_t *size)
+{
+    struct usbdisk_io *io = disk;
+    return usbdisk_setup(&io->core, request, data, size);
+}
+
 /* A disk that is not started yet, with a buffer for the longest transfer. NULL: no memory. */
 static struct usbdisk_io *make(const struct usbdisk_io_device *device, uint32_t packet,
                                const struct usbdisk_layout *layout)
 {
-    size_t most = layout->format == 1 ? SHORT : LONG;
+    size_t most = usbdisk_carry_longest(layout);
     struct usbdisk_io *io = usbdisk_carry_alloc(sizeof *io);
     uint8_t *buffer = io ? usbdisk_carry_alloc(most * 512) : NULL;
     if (!buffer) {
@@ -47,7 +79,7 @@ static struct usbdisk_io *make(const struct usbdisk_io_device *device, uint32_t 
     }
     *io = (struct usbdisk_io){ .core = USBDISK_NONE,
                                .layout = *layout,
-                               .packet = packet,
+                               .packets = { io, packet, bulk_out, bulk_in, setup },
                                .carry = { .device = device, .buffer = buffer, .most = most } };
     io->carry.take = take;
     io->carry.refuse = refuse;
@@ -62,7 +94,7 @@ static uint32_t begin(struct usbdisk_io *io, const struct usbdisk_first *first,
 {
     uint32_t code =
         usbdisk_start(&io->core, first->bytes, first->size, io->carry.device->sectors, &io->name,
-                      identity, io->packet, (uint32_t)io->carry.most, (size_t)first->room);
+                      identity, io->packets.size, (uint32_t)io->carry.most, (size_t)first->room);
     if (code)
         return code;
     usbdisk_carry_all(&io->carry);
@@ -100,93 +132,30 @@ bool usbdisk_io_has_faulted(const struct usbdisk_io *io)
     return usbdisk_carry_has_ended(&io->carry);
 }
 
-/* Reads sectors of the device and shows them to the disk. False: they are not read. */
-static bool show(struct usbdisk_io *io, uint64_t first, uint64_t count)
-{
-    const struct usbdisk_io_device *device = io->carry.device;
-    uint8_t *buffer = io->carry.buffer;
-    return count <= io->carry.most && device->read(device->context, first, buffer, (size_t)count) &&
-           !usbdisk_show(&io->core, first, buffer, (size_t)count * 512);
-}
-
-/* A packet to the disk, which may ask for sectors of the device before a READ. Where these cannot
- * be read the READ ends alone, and the disk goes on. */
-static uint32_t bulk_out(struct usbdisk_io *io, const uint8_t *packet, size_t size)
-{
-    uint64_t first = 0;
-    uint32_t count = 0, code;
-    io->carry.steps = 0;
-    while ((code = usbdisk_bulk_out(&io->core, packet, size, &first, &count)) == USBDISK_NEEDS) {
-        io->reads_on = first == io->behind;
-        io->behind = first + count;
-        io->ahead = 0;
-        if (!show(io, first, count)) {
-            code = usbdisk_bulk_out_unread(&io->core, packet, size);
-            break;
-        }
-    }
-    usbdisk_carry_all(&io->carry);
-    return code;
-}
-
 uint32_t usbdisk_io_out(struct usbdisk_io *io, const uint8_t *bytes, size_t size, size_t *taken)
 {
-    static const uint8_t none[1];
-    *taken = 0;
-    do {
-        size_t left = size - *taken, packet = left < io->packet ? left : io->packet;
-        uint32_t code = bulk_out(io, packet ? bytes + *taken : none, packet);
-        if (code != USBDISK_ACK)
-            return code;
-        *taken += packet;
-    } while (*taken < size);
-    return USBDISK_ACK;
+    return usbdisk_packets_out(&io->packets, bytes, size, taken);
 }
 
 uint32_t usbdisk_io_in(struct usbdisk_io *io, uint8_t *bytes, size_t size, size_t *got)
 {
-    uint8_t packet[PACKET];
-    *got = 0;
-    for (;;) {
-        size_t left = size - *got;
-        uint8_t *to = left < sizeof packet ? packet : bytes + *got;
-        uint32_t count = 0, code = usbdisk_bulk_in(&io->core, to, &count);
-        if (code != USBDISK_ACK)
-            return code;
-        if (count > left)
-            return USBDISK_IO_OVERFLOW;
-        if (to == packet && count)
-            memcpy(bytes + *got, packet, count);
-        *got += count;
-        if (count < io->packet || *got == size)
-            return USBDISK_ACK;
-    }
+    return usbdisk_packets_in(&io->packets, bytes, size, got);
 }
 
-uint32_t usbdisk_io_setup(struct usbdisk_io *io, const uint8_t setup[8], uint8_t data[2],
+uint32_t usbdisk_io_setup(struct usbdisk_io *io, const uint8_t request[8], uint8_t data[2],
                           uint32_t *size)
 {
-    *size = 0;
-    return usbdisk_setup(&io->core, setup, data, size);
+    return usbdisk_packets_setup(&io->packets, request, data, size);
 }
 
 void usbdisk_io_clear_halt(struct usbdisk_io *io, uint8_t endpoint)
 {
-    const uint8_t setup[8] = { 0x02, 0x01, 0, 0, endpoint, 0, 0, 0 };
-    uint8_t data[2];
-    uint32_t size;
-    usbdisk_io_setup(io, setup, data, &size);
+    usbdisk_packets_clear_halt(&io->packets, endpoint);
 }
 
-/* What a host's reset recovery does: class reset, both halts cleared. */
 void usbdisk_io_reset(struct usbdisk_io *io)
 {
-    static const uint8_t class_reset[8] = { 0x21, 0xFF, 0, 0, 0, 0, 0, 0 };
-    uint8_t data[2];
-    uint32_t size;
-    usbdisk_io_setup(io, class_reset, data, &size);
-    usbdisk_io_clear_halt(io, 0x81);
-    usbdisk_io_clear_halt(io, 0x02);
+    usbdisk_packets_reset(&io->packets);
 }
 
 bool usbdisk_io_idle(struct usbdisk_io *io)
@@ -196,17 +165,9 @@ bool usbdisk_io_idle(struct usbdisk_io *io)
 
 void usbdisk_io_look_ahead(struct usbdisk_io *io, uint64_t size)
 {
-    uint64_t count = size / 512, next = io->before, end = io->layout.near + io->layout.blocks;
-    bool is_found = io->ahead && io->ahead == count;
-    if (!count || (io->ahead && !is_found))
-        return;
-    io->before = count;
-    io->behind += io->ahead;
-    io->ahead = 0;
-    if (!(is_found || io->reads_on) || !next || next > end - io->behind)
-        return;
-    if (show(io, io->behind, next))
-        io->ahead = next;
+    uint64_t next = usbdisk_guess_next(&io->guess, size, &io->layout);
+    if (next && show(io, io->guess.behind, next))
+        io->guess.ahead = next;
 }
 
 /* A request, whose bytes are the setup packet, and room for what goes to the host. */
