@@ -17,50 +17,93 @@ static uint64_t records_in(const struct disk *disk, uint64_t first, uint64_t cou
     return records;
 }
 
-/* What is read ahead and refused nobody has asked for. Before the disk is started it is the log. */
+/* The device, as the port layer calls it: in the thread of the disk, but for what is read before a
+ * start. */
 static bool read_for(void *context, uint64_t first, uint8_t *bytes, size_t count)
 {
-    struct disk *disk = context;
-    bool is_started = disk->packet != 0;
-    disk->counters.reads += is_started;
-    disk->counters.read += is_started ? count * 512 : 0;
-    if (read_sectors(disk, bytes, first, count))
-        return true;
-    if (!is_started)
-        return refuse_call(disk, "a read was refused");
-    if (disk->looks_ahead)
-        return false;
-    disk->counters.unread++;
-    say_of_host("%s: %zu sectors from %" PRIu64 " on are not read: %s", disk->path, count, first,
-                strerror(errno));
-    return false;
-}
-
-/* The device refused a call, and the port layer tells the disk. What was promised stays. Nothing
- * that follows a lost write is asked for any more, and no answer goes out good that is not out yet.
- */
-static bool lose(struct disk *disk, const char *call)
-{
-    refuse_call(disk, call);
-    disk->has_faulted = true;
-    return refuse(disk, STATUS_FILE,
-                  "serves no block until the next start; look after the device before it");
+    return read_sectors(context, bytes, first, count);
 }
 
 static bool write_for(void *context, uint64_t first, const uint8_t *bytes, size_t count)
 {
-    struct disk *disk = context;
-    disk->counters.writes++;
-    disk->counters.written += count * 512;
-    disk->counters.records += records_in(disk, first, count);
-    return write_sectors(disk, bytes, first, count) || lose(disk, "a write was refused");
+    return write_sectors(context, bytes, first, count);
 }
 
 static bool flush_for(void *context)
 {
-    struct disk *disk = context;
-    disk->counters.flushes++;
-    return flush(disk) || lose(disk, "a flush was refused");
+    return flush(context);
+}
+
+/* The next call of the device. */
+static bool take_call(void *of)
+{
+    struct disk *disk = of;
+    struct counters *counters = &disk->counters;
+    const struct usbdisk_drive_call *call = usbdisk_drive_io_next(disk->io);
+    if (!call)
+        return false;
+    disk->kind = call->kind;
+    disk->place = call->sector;
+    disk->count = call->count;
+    if (call->kind == USBDISK_READ) {
+        counters->reads++;
+        counters->read += call->count * 512;
+    } else if (call->kind == USBDISK_WRITE) {
+        counters->writes++;
+        counters->written += call->count * 512;
+        counters->records += records_in(disk, call->sector, call->count);
+    } else
+        counters->flushes++;
+    return true;
+}
+
+static void carry_out_call(void *of)
+{
+    struct disk *disk = of;
+    errno = EIO;
+    disk->cause = usbdisk_drive_io_carry_out(disk->io) ? 0 : errno;
+}
+
+/* The device refused the call. What was promised stays. Behind a write or a flush nothing that
+ * follows it is asked for any more, and no answer goes out good that is not out yet. What is read
+ * ahead and refused nobody has asked for. */
+static void tell_refusal(struct disk *disk)
+{
+    errno = disk->cause;
+    if (disk->kind != USBDISK_READ) {
+        refuse_call(disk,
+                    disk->kind == USBDISK_WRITE ? "a write was refused" : "a flush was refused");
+        refuse(disk, STATUS_FILE,
+               "serves no block until the next start; look after the device before it");
+        disk->has_faulted = true;
+        device_thread_await(&disk->thread, A_CALL);
+        return;
+    }
+    if (usbdisk_drive_io_reads_ahead(disk->io))
+        return;
+    disk->counters.unread++;
+    say_of_host("%s: %" PRIu64 " sectors from %" PRIu64 " on are not read: %s", disk->path,
+                disk->count, disk->place, strerror(disk->cause));
+}
+
+static void end_call(void *of)
+{
+    struct disk *disk = of;
+    if (disk->cause)
+        tell_refusal(disk);
+    usbdisk_drive_io_done(disk->io, !disk->cause);
+}
+
+static const struct device_work work = { take_call, carry_out_call, end_call };
+
+static void lock(struct disk *disk)
+{
+    device_thread_lock(&disk->thread);
+}
+
+static void unlock(struct disk *disk)
+{
+    device_thread_unlock(&disk->thread);
 }
 
 /* What sector 0 tells; nothing, where it is no super: what is wrong with it the start says. */
@@ -84,19 +127,20 @@ bool disk_open(struct disk *disk, const char *path)
     disk->file = -1;
     number_disk(disk);
     disk_name(disk, &(struct names){ 0 });
-    if (open_device(disk) && read_super(disk))
+    bool is_open = device_thread_open(&disk->thread) || refuse_call(disk, "no file for events");
+    if (is_open && open_device(disk) && read_super(disk))
         return true;
     disk_close(disk);
     return false;
 }
 
-/* What the device refused is said already. */
+/* A read that the device refused is said here, since the start is what asked for it. */
 static bool refuse_start(struct disk *disk, uint32_t fault)
 {
     char cause[128];
     const char *help = fault == USBDISK_BAD_SUPER ? " (docs/GADGET.md tells how to make one)" : "";
-    if (fault >= USBDISK_READ_REFUSED && fault <= USBDISK_FLUSH_REFUSED)
-        return false;
+    if (fault == USBDISK_READ_REFUSED)
+        return refuse_call(disk, "a read was refused");
     snprintf(cause, sizeof cause, "refused: %s%s", usbdisk_text(fault), help);
     return refuse(disk, fault == USBDISK_NO_MEMORY ? STATUS_MEMORY : STATUS_REFUSED, cause);
 }
@@ -106,73 +150,137 @@ bool disk_start(struct disk *disk, uint32_t packet)
     disk_stop(disk);
     disk->device =
         (struct usbdisk_io_device){ disk, disk->sectors, read_for, write_for, flush_for };
-    disk->has_faulted = false;
-    uint32_t fault = usbdisk_io_start(&disk->io, &disk->device, &disk->identity, packet);
+    disk->has_faulted = disk->is_held = false;
+    uint32_t fault = usbdisk_drive_io_start(&disk->io, &disk->device, &disk->identity, packet);
     if (fault)
         return refuse_start(disk, fault);
+    if (!device_thread_begin(&disk->thread, &work, disk))
+        return refuse_call(disk, "no thread for the device");
     disk->packet = packet;
-    return true;
+    disk_rest(disk);
+    return !disk_has_faulted(disk);
+}
+
+int disk_ended(const struct disk *disk)
+{
+    return disk->thread.ended;
+}
+
+void disk_note_end(struct disk *disk)
+{
+    device_thread_noted(&disk->thread);
+}
+
+bool disk_is_busy(struct disk *disk)
+{
+    lock(disk);
+    bool is_busy = disk->thread.is_busy;
+    unlock(disk);
+    return is_busy;
+}
+
+void disk_rest(struct disk *disk)
+{
+    device_thread_rest(&disk->thread);
+}
+
+bool disk_has_faulted(struct disk *disk)
+{
+    lock(disk);
+    bool has_faulted = disk->has_faulted;
+    unlock(disk);
+    return has_faulted;
 }
 
 uint32_t disk_out(struct disk *disk, const uint8_t *bytes, size_t size, size_t *taken)
 {
-    uint32_t code = usbdisk_io_out(disk->io, bytes, size, taken);
-    disk->counters.waits += code == USBDISK_NAK;
+    lock(disk);
+    uint32_t code = usbdisk_drive_io_out(disk->io, bytes, size, taken);
+    disk->counters.waits += code == USBDISK_NAK && !(disk->is_held && !*taken);
     disk->counters.from_host += *taken;
+    disk->is_held = code == USBDISK_NAK;
+    if (code == USBDISK_NAK)
+        device_thread_await(&disk->thread, A_CALL);
+    unlock(disk);
     return code;
 }
 
 /* A status is a packet of its own, and the last one of a transfer, since it is short. */
 uint32_t disk_in(struct disk *disk, uint8_t *bytes, size_t size, size_t *got)
 {
-    uint32_t code = usbdisk_io_in(disk->io, bytes, size, got);
+    lock(disk);
+    uint32_t code = usbdisk_drive_io_in(disk->io, bytes, size, got);
     disk->counters.to_host += *got;
     if (*got % disk->packet == STATUS)
         disk->counters.commands += !memcmp(bytes + *got - STATUS, "USBS", 4);
+    if (code == USBDISK_NAK)
+        device_thread_await(&disk->thread, ALL_CALLS);
+    unlock(disk);
     return code;
 }
 
 void disk_look_ahead(struct disk *disk, uint64_t size)
 {
-    disk->looks_ahead = true;
-    usbdisk_io_look_ahead(disk->io, size);
-    disk->looks_ahead = false;
+    lock(disk);
+    usbdisk_drive_io_look_ahead(disk->io, size);
+    unlock(disk);
 }
 
 uint32_t disk_setup(struct disk *disk, const uint8_t setup[8], uint8_t data[2], uint32_t *size)
 {
-    return usbdisk_io_setup(disk->io, setup, data, size);
+    lock(disk);
+    uint32_t code = usbdisk_drive_io_setup(disk->io, setup, data, size);
+    unlock(disk);
+    return code;
 }
 
 void disk_clear_halt(struct disk *disk, uint8_t endpoint)
 {
-    usbdisk_io_clear_halt(disk->io, endpoint);
+    lock(disk);
+    usbdisk_drive_io_clear_halt(disk->io, endpoint);
+    unlock(disk);
 }
 
 void disk_bus_reset(struct disk *disk)
 {
-    usbdisk_io_reset(disk->io);
+    if (!disk->io)
+        return;
+    lock(disk);
+    usbdisk_drive_io_reset(disk->io);
+    disk->is_held = false;
+    unlock(disk);
 }
 
 bool disk_tick(struct disk *disk)
 {
-    return usbdisk_io_idle(disk->io);
+    lock(disk);
+    bool is_left = disk->thread.is_busy || usbdisk_drive_io_idle(disk->io);
+    device_thread_await(&disk->thread, is_left ? ALL_CALLS : 0);
+    unlock(disk);
+    return is_left;
 }
 
 bool disk_settle(struct disk *disk)
 {
+    disk_rest(disk);
     while (disk_tick(disk))
-        ;
-    if (usbdisk_io_has_faulted(disk->io))
+        disk_rest(disk);
+    disk_rest(disk);
+    lock(disk);
+    bool has_faulted = usbdisk_drive_io_has_faulted(disk->io);
+    unlock(disk);
+    if (has_faulted)
         return refuse(disk, STATUS_FILE,
                       "the disk has faulted: what was not synchronised may be lost");
     say("%s: all is written and at home", disk->path);
     return true;
 }
 
-void disk_count(const struct disk *disk)
+void disk_count(struct disk *disk)
 {
-    const struct counters *it = &disk->counters;
+    lock(disk);
+    const struct counters counters = disk->counters, *it = &counters;
+    unlock(disk);
     say("%s: %" PRIu64 " commands, %" PRIu64 " bytes to the host, %" PRIu64 " from it, %" PRIu64
         " waits; %" PRIu64 " records",
         disk->path, it->commands, it->to_host, it->from_host, it->waits, it->records);
@@ -183,7 +291,8 @@ void disk_count(const struct disk *disk)
 
 void disk_stop(struct disk *disk)
 {
-    usbdisk_io_stop(disk->io);
+    device_thread_end(&disk->thread);
+    usbdisk_drive_io_stop(disk->io);
     disk->io = NULL;
     disk->packet = 0;
 }
@@ -192,4 +301,5 @@ void disk_close(struct disk *disk)
 {
     disk_stop(disk);
     close_device(disk);
+    device_thread_close(&disk->thread);
 }

@@ -1,12 +1,16 @@
 /* What both gadgets share: a disk of the library over an image file or a block device.
  *
- * Each call that plays an event carries out the outbox before it answers. So an answer may go to
- * the host as soon as it is there. Where the device refuses a write or a flush the cause is said,
- * and the disk is told: it goes on answering, but serves no block until the next start. */
+ * A thread of the disk carries out its calls of the device, while packets come. An answer may go to
+ * the host as soon as it is there: one that promises waits for the device. Where the device refuses
+ * a write or a flush the cause is said, and the disk is told: it goes on answering, but serves no
+ * block until the next start.
+ *
+ * What waits for the device is to be played again when disk_ended can be read. */
 #ifndef DISK_H
 #define DISK_H
 
-#include "usbdisk_io.h"
+#include "device_thread.h"
+#include "usbdisk_drive_io.h"
 
 /* How many loop devices may stand one over another. */
 enum { LOCKS_MOST = 4 };
@@ -34,8 +38,9 @@ struct counters {
 
 /* A disk. The fields are disk.c's own, but those with a comment may be read. */
 struct disk {
-    struct usbdisk_io *io;
+    struct usbdisk_drive_io *io;
     struct usbdisk_io_device device;
+    struct device_thread thread;
     struct usbdisk_identity identity;
     const char *path;
     int file;
@@ -47,9 +52,12 @@ struct disk {
     uint32_t packet; /* bytes of a packet, 64 or 512; 0 while no disk is started */
     char serial[13]; /* 12 hexadecimal digits, of the path and the machine or by disk_name */
     struct counters counters;
-    bool looks_ahead;
-    bool has_faulted; /* the device refused a write or a flush since the start */
-    int status;       /* the exit status that belongs to the last refusal */
+    uint32_t kind;         /* of the call under way, or the last one */
+    uint64_t place, count; /* its sectors */
+    int cause;             /* why the device refused it, or 0 */
+    bool is_held;          /* the last bytes of the host had to wait */
+    bool has_faulted;      /* the device refused a write or a flush since the start */
+    int status;            /* the exit status that belongs to the last refusal */
 };
 
 /* Opens and locks an image file or a block device, and reads what it is. False: said why. Starts
@@ -60,29 +68,43 @@ bool disk_open(struct disk *disk, const char *path);
  * the identity. */
 void disk_name(struct disk *disk, const struct names *names);
 
-/* Starts the disk for packets of `packet` bytes, on what the device holds, and carries out its
- * recovery. Where one is started already it is stopped first, which is a loss of power: settle it
- * before. False: said why. */
+/* Starts the disk for packets of `packet` bytes, on what the device holds, and has its recovery
+ * carried out. Where one is started already it is stopped first, which is a loss of power: settle
+ * it before. False: said why. */
 bool disk_start(struct disk *disk, uint32_t packet);
 
+/* A file that can be read when something that had to wait for the device is to be played again, or
+ * a step in the background may be made; and lets it be read no longer. */
+int disk_ended(const struct disk *disk);
+void disk_note_end(struct disk *disk);
+
+/* Whether a call of the device is under way. */
+bool disk_is_busy(struct disk *disk);
+
+/* Waits until none is, and none is wanted. */
+void disk_rest(struct disk *disk);
+
+/* Whether the device has refused a write or a flush since the start. */
+bool disk_has_faulted(struct disk *disk);
+
 /* Bytes of one Bulk-Out transfer came: plays them packet by packet (0 bytes are one empty packet),
- * and tells how many were taken. ACK: all. NAK: the host has to wait; call again with the rest.
- * STALL: the endpoint is halted. */
+ * and tells how many were taken. ACK: all. NAK: the host has to wait; call again with the rest,
+ * also when disk_ended can be read. STALL: the endpoint is halted. */
 uint32_t disk_out(struct disk *disk, const uint8_t *bytes, size_t size, size_t *taken);
 
 /* The host waits for `size` bytes from Bulk-In: collects packets, and tells how many bytes there
  * are. ACK: the room is full, or a short packet ended the transfer. NAK: nothing more is there now;
- * call again with the rest of the room. STALL: the endpoint is halted behind these bytes.
- * USBDISK_IO_OVERFLOW: a packet did not fit, and is lost. It makes no call of the device. */
+ * call again with the rest of the room, also when disk_ended can be read. STALL: the endpoint is
+ * halted behind these bytes. USBDISK_IO_OVERFLOW: a packet did not fit, and is lost. */
 uint32_t disk_in(struct disk *disk, uint8_t *bytes, size_t size, size_t *got);
 
 /* `size` bytes are on their way to the host, and nothing else is to be done. Where READs follow
- * each other, what the next one will ask for is shown ahead: as many sectors as the one before this
+ * each other, what the next one will ask for is read ahead: as many sectors as the one before this
  * READ had, since hosts read in turns of a long READ and the rest. */
 void disk_look_ahead(struct disk *disk, uint64_t size);
 
 /* A setup packet for the mass storage interface or one of its two endpoints (81h and 02h). Answers
- * ACK with 0 to 2 bytes, or STALL. It makes no call of the device. */
+ * ACK with 0 to 2 bytes, or STALL. */
 uint32_t disk_setup(struct disk *disk, const uint8_t setup[8], uint8_t data[2], uint32_t *size);
 
 /* The host clears the halt of this endpoint, 81h or 02h. */
@@ -91,18 +113,19 @@ void disk_clear_halt(struct disk *disk, uint8_t endpoint);
 /* A bus reset: a class reset, both halts cleared. What was accepted stays. */
 void disk_bus_reset(struct disk *disk);
 
-/* Steps in the background, as many as write one run of neighbouring sectors or make one flush. True
- * while steps are left; false where all is at home or the disk has faulted and will get no further.
- */
+/* Steps in the background, where the device is at no call; else disk_ended tells when it is at none
+ * any more. True while steps are left; false where all is at home once the device has carried out
+ * what it is at, or the disk has faulted and will get no further. */
 bool disk_tick(struct disk *disk);
 
 /* Steps until all is at home and durable, and says so. False: said why. */
 bool disk_settle(struct disk *disk);
 
 /* Says the counters. */
-void disk_count(const struct disk *disk);
+void disk_count(struct disk *disk);
 
-/* Stops the disk. What was neither promised nor settled is lost as by a cut. */
+/* Stops the disk, behind the call that is under way. What was neither promised nor settled is lost
+ * as by a cut. */
 void disk_stop(struct disk *disk);
 
 /* Stops the disk, and lets the device go. */

@@ -10,9 +10,12 @@
 #include <sys/resource.h>
 #include <unistd.h>
 
-/* IDLE: after this many milliseconds without an event steps in the background are made, STEPS
- * between two looks for events. PRIORITY: as of `nice`. */
-enum { IDLE = 20, STEPS = 8, PRIORITY = -3 };
+/* IDLE: after this many milliseconds without an event steps in the background are made. PRIORITY:
+ * as of `nice`. */
+enum { IDLE = 20, PRIORITY = -3 };
+
+/* What is waited for: an event, the kernel or the other thread, and the device. */
+enum { EVENT, READY, DISK, FILES };
 
 static const char usage[] =
     "usage: usbdisk-gadget IMAGE [--gadget FOLDER | --no-bind] [--functionfs FOLDER]\n"
@@ -27,9 +30,9 @@ static const char usage[] =
     "  --udc NAME               the controller where there are several, by /sys/class/udc\n";
 
 /* The host can have the disk no longer. The lock is held. */
-static bool is_over(const struct gadget *gadget)
+static bool is_over(struct gadget *gadget)
 {
-    return gadget->is_ended || (gadget->options.unplugs && gadget->disk.has_faulted);
+    return gadget->is_ended || (gadget->options.unplugs && disk_has_faulted(&gadget->disk));
 }
 
 /* What the host sent was read: plays it, in the thread that reads. The other one sleeps where no
@@ -43,19 +46,31 @@ static void play_read(void *of)
     gadget->has_steps = true;
 }
 
-/* Steps in the background, until the host sends something, or an event comes. */
-static void make_steps(struct gadget *gadget, struct pollfd files[2], unsigned arrivals)
+/* Waits for one of these, and notes what is of the disk or the other thread. */
+static int wait_for_files(struct gadget *gadget, struct pollfd files[FILES], int most)
+{
+    int ready = wait_for(files, FILES, most);
+    if (ready > 0 && files[READY].revents)
+        engine_rest(&gadget->bulk.engine);
+    if (ready > 0 && files[DISK].revents)
+        disk_note_end(&gadget->disk);
+    return ready;
+}
+
+/* Steps in the background, until the host sends something, or an event comes. While the device is
+ * at the last ones it is waited for. */
+static void make_steps(struct gadget *gadget, struct pollfd files[FILES], unsigned arrivals)
 {
     struct reader *reader = &gadget->bulk.engine.reader;
     bool is_idle = true;
     while (is_idle) {
         reader_lock(reader);
-        for (int steps = 0; steps < STEPS && gadget->has_steps && reader->arrivals == arrivals;
-             steps++)
-            gadget->has_steps = disk_tick(&gadget->disk);
+        gadget->has_steps = disk_tick(&gadget->disk);
         is_idle = gadget->has_steps && reader->arrivals == arrivals;
+        int most = disk_is_busy(&gadget->disk) ? -1 : 0;
         reader_unlock(reader);
-        is_idle = is_idle && wait_for(files, 2, 0) == 0 && !is_asked_to_end();
+        int ready = is_idle ? wait_for_files(gadget, files, most) : 0;
+        is_idle = is_idle && ready == (files[DISK].revents != 0) && !is_asked_to_end();
     }
 }
 
@@ -64,18 +79,17 @@ static void make_steps(struct gadget *gadget, struct pollfd files[2], unsigned a
 static bool take_turn(struct gadget *gadget)
 {
     struct reader *reader = &gadget->bulk.engine.reader;
-    struct pollfd files[2] = { { gadget->control, POLLIN, 0 },
-                               { gadget->bulk.engine.ready, POLLIN, 0 } };
+    struct pollfd files[FILES] = { { gadget->control, POLLIN, 0 },
+                                   { gadget->bulk.engine.ready, POLLIN, 0 },
+                                   { disk_ended(&gadget->disk), POLLIN, 0 } };
     reader_lock(reader);
     int most = bulk_play(&gadget->bulk, true);
     bool may_step = gadget->has_steps && !bulk_is_busy(&gadget->bulk), goes_on = !is_over(gadget);
     int wait = gadget->has_steps && (most < 0 || most > IDLE) ? IDLE : most;
     unsigned arrivals = reader->arrivals;
     reader_unlock(reader);
-    int ready = goes_on ? wait_for(files, 2, wait) : 0;
-    if (files[1].revents)
-        engine_rest(&gadget->bulk.engine);
-    if (files[0].revents)
+    int ready = goes_on ? wait_for_files(gadget, files, wait) : 0;
+    if (files[EVENT].revents)
         play_events(gadget);
     if (goes_on && may_step && ready == 0 && wait == IDLE)
         make_steps(gadget, files, arrivals);

@@ -3,6 +3,7 @@
 #include <errno.h>
 #include <fcntl.h>
 #include <inttypes.h>
+#include <pthread.h>
 #include <stdarg.h>
 #include <stdio.h>
 #include <string.h>
@@ -23,6 +24,9 @@ static struct {
     uint64_t since;  /* when the last one was credited */
     uint64_t unsaid; /* how many did not, since the last that did */
 } messages = { .name = "", .file = STDERR_FILENO, .credit = OF_HOST };
+
+/* Lines come whole, of any thread. */
+static pthread_mutex_t lock = PTHREAD_MUTEX_INITIALIZER;
 
 /* A pipe or a terminal is opened once more, so that whoever else has it does not come to know of
  * O_NONBLOCK. */
@@ -61,14 +65,21 @@ static void put_or_drop(const char *text)
         messages.dropped++;
 }
 
-void say(const char *format, ...)
+static void put_text(const char *format, va_list words)
 {
     char text[LINE];
+    vsnprintf(text, sizeof text, format, words);
+    put_or_drop(text);
+}
+
+void say(const char *format, ...)
+{
     va_list words;
     va_start(words, format);
-    vsnprintf(text, sizeof text, format, words);
+    pthread_mutex_lock(&lock);
+    put_text(format, words);
+    pthread_mutex_unlock(&lock);
     va_end(words);
-    put_or_drop(text);
 }
 
 /* Whether one more line may tell what hosts do. */
@@ -85,21 +96,29 @@ static bool may_say(void)
     return true;
 }
 
+/* Tells first how many were left out. */
+static void put_of_host(const char *format, va_list words)
+{
+    char text[128];
+    snprintf(text, sizeof text,
+             "%" PRIu64 " messages of what hosts did are left out (-v tells all)", messages.unsaid);
+    if (messages.unsaid)
+        put_or_drop(text);
+    messages.unsaid = 0;
+    put_text(format, words);
+}
+
 void say_of_host(const char *format, ...)
 {
-    char text[LINE];
     va_list words;
-    if (!may_say()) {
-        messages.unsaid++;
-        return;
-    }
     va_start(words, format);
-    vsnprintf(text, sizeof text, format, words);
+    pthread_mutex_lock(&lock);
+    if (may_say())
+        put_of_host(format, words);
+    else
+        messages.unsaid++;
+    pthread_mutex_unlock(&lock);
     va_end(words);
-    if (messages.unsaid)
-        say("%" PRIu64 " messages of what hosts did are left out (-v tells all)", messages.unsaid);
-    messages.unsaid = 0;
-    put_or_drop(text);
 }
 
 void say_all(void)

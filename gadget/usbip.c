@@ -75,7 +75,7 @@ static bool open_listener(struct server *server, const struct words *words)
  * to be unplugged. Answers the exit status. */
 static int serve(struct server *server)
 {
-    while (!is_asked_to_end() && !(server->unplugs && server->disk.has_faulted)) {
+    while (!is_asked_to_end() && !(server->unplugs && disk_has_faulted(&server->disk))) {
         server_turn(server, true);
         if (is_asked_to_count())
             disk_count(&server->disk);

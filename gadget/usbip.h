@@ -95,14 +95,16 @@ struct client {
     struct transfer *waiting[3]; /* of each endpoint, the oldest first */
     struct transfer *answered;   /* those whose answers wait to be sent, the oldest first */
     size_t count, bytes;         /* of all these, and of the one that comes */
+    uint64_t sent;               /* bytes from Bulk-In since the last status */
 };
 
 /* What became of a client: it goes on, or it is to be ended for the cause that stands in `cause`.
  */
 enum outcome { GOES_ON, ENDS };
 
-/* usbip_client.c */
+/* usbip_client.c: serves what an attached client sends; and what waits of it, behind the device. */
 enum outcome serve_attached(struct client *client, struct usb_device *device, const char **cause);
+enum outcome serve_waiting(struct client *client, struct usb_device *device, const char **cause);
 bool receive(struct client *client, uint8_t *to, size_t size, size_t *have, enum outcome *outcome);
 bool send_at_once(struct client *client, const uint8_t *bytes, size_t size);
 void end_client(struct client *client);

@@ -8,8 +8,8 @@
 #include <sys/socket.h>
 #include <unistd.h>
 
-/* How many messages a client may send before the others' turn. */
-enum { ONE_TURN = 64 };
+/* How many messages a client may send before the others' turn; and bytes of a status. */
+enum { ONE_TURN = 64, STATUS = 13 };
 
 /* Flags of a transfer: fewer bytes than asked for are an error. */
 enum { SHORT_IS_WRONG = 1 };
@@ -139,6 +139,16 @@ static int32_t status_of(uint32_t code)
     return code == USBDISK_ACK ? GOOD : STALLED;
 }
 
+/* So many bytes are on their way from Bulk-In. Behind a status the next READ may be read ahead. */
+static void note_sent(struct client *client, struct usb_device *device, size_t size)
+{
+    client->sent += size;
+    if (size != STATUS)
+        return;
+    disk_look_ahead(device->disk, client->sent - STATUS);
+    client->sent = 0;
+}
+
 /* Plays the oldest transfer that waits for this endpoint, as far as it goes, and tells whether it
  * went. */
 static enum outcome play_first(struct client *client, struct usb_device *device, int endpoint,
@@ -157,7 +167,10 @@ static enum outcome play_first(struct client *client, struct usb_device *device,
     if (code == USBDISK_NAK)
         return GOES_ON;
     client->waiting[endpoint] = first->next;
-    return answer(client, first, status_of(code));
+    size_t sent = endpoint == BULK_IN ? first->done : 0;
+    enum outcome outcome = answer(client, first, status_of(code));
+    note_sent(client, device, sent);
+    return outcome;
 }
 
 /* Plays what waits, until the disk has nothing more for it. */
@@ -306,4 +319,10 @@ enum outcome serve_attached(struct client *client, struct usb_device *device, co
     if (outcome == ENDS && !*cause)
         *cause = "the host went";
     return outcome;
+}
+
+enum outcome serve_waiting(struct client *client, struct usb_device *device, const char **cause)
+{
+    *cause = "the host went";
+    return play_waiting(client, device);
 }

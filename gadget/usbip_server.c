@@ -151,6 +151,17 @@ static void serve_client(struct server *server, struct client *client)
         part(server, client, cause);
 }
 
+/* The device has done something: what waited for it is played again. */
+static void serve_behind_device(struct server *server)
+{
+    const char *cause = NULL;
+    disk_note_end(&server->disk);
+    for (struct client *at = server->clients; at < server->clients + CLIENTS; at++)
+        if (at->socket >= 0 && at->is_attached &&
+            serve_waiting(at, &server->device, &cause) == ENDS)
+            part(server, at, cause);
+}
+
 /* Clients have come. Each makes its request at once, where that is there already: so one that comes
  * again and again pushes nobody out who asks. */
 static void greet(struct server *server)
@@ -168,11 +179,13 @@ static void greet(struct server *server)
     }
 }
 
-/* What is waited for: what each client sends, or that it takes its answers, and those who come. The
- * files stand without gaps, since the system takes no more of them than it gives descriptors. */
+/* What is waited for: the device first, what each client sends, or that it takes its answers, and
+ * those who come. The files stand without gaps, since the system takes no more of them than it
+ * gives descriptors. */
+enum { DISK = 0, OTHERS = 1 };
 struct watch {
-    struct pollfd files[CLIENTS + 1];
-    struct client *of[CLIENTS + 1]; /* NULL: the listener */
+    struct pollfd files[OTHERS + CLIENTS + 1];
+    struct client *of[OTHERS + CLIENTS + 1]; /* NULL: the listener */
     unsigned count;
     bool is_bounded; /* a client has a time to keep */
 };
@@ -188,9 +201,22 @@ static bool has_deadline(const struct client *client)
     return is_asking(client) || client->answered;
 }
 
+/* How many milliseconds to wait at most; -1: for ever. Where steps are left the next one is made at
+ * once, as soon as the device is at no call. */
+static int longest_wait(struct server *server, bool is_open, bool is_bounded)
+{
+    int most = is_open ? TICK : PAUSE;
+    if (!server->has_steps)
+        return is_open && !is_bounded ? -1 : most;
+    if (!server->is_idle)
+        return IDLE;
+    return disk_is_busy(&server->disk) ? most : 0;
+}
+
 static int wait_for_clients(struct server *server, struct watch *watch, bool waits)
 {
     *watch = (struct watch){ 0 };
+    add(watch, disk_ended(&server->disk), POLLIN, NULL);
     for (struct client *at = server->clients; at < server->clients + CLIENTS; at++) {
         if (at->socket >= 0)
             add(watch, at->socket, at->answered ? POLLOUT : POLLIN, at);
@@ -199,24 +225,20 @@ static int wait_for_clients(struct server *server, struct watch *watch, bool wai
     bool is_open = server->listens_from <= now();
     if (is_open)
         add(watch, server->listener, POLLIN, NULL);
-    int most = is_open ? TICK : PAUSE;
-    if (server->has_steps)
-        most = server->is_idle ? 0 : IDLE;
-    else if (is_open && !watch->is_bounded)
-        most = -1;
-    return wait_for(watch->files, watch->count, waits ? most : 0);
+    int most = waits ? longest_wait(server, is_open, watch->is_bounded) : 0;
+    return wait_for(watch->files, watch->count, most);
 }
 
 static void serve_clients(struct server *server, const struct watch *watch)
 {
-    for (unsigned i = 0; i < watch->count; i++)
+    for (unsigned i = OTHERS; i < watch->count; i++)
         if (watch->files[i].revents && watch->of[i])
             serve_client(server, watch->of[i]);
     for (struct client *at = server->clients; watch->is_bounded && at < server->clients + CLIENTS;
          at++)
         if (has_deadline(at) && now() > at->deadline)
             part(server, at, "it takes no answers");
-    for (unsigned i = 0; i < watch->count; i++)
+    for (unsigned i = OTHERS; i < watch->count; i++)
         if (watch->files[i].revents && !watch->of[i])
             greet(server);
 }
@@ -231,16 +253,21 @@ void server_begin(struct server *server)
     server->has_steps = true;
 }
 
+/* The end of a call is no sign of life of a host, and steps wait behind it as they did. */
 void server_turn(struct server *server, bool waits)
 {
     struct watch watch;
-    bool something = wait_for_clients(server, &watch, waits) > 0;
+    int ready = wait_for_clients(server, &watch, waits);
+    bool has_ended = watch.files[DISK].revents != 0, something = ready > has_ended;
+    if (has_ended)
+        serve_behind_device(server);
     serve_clients(server, &watch);
-    server->is_idle = !something && server->has_steps;
     if (something)
         server->has_steps = true;
-    else if (server->has_steps)
-        server->has_steps = disk_tick(&server->disk);
+    if (!something && (!has_ended || server->is_idle) && server->has_steps)
+        server->is_idle = server->has_steps = disk_tick(&server->disk);
+    else
+        server->is_idle = false;
 }
 
 bool server_end(struct server *server)

@@ -1,5 +1,5 @@
-/* How calls leave the library and reach a device, and how transfers are packets: for the files beside
- * this one alone. */
+/* How calls leave the library and reach a device, and how transfers are packets: for the files
+ * beside this one alone. */
 #ifndef USBDISK_CARRY_H
 #define USBDISK_CARRY_H
 
@@ -74,7 +74,8 @@ struct usbdisk_packets {
     uint32_t (*setup)(void *disk, const uint8_t setup[8], uint8_t data[2], uint32_t *size);
 };
 
-/* As usbdisk_io_out, usbdisk_io_in, usbdisk_io_setup, usbdisk_io_clear_halt and usbdisk_io_reset. */
+/* As usbdisk_io_out, usbdisk_io_in, usbdisk_io_setup, usbdisk_io_clear_halt and usbdisk_io_reset.
+ */
 uint32_t usbdisk_packets_out(const struct usbdisk_packets *packets, const uint8_t *bytes,
                              size_t size, size_t *taken);
 uint32_t usbdisk_packets_in(const struct usbdisk_packets *packets, uint8_t *bytes, size_t size,

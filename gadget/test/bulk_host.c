@@ -36,6 +36,14 @@ void check(bool holds, const char *what)
     exit(1);
 }
 
+/* The gadget plays; and the device does what it is at, or it is behind. */
+static void play(void)
+{
+    bulk_play(&bulk, below(2));
+    if (below(2))
+        disk_rest(&disk);
+}
+
 /* The oldest transfer that the host has not finished, and the controller has. */
 static struct transfer *open_transfer(struct queue *queue)
 {
@@ -61,7 +69,7 @@ static long send_packet(const uint8_t *bytes, size_t size)
                 bulk_play(&bulk, below(2));
             return (long)size;
         }
-        bulk_play(&bulk, below(2));
+        play();
     }
     return NOTHING;
 }
@@ -98,7 +106,7 @@ static long receive_packet(uint8_t *bytes)
             transfer->is_done = (size_t)transfer->result == transfer->size;
             return (long)packet;
         }
-        bulk_play(&bulk, below(2));
+        play();
     }
     return NOTHING;
 }
@@ -196,7 +204,7 @@ static void bad_wrapper(void)
     for (int i = 0; i < 3; i++) {
         halted[0] = halted[1] = false;
         for (int k = 0; k < PATIENCE; k++)
-            bulk_play(&bulk, below(2));
+            play();
         check(halted[0] && halted[1], "the lock ends without a class reset");
         check(send_packet(packet, 31) == STALLED && receive_packet(data) == STALLED,
               "a locked disk answers");

@@ -326,18 +326,35 @@ bool host_read(struct host *host)
     }
 }
 
-/* Gets what the disk sends, as many bytes as there is room for, or until a status. */
+/* Gets what the disk sends, as many bytes as there is room for, or until a status. Where it waits
+ * for its device it is asked again. */
 static size_t get_bytes(struct disk *disk, uint8_t *bytes, size_t size)
 {
     size_t got = 0;
     uint32_t code = disk_in(disk, bytes, size, &got);
+    if (code == USBDISK_NAK && got == 0) {
+        disk_rest(disk);
+        code = disk_in(disk, bytes, size, &got);
+    }
     return code == USBDISK_ACK ? got : 0;
+}
+
+static bool put_bytes(struct disk *disk, const uint8_t *bytes, size_t size)
+{
+    size_t taken, all = 0;
+    uint32_t code = disk_out(disk, bytes, size, &all);
+    for (int tries = 0; code == USBDISK_NAK && tries < 8; tries++) {
+        disk_rest(disk);
+        code = disk_out(disk, bytes + all, size - all, &taken);
+        all += taken;
+    }
+    return code == USBDISK_ACK;
 }
 
 bool transact(struct disk *disk, uint8_t operation, uint8_t *blocks, uint32_t count)
 {
     uint8_t wrapper[WRAPPER] = { 'U', 'S', 'B', 'C', 1, 2, 3, 4 }, status[512];
-    size_t taken, size = count * 512;
+    size_t size = count * 512;
     for (int tries = 0; tries < 2; tries++) {
         wrapper[9] = (uint8_t)(size >> 8);
         wrapper[12] = operation == 0x28 ? 0x80 : 0;
@@ -346,12 +363,12 @@ bool transact(struct disk *disk, uint8_t operation, uint8_t *blocks, uint32_t co
         wrapper[16] = operation == 0x2A ? 8 : 0;
         wrapper[23] = (uint8_t)count;
         disk_bus_reset(disk);
-        if (disk_out(disk, wrapper, sizeof wrapper, &taken) != USBDISK_ACK)
+        if (!put_bytes(disk, wrapper, sizeof wrapper))
             return false;
         if (operation == 0x28)
             get_bytes(disk, blocks, size);
         else
-            disk_out(disk, blocks, size, &taken);
+            put_bytes(disk, blocks, size);
         if (get_bytes(disk, status, sizeof status) == STATUS && status[12] == 0)
             return true;
     }
