@@ -145,6 +145,15 @@ static bool refuse_start(struct disk *disk, uint32_t fault)
     return refuse(disk, fault == USBDISK_NO_MEMORY ? STATUS_MEMORY : STATUS_REFUSED, cause);
 }
 
+/* Has a disk that was started carry out its recovery. False: said why. */
+static bool recover(struct disk *disk)
+{
+    if (!device_thread_begin(&disk->thread, &work, disk))
+        return refuse_call(disk, "no thread for the device");
+    disk_rest(disk);
+    return !disk_has_faulted(disk);
+}
+
 bool disk_start(struct disk *disk, uint32_t packet)
 {
     disk_stop(disk);
@@ -154,11 +163,11 @@ bool disk_start(struct disk *disk, uint32_t packet)
     uint32_t fault = usbdisk_drive_io_start(&disk->io, &disk->device, &disk->identity, packet);
     if (fault)
         return refuse_start(disk, fault);
-    if (!device_thread_begin(&disk->thread, &work, disk))
-        return refuse_call(disk, "no thread for the device");
     disk->packet = packet;
-    disk_rest(disk);
-    return !disk_has_faulted(disk);
+    if (recover(disk))
+        return true;
+    disk_stop(disk);
+    return false;
 }
 
 int disk_ended(const struct disk *disk)

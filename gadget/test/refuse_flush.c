@@ -3,8 +3,8 @@
  * The flush whose number FLUSHES tells, counted from 1, is refused. With INTERRUPTED each flush is
  * interrupted so many times, as over NFS, before it is made. The write whose number WRITES tells is
  * refused when a part of its sectors is written. With SHORT every second write of several sectors
- * stops short. Behind a refusal nothing may be asked for: a program that does ends with status 99.
- */
+ * stops short. With SLOW each flush takes so many milliseconds. Behind a refusal nothing may be
+ * asked for: a program that does ends with status 99. */
 #include <errno.h>
 #include <stdlib.h>
 #include <sys/syscall.h>
@@ -31,6 +31,7 @@ int fdatasync(int file)
 {
     static int flushes, interruptions;
     int number = number_of("FLUSHES"), times = number_of("INTERRUPTED");
+    usleep(1000 * (unsigned)number_of("SLOW"));
     if (interruptions++ % (times + 1) < times) {
         errno = EINTR;
         return -1;

@@ -280,6 +280,29 @@ def it_makes_an_interrupted_flush_again():
     ends_well(server)
 
 
+def it_serves_while_the_device_works():
+    make_image("disk.img", 2, BLOCKS, SLOTS)
+    server = Server(f"{PROGRAM}.refusing", "disk.img", env=os.environ | {"SLOW": "1000"})
+    assert server.port, server.text()
+    host = attached(server.port).set_up()
+    begun = time.monotonic()
+    host.out(host.wrapper(struct.pack(">BBIxHx", 0x2A, 8, 0, 8), 4096, False))
+    host.out(pattern(1, 8))
+    status = host.submit(IN, size=13)
+    assert host.control(0x82, 0, 0, 0x81, 2) == (0, b"\0\0"), "a request is answered"
+    assert Host(server.port).list()[8:12] == struct.pack(">I", 1), "others are served"
+    assert time.monotonic() - begun < 0.8, "none of these waits for a flush"
+    assert host.wait_for(status)[1][12] == 0 and time.monotonic() - begun > 0.9, "what is promised does"
+    begun = time.monotonic()
+    assert host.write(300, pattern(2, 240)) == 0
+    host.out(host.wrapper(bytes([0x35]) + bytes(9), 0, False))
+    assert host.control(0x21, 0xFF)[0] == 0, "a class reset is answered"
+    assert host.control(0x02, 1, 0, 0x81)[0] == 0 and host.control(0x02, 1, 0, 0x02)[0] == 0
+    assert time.monotonic() - begun < 0.8, "neither a plain WRITE nor a reset waits for a flush"
+    assert host.read_blocks(300, 240) == pattern(2, 240)
+    ends_well(server)
+
+
 def it_keeps_its_promises_whichever_write_is_refused():
     make_image("disk.img", 2, BLOCKS, SLOTS)
     may_be, faults = [bytes(30 * 512)], 0
