@@ -27,13 +27,10 @@ static uint32_t tick(void *core)
 
 static struct usbdisk_blocks *make(const struct usbdisk_io_device *device, size_t most)
 {
-    struct usbdisk_blocks *blocks = usbdisk_carry_alloc(sizeof *blocks);
-    uint8_t *buffer = blocks ? usbdisk_carry_alloc(most * 512) : NULL;
-    if (!buffer) {
-        if (blocks)
-            rattle_dealloc(blocks);
+    uint8_t *buffer;
+    struct usbdisk_blocks *blocks = usbdisk_carry_make(sizeof *blocks, most, &buffer);
+    if (!blocks)
         return NULL;
-    }
     *blocks = (struct usbdisk_blocks){ .core = USBDISK_STORE_NONE,
                                        .carry = { .device = device,
                                                   .take = take,

@@ -13,6 +13,16 @@ void *usbdisk_carry_alloc(size_t size)
     return block.ok ? block.at : NULL;
 }
 
+void *usbdisk_carry_make(size_t size, size_t sectors, uint8_t **buffer)
+{
+    void *made = usbdisk_carry_alloc(size);
+    *buffer = made ? usbdisk_carry_alloc(sectors * 512) : NULL;
+    if (*buffer || !made)
+        return made;
+    rattle_dealloc(made);
+    return NULL;
+}
+
 /* The device refused a call. Nothing that follows it may reach the device without it. */
 static void lose(struct usbdisk_carry *carry, uint32_t fault)
 {

@@ -29,6 +29,10 @@ struct usbdisk_carry {
 /* Memory of rattle_alloc, or NULL. */
 void *usbdisk_carry_alloc(size_t size);
 
+/* A struct of this size, and a buffer of so many sectors for it. NULL: no memory, and nothing is
+ * kept. */
+void *usbdisk_carry_make(size_t size, size_t sectors, uint8_t **buffer);
+
 /* Takes out all that waits in the handle, in order, and carries it out but for the last run. Behind
  * a call that the device refuses nothing is carried out. */
 void usbdisk_carry_take(struct usbdisk_carry *carry);

@@ -46,13 +46,10 @@ static struct usbdisk_drive_io *make(const struct usbdisk_io_device *device, uin
                                      const struct usbdisk_layout *layout)
 {
     size_t most = usbdisk_carry_longest(layout);
-    struct usbdisk_drive_io *io = usbdisk_carry_alloc(sizeof *io);
-    uint8_t *buffer = io ? usbdisk_carry_alloc(most * 512) : NULL;
-    if (!buffer) {
-        if (io)
-            rattle_dealloc(io);
+    uint8_t *buffer;
+    struct usbdisk_drive_io *io = usbdisk_carry_make(sizeof *io, most, &buffer);
+    if (!io)
         return NULL;
-    }
     *io = (struct usbdisk_drive_io){ .core = USBDISK_DRIVE_NONE,
                                      .device = device,
                                      .layout = *layout,

@@ -70,13 +70,10 @@ static struct usbdisk_io *make(const struct usbdisk_io_device *device, uint32_t 
                                const struct usbdisk_layout *layout)
 {
     size_t most = usbdisk_carry_longest(layout);
-    struct usbdisk_io *io = usbdisk_carry_alloc(sizeof *io);
-    uint8_t *buffer = io ? usbdisk_carry_alloc(most * 512) : NULL;
-    if (!buffer) {
-        if (io)
-            rattle_dealloc(io);
+    uint8_t *buffer;
+    struct usbdisk_io *io = usbdisk_carry_make(sizeof *io, most, &buffer);
+    if (!io)
         return NULL;
-    }
     *io = (struct usbdisk_io){ .core = USBDISK_NONE,
                                .layout = *layout,
                                .packets = { io, packet, bulk_out, bulk_in, setup },

@@ -114,33 +114,35 @@ uint32_t usbdisk_io_migrate(const struct usbdisk_io_device *device)
     return code ? code : carry_out(&image, device, USBDISK_IO_MOST);
 }
 
+static const char *const texts[] = {
+    [0] = "good",
+    [USBDISK_NO_MEMORY] = "no memory",
+    [USBDISK_READ_REFUSED] = "the device refused a read",
+    [USBDISK_WRITE_REFUSED] = "the device refused a write",
+    [USBDISK_FLUSH_REFUSED] = "the device refused a flush",
+    [USBDISK_BAD_SUPER] = "no image: sector 0 is not ours",
+    [USBDISK_BAD_VERSION] = "an image of a later version",
+    [USBDISK_BAD_SIZE] = "the sizes in sector 0 do not fit: it was cut off, or changed",
+    [USBDISK_BAD_HEAD] = "sector 1 is no head: it was torn, or changed",
+    [USBDISK_STAMPS_USED_UP] = "its stamps are used up",
+    [USBDISK_LOG_TOO_SMALL] = "its log is too small for format 2: it has fewer than 5 slots",
+    [USBDISK_DEAD] = "dead until the next start",
+    [USBDISK_EMPTY] = "not started",
+    [USBDISK_STARTED] = "started already",
+    [USBDISK_TOO_LONG] = "a packet is longer than those of the disk",
+    [USBDISK_BAD_IDENTITY] = "the identity has a character that is not printable ASCII",
+    [USBDISK_BAD_PACKET_SIZE] = "the packet size is neither 64 nor 512",
+    [USBDISK_BAD_LENGTH] = "the bytes are no whole sectors, or more than there are",
+    [USBDISK_BAD_SIZES] = "the sizes are out of their limits",
+    [USBDISK_NOT_TAKEN] = "sectors that cannot be shown",
+    [USBDISK_BAD_RANGE] = "a block behind the last one",
+    [USBDISK_LITTLE_ROOM] = "too little room for what waits",
+    [USBDISK_NOT_ASKED] = "no call of the device is under way",
+    [USBDISK_IO_OVERFLOW] = "a packet is longer than the room for it",
+};
+
 const char *usbdisk_text(uint32_t code)
 {
-    static const char *const texts[] = {
-        [0] = "good",
-        [USBDISK_NO_MEMORY] = "no memory",
-        [USBDISK_READ_REFUSED] = "the device refused a read",
-        [USBDISK_WRITE_REFUSED] = "the device refused a write",
-        [USBDISK_FLUSH_REFUSED] = "the device refused a flush",
-        [USBDISK_BAD_SUPER] = "no image: sector 0 is not ours",
-        [USBDISK_BAD_VERSION] = "an image of a later version",
-        [USBDISK_BAD_SIZE] = "the sizes in sector 0 do not fit: it was cut off, or changed",
-        [USBDISK_BAD_HEAD] = "sector 1 is no head: it was torn, or changed",
-        [USBDISK_STAMPS_USED_UP] = "its stamps are used up",
-        [USBDISK_LOG_TOO_SMALL] = "its log is too small for format 2: it has fewer than 5 slots",
-        [USBDISK_DEAD] = "dead until the next start",
-        [USBDISK_EMPTY] = "not started",
-        [USBDISK_STARTED] = "started already",
-        [USBDISK_TOO_LONG] = "a packet is longer than those of the disk",
-        [USBDISK_BAD_IDENTITY] = "the identity has a character that is not printable ASCII",
-        [USBDISK_BAD_PACKET_SIZE] = "the packet size is neither 64 nor 512",
-        [USBDISK_BAD_LENGTH] = "the bytes are no whole sectors, or more than there are",
-        [USBDISK_BAD_SIZES] = "the sizes are out of their limits",
-        [USBDISK_NOT_TAKEN] = "sectors that cannot be shown",
-        [USBDISK_BAD_RANGE] = "a block behind the last one",
-        [USBDISK_LITTLE_ROOM] = "too little room for what waits",
-        [USBDISK_IO_OVERFLOW] = "a packet is longer than the room for it",
-    };
     const char *text = code < sizeof texts / sizeof *texts ? texts[code] : NULL;
     return text ? text : "a number that nobody knows";
 }

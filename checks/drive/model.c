@@ -84,29 +84,38 @@ static void take_out(struct model *it)
     }
 }
 
+/* One that is not started, with an outbox. NULL: no memory. */
+static struct model *make(const struct usbdisk_drive_options *options, uint64_t room)
+{
+    struct model *it = calloc(1, sizeof *it);
+    if (!it)
+        return NULL;
+    it->slots = room + 2 * AHEAD; /* planted fault 10 may send more than the room of an outbox */
+    it->packet = options->packet;
+    it->is_cached = true;
+    it->outbox = calloc(it->slots, sizeof *it->outbox);
+    if (it->outbox)
+        return it;
+    free(it);
+    return NULL;
+}
+
 uint32_t usbdisk_drive_start(struct usbdisk_drive *drive,
                              const struct usbdisk_drive_options *options, const uint8_t *near,
                              size_t near_size)
 {
     struct usbdisk_layout layout = { .format = 2, .slots = 64 };
-    struct model *it = calloc(1, sizeof *it);
-    if (drive->at || !it) {
-        free(it);
-        return drive->at ? USBDISK_STARTED : USBDISK_NO_MEMORY;
-    }
+    if (drive->at)
+        return USBDISK_STARTED;
     if (near_size >= 512)
         usbdisk_look(near, &layout);
     uint64_t room = usbdisk_room(layout.format, layout.slots);
-    it->slots =
-        room + 2 * AHEAD; /* the planted fault 10 may send more than the room of an outbox */
-    it->packet = options->packet;
-    it->is_cached = true;
-    it->outbox = calloc(it->slots, sizeof *it->outbox);
-    uint32_t code = USBDISK_NO_MEMORY;
-    if (it->outbox)
-        code = usbdisk_start(&it->disk, near, near_size, options->sectors, &options->device,
-                             &options->identity, options->packet, layout.format == 1 ? 48 : 240,
-                             room + AHEAD);
+    struct model *it = make(options, room);
+    if (!it)
+        return USBDISK_NO_MEMORY;
+    uint32_t code = usbdisk_start(&it->disk, near, near_size, options->sectors, &options->device,
+                                  &options->identity, options->packet,
+                                  layout.format == 1 ? 48 : 240, room + AHEAD);
     if (code) {
         free(it->outbox);
         free(it);

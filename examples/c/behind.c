@@ -9,7 +9,7 @@
  * behind [LIVES [FIRST SEED]] */
 #include "behind.h"
 #include "image.h"
-#include <errno.h>
+#include "number.h"
 #include <limits.h>
 #include <stdio.h>
 #include <stdlib.h>
@@ -319,17 +319,6 @@ static bool play_lives(uint32_t format, long lives)
     if (!counts.behind)
         printf("format %u: no write was accepted while a call was under way\n", format);
     return counts.behind > 0;
-}
-
-/* A number in digits, from `least` to `most`, and nothing else; else false. */
-static bool read_number(const char *text, uint64_t least, uint64_t most, uint64_t *number)
-{
-    char *end;
-    errno = 0;
-    if (*text < '0' || *text > '9')
-        return false;
-    *number = strtoull(text, &end, 10);
-    return !errno && !*end && *number >= least && *number <= most;
 }
 
 int main(int count, char **words)

@@ -116,41 +116,27 @@ bool host_rests(const struct host *host)
     return host->due > now + QUIET;
 }
 
+/* The wrapper of a WRITE (10) of a transfer to this block. */
+static uint32_t put_wrapper(uint32_t address, uint8_t packet[PACKET])
+{
+    static const uint8_t front[15] = { 'U', 'S', 'B', 'C', 1, [8] = TRANSFER * 512 & 255,
+                                       TRANSFER * 512 >> 8 & 255, TRANSFER * 512 >> 16, [14] = 10 };
+    const uint8_t command[16] = { 0x2A, 0, (uint8_t)(address >> 24), (uint8_t)(address >> 16),
+                                  (uint8_t)(address >> 8), (uint8_t)address, [8] = TRANSFER };
+    memcpy(packet, front, sizeof front);
+    memcpy(packet + sizeof front, command, sizeof command);
+    return sizeof front + sizeof command;
+}
+
 uint32_t host_packet(const struct host *host, uint8_t packet[PACKET])
 {
     uint32_t address = host->written * TRANSFER % (host->blocks - host->blocks % TRANSFER);
     if (host->sent > TRANSFER)
         return 0;
-    if (host->sent) {
-        memset(packet, (int)(host->written + host->sent), PACKET);
-        return PACKET;
-    }
-    const uint8_t wrapper[31] = { 'U',
-                                  'S',
-                                  'B',
-                                  'C',
-                                  1,
-                                  0,
-                                  0,
-                                  0,
-                                  TRANSFER * 512 & 255,
-                                  TRANSFER * 512 >> 8 & 255,
-                                  TRANSFER * 512 >> 16,
-                                  0,
-                                  0,
-                                  0,
-                                  10,
-                                  0x2A,
-                                  0,
-                                  (uint8_t)(address >> 24),
-                                  (uint8_t)(address >> 16),
-                                  (uint8_t)(address >> 8),
-                                  (uint8_t)address,
-                                  0,
-                                  0,
-                                  TRANSFER };
-    memcpy(packet, wrapper, sizeof wrapper);
-    return sizeof wrapper;
+    if (!host->sent)
+        return put_wrapper(address, packet);
+    memset(packet, (int)(host->written + host->sent), PACKET);
+    return PACKET;
 }
 
 /* A status ends a WRITE. The first one is not good, as it tells that the power was off: it comes

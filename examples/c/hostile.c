@@ -112,38 +112,38 @@ static void any_request(struct usbdisk_io *io)
     must(size <= 2, "more data than there is room for");
 }
 
-static void any_event(struct usbdisk_io *io)
+static void any_transfer(struct usbdisk_io *io)
 {
     uint8_t wrapper[31];
     size_t moved = 0, size = any_length();
+    uint32_t kind = below(8);
+    if (kind < 3)
+        usbdisk_io_out(io, wrapper, any_wrapper(wrapper), &moved);
+    else if (kind < 5)
+        usbdisk_io_out(io, bytes, size, &moved);
+    else
+        usbdisk_io_in(io, bytes, size, &moved);
+    must(moved <= size || moved <= sizeof wrapper, "more is moved than there is");
+}
+
+static void any_event(struct usbdisk_io *io)
+{
     switch (below(12)) {
     case 0:
-    case 1:
-    case 2:
-        usbdisk_io_out(io, wrapper, any_wrapper(wrapper), &moved);
-        break;
-    case 3:
-    case 4:
-        usbdisk_io_out(io, bytes, size, &moved);
-        break;
-    case 5:
-    case 6:
-    case 7:
-        usbdisk_io_in(io, bytes, size, &moved);
-        break;
-    case 8:
         any_request(io);
         break;
-    case 9:
+    case 1:
         usbdisk_io_reset(io);
         break;
-    case 10:
-        usbdisk_io_look_ahead(io, size);
+    case 2:
+        usbdisk_io_look_ahead(io, any_length());
+        break;
+    case 3:
+        usbdisk_io_idle(io);
         break;
     default:
-        usbdisk_io_idle(io);
+        any_transfer(io);
     }
-    must(moved <= size || moved <= sizeof wrapper, "more is moved than there is");
 }
 
 /* Events on what the device holds. A start is refused where a call of it was. */

@@ -9,8 +9,8 @@
  * JUDGED is the name of the device's file. It is built for one device: make judge DEVICE=yours.c.
  */
 #include "device.h"
+#include "number.h"
 #include "usbdisk_io.h"
-#include <errno.h>
 #include <limits.h>
 #include <stdio.h>
 #include <stdlib.h>
@@ -317,17 +317,6 @@ static bool play_life(bool is_late)
     left = LONG_MAX;
     is_gone = false;
     return !wrong && device_cut() && finds_what_it_may();
-}
-
-/* A number in digits, from `least` to `most`, and nothing else; else false. */
-static bool read_number(const char *text, uint64_t least, uint64_t most, uint64_t *number)
-{
-    char *end;
-    errno = 0;
-    if (*text < '0' || *text > '9')
-        return false;
-    *number = strtoull(text, &end, 10);
-    return !errno && !*end && *number >= least && *number <= most;
 }
 
 static bool judge(uint32_t format, long lives)

@@ -110,6 +110,27 @@ static uint32_t start_store(struct usbdisk_store *store)
                                usbdisk_room(FORMAT, SLOTS));
 }
 
+/* A store behind a refused call, and a handle that holds none any more. */
+static void play_dead_store(struct usbdisk_store *store)
+{
+    uint64_t first;
+    uint32_t count;
+    size_t run;
+    must(usbdisk_store_take_run(store, &first, bytes, 512, &run) == USBDISK_NOTHING,
+         "a call waits behind a refused one");
+    must(usbdisk_store_write(store, 0, bytes, 512) == USBDISK_DEAD,
+         "a write behind a refused call");
+    must(usbdisk_store_read(store, 0, bytes, 512, &first, &count) == USBDISK_DEAD,
+         "a read behind a refused call");
+    must(usbdisk_store_sync(store) == USBDISK_DEAD && usbdisk_store_tick(store) == 1,
+         "a step behind a refused call");
+    must(!usbdisk_store_stop(store) && usbdisk_store_sync(store) == USBDISK_EMPTY,
+         "a sync of no store");
+    must(usbdisk_store_take_run(store, &first, bytes, 512, &run) == USBDISK_EMPTY,
+         "a run of no store");
+    must(usbdisk_store_refused(store) == USBDISK_EMPTY, "a refusal of no store");
+}
+
 static void play_store(void)
 {
     struct usbdisk_store store = USBDISK_STORE_NONE;
@@ -129,19 +150,7 @@ static void play_store(void)
          "room for a part of one");
     must(!usbdisk_store_write(&store, 0, bytes, 512) && !usbdisk_store_sync(&store), "a write");
     must(!usbdisk_store_refused(&store), "a refusal");
-    must(usbdisk_store_take_run(&store, &first, bytes, 512, &run) == USBDISK_NOTHING,
-         "a call waits behind a refused one");
-    must(usbdisk_store_write(&store, 0, bytes, 512) == USBDISK_DEAD,
-         "a write behind a refused call");
-    must(usbdisk_store_read(&store, 0, bytes, 512, &first, &count) == USBDISK_DEAD,
-         "a read behind a refused call");
-    must(usbdisk_store_sync(&store) == USBDISK_DEAD && usbdisk_store_tick(&store) == 1,
-         "a step behind a refused call");
-    must(!usbdisk_store_stop(&store) && usbdisk_store_sync(&store) == USBDISK_EMPTY,
-         "a sync of no store");
-    must(usbdisk_store_take_run(&store, &first, bytes, 512, &run) == USBDISK_EMPTY,
-         "a run of no store");
-    must(usbdisk_store_refused(&store) == USBDISK_EMPTY, "a refusal of no store");
+    play_dead_store(&store);
 }
 
 static void play_images(void)

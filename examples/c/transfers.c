@@ -252,6 +252,8 @@ int main(void)
     for (uint32_t code = 0; code < 100; code++)
         must(strlen(usbdisk_text(code)) > 3, "no text");
     must(!strcmp(usbdisk_text(12), usbdisk_text(UINT32_MAX)), "a text for a number that is none");
+    for (uint32_t code = USBDISK_EMPTY; code <= USBDISK_NOT_ASKED; code++)
+        must(strcmp(usbdisk_text(code), usbdisk_text(12)), "no text for a number of the header");
     printf("transfers of the port layer end as they are told to, and READs are read ahead\n");
     return 0;
 }

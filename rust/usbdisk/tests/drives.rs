@@ -1,5 +1,8 @@
 //! Drives over memory that is behind: its call is under way for as long as the test likes, and one of
 //! them is refused. What was answered good, and promises, is there behind a cut.
+mod common;
+
+use common::wrapper;
 use usbdisk::{
     format, look, Answer, Call, Device, Drive, Identity, Refusal, State, BUFFER, SECTOR,
 };
@@ -161,16 +164,6 @@ impl<'d> Bench<'d> {
         self.status();
         is_there
     }
-}
-
-fn wrapper(length: u16, flags: u8, command: &[u8]) -> [u8; 31] {
-    let mut bytes = [0; 31];
-    bytes[..4].copy_from_slice(b"USBC");
-    bytes[8..10].copy_from_slice(&length.to_le_bytes());
-    bytes[12] = flags;
-    bytes[14] = command.len() as u8;
-    bytes[15..15 + command.len()].copy_from_slice(command);
-    bytes
 }
 
 fn is_there(device: &mut Memory) -> bool {

@@ -1,5 +1,8 @@
 //! Disks and stores over memory, of which a call is refused: whichever it is, what was answered good is
 //! there behind a cut.
+mod common;
+
+use common::wrapper;
 use usbdisk::{first_size, format, format_blank, lay_log, look, memory, migrate, room, version};
 use usbdisk::{
     Answer, Device, Disk, Error, Event, Identity, Layout, Refusal, Store, BUFFER, SECTOR, VERSION,
@@ -86,16 +89,6 @@ impl Device for Memory {
         self.durable.copy_from_slice(&self.bytes);
         Ok(())
     }
-}
-
-fn wrapper(length: u16, flags: u8, command: &[u8]) -> [u8; 31] {
-    let mut bytes = [0; 31];
-    bytes[..4].copy_from_slice(b"USBC");
-    bytes[8..10].copy_from_slice(&length.to_le_bytes());
-    bytes[12] = flags;
-    bytes[14] = command.len() as u8;
-    bytes[15..15 + command.len()].copy_from_slice(command);
-    bytes
 }
 
 type Lent<'d> = &'d mut Memory;
