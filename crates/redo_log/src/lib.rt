@@ -7,6 +7,7 @@
 #![tactic(auto)]
 
 mod ahead;
+mod begun;
 mod call;
 mod fault;
 mod firsts;

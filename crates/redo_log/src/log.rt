@@ -4,6 +4,7 @@ ghost use Rattle.std.specs.Prelude.{length, if◌then◌else◌};
 ghost use Rattle.std.specs.Prelude.{IsTrue, IsOk, OnOk, IfOk, IfErr, MatchOption};
 ghost use Rattle.std.specs.VecDeque.{deque_capacity};
 
+use crate::begun::BegunNumbers;
 use crate::firsts::{age_of, first_kept, keep_firsts};
 use crate::index::{Copied, newest};
 use crate::{LogFault, Progress};
@@ -15,7 +16,7 @@ use std::collections::VecDeque;
 use std::marker::Model;
 
 // The block numbers of a record.
-type Numbers = ArrayVec<u64, 240>;
+pub(crate) type Numbers = ArrayVec<u64, 240>;
 
 /// A redo log on a medium, with a record in each slot at most: durable ones that are not retired,
 /// and behind them perhaps one under way.
@@ -35,8 +36,8 @@ pub struct Log {
     // that the next durable record had then.
     pub(crate) homed: u64,
     pub(crate) before: u64,
-    // The record under way, empty where none is.
-    pub(crate) under_way: Numbers,
+    // The numbers of the record under way, none where none is.
+    pub(crate) under_way: BegunNumbers,
     // How many calls of it are made.
     pub(crate) made: Option<usize>,
     // The newest copies of the durable records' blocks.
@@ -99,7 +100,7 @@ impl Log {
             firsts,
             homed: 0,
             before: 0,
-            under_way: ArrayVec::new(),
+            under_way: BegunNumbers::of(&[]),
             made: None,
             index,
             dead: false,
@@ -150,7 +151,7 @@ impl Log {
             return Err(LogFault::StampsUsedUp);
         }
         keep_firsts(&mut self.firsts, self.sizes.format, bytes);
-        self.under_way = numbers_of(numbers);
+        self.under_way = BegunNumbers::of(numbers);
         self.made = Some(0);
         Ok(())
     }
@@ -260,16 +261,4 @@ fn firsts_for(alloc: Global, sup: &Super) -> Result<VecDeque<Firsts>, AllocError
         0
     };
     VecDeque::with_capacity(alloc, slots as usize)
-}
-
-// These numbers, of which there are no more than a record has.
-fn numbers_of(numbers: &[u64]) -> Numbers
-    requires { length numbers.now ≤ 240 }
-    ensures { result.items ≡ numbers.now }
-{
-    let mut list = Numbers::new();
-    for number in numbers {
-        list.push(*number);
-    }
-    list
 }

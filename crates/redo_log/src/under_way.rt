@@ -1,11 +1,13 @@
 //! The calls of the record under way, one after the other.
-ghost use Rattle.std.specs.Prelude.{◌≡◌, ◌<◌, ◌*◌, length};
+ghost use Rattle.std.specs.Prelude.{◌≡◌, ◌<◌, ◌≤◌, ◌*◌, length};
 ghost use Rattle.journal.specs.Record.{entries_of};
 ghost use Rattle.redo_log.specs.Value.{IsStepped};
 ghost use Rattle.redo_log.specs.Steps.{TellsStep};
 
+use crate::begun::BegunNumbers;
 use crate::call::next_call;
 use crate::index::enter_record;
+use crate::log::Numbers;
 use crate::stage::steps_for;
 use crate::{Log, Progress};
 use journal::slot_of;
@@ -47,7 +49,20 @@ impl Log {
         self.made = None;
         let stamp = self.head + self.waiting.len() as u64;
         enter_record(&mut self.index, slot_of(stamp, self.sizes.slots), numbers);
-        self.waiting.push_back_reserved(self.under_way.take());
+        self.waiting.push_back_reserved(numbers_of(numbers));
+        self.under_way = BegunNumbers::of(&[]);
         Progress::Durable
     }
+}
+
+// These numbers, of which there are no more than a record has.
+fn numbers_of(numbers: &[u64]) -> Numbers
+    requires { length numbers.now ≤ 240 }
+    ensures { result.items ≡ numbers.now }
+{
+    let mut list = Numbers::new();
+    for number in numbers {
+        list.push(*number);
+    }
+    list
 }
