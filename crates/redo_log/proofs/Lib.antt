@@ -3,6 +3,7 @@ pub mod NewestCopy
 pub mod StoreFacts
 pub mod RetireTurns
 pub mod SortedIndex
+pub mod LeavingIndex
 pub mod LogRules
 pub mod HeldLog
 pub mod StepCalls

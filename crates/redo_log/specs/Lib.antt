@@ -1,5 +1,6 @@
 pub mod Held
 pub mod Index
+pub mod Leaving
 pub mod Value
 pub mod Calls
 pub mod Turns

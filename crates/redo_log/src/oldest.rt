@@ -10,7 +10,7 @@ ghost use Rattle.redo_log.specs.Turns.{StaysInImage, IsNextTurn};
 ghost use Rattle.redo_log.specs.Halfway.{TellsFirst, TellsSecond};
 
 use crate::Log;
-use crate::index::drop_slot;
+use crate::index::drop_record;
 use crate::turn::{Turn, next_turn};
 use journal::{Head, slot_of};
 use medium::{Call, Medium, MediumFault, perform};
@@ -123,7 +123,11 @@ impl Log {
         requires { of_oldest self.old ≡ 1 }
         ensures { (self.new.head ≡ self.old.head + 1) × IsRetireStepped self.old self.new }
     {
-        drop_slot(&mut self.index, slot_of(self.head, self.sizes.slots));
+        let Some(oldest) = self.waiting.front() else {
+            unreachable!()
+        };
+        let slot = slot_of(self.head, self.sizes.slots);
+        drop_record(&mut self.index, slot, oldest.as_slice());
         let _ = self.waiting.pop_front();
         let _ = self.firsts.pop_front();
         self.head += 1;

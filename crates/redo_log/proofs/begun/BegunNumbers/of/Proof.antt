@@ -27,8 +27,7 @@ use denote.Signature.{plain, types_at}
 use denote.Triple.Entry.{on_entry, alive, Args}
 use denote.Triple.Spec.{Meets, triple_of}
 use denote.Triple.Table.{entered}
-use denote.Triple.Walked.{says, Stays, walk_of, Walks, ends_at, walked, walk_Meets}
-use denote.Triple.Walked.{stay_none_slice, Goes-none_slice}
+use denote.Triple.Walked.{says, Stays, walk_of, Walks, ends_at, walked, walk_Meets, stay_none_slice, Goes-none_slice}
 use mir.Syntax.{named}
 use Rattle.redo_log.specs.contracts.begun.BegunNumbers.of.Key.{name as key}
 use Rattle.redo_log.specs.contracts.begun.BegunNumbers.of as f
