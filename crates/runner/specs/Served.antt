@@ -2,20 +2,16 @@
 use Rattle.std.specs.Prelude.{◌≡◌, ◌⊎◌, ◌==◌, ℕ, ◌+◌, min, false, List, [], ◌∷◌, ◌++◌, All, codes}
 use Rattle.std.specs.Prelude.{length, take, slice_index, ◌<◌, Option}
 use Rattle.std.specs.Io.KnownBytes.{Appends, Keeps, Consumes, IsAtEnd}
-use Rattle.medium.specs.Medium.{State}
-use Rattle.bot_machine.specs.Disk.{DiskValue}
 use Rattle.spec.specs.declared.event.Event.{Event}
 use Rattle.spec.specs.declared.event.Answer.{Answer}
 use Rattle.console.specs.Streams.{AppendsSome}
 use Rattle.runner.specs.declared.line.ScriptKind.TheVariants.{OneLife}
-use Rattle.runner.specs.declared.serve.LineFault.{LineFault}
-use Rattle.runner.specs.declared.serve.LineFault.TheVariants as fault
 use Rattle.runner.specs.declared.player.ServeFault.{ServeFault}
 use Rattle.runner.specs.declared.player.ServeFault.TheVariants.{Line, Reader, Writer, Player}
 use Rattle.runner.specs.Line.{IsScriptLine}
 use Rattle.runner.specs.Lines.{lines_of}
 use Rattle.runner.specs.Script.{LinePlays, Plays}
-use Rattle.runner.specs.Played.{TellsBy, BreaksOffBy, GivesUpBy, StepsOn, HasNoAnswer}
+use Rattle.runner.specs.Played.{TellsBy, BreaksOffBy, GivesUpBy}
 use Rattle.runner.specs.Streams.{IsAll}
 use Rattle.runner.specs.Text.{line_for}
 
@@ -197,24 +193,3 @@ MayAsk {D} {S} Goes Stops most was old beginning left may_ask =
     (source : S) (now : Option (List ℕ)) (new : D) (read : List ℕ)
     → Consumes beginning (left source) read → StopsUnread Goes Stops most was now old new read
     → may_ask source now
-
--- a disk was served
-module _ {M : Type 0} (state : M → State) (Follows : M → M → Type 0) (most : ℕ)
-    (was now : Option (List ℕ)) (old new : DiskValue M) where
-  abbrev pub IsServed : Option (List ℕ) → Option (List ℕ) → Type 0
-  IsServed left after =
-      IsServedBy (StepsOn state Follows) HasNoAnswer most was now old new left after
-
-  abbrev pub IsStopped : Option (List ℕ) → Option (List ℕ) → LineFault → Type 0
-  IsStopped left after (fault.Line number) =
-      IsStoppedBy (StepsOn state Follows) HasNoAnswer most was now old new left after (Line number)
-  IsStopped left after fault.Reader =
-      IsStoppedBy (StepsOn state Follows) HasNoAnswer most was now old new left after Reader
-  IsStopped left after fault.Writer =
-      IsStoppedBy (StepsOn state Follows) HasNoAnswer most was now old new left after Writer
-
-abbrev pub MayAskInTurn : {M S : Type 0} (state : M → State) (Follows : M → M → Type 0) (most : ℕ)
-    (was : Option (List ℕ)) (old : DiskValue M) (beginning : Option (List ℕ))
-    (left : S → Option (List ℕ)) (may_ask : S → Option (List ℕ) → Type 0) → Type 0
-MayAskInTurn state Follows most was old beginning left may_ask =
-    MayAsk (StepsOn state Follows) HasNoAnswer most was old beginning left may_ask

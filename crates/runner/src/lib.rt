@@ -37,5 +37,5 @@ pub use program::{command, run_program};
 pub use read_script::SCRIPT_LIMIT;
 pub use refusal::Refusal;
 pub use script::run_script;
-pub use serve::{LineFault, LineSource, serve_lines, serve_player, serve_source};
+pub use serve::{LineSource, serve_player};
 pub use sim::sim_script;

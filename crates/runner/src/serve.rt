@@ -1,12 +1,11 @@
-//! A disk served line by line: each line is answered as soon as it is there.
+//! A player served line by line: each line is answered as soon as it is there.
 ghost use Rattle.std.specs.Prelude.{◌≡◌, ◌⊎◌, ◌++◌, ◌<◌, ℕ, List, Option, OnOk, OnErr, IfOk, IfErr};
 ghost use Rattle.std.specs.Prelude.{MatchOption, MatchResult, [], length, take, ⊤};
 ghost use Rattle.std.specs.Io.{ReadsAtMost};
 ghost use Rattle.std.specs.Io.KnownBytes.{Consumes, IsAtEnd, ReadConsumes};
 ghost use Rattle.spec.specs.Packets.{bytes_of};
-ghost use Rattle.runner.specs.Served.{HasServed, IsAnswered, IsLineStopped, IsServed, IsServedBy};
-ghost use Rattle.runner.specs.Served.{IsLineEnd, IsUnended, IsStopped, IsStoppedBy, MayAsk};
-ghost use Rattle.runner.specs.Served.{MayAskInTurn, StopsIn};
+ghost use Rattle.runner.specs.Served.{HasServed, IsAnswered, IsLineStopped, IsServedBy};
+ghost use Rattle.runner.specs.Served.{IsLineEnd, IsUnended, IsStoppedBy, MayAsk, StopsIn};
 ghost use Rattle.runner.specs.Line.{IsScriptLine};
 
 use crate::held::LineBuffer;
@@ -14,35 +13,9 @@ use crate::line::{ScriptKind, read_line};
 use crate::parts::separator_at;
 use crate::play::play_asked;
 use crate::player::{Player, ServeFault};
-use bot_machine::{Disk, PacketSize};
-use medium::Medium;
-use std::error::Error;
+use bot_machine::PacketSize;
+use std::io;
 use std::io::{ErrorKind, Read, Write};
-use std::{fmt, io};
-
-/// Why lines were not served to their end.
-#[derive(Clone, Copy, Debug, PartialEq, Eq)]
-pub enum LineFault {
-    /// The first line that is none of a script, counted from 1. The lines before it were answered.
-    Line(u64),
-    /// The reader failed. All whole lines that it gave were answered.
-    Reader,
-    /// The writer failed. Nothing was played behind the event whose answer was not written.
-    Writer,
-}
-
-impl Error for LineFault {}
-
-impl fmt::Display for LineFault {
-    fn fmt<W: fmt::Write>(&self, f: &mut fmt::Formatter<W>) -> fmt::Result {
-        let words = match *self {
-            LineFault::Line(number) => return write!(f, "line {number}: not a script line"),
-            LineFault::Reader => "the lines were not read",
-            LineFault::Writer => "an answer was not written",
-        };
-        write!(f, "{words}")
-    }
-}
 
 /// Where lines come from. Who asks it for more shows it what was answered by then.
 pub trait LineSource<W: Write> {
@@ -74,62 +47,14 @@ impl<R: Read, W: Write> LineSource<W> for R {
     }
 }
 
-/// Plays the lines of a script on a disk, and writes the line of each answer by one write, before
-/// more is read.
+/// Has a player answer the lines of a script, and writes the line of each answer by one write,
+/// before more is read; until the player has no answer to an event. The source may be asked for
+/// more at least where nothing waits for an answer: at each read all lines of which the line feed
+/// was read are answered.
 ///
 /// # Errors
 ///
-/// Those of `LineFault`, whichever is met first. What was answered stays.
-pub fn serve_lines<M: Medium, R: Read, W: Write>(
-    disk: &mut Disk<M>,
-    reader: &mut R,
-    out: &mut W,
-) -> Result<(), LineFault>
-    ensures served { OnOk result (IsServed M.state M.follows disk.old.line.packet_size
-        (W.contents out.old) (W.contents out.new) disk.old disk.new
-        (R.remaining reader.old) (R.remaining reader.new)) }
-    ensures stopped { IfErr result (IsStopped M.state M.follows disk.old.line.packet_size
-        (W.contents out.old) (W.contents out.new) disk.old disk.new
-        (R.remaining reader.old) (R.remaining reader.new)) }
-{
-    serve_source(disk, reader, out)
-}
-
-/// Serves a disk as `serve_lines` does, over any source that may be asked for more at least where
-/// nothing waits for an answer. So at each read all lines of which the line feed was read are
-/// answered.
-///
-/// # Errors
-///
-/// Those of `serve_lines`.
-pub fn serve_source<M: Medium, S: LineSource<W>, W: Write>(
-    disk: &mut Disk<M>,
-    source: &mut S,
-    out: &mut W,
-) -> Result<(), LineFault>
-    requires asks { MayAskInTurn M.state M.follows disk.old.line.packet_size (W.contents out.old)
-        disk.old (S.left source.old) S.left S.may_ask }
-    ensures served { OnOk result (IsServed M.state M.follows disk.old.line.packet_size
-        (W.contents out.old) (W.contents out.new) disk.old disk.new
-        (S.left source.old) (S.left source.new)) }
-    ensures stopped { IfErr result (IsStopped M.state M.follows disk.old.line.packet_size
-        (W.contents out.old) (W.contents out.new) disk.old disk.new
-        (S.left source.old) (S.left source.new)) }
-{
-    match serve_player(disk, source, out) {
-        Ok(()) => Ok(()),
-        Err(ServeFault::Line(number)) => Err(LineFault::Line(number)),
-        Err(ServeFault::Reader) => Err(LineFault::Reader),
-        Err(ServeFault::Writer) => Err(LineFault::Writer),
-        Err(ServeFault::Player) => unreachable!(),
-    }
-}
-
-/// Serves any player as `serve_source` does a disk, until it has no answer to an event.
-///
-/// # Errors
-///
-/// Those of `serve_source`, and `Player` where the player had no answer to an event.
+/// Those of `ServeFault`, whichever is met first. What was answered stays.
 pub fn serve_player<P: Player, S: LineSource<W>, W: Write>(
     player: &mut P,
     source: &mut S,
