@@ -3,69 +3,34 @@
 #include "usbdisk_carry.h"
 
 struct usbdisk_blocks {
-    struct usbdisk_store core;
-    struct usbdisk_device name;
     struct usbdisk_carry carry;
     uint64_t count;
     uint32_t limit;
 };
 
-static uint32_t take(void *core, uint64_t *first, uint8_t *bytes, size_t size, size_t *count)
+/* Has the device carry out the start. Answers why there are no blocks, or 0. */
+static uint32_t begin(struct usbdisk_blocks *blocks, uint32_t most)
 {
-    return usbdisk_store_take_run(core, first, bytes, size, count);
-}
-
-static uint32_t refuse(void *core)
-{
-    return usbdisk_store_refused(core);
-}
-
-static uint32_t tick(void *core)
-{
-    return usbdisk_store_tick(core);
-}
-
-static struct usbdisk_blocks *make(const struct usbdisk_io_device *device, size_t most)
-{
-    uint8_t *buffer;
-    struct usbdisk_blocks *blocks = usbdisk_carry_make(sizeof *blocks, most, &buffer);
-    if (!blocks)
-        return NULL;
-    *blocks = (struct usbdisk_blocks){ .core = USBDISK_STORE_NONE,
-                                       .carry = { .device = device,
-                                                  .take = take,
-                                                  .refuse = refuse,
-                                                  .tick = tick,
-                                                  .buffer = buffer,
-                                                  .most = most } };
-    blocks->carry.handle = &blocks->core;
-    return blocks;
-}
-
-static uint32_t begin(struct usbdisk_blocks *blocks, const struct usbdisk_first *first)
-{
-    uint32_t code =
-        usbdisk_store_start(&blocks->core, first->bytes, first->size, blocks->carry.device->sectors,
-                            &blocks->name, (uint32_t)blocks->carry.most, (size_t)first->room);
+    struct usbdisk_options options = { .sectors = blocks->carry.device->sectors };
+    uint32_t code = usbdisk_store_start(&blocks->carry.core, &options);
+    if (!code)
+        code = usbdisk_carry_begin(&blocks->carry, most);
     if (code)
         return code;
-    usbdisk_store_sizes(&blocks->core, &blocks->count, &blocks->limit);
-    blocks->carry.bound = usbdisk_carry_bound(first->layout.slots, blocks->limit);
     usbdisk_carry_all(&blocks->carry);
-    return blocks->carry.fault;
+    usbdisk_store_sizes(&blocks->carry.core, &blocks->count, &blocks->limit);
+    return usbdisk_carry_fault(&blocks->carry);
 }
 
 uint32_t usbdisk_blocks_start(struct usbdisk_blocks **blocks,
                               const struct usbdisk_io_device *device, uint32_t most)
 {
-    struct usbdisk_first first;
-    uint32_t code = usbdisk_first_read(&first, device);
-    if (code)
-        return code;
+    struct usbdisk_blocks *made = usbdisk_carry_alloc(sizeof *made);
+    if (!made)
+        return USBDISK_NO_MEMORY;
+    *made = (struct usbdisk_blocks){ .carry = { .core = USBDISK_NONE, .device = device } };
     most = most < USBDISK_IO_MOST ? most : USBDISK_IO_MOST;
-    struct usbdisk_blocks *made = make(device, most ? most : 1);
-    code = made ? begin(made, &first) : USBDISK_NO_MEMORY;
-    rattle_dealloc(first.bytes);
+    uint32_t code = begin(made, most ? most : 1);
     if (code)
         usbdisk_blocks_stop(made);
     else
@@ -77,8 +42,7 @@ void usbdisk_blocks_stop(struct usbdisk_blocks *blocks)
 {
     if (!blocks)
         return;
-    usbdisk_store_stop(&blocks->core);
-    rattle_dealloc(blocks->carry.buffer);
+    usbdisk_carry_stop(&blocks->carry);
     rattle_dealloc(blocks);
 }
 
@@ -92,25 +56,19 @@ uint32_t usbdisk_blocks_limit(struct usbdisk_blocks *blocks)
     return blocks->limit;
 }
 
-/* Reads sectors of the device and shows them to the store. False: they are not read. */
-static bool show(struct usbdisk_blocks *blocks, uint64_t first, size_t count)
+/* Whether a call has to be made again, behind what it asked of the device. */
+static bool is_due(struct usbdisk_blocks *blocks, uint32_t code)
 {
-    const struct usbdisk_io_device *device = blocks->carry.device;
-    uint8_t *buffer = blocks->carry.buffer;
-    return count <= blocks->carry.most && device->read(device->context, first, buffer, count) &&
-           !usbdisk_store_show(&blocks->core, first, buffer, count * 512);
+    return code == USBDISK_BUSY && usbdisk_carry_all(&blocks->carry);
 }
 
-/* A part of a read. The device may be asked for some of it first. */
 static uint32_t read_part(struct usbdisk_blocks *blocks, uint64_t block, uint8_t *bytes,
                           size_t size)
 {
-    uint64_t first = 0;
-    uint32_t count = 0, code;
-    while ((code = usbdisk_store_read(&blocks->core, block, bytes, size, &first, &count)) ==
-           USBDISK_NEEDS)
-        if (!show(blocks, first, count))
-            return USBDISK_READ_REFUSED;
+    uint32_t code;
+    do
+        code = usbdisk_store_read(&blocks->carry.core, block, bytes, size);
+    while (is_due(blocks, code));
     return code;
 }
 
@@ -128,32 +86,41 @@ uint32_t usbdisk_blocks_read(struct usbdisk_blocks *blocks, uint64_t first, uint
     return code;
 }
 
-/* What a call that may write answers, once the device has carried out what it sent. */
-static uint32_t carried(struct usbdisk_blocks *blocks, uint32_t code)
+/* What a call that may write answers: `before` is what the device had refused before it. */
+static uint32_t carried(struct usbdisk_blocks *blocks, uint32_t before, uint32_t code)
 {
-    blocks->carry.steps = 0;
-    if (blocks->carry.fault)
-        return code;
-    usbdisk_carry_all(&blocks->carry);
-    return blocks->carry.fault ? blocks->carry.fault : code;
+    struct usbdisk_carry *carry = &blocks->carry;
+    carry->turns = 0;
+    usbdisk_carry_all(carry);
+    return carry->fault == before ? code : carry->fault;
 }
 
 uint32_t usbdisk_blocks_write(struct usbdisk_blocks *blocks, uint64_t first, const uint8_t *bytes,
                               size_t count)
 {
+    uint32_t code, before = blocks->carry.fault;
     if (count > blocks->limit)
         return USBDISK_BAD_LENGTH;
-    return carried(blocks, usbdisk_store_write(&blocks->core, first, bytes, count * 512));
+    do
+        code = usbdisk_store_write(&blocks->carry.core, first, bytes, count * 512);
+    while (is_due(blocks, code));
+    return carried(blocks, before, code);
 }
 
 uint32_t usbdisk_blocks_sync(struct usbdisk_blocks *blocks)
 {
-    return carried(blocks, usbdisk_store_sync(&blocks->core));
+    uint32_t code, before = blocks->carry.fault;
+    do
+        code = usbdisk_store_sync(&blocks->carry.core);
+    while (is_due(blocks, code));
+    return carried(blocks, before, code);
 }
 
 bool usbdisk_blocks_idle(struct usbdisk_blocks *blocks)
 {
-    return usbdisk_carry_idle(&blocks->carry);
+    bool is_left = usbdisk_carry_idle(&blocks->carry);
+    usbdisk_carry_all(&blocks->carry);
+    return is_left && !usbdisk_carry_has_ended(&blocks->carry);
 }
 
 uint32_t usbdisk_blocks_sense(uint32_t code)

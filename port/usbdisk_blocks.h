@@ -19,7 +19,7 @@ struct usbdisk_blocks;
 
 /* Starts on what the device holds, recovers it, and has the device carry that out. The device stays
  * yours, and has to stay where it is. most: how many blocks your reads have at once, 1 to 240: a
- * longer one is read in parts, and a buffer of as many sectors is taken, twice.
+ * longer one is read in parts, and a buffer of as many sectors is taken.
  *
  * Answers 0, and `*blocks` are there; or NO_MEMORY; READ_REFUSED, WRITE_REFUSED or FLUSH_REFUSED of
  * the device; BAD_SUPER, BAD_VERSION, BAD_SIZE, BAD_HEAD or STAMPS_USED_UP of what it holds. */
@@ -51,8 +51,8 @@ uint32_t usbdisk_blocks_write(struct usbdisk_blocks *blocks, uint64_t first, con
 /* Makes every accepted write durable. Answers 0; WRITE_REFUSED or FLUSH_REFUSED, as above; DEAD. */
 uint32_t usbdisk_blocks_sync(struct usbdisk_blocks *blocks);
 
-/* Nothing came for a while: brings home some of what was written, by one write of neighbouring
- * sectors or one flush. Answers true while more is left. */
+/* Nothing came for a while: brings home some of what was written. Answers true while more is left.
+ */
 bool usbdisk_blocks_idle(struct usbdisk_blocks *blocks);
 
 /* Stops, and frees the memory. It writes nothing: what was not synchronised is lost as by a cut. Of

@@ -1,113 +1,117 @@
-/* A disk of the library over a device, by whole transfers. */
+/* A disk of the library over a device. */
 #include "usbdisk_carry.h"
+#include <string.h>
 
-struct usbdisk_io {
-    struct usbdisk core;
-    struct usbdisk_device name;
-    struct usbdisk_carry carry;
-    struct usbdisk_layout layout;
-    struct usbdisk_packets packets;
-    struct usbdisk_guess guess;
+enum { PACKET = 512 };
+
+/* What the READs that follow each other will ask for next. */
+struct guess {
+    uint64_t behind; /* the sector behind the last READ */
+    uint64_t before; /* how many sectors the READ before it had */
+    uint64_t ahead;  /* how many from there on were read before they were asked for */
+    bool reads_on;   /* the last READ began where the one before it ended */
 };
 
-static uint32_t take(void *core, uint64_t *first, uint8_t *bytes, size_t size, size_t *count)
-{
-    return usbdisk_take_run(core, first, bytes, size, count);
-}
+/* Sectors that are to be read ahead; a count of 0: none. */
+struct wish {
+    uint64_t first;
+    uint32_t count;
+};
 
-static uint32_t refuse(void *core)
-{
-    return usbdisk_refused(core);
-}
+struct usbdisk_io {
+    struct usbdisk_carry carry;
+    struct guess guess;
+    struct wish wish;
+    uint32_t packet;
+    bool is_beside;   /* who carries out calls of the device does it beside the other calls */
+    bool reads_ahead; /* the call under way was a wish */
+};
 
-static uint32_t tick(void *core)
+/* A call of the device is wanted. What the disk wants comes before what is only guessed. Sectors
+ * before home the start reads. */
+static bool is_wanted(struct usbdisk_io *io)
 {
-    return usbdisk_tick(core);
-}
-
-/* Reads sectors of the device and shows them to the disk. False: they are not read. */
-static bool show(struct usbdisk_io *io, uint64_t first, uint64_t count)
-{
-    const struct usbdisk_io_device *device = io->carry.device;
-    uint8_t *buffer = io->carry.buffer;
-    return count <= io->carry.most && device->read(device->context, first, buffer, (size_t)count) &&
-           !usbdisk_show(&io->core, first, buffer, (size_t)count * 512);
-}
-
-/* A packet to the disk, which may ask for sectors of the device before a READ. Where these cannot
- * be read the READ ends alone, and the disk goes on. */
-static uint32_t bulk_out(void *disk, const uint8_t *packet, size_t size)
-{
-    struct usbdisk_io *io = disk;
-    uint64_t first = 0;
-    uint32_t count = 0, code;
-    io->carry.steps = 0;
-    while ((code = usbdisk_bulk_out(&io->core, packet, size, &first, &count)) == USBDISK_NEEDS) {
-        usbdisk_guess_asked(&io->guess, first, count);
-        if (!show(io, first, count)) {
-            code = usbdisk_bulk_out_unread(&io->core, packet, size);
-            break;
+    struct usbdisk_carry *carry = &io->carry;
+    if (usbdisk_carry_next(carry)) {
+        const struct usbdisk_call *call = &carry->call;
+        if (call->kind == USBDISK_READ && call->sector >= carry->layout.home) {
+            io->guess.reads_on = call->sector == io->guess.behind;
+            io->guess.behind = call->sector + call->count;
+            io->guess.ahead = io->wish.count = 0;
         }
+        return true;
     }
-    usbdisk_carry_all(&io->carry);
-    return code;
+    if (!io->wish.count || usbdisk_ahead(&carry->core, io->wish.first, io->wish.count) != 1)
+        return false;
+    io->wish.count = 0;
+    io->reads_ahead = usbdisk_carry_next(carry);
+    return io->reads_ahead;
 }
 
-static uint32_t bulk_in(void *disk, uint8_t packet[512], uint32_t *size)
+const struct usbdisk_call *usbdisk_io_next(struct usbdisk_io *io)
 {
-    struct usbdisk_io *io = disk;
-    return usbdisk_bulk_in(&io->core, packet, size);
+    bool is_free = io->carry.call.kind == USBDISK_NOTHING;
+    return is_free && is_wanted(io) ? &io->carry.call : NULL;
 }
 
-static uint32_t setup(void *disk, const uint8_t request[8], uint8_t data[2], uint32_t *size)
+bool usbdisk_io_reads_ahead(const struct usbdisk_io *io)
 {
-    struct usbdisk_io *io = disk;
-    return usbdisk_setup(&io->core, request, data, size);
+    return io->reads_ahead;
 }
 
-/* A disk that is not started yet, with a buffer for the longest transfer. NULL: no memory. */
-static struct usbdisk_io *make(const struct usbdisk_io_device *device, uint32_t packet,
-                               const struct usbdisk_layout *layout)
+bool usbdisk_io_carry_out(const struct usbdisk_io *io)
 {
-    size_t most = usbdisk_carry_longest(layout);
-    uint8_t *buffer;
-    struct usbdisk_io *io = usbdisk_carry_make(sizeof *io, most, &buffer);
-    if (!io)
-        return NULL;
-    *io = (struct usbdisk_io){ .core = USBDISK_NONE,
-                               .layout = *layout,
-                               .packets = { io, packet, bulk_out, bulk_in, setup },
-                               .carry = { .device = device, .buffer = buffer, .most = most } };
-    io->carry.take = take;
-    io->carry.refuse = refuse;
-    io->carry.tick = tick;
-    io->carry.handle = &io->core;
-    io->carry.bound = usbdisk_carry_bound(layout->slots, most);
-    return io;
+    return usbdisk_carry_out(&io->carry);
 }
 
-static uint32_t begin(struct usbdisk_io *io, const struct usbdisk_first *first,
-                      const struct usbdisk_identity *identity)
+void usbdisk_io_done(struct usbdisk_io *io, bool ok)
 {
-    uint32_t code =
-        usbdisk_start(&io->core, first->bytes, first->size, io->carry.device->sectors, &io->name,
-                      identity, io->packets.size, (uint32_t)io->carry.most, (size_t)first->room);
+    if (io->reads_ahead)
+        io->guess.ahead = ok ? io->carry.call.count : 0;
+    io->reads_ahead = false;
+    usbdisk_carry_done(&io->carry, ok);
+}
+
+/* Has the device carry out all that is wanted, where it does not work beside. Answers whether it
+ * was asked for something. */
+static bool carry_all(struct usbdisk_io *io)
+{
+    bool is_made = false;
+    for (; !io->is_beside && is_wanted(io); is_made = true)
+        usbdisk_io_done(io, usbdisk_carry_out(&io->carry));
+    return is_made;
+}
+
+uint32_t usbdisk_io_begin(struct usbdisk_io **io, const struct usbdisk_io_device *device,
+                          const struct usbdisk_identity *identity, uint32_t packet)
+{
+    struct usbdisk_options options = { device->sectors, *identity, packet };
+    struct usbdisk_io *made = usbdisk_carry_alloc(sizeof *made);
+    if (!made)
+        return USBDISK_NO_MEMORY;
+    *made = (struct usbdisk_io){ .carry = { .core = USBDISK_NONE, .device = device },
+                                 .packet = packet,
+                                 .is_beside = true };
+    uint32_t code = usbdisk_start(&made->carry.core, &options);
+    if (!code)
+        code = usbdisk_carry_begin(&made->carry, 0);
     if (code)
-        return code;
-    usbdisk_carry_all(&io->carry);
-    return io->carry.fault;
+        usbdisk_io_stop(made);
+    else
+        *io = made;
+    return code;
 }
 
 uint32_t usbdisk_io_start(struct usbdisk_io **io, const struct usbdisk_io_device *device,
                           const struct usbdisk_identity *identity, uint32_t packet)
 {
-    struct usbdisk_first first;
-    uint32_t code = usbdisk_first_read(&first, device);
+    struct usbdisk_io *made;
+    uint32_t code = usbdisk_io_begin(&made, device, identity, packet);
     if (code)
         return code;
-    struct usbdisk_io *made = make(device, packet, &first.layout);
-    code = made ? begin(made, &first, identity) : USBDISK_NO_MEMORY;
-    rattle_dealloc(first.bytes);
+    made->is_beside = false;
+    carry_all(made);
+    code = usbdisk_carry_fault(&made->carry);
     if (code)
         usbdisk_io_stop(made);
     else
@@ -119,9 +123,13 @@ void usbdisk_io_stop(struct usbdisk_io *io)
 {
     if (!io)
         return;
-    usbdisk_stop(&io->core);
-    rattle_dealloc(io->carry.buffer);
+    usbdisk_carry_stop(&io->carry);
     rattle_dealloc(io);
+}
+
+uint32_t usbdisk_io_state(struct usbdisk_io *io, uint32_t *fault)
+{
+    return usbdisk_state(&io->carry.core, fault);
 }
 
 bool usbdisk_io_has_faulted(const struct usbdisk_io *io)
@@ -129,42 +137,96 @@ bool usbdisk_io_has_faulted(const struct usbdisk_io *io)
     return usbdisk_carry_has_ended(&io->carry);
 }
 
+/* What had to wait for the device goes on once it has carried out what is wanted. */
 uint32_t usbdisk_io_out(struct usbdisk_io *io, const uint8_t *bytes, size_t size, size_t *taken)
 {
-    return usbdisk_packets_out(&io->packets, bytes, size, taken);
+    static const uint8_t none[1];
+    uint32_t code;
+    *taken = io->carry.turns = 0;
+    do {
+        size_t count = 0;
+        code = usbdisk_out(&io->carry.core, size ? bytes + *taken : none, size - *taken, &count);
+        *taken += count;
+    } while (carry_all(io) && code == USBDISK_NAK);
+    return code;
 }
 
+/* Where the rest of the room is shorter than a packet may be, one is fetched beside it. */
 uint32_t usbdisk_io_in(struct usbdisk_io *io, uint8_t *bytes, size_t size, size_t *got)
 {
-    return usbdisk_packets_in(&io->packets, bytes, size, got);
+    uint8_t packet[PACKET];
+    size_t count = 0;
+    *got = 0;
+    do {
+        size_t left = size - *got;
+        bool fits = left >= io->packet;
+        uint8_t *room = fits ? bytes + *got : packet;
+        uint32_t code = usbdisk_in(&io->carry.core, room, fits ? left : io->packet, &count);
+        if (code != USBDISK_ACK)
+            return code;
+        if (count > left)
+            return USBDISK_IO_OVERFLOW;
+        if (!fits)
+            memcpy(bytes + *got, packet, count);
+        *got += count;
+    } while (count && count % io->packet == 0 && *got < size);
+    return USBDISK_ACK;
 }
 
-uint32_t usbdisk_io_setup(struct usbdisk_io *io, const uint8_t request[8], uint8_t data[2],
+uint32_t usbdisk_io_setup(struct usbdisk_io *io, const uint8_t setup[8], uint8_t data[2],
                           uint32_t *size)
 {
-    return usbdisk_packets_setup(&io->packets, request, data, size);
+    *size = 0;
+    return usbdisk_setup(&io->carry.core, setup, data, size);
 }
 
 void usbdisk_io_clear_halt(struct usbdisk_io *io, uint8_t endpoint)
 {
-    usbdisk_packets_clear_halt(&io->packets, endpoint);
+    const uint8_t setup[8] = { 0x02, 0x01, 0, 0, endpoint, 0, 0, 0 };
+    uint8_t data[2];
+    uint32_t size;
+    usbdisk_io_setup(io, setup, data, &size);
 }
 
+/* What a host's reset recovery does: class reset, both halts cleared. */
 void usbdisk_io_reset(struct usbdisk_io *io)
 {
-    usbdisk_packets_reset(&io->packets);
+    static const uint8_t class_reset[8] = { 0x21, 0xFF, 0, 0, 0, 0, 0, 0 };
+    uint8_t data[2];
+    uint32_t size;
+    io->wish.count = 0;
+    usbdisk_io_setup(io, class_reset, data, &size);
+    usbdisk_io_clear_halt(io, 0x81);
+    usbdisk_io_clear_halt(io, 0x02);
 }
 
 bool usbdisk_io_idle(struct usbdisk_io *io)
 {
-    return usbdisk_carry_idle(&io->carry);
+    bool is_left = usbdisk_carry_idle(&io->carry);
+    carry_all(io);
+    return is_left && !usbdisk_io_has_faulted(io);
+}
+
+/* How many sectors from guess->behind on are to be read ahead, when the data of a READ is on its
+ * way, `size` bytes; or 0. */
+static uint64_t guess_next(struct guess *guess, uint64_t size, const struct usbdisk_layout *layout)
+{
+    uint64_t count = size / 512, next = guess->before, end = layout->home + layout->blocks;
+    bool is_found = guess->ahead && guess->ahead == count;
+    if (!count || (guess->ahead && !is_found))
+        return 0;
+    guess->before = count;
+    guess->behind += guess->ahead;
+    guess->ahead = 0;
+    bool follows = is_found || guess->reads_on;
+    return follows && next <= end - guess->behind ? next : 0;
 }
 
 void usbdisk_io_look_ahead(struct usbdisk_io *io, uint64_t size)
 {
-    uint64_t next = usbdisk_guess_next(&io->guess, size, &io->layout);
-    if (next && show(io, io->guess.behind, next))
-        io->guess.ahead = next;
+    uint64_t next = guess_next(&io->guess, size, &io->carry.layout);
+    io->wish = (struct wish){ io->guess.behind, next <= io->carry.most ? (uint32_t)next : 0 };
+    carry_all(io);
 }
 
 /* A request, whose bytes are the setup packet, and room for what goes to the host. */

@@ -14,6 +14,9 @@
  * flush is not asked for another one: the disk is told, fails what it cannot promise, and serves no
  * block until the next start.
  *
+ * A device that works while packets come, by DMA or in a thread of its own, has a section further
+ * down: usbdisk_io_begin takes the place of usbdisk_io_start.
+ *
  * Link usbdisk_io.c, usbdisk_carry.c and usbdisk_make.c with the library, and usbdisk_heap.c or
  * memory functions of your own (usbdisk.h, rattle_alloc). Of usbdisk.h this file needs the answers
  * ACK, NAK and STALL, the numbers of what is wrong, and the identity.
@@ -103,9 +106,8 @@ void usbdisk_io_clear_halt(struct usbdisk_io *io, uint8_t endpoint);
 /* A bus reset. What was accepted stays accepted; let go of packets that are on their way. */
 void usbdisk_io_reset(struct usbdisk_io *io);
 
-/* Nothing came for a while: brings home some of what was written, by one write of neighbouring
- * sectors or one flush, so that a host never waits for longer than for one of these. Answers true
- * while more is left. False: all is durable and at home, or the disk has faulted. */
+/* Nothing came for a while: brings home some of what was written, up to 32 steps of it. Answers
+ * true while more is left. False: all is durable and at home, or the disk has faulted. */
 bool usbdisk_io_idle(struct usbdisk_io *io);
 
 /* The data of a READ is on its way to the host, `size` bytes, and nothing else is to be done: where
@@ -135,9 +137,58 @@ uint32_t usbdisk_io_play(struct usbdisk_io *io, struct usbdisk_io_event *event);
 bool usbdisk_io_has_faulted(const struct usbdisk_io *io);
 
 /* Stops the disk, and frees its memory. It writes nothing: what was neither promised nor brought
- * home is lost as by a cut, so call usbdisk_io_idle until it answers false before. Of NULL:
- * nothing. */
+ * home is lost as by a cut, so call usbdisk_io_idle until it answers false before. No call of the
+ * device is under way. Of NULL: nothing. */
 void usbdisk_io_stop(struct usbdisk_io *io);
+
+/* A device that works beside these calls: who carries out its calls and who moves packets are two
+ * threads, or one that is told when the device has ended.
+ *
+ *     code = usbdisk_io_begin(&io, &flash, &who, 512);
+ *
+ *     who moves packets                             who carries out calls of the device
+ *
+ *     lock                                          lock
+ *     usbdisk_io_out, _in, _setup, _idle            while (usbdisk_io_next(io)) {
+ *     unlock                                            unlock
+ *                                                       ok = usbdisk_io_carry_out(io);
+ *                                                       lock
+ *                                                       usbdisk_io_done(io, ok);
+ *                                                   }
+ *                                                   unlock, and wait until something is wanted
+ *
+ * All calls come from one thread at a time, as by a lock of yours; usbdisk_io_carry_out alone is
+ * made beside the others. None of these makes a call of the device itself. Behind each that moves
+ * packets the device may have something to do: ask usbdisk_io_next where it is at no call. What has
+ * to wait for the device is answered NAK: hand the rest in again behind each usbdisk_io_done, when
+ * the host has taken a status, or when it has sent something. What usbdisk_io_idle and
+ * usbdisk_io_look_ahead wish for is done once the device has nothing else to do; usbdisk_io_idle is
+ * for when it is at no call.
+ *
+ * usbdisk_io_begin starts a disk, as usbdisk_io_start, but that the device reads sector 0 alone
+ * here: all else is told by usbdisk_io_next, and usbdisk_io_state tells what came of it. Until it
+ * serves, packets are answered NAK. Answers 0; NO_MEMORY; READ_REFUSED; BAD_IDENTITY or
+ * BAD_PACKET_SIZE. */
+uint32_t usbdisk_io_begin(struct usbdisk_io **io, const struct usbdisk_io_device *device,
+                          const struct usbdisk_identity *identity, uint32_t packet);
+
+/* The next call of the device, which is under way from then on; or NULL, where one is under way
+ * already, or none is wanted. */
+const struct usbdisk_call *usbdisk_io_next(struct usbdisk_io *io);
+
+/* Whether what is under way is a read that no host has asked for yet. */
+bool usbdisk_io_reads_ahead(const struct usbdisk_io *io);
+
+/* Carries out the call that is under way by the device's functions. It may be made while other
+ * calls of the disk are. False: the device refused. */
+bool usbdisk_io_carry_out(const struct usbdisk_io *io);
+
+/* The call that is under way has ended, and whether the device carried it out. Behind a write or a
+ * flush that was refused the device is asked for nothing more. */
+void usbdisk_io_done(struct usbdisk_io *io, bool ok);
+
+/* As usbdisk_state. */
+uint32_t usbdisk_io_state(struct usbdisk_io *io, uint32_t *fault);
 
 /* Makes an image on the device, with so many log slots and blocks; 0 blocks: as many as there is
  * room for. usbdisk_io_format makes all blocks zeros; usbdisk_io_lay_log takes as blocks what the
