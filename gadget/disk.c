@@ -17,8 +17,7 @@ static uint64_t records_in(const struct disk *disk, uint64_t first, uint64_t cou
     return records;
 }
 
-/* The device, as the port layer calls it: in the thread of the disk, but for what is read before a
- * start. */
+/* The device, as the port layer calls it: in the thread of the disk, but for sector 0. */
 static bool read_for(void *context, uint64_t first, uint8_t *bytes, size_t count)
 {
     return read_sectors(context, bytes, first, count);
@@ -39,7 +38,7 @@ static bool take_call(void *of)
 {
     struct disk *disk = of;
     struct counters *counters = &disk->counters;
-    const struct usbdisk_drive_call *call = usbdisk_drive_io_next(disk->io);
+    const struct usbdisk_call *call = usbdisk_io_next(disk->io);
     if (!call)
         return false;
     disk->kind = call->kind;
@@ -61,12 +60,26 @@ static void carry_out_call(void *of)
 {
     struct disk *disk = of;
     errno = EIO;
-    disk->cause = usbdisk_drive_io_carry_out(disk->io) ? 0 : errno;
+    disk->cause = usbdisk_io_carry_out(disk->io) ? 0 : errno;
+}
+
+/* Why no disk starts, or 0. The lock is held. */
+static uint32_t fault_of(struct disk *disk)
+{
+    uint32_t fault = 0;
+    usbdisk_io_state(disk->io, &fault);
+    return fault;
+}
+
+static bool is_starting(struct disk *disk)
+{
+    uint32_t fault;
+    return usbdisk_io_state(disk->io, &fault) == USBDISK_STARTING;
 }
 
 /* The device refused the call. What was promised stays. Behind a write or a flush nothing that
  * follows it is asked for any more, and no answer goes out good that is not out yet. What is read
- * ahead and refused nobody has asked for. */
+ * ahead and refused nobody has asked for, and of what a start reads the start tells. */
 static void tell_refusal(struct disk *disk)
 {
     errno = disk->cause;
@@ -79,7 +92,7 @@ static void tell_refusal(struct disk *disk)
         device_thread_await(&disk->thread, A_CALL);
         return;
     }
-    if (usbdisk_drive_io_reads_ahead(disk->io))
+    if (usbdisk_io_reads_ahead(disk->io) || is_starting(disk))
         return;
     disk->counters.unread++;
     say_of_host("%s: %" PRIu64 " sectors from %" PRIu64 " on are not read: %s", disk->path,
@@ -91,7 +104,7 @@ static void end_call(void *of)
     struct disk *disk = of;
     if (disk->cause)
         tell_refusal(disk);
-    usbdisk_drive_io_done(disk->io, !disk->cause);
+    usbdisk_io_done(disk->io, !disk->cause);
 }
 
 static const struct device_work work = { take_call, carry_out_call, end_call };
@@ -145,13 +158,17 @@ static bool refuse_start(struct disk *disk, uint32_t fault)
     return refuse(disk, fault == USBDISK_NO_MEMORY ? STATUS_MEMORY : STATUS_REFUSED, cause);
 }
 
-/* Has a disk that was started carry out its recovery. False: said why. */
-static bool recover(struct disk *disk)
+/* Has the device carry out a start. False: said why. */
+static bool carry_out_start(struct disk *disk)
 {
     if (!device_thread_begin(&disk->thread, &work, disk))
         return refuse_call(disk, "no thread for the device");
     disk_rest(disk);
-    return !disk_has_faulted(disk);
+    lock(disk);
+    uint32_t fault = fault_of(disk);
+    unlock(disk);
+    errno = disk->cause;
+    return fault ? refuse_start(disk, fault) : !disk_has_faulted(disk);
 }
 
 bool disk_start(struct disk *disk, uint32_t packet)
@@ -160,11 +177,11 @@ bool disk_start(struct disk *disk, uint32_t packet)
     disk->device =
         (struct usbdisk_io_device){ disk, disk->sectors, read_for, write_for, flush_for };
     disk->has_faulted = disk->is_held = false;
-    uint32_t fault = usbdisk_drive_io_start(&disk->io, &disk->device, &disk->identity, packet);
+    uint32_t fault = usbdisk_io_begin(&disk->io, &disk->device, &disk->identity, packet);
     if (fault)
         return refuse_start(disk, fault);
     disk->packet = packet;
-    if (recover(disk))
+    if (carry_out_start(disk))
         return true;
     disk_stop(disk);
     return false;
@@ -204,7 +221,7 @@ bool disk_has_faulted(struct disk *disk)
 uint32_t disk_out(struct disk *disk, const uint8_t *bytes, size_t size, size_t *taken)
 {
     lock(disk);
-    uint32_t code = usbdisk_drive_io_out(disk->io, bytes, size, taken);
+    uint32_t code = usbdisk_io_out(disk->io, bytes, size, taken);
     disk->counters.waits += code == USBDISK_NAK && !(disk->is_held && !*taken);
     disk->counters.from_host += *taken;
     disk->is_held = code == USBDISK_NAK;
@@ -218,7 +235,7 @@ uint32_t disk_out(struct disk *disk, const uint8_t *bytes, size_t size, size_t *
 uint32_t disk_in(struct disk *disk, uint8_t *bytes, size_t size, size_t *got)
 {
     lock(disk);
-    uint32_t code = usbdisk_drive_io_in(disk->io, bytes, size, got);
+    uint32_t code = usbdisk_io_in(disk->io, bytes, size, got);
     disk->counters.to_host += *got;
     if (*got % disk->packet == STATUS)
         disk->counters.commands += !memcmp(bytes + *got - STATUS, "USBS", 4);
@@ -231,14 +248,14 @@ uint32_t disk_in(struct disk *disk, uint8_t *bytes, size_t size, size_t *got)
 void disk_look_ahead(struct disk *disk, uint64_t size)
 {
     lock(disk);
-    usbdisk_drive_io_look_ahead(disk->io, size);
+    usbdisk_io_look_ahead(disk->io, size);
     unlock(disk);
 }
 
 uint32_t disk_setup(struct disk *disk, const uint8_t setup[8], uint8_t data[2], uint32_t *size)
 {
     lock(disk);
-    uint32_t code = usbdisk_drive_io_setup(disk->io, setup, data, size);
+    uint32_t code = usbdisk_io_setup(disk->io, setup, data, size);
     unlock(disk);
     return code;
 }
@@ -246,7 +263,7 @@ uint32_t disk_setup(struct disk *disk, const uint8_t setup[8], uint8_t data[2], 
 void disk_clear_halt(struct disk *disk, uint8_t endpoint)
 {
     lock(disk);
-    usbdisk_drive_io_clear_halt(disk->io, endpoint);
+    usbdisk_io_clear_halt(disk->io, endpoint);
     unlock(disk);
 }
 
@@ -255,7 +272,7 @@ void disk_bus_reset(struct disk *disk)
     if (!disk->io)
         return;
     lock(disk);
-    usbdisk_drive_io_reset(disk->io);
+    usbdisk_io_reset(disk->io);
     disk->is_held = false;
     unlock(disk);
 }
@@ -263,7 +280,7 @@ void disk_bus_reset(struct disk *disk)
 bool disk_tick(struct disk *disk)
 {
     lock(disk);
-    bool is_left = disk->thread.is_busy || usbdisk_drive_io_idle(disk->io);
+    bool is_left = disk->thread.is_busy || usbdisk_io_idle(disk->io);
     device_thread_await(&disk->thread, is_left ? ALL_CALLS : 0);
     unlock(disk);
     return is_left;
@@ -276,7 +293,7 @@ bool disk_settle(struct disk *disk)
         disk_rest(disk);
     disk_rest(disk);
     lock(disk);
-    bool has_faulted = usbdisk_drive_io_has_faulted(disk->io);
+    bool has_faulted = usbdisk_io_has_faulted(disk->io);
     unlock(disk);
     if (has_faulted)
         return refuse(disk, STATUS_FILE,
@@ -301,7 +318,7 @@ void disk_count(struct disk *disk)
 void disk_stop(struct disk *disk)
 {
     device_thread_end(&disk->thread);
-    usbdisk_drive_io_stop(disk->io);
+    usbdisk_io_stop(disk->io);
     disk->io = NULL;
     disk->packet = 0;
 }

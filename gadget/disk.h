@@ -10,7 +10,7 @@
 #define DISK_H
 
 #include "device_thread.h"
-#include "usbdisk_drive_io.h"
+#include "usbdisk_io.h"
 
 /* How many loop devices may stand one over another. */
 enum { LOCKS_MOST = 4 };
@@ -38,7 +38,7 @@ struct counters {
 
 /* A disk. The fields are disk.c's own, but those with a comment may be read. */
 struct disk {
-    struct usbdisk_drive_io *io;
+    struct usbdisk_io *io;
     struct usbdisk_io_device device;
     struct device_thread thread;
     struct usbdisk_identity identity;

@@ -250,17 +250,22 @@ static bool read_layout(struct place *place, struct usbdisk_layout *layout)
     return !fault || refuse_image(place, fault);
 }
 
-/* Starts a disk on it in memory alone: nothing of what it would write is carried out. Answers as
- * usbdisk_start. */
-static uint32_t start(const struct place *place, const struct usbdisk_layout *layout, uint64_t room,
-                      const uint8_t *near)
+/* Starts a disk on it in memory alone: all that it reads is read, and nothing of what it would
+ * write is carried out. Answers why there is none, or 0. */
+static uint32_t start(struct place *place)
 {
-    static const struct usbdisk_device device;
+    static uint8_t buffer[USBDISK_IO_MOST * 512];
     struct usbdisk disk = USBDISK_NONE;
-    struct usbdisk_identity who;
-    memset(&who, ' ', sizeof who);
-    uint32_t fault = usbdisk_start(&disk, near, layout->near * 512, place->disk.sectors, &device,
-                                   &who, 512, 1, room);
+    struct usbdisk_options options = { .sectors = place->disk.sectors, .packet = 512 };
+    struct usbdisk_call call;
+    memset(&options.identity, ' ', sizeof options.identity);
+    uint32_t fault = usbdisk_start(&disk, &options);
+    while (!fault && !usbdisk_next(&disk, &call, buffer, sizeof buffer) &&
+           call.kind == USBDISK_READ) {
+        bool ok = read_sectors(&place->disk, buffer, call.sector, call.count);
+        usbdisk_done(&disk, ok, buffer, ok ? call.count * 512 : 0);
+        usbdisk_state(&disk, &fault);
+    }
     usbdisk_stop(&disk);
     return fault;
 }
@@ -270,20 +275,12 @@ static bool show(struct place *place)
     struct usbdisk_layout layout;
     if (!read_layout(place, &layout))
         return false;
-    uint64_t room = usbdisk_room(layout.format, layout.slots);
-    uint32_t span = layout.format == 1 ? 48 : 240;
-    uint8_t *near = malloc(layout.near * 512);
-    if (!near)
-        return refuse(&place->disk, STATUS_MEMORY, "no memory");
-    bool is_read = read_sectors(&place->disk, near, 0, layout.near);
-    uint32_t fault = is_read ? start(place, &layout, room, near) : 0;
-    free(near);
-    if (!is_read)
+    uint32_t fault = start(place);
+    if (fault == USBDISK_READ_REFUSED)
         return refuse_call(&place->disk, "its log is not read");
     printf("format %" PRIu32 "\nblocks %" PRIu64 "\nslots %" PRIu64 "\nhome %" PRIu64 "\n",
-           layout.format, layout.blocks, layout.slots, layout.near);
-    printf("memory %" PRIu64 "\n",
-           usbdisk_memory(layout.near * 512, layout.format, layout.slots, span, room));
+           layout.format, layout.blocks, layout.slots, layout.home);
+    printf("memory %" PRIu64 "\n", usbdisk_memory(layout.format, layout.slots));
     if (fault)
         return refuse_image(place, fault);
     puts("starts");
@@ -295,7 +292,7 @@ static bool migrate(struct place *place)
     struct usbdisk_layout layout;
     if (!read_layout(place, &layout))
         return false;
-    place_begin(place, layout.near);
+    place_begin(place, layout.home);
     uint32_t fault = usbdisk_io_migrate(&place->device);
     if (fault)
         return refuse_image(place, fault);
