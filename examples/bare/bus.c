@@ -10,7 +10,7 @@ static uint32_t read_size(void)
     return low | (uint32_t)uart_read() << 8;
 }
 
-/* A packet of more bytes than there is room for keeps the size that it has: the disk refuses it. */
+/* A packet of more bytes than there is room for keeps the size that it has, and is refused. */
 static void read_bytes(struct event *event, size_t size)
 {
     event->size = size;

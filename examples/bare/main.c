@@ -5,110 +5,98 @@
 #include "usbdisk.h"
 
 /* Format 2 with three slots, for hosts that send transfers of up to 240 blocks. */
-enum { FORMAT = 2, SLOTS = 3, LIMIT = 240, NEAR = 2 + 249 * SLOTS };
+enum { FORMAT = 2, SLOTS = 3, LIMIT = 240, HOME = 2 + 249 * SLOTS };
 
 static const struct usbdisk_identity who = { "EXAMPLE ", "BARE            ", "0001",
                                              "000000000001" };
-static const struct usbdisk_device name;
 static struct usbdisk disk = USBDISK_NONE;
-static uint8_t near[NEAR * SECTOR], run[LIMIT * SECTOR];
+static uint8_t buffer[LIMIT * SECTOR];
+
+static bool make_call(const struct usbdisk_call *call)
+{
+    switch (call->kind) {
+    case USBDISK_READ:
+        return block_read(call->sector, buffer, call->count);
+    case USBDISK_WRITE:
+        return block_write(call->sector, buffer, call->count);
+    default:
+        return block_flush();
+    }
+}
+
+/* Has the device carry out all that the disk, or the work on an image, wants of it. What it refuses
+ * the library knows then. Answers what state this leaves. */
+static uint32_t carry_out(struct usbdisk *handle, uint32_t *fault)
+{
+    struct usbdisk_call call;
+    while (!usbdisk_next(handle, &call, buffer, sizeof buffer) && call.kind != USBDISK_NOTHING) {
+        bool ok = make_call(&call);
+        size_t size = call.kind == USBDISK_READ && ok ? call.count * SECTOR : 0;
+        usbdisk_done(handle, ok, buffer, size);
+    }
+    return usbdisk_state(handle, fault);
+}
 
 /* Makes an image on a device that has none: super, head and log, around what lies behind them. */
 static void lay_image(void)
 {
-    struct usbdisk_image image = USBDISK_IMAGE_NONE;
-    uint64_t sectors = block_sectors(), sector;
-    uint32_t kind;
-    if (sectors <= NEAR)
+    struct usbdisk image = USBDISK_NONE;
+    uint64_t sectors = block_sectors();
+    if (sectors <= HOME)
         give_up("a small device, of sectors", sectors);
-    uint32_t code =
-        usbdisk_lay_log(&image, near, SECTOR, sectors, &name, FORMAT, sectors - NEAR, SLOTS);
+    const struct usbdisk_plan plan = { sectors, FORMAT, SLOTS, sectors - HOME };
+    uint32_t fault, code = usbdisk_lay_log(&image, &plan);
     if (code)
         give_up("no image is made:", code);
-    while ((kind = usbdisk_next(&image, &sector, run)) != USBDISK_NOTHING)
-        if (!(kind == USBDISK_WRITE ? block_write(sector, run, 1) : block_flush()))
-            give_up("the device refuses an image at sector", sector);
-    usbdisk_end(&image);
-    tell("a new image, of blocks", sectors - NEAR);
+    if (carry_out(&image, &fault) != USBDISK_DONE)
+        give_up("no image is made:", fault);
+    usbdisk_stop(&image);
+    tell("a new image, of blocks", plan.blocks);
 }
 
 /* A new device has zeros in sector 0. One with anything else stays as it is. */
 static bool is_new(void)
 {
+    if (!block_read(0, buffer, 1))
+        give_up("not read: sector", 0);
     for (int i = 0; i < SECTOR; i++)
-        if (near[i])
+        if (buffer[i])
             return false;
-    return true;
-}
-
-static void read_near(uint64_t first, uint64_t count)
-{
-    while (count > 0) {
-        uint64_t part = count < LIMIT ? count : LIMIT;
-        if (!block_read(first, near + first * SECTOR, part))
-            give_up("not read: sector", first);
-        first += part;
-        count -= part;
-    }
-}
-
-/* What image the device has. */
-static struct usbdisk_layout look(void)
-{
-    struct usbdisk_layout layout;
-    read_near(0, 1);
-    if (is_new()) {
-        lay_image();
-        read_near(0, 1);
-    }
-    uint32_t code = usbdisk_look(near, &layout);
-    if (code)
-        give_up("no image:", code);
-    if (layout.near > NEAR)
-        give_up("an image of too many slots:", layout.slots);
-    return layout;
-}
-
-/* Carries out what the disk wrote, and only then the host may be told. False where the device
- * refused a call: the disk knows it then, and writes nothing more. */
-static bool carry_out(void)
-{
-    uint64_t sector;
-    size_t count;
-    uint32_t kind;
-    while ((kind = usbdisk_take_run(&disk, &sector, run, sizeof run, &count)) != USBDISK_NOTHING)
-        if (!(kind == USBDISK_WRITE ? block_write(sector, run, count) : block_flush())) {
-            usbdisk_refused(&disk);
-            return false;
-        }
     return true;
 }
 
 static void start(void)
 {
-    struct usbdisk_layout layout = look();
-    read_near(0, layout.near);
-    uint32_t code = usbdisk_start(&disk, near, layout.near * SECTOR, block_sectors(), &name, &who,
-                                  PACKET, LIMIT, usbdisk_room(layout.format, layout.slots));
+    const struct usbdisk_options options = { block_sectors(), who, PACKET };
+    if (is_new())
+        lay_image();
+    uint32_t fault, code = usbdisk_start(&disk, &options);
     if (code)
         give_up("no disk:", code);
-    if (!carry_out())
-        give_up("the device refuses the recovery", 0);
+    if (carry_out(&disk, &fault) != USBDISK_SERVING)
+        give_up("no disk:", fault);
     tell("started, memory", heap_taken());
 }
 
-/* A packet to Bulk-Out. The disk is shown the sectors that it needs. */
+/* A packet to Bulk-Out. One that waits for the device is taken once it has carried out what it
+ * waits for. */
 static uint32_t bulk_out(const struct event *event)
 {
-    uint64_t first;
-    uint32_t count, code;
-    while ((code = usbdisk_bulk_out(&disk, event->bytes, event->size, &first, &count)) ==
-           USBDISK_NEEDS) {
-        if (!block_read(first, run, count))
-            return usbdisk_bulk_out_unread(&disk, event->bytes, event->size);
-        if (usbdisk_show(&disk, first, run, (size_t)count * SECTOR))
-            return USBDISK_NAK;
-    }
+    size_t taken;
+    uint32_t fault, code = USBDISK_BAD_LENGTH;
+    if (event->size <= PACKET)
+        code = usbdisk_out(&disk, event->bytes, event->size, &taken);
+    if (code != USBDISK_NAK)
+        return code;
+    carry_out(&disk, &fault);
+    return usbdisk_out(&disk, event->bytes, event->size, &taken);
+}
+
+static uint32_t bulk_in(uint8_t packet[PACKET], uint32_t *size)
+{
+    size_t given = 0;
+    uint32_t code = usbdisk_in(&disk, packet, PACKET, &given);
+    *size = (uint32_t)given;
     return code;
 }
 
@@ -135,13 +123,13 @@ static uint32_t play(const struct event *event, uint8_t packet[PACKET], uint32_t
     case BULK_OUT:
         return bulk_out(event);
     case BULK_IN:
-        return usbdisk_bulk_in(&disk, packet, size);
+        return bulk_in(packet, size);
     case SETUP:
         return usbdisk_setup(&disk, event->bytes, packet, size);
     case BUS_RESET:
         return reset();
     default:
-        return usbdisk_tick(&disk);
+        return usbdisk_idle(&disk);
     }
 }
 
@@ -149,7 +137,7 @@ int main(void)
 {
     static struct event event;
     static uint8_t packet[PACKET];
-    uint32_t code, size;
+    uint32_t code, size, fault;
     uart_start();
     if (usbdisk_version() != USBDISK_VERSION)
         give_up("a library of version", usbdisk_version());
@@ -158,7 +146,7 @@ int main(void)
     for (;;) {
         next_event(&event);
         code = play(&event, packet, &size);
-        carry_out();
+        carry_out(&disk, &fault);
         tell_host(code, packet, size);
     }
 }

@@ -3,7 +3,7 @@
 import dataclasses
 import struct
 
-from lib.bare.machine import ACK, TOO_LONG, PowerLoss, Wrong
+from lib.bare.machine import ACK, BAD_LENGTH, PowerLoss, Wrong
 
 BLOCKS, MOST, BLOCK = 64, 6, 512
 WRAPPER = struct.Struct("<4sIIBBB")
@@ -80,7 +80,7 @@ class Host:
         """What a host asks first. The first command behind a start is told that the power was off."""
         if self.machine.setup(MAX_LUN) != (ACK, b"\0"):
             raise Wrong("GET MAX LUN is not 0")
-        if self.machine.bulk_out(bytes(BLOCK + 1)) != TOO_LONG:
+        if self.machine.bulk_out(bytes(BLOCK + 1)) != BAD_LENGTH:
             raise Wrong("a packet of too many bytes is taken")
         if self.play(command(TEST_UNIT_READY, 0, 0, 0)[:6])[0] != 1:
             raise Wrong("no unit attention behind a start")

@@ -12,7 +12,7 @@ EMULATOR = "qemu-system-aarch64"
 BOARD = "-M virt -cpu cortex-a53 -m 64 -nodefaults -display none -serial stdio -global virtio-mmio.force-legacy=false".split()
 # The most seconds that any answer may take, also on a busy processor.
 LIMIT = 120
-ACK, TOO_LONG = 0, 18
+ACK, BAD_LENGTH = 0, 21
 
 
 class PowerLoss(Exception):
