@@ -1,13 +1,14 @@
-/* Judges the calls usbdisk_drive_*: lives of a disk whose device carries out one call at a time,
- * and takes as long as it likes, while a host goes on with WRITEs, READs, SYNCHRONIZE CACHEs, MODE
- * SELECTs, class resets and wrong packets. Between any two calls the power may go, and of the
- * writes since the last flush, those of a run under way among them, any may be missing. A disk that
- * starts on what is left must find the blocks after the first k of the accepted writes, in order,
- * none in part: all that were promised by a status that the host was given. No answer may wait that
- * promises nothing, and none where the device rests.
+/* Judges a disk by the calls of the library: lives over a device that carries out one call at a
+ * time, and takes as long as it likes, while a host goes on with WRITEs, READs, SYNCHRONIZE CACHEs,
+ * MODE SELECTs, class resets and wrong packets, from the first READ of a start on. Between any two
+ * calls the power may go, and of the writes since the last flush, those of a run under way among
+ * them, any may be missing. A disk that starts on what is left must find the blocks after the first
+ * k of the accepted writes, in order, none in part: all that were promised by a status that the
+ * host was given. No answer may wait that promises nothing, and none where the device rests.
  *
  * behind [LIVES [FIRST SEED]] */
 #include "behind.h"
+#include "gadget.h"
 #include "image.h"
 #include "number.h"
 #include <limits.h>
@@ -29,16 +30,20 @@ static struct {
 } book;
 
 static struct {
-    uint64_t cuts, starting, faulted; /* cuts, those of a start, and those behind a refusal */
-    uint64_t writes, behind, reads, refused, resets, waiting, wrong;
+    uint64_t cuts, opening, starting,
+        faulted; /* of them while a start reads, and while it writes */
+    uint64_t writes, behind, parts, reads, refused, ahead, failed, resets, waiting, wrong;
 } counts;
 
 static struct bench bench;
 
 static bool cut(unsigned kept, uint32_t found[BLOCKS])
 {
+    uint32_t fault;
+    bool is_starting = usbdisk_state(&bench.disk, &fault) == USBDISK_STARTING;
     counts.cuts++;
-    counts.starting += usbdisk_drive_state(&bench.drive) == USBDISK_STARTING;
+    counts.opening += is_starting && bench.host.is_opening;
+    counts.starting += is_starting && !bench.host.is_opening;
     counts.faulted += bench.is_faulted;
     return finds_what_it_may(&bench.device, kept, &history, found);
 }
@@ -191,12 +196,12 @@ static bool play_host(void)
     bool is_busy = bench.host.stage != AT_REST && bench.host.stage != RESET;
     if (bench.host.stage == AT_REST)
         begin();
-    if (is_busy && !random_below(often)) {
+    if (is_busy && !random_below(often))
         give_up();
-    }
     if (is_busy && !random_below(often)) {
         counts.wrong++;
         bench.rests = false;
+        bench.wish.kind = USBDISK_NOTHING;
         return host_errs(&bench.host);
     }
     switch (bench_host(&bench)) {
@@ -217,7 +222,7 @@ static bool play_host(void)
 
 static bool play_idle(void)
 {
-    uint32_t left = usbdisk_drive_idle(&bench.drive);
+    uint32_t left = usbdisk_idle(&bench.disk);
     bench.rests = false;
     book.is_settled = left == 0 && !bench.is_faulted;
     return left <= 1 || fails("idle answers an error");
@@ -232,12 +237,29 @@ static bool play_device(void)
     return true;
 }
 
-static bool judge_state(void)
+/* The bus rests: steps in the background, or sectors that the next READ may want. */
+static bool play_rest(void)
 {
-    uint32_t state = usbdisk_drive_state(&bench.drive);
-    if ((state == USBDISK_FAULTED) != bench.is_faulted)
-        return fails("the state of a disk is not told");
-    return !bench.rests || state != USBDISK_STARTING || fails("a start never ends");
+    bool is_ahead = random_below(2);
+    counts.ahead += is_ahead;
+    return is_ahead ? bench_ahead(&bench) : play_idle();
+}
+
+/* What happens next, and how often of 64 times it is the device's turn, and the background's. */
+static bool play_one(unsigned speed, unsigned idle)
+{
+    unsigned turn = random_below(64);
+    if (turn < speed)
+        return play_device();
+    return turn < speed + idle ? play_rest() : play_host();
+}
+
+/* How often it is the device's turn: in most starts often, as they are long. */
+static unsigned speed_now(unsigned speed, bool is_late)
+{
+    if (bench.host.is_opening && !is_late)
+        return 48;
+    return book.is_plain && history.accepted ? 1 : speed;
 }
 
 /* Steps of the host, the device and the background, until the power goes or something is wrong. */
@@ -245,22 +267,19 @@ static bool live(void)
 {
     static const unsigned speeds[] = { 1, 4, 16, 32, 56 };
     unsigned speed = speeds[random_below(5)], idle = book.is_plain ? 0 : random_below(3) * 2;
-    unsigned steps = random_below(STEPS);
-    bool goes_on = true;
+    unsigned steps = random_below(STEPS), rare = random_below(8) ? 128 : 32;
+    bool goes_on = true, is_late = !random_below(8);
     for (unsigned i = 0; goes_on && i < steps && history.accepted < WRITES; i++) {
-        bool is_slow = book.is_plain && history.accepted;
-        unsigned turn = random_below(64);
-        if (turn < (is_slow ? 1 : speed))
-            goes_on = play_device();
-        else if (turn < speed + idle)
-            goes_on = play_idle();
-        else
-            goes_on = play_host();
+        goes_on = play_one(speed_now(speed, is_late), idle);
         if (bench.is_faulted && !random_below(64))
             steps = i;
-        if (goes_on && !random_below(128))
-            goes_on = judge_state() && cut_here();
+        if (goes_on && (bench.has_failed || !random_below(rare)))
+            goes_on = bench_state(&bench) && cut_here();
+        if (bench.has_failed)
+            break;
     }
+    counts.parts += bench.host.parts;
+    counts.failed += bench.has_failed;
     return goes_on;
 }
 
@@ -309,11 +328,14 @@ static bool play_lives(uint32_t format, long lives)
         }
     }
     printf("format %u: %ld lives, each start finds what it may\n", format, lives);
-    printf("  %lu cuts, %lu of them while a start was under way, %lu behind a refusal\n",
-           counts.cuts, counts.starting, counts.faulted);
-    printf("  %lu writes accepted, %lu of them while a call was under way; %lu reads, %lu of "
-           "refused sectors\n",
-           counts.writes, counts.behind, counts.reads, counts.refused);
+    printf("  %lu cuts, %lu of them while a start read, %lu while it wrote, %lu behind a refusal; "
+           "%lu starts failed\n",
+           counts.cuts, counts.opening, counts.starting, counts.faulted, counts.failed);
+    printf("  %lu writes accepted, %lu of them while a call was under way, %lu transfers taken in "
+           "part\n",
+           counts.writes, counts.behind, counts.parts);
+    printf("  %lu reads, %lu of refused sectors, %lu wishes to read ahead\n", counts.reads,
+           counts.refused, counts.ahead);
     printf("  %lu class resets, %lu of them while a promise waited; %lu wrong packets\n",
            counts.resets, counts.waiting, counts.wrong);
     if (!counts.behind)
@@ -338,5 +360,7 @@ int main(int count, char **words)
     bool good = play_lives(1, (long)lives) && play_lives(2, (long)lives);
     device_close(&bench.device);
     finds_close();
-    return good ? EXIT_SUCCESS : EXIT_FAILURE;
+    if (heap_blocks)
+        printf("%zu blocks of memory are left\n", heap_blocks);
+    return good && !heap_blocks ? EXIT_SUCCESS : EXIT_FAILURE;
 }

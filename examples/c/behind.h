@@ -1,5 +1,5 @@
 /* What the parts of the judge behind.c share: a device with a cache that carries out one call at a
- * time, a host that sends one packet at a time, and a bench of both with a disk between. */
+ * time, a host that sends transfers in parts, and a bench of both with a disk between. */
 #ifndef BEHIND_H
 #define BEHIND_H
 
@@ -33,7 +33,7 @@ struct device {
     uint8_t *durable, *now;
     struct unflushed *unflushed;
     size_t count;
-    struct usbdisk_drive_call call; /* under way, or none */
+    struct usbdisk_call call; /* under way, or none */
     uint8_t buffer[LONGEST * 512];
 };
 
@@ -64,7 +64,7 @@ enum stage { AT_REST, WRAPPER, DATA_OUT, DATA_IN, STATUS, RESET };
 enum outcome { WRONG, GOES_ON, CARRIED_OUT, ENDED };
 
 struct host {
-    struct usbdisk_drive *drive;
+    struct usbdisk *disk;
     unsigned packet;
     enum stage stage;
     struct command command;
@@ -72,16 +72,17 @@ struct host {
     int requests;           /* made of a reset */
     uint8_t data[MOST * 512];
     uint8_t status;
-    bool promises;   /* the command is good only when all is durable */
-    bool waits;      /* a promise was asked for, and the disk may wait for its device */
-    bool is_refused; /* the last packet was, or the last token */
-    unsigned commands;
+    bool promises;            /* the command is good only when all is durable */
+    bool waits;               /* a promise was asked for, and the disk may wait for its device */
+    bool is_refused;          /* the last packet was, or the last token */
+    bool is_opening;          /* the first sectors are still read: requests may be refused */
+    unsigned commands, parts; /* how many there were, and transfers that were taken in part */
 };
 
 /* Begins a command, where none is in progress. `promises`: it is good only when all is durable. */
 void host_begin(struct host *host, const struct command *command, bool promises);
 
-/* Sends the next packet or token. ENDED: the status came, and the data before it lies in `data`. */
+/* Sends the next bytes or token. ENDED: the status came, and the data before it lies in `data`. */
 enum outcome host_step(struct host *host);
 
 /* Gives the command up, and makes a class reset and clears both halts, by the next three steps. */
@@ -93,29 +94,40 @@ bool host_errs(struct host *host);
 /* ---- the bench */
 
 struct bench {
-    struct usbdisk_drive drive;
+    struct usbdisk disk;
     struct device device;
     struct host host;
     bool rests;      /* nothing is under way, and the disk has nothing for the device */
-    bool is_faulted; /* the device refused a call */
+    bool is_faulted; /* the device refused a WRITE or a FLUSH */
+    bool has_failed; /* it refused a READ of the first sectors */
+    uint64_t opened; /* how many of these were read */
+    uint64_t behind; /* the sector behind the last one that it was to read */
     bool is_unread;  /* it could not read this sector, */
     uint64_t unread;
-    unsigned unread_in; /* while this command was in progress */
-    unsigned goes_on;   /* one call in so many is refused, or none is */
+    unsigned unread_in;       /* while this command was in progress */
+    struct usbdisk_call wish; /* to be read ahead, as no packet came since; or none */
+    bool reads_ahead;         /* the call under way is such a READ */
+    unsigned goes_on;         /* one call in so many is refused, or none is */
 };
 
-/* Starts a disk on what the device holds. */
+/* Starts a disk on what the device holds: it is to read that first. */
 bool bench_start(struct bench *bench, unsigned packet);
 void bench_stop(struct bench *bench);
 
 /* The device takes the next call, or ends the one that it is at. */
 bool bench_device(struct bench *bench);
 
-/* The host's next packet or token. It may have to wait, but never where the device rests. */
+/* Some sectors are wished for ahead. False: something is wrong. */
+bool bench_ahead(struct bench *bench);
+
+/* The host's next bytes or token. They may have to wait, but never where the device rests. */
 enum outcome bench_host(struct bench *bench);
 
 /* A command, with a device that is as fast as the host. */
 bool bench_run(struct bench *bench, const struct command *command);
+
+/* Whether the disk tells what it is at. */
+bool bench_state(struct bench *bench);
 
 /* ---- what a start finds */
 

@@ -49,7 +49,7 @@ static void keep(struct device *device, uint64_t sector, const uint8_t *bytes)
 
 bool device_begin(struct device *device)
 {
-    const struct usbdisk_drive_call *call = &device->call;
+    const struct usbdisk_call *call = &device->call;
     if (call->kind == USBDISK_FLUSH)
         return true;
     if (!call->count || call->count > LONGEST || call->sector > SECTORS ||
@@ -66,7 +66,7 @@ bool device_begin(struct device *device)
 
 void device_end(struct device *device, bool is_good)
 {
-    struct usbdisk_drive_call call = device->call;
+    struct usbdisk_call call = device->call;
     device->call.kind = USBDISK_NOTHING;
     uint8_t *place = device->now + 512 * call.sector;
     if (!is_good)

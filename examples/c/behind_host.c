@@ -9,11 +9,12 @@ static const uint8_t requests[3][8] = {
     { 0x02, 1, 0, 0, 0x02, 0 }, /* clear the halt of bulk-out */
 };
 
+/* While the first sectors are read a request may be refused. */
 static bool request(struct host *host, const uint8_t setup[8])
 {
     uint8_t data[2];
-    uint32_t size;
-    return usbdisk_drive_setup(host->drive, setup, data, &size) == USBDISK_ACK ||
+    uint32_t size, code = usbdisk_setup(host->disk, setup, data, &size);
+    return code == USBDISK_ACK || (code == USBDISK_STALL && host->is_opening) ||
            fails("a request is refused");
 }
 
@@ -79,19 +80,21 @@ static void spell_wrapper(const struct host *host, uint8_t packet[31])
     packet[14] = (uint8_t)spell_block(&host->command, packet + 15);
 }
 
-/* A part of a WRITE's data, or the parameter list of a MODE SELECT. */
-static unsigned spell_data(const struct host *host, uint8_t *packet)
+/* A part of a WRITE's data, of a few packets or of all, or the parameter list of a MODE SELECT. */
+static unsigned spell_data(const struct host *host, uint8_t *bytes)
 {
-    unsigned left = host->length - host->moved, size = left < host->packet ? left : host->packet;
-    memset(packet, 0, size);
+    unsigned left = host->length - host->moved;
+    unsigned part = host->packet * (1 + random_below(random_below(2) ? 3 : MOST * 8));
+    unsigned size = left < part ? left : part;
+    memset(bytes, 0, size);
     if (host->command.code == 0x15) {
-        packet[4] = 0x08;
-        packet[5] = 0x12;
-        packet[6] = host->command.cache ? 4 : 0;
+        bytes[4] = 0x08;
+        bytes[5] = 0x12;
+        bytes[6] = host->command.cache ? 4 : 0;
         return size;
     }
     for (unsigned i = 0; i < size; i += 4)
-        memcpy(packet + i, &host->command.number, 4);
+        memcpy(bytes + i, &host->command.number, 4);
     return size;
 }
 
@@ -110,65 +113,120 @@ static enum outcome take_on(struct host *host, unsigned size)
     return CARRIED_OUT;
 }
 
-static enum outcome send(struct host *host)
+/* How many of the bytes were taken: all, or so many packets. */
+static enum outcome judge_taken(struct host *host, uint32_t code, unsigned size, size_t taken)
 {
-    uint8_t packet[512];
-    unsigned size = 31;
-    if (host->stage == WRAPPER)
-        spell_wrapper(host, packet);
-    else
-        size = spell_data(host, packet);
-    uint32_t code = usbdisk_drive_out(host->drive, packet, size);
-    host->is_refused = code == USBDISK_NAK;
-    if (code == USBDISK_ACK)
-        return take_on(host, size);
-    if (code != USBDISK_NAK)
-        fails("a good packet is not taken");
-    return code == USBDISK_NAK ? GOES_ON : WRONG;
+    bool is_whole = code == USBDISK_ACK && taken == size;
+    bool is_part = code == USBDISK_NAK && taken < size && taken % host->packet == 0;
+    host->is_refused = is_part;
+    host->parts += is_part && taken > 0;
+    if (is_whole || (is_part && taken > 0))
+        return take_on(host, (unsigned)taken);
+    if (!is_part)
+        fails("a good transfer is not taken");
+    return is_part ? GOES_ON : WRONG;
 }
 
-/* A packet came: data, or the status. */
-static enum outcome receive(struct host *host, const uint8_t *packet, uint32_t size)
+/* At the end of its data a host may have sent the next wrapper already: that has to wait. */
+static enum outcome send(struct host *host)
 {
-    host->waits = false;
-    if (host->stage == DATA_IN && size != 13) {
-        if (size > host->length - host->moved) {
-            fails("more data come than were asked for");
-            return WRONG;
-        }
-        memcpy(host->data + host->moved, packet, size);
-        host->moved += size;
-        host->stage = host->moved < host->length ? DATA_IN : STATUS;
-        return GOES_ON;
-    }
-    if (size != 13 || memcmp(packet, "USBS", 4) || packet[4] != (uint8_t)host->commands) {
+    static uint8_t bytes[MOST * 512 + 31];
+    unsigned size = 31, more = 0;
+    size_t taken = SIZE_MAX;
+    if (host->stage == WRAPPER)
+        spell_wrapper(host, bytes);
+    else
+        size = spell_data(host, bytes);
+    if (host->stage == DATA_OUT && size % 512 == 0 && host->moved + size == host->length)
+        more = random_below(4) ? 0 : 31;
+    uint32_t code = usbdisk_out(host->disk, bytes, size + more, &taken);
+    bool is_early = more && code == USBDISK_NAK && taken == size;
+    host->parts += is_early;
+    code = is_early ? USBDISK_ACK : code;
+    return judge_taken(host, code, size, taken);
+}
+
+/* The status, behind all data or none. */
+static enum outcome hear_status(struct host *host, const uint8_t *status, size_t size)
+{
+    if (size != 13 || memcmp(status, "USBS", 4) || status[4] != (uint8_t)host->commands) {
         fails("a status is none of the command");
         return WRONG;
     }
-    host->status = packet[12];
+    host->status = status[12];
     host->stage = AT_REST;
     return ENDED;
 }
 
-static enum outcome ask(struct host *host)
+/* Packets came: data, the status, or both. */
+static enum outcome receive(struct host *host, const uint8_t *bytes, size_t size)
 {
-    uint8_t packet[512];
-    uint32_t size;
-    uint32_t code = usbdisk_drive_in(host->drive, packet, &size);
-    host->is_refused = code == USBDISK_NAK;
-    if (code == USBDISK_ACK)
-        return receive(host, packet, size);
+    size_t left = host->length - host->moved, of_data = size < left ? size : left;
+    bool is_status = host->stage == STATUS || (size == 13 && !memcmp(bytes, "USBS", 4));
+    host->waits = false;
+    if (is_status)
+        return hear_status(host, bytes, size);
+    memcpy(host->data + host->moved, bytes, of_data);
+    host->moved += (unsigned)of_data;
+    host->stage = host->moved < host->length ? DATA_IN : STATUS;
+    return size > of_data ? hear_status(host, bytes + of_data, size - of_data) : GOES_ON;
+}
+
+/* The room is one packet for a status, and else some, or as many as the data wants, or one more. */
+static size_t room_of(const struct host *host)
+{
+    size_t left = host->stage == DATA_IN ? host->length - host->moved : 0;
+    size_t packets = (left + host->packet - 1) / host->packet;
+    switch (random_below(4)) {
+    case 0:
+        return host->packet * (packets + 1);
+    case 1:
+        return host->packet * (1 + (size_t)random_below((unsigned)packets + 1));
+    default:
+        return host->packet * (packets + !packets);
+    }
+}
+
+static bool keeps_the_rest(const uint8_t *room, size_t given, size_t size)
+{
+    for (size_t i = given; i < size && i < given + 64; i++)
+        if (room[i] != 0xC3)
+            return fails("a byte behind the packets has changed");
+    return true;
+}
+
+/* A token was answered NAK or STALL. */
+static enum outcome wait_or_halt(struct host *host, uint32_t code)
+{
     if (code == USBDISK_NAK && !host->waits)
         fails("an answer waits that promises nothing");
     else if (code == USBDISK_NAK)
         return GOES_ON;
-    else if (host->stage != DATA_IN)
+    else if (host->stage != DATA_IN || code != USBDISK_STALL)
         fails("a status is halted");
     else if (request(host, requests[1])) {
         host->stage = STATUS;
         return GOES_ON;
     }
     return WRONG;
+}
+
+static enum outcome ask(struct host *host)
+{
+    static uint8_t room[(MOST + 2) * 512];
+    size_t size = room_of(host), given = 7;
+    memset(room, 0xC3, sizeof room);
+    if (!random_below(16) &&
+        (usbdisk_in(host->disk, room, host->packet - 1, &given) != USBDISK_BAD_LENGTH ||
+         given != 7)) {
+        fails("room for a part of a packet is taken for enough");
+        return WRONG;
+    }
+    uint32_t code = usbdisk_in(host->disk, room, size, &given);
+    host->is_refused = code == USBDISK_NAK;
+    if (!keeps_the_rest(room, code == USBDISK_ACK ? given : 0, size))
+        return WRONG;
+    return code == USBDISK_ACK ? receive(host, room, given) : wait_or_halt(host, code);
 }
 
 enum outcome host_step(struct host *host)
@@ -196,9 +254,9 @@ enum outcome host_step(struct host *host)
 static bool are_halted(struct host *host)
 {
     uint8_t packet[512] = { 0 };
-    uint32_t size;
-    uint32_t in = usbdisk_drive_in(host->drive, packet, &size);
-    uint32_t out = usbdisk_drive_out(host->drive, packet, 31);
+    size_t moved;
+    uint32_t in = usbdisk_in(host->disk, packet, sizeof packet, &moved);
+    uint32_t out = usbdisk_out(host->disk, packet, 31, &moved);
     bool in_waits = in == USBDISK_NAK && host->waits;
     if ((in != USBDISK_STALL && !in_waits) || (out != USBDISK_STALL && out != USBDISK_NAK))
         return fails("an endpoint is not halted behind a wrong packet");
@@ -207,13 +265,12 @@ static bool are_halted(struct host *host)
 
 bool host_errs(struct host *host)
 {
-    uint8_t packet[513] = { 'U', 'S', 'B', 'C' };
+    uint8_t packet[31] = { 'U', 'S', 'B', 'C' };
     bool is_expected = host->stage == WRAPPER;
-    if (usbdisk_drive_out(host->drive, packet, host->packet + 1) != USBDISK_TOO_LONG)
-        return fails("a packet of too many bytes is taken");
+    size_t taken;
     if (!is_expected && host->stage != DATA_OUT)
         return true;
-    uint32_t code = usbdisk_drive_out(host->drive, packet, 5);
+    uint32_t code = usbdisk_out(host->disk, packet, 5, &taken);
     if (code == USBDISK_NAK)
         return true;
     if (code != USBDISK_ACK)

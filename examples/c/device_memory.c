@@ -1,6 +1,6 @@
-/* A device in memory, as an example of one under test. Of the writes since the last flush a cut keeps
- * any, in their order. With -DBROKEN=1 its flush does nothing; with 2 a cut can tear a sector in half;
- * with 3 a write that a cut keeps wipes the sector behind it. */
+/* A device in memory, as an example of one under test. Of the writes since the last flush a cut
+ * keeps any, in their order. With -DBROKEN=1 its flush does nothing; with 2 a cut can tear a sector
+ * in half; with 3 a write that a cut keeps wipes the sector behind it. */
 #include "device.h"
 #include <stdlib.h>
 #include <string.h>

@@ -1,24 +1,20 @@
-/* A maker's loop whose device works while packets come, by the calls usbdisk_drive_*; and beside it
- * the loop by which each packet waits for the device. Prints what plain WRITEs of 120 KiB reach on
- * a link of 35 MB/s by each: drive [WRITES]. What device and link take is a model (drive_device.c).
- */
+/* A maker's loop whose device works while packets come; and beside it the loop by which each packet
+ * waits for the device. Prints what plain WRITEs of 120 KiB reach on a link of 35 MB/s by each:
+ * drive [WRITES]. What device and link take is a model (drive_device.c). */
 #include "drive.h"
 #include "image.h"
 #include <stdio.h>
 #include <stdlib.h>
 #include <string.h>
 
-enum { SLOTS = 6, BLOCKS = 60000, SECTORS = 2 + 249 * SLOTS + BLOCKS, NEAR = 2 + 249 * SLOTS };
-enum { WARM = 60 };
-
-/* ---- device and bus at once */
+enum { SLOTS = 6, BLOCKS = 60000, SECTORS = 2 + 249 * SLOTS + BLOCKS, WARM = 60 };
 
 struct maker {
-    struct usbdisk_drive drive;
+    struct usbdisk disk;
     struct device device;
     struct host host;
-    struct usbdisk_drive_call call; /* under way, or none */
-    uint8_t buffer[240 * 512];      /* of that call */
+    struct usbdisk_call call;  /* under way, or none */
+    uint8_t buffer[240 * 512]; /* of that call */
 };
 
 /* The device has ended its call, or is at none: it takes the next one, where there is one. This
@@ -29,8 +25,8 @@ static void serve_device(struct maker *it)
     if (it->call.kind != USBDISK_NOTHING && !device_has_ended(&it->device))
         return;
     if (it->call.kind != USBDISK_NOTHING)
-        usbdisk_drive_done(&it->drive, true, it->buffer, given);
-    usbdisk_drive_next(&it->drive, &it->call, it->buffer, sizeof it->buffer);
+        usbdisk_done(&it->disk, true, it->buffer, given);
+    usbdisk_next(&it->disk, &it->call, it->buffer, sizeof it->buffer);
     if (it->call.kind != USBDISK_NOTHING)
         device_begin(&it->device, &it->call, it->buffer);
 }
@@ -38,13 +34,14 @@ static void serve_device(struct maker *it)
 /* The bus has a packet, or asks for one. */
 static void serve_bus(struct maker *it)
 {
-    uint8_t packet[512];
+    uint8_t packet[PACKET];
     uint32_t size = host_packet(&it->host, packet), code;
+    size_t moved = 0;
     if (size)
-        code = usbdisk_drive_out(&it->drive, packet, size);
+        code = usbdisk_out(&it->disk, packet, size, &moved);
     else
-        code = usbdisk_drive_in(&it->drive, packet, &size);
-    host_hears(&it->host, code, packet, size);
+        code = usbdisk_in(&it->disk, packet, sizeof packet, &moved);
+    host_hears(&it->host, code, packet, size ? size : (uint32_t)moved);
 }
 
 static void serve(struct maker *it)
@@ -56,90 +53,54 @@ static void serve(struct maker *it)
             continue;
         }
         if (it->call.kind == USBDISK_NOTHING && host_rests(&it->host)) {
-            usbdisk_drive_idle(&it->drive);
+            usbdisk_idle(&it->disk);
             serve_device(it);
         }
         wait_for_either(&it->device, &it->host);
     }
 }
 
-/* ---- a packet waits for the device */
-
-static void persist(struct usbdisk *disk, struct device *device)
+/* The device carries out all that is wanted, and nothing else happens meanwhile. */
+static void finish(struct maker *it)
 {
-    static uint8_t buffer[240 * 512];
-    struct usbdisk_drive_call call;
-    size_t count = 0;
-    while ((call.kind = usbdisk_take_run(disk, &call.sector, buffer, sizeof buffer, &count)) !=
-           USBDISK_NOTHING) {
-        call.count = call.kind == USBDISK_WRITE ? (uint32_t)count : 0;
-        device_begin(device, &call, buffer);
-        device_wait(device);
+    serve_device(it);
+    while (it->call.kind != USBDISK_NOTHING) {
+        device_wait(&it->device);
+        serve_device(it);
     }
 }
 
-static void serve_by_turns(struct usbdisk *disk, struct device *device, struct host *host)
+static void serve_by_turns(struct maker *it)
 {
-    uint8_t packet[512];
-    uint64_t first;
-    uint32_t count, code;
-    while (!host_is_done(host)) {
-        if (!host_is_ready(host))
-            wait_for_either(device, host);
-        uint32_t size = host_packet(host, packet);
-        if (size)
-            code = usbdisk_bulk_out(disk, packet, size, &first, &count);
-        else
-            code = usbdisk_bulk_in(disk, packet, &size);
-        persist(disk, device);
-        host_hears(host, code, packet, size);
+    while (!host_is_done(&it->host)) {
+        if (!host_is_ready(&it->host))
+            wait_for_either(&it->device, &it->host);
+        serve_bus(it);
+        finish(it);
     }
 }
 
-/* ---- both, on a disk that has filled its log before */
-
-static double measure(const struct costs *costs, uint8_t *bytes, uint32_t writes)
+/* By one of these loops, on a disk that has filled its log before. */
+static double measure(void serves(struct maker *it), const struct costs *costs, uint8_t *bytes,
+                      uint32_t writes)
 {
-    static const struct usbdisk_drive_options options = {
+    static const struct usbdisk_options options = {
         .sectors = SECTORS,
         .identity = { "EXAMPLE ", "DRIVE           ", "0001", "000000000001" },
         .packet = PACKET,
     };
     static struct maker maker;
-    maker = (struct maker){ .drive = USBDISK_DRIVE_NONE };
-    if (!device_open(&maker.device, costs, bytes) ||
-        usbdisk_drive_start(&maker.drive, &options, bytes, NEAR * 512))
+    maker = (struct maker){ .disk = USBDISK_NONE };
+    if (!device_open(&maker.device, costs, bytes) || usbdisk_start(&maker.disk, &options))
         return 0;
+    finish(&maker);
     host_open(&maker.host, WARM, BLOCKS);
-    serve(&maker);
+    serves(&maker);
     host_open(&maker.host, writes, BLOCKS);
-    serve(&maker);
+    serves(&maker);
     double speed = host_speed(&maker.host);
     device_close(&maker.device);
-    usbdisk_drive_stop(&maker.drive);
-    return speed;
-}
-
-static double measure_by_turns(const struct costs *costs, uint8_t *bytes, uint32_t writes)
-{
-    static const struct usbdisk_device name;
-    static const struct usbdisk_identity who = { "EXAMPLE ", "DRIVE           ", "0001",
-                                                 "000000000001" };
-    struct usbdisk disk = USBDISK_NONE;
-    struct device device;
-    struct host host;
-    if (!device_open(&device, costs, bytes) ||
-        usbdisk_start(&disk, bytes, NEAR * 512, SECTORS, &name, &who, PACKET, 240,
-                      usbdisk_room(2, SLOTS)))
-        return 0;
-    persist(&disk, &device);
-    host_open(&host, WARM, BLOCKS);
-    serve_by_turns(&disk, &device, &host);
-    host_open(&host, writes, BLOCKS);
-    serve_by_turns(&disk, &device, &host);
-    double speed = host_speed(&host);
-    device_close(&device);
-    usbdisk_stop(&disk);
+    usbdisk_stop(&maker.disk);
     return speed;
 }
 
@@ -154,8 +115,8 @@ int main(int count, char **words)
     for (size_t i = 0; i < sizeof models / sizeof *models; i++) {
         if (format_memory(bytes, (size_t)SECTORS * 512, 2, BLOCKS, SLOTS))
             return EXIT_FAILURE;
-        double turns = measure_by_turns(&models[i], bytes, writes);
-        double both = measure(&models[i], bytes, writes);
+        double turns = measure(serve_by_turns, &models[i], bytes, writes);
+        double both = measure(serve, &models[i], bytes, writes);
         printf(
             "%s: %.1f MB/s where each packet waits for the device, %.1f where it works meanwhile\n",
             models[i].name, turns, both);

@@ -22,7 +22,7 @@ struct device {
     uint8_t *bytes;
     uint64_t end; /* when the call under way has ended */
     /* the call under way, and where its bytes lie; under the lock */
-    struct usbdisk_drive_call call;
+    struct usbdisk_call call;
     uint8_t *buffer;
     bool is_over;
 };
@@ -31,7 +31,7 @@ bool device_open(struct device *device, const struct costs *costs, uint8_t *byte
 void device_close(struct device *device);
 
 /* Begins a call: its bytes are the device's until it has ended. */
-void device_begin(struct device *device, const struct usbdisk_drive_call *call, uint8_t *buffer);
+void device_begin(struct device *device, const struct usbdisk_call *call, uint8_t *buffer);
 
 /* Whether it has ended; this device refuses none. */
 bool device_has_ended(struct device *device);

@@ -9,7 +9,7 @@ static uint64_t now; /* nanoseconds; of the program's thread alone */
 
 /* ---- the device */
 
-static void carry_out(struct device *device, const struct usbdisk_drive_call *call, uint8_t *buffer)
+static void carry_out(struct device *device, const struct usbdisk_call *call, uint8_t *buffer)
 {
     uint8_t *place = device->bytes + 512 * call->sector;
     size_t size = 512 * (size_t)call->count;
@@ -28,7 +28,7 @@ static void *work(void *it)
             pthread_cond_wait(&device->changed, &device->lock);
         if (device->is_over)
             break;
-        struct usbdisk_drive_call call = device->call;
+        struct usbdisk_call call = device->call;
         uint8_t *buffer = device->buffer;
         pthread_mutex_unlock(&device->lock);
         carry_out(device, &call, buffer);
@@ -58,7 +58,7 @@ void device_close(struct device *device)
     pthread_mutex_destroy(&device->lock);
 }
 
-void device_begin(struct device *device, const struct usbdisk_drive_call *call, uint8_t *buffer)
+void device_begin(struct device *device, const struct usbdisk_call *call, uint8_t *buffer)
 {
     const struct costs *costs = device->costs;
     bool is_flush = call->kind == USBDISK_FLUSH;
@@ -119,10 +119,22 @@ bool host_rests(const struct host *host)
 /* The wrapper of a WRITE (10) of a transfer to this block. */
 static uint32_t put_wrapper(uint32_t address, uint8_t packet[PACKET])
 {
-    static const uint8_t front[15] = { 'U', 'S', 'B', 'C', 1, [8] = TRANSFER * 512 & 255,
-                                       TRANSFER * 512 >> 8 & 255, TRANSFER * 512 >> 16, [14] = 10 };
-    const uint8_t command[16] = { 0x2A, 0, (uint8_t)(address >> 24), (uint8_t)(address >> 16),
-                                  (uint8_t)(address >> 8), (uint8_t)address, [8] = TRANSFER };
+    static const uint8_t front[15] = { 'U',
+                                       'S',
+                                       'B',
+                                       'C',
+                                       1,
+                                       [8] = TRANSFER * 512 & 255,
+                                       TRANSFER * 512 >> 8 & 255,
+                                       TRANSFER * 512 >> 16,
+                                       [14] = 10 };
+    const uint8_t command[16] = { 0x2A,
+                                  0,
+                                  (uint8_t)(address >> 24),
+                                  (uint8_t)(address >> 16),
+                                  (uint8_t)(address >> 8),
+                                  (uint8_t)address,
+                                  [8] = TRANSFER };
     memcpy(packet, front, sizeof front);
     memcpy(packet + sizeof front, command, sizeof command);
     return sizeof front + sizeof command;

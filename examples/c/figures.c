@@ -1,50 +1,51 @@
-/* How much memory a start takes, by format and slots, against what usbdisk_memory tells; that a
- * start for want of any block of memory keeps none; how much stack a start and the events take. */
+/* How much memory a disk takes, by format and slots, against what usbdisk_memory tells, how much
+ * more while it starts, and that a store takes less; how much stack a start and the events take. */
 #include "gadget.h"
 #include "image.h"
 #include "stack.h"
-#include "usbdisk.h"
 #include <stdio.h>
 #include <stdlib.h>
 #include <string.h>
 
-enum { BLOCKS = 500, SPAN = 48 };
+enum { BLOCKS = 500 };
 
-static const struct usbdisk_identity who = { "EXAMPLE ", "MEMORY          ", "0001",
-                                             "000000000001" };
-static const struct usbdisk_device name;
 static uint8_t *medium;
-static size_t sectors;
+static struct usbdisk_options options = {
+    .identity = { "EXAMPLE ", "MEMORY          ", "0001", "000000000001" },
+    .packet = 512,
+};
+
+static uint64_t home_of(uint32_t format, uint64_t slots)
+{
+    return 2 + (format == 1 ? 50 : 249) * slots;
+}
 
 /* An image in memory stands for the device. */
-static bool make_device(uint32_t format, uint64_t slots)
+static void make_device(uint32_t format, uint64_t slots)
 {
-    sectors = 2 + (format == 1 ? 50 : 249) * slots + BLOCKS;
-    medium = malloc(512 * sectors);
-    return medium && !format_memory(medium, 512 * sectors, format, BLOCKS, slots);
+    options.sectors = home_of(format, slots) + BLOCKS;
+    medium = malloc(512 * options.sectors);
+    if (!medium || format_memory(medium, 512 * options.sectors, format, BLOCKS, slots))
+        exit(EXIT_FAILURE);
 }
 
-static size_t near_size(void)
+static bool serves(struct usbdisk *handle)
 {
-    return 512 * usbdisk_near(medium);
+    uint32_t fault;
+    carry_all(handle, medium);
+    return usbdisk_state(handle, &fault) == USBDISK_SERVING;
 }
 
-static uint32_t start(struct usbdisk *disk, size_t room)
-{
-    return usbdisk_start(disk, medium, near_size(), sectors, &name, &who, 512, SPAN, room);
-}
-
-/* The memory that a start takes, while it runs and behind it, is what usbdisk_memory tells, to the
- * byte. */
+/* The memory that a disk takes is what usbdisk_memory tells, to the byte, and while it starts the
+ * first sectors once more. */
 static bool is_memory_told(uint32_t format, uint64_t slots, bool tells)
 {
     struct usbdisk disk = USBDISK_NONE;
-    uint64_t room = usbdisk_room(format, slots);
-    if (!make_device(format, slots))
-        exit(EXIT_FAILURE);
-    uint64_t told = usbdisk_memory(near_size(), format, slots, SPAN, room);
+    uint64_t told = usbdisk_memory(format, slots), first = 512 * home_of(format, slots);
+    make_device(format, slots);
     heap_most = heap_now;
-    bool good = !start(&disk, room) && told == heap_now && told == heap_most;
+    bool good = !usbdisk_start(&disk, &options) && serves(&disk) && told == heap_now &&
+                heap_most <= told + first;
     if (!good || tells)
         printf("format %u, %llu slots: %zu bytes, at most %zu, told %llu\n", format,
                (unsigned long long)slots, heap_now, heap_most, (unsigned long long)told);
@@ -53,73 +54,18 @@ static bool is_memory_told(uint32_t format, uint64_t slots, bool tells)
     return good && heap_blocks == 0;
 }
 
-static uint32_t start_drive(struct usbdisk_drive *drive)
+static bool is_store_less(uint32_t format, uint64_t slots, bool tells)
 {
-    struct usbdisk_drive_options options = { .sectors = sectors, .identity = who, .packet = 512 };
-    return usbdisk_drive_start(drive, &options, medium, near_size());
-}
-
-/* So is that of a drive: 64 bytes more than usbdisk_memory tells for the span of its format and 256
- * calls more than usbdisk_room. */
-static bool is_drive_told(uint32_t format, uint64_t slots)
-{
-    struct usbdisk_drive drive = USBDISK_DRIVE_NONE;
-    uint32_t span = format == 1 ? 48 : 240;
-    if (!make_device(format, slots))
-        exit(EXIT_FAILURE);
-    uint64_t room = usbdisk_room(format, slots) + 256;
-    uint64_t told = usbdisk_memory(near_size(), format, slots, span, room) + 64;
-    heap_most = heap_now;
-    bool good = !start_drive(&drive) && told == heap_now && told == heap_most;
-    if (!good)
-        printf("drive of format %u, %llu slots: %zu bytes, at most %zu, told %llu\n", format,
-               (unsigned long long)slots, heap_now, heap_most, (unsigned long long)told);
-    usbdisk_drive_stop(&drive);
+    struct usbdisk store = USBDISK_NONE;
+    uint64_t told = usbdisk_memory(format, slots);
+    make_device(format, slots);
+    bool good = !usbdisk_store_start(&store, &options) && serves(&store) && heap_now < told;
+    if (!good || tells)
+        printf("store of format %u, %llu slots: %zu bytes less\n", format,
+               (unsigned long long)slots, (size_t)told - heap_now);
+    usbdisk_stop(&store);
     free(medium);
     return good && heap_blocks == 0;
-}
-
-/* Where any block of memory of a drive is refused its start says so, and keeps none. */
-static bool is_drive_clean(void)
-{
-    bool good = true;
-    int taken = 0;
-    if (!make_device(1, 2))
-        exit(EXIT_FAILURE);
-    for (uint32_t code = USBDISK_NO_MEMORY; code; taken++) {
-        struct usbdisk_drive drive = USBDISK_DRIVE_NONE;
-        heap_fails = taken + 1;
-        code = start_drive(&drive);
-        heap_fails = 0;
-        if (code)
-            good &= code == USBDISK_NO_MEMORY && heap_blocks == 0;
-        else
-            usbdisk_drive_stop(&drive);
-    }
-    free(medium);
-    return good;
-}
-
-/* Where any of its blocks of memory is refused a start says so, and keeps none. */
-static bool is_refusal_clean(void)
-{
-    bool good = true;
-    int taken = 0;
-    if (!make_device(1, 2))
-        exit(EXIT_FAILURE);
-    for (uint32_t code = USBDISK_NO_MEMORY; code; taken++) {
-        struct usbdisk disk = USBDISK_NONE;
-        heap_fails = taken + 1;
-        code = start(&disk, usbdisk_room(1, 2));
-        heap_fails = 0;
-        if (code)
-            good &= code == USBDISK_NO_MEMORY && heap_blocks == 0;
-        else
-            usbdisk_stop(&disk);
-    }
-    printf("a start takes %d blocks of memory, and keeps none where one is refused\n", taken - 1);
-    free(medium);
-    return good;
 }
 
 int main(int count, char **words)
@@ -129,11 +75,10 @@ int main(int count, char **words)
     for (uint32_t format = 1; format <= 2; format++)
         for (uint64_t slots = 1; slots <= 64; slots++)
             good &= is_memory_told(format, slots, !quiet && slots % 21 == 1) &&
-                    is_drive_told(format, slots);
+                    is_store_less(format, slots, !quiet && slots == 1);
     good &= measure_stacks(&most);
     if (!quiet)
         printf("stack: %zu bytes in a start, %zu in an event\n", most.start, most.event);
-    good &= is_refusal_clean() && is_drive_clean();
     printf("%s\n", good ? "memory as told" : "a figure is wrong");
     return !good;
 }

@@ -1,16 +1,25 @@
-/* An image of zeros is made on a device that holds another, and bytes behind it, with a cut at each call: a start finds
- * what was there, no image, or the new one, whole. */
+/* An image of zeros is made on a device that holds another, and bytes behind it, with a cut at each
+ * call: a start finds what was there, no image, or the new one, whole. So it is where a log alone
+ * is laid. Runs of any length come to the same, and the memory is the same for any number of
+ * blocks. */
 #include "gadget.h"
 #include "usbdisk.h"
-#include <stdbool.h>
 #include <stdio.h>
 #include <stdlib.h>
 #include <string.h>
 
 enum { BLOCKS = 150, SLOTS = 2, SECTORS = 2 + 249 * SLOTS + BLOCKS + 9, BEHIND = 0xAA };
 
-static const struct usbdisk_device name;
-static uint8_t device[SECTORS][512], kept[SECTORS][512], durable[SECTORS][512];
+/* What a work is made by: usbdisk_format or usbdisk_lay_log. */
+typedef uint32_t making(struct usbdisk *image, const struct usbdisk_plan *plan);
+
+static uint8_t device[SECTORS][512], kept[SECTORS][512], durable[SECTORS][512], now[SECTORS][512];
+static uint64_t blocks = BLOCKS;
+
+static uint64_t home_of(uint32_t format)
+{
+    return 2 + (uint64_t)(format == 1 ? 50 : 249) * SLOTS;
+}
 
 static bool are_zeros(uint64_t first, uint64_t end)
 {
@@ -27,82 +36,131 @@ static bool are_spared(uint64_t first)
     return !memcmp(device[first], kept[first], 512 * (SECTORS - first));
 }
 
-/* Makes an image of this format, up to a cut behind `most` calls. How many there were. */
-static int make(uint32_t format, int most)
+static void carry_out(const struct usbdisk_call *call, const uint8_t *bytes)
 {
-    struct usbdisk_image image = USBDISK_IMAGE_NONE;
-    uint64_t sector;
-    uint8_t bytes[512];
-    int calls = 0;
-    if (usbdisk_format(&image, device[0], 512, SECTORS, &name, format, BLOCKS, SLOTS))
-        exit(EXIT_FAILURE);
-    memcpy(durable, device, sizeof device);
-    for (uint32_t kind; calls != most && (kind = usbdisk_next(&image, &sector, bytes)) != USBDISK_NOTHING; calls++)
-        if (kind == USBDISK_WRITE)
-            memcpy(device[sector], bytes, 512);
-        else
-            memcpy(durable, device, sizeof device);
-    usbdisk_end(&image);
-    return calls;
+    if (call->kind == USBDISK_WRITE)
+        memcpy(device[call->sector], bytes, 512 * call->count);
+    else if (call->kind == USBDISK_FLUSH)
+        memcpy(durable, device, sizeof device);
 }
 
-/* The new image is there, whole. */
-static bool is_new(uint32_t format)
+/* Makes an image of this format, up to a cut behind `most` writes and flushes, in runs of at most
+ * `room` sectors. How many there were; -1 where it is not done. */
+static int make(making *making, uint32_t format, int most, size_t room)
+{
+    static uint8_t bytes[240 * 512];
+    const struct usbdisk_plan plan = { SECTORS, format, SLOTS, blocks };
+    struct usbdisk image = USBDISK_NONE;
+    struct usbdisk_call call;
+    uint32_t fault;
+    int calls = 0;
+    memcpy(durable, device, sizeof device);
+    if (making(&image, &plan))
+        exit(EXIT_FAILURE);
+    while (calls != most && !usbdisk_next(&image, &call, bytes, 512 * room) && call.kind) {
+        bool is_read = call.kind == USBDISK_READ;
+        carry_out(&call, bytes);
+        usbdisk_done(&image, true, device[call.sector], is_read ? 512 * call.count : 0);
+        calls += !is_read;
+    }
+    bool is_done = usbdisk_state(&image, &fault) == USBDISK_DONE;
+    usbdisk_stop(&image);
+    return is_done || calls == most ? calls : -1;
+}
+
+/* The new image is there, whole: its blocks are zeros, or what home held. */
+static bool is_new(making *making, uint32_t format)
 {
     struct usbdisk_layout layout;
-    if (usbdisk_look(device[0], &layout) || layout.format != format || layout.slots != SLOTS || layout.blocks != BLOCKS)
+    uint64_t home = home_of(format);
+    if (usbdisk_look(device[0], &layout) || layout.format != format || layout.slots != SLOTS ||
+        layout.blocks != BLOCKS || layout.home != home || !device[1][0])
         return false;
-    return are_zeros(2, layout.sectors) && are_spared(layout.sectors) && device[1][0];
+    if (making == usbdisk_lay_log)
+        return are_zeros(2, home) && are_spared(home);
+    return are_zeros(2, layout.sectors) && are_spared(layout.sectors);
 }
 
 /* Whether a cut leaves what it may: of the writes since the last flush all, or none. */
-static bool is_allowed(uint32_t format, bool flushed)
+static bool is_allowed(making *making, uint32_t format, bool flushed)
 {
-    uint64_t sectors = 2 + (uint64_t)(format == 1 ? 50 : 249) * SLOTS + BLOCKS;
+    uint64_t end = home_of(format) + (making == usbdisk_lay_log ? 0 : BLOCKS);
     bool good = true;
     for (int all = 0; all <= 1; all++) {
         if (!all)
             memcpy(device, durable, sizeof device);
         bool is_old = !flushed && !memcmp(device[0], kept[0], 512);
-        good &= (is_old || are_zeros(0, 1) || is_new(format)) && are_spared(sectors);
+        good &= (is_old || are_zeros(0, 1) || is_new(making, format)) && are_spared(end);
+        memcpy(device, now, sizeof device);
     }
     return good;
 }
 
-static bool is_cut_well(uint32_t format, int calls)
+static bool is_cut_well(making *making, uint32_t format, int calls)
 {
-    for (int most = 0; most <= calls; most++) {
+    for (int most = 1; most <= calls; most++) {
         memcpy(device, kept, sizeof device);
-        if (make(format, most) != most)
+        if (make(making, format, most, 1) != most)
             return false;
-        uint8_t (*now)[512] = malloc(sizeof device);
         memcpy(now, device, sizeof device);
-        bool good = is_allowed(format, most >= 2);
-        memcpy(device, now, sizeof device);
-        free(now);
-        if (!good)
+        if (!is_allowed(making, format, most >= 2))
             return false;
     }
-    return is_new(format);
+    return is_new(making, format);
+}
+
+/* The same image, by runs of all lengths. */
+static bool is_same_by_runs(making *making, uint32_t format)
+{
+    memcpy(now, device, sizeof device);
+    for (size_t room = 2; room <= 240; room += 17) {
+        memcpy(device, kept, sizeof device);
+        if (make(making, format, -1, room) < 1 || memcmp(device, now, sizeof device))
+            return false;
+    }
+    return true;
+}
+
+/* The most memory that is taken meanwhile. */
+static size_t memory_of(making *making, uint32_t format, uint64_t count)
+{
+    memcpy(device, kept, sizeof device);
+    heap_most = heap_now;
+    blocks = count;
+    bool good = make(making, format, -1, 240) > 0;
+    blocks = BLOCKS;
+    return good ? heap_most - heap_now : 0;
+}
+
+/* What lies on the device before: another image, and bytes that are no zeros behind its log. */
+static void keep_other(uint32_t format)
+{
+    memset(device, BEHIND, sizeof device);
+    make(usbdisk_format, 3 - format, -1, 240);
+    memset(device[home_of(1)], BEHIND, 512 * 7);
+    memcpy(kept, device, sizeof device);
+}
+
+static bool play(making *making, uint32_t format)
+{
+    bool is_log = making == usbdisk_lay_log;
+    keep_other(format);
+    int calls = make(making, format, -1, 1),
+        wanted = (int)home_of(format) + (is_log ? 5 : BLOCKS + 7);
+    bool good =
+        calls == wanted && is_cut_well(making, format, calls) && is_same_by_runs(making, format);
+    size_t most = memory_of(making, format, BLOCKS);
+    good &= most > 0 && most == memory_of(making, format, 1);
+    printf("format %u, %s: %d calls, %zu bytes of memory\n", format, is_log ? "a log" : "zeros",
+           calls, most);
+    return good;
 }
 
 int main(void)
 {
     bool good = true;
-    for (uint32_t format = 1; format <= 2; format++) {
-        memset(device, BEHIND, sizeof device);
-        good &= make(3 - format, -1) > 0;
-        memset(device[2 + 50 * SLOTS], BEHIND, 512 * 7);
-        memcpy(kept, device, sizeof device);
-        heap_most = heap_now;
-        int calls = make(format, -1);
-        size_t most = heap_most - heap_now;
-        good &= calls == 2 + (int)(format == 1 ? 50 : 249) * SLOTS + BLOCKS + 7 && is_cut_well(format, calls);
-        /* A copy of one sector, the calls that wait, and the handle, as the header tells. */
-        size_t home = 2 + (format == 1 ? 50 : 249) * SLOTS;
-        good &= most == 512 + 528 * (home + 5) + 168;
-        printf("format %u: %d calls, %zu bytes of memory\n", format, calls, most);
-    }
+    for (uint32_t format = 1; format <= 2; format++)
+        good &= play(usbdisk_format, format) && play(usbdisk_lay_log, format);
     printf("%s, %zu blocks of memory left\n", good ? "good at each cut" : "WRONG", heap_blocks);
     return !good || heap_blocks;
 }

@@ -9,8 +9,8 @@ static const struct step {
     uint8_t bytes[31];
     size_t size;
 } steps[] = {
-#define CBW(tag, length, flags, count) \
-    'U', 'S', 'B', 'C', tag, 0, 0, 0, (length) & 255, (length) >> 8, 0, 0, flags, 0, count
+#define CBW(tag, length, flags, count)                                                             \
+    'U', 'S', 'B', 'C', tag, 0, 0, 0, (length)&255, (length) >> 8, 0, 0, flags, 0, count
     { "REQUEST SENSE", BULK_OUT, { CBW(1, 18, 0x80, 6), 0x03, 0, 0, 0, 18 }, 31 },
     { "  data", BULK_IN, { 0 }, 0 },
     { "  status", BULK_IN, { 0 }, 0 },
@@ -26,8 +26,10 @@ static const struct step {
     { "clear the halt of bulk-in", SETUP, { 0x02, 1, 0, 0, 0x81, 0, 0, 0 }, 8 },
     { "clear the halt of bulk-out", SETUP, { 0x02, 1, 0, 0, 0x02, 0, 0, 0 }, 8 },
     { "GET MAX LUN", SETUP, { 0xA1, 0xFE, 0, 0, 0, 0, 1, 0 }, 8 },
-    { "READ(10), and a bus reset before its data", BULK_OUT,
-      { CBW(4, 512, 0x80, 10), 0x28, 0, 0, 0, 0, 5, 0, 0, 1 }, 31 },
+    { "READ(10), and a bus reset before its data",
+      BULK_OUT,
+      { CBW(4, 512, 0x80, 10), 0x28, 0, 0, 0, 0, 5, 0, 0, 1 },
+      31 },
     { NULL, BUS_RESET, { 0 }, 0 },
     { "the in endpoint", BULK_IN, { 0 }, 0 },
     { "TEST UNIT READY", BULK_OUT, { CBW(5, 0, 0, 6) }, 31 },

@@ -1,19 +1,37 @@
-/* An image of zeros, made in memory that stands for a device. A firmware writes and flushes its device here. */
+/* A device that is memory: it carries out each call at once, and refuses none. */
 #include "image.h"
-#include "usbdisk.h"
 #include <string.h>
 
-uint32_t format_memory(uint8_t *medium, size_t size, uint32_t format, uint64_t blocks, uint64_t slots)
+bool carry_one(struct usbdisk *it, uint8_t *medium, struct usbdisk_call *call)
 {
-    static const struct usbdisk_device name;
-    struct usbdisk_image image = USBDISK_IMAGE_NONE;
-    uint64_t sector;
-    uint8_t bytes[512];
-    uint32_t code = usbdisk_format(&image, medium, 512, size / 512, &name, format, blocks, slots);
+    static uint8_t buffer[240 * 512];
+    *call = (struct usbdisk_call){ .kind = USBDISK_NOTHING };
+    if (usbdisk_next(it, call, buffer, sizeof buffer) || call->kind == USBDISK_NOTHING)
+        return false;
+    uint8_t *place = medium + 512 * call->sector;
+    size_t size = 512 * (size_t)call->count;
+    if (call->kind == USBDISK_WRITE)
+        memcpy(place, buffer, size);
+    return !usbdisk_done(it, true, place, call->kind == USBDISK_READ ? size : 0);
+}
+
+void carry_all(struct usbdisk *it, uint8_t *medium)
+{
+    struct usbdisk_call call;
+    while (carry_one(it, medium, &call))
+        ;
+}
+
+uint32_t format_memory(uint8_t *medium, size_t size, uint32_t format, uint64_t blocks,
+                       uint64_t slots)
+{
+    const struct usbdisk_plan plan = { size / 512, format, slots, blocks };
+    struct usbdisk image = USBDISK_NONE;
+    uint32_t fault, code = usbdisk_format(&image, &plan);
     if (code)
         return code;
-    for (uint32_t kind; (kind = usbdisk_next(&image, &sector, bytes)) != USBDISK_NOTHING;)
-        if (kind == USBDISK_WRITE)
-            memcpy(medium + 512 * sector, bytes, 512);
-    return usbdisk_end(&image);
+    carry_all(&image, medium);
+    usbdisk_state(&image, &fault);
+    usbdisk_stop(&image);
+    return fault;
 }

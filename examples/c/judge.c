@@ -8,9 +8,9 @@
  *
  * JUDGED is the name of the device's file. It is built for one device: make judge DEVICE=yours.c.
  */
+#include "judge.h"
 #include "device.h"
 #include "number.h"
-#include "usbdisk_io.h"
 #include <limits.h>
 #include <stdio.h>
 #include <stdlib.h>
@@ -23,8 +23,11 @@ enum { BLOCKS = 40, SLOTS = 3, MOST = 4, WRITES = 400, SECTORS = 2 + 249 * SLOTS
 
 enum { PACKET = 512, BEHIND = 0xC7 };
 
-static const struct usbdisk_identity who = { "EXAMPLE ", "JUDGE           ", "0001",
-                                             "000000000001" };
+static const struct usbdisk_options options = {
+    .sectors = SECTORS,
+    .identity = { "EXAMPLE ", "JUDGE           ", "0001", "000000000001" },
+    .packet = PACKET,
+};
 
 /* The blocks are filled with numbers. A write puts one number into a few of them. */
 struct write {
@@ -41,85 +44,35 @@ static struct {
     bool in_progress;
 } book;
 
-static uint64_t seed;
-static long left;      /* calls of the device until the power goes */
-static bool goes_late; /* it goes at the next flush behind these */
-static bool is_gone;   /* it went */
-static const char *wrong;
-
-static unsigned random_below(unsigned most)
-{
-    seed ^= seed << 13;
-    seed ^= seed >> 7;
-    seed ^= seed << 17;
-    return (unsigned)(seed >> 33) % most;
-}
-
-/* Says what is wrong. Answers false, as all do that end a life. */
-static bool fails(const char *what)
-{
-    wrong = what;
-    return false;
-}
-
-/* ---- the device, as the port layer knows it */
-
-static bool read_run(void *context, uint64_t first, uint8_t *bytes, size_t count)
-{
-    (void)context;
-    for (size_t i = 0; i < count; i++)
-        if (!device_read(first + i, bytes + i * 512))
-            return fails("the device refuses a read");
-    return true;
-}
-
-/* The power goes: the device refuses the call on the way, and the life ends. */
-static bool lose_power(void)
-{
-    is_gone = true;
-    return false;
-}
-
-/* Writes the sectors from the first on and from the last in turns. */
-static bool write_run(void *context, uint64_t first, const uint8_t *bytes, size_t count)
-{
-    static bool backwards;
-    (void)context;
-    backwards = !backwards;
-    for (size_t i = 0; i < count; i++) {
-        size_t at = backwards ? count - 1 - i : i;
-        if (left-- <= 0 && !goes_late)
-            return lose_power();
-        if (!device_write(first + at, bytes + at * 512))
-            return fails("the device refuses a call");
-    }
-    return true;
-}
-
-static bool flush_all(void *context)
-{
-    (void)context;
-    if (left-- <= 0)
-        return lose_power();
-    return device_flush() || fails("the device refuses a call");
-}
-
-static const struct usbdisk_io_device device = { NULL, SECTORS, read_run, write_run, flush_all };
-
 /* ---- the host */
 
-/* Bytes to the disk. False: they are not taken, or the power went while they were. */
-static bool send(struct usbdisk_io *io, const void *bytes, size_t size, const char *refusal)
+/* Bytes to the disk, and what they make, at once or later. False: they are not taken, or the power
+ * went. */
+static bool send(struct usbdisk *disk, const void *bytes, size_t size, const char *refusal)
 {
-    size_t taken;
-    if (usbdisk_io_out(io, bytes, size, &taken) != USBDISK_ACK)
+    size_t taken = 0;
+    while (usbdisk_out(disk, bytes, size, &taken) == USBDISK_NAK)
+        if (!carry_one(disk))
+            return !is_gone && !wrong && fails(refusal);
+    if (taken != size)
         return fails(refusal);
-    return !is_gone && !wrong;
+    return random_below(2) || carry_all(disk);
+}
+
+/* Bytes from the disk, as soon as its device lets it. False: none come, or the power went. */
+static bool receive(struct usbdisk *disk, void *bytes, size_t wanted, const char *refusal)
+{
+    uint8_t room[PACKET];
+    size_t given = 0;
+    while (usbdisk_in(disk, room, sizeof room, &given) == USBDISK_NAK)
+        if (!carry_one(disk))
+            return !is_gone && !wrong && fails(refusal);
+    memcpy(bytes, room, wanted);
+    return given == wanted || fails(refusal);
 }
 
 /* A command block wrapper for a command of ten bytes. */
-static bool ask(struct usbdisk_io *io, uint8_t code, uint8_t flags, unsigned address,
-                unsigned count)
+static bool ask(struct usbdisk *disk, uint8_t code, uint8_t flags, unsigned address, unsigned count)
 {
     uint8_t wrapper[31] = { 'U', 'S', 'B', 'C', 7 };
     wrapper[9] = (uint8_t)(count * 2);
@@ -129,28 +82,24 @@ static bool ask(struct usbdisk_io *io, uint8_t code, uint8_t flags, unsigned add
     wrapper[16] = flags;
     wrapper[20] = (uint8_t)address;
     wrapper[23] = (uint8_t)count;
-    return send(io, wrapper, sizeof wrapper, "a wrapper is not taken");
+    return send(disk, wrapper, sizeof wrapper, "a wrapper is not taken");
 }
 
-static bool status_is_good(struct usbdisk_io *io)
+static bool status_is_good(struct usbdisk *disk)
 {
     uint8_t status[13];
-    size_t got;
-    if (usbdisk_io_in(io, status, sizeof status, &got) != USBDISK_ACK || got != sizeof status ||
-        status[12])
-        return fails("a command is not good");
-    return true;
+    return receive(disk, status, sizeof status, "no status comes") &&
+           (!status[12] || fails("a command is not good"));
 }
 
 /* The first command after a start is told that the power was off. */
-static bool hear_attention(struct usbdisk_io *io)
+static bool hear_attention(struct usbdisk *disk)
 {
     uint8_t status[13];
-    size_t got;
-    return ask(io, 0x00, 0, 0, 0) && usbdisk_io_in(io, status, sizeof status, &got) == USBDISK_ACK;
+    return ask(disk, 0x00, 0, 0, 0) && receive(disk, status, sizeof status, "no status comes");
 }
 
-static bool write_some(struct usbdisk_io *io, bool forced)
+static bool write_some(struct usbdisk *disk, bool forced)
 {
     static uint32_t numbers = 1;
     unsigned count = 1 + random_below(MOST), address = random_below(BLOCKS - count + 1);
@@ -158,43 +107,42 @@ static bool write_some(struct usbdisk_io *io, bool forced)
     for (int i = 0; i < 128; i++)
         block[i] = numbers;
     book.writes[book.accepted] = (struct write){ address, count, numbers++ };
-    if (!ask(io, 0x2A, forced ? 8 : 0, address, count))
+    if (!ask(disk, 0x2A, forced ? 8 : 0, address, count))
         return false;
     for (unsigned i = 0; i < count; i++) {
         book.in_progress = i + 1 == count;
-        if (!send(io, block, sizeof block, "data is not taken"))
+        if (!send(disk, block, sizeof block, "data is not taken"))
             return false;
     }
     book.in_progress = false;
     book.accepted++;
+    if (!status_is_good(disk))
+        return false;
     if (forced)
         book.promised = book.accepted;
-    return status_is_good(io);
+    return true;
 }
 
-static bool synchronize(struct usbdisk_io *io)
+static bool synchronize(struct usbdisk *disk)
 {
-    if (!ask(io, 0x35, 0, 0, 0))
+    if (!ask(disk, 0x35, 0, 0, 0) || !status_is_good(disk))
         return false;
     book.promised = book.accepted;
-    return status_is_good(io);
+    return true;
 }
 
 /* The number in a block, or one that no write has where it is filled with several. */
-static bool read_block(struct usbdisk_io *io, unsigned address, uint32_t *number)
+static bool read_block(struct usbdisk *disk, unsigned address, uint32_t *number)
 {
     uint32_t block[128];
-    size_t got;
-    if (!ask(io, 0x28, 0, address, 1))
+    if (!ask(disk, 0x28, 0, address, 1) ||
+        !receive(disk, block, sizeof block, "a block is not sent"))
         return false;
-    if (usbdisk_io_in(io, (uint8_t *)block, sizeof block, &got) != USBDISK_ACK ||
-        got != sizeof block)
-        return fails("a block is not sent");
     *number = block[0];
     for (int i = 1; i < 128; i++)
         if (block[i] != block[0])
             *number = UINT32_MAX;
-    return status_is_good(io);
+    return status_is_good(disk);
 }
 
 /* The blocks after the first `count` writes. */
@@ -206,44 +154,57 @@ static void blocks_after(size_t count, uint32_t blocks[BLOCKS])
             blocks[book.writes[i].address + j] = book.writes[i].number;
 }
 
-static bool read_some(struct usbdisk_io *io)
+static bool read_some(struct usbdisk *disk)
 {
     uint32_t blocks[BLOCKS], number;
     unsigned address = random_below(BLOCKS);
     blocks_after(book.accepted, blocks);
-    if (!read_block(io, address, &number))
+    if (!read_block(disk, address, &number))
         return false;
     return number == blocks[address] || fails("a READ sends other bytes than the last WRITE");
 }
 
-/* Starts a disk on what the device holds. False: the power went on the way, or it is refused. */
-static bool start(struct usbdisk_io **io)
+/* Starts a disk on what the device holds. False: the power went on the way, or there is none. */
+static bool start(struct usbdisk *disk)
 {
-    uint32_t code = usbdisk_io_start(io, &device, &who, PACKET);
-    if (code && !is_gone && !wrong)
-        fails(usbdisk_text(code));
-    return !code;
+    uint32_t fault = 0;
+    if (usbdisk_start(disk, &options))
+        return fails("no memory");
+    carry_all(disk);
+    if (usbdisk_state(disk, &fault) == USBDISK_FAILED)
+        return fails(fault == USBDISK_BAD_HEAD ? "a start finds no head"
+                                               : "a start finds no image");
+    return !is_gone && !wrong;
+}
+
+/* Steps in the background, a few or all. */
+static bool rest(struct usbdisk *disk)
+{
+    uint32_t steps = 1 + random_below(4);
+    while (steps-- && usbdisk_idle(disk) == 1)
+        if (!carry_all(disk))
+            return false;
+    return carry_all(disk);
 }
 
 /* Random commands until the power goes, or something is wrong. */
-static void live(struct usbdisk_io *io)
+static void live(struct usbdisk *disk)
 {
-    bool goes_on = hear_attention(io);
+    bool goes_on = hear_attention(disk);
     while (goes_on && book.accepted < WRITES) {
         switch (random_below(8)) {
         case 0:
-            goes_on = synchronize(io);
+            goes_on = synchronize(disk);
             break;
         case 1:
         case 2:
-            goes_on = read_some(io);
+            goes_on = read_some(disk);
             break;
         case 3:
-            usbdisk_io_idle(io);
-            goes_on = !is_gone && !wrong;
+            goes_on = rest(disk);
             break;
         default:
-            goes_on = write_some(io, random_below(4) == 0);
+            goes_on = write_some(disk, random_below(4) == 0);
         }
     }
 }
@@ -251,13 +212,13 @@ static void live(struct usbdisk_io *io)
 /* What a start on the device finds must be allowed by the book, and opens the next one. */
 static bool finds_what_it_may(void)
 {
-    struct usbdisk_io *io = NULL;
+    struct usbdisk disk = USBDISK_NONE;
     uint32_t found[BLOCKS] = { 0 }, blocks[BLOCKS];
     size_t most = book.accepted + book.in_progress;
-    bool good = start(&io) && hear_attention(io);
+    bool good = start(&disk) && hear_attention(&disk);
     for (unsigned i = 0; good && i < BLOCKS; i++)
-        good = read_block(io, i, &found[i]);
-    usbdisk_io_stop(io);
+        good = read_block(&disk, i, &found[i]);
+    usbdisk_stop(&disk);
     bool allowed = false;
     for (size_t k = book.promised; good && k <= most && !allowed; k++) {
         blocks_after(k, blocks);
@@ -280,13 +241,25 @@ static bool spares_the_rest(uint32_t format)
 {
     uint8_t bytes[512];
     for (uint64_t sector = sectors_of(format); sector < SECTORS; sector++) {
-        if (!read_run(NULL, sector, bytes, 1))
+        if (!device_read(sector, bytes))
             return false;
         for (size_t i = 0; i < sizeof bytes; i++)
             if (bytes[i] != BEHIND)
                 return fails("a sector behind the image has changed");
     }
     return true;
+}
+
+static bool lay_image(uint32_t format)
+{
+    const struct usbdisk_plan plan = { SECTORS, format, SLOTS, BLOCKS };
+    struct usbdisk image = USBDISK_NONE;
+    uint32_t fault;
+    if (usbdisk_format(&image, &plan) || !carry_all(&image))
+        return fails("no format");
+    bool good = usbdisk_state(&image, &fault) == USBDISK_DONE;
+    usbdisk_stop(&image);
+    return good || fails("a format is never done");
 }
 
 static bool make_image(uint32_t format)
@@ -300,20 +273,20 @@ static bool make_image(uint32_t format)
     for (uint64_t i = 0; i < SECTORS; i++)
         if (!device_write(i, bytes))
             return fails("the device refuses a write");
-    uint32_t code =
-        device_flush() ? usbdisk_io_format(&device, format, SLOTS, BLOCKS) : USBDISK_FLUSH_REFUSED;
-    return code ? fails(usbdisk_text(code)) : spares_the_rest(format);
+    if (!device_flush())
+        return fails("the device refuses a flush");
+    return lay_image(format) && spares_the_rest(format);
 }
 
 /* A life, and what a start finds behind its cut. */
 static bool play_life(bool is_late)
 {
-    struct usbdisk_io *io = NULL;
+    struct usbdisk disk = USBDISK_NONE;
     left = random_below(300);
     goes_late = is_late;
-    if (start(&io))
-        live(io);
-    usbdisk_io_stop(io);
+    if (start(&disk))
+        live(&disk);
+    usbdisk_stop(&disk);
     left = LONG_MAX;
     is_gone = false;
     return !wrong && device_cut() && finds_what_it_may();

@@ -101,32 +101,14 @@ static int make(uint32_t format, int most)
 /* The last block is written with FUA, or read. */
 static bool move_block(struct usbdisk_io *io, uint8_t *block, bool writes)
 {
-    uint8_t wrapper[31] = { 'U',
-                            'S',
-                            'B',
-                            'C',
-                            1,
-                            0,
-                            0,
-                            0,
-                            0,
-                            2,
-                            0,
-                            0,
-                            writes ? 0 : TO_HOST,
-                            0,
-                            10,
-                            writes ? 0x2A : 0x28,
-                            writes ? 8 : 0,
-                            0x7F,
-                            0xFF,
-                            0xFF,
-                            0xFF,
-                            0,
-                            0,
-                            1 };
+    uint8_t wrapper[31] = {
+        'U', 'S', 'B', 'C', [9] = 2, [14] = 10, [17] = 0x7F, 0xFF, 0xFF, 0xFF, [23] = 1
+    };
     uint8_t status[13];
     size_t moved;
+    wrapper[12] = writes ? 0 : TO_HOST;
+    wrapper[15] = writes ? 0x2A : 0x28;
+    wrapper[16] = writes ? 8 : 0;
     return !usbdisk_io_out(io, wrapper, sizeof wrapper, &moved) &&
            !(writes ? usbdisk_io_out(io, block, 512, &moved)
                     : usbdisk_io_in(io, block, 512, &moved)) &&

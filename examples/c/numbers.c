@@ -1,184 +1,348 @@
-/* What the bare calls of usbdisk.h answer to arguments that do not fit and to handles that hold
- * nothing: each its number, and nothing changes. A program over the port layer meets none of these.
- */
+/* What the calls of usbdisk.h answer to arguments that do not fit, and to handles that hold nothing
+ * or something of another kind: each its number, and nothing changes. And what each start that
+ * fails tells, and that it keeps no memory. */
+#include "numbers.h"
 #include "gadget.h"
 #include "image.h"
-#include "usbdisk.h"
-#include <stdbool.h>
 #include <stdio.h>
 #include <stdlib.h>
 #include <string.h>
 
-enum {
-    FORMAT = 1,
-    BLOCKS = 64,
-    SLOTS = 2,
-    NEAR = 2 + 50 * SLOTS,
-    SECTORS = NEAR + BLOCKS,
-    SPAN = 48,
-    UNTOLD = 77
+static const struct usbdisk_options good = {
+    .sectors = SECTORS,
+    .identity = { "EXAMPLE ", "NUMBERS         ", "0001", "000000000001" },
+    .packet = 512,
 };
+static const struct usbdisk_plan plan = { SECTORS, FORMAT, SLOTS, BLOCKS };
+uint8_t medium[SECTORS * 512];
+static uint8_t kept[SECTORS * 512], bytes[1024];
 
-static const struct usbdisk_identity who = { "EXAMPLE ", "NUMBERS         ", "0001",
-                                             "000000000001" };
-static const struct usbdisk_device name;
-static uint8_t medium[SECTORS * 512], bytes[1024];
-
-static void must(bool good, const char *what)
+void must(bool is_right, const char *what)
 {
-    if (good)
+    if (is_right)
         return;
     printf("numbers: %s\n", what);
     exit(EXIT_FAILURE);
 }
 
-static uint32_t start(struct usbdisk *disk)
+uint32_t start(struct usbdisk *handle, enum kind kind)
 {
-    return usbdisk_start(disk, medium, NEAR * 512, SECTORS, &name, &who, 512, SPAN,
-                         usbdisk_room(FORMAT, SLOTS));
+    switch (kind) {
+    case DISK:
+        return usbdisk_start(handle, &good);
+    case STORE:
+        return usbdisk_store_start(handle, &good);
+    case FORMAT_WORK:
+        return usbdisk_format(handle, &plan);
+    case LAY_WORK:
+        return usbdisk_lay_log(handle, &plan);
+    default:
+        return usbdisk_migrate(handle, &plan);
+    }
 }
 
-static void play_empty_disk(void)
+uint32_t state_of(struct usbdisk *handle, uint32_t wanted)
 {
-    static const uint8_t setup[8];
+    uint32_t fault = UNTOLD, state = usbdisk_state(handle, &fault);
+    must(state == wanted, "another state");
+    must(state == USBDISK_FAILED || fault == (state == USBDISK_EMPTY ? UNTOLD : 0),
+         "a fault of what did not fail");
+    return fault;
+}
+
+static void play_starts(void)
+{
+    struct usbdisk disk = USBDISK_NONE;
+    struct usbdisk_options bad = good;
+    for (uint32_t packet = 0; packet <= 1024; packet += packet == 63 ? 2 : 1) {
+        bad.packet = packet;
+        must(packet == 512 || usbdisk_start(&disk, &bad) == USBDISK_BAD_PACKET_SIZE,
+             "packets of another size");
+    }
+    bad.identity.serial[0] = 0;
+    must(usbdisk_start(&disk, &bad) == USBDISK_BAD_PACKET_SIZE, "what is wrong first");
+    bad.packet = 64;
+    must(usbdisk_start(&disk, &bad) == USBDISK_BAD_IDENTITY, "a 0 in the serial number");
+    bad = good;
+    bad.identity.vendor[7] = 0x7F;
+    must(usbdisk_start(&disk, &bad) == USBDISK_BAD_IDENTITY, "a vendor that cannot be printed");
+    must(!disk.at && !heap_blocks, "a refused start keeps something");
+    for (enum kind kind = DISK; kind < KINDS; kind++) {
+        must(!start(&disk, kind), "a start");
+        bad.packet = 63;
+        must(usbdisk_start(&disk, &bad) == USBDISK_STARTED, "a second start, with wrong options");
+        for (enum kind other = DISK; other < KINDS; other++)
+            must(start(&disk, other) == USBDISK_STARTED, "a second start");
+        must(!usbdisk_stop(&disk) && !heap_blocks && usbdisk_stop(&disk) == USBDISK_EMPTY,
+             "a stop");
+    }
+}
+
+/* ---- starts that fail */
+
+static uint32_t fault_of(enum kind kind)
+{
+    struct usbdisk handle = USBDISK_NONE;
+    must(!start(&handle, kind), "a start");
+    carry_all(&handle, medium);
+    uint32_t fault = state_of(&handle, USBDISK_FAILED);
+    must(usbdisk_idle(&handle) == (kind < FORMAT_WORK ? 1 : USBDISK_OTHER_KIND), "a failed step");
+    must(!usbdisk_stop(&handle) && !heap_blocks, "a stop of what failed");
+    memcpy(medium, kept, sizeof medium);
+    return fault;
+}
+
+/* Of an image that is changed at one byte. */
+static uint32_t fault_with(enum kind kind, size_t place, uint8_t byte)
+{
+    medium[place] = byte;
+    return fault_of(kind);
+}
+
+static void play_faults(enum kind kind)
+{
+    must(fault_with(kind, 0, 'r') == USBDISK_BAD_SUPER, "another mark");
+    must(fault_with(kind, 48, 1) == USBDISK_BAD_SUPER, "more bytes than a super has");
+    must(fault_with(kind, 8, 3) == USBDISK_BAD_VERSION, "a third format");
+    must(fault_with(kind, 16, BLOCKS + 1) == USBDISK_BAD_SIZE, "a device that is too short");
+    must(fault_with(kind, 24, 65) == USBDISK_BAD_SIZE, "too many slots");
+    must(fault_with(kind, 512, 'r') == USBDISK_BAD_HEAD, "another head");
+    memset(medium + 512 + 8, 0xFF, 7);
+    must(fault_with(kind, 512 + 15, 0x7F) == USBDISK_STAMPS_USED_UP, "the last stamp");
+}
+
+static void begin_image(uint64_t slots)
+{
+    must(!format_memory(medium, sizeof medium, FORMAT, BLOCKS, slots), "no format");
+    memcpy(kept, medium, sizeof medium);
+}
+
+/* The call of this number is refused: a READ of a start ends it, another one faults it, and each
+ * ends the work on an image. False: there are fewer calls. */
+static bool refuse_call(enum kind kind, unsigned number)
+{
+    static const uint32_t refused[] = { 0, USBDISK_WRITE_REFUSED, USBDISK_FLUSH_REFUSED,
+                                        USBDISK_READ_REFUSED };
+    struct usbdisk handle = USBDISK_NONE;
+    struct usbdisk_call call = { .kind = USBDISK_NOTHING };
+    must(!start(&handle, kind), "a start");
+    for (unsigned i = 1; i < number; i++)
+        must(carry_one(&handle, medium, &call), "a call before the refused one");
+    must(!usbdisk_next(&handle, &call, bytes, 512), "the next call");
+    bool is_one = call.kind != USBDISK_NOTHING, begins = kind < FORMAT_WORK;
+    if (is_one)
+        must(!usbdisk_done(&handle, false, bytes, 0), "a refused call");
+    if (is_one && begins && call.kind != USBDISK_READ)
+        state_of(&handle, USBDISK_FAULTED);
+    else if (is_one)
+        must(state_of(&handle, USBDISK_FAILED) == refused[call.kind], "why it failed");
+    else
+        state_of(&handle, begins ? USBDISK_SERVING : USBDISK_DONE);
+    must(!usbdisk_next(&handle, &call, bytes, 512) && !call.kind, "a call behind it");
+    must(!usbdisk_stop(&handle) && !heap_blocks, "a stop behind it");
+    memcpy(medium, kept, sizeof medium);
+    return is_one;
+}
+
+/* Each block of memory of a start, and of what its READs make, is refused in turn. How many there
+ * are. */
+static int refuse_memory(enum kind kind)
+{
+    for (int number = 1;; number++) {
+        struct usbdisk handle = USBDISK_NONE;
+        uint32_t fault = 0, state = USBDISK_FAILED;
+        heap_fails = number;
+        uint32_t code = start(&handle, kind);
+        must(!code || (code == USBDISK_NO_MEMORY && !handle.at && !heap_blocks),
+             "a start without memory");
+        carry_all(&handle, medium);
+        bool is_good = heap_fails > 0;
+        heap_fails = 0;
+        if (!code)
+            state = usbdisk_state(&handle, &fault);
+        must(is_good || code || (state == USBDISK_FAILED && fault == USBDISK_NO_MEMORY),
+             "a start whose memory is refused later");
+        must(usbdisk_stop(&handle) == (code ? USBDISK_EMPTY : 0) && !heap_blocks, "memory is left");
+        memcpy(medium, kept, sizeof medium);
+        if (is_good)
+            return number - 1;
+    }
+}
+
+static void play_failing(void)
+{
+    for (enum kind kind = DISK; kind < KINDS; kind++) {
+        unsigned calls = 1;
+        begin_image(SLOTS);
+        if (kind != FORMAT_WORK && kind != LAY_WORK)
+            play_faults(kind);
+        while (refuse_call(kind, calls))
+            calls++;
+        must(calls > 5 && refuse_memory(kind) > 1, "no call, or no memory is taken");
+    }
+    begin_image(4);
+    must(fault_of(MIGRATION) == USBDISK_LOG_TOO_SMALL, "a migration with a log too small");
+}
+
+/* ---- handles */
+
+/* Each call of a disk, of a store and of both, which answers this and changes nothing. */
+static void refuse_bus(struct usbdisk *it, uint32_t answer)
+{
+    static const uint8_t setup[8] = { 0xA1, 0xFE, 0, 0, 0, 0, 1 };
+    uint8_t room[512] = { UNTOLD };
+    uint32_t size = UNTOLD;
+    size_t moved = UNTOLD;
+    must(usbdisk_out(it, bytes, 31, &moved) == answer && moved == UNTOLD, "Bulk-Out");
+    must(usbdisk_in(it, room, 512, &moved) == answer && moved == UNTOLD, "Bulk-In");
+    must(usbdisk_in(it, room, 0, &moved) == answer && moved == UNTOLD, "Bulk-In without room");
+    must(usbdisk_setup(it, setup, room, &size) == answer && size == UNTOLD, "a request");
+    must(usbdisk_ahead(it, FIRST, 1) == answer && room[0] == UNTOLD, "sectors ahead");
+}
+
+static void refuse_store(struct usbdisk *it, uint32_t answer)
+{
+    uint8_t room[512] = { UNTOLD };
+    uint64_t blocks = UNTOLD;
+    uint32_t limit = UNTOLD;
+    must(usbdisk_store_sizes(it, &blocks, &limit) == answer && blocks == UNTOLD && limit == UNTOLD,
+         "the sizes");
+    must(usbdisk_store_read(it, 0, room, 512) == answer && room[0] == UNTOLD, "a read");
+    must(usbdisk_store_read(it, BLOCKS, room, 0) == answer, "a read that does not fit");
+    must(usbdisk_store_write(it, 0, bytes, 512) == answer, "a write");
+    must(usbdisk_store_write(it, BLOCKS, bytes, 0) == answer, "a write that does not fit");
+    must(usbdisk_store_sync(it) == answer, "a sync");
+}
+
+static void play_empty(void)
+{
     struct usbdisk none = USBDISK_NONE;
-    uint64_t first = UNTOLD;
-    uint32_t count = UNTOLD;
-    size_t run = UNTOLD;
-    must(usbdisk_bulk_out(&none, bytes, 31, &first, &count) == USBDISK_EMPTY && first == UNTOLD &&
-             count == UNTOLD,
-         "Bulk-Out of no disk");
-    must(usbdisk_bulk_out_unread(&none, bytes, 31) == USBDISK_EMPTY, "an unread packet of no disk");
-    must(usbdisk_bulk_in(&none, bytes, &count) == USBDISK_EMPTY && count == UNTOLD,
-         "Bulk-In of no disk");
-    must(usbdisk_setup(&none, setup, bytes, &count) == USBDISK_EMPTY && count == UNTOLD,
-         "a request of no disk");
-    must(usbdisk_show(&none, NEAR, bytes, 512) == USBDISK_EMPTY, "sectors of no disk");
-    must(usbdisk_take_run(&none, &first, bytes, 512, &run) == USBDISK_EMPTY && run == UNTOLD,
-         "a run of no disk");
-    must(usbdisk_take(&none, &first, bytes) == USBDISK_EMPTY && first == UNTOLD,
-         "a call of no disk");
-    must(usbdisk_tick(&none) == USBDISK_EMPTY && usbdisk_refused(&none) == USBDISK_EMPTY,
-         "a step of no disk");
-    must(usbdisk_stop(&none) == USBDISK_EMPTY, "a stop of no disk");
+    struct usbdisk_call call = { UNTOLD, UNTOLD, UNTOLD };
+    refuse_bus(&none, USBDISK_EMPTY);
+    refuse_store(&none, USBDISK_EMPTY);
+    must(usbdisk_idle(&none) == USBDISK_EMPTY, "a step of nothing");
+    must(usbdisk_next(&none, &call, bytes, 0) == USBDISK_EMPTY && call.kind == UNTOLD,
+         "a call of nothing");
+    must(usbdisk_done(&none, true, bytes, 7) == USBDISK_EMPTY, "an end of nothing");
+    state_of(&none, USBDISK_EMPTY);
+    must(usbdisk_stop(&none) == USBDISK_EMPTY && !none.at, "a stop of nothing");
 }
 
-static void play_disk(void)
+/* While they start, and behind that. */
+static void play_kinds(void)
 {
-    struct usbdisk disk = USBDISK_NONE;
-    uint64_t first = UNTOLD;
-    uint32_t count = UNTOLD;
-    size_t run = UNTOLD;
-    must(!start(&disk) && start(&disk) == USBDISK_STARTED, "a second start");
-    must(usbdisk_bulk_out(&disk, medium, 513, &first, &count) == USBDISK_TOO_LONG, "a long packet");
-    must(usbdisk_bulk_out_unread(&disk, medium, 513) == USBDISK_TOO_LONG,
-         "a long packet that is unread");
-    while (usbdisk_take(&disk, &first, bytes) != USBDISK_NOTHING)
-        ;
-    must(usbdisk_show(&disk, 2, bytes, 512) == USBDISK_NOT_TAKEN, "the log is shown");
-    must(usbdisk_show(&disk, SECTORS, bytes, 512) == USBDISK_NOT_TAKEN,
-         "a sector behind the last one is shown");
-    must(usbdisk_show(&disk, NEAR, bytes, 511) == USBDISK_NOT_TAKEN, "a part of a sector is shown");
-    must(usbdisk_show(&disk, NEAR, medium, 512 * (SPAN + 1)) == USBDISK_NOT_TAKEN,
-         "more than the span is shown");
-    must(usbdisk_take_run(&disk, &first, bytes, 0, &run) == USBDISK_BAD_LENGTH,
-         "room for no sector");
-    must(usbdisk_take_run(&disk, &first, bytes, 511, &run) == USBDISK_BAD_LENGTH && run == UNTOLD,
-         "room for a part of a sector");
-    must(!usbdisk_stop(&disk) && usbdisk_stop(&disk) == USBDISK_EMPTY, "a second stop");
+    for (enum kind kind = DISK; kind < MIGRATION; kind++) {
+        struct usbdisk handle = USBDISK_NONE;
+        uint32_t ended = kind < FORMAT_WORK ? USBDISK_SERVING : USBDISK_DONE;
+        must(!start(&handle, kind), "a start");
+        for (int i = 0; i < 2; i++) {
+            if (kind != DISK)
+                refuse_bus(&handle, USBDISK_OTHER_KIND);
+            if (kind != STORE)
+                refuse_store(&handle, USBDISK_OTHER_KIND);
+            must(kind < FORMAT_WORK || usbdisk_idle(&handle) == USBDISK_OTHER_KIND, "a step");
+            state_of(&handle, i ? ended : USBDISK_STARTING);
+            carry_all(&handle, medium);
+        }
+        must(!usbdisk_stop(&handle), "a stop");
+    }
 }
 
-/* Sizes of 0: no block of memory of none is asked for (heap.c). */
-static void play_nothing(void)
-{
-    static const uint8_t zeros[1024];
-    struct usbdisk disk = USBDISK_NONE;
-    uint64_t room = usbdisk_room(FORMAT, SLOTS);
-    must(usbdisk_start(&disk, medium, 0, SECTORS, &name, &who, 512, SPAN, room) ==
-             USBDISK_BAD_LENGTH,
-         "no first sectors");
-    must(usbdisk_start(&disk, zeros, 1024, 2, &name, &who, 512, 0, 0) == USBDISK_FLUSH_REFUSED,
-         "no room, no span and no image");
-    must(!usbdisk_start(&disk, medium, NEAR * 512, SECTORS, &name, &who, 512, 0, room) &&
-             !usbdisk_stop(&disk),
-         "no span");
-}
-
-static uint32_t start_store(struct usbdisk_store *store)
-{
-    return usbdisk_store_start(store, medium, NEAR * 512, SECTORS, &name, SPAN,
-                               usbdisk_room(FORMAT, SLOTS));
-}
-
-/* A store behind a refused call, and a handle that holds none any more. */
-static void play_dead_store(struct usbdisk_store *store)
-{
-    uint64_t first;
-    uint32_t count;
-    size_t run;
-    must(usbdisk_store_take_run(store, &first, bytes, 512, &run) == USBDISK_NOTHING,
-         "a call waits behind a refused one");
-    must(usbdisk_store_write(store, 0, bytes, 512) == USBDISK_DEAD,
-         "a write behind a refused call");
-    must(usbdisk_store_read(store, 0, bytes, 512, &first, &count) == USBDISK_DEAD,
-         "a read behind a refused call");
-    must(usbdisk_store_sync(store) == USBDISK_DEAD && usbdisk_store_tick(store) == 1,
-         "a step behind a refused call");
-    must(!usbdisk_store_stop(store) && usbdisk_store_sync(store) == USBDISK_EMPTY,
-         "a sync of no store");
-    must(usbdisk_store_take_run(store, &first, bytes, 512, &run) == USBDISK_EMPTY,
-         "a run of no store");
-    must(usbdisk_store_refused(store) == USBDISK_EMPTY, "a refusal of no store");
-}
+/* ---- a store, and images */
 
 static void play_store(void)
 {
-    struct usbdisk_store store = USBDISK_STORE_NONE;
-    uint64_t first;
-    uint32_t count;
-    size_t run;
-    must(!start_store(&store) && start_store(&store) == USBDISK_STARTED,
-         "a second start of a store");
-    must(usbdisk_store_write(&store, BLOCKS, bytes, 512) == USBDISK_BAD_RANGE,
-         "a block behind the last one");
+    struct usbdisk store = USBDISK_NONE;
+    uint64_t blocks = UNTOLD;
+    uint32_t limit = UNTOLD;
+    must(!start(&store, STORE), "a start");
+    must(usbdisk_store_sizes(&store, &blocks, &limit) == USBDISK_BUSY && blocks == UNTOLD,
+         "the sizes of what starts");
+    must(usbdisk_store_sync(&store) == USBDISK_BUSY && usbdisk_idle(&store) == 1, "a sync of it");
+    carry_all(&store, medium);
+    must(!usbdisk_store_sizes(&store, &blocks, &limit) && blocks == BLOCKS && limit == LIMIT,
+         "the sizes");
+    must(usbdisk_store_write(&store, BLOCKS, bytes, 512) == USBDISK_BAD_RANGE, "behind the last");
+    must(usbdisk_store_write(&store, BLOCKS - 1, bytes, 1024) == USBDISK_BAD_RANGE,
+         "and across it");
     must(usbdisk_store_write(&store, 0, bytes, 0) == USBDISK_BAD_LENGTH, "a write of no block");
-    must(usbdisk_store_read(&store, 0, bytes, 511, &first, &count) == USBDISK_BAD_LENGTH,
-         "a part of a block is read");
-    must(usbdisk_store_take_run(&store, &first, bytes, 0, &run) == USBDISK_BAD_LENGTH,
-         "room for no sector of a store");
-    must(usbdisk_store_take_run(&store, &first, bytes, 511, &run) == USBDISK_BAD_LENGTH,
-         "room for a part of one");
-    must(!usbdisk_store_write(&store, 0, bytes, 512) && !usbdisk_store_sync(&store), "a write");
-    must(!usbdisk_store_refused(&store), "a refusal");
-    play_dead_store(&store);
+    must(usbdisk_store_write(&store, 0, medium, 49 * 512) == USBDISK_BAD_LENGTH, "of too many");
+    must(usbdisk_store_read(&store, 0, bytes, 511) == USBDISK_BAD_LENGTH, "a part of a block");
+    must(usbdisk_store_read(&store, UINT64_MAX, bytes, 512) == USBDISK_BAD_RANGE,
+         "no block at all");
+    must(!usbdisk_store_write(&store, 0, bytes, 512), "a write");
+    must(usbdisk_store_sync(&store) == USBDISK_BUSY, "a sync of what waits");
+    carry_all(&store, medium);
+    must(!usbdisk_store_sync(&store), "a sync");
+    must(!usbdisk_stop(&store) && !heap_blocks, "a stop of a store");
+}
+
+/* The device refuses what a sync wants, and then each call says so. */
+static void play_dead_store(void)
+{
+    struct usbdisk store = USBDISK_NONE;
+    struct usbdisk_call call;
+    must(!start(&store, STORE), "a start");
+    carry_all(&store, medium);
+    must(!usbdisk_store_write(&store, 0, bytes, 512) && usbdisk_store_sync(&store) == USBDISK_BUSY,
+         "a write and a sync");
+    must(!usbdisk_next(&store, &call, bytes, 1024) && call.kind, "a call of a sync");
+    must(!usbdisk_done(&store, false, bytes, 0), "a refusal");
+    state_of(&store, USBDISK_FAULTED);
+    must(!usbdisk_next(&store, &call, bytes, 1024) && !call.kind, "a call waits behind a refusal");
+    must(usbdisk_store_write(&store, 0, bytes, 512) == USBDISK_DEAD, "a write behind it");
+    must(usbdisk_store_read(&store, 0, bytes, 512) == USBDISK_DEAD, "a read behind it");
+    must(usbdisk_store_sync(&store) == USBDISK_DEAD && usbdisk_idle(&store) == 1,
+         "a step behind it");
+    must(usbdisk_store_write(&store, BLOCKS, bytes, 512) == USBDISK_BAD_RANGE,
+         "what is wrong first");
+    must(!usbdisk_stop(&store) && !heap_blocks, "a stop of a dead store");
 }
 
 static void play_images(void)
 {
+    static const struct usbdisk_plan bad[] = {
+        { SECTORS - 1, FORMAT, SLOTS, BLOCKS },
+        { SECTORS, 3, SLOTS, BLOCKS },
+        { SECTORS, 0, SLOTS, BLOCKS },
+        { SECTORS, FORMAT, 0, BLOCKS },
+        { 1 << 20, FORMAT, 65, BLOCKS },
+        { SECTORS, FORMAT, SLOTS, 0 },
+        { UINT64_MAX, 2, SLOTS, ((uint64_t)1 << 31) + 1 },
+        { 0, FORMAT, SLOTS, BLOCKS },
+    };
     static const uint8_t zeros[512];
-    struct usbdisk_image none = USBDISK_IMAGE_NONE;
+    struct usbdisk none = USBDISK_NONE;
     struct usbdisk_layout layout = { .slots = UNTOLD };
-    uint64_t sector = UNTOLD;
+    for (size_t i = 0; i < sizeof bad / sizeof *bad; i++)
+        must(usbdisk_format(&none, &bad[i]) == USBDISK_BAD_SIZES &&
+                 usbdisk_lay_log(&none, &bad[i]) == USBDISK_BAD_SIZES && !none.at && !heap_blocks,
+             "sizes out of their limits");
     must(usbdisk_look(zeros, &layout) == USBDISK_BAD_SUPER && layout.slots == UNTOLD,
          "zeros are no image");
-    must(usbdisk_format(&none, medium, 512, SECTORS - 1, &name, FORMAT, BLOCKS, SLOTS) ==
-             USBDISK_BAD_SIZES,
-         "too few sectors");
-    must(usbdisk_lay_log(&none, medium, 512, SECTORS, &name, 3, BLOCKS, SLOTS) == USBDISK_BAD_SIZES,
-         "a third format");
-    must(usbdisk_next(&none, &sector, bytes) == USBDISK_EMPTY && sector == UNTOLD,
-         "a call of no image");
-    must(usbdisk_end(&none) == USBDISK_EMPTY && !none.at, "an end of no image");
+    must(!usbdisk_look(medium, &layout) && layout.format == FORMAT && layout.slots == SLOTS &&
+             layout.blocks == BLOCKS && layout.home == FIRST && layout.sectors == SECTORS,
+         "what image there is");
+    must(!usbdisk_memory(0, 1) && !usbdisk_memory(3, 1) && !usbdisk_memory(1, 0) &&
+             !usbdisk_memory(2, 65) && usbdisk_memory(2, 64) > usbdisk_memory(2, 1),
+         "the memory of no format");
 }
 
 int main(void)
 {
-    must(!format_memory(medium, sizeof medium, FORMAT, BLOCKS, SLOTS), "no format");
-    play_empty_disk();
-    play_disk();
-    play_nothing();
+    must(usbdisk_version() == USBDISK_VERSION, "the version");
+    begin_image(SLOTS);
+    play_empty();
+    play_starts();
+    play_kinds();
+    begin_image(SLOTS);
     play_store();
+    play_dead_store();
+    begin_image(SLOTS);
     play_images();
+    play_disk();
+    begin_image(SLOTS);
+    play_failing();
     must(!heap_blocks, "memory is left");
     printf("arguments that do not fit: each call answers its number, and nothing changes\n");
     return 0;

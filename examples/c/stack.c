@@ -8,18 +8,15 @@
 #include <stdlib.h>
 #include <string.h>
 
-enum { BLOCKS = 500, SPAN = 240, SLOTS = 2, COUNT = 40, PAINT = 0x5A, STACK = 1 << 20 };
+enum { BLOCKS = 500, SLOTS = 2, COUNT = 40, PAINT = 0x5A, STACK = 1 << 20, MOST = 240 };
 enum { DATA_IN = 0x80 };
-
-static const struct usbdisk_identity who = { "EXAMPLE ", "MEMORY          ", "0001",
-                                             "000000000001" };
-static const struct usbdisk_device name;
 
 /* An image in memory stands for the device. */
 struct device {
     uint8_t *bytes;
     size_t sectors;
     uint64_t written;
+    bool reads, refuses; /* it can read; it refuses a write or a flush */
 };
 
 /* A command block, and the bytes that the host means to move. */
@@ -57,15 +54,16 @@ static const struct played commands[] = {
     { DATA_IN, 0, 10, { 0x2F } },
 };
 
-/* GET MAX LUN, GET_STATUS of an endpoint, a request that is refused, the class reset, and both halts
- * cleared: the last two end each command. */
+/* GET MAX LUN, GET_STATUS of an endpoint, a request that is refused, the class reset, and both
+ * halts cleared: the last two end each command. */
 static const uint8_t requests[][8] = {
-    { 0xA1, 0xFE, 0, 0, 0, 0, 1 }, { 0x82, 0, 0, 0, 0x81, 0, 2 }, { 0x80, 6, 0, 1, 0, 0, 18 },
-    { 0x21, 0xFF },                { 0x02, 1, 0, 0, 0x81 },       { 0x02, 1, 0, 0, 0x02 },
+    { 0xA1, 0xFE, 0, 0, 0, 0, 1 }, { 0x82, 0, 0, 0, 0x81, 0, 2 },
+    { 0x80, 6, 0, 1, 0, 0, 18 },   { 0x21, 0xFF },
+    { 0x02, 1, 0, 0, 0x81 },       { 0x02, 1, 0, 0, 0x02 },
 };
 enum { REQUESTS = sizeof requests / sizeof *requests };
 
-static const uint8_t zeros[512];
+static const uint8_t zeros[COUNT * 512];
 
 static bool make_device(struct device *device, uint32_t format)
 {
@@ -76,39 +74,34 @@ static bool make_device(struct device *device, uint32_t format)
     return !format_memory(device->bytes, 512 * device->sectors, format, BLOCKS, SLOTS);
 }
 
-/* Carries out the outbox, one half by runs and the other by single calls. */
-static void persist(struct usbdisk *disk, struct device *device)
+/* Carries out what the disk wants of the device, by runs of all lengths. */
+static void carry_out(struct usbdisk *disk, struct device *device)
 {
-    static uint8_t bytes[8 * 512];
-    uint64_t sector;
-    size_t count;
-    for (bool run = true;; run = !run) {
-        count = 1;
-        uint32_t kind = run ? usbdisk_take_run(disk, &sector, bytes, sizeof bytes, &count)
-                            : usbdisk_take(disk, &sector, bytes);
-        if (kind != USBDISK_WRITE && kind != USBDISK_FLUSH)
-            return;
-        if (kind == USBDISK_WRITE) {
-            memcpy(device->bytes + 512 * sector, bytes, 512 * count);
-            device->written += count;
-        }
+    static uint8_t bytes[MOST * 512];
+    static size_t room = MOST;
+    struct usbdisk_call call;
+    while (!usbdisk_next(disk, &call, bytes, 512 * room) && call.kind != USBDISK_NOTHING) {
+        uint8_t *place = device->bytes + 512 * call.sector;
+        bool is_read = call.kind == USBDISK_READ;
+        if (call.kind == USBDISK_WRITE)
+            memcpy(place, bytes, 512 * call.count);
+        device->written += is_read ? 0 : call.count;
+        bool ok = is_read ? device->reads : !device->refuses;
+        usbdisk_done(disk, ok, place, is_read ? 512 * call.count : 0);
+        room = room % MOST + 1;
     }
 }
 
-/* A packet to the disk, which is shown what it asks for, or not where `reads` is false. */
-static void hand_in(struct usbdisk *disk, struct device *device, const uint8_t *packet, size_t size,
-                    bool reads)
+/* A transfer to the disk: what it lacks is read, or cannot be. */
+static void hand_in(struct usbdisk *disk, struct device *device, const uint8_t *bytes, size_t size)
 {
-    uint64_t first;
-    uint32_t count;
-    while (usbdisk_bulk_out(disk, packet, size, &first, &count) == USBDISK_NEEDS) {
-        if (!reads) {
-            usbdisk_bulk_out_unread(disk, packet, size);
-            break;
-        }
-        usbdisk_show(disk, first, device->bytes + 512 * first, 512 * (size_t)count);
+    size_t taken;
+    while (usbdisk_out(disk, bytes, size, &taken) == USBDISK_NAK && taken < size) {
+        bytes += taken;
+        size -= taken;
+        carry_out(disk, device);
     }
-    persist(disk, device);
+    carry_out(disk, device);
 }
 
 /* The control requests from this one on. */
@@ -122,16 +115,15 @@ static void request_from(struct usbdisk *disk, int first)
 
 static void take_packets(struct usbdisk *disk)
 {
-    uint8_t packet[512];
-    uint32_t size;
-    while (usbdisk_bulk_in(disk, packet, &size) == USBDISK_ACK)
+    static uint8_t room[MOST * 512];
+    size_t given;
+    while (usbdisk_in(disk, room, sizeof room, &given) == USBDISK_ACK)
         ;
 }
 
-/* A command: its wrapper, its data, which is this in each packet, and its status, behind a halt
- * too. */
+/* A command: its wrapper, its data, and its status, behind a halt too. */
 static void play(struct usbdisk *disk, struct device *device, const struct played *command,
-                 const uint8_t data[512], bool reads)
+                 const uint8_t *data)
 {
     uint8_t packet[31] = { 'U', 'S', 'B', 'C', 1 };
     packet[8] = command->length & 0xFF;
@@ -139,12 +131,9 @@ static void play(struct usbdisk *disk, struct device *device, const struct playe
     packet[12] = command->flags;
     packet[14] = command->size;
     memcpy(packet + 15, command->block, command->size);
-    hand_in(disk, device, packet, sizeof packet, reads);
-    for (size_t left = command->flags == DATA_IN ? 0 : command->length; left > 0;) {
-        size_t part = left < 512 ? left : 512;
-        hand_in(disk, device, data, part, reads);
-        left -= part;
-    }
+    hand_in(disk, device, packet, sizeof packet);
+    if (command->flags != DATA_IN && command->length)
+        hand_in(disk, device, data, command->length);
     take_packets(disk);
     request_from(disk, REQUESTS - 2);
     take_packets(disk);
@@ -154,32 +143,34 @@ static void play(struct usbdisk *disk, struct device *device, const struct playe
 static void select_cache(struct usbdisk *disk, struct device *device, bool is_on)
 {
     static const struct played select = { 0, 24, 6, { 0x15, 0x10, 0, 0, 24 } };
-    uint8_t page[512] = { 0, 0, 0, 0, 0x08, 0x12, is_on ? 4 : 0 };
-    play(disk, device, &select, page, true);
+    uint8_t page[24] = { 0, 0, 0, 0, 0x08, 0x12, is_on ? 4 : 0 };
+    play(disk, device, &select, page);
 }
 
 static void play_all(struct usbdisk *disk, struct device *device, bool reads)
 {
+    device->reads = reads;
     for (size_t i = 0; i < sizeof commands / sizeof *commands; i++)
-        play(disk, device, &commands[i], zeros, reads);
+        play(disk, device, &commands[i], zeros);
 }
+
+static const struct played forced = { 0, COUNT * 512, 10, { 0x2A, 8, [5] = 10, [8] = COUNT } };
 
 /* Events of all kinds. Forced WRITEs at the end leave a ring that is full. */
 static void play_events(struct usbdisk *disk, struct device *device)
 {
-    static const struct played forced = { 0, COUNT * 512, 10, { 0x2A, 8, [5] = 10, [8] = COUNT } };
     play_all(disk, device, true);
     play_all(disk, device, false);
     select_cache(disk, device, false);
     play_all(disk, device, true);
     select_cache(disk, device, true);
-    hand_in(disk, device, zeros, 3, true);
+    hand_in(disk, device, zeros, 3);
     request_from(disk, 0);
-    while (usbdisk_tick(disk) == 1)
-        persist(disk, device);
-    persist(disk, device);
+    while (usbdisk_idle(disk) == 1)
+        carry_out(disk, device);
+    carry_out(disk, device);
     for (int i = 0; i <= SLOTS; i++)
-        play(disk, device, &forced, zeros, true);
+        play(disk, device, &forced, zeros);
 }
 
 static __attribute__((noinline)) void paint(void)
@@ -205,24 +196,29 @@ static size_t more(size_t one, size_t other)
 }
 
 /* A start that brings home at least `home` blocks, the events after it, a refusal and a stop. */
-static __attribute__((noinline)) bool live(struct device *device, uint32_t format, uint64_t home,
+static __attribute__((noinline)) bool live(struct device *device, uint64_t home,
                                            struct stacks *most)
 {
+    struct usbdisk_options options = {
+        .sectors = device->sectors,
+        .identity = { "EXAMPLE ", "MEMORY          ", "0001", "000000000001" },
+        .packet = 512,
+    };
     struct usbdisk disk = USBDISK_NONE;
-    size_t near = 512 * usbdisk_near(device->bytes), room = usbdisk_room(format, SLOTS);
-    heap_most = heap_now;
-    paint();
-    uint32_t code = usbdisk_start(&disk, device->bytes, near, device->sectors, &name, &who, 512,
-                                  SPAN, room);
-    most->start = more(most->start, unpainted());
-    if (code || heap_most != usbdisk_memory(near, format, SLOTS, SPAN, room))
-        return false;
+    uint32_t fault;
     device->written = 0;
+    device->reads = true;
+    device->refuses = false;
     paint();
-    persist(&disk, device);
-    bool found = device->written >= home;
+    uint32_t code = usbdisk_start(&disk, &options);
+    carry_out(&disk, device);
+    most->start = more(most->start, unpainted());
+    bool found =
+        !code && usbdisk_state(&disk, &fault) == USBDISK_SERVING && device->written >= home;
+    paint();
     play_events(&disk, device);
-    usbdisk_refused(&disk);
+    device->refuses = true;
+    play(&disk, device, &forced, zeros);
     play_all(&disk, device, true);
     usbdisk_stop(&disk);
     most->event = more(most->event, unpainted());
@@ -237,7 +233,7 @@ bool measure_stacks(struct stacks *most)
         struct device device;
         if (!make_device(&device, format))
             return false;
-        good &= live(&device, format, 0, most) && live(&device, format, SLOTS * COUNT, most);
+        good &= live(&device, 0, most) && live(&device, SLOTS * COUNT, most);
         free(device.bytes);
     }
     return good;
