@@ -154,6 +154,9 @@ void put(uint32_t blocks[BLOCKS], const struct write *write);
 /* The number in a block, or one that no write has where it is filled with several. */
 uint32_t number_in(const uint8_t block[512]);
 
+/* Whether these are the blocks after the first k writes, for a k that may be. */
+bool is_allowed(const struct history *history, const uint32_t found[BLOCKS]);
+
 /* Cuts a device, starts a disk on what is left of another one, and reads all blocks of that.
  * Whether they are those after the first k writes, for a k that may be. */
 bool finds_what_it_may(const struct device *device, unsigned kept, const struct history *history,

@@ -43,8 +43,7 @@ static bool find(uint32_t found[BLOCKS])
     return good;
 }
 
-/* Whether these are the blocks after the first k writes, for a k that may be. */
-static bool is_allowed(const struct history *history, const uint32_t found[BLOCKS])
+bool is_allowed(const struct history *history, const uint32_t found[BLOCKS])
 {
     uint32_t blocks[BLOCKS];
     memcpy(blocks, history->opening, sizeof blocks);
