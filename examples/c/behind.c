@@ -16,7 +16,7 @@
 #include <stdlib.h>
 #include <string.h>
 
-enum { STEPS = 3000, LIVES_OF_AN_IMAGE = 10, CUTS_AT_ONCE = 3 };
+enum { STEPS = 3000, LIVES_OF_AN_IMAGE = 10, CUTS_AT_ONCE = 3, SEEN = 50 };
 
 /* What the judge knows of a life besides what was promised. */
 static struct history history;
@@ -318,11 +318,18 @@ static bool make_image(uint32_t format)
     return true;
 }
 
+/* Behind some lives what a judge has to see was seen. */
+static bool has_seen(long lives)
+{
+    return lives < SEEN || counts.behind || fails("no write is accepted while a call is under way");
+}
+
 static bool play_lives(uint32_t format, long lives)
 {
     memset(&counts, 0, sizeof counts);
     for (long life = 0; life < lives; life++) {
-        if ((life % LIVES_OF_AN_IMAGE == 0 && !make_image(format)) || !play_life()) {
+        if ((life % LIVES_OF_AN_IMAGE == 0 && !make_image(format)) || !play_life() ||
+            !has_seen(life)) {
             printf("format %u, life %ld: %s\n", format, life, wrong);
             return false;
         }
@@ -338,9 +345,7 @@ static bool play_lives(uint32_t format, long lives)
            counts.refused, counts.ahead);
     printf("  %lu class resets, %lu of them while a promise waited; %lu wrong packets\n",
            counts.resets, counts.waiting, counts.wrong);
-    if (!counts.behind)
-        printf("format %u: no write was accepted while a call was under way\n", format);
-    return counts.behind > 0;
+    return true;
 }
 
 int main(int count, char **words)
