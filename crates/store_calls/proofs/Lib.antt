@@ -4,3 +4,10 @@ pub mod StartedStore
 pub mod Values
 pub mod OutboxTaken
 pub mod Untouched
+pub mod Standing
+pub mod Handing
+pub mod Hearing
+pub mod AtRest
+pub mod Doing
+pub mod MachineStarted
+pub mod Living

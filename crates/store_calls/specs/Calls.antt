@@ -17,6 +17,7 @@ use Rattle.blocks.specs.StoreValue.{steps_left, active_of, wants, FitsBeside, Fi
 use Rattle.blocks.specs.Flushing.{finish_flushes, both_flushes}
 use Rattle.blocks.specs.Headroom.{HasHeadroom, KeepsHeadroom, records_of}
 use Rattle.blocks.specs.Retiring.{finish_calls, both_calls}
+use Rattle.medium.specs.Sent.{SendsUpTo}
 use Rattle.medium.specs.declared.fault.MediumFault.TheVariants.{Flush}
 use Rattle.blocks.specs.Turns.{IsTurn, IsWriteTurn}
 use Rattle.store_calls.specs.Stores.{Store}
@@ -56,6 +57,7 @@ home_of s address = first_home (layout_of s.cached) + address
 pub record KeepsAll (address count : ℕ) (old new : Store) : Type 0 where
   pub keeps : KeepsStore state_of ComesAfter address count old new
   pub turn : IsTurn (state_of old.medium) (state_of new.medium) old.cached new.cached
+  pub none_sent : SendsUpTo 0 (state_of old.medium) (state_of new.medium)
   pub appends : Appends old new
 
 -- The count blocks were read: those after all accepted writes.

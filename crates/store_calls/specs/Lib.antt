@@ -7,3 +7,9 @@ pub mod Starts
 pub mod Calls
 pub mod Refused
 pub mod Handles
+pub mod StoreMachine
+pub mod Serving
+pub mod Asking
+pub mod Transfers
+pub mod MachineStart
+pub mod StoreLives

@@ -2,10 +2,16 @@
 //! C.
 #![tactic(auto)]
 
+mod asked;
 mod background;
 mod call_fault;
 mod calls;
+mod device;
 mod handle;
+mod lack;
+mod machine;
+mod machine_laws;
+mod machine_start;
 mod moves;
 mod outbox;
 mod parts;
@@ -14,9 +20,13 @@ mod refused;
 mod room;
 mod run;
 mod start;
+mod store_fault;
+mod told;
+mod transfers;
 mod turns;
 mod writing;
 
+pub use asked::Asked;
 pub use blocks::StartFault;
 pub use call_fault::CallFault;
 pub use calls::{
@@ -24,9 +34,14 @@ pub use calls::{
     tick_in, write_in,
 };
 pub use handle::{Opaque, UsbDiskStore};
+pub use lack::Lack;
+pub use machine::StoreMachine;
+pub use machine_laws::store_laws;
+pub use machine_start::begin_machine;
 pub use outbox::show_call;
 pub use parts::Parts;
 pub use reading::Missing;
 pub use room::{has_little_room, room_for};
 pub use run::block_for;
 pub use start::window_of;
+pub use store_fault::StoreFault;

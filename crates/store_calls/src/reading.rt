@@ -76,7 +76,7 @@ pub(crate) fn read_blocks(
 
 // Those of the home sectors of `count` blocks that are neither in memory nor in sight: all from the
 // first of them on.
-fn unseen(store: &Store<WindowMedium>, address: u64, count: u32) -> Option<Missing>
+pub(crate) fn unseen(store: &Store<WindowMedium>, address: u64, count: u32) -> Option<Missing>
     requires some { 0 < count }
     requires few { count ≤ 240 }
     requires inside { address + count ≤ blocks_of store.now.cached }
@@ -100,7 +100,11 @@ fn unseen(store: &Store<WindowMedium>, address: u64, count: u32) -> Option<Missi
 }
 
 // Reads blocks whose home sectors are in sight.
-fn read_seen(store: &mut Store<WindowMedium>, address: u64, to: &mut [u8]) -> Result<(), CallFault>
+pub(crate) fn read_seen(
+    store: &mut Store<WindowMedium>,
+    address: u64,
+    to: &mut [u8],
+) -> Result<(), CallFault>
     requires may { MayMove store.old.cached address (length to.old) }
     requires seen { AreInSight store.old.medium (home_of store.old address) (length to.old / 512) }
     ensures ok { OnOk result

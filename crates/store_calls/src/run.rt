@@ -67,7 +67,7 @@ fn take_run(
 
 // Lets go of writes to the sectors from this one on, as long as they wait first and have room, and
 // copies their bytes. How many they were.
-fn gather(store: &mut Store<WindowMedium>, first: u64, to: &mut [u8]) -> usize
+pub(crate) fn gather(store: &mut Store<WindowMedium>, first: u64, to: &mut [u8]) -> usize
     ensures run { IsLongestRun store.old.medium store.new.medium first result to.old to.new }
     ensures untouched { IsUntouched state_of store.old store.new }
 {

@@ -1,6 +1,7 @@
 //! How blocks are written, and made durable.
-ghost use Rattle.std.specs.Prelude.{◌≡◌, IfOk, IfErr};
-ghost use Rattle.store_calls.specs.Calls.{WritesBlocks, SyncsStore};
+ghost use Rattle.std.specs.Prelude.{◌≡◌, ◌/◌, true, IfOk, IfErr, length};
+ghost use Rattle.spec.specs.Book.{write_of};
+ghost use Rattle.store_calls.specs.Calls.{WritesBlocks, SyncsStore, MayMove, IsWritten, CostsWrite};
 
 use crate::CallFault;
 use crate::reading::{foresee, may_move};
@@ -16,10 +17,24 @@ pub(crate) fn write_blocks(
     ensures { WritesBlocks address bytes.now store.old store.new result }
 {
     may_move(store, address, bytes.len())?;
+    if put_blocks(store, address, bytes) {
+        Ok(())
+    } else {
+        Err(CallFault::Dead)
+    }
+}
+
+/// Writes blocks that may be written. Whether they are accepted.
+pub(crate) fn put_blocks(store: &mut Store<WindowMedium>, address: u64, bytes: &[u8]) -> bool
+    requires { MayMove store.old.cached address (length bytes.now) }
+    ensures is { IsWritten (write_of address bytes.now) result store.old store.new }
+    ensures cost { result ≡ true
+        → CostsWrite address (length bytes.now / 512) store.old store.new }
+{
     foresee(store);
     match store.write(address, bytes) {
-        Ok(()) => Ok(()),
-        Err(_) => Err(CallFault::Dead),
+        Ok(()) => true,
+        Err(_) => false,
     }
 }
 

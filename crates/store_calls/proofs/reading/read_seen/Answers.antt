@@ -16,6 +16,7 @@ keeps_all : (address count : ℕ) (old new : Store) → Foresees old.medium → 
 keeps_all address count old new sees keeps turn sends seen = record {
   keeps = keeps;
   turn = turn;
+  none_sent = sends;
   appends = appends_read address count old new sees keeps.follows sends keeps.looks seen;
 }
 

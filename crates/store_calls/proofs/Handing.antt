@@ -1,0 +1,154 @@
+-- Calls leave the outbox, and are under way.
+use Rattle.std.proofs.Common.{◌≡◌, ◌≤◌, ◌<◌, ◌+◌, ◌++◌, ◌∷◌, [], ℕ, zero, suc, length, List, refl, sym, ◌∙◌, ap, arith}
+use Rattle.std.proofs.Common.{append_assoc, length-append}
+use Rattle.std.specs.Prelude.{Some, None}
+use Rattle.medium.specs.Moments.{IsUnchanged}
+use Rattle.medium.specs.Writes.{sector_of}
+use Rattle.mirror.specs.OutboxMedium.{sent, first_of}
+use Rattle.mirror.specs.declared.call.DeviceCall.{DeviceCall}
+use Rattle.mirror.specs.declared.call.DeviceCall.TheVariants.{Write, Flush}
+use Rattle.window.specs.Window.{Window, state_of, mirror_of, take_first}
+use Rattle.blocks.specs.StoreValue.{Cached, is_dead, layout_of}
+use Rattle.device_calls.specs.declared.ask.DeviceAsk.{DeviceAsk}
+use Rattle.device_calls.specs.declared.ask.DeviceAsk.TheVariants as ask
+use Rattle.device_calls.specs.declared.ask.DeviceRead.{DeviceRead}
+use Rattle.store_calls.specs.Asking.{AsksFor, HandsOut}
+use Rattle.store_calls.specs.Outbox.{without, writes_of, IsRun}
+use Rattle.store_calls.specs.Serving.{StaysSafe}
+use Rattle.store_calls.specs.StoreMachine.{Machine, under_way, is_behind}
+use Rattle.store_calls.specs.declared.asked.Asked.{Asked}
+use Rattle.store_calls.specs.declared.asked.Asked.TheVariants as asked
+use Rattle.store_calls.proofs.Standing.{IsSentStill, Stands, stays_safe, store_stays, nothing_changes}
+
+one_goes : (calls : List DeviceCall) (w : Window) → w.outbox ≡ calls → sent (mirror_of (take_first calls w)) ≡ sent (mirror_of w)
+one_goes [] w is = refl
+one_goes (call ∷ calls) w is = append_assoc w.seen.told.taken (call ∷ []) calls ∙ ap (λ (l : List DeviceCall). w.seen.told.taken ++ l) (sym is)
+
+sent_stays : (count : ℕ) (w : Window) → sent (mirror_of (without count w)) ≡ sent (mirror_of w)
+sent_stays zero w = refl
+sent_stays (suc count) w = one_goes (without count w).outbox (without count w) refl ∙ sent_stays count w
+
+opening_one : (calls : List DeviceCall) (w : Window) → (take_first calls w).seen.told.opening ≡ w.seen.told.opening
+opening_one [] w = refl
+opening_one (call ∷ calls) w = refl
+
+opening_stays : (count : ℕ) (w : Window) → (without count w).seen.told.opening ≡ w.seen.told.opening
+opening_stays zero w = refl
+opening_stays (suc count) w = opening_one (without count w).outbox (without count w) ∙ opening_stays count w
+
+room_one : (calls : List DeviceCall) (w : Window) → (take_first calls w).room ≡ w.room
+room_one [] w = refl
+room_one (call ∷ calls) w = refl
+
+room_stays : (count : ℕ) (w : Window) → (without count w).room ≡ w.room
+room_stays zero w = refl
+room_stays (suc count) w = room_one (without count w).outbox (without count w) ∙ room_stays count w
+
+near_one : (calls : List DeviceCall) (w : Window) → (take_first calls w).near ≡ w.near
+near_one [] w = refl
+near_one (call ∷ calls) w = refl
+
+near_stays : (count : ℕ) (w : Window) → (without count w).near ≡ w.near
+near_stays zero w = refl
+near_stays (suc count) w = near_one (without count w).outbox (without count w) ∙ near_stays count w
+
+-- as many calls left it
+pub some_go : (count : ℕ) (old new : Window) → new ≡ without count old → IsUnchanged (state_of old) (state_of new) → IsSentStill old new
+some_go count old new gone same = record {
+  opening = ap (λ (w : Window). w.seen.told.opening) gone ∙ opening_stays count old;
+  sent = ap (λ (w : Window). sent (mirror_of w)) gone ∙ sent_stays count old;
+  size = same.size_stays;
+  left = same.left_grows;
+  room = ap (λ (w : Window). w.room) gone ∙ room_stays count old;
+  near = ap (λ (w : Window). w.near) gone ∙ near_stays count old;
+}
+
+one_fewer : (calls : List DeviceCall) (w : Window) → w.outbox ≡ calls → 0 < length calls
+    → length (take_first calls w).outbox + 1 ≡ length w.outbox
+one_fewer [] w is some = absurd (omega (arith, some))
+one_fewer (call ∷ calls) w is some = omega (arith, ap (λ (l : List DeviceCall). length l) is)
+
+fewer_wait : (count : ℕ) (w : Window) → count ≤ length w.outbox → length (without count w).outbox + count ≡ length w.outbox
+fewer_wait zero w le = omega arith
+fewer_wait (suc count) w le =
+    let before = fewer_wait count w (omega (arith, le)) in
+    omega (arith, before, one_fewer (without count w).outbox (without count w) refl (omega (arith, before, le)))
+
+-- so many have left it
+pub taken_by : (count : ℕ) (w : Window) → count ≤ length w.outbox
+    → length (without count w).seen.told.taken ≡ length w.seen.told.taken + count
+taken_by count w le = omega (
+  arith,
+  fewer_wait count w le,
+  ap (λ (l : List DeviceCall). length l) (sent_stays count w),
+  length-append (without count w).seen.told.taken (without count w).outbox,
+  length-append w.seen.told.taken w.outbox,
+)
+
+-- calls that left the outbox are under way
+handed_stands : (old new : Machine) (count : ℕ) → HandsOut old count new → count ≤ length old.store.medium.outbox → Stands old new
+handed_stands old new count hands le = record {
+  sent = some_go count old.store.medium new.store.medium hands.gone hands.untouched.unchanged;
+  reaches = omega (
+    arith,
+    ap (λ (a : Asked). under_way a) hands.free,
+    ap (λ (s : Machine). under_way s.asked) hands.others,
+    taken_by count old.store.medium le,
+    ap (λ (w : Window). length w.seen.told.taken) hands.gone,
+  );
+  fits = hands.untouched.turn.fits;
+  dead = λ dead. ap (λ (s : Cached). is_dead s) hands.untouched.cached ∙ dead;
+  layout = ap (λ (s : Cached). layout_of s) hands.untouched.cached;
+  waits = λ waits is. ap (λ (s : Machine). is_behind s.asked s.store.medium.outbox) hands.others;
+}
+
+some_first : (calls : List DeviceCall) (call : DeviceCall) → first_of calls ≡ Some call → 1 ≤ length calls
+some_first [] call is = cc
+some_first (first ∷ calls) call is = omega arith
+
+pub none_first : (calls : List DeviceCall) → first_of calls ≡ None → calls ≡ []
+none_first [] is = refl
+none_first (call ∷ calls) is = cc
+
+length_of_writes : (count sector : ℕ) (bytes : List ℕ) → length (writes_of count sector bytes) ≡ count
+length_of_writes zero sector bytes = refl
+length_of_writes (suc count) sector bytes = omega (
+  arith,
+  length_of_writes count sector bytes,
+  length-append (writes_of count sector bytes) (Write (record { sector = sector + count; block = sector_of bytes count }) ∷ []),
+)
+
+run_waits : (old new : Window) (sector count : ℕ) (room filled : List ℕ) → IsRun old new sector count room filled
+    → count ≤ length old.outbox
+run_waits old new sector count room filled run = omega (
+  arith,
+  ap (λ (l : List DeviceCall). length l) run.writes,
+  length-append (writes_of count sector filled) new.outbox,
+  length_of_writes count sector filled,
+)
+
+-- the device is asked to read
+reads_stand : (old new : Machine) (home : DeviceRead) → old.asked ≡ asked.Nothing → new ≡ record old { asked = asked.Read home }
+    → Stands old new
+reads_stand old new home free is = store_stays old new (ap (λ (s : Machine). s.store) is)
+    (omega (
+      arith,
+      ap (λ (a : Asked). under_way a) free,
+      ap (λ (s : Machine). under_way s.asked) is,
+      ap (λ (s : Machine). length s.store.medium.seen.told.taken) is,
+    ))
+    (λ waits starting.
+    ap (λ (s : Machine). is_behind s.asked s.store.medium.outbox) is
+    ∙ ap (λ (a : Asked). is_behind a old.store.medium.outbox) (sym free)
+    ∙ waits (sym (ap (λ (s : Machine). s.starting) is) ∙ starting))
+
+-- the device is asked for the next
+pub asks_safe : (old new : Machine) (room : List ℕ) (what : DeviceAsk) (filled : List ℕ) → AsksFor old room what new filled
+    → StaysSafe old new
+asks_safe old new room ask.Nothing filled asks = nothing_changes old new asks.1
+asks_safe old new room (ask.Write first count) filled asks =
+    stays_safe old new (handed_stands old new count asks.0
+    (run_waits old.store.medium new.store.medium first count room filled asks.2.run))
+asks_safe old new room ask.Flush filled asks =
+    stays_safe old new (handed_stands old new 1 asks.0 (some_first old.store.medium.outbox Flush asks.1))
+asks_safe old new room (ask.Read home) filled asks = stays_safe old new (reads_stand old new home asks.0 asks.3)

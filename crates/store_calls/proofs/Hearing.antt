@@ -1,0 +1,125 @@
+-- What the device was asked for has ended.
+use Rattle.std.proofs.Common.{◌≡◌, ◌⊎◌, ◌≤◌, ◌/◌, inl, inr, [], ◌∷◌, List, ℕ, Bool, true, false, length, refl, sym, ◌∙◌, ap, subst, arith}
+use Rattle.std.specs.Prelude.{Result}
+use Rattle.std.proofs.lemmas.Bool.{false≢true}
+use Rattle.mirror.specs.declared.call.DeviceCall.{DeviceCall}
+use Rattle.window.specs.Window.{Window, state_of, moved}
+use Rattle.inlet.specs.Inlet.{AreHeld}
+use Rattle.blocks.specs.StoreValue.{Cached, is_dead, layout_of}
+use Rattle.device_calls.specs.declared.ask.DeviceRead.{DeviceRead}
+use Rattle.device_calls.specs.declared.done_fault.DoneFault.{DoneFault}
+use Rattle.store_calls.specs.Asking.{counted, starts_behind, read_over, IsGivenUp, IsShownBy, IsDone, HasRead, HasEnded, IsHonest}
+use Rattle.store_calls.specs.Calls.{Sees}
+use Rattle.store_calls.specs.Serving.{StaysSafe, WaitsForDevice}
+use Rattle.store_calls.specs.StoreMachine.{Machine, is_some, is_behind, under_way, carried}
+use Rattle.store_calls.specs.Stores.{Store}
+use Rattle.store_calls.specs.declared.asked.Asked.{Asked}
+use Rattle.store_calls.specs.declared.asked.Asked.TheVariants as asked
+use Rattle.store_calls.proofs.Handing.{some_go, taken_by}
+use Rattle.store_calls.proofs.Standing.{IsSentStill, Stands, same_sent, stays_safe, store_stays, nothing_changes}
+
+-- ---- calls are carried out
+
+counted_behind : (calls : List DeviceCall) (was : Bool) → starts_behind calls was ≡ true → is_some calls ≡ true
+counted_behind [] was is = absurd (false≢true is)
+counted_behind (call ∷ calls) was is = refl
+
+counted_safe : (old : Machine) (count : ℕ) → old.asked ≡ asked.Calls count → StaysSafe old (counted old)
+counted_safe old count was = stays_safe old (counted old) (store_stays old (counted old) refl (omega arith)
+    (λ waits. counted_behind old.store.medium.outbox old.starting))
+
+-- ---- calls are refused
+
+given_up_stands : (old new : Machine) (count : ℕ) → old.asked ≡ asked.Calls count → IsGivenUp old count new → Stands old new
+given_up_stands old new count was given_up =
+    let gone = given_up.refused.emptied.medium in record {
+      sent = some_go (length old.store.medium.outbox) old.store.medium new.store.medium gone given_up.refused.unchanged;
+      reaches = omega (
+        arith,
+        ap (λ (a : Asked). under_way a) was,
+        ap (λ (s : Machine). under_way s.asked) given_up.others,
+        taken_by (length old.store.medium.outbox) old.store.medium (omega arith),
+        ap (λ (w : Window). length w.seen.told.taken) gone,
+      );
+      fits = given_up.refused.fits;
+      dead = λ dead. ap (λ (s : Store). is_dead s.cached) given_up.refused.others;
+      layout = ap (λ (s : Store). layout_of s.cached) given_up.refused.others;
+      waits = λ waits is. absurd (false≢true (sym (ap (λ (s : Machine). s.starting) given_up.others) ∙ is));
+    }
+
+-- ---- a read has ended
+
+-- a device that reads is as far behind as one that is at no call
+no_call : (old new : Machine) (home : DeviceRead) → old.asked ≡ asked.Read home → new.asked ≡ asked.Nothing
+    → new.starting ≡ old.starting → new.store.medium.outbox ≡ old.store.medium.outbox → WaitsForDevice old → WaitsForDevice new
+no_call old new home was now starting outbox waits is =
+    (λ i. is_behind (now i) (outbox i)) ∙ ap (λ (a : Asked). is_behind a old.store.medium.outbox) (sym was) ∙ waits (sym starting ∙ is)
+
+as_far : (old new : Machine) (home : DeviceRead) → old.asked ≡ asked.Read home → new.asked ≡ asked.Nothing
+    → new.store.medium.seen.told.taken ≡ old.store.medium.seen.told.taken → carried old ≤ carried new
+as_far old new home was now taken = omega (
+  arith,
+  ap (λ (a : Asked). under_way a) was,
+  ap (λ (a : Asked). under_way a) now,
+  ap (λ (l : List DeviceCall). length l) taken,
+)
+
+unread_safe : (old new : Machine) (home : DeviceRead) → old.asked ≡ asked.Read home → new ≡ read_over old home false → StaysSafe old new
+unread_safe old new home was is =
+    let now : new.asked ≡ asked.Nothing = ap (λ (s : Machine). s.asked) is in
+    stays_safe old new (store_stays old new (ap (λ (s : Machine). s.store) is)
+    (as_far old new home was now (ap (λ (s : Machine). s.store.medium.seen.told.taken) is))
+    (no_call old new home was now (ap (λ (s : Machine). s.starting) is) (ap (λ (s : Machine). s.store.medium.outbox) is)))
+
+-- the window has moved, or stayed
+shown_medium : (old new : Store) (first : ℕ) (bytes : List ℕ) (taken : Bool) → Sees first bytes taken old new
+    → AreHeld (state_of old.medium).content first (length bytes / 512) bytes
+    → (new.medium ≡ old.medium) ⊎ (new.medium ≡ moved old.medium first (length bytes / 512))
+shown_medium old new first bytes false sees held = inl (sees.shown.refused refl)
+shown_medium old new first bytes true sees held = inr (sees.shown.honest refl held)
+
+abbrev IsSentAlike : Window → Window → Type 0
+IsSentAlike old new = IsSentStill old new × (new.seen.told.taken ≡ old.seen.told.taken) × (new.outbox ≡ old.outbox)
+
+alike : (old new : Window) (first count : ℕ) → (new ≡ old) ⊎ (new ≡ moved old first count) → IsSentAlike old new
+alike old new first count (inl same) = subst (λ (w : Window). IsSentAlike old w) (sym same) (same_sent old, refl, refl)
+alike old new first count (inr moves) = subst (λ (w : Window). IsSentAlike old w) (sym moves) (
+  record { opening = refl; sent = refl; size = refl; left = λ t image left. left; room = refl; near = refl },
+  refl,
+  refl,
+)
+
+shown_safe : (old new : Machine) (home : DeviceRead) (bytes : List ℕ) → old.asked ≡ asked.Read home → IsShownBy old home bytes new
+    → AreHeld (state_of old.store.medium).content home.first (length bytes / 512) bytes → StaysSafe old new
+shown_safe old new home bytes was shown held =
+    let now : new.asked ≡ asked.Nothing = ap (λ (s : Machine). s.asked) shown.others in
+    let sent = alike old.store.medium new.store.medium home.first (length bytes / 512)
+    (shown_medium old.store new.store home.first bytes shown.taken shown.sees held) in
+    stays_safe old new (record {
+      sent = sent.0;
+      reaches = as_far old new home was now sent.1;
+      fits = (shown.sees.untouched held).turn.fits;
+      dead = λ dead. ap (λ (s : Cached). is_dead s) shown.sees.cached ∙ dead;
+      layout = ap (λ (s : Cached). layout_of s) shown.sees.cached;
+      waits = no_call old new home was now (ap (λ (s : Machine). s.starting) shown.others) sent.2;
+    })
+
+-- ---- what the device was asked for last
+
+read_safe : (home : DeviceRead) (ok : Bool) (old new : Machine) (bytes : List ℕ) (result : Result (Unit {0}) DoneFault)
+    → old.asked ≡ asked.Read home → HasRead home ok old bytes result new → IsHonest old ok bytes → StaysSafe old new
+read_safe home true old new bytes result was (inl bad) honest = nothing_changes old new bad.1.1
+read_safe home true old new bytes result was (inr good) honest = shown_safe old new home bytes was good.2 (honest refl home was)
+read_safe home false old new bytes result was read honest = unread_safe old new home was read.1
+
+calls_safe : (count : ℕ) (ok : Bool) (old new : Machine) (result : Result (Unit {0}) DoneFault) → old.asked ≡ asked.Calls count
+    → HasEnded count ok old result new → StaysSafe old new
+calls_safe count true old new result was ended = subst (λ (s : Machine). StaysSafe old s) (sym ended.1) (counted_safe old count was)
+calls_safe count false old new result was ended = stays_safe old new (given_up_stands old new count was ended.1)
+
+pub done_safe : (a : Asked) (ok : Bool) (old new : Machine) (bytes : List ℕ) (result : Result (Unit {0}) DoneFault)
+    → old.asked ≡ a → IsDone a ok old bytes result new → IsHonest old ok bytes → StaysSafe old new
+done_safe asked.Nothing ok old new bytes result was done honest = nothing_changes old new done.1
+done_safe (asked.Calls count) ok old new bytes result was done honest = calls_safe count ok old new result was done
+done_safe (asked.Read home) ok old new bytes result was done honest = read_safe home ok old new bytes result was done honest
+done_safe (asked.Refused count behind) ok old new bytes result was done honest = nothing_changes old new done.1

@@ -1,0 +1,125 @@
+-- A machine over a device that leaves no more, and a store that fits what it fitted.
+use Rattle.std.proofs.Common.{◌≡◌, ◌≤◌, ◌++◌, ℕ, Bool, true, List, length, inl, inr, refl, sym, ◌∙◌, ap, subst, arith, length-append}
+use Rattle.std.specs.Prelude.{take, Option}
+use Rattle.std.proofs.lemmas.List.{take-append-le}
+use Rattle.medium.specs.Medium.{Image}
+use Rattle.mirror.specs.Device.{durable, after}
+use Rattle.mirror.specs.OutboxMedium.{sent, LeftSince}
+use Rattle.mirror.specs.Story.{Told, given}
+use Rattle.mirror.specs.declared.call.DeviceCall.{DeviceCall}
+use Rattle.window.specs.Window as window
+use Rattle.window.specs.Window.{Window, mirror_of}
+use Rattle.journal.specs.Places.{Shape, first_home}
+use Rattle.spec.specs.Book.{Book}
+use Rattle.blocks.specs.StoreValue.{FitsBook, is_dead, layout_of}
+use Rattle.store_calls.specs.Rooms.{room_for}
+use Rattle.store_calls.specs.Serving.{StaysSafe, KeepsGoing, WaitsForDevice, LeavesNoMore, LeavesSince, ServesOn}
+use Rattle.store_calls.specs.StoreMachine.{Machine, Finds, LeavesOf, carried, is_behind, under_way}
+use Rattle.store_calls.specs.Stores.{Store}
+use Rattle.store_calls.specs.declared.asked.Asked.{Asked}
+
+-- what was sent stays, however much of it has left the outbox
+pub record IsSentStill (old new : Window) : Type 0 where
+  pub opening : new.seen.told.opening ≡ old.seen.told.opening
+  pub sent : sent (mirror_of new) ≡ sent (mirror_of old)
+  pub size : (window.state_of new).size ≡ (window.state_of old).size
+  pub left : (t : ℕ) (image : Image) → (window.state_of old).left_since t image → (window.state_of new).left_since t image
+  pub room : new.room ≡ old.room
+  pub near : new.near ≡ old.near
+
+pub same_sent : (w : Window) → IsSentStill w w
+same_sent w = record { opening = refl; sent = refl; size = refl; left = λ t image left. left; room = refl; near = refl }
+
+-- what could be left could be left still behind more calls
+pub left_on : (old new : Told) (since : List (Option DeviceCall)) → new.opening ≡ old.opening → new.asked ≡ old.asked ++ since
+    → (t : ℕ) (image : Image) → LeftSince old t image → LeftSince new t image
+left_on old new since opening asked t image left = record {
+  at = left.at;
+  later = left.later;
+  past = omega (arith, left.past, ap (λ (l : List (Option DeviceCall)). length l) asked, length-append old.asked since);
+  cut = λ s. subst (λ (bytes : List ℕ). (after (durable bytes) (given (take left.at new.asked))).may_leave s (image s)) (sym opening)
+      (subst (λ (calls : List (Option DeviceCall)). (after (durable old.opening) (given calls)).may_leave s (image s))
+      (sym (ap (λ (l : List (Option DeviceCall)). take left.at l) asked ∙ take-append-le left.at old.asked since left.past))
+      (left.cut s));
+}
+
+pub record Stands (old new : Machine) : Type 0 where
+  pub sent : IsSentStill old.store.medium new.store.medium
+  pub reaches : carried old ≤ carried new
+  pub fits : (book : Book) → FitsBook (window.state_of old.store.medium) old.store.cached book
+      → FitsBook (window.state_of new.store.medium) new.store.cached book
+  pub dead : is_dead old.store.cached ≡ true → is_dead new.store.cached ≡ true
+  pub layout : layout_of new.store.cached ≡ layout_of old.store.cached
+  pub waits : WaitsForDevice old → WaitsForDevice new
+
+pub finds_still : (size : ℕ) (was now : Bool) (book : Book) (image : Image) → (was ≡ true → now ≡ true) → Finds size was book image
+    → Finds size now book image
+finds_still size was now book image dead (inl found) = inl found
+finds_still size was now book image dead (inr found) = inr (dead found.0, found.1)
+
+-- the outbox has room as before, and the log lies in memory as before
+pub keeps_going : (old new : Machine) → layout_of new.store.cached ≡ layout_of old.store.cached
+    → new.store.medium.room ≡ old.store.medium.room → new.store.medium.near ≡ old.store.medium.near
+    → (WaitsForDevice old → WaitsForDevice new) → KeepsGoing old new
+keeps_going old new layout room near waits = record {
+  waits = waits;
+  roomy = λ fits. omega (arith, fits, room, ap (λ (s : Shape). room_for s) layout);
+  log = λ holds. omega (arith, holds, near, ap (λ (s : Shape). first_home s) layout);
+}
+
+module _ (old new : Machine) (stands : Stands old new) where
+  pub leaves_no_more : LeavesNoMore old new
+  leaves_no_more image left =
+      subst (λ (bytes : List ℕ). LeavesOf bytes (sent (mirror_of old.store.medium)) (carried old) image) stands.sent.opening
+      (subst (λ (calls : List DeviceCall). LeavesOf new.store.medium.seen.told.opening calls (carried old) image) stands.sent.sent (record {
+        count = left.count;
+        done = left.done;
+        reaches = omega (arith, left.reaches, stands.reaches);
+        are = left.are;
+        cut = left.cut;
+      }))
+
+  pub since_still : (first : Window) → LeavesSince first old → LeavesSince first new
+  since_still first since image left =
+      stands.sent.left (window.state_of first).calls image (since image (leaves_no_more image left))
+
+  pub serves_still : ServesOn old new
+  serves_still book serves = record {
+    fits = stands.fits book serves.fits;
+    keeps = λ ours image left.
+        subst (λ (n : ℕ). Finds n (is_dead new.store.cached) book image) (sym stands.sent.size)
+        (finds_still (window.state_of old.store.medium).size (is_dead old.store.cached) (is_dead new.store.cached) book image stands.dead
+        (serves.keeps ours image (leaves_no_more image left)));
+  }
+
+  pub stays_safe : StaysSafe old new
+  stays_safe = record {
+    serves = serves_still;
+    leaves = leaves_no_more;
+    since = since_still;
+    goes_on = keeps_going old new stands.layout stands.sent.room stands.sent.near stands.waits;
+  }
+
+abbrev FitsOver : Book → Store → Type 0
+FitsOver book s = FitsBook (window.state_of s.medium) s.cached book
+
+-- the store stays, and the device told no fewer done
+pub store_stays : (old new : Machine) → new.store ≡ old.store → carried old ≤ carried new → (WaitsForDevice old → WaitsForDevice new)
+    → Stands old new
+store_stays old new same reaches waits = record {
+  sent = subst (λ (s : Store). IsSentStill old.store.medium s.medium) (sym same) (same_sent old.store.medium);
+  reaches = reaches;
+  fits = λ book fits. subst (λ (s : Store). FitsOver book s) (sym same) fits;
+  dead = λ dead. ap (λ (s : Store). is_dead s.cached) same ∙ dead;
+  layout = ap (λ (s : Store). layout_of s.cached) same;
+  waits = waits;
+}
+
+-- only the wish changes
+pub wishes : (old new : Machine) → new.store ≡ old.store → new.asked ≡ old.asked → new.starting ≡ old.starting → StaysSafe old new
+wishes old new store asked starting = stays_safe old new (store_stays old new store
+    (omega (arith, ap (λ (a : Asked). under_way a) asked, ap (λ (s : Store). length s.medium.seen.told.taken) store))
+    (λ waits is. (λ i. is_behind (asked i) (store i).medium.outbox) ∙ waits (sym starting ∙ is)))
+
+pub nothing_changes : (old new : Machine) → new ≡ old → StaysSafe old new
+nothing_changes old new same = subst (λ (s : Machine). StaysSafe old s) (sym same) (wishes old old refl refl refl)

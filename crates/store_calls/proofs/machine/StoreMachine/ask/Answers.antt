@@ -1,0 +1,24 @@
+use Rattle.std.proofs.Common.{refl, sym, ◌∙◌, ap, Some}
+use Rattle.mirror.specs.OutboxMedium.{first_of}
+use Rattle.mirror.specs.declared.call.DeviceCall.{DeviceCall}
+use Rattle.window.specs.Window.{Window}
+use Rattle.store_calls.proofs.Handing.{none_first}
+use Rattle.store_calls.proofs.machine.StoreMachine.ask.Goals as goal
+
+pub returns-in-Some-Flush : goal.returns-in-Some-Flush
+returns-in-Some-Flush c = λ free room. (
+  record {
+    free = free;
+    gone = c.pop.ensures.given;
+    untouched = c.pop.ensures.untouched;
+    others = refl;
+  },
+  ap (λ (w : Window). first_of w.outbox) (sym c.medium.ensures.is) ∙ sym c.first.ensures ∙ c.in-Some-Flush.is
+      ∙ ap (λ (call : DeviceCall). Some call) c.in-Some-Flush.field-0-is,
+  refl,
+)
+
+pub returns-in-None : goal.returns-in-None
+returns-in-None c = λ free room.
+    let none = ap (λ (w : Window). first_of w.outbox) (sym c.medium.ensures.is) ∙ sym c.first.ensures ∙ c.in-None.is in
+    c.ask_to_read.ensures free (none_first _ none) c.args.buffer.now

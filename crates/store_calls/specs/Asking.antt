@@ -1,0 +1,132 @@
+-- What the device of a store is asked for, and what it tells.
+use Rattle.std.specs.Prelude.{◌≡◌, ◌≢◌, ◌⊎◌, ℕ, ◌*◌, ◌/◌, ◌<◌, Bool, true, false, List, [], ◌∷◌}
+use Rattle.std.specs.Prelude.{length, Option, Some, None, Result, Ok, Err}
+use Rattle.inlet.specs.Inlet.{AreHeld}
+use Rattle.mirror.specs.OutboxMedium.{first_of}
+use Rattle.mirror.specs.declared.call.DeviceCall.{DeviceCall}
+use Rattle.mirror.specs.declared.call.DeviceCall.TheVariants as call
+use Rattle.window.specs.Window.{state_of}
+use Rattle.blocks.specs.Passing.{IsUntouched}
+use Rattle.device_calls.specs.declared.ask.DeviceRead.{DeviceRead}
+use Rattle.device_calls.specs.declared.ask.DeviceAsk.{DeviceAsk}
+use Rattle.device_calls.specs.declared.ask.DeviceAsk.TheVariants as ask
+use Rattle.device_calls.specs.declared.done_fault.DoneFault.{DoneFault}
+use Rattle.device_calls.specs.declared.done_fault.DoneFault.TheVariants as fault
+use Rattle.store_calls.specs.Calls.{Sees}
+use Rattle.store_calls.specs.Outbox.{without, IsLongestRun}
+use Rattle.store_calls.specs.Refused.{IsRefused}
+use Rattle.store_calls.specs.StoreMachine.{Machine}
+use Rattle.store_calls.specs.declared.asked.Asked.{Asked}
+use Rattle.store_calls.specs.declared.asked.Asked.TheVariants as asked
+use Rattle.store_calls.specs.declared.lack.Lack.{Lack}
+use Rattle.store_calls.specs.declared.lack.Lack.TheVariants as lack
+
+-- ---- what it is asked for
+
+-- so many calls leave the outbox, and the device is asked for them; nothing else changes
+pub record HandsOut (old : Machine) (count : ℕ) (new : Machine) : Type 0 where
+  pub free : old.asked ≡ asked.Nothing
+  pub gone : new.store.medium ≡ without count old.store.medium
+  pub untouched : IsUntouched state_of old.store new.store
+  pub others : new ≡ record old { store = new.store; asked = asked.Calls count }
+
+-- the sectors that are to be read, since a read lacks them
+abbrev pub to_read : Lack → Option DeviceRead
+to_read lack.Nothing = None
+to_read (lack.Wanted home) = Some home
+to_read (lack.Unread home) = None
+
+-- the device is at a call that it was asked for, or there is none for it
+abbrev pub IsAtRest : Machine → Type 0
+IsAtRest s = (s.asked ≢ asked.Nothing)
+    ⊎ ((s.store.medium.outbox ≡ []) × (to_read s.lack ≡ None))
+
+-- The next of the outbox: a flush, or the longest run of writes for which the buffer has room.
+-- Where none waits, the sectors that are to be read.
+abbrev pub AsksFor : Machine → List ℕ → DeviceAsk → Machine → List ℕ → Type 0
+AsksFor old room ask.Nothing new filled = IsAtRest old × (new ≡ old) × (filled ≡ room)
+AsksFor old room (ask.Write first count) new filled =
+    HandsOut old count new × (0 < count)
+    × IsLongestRun old.store.medium new.store.medium first count room filled
+AsksFor old room ask.Flush new filled =
+    HandsOut old 1 new × (first_of old.store.medium.outbox ≡ Some call.Flush)
+    × (filled ≡ room)
+AsksFor old room (ask.Read home) new filled =
+    (old.asked ≡ asked.Nothing) × (old.store.medium.outbox ≡ [])
+    × (to_read old.lack ≡ Some home)
+    × (new ≡ record old { asked = asked.Read home }) × (filled ≡ room)
+
+-- ---- what it tells
+
+-- the start is over where no call waits
+abbrev pub starts_behind : List DeviceCall → Bool → Bool
+starts_behind [] was = false
+starts_behind (call ∷ calls) was = was
+
+-- the calls that it was asked for are carried out
+abbrev pub counted : Machine → Machine
+counted s = record s {
+  asked = asked.Nothing;
+  starting = starts_behind s.store.medium.outbox s.starting;
+}
+
+-- It refused these calls. What waits is handed to no device: the store is dead.
+pub record IsGivenUp (old : Machine) (count : ℕ) (new : Machine) : Type 0 where
+  pub refused : IsRefused old.store new.store
+  pub others : new ≡ record old {
+    store = new.store;
+    asked = asked.Refused count (length old.store.medium.outbox);
+    starting = false;
+  }
+
+-- Where the store did not take the sectors, or the device could not read them, they count as
+-- unread: the read that lacks them is told so.
+abbrev pub lack_behind : DeviceRead → Bool → Lack
+lack_behind home true = lack.Nothing
+lack_behind home false = lack.Unread home
+
+-- a read of these sectors is over, and the store took them or not
+abbrev pub read_over : Machine → DeviceRead → Bool → Machine
+read_over s home taken = record s { asked = asked.Nothing; lack = lack_behind home taken }
+
+-- the device read these sectors
+pub record IsShownBy (old : Machine) (home : DeviceRead) (bytes : List ℕ) (new : Machine)
+    : Type 0 where
+  pub taken : Bool
+  pub sees : Sees home.first bytes taken old.store new.store
+  pub others : new ≡ record (read_over old home taken) { store = new.store }
+
+-- nothing changes
+abbrev pub IsNotDone : DoneFault → Machine → Result (Unit {0}) DoneFault → Machine → Type 0
+IsNotDone why old result new = (result ≡ Err why) × (new ≡ old)
+
+-- a read has ended, good or not
+abbrev pub HasRead : DeviceRead → Bool → Machine → List ℕ → Result (Unit {0}) DoneFault → Machine
+    → Type 0
+HasRead home true old bytes result new =
+    ((length bytes ≢ 512 * home.count) × IsNotDone fault.BadLength old result new)
+    ⊎ ((length bytes ≡ 512 * home.count) × (result ≡ Ok tt) × IsShownBy old home bytes new)
+HasRead home false old bytes result new = (result ≡ Ok tt)
+    × (new ≡ read_over old home false)
+
+-- calls have ended, good or not
+abbrev pub HasEnded : ℕ → Bool → Machine → Result (Unit {0}) DoneFault → Machine → Type 0
+HasEnded count true old result new = (result ≡ Ok tt) × (new ≡ counted old)
+HasEnded count false old result new = (result ≡ Ok tt) × IsGivenUp old count new
+
+-- what the device was asked for last has ended, good or not; it read these bytes
+abbrev pub IsDone : Asked → Bool → Machine → List ℕ → Result (Unit {0}) DoneFault → Machine
+    → Type 0
+IsDone asked.Nothing ok old bytes result new = IsNotDone fault.NothingAsked old result new
+IsDone (asked.Calls count) ok old bytes result new = HasEnded count ok old result new
+IsDone (asked.Read home) ok old bytes result new = HasRead home ok old bytes result new
+IsDone (asked.Refused count behind) ok old bytes result new =
+    IsNotDone fault.NothingAsked old result new
+
+abbrev pub Hears : Machine → Bool → List ℕ → Result (Unit {0}) DoneFault → Machine → Type 0
+Hears old ok bytes result new = IsDone old.asked ok old bytes result new
+
+-- the bytes are those that the device holds, where it read some
+abbrev pub IsHonest : Machine → Bool → List ℕ → Type 0
+IsHonest s ok bytes = ok ≡ true → (home : DeviceRead) → s.asked ≡ asked.Read home
+    → AreHeld (state_of s.store.medium).content home.first (length bytes / 512) bytes

@@ -1,0 +1,124 @@
+-- A store and the device behind it, which may be behind: it is still carrying out calls that it was
+-- told.
+use Rattle.std.specs.Prelude.{◌≡◌, ◌⊎◌, ℕ, ◌+◌, ◌-◌, ◌≤◌, Bool, true, false, List, [], ◌∷◌}
+use Rattle.std.specs.Prelude.{length, take, if◌then◌else◌}
+use Rattle.medium.specs.Medium.{Image, CutLeaves}
+use Rattle.mirror.specs.Device.{durable, after}
+use Rattle.mirror.specs.OutboxMedium.{sent}
+use Rattle.mirror.specs.Parts.{AreCarriedOut}
+use Rattle.mirror.specs.declared.call.DeviceCall.{DeviceCall}
+use Rattle.window.specs.Window as window
+use Rattle.window.specs.Window.{mirror_of}
+use Rattle.spec.specs.Blocks.{Write}
+use Rattle.spec.specs.Book.{Book, with_write}
+use Rattle.blocks.specs.Finding.{MayFind}
+use Rattle.blocks.specs.StoreValue.{FitsBook, is_dead}
+use Rattle.device_calls.specs.declared.state.MachineState.{MachineState}
+use Rattle.device_calls.specs.declared.state.MachineState.TheVariants as state
+use Rattle.store_calls.specs.Stores.{Store}
+use Rattle.store_calls.specs.declared.asked.Asked.{Asked}
+use Rattle.store_calls.specs.declared.asked.Asked.TheVariants as asked
+use Rattle.store_calls.specs.declared.lack.Lack.TheVariants as lack
+use Rattle.store_calls.specs.declared.machine.StoreMachine.{StoreMachine}
+
+-- a store, what the device was asked for last and has not told done, the sectors that a read lacks,
+-- and whether the device has not carried out all that the start made
+abbrev pub Machine : Type 0
+Machine = StoreMachine
+
+-- some call waits
+abbrev pub is_some : List DeviceCall → Bool
+is_some [] = false
+is_some (call ∷ calls) = true
+
+-- a machine over a store that has just started
+abbrev pub begun : Store → Machine
+begun store = record {
+  store = store;
+  asked = asked.Nothing;
+  lack = lack.Nothing;
+  starting = is_some store.medium.outbox;
+}
+
+-- ---- the device
+
+-- how many of the calls that left the outbox the device has not told done
+abbrev pub under_way : Asked → ℕ
+under_way asked.Nothing = 0
+under_way (asked.Calls count) = count
+under_way (asked.Read home) = 0
+under_way (asked.Refused count behind) = count + behind
+
+-- it refused a call
+abbrev pub has_refused : Asked → Bool
+has_refused asked.Nothing = false
+has_refused (asked.Calls count) = false
+has_refused (asked.Read home) = false
+has_refused (asked.Refused count behind) = true
+
+-- it reads
+abbrev pub is_reading : Asked → Bool
+is_reading asked.Nothing = false
+is_reading (asked.Calls count) = false
+is_reading (asked.Read home) = true
+is_reading (asked.Refused count behind) = false
+
+-- it has refused none of its calls, and not told all of them done
+abbrev pub is_behind : Asked → List DeviceCall → Bool
+is_behind asked.Nothing calls = is_some calls
+is_behind (asked.Calls count) calls = true
+is_behind (asked.Read home) calls = is_some calls
+is_behind (asked.Refused count behind) calls = false
+
+-- how many calls it has told done, since the beginning
+abbrev pub carried : Machine → ℕ
+carried s = length s.store.medium.seen.told.taken - under_way s.asked
+
+-- it is at no call, and none waits: it has carried out all that it was told
+pub record IsFree (s : Machine) : Type 0 where
+  pub at_none : s.asked ≡ asked.Nothing
+  pub none_waits : s.store.medium.outbox ≡ []
+
+-- What a loss of power may leave of a device that held these bytes and was sent these calls, of
+-- which it has told the first `told` done: it has carried out these, and of the others any first
+-- part, of whose writes behind the last flush any may be missing.
+pub record LeavesOf (opening : List ℕ) (calls : List DeviceCall) (told : ℕ) (image : Image)
+    : Type 0 where
+  pub count : ℕ
+  pub done : List DeviceCall
+  pub reaches : told ≤ count
+  pub are : AreCarriedOut (take count calls) done
+  pub cut : CutLeaves (after (durable opening) done).may_leave image
+
+-- the same of the device behind a machine, wherever it is
+abbrev pub MayLeave : Machine → Image → Type 0
+MayLeave s image =
+    LeavesOf s.store.medium.seen.told.opening (sent (mirror_of s.store.medium)) (carried s) image
+
+-- ---- what a machine is at
+
+-- where the device refused nothing
+abbrev pub state_by : Bool → MachineState
+state_by true = state.Starting
+state_by false = state.Serving
+
+abbrev pub state_of : Machine → MachineState
+state_of s = if has_refused s.asked then state.Refused else state_by s.starting
+
+-- ---- the promise
+
+-- A start finds the first k of the accepted writes, and the promised ones are among them. A store
+-- that died may have had a write in progress: k may count it too.
+abbrev pub Finds : ℕ → Bool → Book → Image → Type 0
+Finds size dead book image = MayFind size book image
+    ⊎ ((dead ≡ true) × ((write : Write) × MayFind size (with_write book write) image))
+
+-- whatever a loss of power leaves, wherever the device is, a start finds that
+abbrev pub Keeps : Machine → Book → Type 0
+Keeps s book = book.ours ≡ true → (image : Image) → MayLeave s image
+    → Finds (window.state_of s.store.medium).size (is_dead s.store.cached) book image
+
+-- The machine serves a life with this book, of accepted writes and of promised ones.
+pub record Serves (s : Machine) (book : Book) : Type 0 where
+  pub fits : FitsBook (window.state_of s.store.medium) s.store.cached book
+  pub keeps : Keeps s book

@@ -1,0 +1,148 @@
+-- What reads, writes and syncs do to a machine, and the work in the background.
+use Rattle.std.specs.Prelude.{◌≡◌, ◌≢◌, ◌⊎◌, ℕ, ◌+◌, ◌/◌, ◌<◌, Bool, true, false, List, [], length}
+use Rattle.std.specs.Prelude.{Result, Ok, Err, if◌then◌else◌}
+use Rattle.spec.specs.Blocks.{Write}
+use Rattle.spec.specs.Book.{Book, with_write, write_of, promised}
+use Rattle.blocks.specs.Book.{IsTransfer}
+use Rattle.blocks.specs.StoreValue.{Cached, blocks_of, transfer_limit, is_dead}
+use Rattle.device_calls.specs.declared.ask.DeviceRead.{DeviceRead}
+use Rattle.store_calls.specs.Calls.{MayMove, IsNoSize, home_of, IsRead, IsUnread}
+use Rattle.store_calls.specs.Calls.{IsWritten, CostsWrite, SyncsStore, MakesStep}
+use Rattle.store_calls.specs.Rooms.{AreInSight, AreMissing}
+use Rattle.store_calls.specs.Serving.{LeavesSince, ServesOn, KeepsGoing, StaysSafe}
+use Rattle.store_calls.specs.StoreMachine.{Machine, IsFree, Serves}
+use Rattle.store_calls.specs.declared.asked.Asked.{Asked}
+use Rattle.store_calls.specs.declared.asked.Asked.TheVariants as asked
+use Rattle.store_calls.specs.declared.call_fault.CallFault.TheVariants as call
+use Rattle.store_calls.specs.declared.lack.Lack.{Lack}
+use Rattle.store_calls.specs.declared.lack.Lack.TheVariants as lack
+use Rattle.store_calls.specs.declared.store_fault.StoreFault.{StoreFault}
+use Rattle.store_calls.specs.declared.store_fault.StoreFault.TheVariants as fault
+
+-- Why blocks may not be moved: for the length first, then for the range, and then since the store is
+-- dead.
+abbrev pub MayNot : Cached → ℕ → ℕ → StoreFault → Type 0
+MayNot s address size why = ((why ≡ fault.Length) × IsNoSize s size)
+    ⊎ ((why ≡ fault.Range) × (¬ IsNoSize s size) × (blocks_of s < address + size / 512))
+    ⊎ ((why ≡ fault.Dead) × IsTransfer (transfer_limit s) (blocks_of s) address size
+    × (is_dead s ≡ true))
+
+-- ---- a read
+
+-- what is to be read, of a read that lacks these sectors: while the device reads that stays
+abbrev pub wish_by : Asked → Lack → DeviceRead → Lack
+wish_by asked.Nothing was missing = lack.Wanted missing
+wish_by (asked.Calls count) was missing = lack.Wanted missing
+wish_by (asked.Read home) was missing = was
+wish_by (asked.Refused count behind) was missing = lack.Wanted missing
+
+-- A read that lacks these sectors waits until the device has read them. Where it could not, that is
+-- told, once.
+abbrev pub Waits : Machine → DeviceRead → Machine → StoreFault → Type 0
+Waits old missing new why =
+    ((old.lack ≡ lack.Unread missing) × (why ≡ fault.ReadRefused)
+    × (new ≡ record old { lack = lack.Nothing }))
+    ⊎ ((old.lack ≢ lack.Unread missing) × (why ≡ fault.Busy)
+    × (new ≡ record old { lack = wish_by old.asked old.lack missing }))
+
+-- some of the sectors are neither in memory nor in sight
+abbrev pub Lacks : ℕ → ℕ → Machine → Machine → StoreFault → Type 0
+Lacks address count old new why = (missing : DeviceRead)
+    × AreMissing old.store.medium (home_of old.store address) count missing.first missing.count
+    × Waits old missing new why × StaysSafe old new
+
+-- The sectors are in memory and in sight: the blocks are read, wherever the device is.
+pub record ReadsOn (address count : ℕ) (old : Machine) (filled : List ℕ) (new : Machine)
+    : Type 0 where
+  pub seen : AreInSight old.store.medium (home_of old.store address) count
+  pub read : IsRead address count old.store filled new.store
+  pub others : new ≡ record old { store = new.store }
+  pub stays : StaysSafe old new
+
+-- but a sector of the log is not in memory: the bytes may be anything then
+pub record ReadsNone (address count : ℕ) (old new : Machine) (why : StoreFault) : Type 0 where
+  pub is : why ≡ fault.ReadRefused
+  pub unread : IsUnread address count old.store new.store
+  pub others : new ≡ record old { store = new.store }
+  pub stays : StaysSafe old new
+
+abbrev pub Reads : ℕ → Machine → List ℕ → Machine → List ℕ → Result (Unit {0}) StoreFault → Type 0
+Reads address old room new filled (Ok done) = MayMove old.store.cached address (length room)
+    × ReadsOn address (length room / 512) old filled new
+Reads address old room new filled (Err why) =
+    (MayNot old.store.cached address (length room) why × (new ≡ old) × (filled ≡ room))
+    ⊎ (MayMove old.store.cached address (length room)
+    × ((Lacks address (length room / 512) old new why × (filled ≡ room))
+    ⊎ ReadsNone address (length room / 512) old new why))
+
+-- ---- a call that the device may have calls to carry out of
+
+-- Nothing changes: the device has not carried out all that it was told.
+abbrev pub IsBusy : Machine → Machine → StoreFault → Type 0
+IsBusy old new why = (¬ IsFree old) × (why ≡ fault.Busy) × (new ≡ old)
+
+-- The device had carried out all, and this is done to the store. What a loss of power leaves of it,
+-- wherever in its calls the device is, a cut at some moment of them could leave.
+pub record IsDoneFree (old new : Machine) : Type 0 where
+  pub free : IsFree old
+  pub others : new ≡ record old { store = new.store }
+  pub since : LeavesSince old.store.medium new
+  pub goes_on : KeepsGoing old new
+
+-- one write was accepted, whole, or none
+pub record Accepts (write : Write) (accepted : Bool) (old new : Machine) : Type 0 where
+  pub done : IsDoneFree old new
+  pub written : IsWritten write accepted old.store new.store
+  pub serves : (book : Book) → Serves old book
+      → Serves new (if accepted then with_write book write else book)
+
+-- One write was accepted, or it was not: then the store is dead, or nothing has changed.
+abbrev pub Writes : ℕ → List ℕ → Machine → Machine → Result (Unit {0}) StoreFault → Type 0
+Writes address bytes old new (Ok done) = MayMove old.store.cached address (length bytes)
+    × Accepts (write_of address bytes) true old new
+    × CostsWrite address (length bytes / 512) old.store new.store
+Writes address bytes old new (Err why) =
+    (MayNot old.store.cached address (length bytes) why × (new ≡ old))
+    ⊎ (MayMove old.store.cached address (length bytes)
+    × (IsBusy old new why
+    ⊎ ((why ≡ fault.Dead) × Accepts (write_of address bytes) false old new)))
+
+-- ---- a sync
+
+-- Every accepted write is durable, and promised: no call was left, and the device has carried out
+-- all.
+pub record Promises (old new : Machine) : Type 0 where
+  pub done : IsDoneFree old new
+  pub synced : SyncsStore old.store new.store (Ok tt)
+  pub free : IsFree new
+  pub serves : (book : Book) → Serves old book → Serves new (promised book)
+
+-- The calls that make them durable wait for the device. The next sync promises them, where it has
+-- carried them out and no write came between: it makes no call then (`CostsSync`).
+pub record SyncsOn (old new : Machine) (why : StoreFault) : Type 0 where
+  pub is : why ≡ fault.Busy
+  pub done : IsDoneFree old new
+  pub synced : SyncsStore old.store new.store (Ok tt)
+  pub waits : new.store.medium.outbox ≢ []
+  pub serves : ServesOn old new
+
+-- The store died, and nothing more is promised.
+pub record SyncDies (old new : Machine) (why : StoreFault) : Type 0 where
+  pub is : why ≡ fault.Dead
+  pub done : IsDoneFree old new
+  pub synced : SyncsStore old.store new.store (Err call.Dead)
+  pub serves : ServesOn old new
+
+abbrev pub Syncs : Machine → Machine → Result (Unit {0}) StoreFault → Type 0
+Syncs old new (Ok done) = Promises old new
+Syncs old new (Err why) = ((why ≡ fault.Dead) × (is_dead old.store.cached ≡ true) × (new ≡ old))
+    ⊎ ((is_dead old.store.cached ≡ false)
+    × (IsBusy old new why ⊎ (SyncsOn old new why ⊎ SyncDies old new why)))
+
+-- ---- the work in the background
+
+-- One step is made where the device has carried out all, and whether one is left is told; else
+-- nothing changes, and some may be left.
+abbrev pub Idles : Machine → Machine → Bool → Type 0
+Idles old new left = ((¬ IsFree old) × (left ≡ true) × (new ≡ old))
+    ⊎ (IsDoneFree old new × MakesStep old.store new.store left × ServesOn old new)

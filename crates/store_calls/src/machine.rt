@@ -1,0 +1,105 @@
+//! A store, and the device behind it, which may be behind.
+ghost use Rattle.std.specs.Prelude.{◌≡◌, ◌↔◌, IsTrue};
+ghost use Rattle.blocks.specs.StoreValue.{blocks_of, transfer_limit};
+ghost use Rattle.store_calls.specs.StoreMachine.{begun, state_of, state_by, is_reading, IsFree};
+ghost use Rattle.store_calls.specs.Serving.{ServesAtRest, BeginsBehind, WaitsForDevice};
+
+use crate::asked::Asked;
+use crate::calls::Sizes;
+use crate::lack::Lack;
+use blocks::Store;
+use device_calls::MachineState;
+use mirror::device_laws;
+use window::WindowMedium;
+
+/// A store that says what its device is to do next, one call at a time. What it is asked for is
+/// done where the device has carried out all that it was told, or needs no call of it.
+#[derive(Drop)]
+pub struct StoreMachine {
+    pub(crate) store: Store<WindowMedium>,
+    // What the device was asked for last, and has not told done.
+    pub(crate) asked: Asked,
+    // The sectors that a read lacks, and what became of them.
+    pub(crate) lack: Lack,
+    // Whether the device has not carried out all that the start made.
+    pub(crate) starting: bool,
+}
+
+impl StoreMachine {
+    // A machine over a store that has just started.
+    pub(crate) fn new(store: Store<WindowMedium>) -> StoreMachine
+        ensures is { result ≡ begun store }
+        ensures serves { ServesAtRest result }
+        ensures starts { BeginsBehind result }
+        ensures waits { WaitsForDevice result }
+    {
+        let starting = store.medium().waiting() > 0;
+        let machine = StoreMachine {
+            store,
+            asked: Asked::Nothing,
+            lack: Lack::Nothing,
+            starting,
+        };
+        machine.rest();
+        machine
+    }
+
+    /// What the machine is at.
+    pub fn state(&self) -> MachineState
+        ensures { result ≡ state_of self.now }
+    {
+        match self.asked {
+            Asked::Refused(_, _) => MachineState::Refused,
+            Asked::Nothing | Asked::Calls(_) | Asked::Read(_) => self.starting_or_serving(),
+        }
+    }
+
+    // What a machine is at whose device refused nothing.
+    fn starting_or_serving(&self) -> MachineState
+        ensures { result ≡ state_by self.now.starting }
+    {
+        if self.starting {
+            MachineState::Starting
+        } else {
+            MachineState::Serving
+        }
+    }
+
+    /// How many blocks the store has, and how many of them a read and a write have at most.
+    pub fn sizes(&self) -> Sizes
+        ensures blocks { result.blocks ≡ blocks_of self.now.store.cached }
+        ensures limit { result.limit ≡ transfer_limit self.now.store.cached }
+    {
+        Sizes {
+            blocks: self.store.blocks(),
+            limit: self.store.limit(),
+        }
+    }
+
+    // Whether the device has carried out all that it was told.
+    pub(crate) fn is_free(&self) -> bool
+        ensures { IsTrue result ↔ IsFree self.now }
+    {
+        self.asked == Asked::Nothing && self.store.medium().waiting() == 0
+    }
+
+    // Whether the device reads.
+    pub(crate) fn is_reading(&self) -> bool
+        ensures { result ≡ is_reading self.now.asked }
+    {
+        match self.asked {
+            Asked::Nothing | Asked::Calls(_) | Asked::Refused(_, _) => false,
+            Asked::Read(_) => true,
+        }
+    }
+
+    // Does nothing. Where the device has carried out all, each promise stands; where it has carried
+    // out none, a start does.
+    pub(crate) fn rest(&self)
+        ensures serves { ServesAtRest self.now }
+        ensures starts { BeginsBehind self.now }
+    {
+        let _waiting = self.store.medium().waiting();
+        device_laws();
+    }
+}

@@ -1,0 +1,100 @@
+//! What the device of a store tells of what it was asked for.
+ghost use Rattle.std.specs.Prelude.{◌≡◌};
+ghost use Rattle.store_calls.specs.Asking.{Hears, IsDone, IsHonest, HasRead};
+ghost use Rattle.store_calls.specs.Asking.{IsGivenUp, counted, read_over};
+ghost use Rattle.store_calls.specs.Serving.{StaysSafe, ServesAtRest};
+
+use crate::asked::Asked;
+use crate::lack::Lack;
+use crate::machine::StoreMachine;
+use crate::outbox::show_sectors;
+use crate::reading::BLOCK;
+use crate::refused::refuse;
+use device_calls::{DeviceRead, DoneFault};
+
+impl StoreMachine {
+    /// What the device was asked for last has ended, good or not; of a read these are the bytes of
+    /// the sectors, and of other calls no bytes are looked at. Writes that ended good need not be
+    /// durable before the next flush has. A call that it refused is its last: it is asked for
+    /// nothing more, and the store is dead. Sectors that it could not read are told once to the
+    /// read that lacks them.
+    ///
+    /// # Errors
+    /// `NothingAsked` where the device is at no call, and `BadLength` where the bytes are not as
+    /// many as those of the sectors that it was to read. Nothing changes then.
+    pub fn done(&mut self, ok: bool, bytes: &[u8]) -> Result<(), DoneFault>
+        ensures is { Hears self.old ok bytes.now result self.new }
+        ensures stays { IsHonest self.old ok bytes.now → StaysSafe self.old self.new }
+        ensures rest { ServesAtRest self.new }
+    {
+        let told = self.hear(ok, bytes);
+        self.rest();
+        told
+    }
+
+    // The same, of which nothing is said where the device has carried out all.
+    fn hear(&mut self, ok: bool, bytes: &[u8]) -> Result<(), DoneFault>
+        ensures { IsDone self.old.asked ok self.old bytes.now result self.new }
+    {
+        match self.asked {
+            Asked::Nothing | Asked::Refused(_, _) => Err(DoneFault::NothingAsked),
+            Asked::Read(home) => self.take_read(home, ok, bytes),
+            Asked::Calls(count) => {
+                if ok {
+                    self.count();
+                } else {
+                    self.give_up(count);
+                }
+                Ok(())
+            }
+        }
+    }
+
+    // The calls that the device was asked for are carried out.
+    fn count(&mut self)
+        ensures { self.new ≡ counted self.old }
+    {
+        self.asked = Asked::Nothing;
+        if self.store.medium().waiting() == 0 {
+            self.starting = false;
+        }
+    }
+
+    // The device refused so many calls.
+    fn give_up(&mut self, count: usize)
+        ensures { IsGivenUp self.old count self.new }
+    {
+        let behind = self.store.medium().waiting();
+        refuse(&mut self.store);
+        self.asked = Asked::Refused(count, behind);
+        self.starting = false;
+    }
+
+    // A read of these sectors has ended, good or not.
+    fn take_read(&mut self, home: DeviceRead, ok: bool, bytes: &[u8]) -> Result<(), DoneFault>
+        ensures { HasRead home ok self.old bytes.now result self.new }
+    {
+        if !ok {
+            self.end_read(home, false);
+            return Ok(());
+        }
+        if bytes.len() != BLOCK * home.count as usize {
+            return Err(DoneFault::BadLength);
+        }
+        let taken = show_sectors(&mut self.store, home.first, bytes);
+        self.end_read(home, taken);
+        Ok(())
+    }
+
+    // A read of these sectors is over, and the store took them or not.
+    fn end_read(&mut self, home: DeviceRead, taken: bool)
+        ensures { self.new ≡ read_over self.old home taken }
+    {
+        self.asked = Asked::Nothing;
+        self.lack = if taken {
+            Lack::Nothing
+        } else {
+            Lack::Unread(home)
+        };
+    }
+}

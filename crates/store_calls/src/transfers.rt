@@ -1,0 +1,173 @@
+//! What a machine reads, writes and makes durable.
+ghost use Rattle.std.specs.Prelude.{◌≡◌, ◌≢◌, ◌↔◌, ◌/◌, true, [], length};
+ghost use Rattle.std.specs.Prelude.{IsTrue, OnOk, IfErr, MatchResult};
+ghost use Rattle.spec.specs.Book.{write_of};
+ghost use Rattle.device_calls.specs.declared.ask.DeviceRead.{DeviceRead};
+ghost use Rattle.store_calls.specs.Calls.{MayMove, CostsWrite, home_of};
+ghost use Rattle.store_calls.specs.Rooms.{AreInSight};
+ghost use Rattle.store_calls.specs.Serving.{ServesAtRest};
+ghost use Rattle.store_calls.specs.StoreMachine.{IsFree};
+ghost use Rattle.store_calls.specs.Transfers.{MayNot, Reads, ReadsOn, ReadsNone, Waits};
+ghost use Rattle.store_calls.specs.Transfers.{Writes, Accepts, Syncs, Idles};
+ghost use Rattle.store_calls.specs.declared.lack.Lack.TheVariants as lack;
+
+use crate::CallFault;
+use crate::background::make_step;
+use crate::lack::Lack;
+use crate::machine::StoreMachine;
+use crate::reading::{BLOCK, may_move, read_seen, unseen};
+use crate::store_fault::StoreFault;
+use crate::writing::{put_blocks, sync_store};
+use device_calls::DeviceRead;
+
+impl StoreMachine {
+    /// Reads 1 to `limit` blocks from a block on, as they are after all accepted writes.
+    ///
+    /// # Errors
+    /// `Length` where the bytes are no whole blocks, none, or more than the limit; `Range` where a
+    /// block is behind the last one; `Dead` on a dead store: nothing changes at these. `Busy` where
+    /// sectors are lacking: the device is to read them, and then the same call reads. `ReadRefused`
+    /// where it could not, once, or a sector of the log is not in memory: then the bytes may be
+    /// anything.
+    pub fn read(&mut self, block: u64, to: &mut [u8]) -> Result<(), StoreFault>
+        ensures { Reads block self.old to.old self.new to.new result }
+    {
+        self.may_move(block, to.len())?;
+        let count = (to.len() / BLOCK) as u32;
+        match unseen(&self.store, block, count) {
+            Some(missing) => Err(self.miss(DeviceRead {
+                first: missing.first,
+                count: missing.count,
+            })),
+            None => self.read_in_sight(block, to),
+        }
+    }
+
+    /// Writes 1 to `limit` blocks from a block on, as one write. The next good sync promises it.
+    ///
+    /// # Errors
+    /// `Length`, `Range` and `Dead` as `read`; `Busy` where the device has not carried out all that
+    /// it was told: nothing changes at these. `Dead` also where the store dies in this call, and
+    /// none of the blocks is written.
+    pub fn write(&mut self, block: u64, bytes: &[u8]) -> Result<(), StoreFault>
+        ensures { Writes block bytes.now self.old self.new result }
+    {
+        self.may_move(block, bytes.len())?;
+        if !self.is_free() {
+            return Err(StoreFault::Busy);
+        }
+        if self.accept(block, bytes) {
+            Ok(())
+        } else {
+            Err(StoreFault::Dead)
+        }
+    }
+
+    /// Makes every accepted write durable, and promises it: so it is where this is good, and the
+    /// device has nothing to carry out then.
+    ///
+    /// # Errors
+    /// `Dead` on a dead store, and where it dies in this call. `Busy` where the device has to carry
+    /// out something before.
+    pub fn sync(&mut self) -> Result<(), StoreFault>
+        ensures { Syncs self.old self.new result }
+    {
+        if self.store.is_dead() {
+            return Err(StoreFault::Dead);
+        }
+        if !self.is_free() {
+            return Err(StoreFault::Busy);
+        }
+        match sync_store(&mut self.store) {
+            Ok(()) => self.tell(),
+            Err(_) => Err(StoreFault::Dead),
+        }
+    }
+
+    /// A step in the background, where the device has carried out all. Whether one may be left.
+    pub fn idle(&mut self) -> bool
+        ensures { Idles self.old self.new result }
+    {
+        if !self.is_free() {
+            return true;
+        }
+        make_step(&mut self.store)
+    }
+
+    // Where nothing waits for the device, each promise stands.
+    fn tell(&self) -> Result<(), StoreFault>
+        ensures ok { OnOk result (self.now.store.medium.outbox ≡ []) }
+        ensures err { IfErr result (λ why. (why ≡ StoreFault.Busy)
+            × (self.now.store.medium.outbox ≢ [])) }
+        ensures rest { ServesAtRest self.now }
+    {
+        self.rest();
+        if self.store.medium().waiting() > 0 {
+            return Err(StoreFault::Busy);
+        }
+        Ok(())
+    }
+
+    // Whether `size` bytes may be moved from or to the blocks from this one on.
+    fn may_move(&self, block: u64, size: usize) -> Result<(), StoreFault>
+        ensures ok { OnOk result (MayMove self.now.store.cached block size) }
+        ensures err { IfErr result (MayNot self.now.store.cached block size) }
+    {
+        match may_move(&self.store, block, size) {
+            Ok(()) => Ok(()),
+            Err(CallFault::Length) => Err(StoreFault::Length),
+            Err(CallFault::Range) => Err(StoreFault::Range),
+            Err(_) => Err(StoreFault::Dead),
+        }
+    }
+
+    // What a read is told that lacks these sectors.
+    fn miss(&mut self, missing: DeviceRead) -> StoreFault
+        ensures { Waits self.old missing self.new result }
+    {
+        if self.is_unread(missing) {
+            self.lack = Lack::Nothing;
+            return StoreFault::ReadRefused;
+        }
+        if !self.is_reading() {
+            self.lack = Lack::Wanted(missing);
+        }
+        StoreFault::Busy
+    }
+
+    // Whether the device could not read these sectors when it was asked.
+    fn is_unread(&self, missing: DeviceRead) -> bool
+        ensures { IsTrue result ↔ (self.now.lack ≡ lack.Unread missing) }
+    {
+        match self.lack {
+            Lack::Unread(unread) => unread == missing,
+            Lack::Nothing | Lack::Wanted(_) => false,
+        }
+    }
+
+    // Reads blocks whose sectors are in sight.
+    fn read_in_sight(&mut self, block: u64, to: &mut [u8]) -> Result<(), StoreFault>
+        requires may { MayMove self.old.store.cached block (length to.old) }
+        requires seen { AreInSight self.old.store.medium (home_of self.old.store block)
+            (length to.old / 512) }
+        ensures { MatchResult result
+            (λ done. ReadsOn block (length to.old / 512) self.old to.new self.new)
+            (ReadsNone block (length to.old / 512) self.old self.new) }
+    {
+        match read_seen(&mut self.store, block, to) {
+            Ok(()) => Ok(()),
+            Err(_) => Err(StoreFault::ReadRefused),
+        }
+    }
+
+    // Writes blocks, where the device is free. Whether they are accepted.
+    fn accept(&mut self, block: u64, bytes: &[u8]) -> bool
+        requires may { MayMove self.old.store.cached block (length bytes.now) }
+        requires free { IsFree self.old }
+        ensures is { Accepts (write_of block bytes.now) result self.old self.new }
+        ensures cost { result ≡ true
+            → CostsWrite block (length bytes.now / 512) self.old.store self.new.store }
+    {
+        put_blocks(&mut self.store, block, bytes)
+    }
+}
