@@ -11,14 +11,14 @@ use Rattle.blocks.specs.Finding.{MayFind}
 use Rattle.blocks.specs.StoreValue.{FitsBook}
 use Rattle.store_calls.specs.Rooms.{CoversParts}
 use Rattle.store_calls.specs.Serving.{ServesAtRest, BeginsBehind}
-use Rattle.store_calls.specs.StoreMachine.{Machine, IsFree, MayLeave, under_way}
+use Rattle.store_calls.specs.StoreMachine.{Machine, IsCaughtUp, MayLeave, under_way}
 use Rattle.store_calls.specs.declared.asked.Asked.{Asked}
 
 module _ (s : Machine) (parts : (new : Window) → ComesAfter s.store.medium new → CoversParts s.store.medium new)
     (at_rest : (book : Book) → FitsBook (state_of s.store.medium) s.store.cached book → book.ours ≡ true
     → EachCut (MayFind (state_of s.store.medium).size book) (state_of s.store.medium)) where
   -- it was sent no more than it has carried out
-  no_more : IsFree s → (image : Image) → (left : MayLeave s image) → length (sent (mirror_of s.store.medium)) ≤ left.count
+  no_more : IsCaughtUp s → (image : Image) → (left : MayLeave s image) → length (sent (mirror_of s.store.medium)) ≤ left.count
   no_more free image left = omega (
     arith,
     left.reaches,

@@ -1,5 +1,6 @@
 -- What is done to a store whose device has carried out all.
-use Rattle.std.proofs.Common.{◌≡◌, ◌≤◌, ◌++◌, ℕ, Bool, true, false, List, [], ◌∷◌, length, inl, inr, refl, sym, ◌∙◌, ap, subst, arith, length-append}
+use Rattle.std.proofs.Common.{◌≡◌, ◌≤◌, ◌++◌, ℕ, Bool, true, false, List, [], ◌∷◌, length, inl, inr, refl, sym, ◌∙◌, ap, subst}
+use Rattle.std.proofs.Common.{arith, length-append}
 use Rattle.std.specs.Prelude.{◌≢◌, if◌then◌else◌, not, Result, Ok, Err, OnOk, IfErr}
 use Rattle.std.proofs.lemmas.List.{take-append-le, append-nil}
 use Rattle.medium.specs.Medium.{Image}
@@ -15,7 +16,7 @@ use Rattle.blocks.specs.Turns.{IsTurn}
 use Rattle.store_calls.specs.Calls.{IsWritten, KeepsAll, SyncsStore}
 use Rattle.store_calls.specs.Rooms.{Appends}
 use Rattle.store_calls.specs.Serving.{StaysSafe, LeavesSince, ServesAtRest, ServesOn, WaitsForDevice}
-use Rattle.store_calls.specs.StoreMachine.{Machine, IsFree, Finds, is_behind, under_way}
+use Rattle.store_calls.specs.StoreMachine.{Machine, IsCaughtUp, Finds, is_behind, under_way}
 use Rattle.store_calls.specs.Stores.{Store}
 use Rattle.device_calls.specs.declared.ask.DeviceRead.{DeviceRead}
 use Rattle.store_calls.specs.Transfers.{IsDoneFree, Accepts, Waits, Syncs}
@@ -32,7 +33,7 @@ use Rattle.store_calls.proofs.Standing.{IsSentStill, stays_safe, left_on, keeps_
 not_starting : (calls : List DeviceCall) (a : Asked) → a ≡ asked.Nothing → calls ≡ [] → is_behind a calls ≡ true → ⊥
 not_starting calls a none empty is = cc (sym ((λ i. is_behind (none i) (empty i))) ∙ is)
 
-module _ (old new : Machine) (free : IsFree old) (others : new ≡ record old { store = new.store })
+module _ (old new : Machine) (free : IsCaughtUp old) (others : new ≡ record old { store = new.store })
     (appends : Appends old.store new.store) where
   since : LeavesSince old.store.medium new
   since image left = appends.parts left.count left.done image (omega (
@@ -90,7 +91,7 @@ ours_by : (accepted : Bool) (book : Book) (write : Write) → (if accepted then 
 ours_by true book write = refl
 ours_by false book write = refl
 
-pub accepts : (write : Write) (accepted : Bool) (old new : Machine) → IsFree old → new ≡ record old { store = new.store }
+pub accepts : (write : Write) (accepted : Bool) (old new : Machine) → IsCaughtUp old → new ≡ record old { store = new.store }
     → IsWritten write accepted old.store new.store → Accepts write accepted old new
 accepts write accepted old new free others written =
     let turn = written.passes.turn in record {
@@ -161,13 +162,13 @@ wait_safe old new missing why (inr busy) = wishes old new (ap (λ (s : Machine).
 
 -- ---- a sync
 
-module _ (old new : Machine) (live : is_dead old.store.cached ≡ false) (free : IsFree old)
+module _ (old new : Machine) (live : is_dead old.store.cached ≡ false) (free : IsCaughtUp old)
     (others : new ≡ record old { store = new.store }) where
   pub synced : (told : Result (Unit {0}) StoreFault) → SyncsStore old.store new.store (Ok tt)
       → OnOk told (new.store.medium.outbox ≡ [])
       → IfErr told (λ why. (why ≡ fault.Busy) × (new.store.medium.outbox ≢ [])) → ServesAtRest new → Syncs old new told
   synced (Ok tells) syncs empty waiting rest =
-      let none : IsFree new = record {
+      let none : IsCaughtUp new = record {
         at_none = ap (λ (s : Machine). s.asked) others ∙ free.at_none;
         none_waits = empty;
       } in record {

@@ -22,7 +22,8 @@ use Rattle.store_calls.proofs.Standing.{IsSentStill, Stands, stays_safe, store_s
 
 one_goes : (calls : List DeviceCall) (w : Window) → w.outbox ≡ calls → sent (mirror_of (take_first calls w)) ≡ sent (mirror_of w)
 one_goes [] w is = refl
-one_goes (call ∷ calls) w is = append_assoc w.seen.told.taken (call ∷ []) calls ∙ ap (λ (l : List DeviceCall). w.seen.told.taken ++ l) (sym is)
+one_goes (call ∷ calls) w is =
+    append_assoc w.seen.told.taken (call ∷ []) calls ∙ ap (λ (l : List DeviceCall). w.seen.told.taken ++ l) (sym is)
 
 sent_stays : (count : ℕ) (w : Window) → sent (mirror_of (without count w)) ≡ sent (mirror_of w)
 sent_stays zero w = refl

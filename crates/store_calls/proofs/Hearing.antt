@@ -8,7 +8,7 @@ use Rattle.inlet.specs.Inlet.{AreHeld}
 use Rattle.blocks.specs.StoreValue.{Cached, is_dead, layout_of}
 use Rattle.device_calls.specs.declared.ask.DeviceRead.{DeviceRead}
 use Rattle.device_calls.specs.declared.done_fault.DoneFault.{DoneFault}
-use Rattle.store_calls.specs.Asking.{counted, starts_behind, read_over, IsGivenUp, IsShownBy, IsDone, HasRead, HasEnded, IsHonest}
+use Rattle.store_calls.specs.Asking.{carried_out, starts_behind, read_ended, EndsRefused, IsShownBy, EndsAs, EndsRead, EndsCalls, IsHonest}
 use Rattle.store_calls.specs.Calls.{Sees}
 use Rattle.store_calls.specs.Serving.{StaysSafe, WaitsForDevice}
 use Rattle.store_calls.specs.StoreMachine.{Machine, is_some, is_behind, under_way, carried}
@@ -24,13 +24,13 @@ counted_behind : (calls : List DeviceCall) (was : Bool) → starts_behind calls 
 counted_behind [] was is = absurd (false≢true is)
 counted_behind (call ∷ calls) was is = refl
 
-counted_safe : (old : Machine) (count : ℕ) → old.asked ≡ asked.Calls count → StaysSafe old (counted old)
-counted_safe old count was = stays_safe old (counted old) (store_stays old (counted old) refl (omega arith)
+counted_safe : (old : Machine) (count : ℕ) → old.asked ≡ asked.Calls count → StaysSafe old (carried_out old)
+counted_safe old count was = stays_safe old (carried_out old) (store_stays old (carried_out old) refl (omega arith)
     (λ waits. counted_behind old.store.medium.outbox old.starting))
 
 -- ---- calls are refused
 
-given_up_stands : (old new : Machine) (count : ℕ) → old.asked ≡ asked.Calls count → IsGivenUp old count new → Stands old new
+given_up_stands : (old new : Machine) (count : ℕ) → old.asked ≡ asked.Calls count → EndsRefused old count new → Stands old new
 given_up_stands old new count was given_up =
     let gone = given_up.refused.emptied.medium in record {
       sent = some_go (length old.store.medium.outbox) old.store.medium new.store.medium gone given_up.refused.unchanged;
@@ -64,7 +64,7 @@ as_far old new home was now taken = omega (
   ap (λ (l : List DeviceCall). length l) taken,
 )
 
-unread_safe : (old new : Machine) (home : DeviceRead) → old.asked ≡ asked.Read home → new ≡ read_over old home false → StaysSafe old new
+unread_safe : (old new : Machine) (home : DeviceRead) → old.asked ≡ asked.Read home → new ≡ read_ended old home false → StaysSafe old new
 unread_safe old new home was is =
     let now : new.asked ≡ asked.Nothing = ap (λ (s : Machine). s.asked) is in
     stays_safe old new (store_stays old new (ap (λ (s : Machine). s.store) is)
@@ -107,18 +107,18 @@ shown_safe old new home bytes was shown held =
 -- ---- what the device was asked for last
 
 read_safe : (home : DeviceRead) (ok : Bool) (old new : Machine) (bytes : List ℕ) (result : Result (Unit {0}) DoneFault)
-    → old.asked ≡ asked.Read home → HasRead home ok old bytes result new → IsHonest old ok bytes → StaysSafe old new
+    → old.asked ≡ asked.Read home → EndsRead home ok old bytes result new → IsHonest old ok bytes → StaysSafe old new
 read_safe home true old new bytes result was (inl bad) honest = nothing_changes old new bad.1.1
 read_safe home true old new bytes result was (inr good) honest = shown_safe old new home bytes was good.2 (honest refl home was)
 read_safe home false old new bytes result was read honest = unread_safe old new home was read.1
 
 calls_safe : (count : ℕ) (ok : Bool) (old new : Machine) (result : Result (Unit {0}) DoneFault) → old.asked ≡ asked.Calls count
-    → HasEnded count ok old result new → StaysSafe old new
+    → EndsCalls count ok old result new → StaysSafe old new
 calls_safe count true old new result was ended = subst (λ (s : Machine). StaysSafe old s) (sym ended.1) (counted_safe old count was)
 calls_safe count false old new result was ended = stays_safe old new (given_up_stands old new count was ended.1)
 
 pub done_safe : (a : Asked) (ok : Bool) (old new : Machine) (bytes : List ℕ) (result : Result (Unit {0}) DoneFault)
-    → old.asked ≡ a → IsDone a ok old bytes result new → IsHonest old ok bytes → StaysSafe old new
+    → old.asked ≡ a → EndsAs a ok old bytes result new → IsHonest old ok bytes → StaysSafe old new
 done_safe asked.Nothing ok old new bytes result was done honest = nothing_changes old new done.1
 done_safe (asked.Calls count) ok old new bytes result was done honest = calls_safe count ok old new result was done
 done_safe (asked.Read home) ok old new bytes result was done honest = read_safe home ok old new bytes result was done honest

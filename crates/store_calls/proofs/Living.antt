@@ -2,7 +2,7 @@
 use Rattle.std.proofs.Common.{◌≡◌, inl, inr, [], ◌∷◌, List, ℕ, sym, subst}
 use Rattle.std.specs.Prelude.{Result, Ok, Err}
 use Rattle.spec.specs.Book.{Book}
-use Rattle.store_calls.specs.StoreLives.{Call, next, done, read, write, sync, idle, IsMade, book_after, ServesThroughout}
+use Rattle.store_calls.specs.StoreLives.{Call, next, done, read, write, sync, idle, IsMade, book_after, LivesThrough}
 use Rattle.store_calls.specs.StoreMachine.{Machine, Serves}
 use Rattle.store_calls.specs.Serving.{ServesOn}
 use Rattle.store_calls.specs.Transfers.{Reads, Writes, Syncs}
@@ -48,14 +48,14 @@ idle_on old new made = elim made.1 [
 ]
 
 one : (call : Call) (old new : Machine) → IsMade call old new → (book : Book) → Serves old book → Serves new (book_after call book)
-one (next room) old new made = made.3.serves
-one (done ok bytes) old new made = made.1.2.serves
+one (next room) old new made = made.2.stays.serves
+one (done ok bytes) old new made = (made.1.1.stays made.0).serves
 one (read address room) old new made = read_on address old room new made.0 made.1 made.2
 one (write address bytes result) old new made = write_on address bytes result old new made
 one (sync result) old new made = sync_on result old new made
 one idle old new made = idle_on old new made
 
-pub serves_throughout : ServesThroughout
+pub serves_throughout : LivesThrough
 serves_throughout [] old new is = same old new is
 serves_throughout (call ∷ calls) old new made = λ book serves.
     serves_throughout calls made.0 new made.2 (book_after call book) (one call old made.0 made.1 book serves)

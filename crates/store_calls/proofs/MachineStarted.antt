@@ -1,16 +1,16 @@
 -- How a machine starts, and why it does not.
 use Rattle.std.proofs.Common.{◌≡◌, ℕ, List, refl, sym, ◌∙◌, ap, subst, arith}
 use Rattle.window.specs.Window.{Window, fresh}
-use Rattle.store_calls.specs.MachineStart.{IsReserve, StartsOn, IsNotStarted}
+use Rattle.store_calls.specs.MachineStart.{Reserves, StartsOn, IsNotStarted}
 use Rattle.store_calls.specs.Rooms.{WantsMore}
-use Rattle.store_calls.specs.Serving.{ServesAtRest, BeginsBehind, WaitsForDevice}
+use Rattle.store_calls.specs.Serving.{BeginsOver}
 use Rattle.store_calls.specs.Starts.{Begins, IsNoStart, IsNoLength}
-use Rattle.store_calls.specs.StoreMachine.{Machine, begun}
+use Rattle.store_calls.specs.StoreMachine.{Machine}
 use Rattle.store_calls.specs.Stores.{Store}
 use Rattle.store_calls.specs.declared.call_fault.CallFault.{CallFault}
 use Rattle.store_calls.specs.declared.call_fault.CallFault.TheVariants as fault
 
-module _ (near : List ℕ) (sectors : ℕ) (holds : List ℕ) (span room : ℕ) (reserve : IsReserve near span room) where
+module _ (near : List ℕ) (sectors : ℕ) (holds : List ℕ) (span room : ℕ) (reserve : Reserves near span room) where
   first : Window
   first = fresh sectors near holds span room
 
@@ -32,10 +32,9 @@ module _ (near : List ℕ) (sectors : ℕ) (holds : List ℕ) (span room : ℕ) 
   }
 
   pub started : (store held : Store) (new : Machine) → (¬ IsNoLength near sectors)
-      → Begins (fresh sectors near holds span room) held → store ≡ held → new ≡ begun store → ServesAtRest new → BeginsBehind new
-      → WaitsForDevice new → StartsOn near sectors holds new
-  started store held new sized begins same is serves behind waits =
-      let at : new.store ≡ store = ap (λ (s : Machine). s.store) is in
+      → Begins (fresh sectors near holds span room) held → store ≡ held → BeginsOver store new → StartsOn near sectors holds new
+  started store held new sized begins same over =
+      let at : new.store ≡ store = ap (λ (s : Machine). s.store) over.is in
       let begins_on : Begins (fresh sectors near holds span room) new.store =
       subst (λ (s : Store). Begins (fresh sectors near holds span room) s) (sym (at ∙ same)) begins in record {
         span = span;
@@ -43,8 +42,6 @@ module _ (near : List ℕ) (sectors : ℕ) (holds : List ℕ) (span room : ℕ) 
         reserve = reserve;
         length_is = sized;
         begins = begins_on;
-        is = is ∙ ap (λ (s : Store). begun s) (sym at);
-        serves = serves;
-        leaves = behind (fresh sectors near holds span room) refl begins_on.parts;
-        waits = waits;
+        begun = subst (λ (s : Store). BeginsOver s new) (sym at) over;
+        leaves = over.rests.starts (fresh sectors near holds span room) refl begins_on.parts;
       }

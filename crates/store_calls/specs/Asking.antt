@@ -13,8 +13,9 @@ use Rattle.device_calls.specs.declared.ask.DeviceAsk.TheVariants as ask
 use Rattle.device_calls.specs.declared.done_fault.DoneFault.{DoneFault}
 use Rattle.device_calls.specs.declared.done_fault.DoneFault.TheVariants as fault
 use Rattle.store_calls.specs.Calls.{Sees}
-use Rattle.store_calls.specs.Outbox.{without, IsLongestRun}
+use Rattle.store_calls.specs.Outbox.{without, IsLongestRun, IsNoRoom}
 use Rattle.store_calls.specs.Refused.{IsRefused}
+use Rattle.store_calls.specs.Serving.{StaysSafe, Rests}
 use Rattle.store_calls.specs.StoreMachine.{Machine}
 use Rattle.store_calls.specs.declared.asked.Asked.{Asked}
 use Rattle.store_calls.specs.declared.asked.Asked.TheVariants as asked
@@ -22,6 +23,10 @@ use Rattle.store_calls.specs.declared.lack.Lack.{Lack}
 use Rattle.store_calls.specs.declared.lack.Lack.TheVariants as lack
 
 -- ---- what it is asked for
+
+-- the buffer has room for some whole sectors
+abbrev pub HasRoomFor : List ℕ → Type 0
+HasRoomFor room = ¬ IsNoRoom (length room)
 
 -- so many calls leave the outbox, and the device is asked for them; nothing else changes
 pub record HandsOut (old : Machine) (count : ℕ) (new : Machine) : Type 0 where
@@ -56,6 +61,17 @@ AsksFor old room (ask.Read home) new filled =
     × (to_read old.lack ≡ Some home)
     × (new ≡ record old { asked = asked.Read home }) × (filled ≡ room)
 
+-- so a device that is at no call is asked, for a buffer with room for some whole sectors
+abbrev pub AsksIdle : Machine → List ℕ → DeviceAsk → Machine → List ℕ → Type 0
+AsksIdle old room what new filled =
+    old.asked ≡ asked.Nothing → HasRoomFor room → AsksFor old room what new filled
+
+-- the next call is told, and each life is served on
+pub record TellsNext (old : Machine) (room : List ℕ) (what : DeviceAsk) (new : Machine)
+    (filled : List ℕ) : Type 0 where
+  pub asks : AsksFor old room what new filled
+  pub stays : StaysSafe old new
+
 -- ---- what it tells
 
 -- the start is over where no call waits
@@ -64,14 +80,14 @@ starts_behind [] was = false
 starts_behind (call ∷ calls) was = was
 
 -- the calls that it was asked for are carried out
-abbrev pub counted : Machine → Machine
-counted s = record s {
+abbrev pub carried_out : Machine → Machine
+carried_out s = record s {
   asked = asked.Nothing;
   starting = starts_behind s.store.medium.outbox s.starting;
 }
 
 -- It refused these calls. What waits is handed to no device: the store is dead.
-pub record IsGivenUp (old : Machine) (count : ℕ) (new : Machine) : Type 0 where
+pub record EndsRefused (old : Machine) (count : ℕ) (new : Machine) : Type 0 where
   pub refused : IsRefused old.store new.store
   pub others : new ≡ record old {
     store = new.store;
@@ -86,47 +102,52 @@ lack_behind home true = lack.Nothing
 lack_behind home false = lack.Unread home
 
 -- a read of these sectors is over, and the store took them or not
-abbrev pub read_over : Machine → DeviceRead → Bool → Machine
-read_over s home taken = record s { asked = asked.Nothing; lack = lack_behind home taken }
+abbrev pub read_ended : Machine → DeviceRead → Bool → Machine
+read_ended s home taken = record s { asked = asked.Nothing; lack = lack_behind home taken }
 
 -- the device read these sectors
 pub record IsShownBy (old : Machine) (home : DeviceRead) (bytes : List ℕ) (new : Machine)
     : Type 0 where
   pub taken : Bool
   pub sees : Sees home.first bytes taken old.store new.store
-  pub others : new ≡ record (read_over old home taken) { store = new.store }
+  pub others : new ≡ record (read_ended old home taken) { store = new.store }
 
 -- nothing changes
 abbrev pub IsNotDone : DoneFault → Machine → Result (Unit {0}) DoneFault → Machine → Type 0
 IsNotDone why old result new = (result ≡ Err why) × (new ≡ old)
 
 -- a read has ended, good or not
-abbrev pub HasRead : DeviceRead → Bool → Machine → List ℕ → Result (Unit {0}) DoneFault → Machine
+abbrev pub EndsRead : DeviceRead → Bool → Machine → List ℕ → Result (Unit {0}) DoneFault → Machine
     → Type 0
-HasRead home true old bytes result new =
+EndsRead home true old bytes result new =
     ((length bytes ≢ 512 * home.count) × IsNotDone fault.BadLength old result new)
     ⊎ ((length bytes ≡ 512 * home.count) × (result ≡ Ok tt) × IsShownBy old home bytes new)
-HasRead home false old bytes result new = (result ≡ Ok tt)
-    × (new ≡ read_over old home false)
+EndsRead home false old bytes result new = (result ≡ Ok tt)
+    × (new ≡ read_ended old home false)
 
 -- calls have ended, good or not
-abbrev pub HasEnded : ℕ → Bool → Machine → Result (Unit {0}) DoneFault → Machine → Type 0
-HasEnded count true old result new = (result ≡ Ok tt) × (new ≡ counted old)
-HasEnded count false old result new = (result ≡ Ok tt) × IsGivenUp old count new
+abbrev pub EndsCalls : ℕ → Bool → Machine → Result (Unit {0}) DoneFault → Machine → Type 0
+EndsCalls count true old result new = (result ≡ Ok tt) × (new ≡ carried_out old)
+EndsCalls count false old result new = (result ≡ Ok tt) × EndsRefused old count new
 
 -- what the device was asked for last has ended, good or not; it read these bytes
-abbrev pub IsDone : Asked → Bool → Machine → List ℕ → Result (Unit {0}) DoneFault → Machine
+abbrev pub EndsAs : Asked → Bool → Machine → List ℕ → Result (Unit {0}) DoneFault → Machine
     → Type 0
-IsDone asked.Nothing ok old bytes result new = IsNotDone fault.NothingAsked old result new
-IsDone (asked.Calls count) ok old bytes result new = HasEnded count ok old result new
-IsDone (asked.Read home) ok old bytes result new = HasRead home ok old bytes result new
-IsDone (asked.Refused count behind) ok old bytes result new =
+EndsAs asked.Nothing ok old bytes result new = IsNotDone fault.NothingAsked old result new
+EndsAs (asked.Calls count) ok old bytes result new = EndsCalls count ok old result new
+EndsAs (asked.Read home) ok old bytes result new = EndsRead home ok old bytes result new
+EndsAs (asked.Refused count behind) ok old bytes result new =
     IsNotDone fault.NothingAsked old result new
-
-abbrev pub Hears : Machine → Bool → List ℕ → Result (Unit {0}) DoneFault → Machine → Type 0
-Hears old ok bytes result new = IsDone old.asked ok old bytes result new
 
 -- the bytes are those that the device holds, where it read some
 abbrev pub IsHonest : Machine → Bool → List ℕ → Type 0
 IsHonest s ok bytes = ok ≡ true → (home : DeviceRead) → s.asked ≡ asked.Read home
     → AreHeld (state_of s.store.medium).content home.first (length bytes / 512) bytes
+
+-- The call has ended, and each life is served on. Where the device has carried out all, each
+-- promise stands.
+pub record Ends (old : Machine) (ok : Bool) (bytes : List ℕ) (result : Result (Unit {0}) DoneFault)
+    (new : Machine) : Type 0 where
+  pub is : EndsAs old.asked ok old bytes result new
+  pub stays : IsHonest old ok bytes → StaysSafe old new
+  pub rests : Rests new

@@ -7,7 +7,9 @@ use Rattle.window.specs.Window.{Window}
 use Rattle.spec.specs.Book.{Book}
 use Rattle.blocks.specs.StoreValue.{FitsBook}
 use Rattle.store_calls.specs.Rooms.{CoversParts, IsRoomy, HoldsLog}
-use Rattle.store_calls.specs.StoreMachine.{Machine, IsFree, MayLeave, Serves, is_behind}
+use Rattle.store_calls.specs.StoreMachine.{Machine, IsCaughtUp, MayLeave, Serves, begun}
+use Rattle.store_calls.specs.StoreMachine.{is_behind}
+use Rattle.store_calls.specs.Stores.{Store}
 
 -- a loss of power leaves no more than before
 abbrev pub LeavesNoMore : Machine → Machine → Type 0
@@ -26,8 +28,13 @@ BeginsBehind s = (first : Window) → sent (window.mirror_of first) ≡ []
 
 -- where the device has carried out all, each life that the store fits is served
 abbrev pub ServesAtRest : Machine → Type 0
-ServesAtRest s = IsFree s → (book : Book)
+ServesAtRest s = IsCaughtUp s → (book : Book)
     → FitsBook (window.state_of s.store.medium) s.store.cached book → Serves s book
+
+-- both, of every machine
+pub record Rests (s : Machine) : Type 0 where
+  pub serves : ServesAtRest s
+  pub starts : BeginsBehind s
 
 -- whatever life it serves it serves on, with the same book
 abbrev pub ServesOn : Machine → Machine → Type 0
@@ -37,6 +44,12 @@ ServesOn old new = (book : Book) → Serves old book → Serves new book
 -- one, until the machine serves.
 abbrev pub WaitsForDevice : Machine → Type 0
 WaitsForDevice s = s.starting ≡ true → is_behind s.asked s.store.medium.outbox ≡ true
+
+-- a machine over a store that has just started
+pub record BeginsOver (store : Store) (new : Machine) : Type 0 where
+  pub is : new ≡ begun store
+  pub rests : Rests new
+  pub waits : WaitsForDevice new
 
 -- where nothing waits the outbox has room for the calls of any call, and the sectors before the
 -- first home sector lie in memory: so a start leaves it

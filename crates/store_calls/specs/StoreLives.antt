@@ -3,10 +3,9 @@ use Rattle.std.specs.Prelude.{◌≡◌, ℕ, Bool, List, [], ◌∷◌, Result,
 use Rattle.spec.specs.Book.{Book, with_write, write_of, promised}
 use Rattle.device_calls.specs.declared.ask.DeviceAsk.{DeviceAsk}
 use Rattle.device_calls.specs.declared.done_fault.DoneFault.{DoneFault}
-use Rattle.store_calls.specs.Asking.{AsksFor, Hears, IsHonest}
-use Rattle.store_calls.specs.Serving.{StaysSafe}
+use Rattle.store_calls.specs.Asking.{TellsNext, Ends, IsHonest}
 use Rattle.store_calls.specs.StoreMachine.{Machine, Serves}
-use Rattle.store_calls.specs.Transfers.{Reads, Writes, Syncs, Idles}
+use Rattle.store_calls.specs.Transfers.{Reads, Writes, Syncs, IdlesOnce}
 use Rattle.store_calls.specs.declared.store_fault.StoreFault.{StoreFault}
 
 -- a call, with what it is given, and how a write and a sync are answered
@@ -21,15 +20,14 @@ pub data Call : Type 0 where
 -- the call is made, as its contract says; what the device read is told as it is
 abbrev pub IsMade : Call → Machine → Machine → Type 0
 IsMade (next room) old new = (what : DeviceAsk) × (filled : List ℕ)
-    × AsksFor old room what new filled × StaysSafe old new
+    × TellsNext old room what new filled
 IsMade (done ok bytes) old new = IsHonest old ok bytes
-    × ((result : Result (Unit {0}) DoneFault) × Hears old ok bytes result new
-    × StaysSafe old new)
+    × ((result : Result (Unit {0}) DoneFault) × Ends old ok bytes result new)
 IsMade (read address room) old new = (filled : List ℕ)
     × (result : Result (Unit {0}) StoreFault) × Reads address old room new filled result
 IsMade (write address bytes result) old new = Writes address bytes old new result
 IsMade (sync result) old new = Syncs old new result
-IsMade idle old new = (left : Bool) × Idles old new left
+IsMade idle old new = (left : Bool) × IdlesOnce old new left
 
 abbrev pub AreMade : List Call → Machine → Machine → Type 0
 AreMade [] old new = new ≡ old
@@ -51,6 +49,6 @@ books_after [] book = book
 books_after (call ∷ calls) book = books_after calls (book_after call book)
 
 -- whatever calls of a machine come, in any order
-abbrev pub ServesThroughout : Type 0
-ServesThroughout = (calls : List Call) (old new : Machine) → AreMade calls old new
+abbrev pub LivesThrough : Type 0
+LivesThrough = (calls : List Call) (old new : Machine) → AreMade calls old new
     → (book : Book) → Serves old book → Serves new (books_after calls book)

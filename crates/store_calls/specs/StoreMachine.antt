@@ -56,13 +56,6 @@ has_refused (asked.Calls count) = false
 has_refused (asked.Read home) = false
 has_refused (asked.Refused count behind) = true
 
--- it reads
-abbrev pub is_reading : Asked → Bool
-is_reading asked.Nothing = false
-is_reading (asked.Calls count) = false
-is_reading (asked.Read home) = true
-is_reading (asked.Refused count behind) = false
-
 -- it has refused none of its calls, and not told all of them done
 abbrev pub is_behind : Asked → List DeviceCall → Bool
 is_behind asked.Nothing calls = is_some calls
@@ -75,7 +68,7 @@ abbrev pub carried : Machine → ℕ
 carried s = length s.store.medium.seen.told.taken - under_way s.asked
 
 -- it is at no call, and none waits: it has carried out all that it was told
-pub record IsFree (s : Machine) : Type 0 where
+pub record IsCaughtUp (s : Machine) : Type 0 where
   pub at_none : s.asked ≡ asked.Nothing
   pub none_waits : s.store.medium.outbox ≡ []
 
@@ -98,12 +91,12 @@ MayLeave s image =
 -- ---- what a machine is at
 
 -- where the device refused nothing
-abbrev pub state_by : Bool → MachineState
-state_by true = state.Starting
-state_by false = state.Serving
+abbrev pub stage_by : Bool → MachineState
+stage_by true = state.Starting
+stage_by false = state.Serving
 
-abbrev pub state_of : Machine → MachineState
-state_of s = if has_refused s.asked then state.Refused else state_by s.starting
+abbrev pub stage_of : Machine → MachineState
+stage_of s = if has_refused s.asked then state.Refused else stage_by s.starting
 
 -- ---- the promise
 

@@ -10,7 +10,7 @@ use Rattle.store_calls.specs.Calls.{MayMove, IsNoSize, home_of, IsRead, IsUnread
 use Rattle.store_calls.specs.Calls.{IsWritten, CostsWrite, SyncsStore, MakesStep}
 use Rattle.store_calls.specs.Rooms.{AreInSight, AreMissing}
 use Rattle.store_calls.specs.Serving.{LeavesSince, ServesOn, KeepsGoing, StaysSafe}
-use Rattle.store_calls.specs.StoreMachine.{Machine, IsFree, Serves}
+use Rattle.store_calls.specs.StoreMachine.{Machine, IsCaughtUp, Serves}
 use Rattle.store_calls.specs.declared.asked.Asked.{Asked}
 use Rattle.store_calls.specs.declared.asked.Asked.TheVariants as asked
 use Rattle.store_calls.specs.declared.call_fault.CallFault.TheVariants as call
@@ -19,8 +19,8 @@ use Rattle.store_calls.specs.declared.lack.Lack.TheVariants as lack
 use Rattle.store_calls.specs.declared.store_fault.StoreFault.{StoreFault}
 use Rattle.store_calls.specs.declared.store_fault.StoreFault.TheVariants as fault
 
--- Why blocks may not be moved: for the length first, then for the range, and then since the store is
--- dead.
+-- Why blocks may not be moved: for the length first, then for the range, and then since the store
+-- is dead.
 abbrev pub MayNot : Cached → ℕ → ℕ → StoreFault → Type 0
 MayNot s address size why = ((why ≡ fault.Length) × IsNoSize s size)
     ⊎ ((why ≡ fault.Range) × (¬ IsNoSize s size) × (blocks_of s < address + size / 512))
@@ -79,12 +79,12 @@ Reads address old room new filled (Err why) =
 
 -- Nothing changes: the device has not carried out all that it was told.
 abbrev pub IsBusy : Machine → Machine → StoreFault → Type 0
-IsBusy old new why = (¬ IsFree old) × (why ≡ fault.Busy) × (new ≡ old)
+IsBusy old new why = (¬ IsCaughtUp old) × (why ≡ fault.Busy) × (new ≡ old)
 
 -- The device had carried out all, and this is done to the store. What a loss of power leaves of it,
 -- wherever in its calls the device is, a cut at some moment of them could leave.
 pub record IsDoneFree (old new : Machine) : Type 0 where
-  pub free : IsFree old
+  pub free : IsCaughtUp old
   pub others : new ≡ record old { store = new.store }
   pub since : LeavesSince old.store.medium new
   pub goes_on : KeepsGoing old new
@@ -114,7 +114,7 @@ Writes address bytes old new (Err why) =
 pub record Promises (old new : Machine) : Type 0 where
   pub done : IsDoneFree old new
   pub synced : SyncsStore old.store new.store (Ok tt)
-  pub free : IsFree new
+  pub free : IsCaughtUp new
   pub serves : (book : Book) → Serves old book → Serves new (promised book)
 
 -- The calls that make them durable wait for the device. The next sync promises them, where it has
@@ -143,6 +143,6 @@ Syncs old new (Err why) = ((why ≡ fault.Dead) × (is_dead old.store.cached ≡
 
 -- One step is made where the device has carried out all, and whether one is left is told; else
 -- nothing changes, and some may be left.
-abbrev pub Idles : Machine → Machine → Bool → Type 0
-Idles old new left = ((¬ IsFree old) × (left ≡ true) × (new ≡ old))
+abbrev pub IdlesOnce : Machine → Machine → Bool → Type 0
+IdlesOnce old new left = ((¬ IsCaughtUp old) × (left ≡ true) × (new ≡ old))
     ⊎ (IsDoneFree old new × MakesStep old.store new.store left × ServesOn old new)

@@ -1,8 +1,6 @@
 //! What the device of a store is asked for.
-ghost use Rattle.std.specs.Prelude.{◌≡◌, List, [], ℕ, length};
-ghost use Rattle.store_calls.specs.Outbox.{IsNoRoom};
-ghost use Rattle.store_calls.specs.Asking.{AsksFor};
-ghost use Rattle.store_calls.specs.Serving.{StaysSafe};
+ghost use Rattle.std.specs.Prelude.{◌≡◌, List, [], ℕ};
+ghost use Rattle.store_calls.specs.Asking.{AsksFor, AsksIdle, TellsNext, HasRoomFor};
 ghost use Rattle.store_calls.specs.declared.asked.Asked.TheVariants as asked;
 
 use crate::asked::Asked;
@@ -16,9 +14,8 @@ impl StoreMachine {
     /// What the device is to do next: nothing as long as it has not told the last call done. The
     /// bytes of writes go to the front of the buffer, which has room for some whole sectors.
     pub fn next(&mut self, buffer: &mut [u8]) -> DeviceAsk
-        requires { ¬ IsNoRoom (length buffer.old) }
-        ensures asks { AsksFor self.old buffer.old result self.new buffer.new }
-        ensures stays { StaysSafe self.old self.new }
+        requires { HasRoomFor buffer.old }
+        ensures { TellsNext self.old buffer.old result self.new buffer.new }
     {
         match self.asked {
             Asked::Nothing => self.ask(buffer),
@@ -28,8 +25,7 @@ impl StoreMachine {
 
     // What a device that is at no call is to do next.
     fn ask(&mut self, buffer: &mut [u8]) -> DeviceAsk
-        ensures { self.old.asked ≡ asked.Nothing → ¬ IsNoRoom (length buffer.old)
-            → AsksFor self.old buffer.old result self.new buffer.new }
+        ensures { AsksIdle self.old buffer.old result self.new buffer.new }
     {
         match self.store.medium().first() {
             Some(DeviceCall::Write(write)) => {

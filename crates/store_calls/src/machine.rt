@@ -1,8 +1,8 @@
 //! A store, and the device behind it, which may be behind.
 ghost use Rattle.std.specs.Prelude.{◌≡◌, ◌↔◌, IsTrue};
 ghost use Rattle.blocks.specs.StoreValue.{blocks_of, transfer_limit};
-ghost use Rattle.store_calls.specs.StoreMachine.{begun, state_of, state_by, is_reading, IsFree};
-ghost use Rattle.store_calls.specs.Serving.{ServesAtRest, BeginsBehind, WaitsForDevice};
+ghost use Rattle.store_calls.specs.StoreMachine.{stage_of, stage_by, IsCaughtUp};
+ghost use Rattle.store_calls.specs.Serving.{BeginsOver, Rests};
 
 use crate::asked::Asked;
 use crate::calls::Sizes;
@@ -28,10 +28,7 @@ pub struct StoreMachine {
 impl StoreMachine {
     // A machine over a store that has just started.
     pub(crate) fn new(store: Store<WindowMedium>) -> StoreMachine
-        ensures is { result ≡ begun store }
-        ensures serves { ServesAtRest result }
-        ensures starts { BeginsBehind result }
-        ensures waits { WaitsForDevice result }
+        ensures { BeginsOver store result }
     {
         let starting = store.medium().waiting() > 0;
         let machine = StoreMachine {
@@ -46,7 +43,7 @@ impl StoreMachine {
 
     /// What the machine is at.
     pub fn state(&self) -> MachineState
-        ensures { result ≡ state_of self.now }
+        ensures { result ≡ stage_of self.now }
     {
         match self.asked {
             Asked::Refused(_, _) => MachineState::Refused,
@@ -56,7 +53,7 @@ impl StoreMachine {
 
     // What a machine is at whose device refused nothing.
     fn starting_or_serving(&self) -> MachineState
-        ensures { result ≡ state_by self.now.starting }
+        ensures { result ≡ stage_by self.now.starting }
     {
         if self.starting {
             MachineState::Starting
@@ -77,27 +74,16 @@ impl StoreMachine {
     }
 
     // Whether the device has carried out all that it was told.
-    pub(crate) fn is_free(&self) -> bool
-        ensures { IsTrue result ↔ IsFree self.now }
+    pub(crate) fn is_caught_up(&self) -> bool
+        ensures { IsTrue result ↔ IsCaughtUp self.now }
     {
         self.asked == Asked::Nothing && self.store.medium().waiting() == 0
-    }
-
-    // Whether the device reads.
-    pub(crate) fn is_reading(&self) -> bool
-        ensures { result ≡ is_reading self.now.asked }
-    {
-        match self.asked {
-            Asked::Nothing | Asked::Calls(_) | Asked::Refused(_, _) => false,
-            Asked::Read(_) => true,
-        }
     }
 
     // Does nothing. Where the device has carried out all, each promise stands; where it has carried
     // out none, a start does.
     pub(crate) fn rest(&self)
-        ensures serves { ServesAtRest self.now }
-        ensures starts { BeginsBehind self.now }
+        ensures { Rests self.now }
     {
         let _waiting = self.store.medium().waiting();
         device_laws();

@@ -1,7 +1,6 @@
 //! How a machine starts on the first sectors of a device.
-ghost use Rattle.std.specs.Prelude.{◌≡◌, IfOk, IfErr, MatchOption};
-ghost use Rattle.journal.specs.Formats.{shape_of};
-ghost use Rattle.store_calls.specs.MachineStart.{IsReserve, IsTheSuper, HasSuper};
+ghost use Rattle.std.specs.Prelude.{IfOk, IfErr};
+ghost use Rattle.store_calls.specs.MachineStart.{Reserves, FindsSuper};
 ghost use Rattle.store_calls.specs.MachineStart.{StartsOn, IsNotStarted};
 
 use crate::CallFault;
@@ -22,7 +21,7 @@ struct Reserve {
 
 // What a store on an image of these first sectors takes.
 fn reserve_for(near: &[u8]) -> Reserve
-    ensures { IsReserve near.now result.span result.room }
+    ensures { Reserves near.now result.span result.room }
 {
     match super_of(near) {
         Some(sizes) => Reserve {
@@ -35,8 +34,7 @@ fn reserve_for(near: &[u8]) -> Reserve
 
 // The super with which these first sectors begin, if they do.
 fn super_of(near: &[u8]) -> Option<Super>
-    ensures { MatchOption result (¬ HasSuper near.now)
-        (λ sizes. IsTheSuper near.now (shape_of sizes)) }
+    ensures { FindsSuper near.now result }
 {
     if near.len() < BLOCK {
         return None;

@@ -1,8 +1,7 @@
 //! What the device of a store tells of what it was asked for.
 ghost use Rattle.std.specs.Prelude.{◌≡◌};
-ghost use Rattle.store_calls.specs.Asking.{Hears, IsDone, IsHonest, HasRead};
-ghost use Rattle.store_calls.specs.Asking.{IsGivenUp, counted, read_over};
-ghost use Rattle.store_calls.specs.Serving.{StaysSafe, ServesAtRest};
+ghost use Rattle.store_calls.specs.Asking.{Ends, EndsAs, EndsRead};
+ghost use Rattle.store_calls.specs.Asking.{EndsRefused, carried_out, read_ended};
 
 use crate::asked::Asked;
 use crate::lack::Lack;
@@ -23,9 +22,7 @@ impl StoreMachine {
     /// `NothingAsked` where the device is at no call, and `BadLength` where the bytes are not as
     /// many as those of the sectors that it was to read. Nothing changes then.
     pub fn done(&mut self, ok: bool, bytes: &[u8]) -> Result<(), DoneFault>
-        ensures is { Hears self.old ok bytes.now result self.new }
-        ensures stays { IsHonest self.old ok bytes.now → StaysSafe self.old self.new }
-        ensures rest { ServesAtRest self.new }
+        ensures { Ends self.old ok bytes.now result self.new }
     {
         let told = self.hear(ok, bytes);
         self.rest();
@@ -34,7 +31,7 @@ impl StoreMachine {
 
     // The same, of which nothing is said where the device has carried out all.
     fn hear(&mut self, ok: bool, bytes: &[u8]) -> Result<(), DoneFault>
-        ensures { IsDone self.old.asked ok self.old bytes.now result self.new }
+        ensures { EndsAs self.old.asked ok self.old bytes.now result self.new }
     {
         match self.asked {
             Asked::Nothing | Asked::Refused(_, _) => Err(DoneFault::NothingAsked),
@@ -52,7 +49,7 @@ impl StoreMachine {
 
     // The calls that the device was asked for are carried out.
     fn count(&mut self)
-        ensures { self.new ≡ counted self.old }
+        ensures { self.new ≡ carried_out self.old }
     {
         self.asked = Asked::Nothing;
         if self.store.medium().waiting() == 0 {
@@ -62,7 +59,7 @@ impl StoreMachine {
 
     // The device refused so many calls.
     fn give_up(&mut self, count: usize)
-        ensures { IsGivenUp self.old count self.new }
+        ensures { EndsRefused self.old count self.new }
     {
         let behind = self.store.medium().waiting();
         refuse(&mut self.store);
@@ -72,7 +69,7 @@ impl StoreMachine {
 
     // A read of these sectors has ended, good or not.
     fn take_read(&mut self, home: DeviceRead, ok: bool, bytes: &[u8]) -> Result<(), DoneFault>
-        ensures { HasRead home ok self.old bytes.now result self.new }
+        ensures { EndsRead home ok self.old bytes.now result self.new }
     {
         if !ok {
             self.end_read(home, false);
@@ -88,7 +85,7 @@ impl StoreMachine {
 
     // A read of these sectors is over, and the store took them or not.
     fn end_read(&mut self, home: DeviceRead, taken: bool)
-        ensures { self.new ≡ read_over self.old home taken }
+        ensures { self.new ≡ read_ended self.old home taken }
     {
         self.asked = Asked::Nothing;
         self.lack = if taken {

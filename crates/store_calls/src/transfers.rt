@@ -5,13 +5,14 @@ ghost use Rattle.spec.specs.Book.{write_of};
 ghost use Rattle.device_calls.specs.declared.ask.DeviceRead.{DeviceRead};
 ghost use Rattle.store_calls.specs.Calls.{MayMove, CostsWrite, home_of};
 ghost use Rattle.store_calls.specs.Rooms.{AreInSight};
-ghost use Rattle.store_calls.specs.Serving.{ServesAtRest};
-ghost use Rattle.store_calls.specs.StoreMachine.{IsFree};
+ghost use Rattle.store_calls.specs.Serving.{Rests};
+ghost use Rattle.store_calls.specs.StoreMachine.{IsCaughtUp};
 ghost use Rattle.store_calls.specs.Transfers.{MayNot, Reads, ReadsOn, ReadsNone, Waits};
-ghost use Rattle.store_calls.specs.Transfers.{Writes, Accepts, Syncs, Idles};
+ghost use Rattle.store_calls.specs.Transfers.{Writes, Accepts, Syncs, IdlesOnce};
 ghost use Rattle.store_calls.specs.declared.lack.Lack.TheVariants as lack;
 
 use crate::CallFault;
+use crate::asked::Asked;
 use crate::background::make_step;
 use crate::lack::Lack;
 use crate::machine::StoreMachine;
@@ -53,7 +54,7 @@ impl StoreMachine {
         ensures { Writes block bytes.now self.old self.new result }
     {
         self.may_move(block, bytes.len())?;
-        if !self.is_free() {
+        if !self.is_caught_up() {
             return Err(StoreFault::Busy);
         }
         if self.accept(block, bytes) {
@@ -75,7 +76,7 @@ impl StoreMachine {
         if self.store.is_dead() {
             return Err(StoreFault::Dead);
         }
-        if !self.is_free() {
+        if !self.is_caught_up() {
             return Err(StoreFault::Busy);
         }
         match sync_store(&mut self.store) {
@@ -86,9 +87,9 @@ impl StoreMachine {
 
     /// A step in the background, where the device has carried out all. Whether one may be left.
     pub fn idle(&mut self) -> bool
-        ensures { Idles self.old self.new result }
+        ensures { IdlesOnce self.old self.new result }
     {
-        if !self.is_free() {
+        if !self.is_caught_up() {
             return true;
         }
         make_step(&mut self.store)
@@ -99,7 +100,7 @@ impl StoreMachine {
         ensures ok { OnOk result (self.now.store.medium.outbox ≡ []) }
         ensures err { IfErr result (λ why. (why ≡ StoreFault.Busy)
             × (self.now.store.medium.outbox ≢ [])) }
-        ensures rest { ServesAtRest self.now }
+        ensures rest { Rests self.now }
     {
         self.rest();
         if self.store.medium().waiting() > 0 {
@@ -129,8 +130,11 @@ impl StoreMachine {
             self.lack = Lack::Nothing;
             return StoreFault::ReadRefused;
         }
-        if !self.is_reading() {
-            self.lack = Lack::Wanted(missing);
+        match self.asked {
+            Asked::Read(_) => {}
+            Asked::Nothing | Asked::Calls(_) | Asked::Refused(_, _) => {
+                self.lack = Lack::Wanted(missing);
+            }
         }
         StoreFault::Busy
     }
@@ -163,7 +167,7 @@ impl StoreMachine {
     // Writes blocks, where the device is free. Whether they are accepted.
     fn accept(&mut self, block: u64, bytes: &[u8]) -> bool
         requires may { MayMove self.old.store.cached block (length bytes.now) }
-        requires free { IsFree self.old }
+        requires free { IsCaughtUp self.old }
         ensures is { Accepts (write_of block bytes.now) result self.old self.new }
         ensures cost { result ≡ true
             → CostsWrite block (length bytes.now / 512) self.old.store self.new.store }

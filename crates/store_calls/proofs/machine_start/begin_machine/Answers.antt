@@ -3,7 +3,7 @@ use Rattle.store_calls.proofs.machine_start.begin_machine.Goals as goal
 
 pub returns-in-Ok-clause-ok : goal.returns-in-Ok-clause-ok
 returns-in-Ok-clause-ok c = started _ _ _ _ _ c.reserve_for-reserve.ensures _ _ _ c.in-Ok.ensures.ok.0 c.in-Ok.ensures.ok.1
-    c.into_inner.ensures c.new.ensures.is c.new.ensures.serves c.new.ensures.starts c.new.ensures.waits
+    c.into_inner.ensures c.new.ensures
 
 pub returns-in-Err-clause-err : goal.returns-in-Err-clause-err
 returns-in-Err-clause-err c = not_started _ _ _ _ _ c.reserve_for-reserve.ensures _ c.in-Err.ensures.err

@@ -1,8 +1,9 @@
 use Rattle.store_calls.proofs.Handing.{asks_safe}
 use Rattle.store_calls.proofs.machine.StoreMachine.next.Goals as goal
 
-pub returns-in-Nothing-clause-asks : goal.returns-in-Nothing-clause-asks
-returns-in-Nothing-clause-asks c = c.ask.ensures c.in-Nothing.is c.requires
-
-pub returns-in-Nothing-clause-stays : goal.returns-in-Nothing-clause-stays
-returns-in-Nothing-clause-stays c = asks_safe _ _ _ _ _ (c.ask.ensures c.in-Nothing.is c.requires)
+pub returns-in-Nothing : goal.returns-in-Nothing
+returns-in-Nothing c =
+    let asks = c.ask.ensures c.in-Nothing.is c.requires in record {
+      asks = asks;
+      stays = asks_safe _ _ _ _ _ asks;
+    }
