@@ -1,7 +1,7 @@
 -- What is done to a store whose device has carried out all.
 use Rattle.std.proofs.Common.{◌≡◌, ◌≤◌, ◌++◌, ℕ, Bool, true, false, List, [], ◌∷◌, length, inl, inr, refl, sym, ◌∙◌, ap, subst}
 use Rattle.std.proofs.Common.{arith, length-append}
-use Rattle.std.specs.Prelude.{◌≢◌, if◌then◌else◌, not, Result, Ok, Err, OnOk, IfErr}
+use Rattle.std.specs.Prelude.{◌≢◌, ◌+◌, Option, if◌then◌else◌, not, Result, Ok, Err, OnOk, IfErr}
 use Rattle.std.proofs.lemmas.List.{take-append-le, append-nil}
 use Rattle.medium.specs.Medium.{Image}
 use Rattle.mirror.specs.Story.{given}
@@ -162,6 +162,18 @@ wait_safe old new missing why (inr busy) = wishes old new (ap (λ (s : Machine).
 
 -- ---- a sync
 
+-- where some call waits now, some was made
+some_calls : (old new : Window) (since : List (Option DeviceCall)) → new.seen.told.asked ≡ old.seen.told.asked ++ since
+    → new.outbox ≡ old.outbox ++ given since → old.outbox ≡ [] → new.outbox ≢ []
+    → (window.state_of old).calls + 1 ≤ (window.state_of new).calls
+some_calls old new [] asked outbox empty some =
+    absurd (some (outbox ∙ append-nil old.outbox ∙ empty))
+some_calls old new (call ∷ calls) asked outbox empty some = omega (
+  arith,
+  ap (λ (l : List (Option DeviceCall)). length l) asked,
+  length-append old.seen.told.asked (call ∷ calls),
+)
+
 module _ (old new : Machine) (live : is_dead old.store.cached ≡ false) (free : IsCaughtUp old)
     (others : new ≡ record old { store = new.store }) where
   pub synced : (told : Result (Unit {0}) StoreFault) → SyncsStore old.store new.store (Ok tt)
@@ -184,6 +196,12 @@ module _ (old new : Machine) (live : is_dead old.store.cached ≡ false) (free :
       done = done_free old new free others syncs.0.appends syncs.0.passes.turn.goes_on.layout_stays;
       synced = syncs;
       waits = waiting.1;
+      fewer = omega (
+        arith,
+        syncs.0.passes.paid.rest syncs.1,
+        some_calls old.store.medium new.store.medium syncs.0.appends.follows.since syncs.0.appends.follows.asked
+            syncs.0.appends.follows.outbox free.none_waits waiting.1,
+      );
       serves = turn_serves old new free others syncs.0.appends syncs.0.passes.turn;
     })),
   )

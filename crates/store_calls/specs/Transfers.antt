@@ -5,6 +5,7 @@ use Rattle.spec.specs.Blocks.{Write}
 use Rattle.spec.specs.Book.{Book, with_write, write_of, promised}
 use Rattle.blocks.specs.Book.{IsTransfer}
 use Rattle.blocks.specs.StoreValue.{Cached, blocks_of, transfer_limit, is_dead}
+use Rattle.blocks.specs.StoreValue.{steps_left}
 use Rattle.device_calls.specs.declared.ask.DeviceRead.{DeviceRead}
 use Rattle.store_calls.specs.Calls.{MayMove, IsNoSize, home_of, IsRead, IsUnread}
 use Rattle.store_calls.specs.Calls.{IsWritten, CostsWrite, SyncsStore, MakesStep}
@@ -117,13 +118,14 @@ pub record Promises (old new : Machine) : Type 0 where
   pub free : IsCaughtUp new
   pub serves : (book : Book) → Serves old book → Serves new (promised book)
 
--- The calls that make them durable wait for the device. The next sync promises them, where it has
--- carried them out and no write came between: it makes no call then (`CostsSync`).
+-- The calls that make them durable wait for the device. Each such sync leaves fewer steps, and no
+-- other call but a write adds any: so a good one comes, once the device has carried them out.
 pub record SyncsOn (old new : Machine) (why : StoreFault) : Type 0 where
   pub is : why ≡ fault.Busy
   pub done : IsDoneFree old new
   pub synced : SyncsStore old.store new.store (Ok tt)
   pub waits : new.store.medium.outbox ≢ []
+  pub fewer : steps_left new.store.cached < steps_left old.store.cached
   pub serves : ServesOn old new
 
 -- The store died, and nothing more is promised.
