@@ -3,3 +3,8 @@ pub mod Laid
 pub mod OnWay
 pub mod NextCall
 pub mod LayFaults
+pub mod Taken
+pub mod Keeping
+pub mod AtRest
+pub mod Migrations
+pub mod Living

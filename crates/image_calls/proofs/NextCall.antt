@@ -70,11 +70,12 @@ module _ (shape : Shape) (first now new : Window) (same : IsUnchanged (state_of 
     calls = omega (arith, made.calls, same.calls_stay);
   }
 
-  on_way_on : (left : Option Plan) → IsOnWay shape left (state_of first) (state_of now) → IsOnWay shape left (state_of first) (state_of new)
+  pub on_way_on : (left : Option Plan) → IsOnWay shape left (state_of first) (state_of now)
+      → IsOnWay shape left (state_of first) (state_of new)
   on_way_on (Some plan) (is, under) = (is, under_on plan.at under)
   on_way_on None made = made_on made
 
-has_room_on : (left : Option Plan) (now new : Window) → new.room ≡ now.room → HasRoom left now → HasRoom left new
+pub has_room_on : (left : Option Plan) (now new : Window) → new.room ≡ now.room → HasRoom left now → HasRoom left new
 has_room_on (Some plan) now new same room = omega (arith, same, room)
 has_room_on None now new same room = tt
 

@@ -4,3 +4,6 @@ pub mod WorkRow
 pub mod Works
 pub mod Formats
 pub mod Parts
+pub mod Machines
+pub mod Plans
+pub mod Lives

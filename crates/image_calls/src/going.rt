@@ -18,8 +18,8 @@ pub(crate) fn hand_on(work: &mut Work, sector: &mut u64, to: &mut [u8; 512]) -> 
     show(call, sector, to)
 }
 
-// Makes what comes next, where nothing waits.
-fn go_on(work: &mut Work)
+/// Makes what comes next, where nothing waits.
+pub(crate) fn go_on(work: &mut Work)
     ensures { MakesParts work.old work.new }
 {
     // The law of the outbox, from the first call on.

@@ -1,0 +1,155 @@
+-- What a loss of power leaves, whatever calls come.
+use Rattle.std.proofs.Common.{◌≡◌, [], ◌∷◌, ℕ, List, refl, sym, subst}
+use Rattle.std.specs.Prelude.{Bool, true, false, Option, Some, None}
+use Rattle.medium.specs.Medium.{Image, State}
+use Rattle.medium.specs.Moments.{IsFlushed}
+use Rattle.mirror.specs.declared.call.DeviceCall.{DeviceCall}
+use Rattle.window.specs.Window as window
+use Rattle.window.specs.Window.{Window}
+use Rattle.journal.specs.Places.{Shape}
+use Rattle.journal.specs.Record.{home_of}
+use Rattle.journal.specs.Standing.{IsOurs}
+use Rattle.recovery.specs.Calls.{FormatLeaves}
+use Rattle.recovery.specs.Recovered.{IsMigrationBy}
+use Rattle.recovery.specs.declared.recovered.Recovered.{Recovered}
+use Rattle.image_calls.specs.Formats.{BeginsFormat, IsFormatting}
+use Rattle.image_calls.specs.Images.{IsLaidOn, IsMigratedOn, IsWhole}
+use Rattle.image_calls.specs.Lives.{Call, IsMade, AreMade, LeavesImage, LeavesMigrated, LeavesThroughout}
+use Rattle.image_calls.specs.Lives.Call.{next, done}
+use Rattle.image_calls.specs.Machines.{Machine, MayLeave, LeavesAtRest, Begins, GoesOn, CarriesOut, state_of, state_by, state_at_rest}
+use Rattle.image_calls.specs.Parts.{IsMadeAnew, IsOnWay}
+use Rattle.image_calls.specs.Works.{Work}
+use Rattle.image_calls.specs.declared.asked.ImageAsked.{ImageAsked}
+use Rattle.image_calls.specs.declared.asked.ImageAsked.TheVariants as asked
+use Rattle.image_calls.specs.declared.plan.Plan.{Plan}
+use Rattle.image_calls.specs.declared.state.ImageState.TheVariants as state
+use Rattle.image_calls.proofs.OnWay.{BLANK}
+use Rattle.image_calls.proofs.Taken.{some_go}
+
+-- ---- call after call
+
+through : (a b c : Machine) → GoesOn a b → GoesOn b c → GoesOn a c
+through a b c f g = record {
+  formats = λ shape first is. g.formats shape first (f.formats shape first is);
+  carries = λ first is. g.carries first (f.carries first is);
+  since = λ first is. g.since first (f.since first is);
+  rest = g.rest;
+}
+
+goes_by : (call : Call) (old new : Machine) → IsMade call old new → GoesOn old new
+goes_by (next room) old new made = made.3
+goes_by (done ok) old new made = made.2
+
+throughout : (calls : List Call) (old new : Machine) → AreMade calls old new → LeavesAtRest old → GoesOn old new
+throughout [] old new same rest = subst (λ (s : Machine). GoesOn old s) (sym same)
+    (record { formats = λ shape first is. is; carries = λ first is. is; since = λ first is. is; rest = rest })
+throughout (call ∷ calls) old new (mid, made, others) rest =
+    let first = goes_by call old mid made in
+    through old mid new first (throughout calls mid new others first.rest)
+
+-- ---- what is done
+
+rest_is : (calls : List DeviceCall) (left : Option Plan) → state_at_rest calls left ≡ state.Done → (calls ≡ []) × (left ≡ None)
+rest_is [] None is = (refl, refl)
+rest_is [] (Some plan) is = absurd (cc is)
+rest_is (call ∷ calls) left is = absurd (cc is)
+
+done_is : (a : ImageAsked) (work : Work) → state_by a work ≡ state.Done
+    → (a ≡ asked.Nothing) × (work.medium.outbox ≡ []) × (work.left ≡ None)
+done_is asked.Nothing work is = let rest = rest_is work.medium.outbox work.left is in (refl, rest.0, rest.1)
+done_is (asked.Calls call count) work is = absurd (cc is)
+done_is (asked.Refused call count) work is = absurd (cc is)
+
+-- the image is what the medium holds
+same_image : (m : State) (image : Image) → IsFlushed m → ((s : ℕ) → m.may_leave s (image s)) → m.content ≡ image
+same_image m image flushed cut i s = sym (flushed s (image s) (cut s)) i
+
+-- ---- a format
+
+leaves_of : (shape : Shape) (left : Option Plan) (first now : State) → IsOnWay shape left first now → FormatLeaves shape first now
+leaves_of shape (Some plan) first now under = under.1.leaves
+leaves_of shape None first now made = made.leaves
+
+module _ (shape : Shape) (first : Window) (calls : List Call) (old new : Machine) (begins : Begins (BeginsFormat shape first) first old)
+    (made : AreMade calls old new) where
+  goes : GoesOn old new
+  goes = throughout calls old new made begins.rest
+
+  formatting : IsFormatting shape first new.work
+  formatting = goes.formats shape first begins.work.formatting
+
+  leaves : FormatLeaves shape (window.state_of first) (window.state_of new.work.medium)
+  leaves = leaves_of shape new.work.left (window.state_of first) (window.state_of new.work.medium) formatting.on_way
+
+  made_anew : state_of new ≡ state.Done → IsMadeAnew shape (window.state_of first) (window.state_of new.work.medium)
+  made_anew is = subst (λ (l : Option Plan). IsOnWay shape l (window.state_of first) (window.state_of new.work.medium))
+      (done_is new.asked new.work is).2 formatting.on_way
+
+  new_alone : state_of new ≡ state.Done → (image : Image) → MayLeave new image → IsOurs (window.state_of first).size shape image BLANK 2
+  new_alone is image left =
+      let formatted = (made_anew is).formatted in
+      let all = done_is new.asked new.work is in
+      let same = same_image (window.state_of new.work.medium) image formatted.flushed (goes.rest all.0 all.1 image left) in
+      subst (λ (n : ℕ). IsOurs n shape image BLANK 2) leaves.cuts.size_stays
+      (subst (λ (c : Image). IsOurs (window.state_of new.work.medium).size shape c BLANK 2) same formatted.ours)
+
+  format_leaves : LeavesImage shape BLANK first new
+      × (state_of new ≡ state.Done → IsMadeAnew shape (window.state_of first) (window.state_of new.work.medium))
+  format_leaves = (
+    record {
+      midway = λ image left. leaves.cuts.each image ((goes.since first begins.since).left image left);
+      done = new_alone;
+    },
+    made_anew,
+  )
+
+-- ---- all that is to do waits
+
+module _ (Is : Window → Type 0) (first : Window) (calls : List Call) (old new : Machine) (begins : Begins (IsWhole Is) first old)
+    (made : AreMade calls old new) where
+  whole_goes : GoesOn old new
+  whole_goes = throughout calls old new made begins.rest
+
+  out : CarriesOut old.work.medium new
+  out = whole_goes.carries old.work.medium (begins.work.1, (0, refl))
+
+  -- what a cut of the medium since the first moment could leave
+  whole_since : (image : Image) → MayLeave new image → (window.state_of old.work.medium).left_since (window.state_of first).calls image
+  whole_since image left = (some_go out.1.0 old.work.medium).same.left_shrinks (window.state_of first).calls image
+      (subst (λ (w : Window). (window.state_of w).left_since (window.state_of first).calls image) out.1.1
+      ((whole_goes.since first begins.since).left image left))
+
+  whole_done : IsFlushed (window.state_of old.work.medium) → state_of new ≡ state.Done → (image : Image) → MayLeave new image
+      → (window.state_of old.work.medium).content ≡ image
+  whole_done flushed is image left =
+      let all = done_is new.asked new.work is in
+      same_image (window.state_of old.work.medium) image flushed (λ s. (some_go out.1.0 old.work.medium).same.sets_shrink s (image s)
+      (subst (λ (w : Window). (window.state_of w).may_leave s (image s)) out.1.1 (whole_goes.rest all.0 all.1 image left s)))
+
+log_leaves : (shape : Shape) (first : Window) (calls : List Call) (old new : Machine) → Begins (IsWhole (IsLaidOn shape first)) first old
+    → AreMade calls old new → LeavesImage shape (home_of shape (window.state_of first).content) first new
+log_leaves shape first calls old new begins made = let work = begins.work.0 in record {
+  midway = λ image left. work.leaves.cuts.each image (whole_since (IsLaidOn shape first) first calls old new begins made image left);
+  done = λ is image left.
+      let array = home_of shape (window.state_of first).content in
+      subst (λ (n : ℕ). IsOurs n shape image array 2) work.leaves.cuts.size_stays
+      (subst (λ (c : Image). IsOurs (window.state_of old.work.medium).size shape c array 2)
+      (whole_done (IsLaidOn shape first) first calls old new begins made work.laid.flushed is image left) work.laid.ours);
+}
+
+migrated_flushed : (was_one : Bool) (old new : State) (answer : Recovered) → IsMigrationBy was_one old new answer → IsFlushed new
+migrated_flushed true old new answer is = is.made.flushed
+migrated_flushed false old new answer is = is.1.flushed
+
+migration_leaves : (first : Window) (calls : List Call) (old new : Machine) → Begins (IsWhole (IsMigratedOn first)) first old
+    → AreMade calls old new → LeavesMigrated first old.work.medium new
+migration_leaves first calls old new begins made = let work = begins.work.0 in record {
+  midway = λ ours image left. (work.leaves.cuts ours).each image
+      (whole_since (IsMigratedOn first) first calls old new begins made image left);
+  done = λ is image left x i. sym (whole_done (IsMigratedOn first) first calls old new begins made
+      (migrated_flushed work.was_one (window.state_of first) (window.state_of old.work.medium) work.answer work.migrated) is image left)
+      i x;
+}
+
+pub leaves_throughout : LeavesThroughout
+leaves_throughout = record { formats = format_leaves; logs = log_leaves; migrations = migration_leaves }

@@ -1,0 +1,107 @@
+-- Calls that leave what waits are no calls of the medium.
+use Rattle.std.proofs.Common.{◌≡◌, ◌≤◌, ◌+◌, ◌++◌, ◌∷◌, [], ℕ, zero, suc, length, List, Some, refl, sym, ◌∙◌, ap, arith}
+use Rattle.std.proofs.Common.{append_assoc, length-append}
+use Rattle.medium.specs.Moments.{IsUnchanged}
+use Rattle.medium.specs.Writes.{sector_of}
+use Rattle.medium.proofs.Moments.{unchanged, unchanged_through}
+use Rattle.mirror.specs.OutboxMedium.{sent, first_of}
+use Rattle.mirror.specs.declared.call.DeviceCall.{DeviceCall}
+use Rattle.mirror.specs.declared.call.DeviceCall.TheVariants.{Write}
+use Rattle.window.specs.Window.{Window, state_of, mirror_of, take_first}
+use Rattle.store_calls.specs.Outbox.{without, writes_of, IsRun}
+
+-- what was sent stays, however much of it has left
+pub record IsSentStill (old new : Window) : Type 0 where
+  pub opening : new.seen.told.opening ≡ old.seen.told.opening
+  pub sent : sent (mirror_of new) ≡ sent (mirror_of old)
+  pub same : IsUnchanged (state_of old) (state_of new)
+  pub looked : (state_of new).looked ≡ (state_of old).looked
+  pub room : new.room ≡ old.room
+
+none_goes : (w : Window) → IsSentStill w w
+none_goes w = record { opening = refl; sent = refl; same = unchanged (state_of w); looked = refl; room = refl }
+
+one_goes : (calls : List DeviceCall) (w : Window) → w.outbox ≡ calls → IsSentStill w (take_first calls w)
+one_goes [] w is = none_goes w
+one_goes (call ∷ calls) w is = record {
+  opening = refl;
+  sent = append_assoc w.seen.told.taken (call ∷ []) calls ∙ ap (λ (l : List DeviceCall). w.seen.told.taken ++ l) (sym is);
+  same = record {
+    size_stays = refl;
+    content_stays = λ s. refl;
+    sets_shrink = λ s c left. left;
+    sets_grow = λ s c left. left;
+    left_shrinks = λ t image left. record { at = left.at; later = left.later; past = left.past; cut = left.cut };
+    left_grows = λ t image left. record { at = left.at; later = left.later; past = left.past; cut = left.cut };
+    calls_stay = refl;
+    made_stays = λ kind. refl;
+    failures_stay = refl;
+    refused_stay = λ kind. refl;
+  };
+  looked = refl;
+  room = refl;
+}
+
+pub some_go : (count : ℕ) (w : Window) → IsSentStill w (without count w)
+some_go zero w = none_goes w
+some_go (suc count) w =
+    let before = some_go count w in
+    let last = one_goes (without count w).outbox (without count w) refl in record {
+      opening = last.opening ∙ before.opening;
+      sent = last.sent ∙ before.sent;
+      same = unchanged_through (state_of w) (state_of (without count w)) (state_of (without (suc count) w)) before.same last.same;
+      looked = last.looked ∙ before.looked;
+      room = last.room ∙ before.room;
+    }
+
+one_fewer : (calls : List DeviceCall) (w : Window) → w.outbox ≡ calls → 1 ≤ length calls
+    → length (take_first calls w).outbox + 1 ≡ length w.outbox
+one_fewer [] w is some = absurd (omega (arith, some))
+one_fewer (call ∷ calls) w is some = omega (arith, ap (λ (l : List DeviceCall). length l) is)
+
+fewer_wait : (count : ℕ) (w : Window) → count ≤ length w.outbox → length (without count w).outbox + count ≡ length w.outbox
+fewer_wait zero w le = omega arith
+fewer_wait (suc count) w le =
+    let before = fewer_wait count w (omega (arith, le)) in
+    omega (arith, before, one_fewer (without count w).outbox (without count w) refl (omega (arith, before, le)))
+
+-- so many have left
+pub taken_by : (count : ℕ) (w : Window) → count ≤ length w.outbox
+    → length (without count w).seen.told.taken ≡ length w.seen.told.taken + count
+taken_by count w le = omega (
+  arith,
+  fewer_wait count w le,
+  ap (λ (l : List DeviceCall). length l) (some_go count w).sent,
+  length-append (without count w).seen.told.taken (without count w).outbox,
+  length-append w.seen.told.taken w.outbox,
+)
+
+-- and then some more
+pub without_more : (count before : ℕ) (w : Window) → without count (without before w) ≡ without (count + before) w
+without_more zero before w = let same : before ≡ 0 + before = omega arith in ap (λ (n : ℕ). without n w) same
+without_more (suc count) before w =
+    let same : suc (count + before) ≡ suc count + before = omega arith in
+    ap (λ (v : Window). take_first v.outbox v) (without_more count before w) ∙ ap (λ (n : ℕ). without n w) same
+
+-- ---- how many wait
+
+pub some_first : (calls : List DeviceCall) (call : DeviceCall) → first_of calls ≡ Some call → 1 ≤ length calls
+some_first [] call is = cc
+some_first (first ∷ calls) call is = omega arith
+
+length_of_writes : (count sector : ℕ) (bytes : List ℕ) → length (writes_of count sector bytes) ≡ count
+length_of_writes zero sector bytes = refl
+length_of_writes (suc count) sector bytes = omega (
+  arith,
+  length_of_writes count sector bytes,
+  length-append (writes_of count sector bytes) (Write (record { sector = sector + count; block = sector_of bytes count }) ∷ []),
+)
+
+pub run_waits : (old new : Window) (sector count : ℕ) (room filled : List ℕ) → IsRun old new sector count room filled
+    → count ≤ length old.outbox
+run_waits old new sector count room filled run = omega (
+  arith,
+  ap (λ (l : List DeviceCall). length l) run.writes,
+  length-append (writes_of count sector filled) new.outbox,
+  length_of_writes count sector filled,
+)

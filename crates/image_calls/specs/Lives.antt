@@ -1,0 +1,68 @@
+-- Calls of the work on an image, one after the other, and what a loss of power leaves.
+use Rattle.std.specs.Prelude.{◌≡◌, ℕ, Bool, List, [], ◌∷◌, replicate, Result}
+use Rattle.medium.specs.Medium.{Image}
+use Rattle.medium.specs.Moments.{EachCut}
+use Rattle.spec.specs.Blocks.{Array}
+use Rattle.journal.specs.Places.{Shape}
+use Rattle.journal.specs.Record.{home_of}
+use Rattle.journal.specs.Standing.{IsOurs}
+use Rattle.recovery.specs.Calls.{IsMidway}
+use Rattle.recovery.specs.Recovered.{IsOursForSome, IsOursInEither, StandsForSome}
+use Rattle.window.specs.Window as window
+use Rattle.window.specs.Window.{Window}
+use Rattle.device_calls.specs.declared.ask.DeviceAsk.{DeviceAsk}
+use Rattle.device_calls.specs.declared.done_fault.DoneFault.{DoneFault}
+use Rattle.image_calls.specs.Formats.{BeginsFormat}
+use Rattle.image_calls.specs.Images.{IsLaidOn, IsMigratedOn, IsWhole}
+use Rattle.image_calls.specs.Machines.{Machine, Asks, Hears, MayLeave, Begins, GoesOn, state_of}
+use Rattle.image_calls.specs.Parts.{IsMadeAnew}
+use Rattle.image_calls.specs.declared.state.ImageState.TheVariants as state
+
+-- a call, with what it is given
+pub data Call : Type 0 where
+  next : List ℕ → Call
+  done : Bool → Call
+
+-- the call is made, as its contract says
+abbrev pub IsMade : Call → Machine → Machine → Type 0
+IsMade (next room) old new = (what : DeviceAsk) × (filled : List ℕ)
+    × Asks old room what new filled × GoesOn old new
+IsMade (done ok) old new = (result : Result (Unit {0}) DoneFault)
+    × Hears old ok result new × GoesOn old new
+
+abbrev pub AreMade : List Call → Machine → Machine → Type 0
+AreMade [] old new = new ≡ old
+AreMade (call ∷ calls) old new = (mid : Machine) × IsMade call old mid × AreMade calls mid new
+
+-- An image for this array is made on the device: a cut leaves what was there before, no super, or
+-- the new image, whole; and where it is done, the new image alone.
+pub record LeavesImage (shape : Shape) (array : Array) (first : Window) (s : Machine)
+    : Type 0 where
+  pub midway : (image : Image) → MayLeave s image
+      → IsMidway shape array (window.state_of first) image
+  pub done : state_of s ≡ state.Done → (image : Image) → MayLeave s image
+      → IsOurs (window.state_of first).size shape image array 2
+
+-- The image on the device is migrated: where it was ours, a cut leaves it, or the new one, for the
+-- same array; and where it is done, what the work that was begun came to.
+pub record LeavesMigrated (first begun : Window) (s : Machine) : Type 0 where
+  pub midway : EachCut (IsOursForSome (window.state_of first).size) (window.state_of first)
+      → (image : Image) → MayLeave s image
+      → StandsForSome IsOursInEither (window.state_of first) image
+  pub done : state_of s ≡ state.Done → (image : Image) → MayLeave s image
+      → (x : ℕ) → image x ≡ (window.state_of begun).content x
+
+-- Whatever calls come, in any order. A format that is done has sent as many calls as the image has
+-- sectors, and seven more.
+pub record LeavesThroughout : Type 0 where
+  pub formats : (shape : Shape) (first : Window) (calls : List Call) (old new : Machine)
+      → Begins (BeginsFormat shape first) first old → AreMade calls old new
+      → LeavesImage shape (λ b. replicate 512 0) first new
+      × (state_of new ≡ state.Done → IsMadeAnew shape (window.state_of first)
+      (window.state_of new.work.medium))
+  pub logs : (shape : Shape) (first : Window) (calls : List Call) (old new : Machine)
+      → Begins (IsWhole (IsLaidOn shape first)) first old → AreMade calls old new
+      → LeavesImage shape (home_of shape (window.state_of first).content) first new
+  pub migrations : (first : Window) (calls : List Call) (old new : Machine)
+      → Begins (IsWhole (IsMigratedOn first)) first old → AreMade calls old new
+      → LeavesMigrated first old.work.medium new

@@ -1,0 +1,59 @@
+-- What an image is begun on: by a plan, or by the super of the image that is there.
+use Rattle.std.specs.Prelude.{◌≡◌, ◌≢◌, ◌⊎◌, ℕ, ◌+◌, ◌*◌, ◌≤◌, List, length, MatchResult}
+use Rattle.std.specs.Prelude.{Result}
+use Rattle.medium.specs.Writes.{sector_of}
+use Rattle.journal.specs.Places.{Shape, new_shape, slot_sectors_of}
+use Rattle.journal.specs.Sectors.{IsSuper}
+use Rattle.recovery.specs.Calls.{HoldsLog}
+use Rattle.recovery.specs.Recovered.{IsMigrationRefusal, most_migration_sends}
+use Rattle.recovery.specs.declared.start_fault.StartFault.{StartFault}
+use Rattle.recovery.specs.declared.start_fault.StartFault.TheVariants as start
+use Rattle.window.specs.Window.{Window, state_of, fresh}
+use Rattle.image_calls.specs.Images.{IsNoLength, IsMigratedOn, IsWhole}
+use Rattle.image_calls.specs.Machines.{Machine, Begins}
+use Rattle.image_calls.specs.declared.image_fault.ImageFault.{ImageFault}
+use Rattle.image_calls.specs.declared.image_fault.ImageFault.TheVariants as fault
+use Rattle.image_calls.specs.declared.image_plan.ImagePlan.{ImagePlan}
+
+-- what is made by the plan
+abbrev pub shape_by : ImagePlan → Shape
+shape_by plan = new_shape plan.format plan.blocks plan.slots
+
+-- The medium that the plan is carried out on: there is room for a part of a format, and for the
+-- laying of a log.
+abbrev pub medium_by : List ℕ → List ℕ → ImagePlan → Window
+medium_by near holds plan =
+    fresh plan.sectors near holds 0 (slot_sectors_of plan.format * plan.slots + 7)
+
+-- there is room for what a migration sends by the super in sector 0, or for a flush where there is
+-- none
+abbrev pub IsRoomToMigrate : List ℕ → ℕ → Type 0
+IsRoomToMigrate near room =
+    ((shape : Shape) × IsSuper shape (sector_of near 0)
+    × (room ≡ most_migration_sends shape.format shape.slots))
+    ⊎ (((shape : Shape) → ¬ IsSuper shape (sector_of near 0)) × (room ≡ 1))
+
+-- Why an image is not migrated. No call is refused for want of room, and where the first sectors
+-- are all before home, none because they are not there.
+pub record IsMigratedNever (first : Window) (why : StartFault) : Type 0 where
+  pub after : Window
+  pub refusal : IsMigrationRefusal (state_of first) (state_of after) why
+  pub no_write : why ≢ start.Write
+  pub no_flush : why ≢ start.Flush
+  pub no_read : HoldsLog first.near (state_of first).size (state_of first).content
+      → why ≢ start.Read
+
+abbrev pub IsMigrateRefusal : List ℕ → ℕ → Window → ImageFault → Type 0
+IsMigrateRefusal near sectors first fault.Held = ⊥
+IsMigrateRefusal near sectors first fault.Length = IsNoLength near sectors
+IsMigrateRefusal near sectors first fault.Sizes = ⊥
+IsMigrateRefusal near sectors first (fault.Start why) =
+    (why ≡ start.NoMemory) ⊎ IsMigratedNever first why
+
+-- A migration begins on a medium with the room that it needs, or why not.
+abbrev pub Migrates : List ℕ → ℕ → List ℕ → Result Machine ImageFault → Type 0
+Migrates near sectors holds result = (room : ℕ)
+    × (512 ≤ length near → IsRoomToMigrate near room)
+    × (let first = fresh sectors near holds 0 room in
+    MatchResult result (Begins (IsWhole (IsMigratedOn first)) first)
+    (IsMigrateRefusal near sectors first))

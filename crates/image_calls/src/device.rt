@@ -1,0 +1,85 @@
+//! What the device is asked for.
+ghost use Rattle.std.specs.Prelude.{◌≡◌, length};
+ghost use Rattle.store_calls.specs.Outbox.{IsNoRoom, IsLongestRun};
+ghost use Rattle.image_calls.specs.Machines.{Asks, AsksBy, AsksForNext, GoesOn};
+ghost use Rattle.image_calls.specs.declared.asked.ImageAsked.TheVariants as asked;
+
+use crate::asked::{ImageAsked, ImageCall};
+use crate::going::go_on;
+use crate::machine::ImageMachine;
+use device_calls::DeviceAsk;
+use medium::Outlet;
+use mirror::{DeviceCall, device_laws, put_sector};
+use store_calls::block_for;
+use window::WindowMedium;
+
+const SECTOR: usize = 512;
+
+impl ImageMachine {
+    /// What the device is to do next: nothing as long as it has not told the last call done, when
+    /// it has refused one, and when all is done. The bytes of writes go to the front of the buffer,
+    /// which has room for some whole sectors.
+    pub fn next(&mut self, buffer: &mut [u8]) -> DeviceAsk
+        requires { ¬ IsNoRoom (length buffer.old) }
+        ensures asks { Asks self.old buffer.old result self.new buffer.new }
+        ensures goes { GoesOn self.old self.new }
+    {
+        let what = self.ask(buffer);
+        self.rest();
+        device_laws();
+        what
+    }
+
+    // The same, of which nothing is said of what it leaves.
+    fn ask(&mut self, buffer: &mut [u8]) -> DeviceAsk
+        ensures { ¬ IsNoRoom (length buffer.old)
+            → AsksBy self.old.asked self.old buffer.old result self.new buffer.new }
+    {
+        match self.asked {
+            ImageAsked::Nothing => {
+                go_on(&mut self.work);
+                self.ask_for_next(buffer)
+            }
+            ImageAsked::Calls(_, _) | ImageAsked::Refused(_, _) => DeviceAsk::Nothing,
+        }
+    }
+
+    // The next of what waits leaves it.
+    fn ask_for_next(&mut self, buffer: &mut [u8]) -> DeviceAsk
+        ensures { self.old.asked ≡ asked.Nothing → ¬ IsNoRoom (length buffer.old)
+            → AsksForNext self.old.work buffer.old result self.new buffer.new }
+    {
+        match self.work.medium.first() {
+            Some(DeviceCall::Write(write)) => {
+                let count = gather(&mut self.work.medium, write.sector, buffer);
+                self.asked = ImageAsked::Calls(ImageCall::Write, count);
+                DeviceAsk::Write {
+                    first: write.sector,
+                    count,
+                }
+            }
+            Some(DeviceCall::Flush) => {
+                self.work.medium.pop();
+                self.asked = ImageAsked::Calls(ImageCall::Flush, 1);
+                DeviceAsk::Flush
+            }
+            None => DeviceAsk::Nothing,
+        }
+    }
+}
+
+// Lets go of writes to the sectors from this one on, as long as they wait first and have room, and
+// copies their bytes. How many they were.
+fn gather(medium: &mut WindowMedium, first: u64, to: &mut [u8]) -> usize
+    ensures { IsLongestRun medium.old medium.new first result to.old to.new }
+{
+    let most = to.len() / SECTOR;
+    for at in 0..most {
+        let Some(block) = block_for(medium.first(), first, at as u64) else {
+            return at;
+        };
+        put_sector(to, at as u64, &block);
+        medium.pop();
+    }
+    most
+}
