@@ -4,7 +4,7 @@ use Rattle.std.specs.Prelude.{Result}
 use Rattle.medium.specs.Writes.{sector_of}
 use Rattle.journal.specs.Places.{Shape, new_shape, slot_sectors_of}
 use Rattle.journal.specs.Sectors.{IsSuper}
-use Rattle.recovery.specs.Calls.{HoldsLog}
+use Rattle.recovery.specs.Calls.{AreSizes, HoldsLog}
 use Rattle.recovery.specs.Recovered.{IsMigrationRefusal, most_migration_sends}
 use Rattle.recovery.specs.declared.start_fault.StartFault.{StartFault}
 use Rattle.recovery.specs.declared.start_fault.StartFault.TheVariants as start
@@ -24,6 +24,13 @@ shape_by plan = new_shape plan.format plan.blocks plan.slots
 abbrev pub medium_by : List ℕ → List ℕ → ImagePlan → Window
 medium_by near holds plan =
     fresh plan.sectors near holds 0 (slot_sectors_of plan.format * plan.slots + 7)
+
+-- why the plan is not carried out: by the lengths or the sizes, or for want of memory
+abbrev pub IsPlanFault : List ℕ → ImagePlan → ImageFault → Type 0
+IsPlanFault near plan fault.Held = ⊥
+IsPlanFault near plan fault.Length = IsNoLength near plan.sectors
+IsPlanFault near plan fault.Sizes = ¬ AreSizes plan.sectors (shape_by plan)
+IsPlanFault near plan (fault.Start why) = why ≡ start.NoMemory
 
 -- there is room for what a migration sends by the super in sector 0, or for a flush where there is
 -- none

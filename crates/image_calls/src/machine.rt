@@ -2,11 +2,11 @@
 ghost use Rattle.std.specs.Prelude.{◌≡◌, MatchResult, List, []};
 ghost use Rattle.mirror.specs.OutboxMedium.{sent};
 ghost use Rattle.window.specs.Window.{Window, mirror_of};
-ghost use Rattle.image_calls.specs.Images.{IsLaidOn, IsLayFault, IsWhole, WaitFor};
+ghost use Rattle.image_calls.specs.Images.{IsLaidOn, IsWhole, WaitFor};
 ghost use Rattle.image_calls.specs.Formats.{BeginsFormat};
 ghost use Rattle.image_calls.specs.Machines.{Begins, LeavesSince, LeavesAtRest};
 ghost use Rattle.image_calls.specs.Machines.{begun, state_by, state_at_rest};
-ghost use Rattle.image_calls.specs.Plans.{Migrates, shape_by, medium_by};
+ghost use Rattle.image_calls.specs.Plans.{Migrates, IsPlanFault, shape_by, medium_by};
 
 use crate::ImageFault;
 use crate::asked::ImageAsked;
@@ -43,7 +43,7 @@ impl ImageMachine {
     ) -> Result<ImageMachine, ImageFault>
         ensures { let first = medium_by near.now device.now.bytes plan.now in
             MatchResult result (Begins (BeginsFormat (shape_by plan.now) first) first)
-            (IsLayFault near.now plan.now.sectors (shape_by plan.now) first) }
+            (IsPlanFault near.now plan.now) }
     {
         let work = begin_on(alloc, near, device, plan)?;
         Ok(ImageMachine::over(work))
@@ -62,7 +62,7 @@ impl ImageMachine {
     ) -> Result<ImageMachine, ImageFault>
         ensures { let first = medium_by near.now device.now.bytes plan.now in
             MatchResult result (Begins (IsWhole (IsLaidOn (shape_by plan.now) first)) first)
-            (IsLayFault near.now plan.now.sectors (shape_by plan.now) first) }
+            (IsPlanFault near.now plan.now) }
     {
         let work = lay_on(alloc, near, device, plan)?;
         Ok(ImageMachine::over(work))

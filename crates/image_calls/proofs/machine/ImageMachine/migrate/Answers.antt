@@ -1,4 +1,4 @@
-use Rattle.std.proofs.Common.{inr, refl, subst, ap, length, arith, rules}
+use Rattle.std.proofs.Common.{◌≤◌, inr, refl, subst, ap, length, arith, rules}
 use Rattle.window.specs.Window.{Window, fresh}
 use Rattle.image_calls.specs.Images.{IsMigratedOn, IsMigratedNot, IsWhole}
 use Rattle.image_calls.proofs.AtRest.{begins}
@@ -18,19 +18,21 @@ pub returns-in-Ok : goal.returns-in-Ok
 returns-in-Ok c =
     let first = fresh c.args.sectors c.args.near.now c.args.device.now.bytes 0 c.room_to_migrate.result in
     let over = c.over.ensures in
-    let made = subst (λ (m : Window). IsWhole (IsMigratedOn m) c.in-Ok.work) c.in_ok-medium.ensures.ok c.in-Ok.ensures.ok in (
+    let made = subst (λ (m : Window). IsWhole (IsMigratedOn m) c.in-Ok.work) c.in_ok-medium.ensures.ok c.in-Ok.ensures.ok in
+    let since = over.since first refl made.0.waits in (
       c.room_to_migrate.result,
       c.room_to_migrate.ensures,
-      begins (IsWhole (IsMigratedOn first)) first c.in-Ok.work c.over.result over.is made (over.since first refl made.0.waits) over.rest,
+      begins (IsWhole (IsMigratedOn first)) first c.in-Ok.work c.over.result over.is made since over.rest,
     )
 
 pub returns-in-Err : goal.returns-in-Err
 returns-in-Err c =
     let on = c.in_ok-medium.ensures.ok in
     let is = c.in-Err.ensures.err (ap (λ (m : Window). length m.outbox) on) in
-    let not = subst (λ (m : Window). IsMigratedNot m is.0 c.in-Err.fault) on is.1 in (
+    let not = subst (λ (m : Window). IsMigratedNot m is.0 c.in-Err.fault) on is.1 in
+    let some : 512 ≤ length c.args.near.now = omega (arith, c.in_ok-medium.ensures.some) in (
       c.room_to_migrate.result,
       c.room_to_migrate.ensures,
-      inr (never c.args.near.now c.args.sectors c.args.device.now.bytes c.room_to_migrate.result (omega (arith, c.in_ok-medium.ensures.some))
-          (c.room_to_migrate.ensures (omega (arith, c.in_ok-medium.ensures.some))) is.0 c.in-Err.fault not),
+      inr (never c.args.near.now c.args.sectors c.args.device.now.bytes c.room_to_migrate.result some
+          (c.room_to_migrate.ensures some) is.0 c.in-Err.fault not),
     )
