@@ -1,8 +1,10 @@
 -- What a loss of power leaves, whatever calls come.
-use Rattle.std.proofs.Common.{◌≡◌, [], ◌∷◌, ℕ, List, refl, sym, subst}
+use Rattle.std.proofs.Common.{◌≡◌, [], ◌∷◌, ℕ, List, inl, inr, refl, sym, ◌∙◌, ap, subst, length, arith}
+use Rattle.std.proofs.Common.{length-append}
 use Rattle.std.specs.Prelude.{Bool, true, false, Option, Some, None}
 use Rattle.medium.specs.Medium.{Image, State}
 use Rattle.medium.specs.Moments.{IsFlushed}
+use Rattle.mirror.specs.OutboxMedium.{sent}
 use Rattle.mirror.specs.declared.call.DeviceCall.{DeviceCall}
 use Rattle.window.specs.Window as window
 use Rattle.window.specs.Window.{Window}
@@ -12,11 +14,13 @@ use Rattle.journal.specs.Standing.{IsOurs}
 use Rattle.recovery.specs.Calls.{FormatLeaves}
 use Rattle.recovery.specs.Recovered.{IsMigrationBy}
 use Rattle.recovery.specs.declared.recovered.Recovered.{Recovered}
-use Rattle.image_calls.specs.Formats.{BeginsFormat, IsFormatting}
+use Rattle.image_calls.specs.Formats.{BeginsFormat, IsFormatting, MakesParts}
 use Rattle.image_calls.specs.Images.{IsLaidOn, IsMigratedOn, IsWhole}
-use Rattle.image_calls.specs.Lives.{Call, IsMade, AreMade, LeavesImage, LeavesMigrated, LeavesThroughout}
+use Rattle.image_calls.specs.Lives.{Call, IsMade, AreMade, LeavesImage, LeavesMigrated, LeavesThroughout, HasWork}
 use Rattle.image_calls.specs.Lives.Call.{next, done}
 use Rattle.image_calls.specs.Machines.{Machine, MayLeave, LeavesAtRest, Begins, GoesOn, CarriesOut, state_of, state_by, state_at_rest}
+use Rattle.image_calls.specs.Machines.{AsksBy, carried, under_way}
+use Rattle.device_calls.specs.declared.ask.DeviceAsk.TheVariants as ask
 use Rattle.image_calls.specs.Parts.{IsMadeAnew, IsOnWay}
 use Rattle.image_calls.specs.Works.{Work}
 use Rattle.image_calls.specs.declared.asked.ImageAsked.{ImageAsked}
@@ -151,5 +155,36 @@ migration_leaves first calls old new begins made = let work = begins.work.0 in r
       i x;
 }
 
+-- ---- the end of it
+
+-- none waits, and none is under way
+all_told : (s : Machine) → state_of s ≡ state.Done → carried s ≡ length (sent (window.mirror_of s.work.medium))
+all_told s is = let all = done_is s.asked s.work is in omega (
+  arith,
+  ap (λ (a : ImageAsked). under_way a) all.0,
+  ap (λ (l : List DeviceCall). length l) all.1,
+  length-append s.work.medium.seen.told.taken s.work.medium.outbox,
+)
+
+none_left : (old : Machine) (mid : Work) → HasWork old → MakesParts old.work mid → mid.medium.outbox ≡ [] → mid.left ≡ None
+none_left old mid (inl (shape, first, formatting)) made empty = elim (made.ends shape first formatting) [
+  | inl some ↦ absurd (omega (arith, some, ap (λ (l : List DeviceCall). length l) empty))
+  | inr none ↦ none
+]
+none_left old mid (inr none) made empty = ap (λ (w : Work). w.left) (made.stays (inr none)) ∙ none
+
+ends_by : (a : ImageAsked) (old new : Machine) (room filled : List ℕ) → a ≡ asked.Nothing → HasWork old
+    → AsksBy a old room ask.Nothing new filled → state_of new ≡ state.Done
+ends_by asked.Nothing old new room filled is work (mid, made, (empty, same, _)) =
+    ap (λ (s : Machine). state_of s) same ∙ (λ i. state_at_rest (empty i) (none_left old mid work made empty i))
+ends_by (asked.Calls call count) old new room filled is work asks = absurd (cc is)
+ends_by (asked.Refused call count) old new room filled is work asks = absurd (cc is)
+
 pub leaves_throughout : LeavesThroughout
-leaves_throughout = record { formats = format_leaves; logs = log_leaves; migrations = migration_leaves }
+leaves_throughout = record {
+  formats = format_leaves;
+  logs = log_leaves;
+  migrations = migration_leaves;
+  all = all_told;
+  ends = λ old new. ends_by old.asked old new;
+}

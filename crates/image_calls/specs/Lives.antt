@@ -1,5 +1,6 @@
 -- Calls of the work on an image, one after the other, and what a loss of power leaves.
-use Rattle.std.specs.Prelude.{◌≡◌, ℕ, Bool, List, [], ◌∷◌, replicate, Result}
+use Rattle.std.specs.Prelude.{◌≡◌, ◌⊎◌, ℕ, Bool, List, [], ◌∷◌, length, replicate}
+use Rattle.std.specs.Prelude.{None, Result}
 use Rattle.medium.specs.Medium.{Image}
 use Rattle.medium.specs.Moments.{EachCut}
 use Rattle.spec.specs.Blocks.{Array}
@@ -10,12 +11,16 @@ use Rattle.recovery.specs.Calls.{IsMidway}
 use Rattle.recovery.specs.Recovered.{IsOursForSome, IsOursInEither, StandsForSome}
 use Rattle.window.specs.Window as window
 use Rattle.window.specs.Window.{Window}
+use Rattle.mirror.specs.OutboxMedium.{sent}
 use Rattle.device_calls.specs.declared.ask.DeviceAsk.{DeviceAsk}
+use Rattle.device_calls.specs.declared.ask.DeviceAsk.TheVariants as ask
 use Rattle.device_calls.specs.declared.done_fault.DoneFault.{DoneFault}
-use Rattle.image_calls.specs.Formats.{BeginsFormat}
+use Rattle.image_calls.specs.Formats.{BeginsFormat, IsFormatting}
 use Rattle.image_calls.specs.Images.{IsLaidOn, IsMigratedOn, IsWhole}
-use Rattle.image_calls.specs.Machines.{Machine, Asks, Hears, MayLeave, Begins, GoesOn, state_of}
+use Rattle.image_calls.specs.Machines.{Machine, Asks, Hears, MayLeave, Begins, GoesOn}
+use Rattle.image_calls.specs.Machines.{carried, state_of}
 use Rattle.image_calls.specs.Parts.{IsMadeAnew}
+use Rattle.image_calls.specs.declared.asked.ImageAsked.TheVariants as asked
 use Rattle.image_calls.specs.declared.state.ImageState.TheVariants as state
 
 -- a call, with what it is given
@@ -52,6 +57,11 @@ pub record LeavesMigrated (first begun : Window) (s : Machine) : Type 0 where
   pub done : state_of s ≡ state.Done → (image : Image) → MayLeave s image
       → (x : ℕ) → image x ≡ (window.state_of begun).content x
 
+-- a format is under way, or made, or all that was to do was made at once
+abbrev pub HasWork : Machine → Type 0
+HasWork s = ((shape : Shape) × (first : Window) × IsFormatting shape first s.work)
+    ⊎ (s.work.left ≡ None)
+
 -- Whatever calls come, in any order. A format that is done has sent as many calls as the image has
 -- sectors, and seven more.
 pub record LeavesThroughout : Type 0 where
@@ -66,3 +76,9 @@ pub record LeavesThroughout : Type 0 where
   pub migrations : (first : Window) (calls : List Call) (old new : Machine)
       → Begins (IsWhole (IsMigratedOn first)) first old → AreMade calls old new
       → LeavesMigrated first old.work.medium new
+  -- work that is done has been told done by the device, each call that it ever made
+  pub all : (s : Machine) → state_of s ≡ state.Done
+      → carried s ≡ length (sent (window.mirror_of s.work.medium))
+  -- a free device is told nothing only where all is done
+  pub ends : (old new : Machine) (room filled : List ℕ) → old.asked ≡ asked.Nothing
+      → HasWork old → Asks old room ask.Nothing new filled → state_of new ≡ state.Done

@@ -3,7 +3,8 @@ ghost use Rattle.image_calls.specs.Lives.{LeavesThroughout};
 
 /// Does nothing. Whatever calls of the work come, in any order: at each moment a loss of power
 /// leaves what was there before, no image, or the new one, whole, and where the work is done, the
-/// new one alone.
+/// new one alone. It is done when the device has told each call done, and only then is a free
+/// device told nothing.
 pub fn work_laws()
     ensures { LeavesThroughout }
 {}
