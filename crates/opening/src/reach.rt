@@ -1,0 +1,10 @@
+//! How far a start reads before it begins.
+
+/// How far a start reads before it begins.
+#[derive(Clone, Copy, Debug, PartialEq, Eq)]
+pub enum Reach {
+    /// Sector 0 alone.
+    First,
+    /// All sectors before the first home sector, as sector 0 tells it.
+    Near,
+}
