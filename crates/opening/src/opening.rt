@@ -1,5 +1,6 @@
 //! The first sectors of a device are read.
-ghost use Rattle.std.specs.Prelude.{◌≡◌, ◌<◌, ◌≤◌, ◌*◌, ◌++◌, ◌/◌, ◌≢◌, ◌↔◌, IsTrue, OnOk, OnErr, length};
+ghost use Rattle.std.specs.Prelude.{◌≡◌, ◌≢◌, ◌<◌, ◌≤◌, ◌*◌, ◌/◌, ◌++◌, ◌↔◌, length};
+ghost use Rattle.std.specs.Prelude.{IsTrue, OnOk, OnErr};
 ghost use Rattle.opening.specs.Reading.{unread, IsSound, IsWhole, AsksToRead, HasRead};
 ghost use Rattle.opening.specs.Reading.{IsUntil, TakesRead, left};
 
@@ -63,6 +64,13 @@ impl Opening {
             until: sectors.min(1),
             asked: 0,
         }
+    }
+
+    /// How many sectors the device has.
+    pub fn sectors(&self) -> u64
+        ensures { result ≡ self.now.sectors }
+    {
+        self.sectors
     }
 
     /// Whether all is read.
