@@ -5,17 +5,17 @@ use Rattle.mirror.specs.declared.call.DeviceCall.{DeviceCall}
 use Rattle.spec.specs.declared.event.Event.{Event}
 use Rattle.spec.specs.declared.event.Answer.{Answer}
 use Rattle.scsi_unit.specs.Background.{is_dead}
-use Rattle.scsi_unit.specs.declared.reading.HomeSectors.{HomeSectors}
+use Rattle.device_calls.specs.declared.ask.DeviceRead.{DeviceRead}
 use Rattle.disk_calls.specs.Plays.{Disk, medium_of, Plays}
 use Rattle.disk_machine.specs.Asking.{AsksFor, IsDone, HasRead, HasEnded}
 use Rattle.disk_machine.specs.Idling.{StepsOn, HasStepped}
 use Rattle.disk_machine.specs.Machine.{Machine, under_way}
 use Rattle.disk_machine.specs.Moves.{LeavesNoMore, IsDead}
-use Rattle.disk_machine.specs.declared.ask.DeviceAsk.{DeviceAsk}
-use Rattle.disk_machine.specs.declared.ask.DeviceAsk.TheVariants as ask
+use Rattle.device_calls.specs.declared.ask.DeviceAsk.{DeviceAsk}
+use Rattle.device_calls.specs.declared.ask.DeviceAsk.TheVariants as ask
 use Rattle.disk_machine.specs.declared.asked.Asked.{Asked}
 use Rattle.disk_machine.specs.declared.asked.Asked.TheVariants as asked
-use Rattle.disk_machine.specs.declared.done_fault.DoneFault.{DoneFault}
+use Rattle.device_calls.specs.declared.done_fault.DoneFault.{DoneFault}
 use Rattle.disk_machine.proofs.Handing.{IsSentStill, leaves_no_more}
 
 -- a faulted disk stays so
@@ -39,7 +39,7 @@ asks_dead old new room ask.Flush filled asks =
 asks_dead old new room (ask.Read home) filled asks =
     disk_dead old new (ap (λ (s : Machine). is_dead s.disk.unit.store.cached) asks.3)
 
-read_dead : (home : HomeSectors) (ok : Bool) (old new : Machine) (bytes : List ℕ) (result : Result (Unit {0}) DoneFault)
+read_dead : (home : DeviceRead) (ok : Bool) (old new : Machine) (bytes : List ℕ) (result : Result (Unit {0}) DoneFault)
     → HasRead home ok old bytes result new → DiesOn old new
 read_dead home true old new bytes result (inl bad) = same_dead old new bad.1.1
 read_dead home true old new bytes result (inr good) =

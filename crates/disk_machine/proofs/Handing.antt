@@ -9,15 +9,15 @@ use Rattle.mirror.specs.declared.call.DeviceCall.{DeviceCall}
 use Rattle.mirror.specs.declared.call.DeviceCall.TheVariants.{Write, Flush}
 use Rattle.window.specs.Window.{Window, state_of, mirror_of, take_first}
 use Rattle.spec.specs.Book.{Book}
-use Rattle.scsi_unit.specs.declared.reading.HomeSectors.{HomeSectors}
+use Rattle.device_calls.specs.declared.ask.DeviceRead.{DeviceRead}
 use Rattle.store_calls.specs.Outbox.{without, writes_of, IsRun}
 use Rattle.bot_machine.specs.Disk.{FitsDisk, IsRearmed}
 use Rattle.disk_calls.specs.Plays.{Disk, medium_of}
 use Rattle.disk_machine.specs.Asking.{AsksFor, HandsOut}
 use Rattle.disk_machine.specs.Machine.{Machine, LeavesOf, MayLeave, carried, under_way, has_refused}
 use Rattle.disk_machine.specs.Moves.{ServesOn, LeavesNoMore}
-use Rattle.disk_machine.specs.declared.ask.DeviceAsk.{DeviceAsk}
-use Rattle.disk_machine.specs.declared.ask.DeviceAsk.TheVariants as ask
+use Rattle.device_calls.specs.declared.ask.DeviceAsk.{DeviceAsk}
+use Rattle.device_calls.specs.declared.ask.DeviceAsk.TheVariants as ask
 use Rattle.disk_machine.specs.declared.asked.Asked.{Asked}
 use Rattle.disk_machine.specs.declared.asked.Asked.TheVariants as asked
 use Rattle.disk_machine.proofs.Standing.{Stands, serves_still}
@@ -142,7 +142,7 @@ run_waits old new sector count room filled run = omega (
 )
 
 -- the device is asked to read
-reads_stand : (old new : Machine) (home : HomeSectors) → old.asked ≡ asked.Nothing → new ≡ record old { asked = asked.Read home }
+reads_stand : (old new : Machine) (home : DeviceRead) → old.asked ≡ asked.Nothing → new ≡ record old { asked = asked.Read home }
     → Stands old new
 reads_stand old new home free is = stays old new (ap (λ (s : Machine). s.disk) is) (omega (
   arith,

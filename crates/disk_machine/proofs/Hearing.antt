@@ -7,7 +7,7 @@ use Rattle.window.specs.Window.{Window, state_of, moved}
 use Rattle.inlet.specs.Inlet.{AreHeld}
 use Rattle.spec.specs.Book.{Book}
 use Rattle.scsi_unit.specs.UnitValue.{state_of as unit_state}
-use Rattle.scsi_unit.specs.declared.reading.HomeSectors.{HomeSectors}
+use Rattle.device_calls.specs.declared.ask.DeviceRead.{DeviceRead}
 use Rattle.store_calls.specs.Outbox.{without}
 use Rattle.disk_calls.specs.Plays.{Disk, medium_of, Sees}
 use Rattle.disk_machine.specs.Asking.{counted, waits_behind, IsGivenUp, IsShownTo, IsDone, HasRead, HasEnded, IsHonest}
@@ -15,7 +15,7 @@ use Rattle.disk_machine.specs.Machine.{Machine, Finds, has_refused, under_way, c
 use Rattle.disk_machine.specs.Moves.{ServesAtRest, ServesOn, LeavesNoMore}
 use Rattle.disk_machine.specs.declared.asked.Asked.{Asked}
 use Rattle.disk_machine.specs.declared.asked.Asked.TheVariants as asked
-use Rattle.disk_machine.specs.declared.done_fault.DoneFault.{DoneFault}
+use Rattle.device_calls.specs.declared.done_fault.DoneFault.{DoneFault}
 use Rattle.disk_machine.specs.declared.waiting.Waiting.{Waiting}
 use Rattle.disk_machine.specs.declared.waiting.Waiting.TheVariants as waiting
 use Rattle.disk_machine.proofs.Standing.{Stands, keeps_all, serves_still}
@@ -86,7 +86,7 @@ module _ (old new : Machine) (count : ℕ) (was : old.asked ≡ asked.Calls coun
 
 -- ---- a read has ended
 
-module _ (old new : Machine) (home : HomeSectors) (was : old.asked ≡ asked.Read home) (now : new.asked ≡ asked.Nothing) where
+module _ (old new : Machine) (home : DeviceRead) (was : old.asked ≡ asked.Read home) (now : new.asked ≡ asked.Nothing) where
   as_far : (medium_of new.disk).seen.told.taken ≡ (medium_of old.disk).seen.told.taken → carried old ≤ carried new
   as_far taken = omega (arith, ap under_way was, ap under_way now, ap (λ (l : List DeviceCall). length l) taken)
 
@@ -119,7 +119,7 @@ same_sent old new first count (inr moves) = (
   ap (λ (w : Window). w.seen.told.taken) moves,
 )
 
-shown_stands : (old new : Machine) (home : HomeSectors) (bytes : List ℕ) → old.asked ≡ asked.Read home → IsShownTo old home bytes new
+shown_stands : (old new : Machine) (home : DeviceRead) (bytes : List ℕ) → old.asked ≡ asked.Read home → IsShownTo old home bytes new
     → AreHeld (state_of (medium_of old.disk)).content home.first (length bytes / 512) bytes → Stands old new
 shown_stands old new home bytes was shown held =
     let sent = same_sent old.disk new.disk home.first (length bytes / 512)
@@ -131,7 +131,7 @@ shown_stands old new home bytes was shown held =
           (as_far old new home was (ap (λ (s : Machine). s.asked) shown.others) sent.1);
     }
 
-pub shown_serves : (old new : Machine) (home : HomeSectors) (bytes : List ℕ) → old.asked ≡ asked.Read home → IsShownTo old home bytes new
+pub shown_serves : (old new : Machine) (home : DeviceRead) (bytes : List ℕ) → old.asked ≡ asked.Read home → IsShownTo old home bytes new
     → AreHeld (state_of (medium_of old.disk)).content home.first (length bytes / 512) bytes → ServesOn old new
 shown_serves old new home bytes was shown held =
     serves_still old new (shown_stands old new home bytes was shown held)
@@ -143,7 +143,7 @@ shown_serves old new home bytes was shown held =
 nothing_changes : (old new : Machine) → new ≡ old → ServesOn old new
 nothing_changes old new same = subst (λ (s : Machine). ServesOn old s) (sym same) (λ told book serves. serves)
 
-read_serves : (home : HomeSectors) (ok : Bool) (old new : Machine) (bytes : List ℕ) (result : Result (Unit {0}) DoneFault)
+read_serves : (home : DeviceRead) (ok : Bool) (old new : Machine) (bytes : List ℕ) (result : Result (Unit {0}) DoneFault)
     → old.asked ≡ asked.Read home → HasRead home ok old bytes result new → IsHonest old ok bytes → ServesOn old new
 read_serves home true old new bytes result was (inl bad) honest = nothing_changes old new bad.1.1
 read_serves home true old new bytes result was (inr good) honest = shown_serves old new home bytes was good.2 (honest refl home was)
@@ -170,7 +170,7 @@ done_serves (asked.Refused count left) ok old new bytes result was done rest hon
 nothing_more : (old new : Machine) → new ≡ old → LeavesNoMore old new
 nothing_more old new same = subst (λ (s : Machine). LeavesNoMore old s) (sym same) (λ image left. left)
 
-read_leaves : (home : HomeSectors) (ok : Bool) (old new : Machine) (bytes : List ℕ) (result : Result (Unit {0}) DoneFault)
+read_leaves : (home : DeviceRead) (ok : Bool) (old new : Machine) (bytes : List ℕ) (result : Result (Unit {0}) DoneFault)
     → old.asked ≡ asked.Read home → HasRead home ok old bytes result new → IsHonest old ok bytes → LeavesNoMore old new
 read_leaves home true old new bytes result was (inl bad) honest = nothing_more old new bad.1.1
 read_leaves home true old new bytes result was (inr good) honest =

@@ -8,18 +8,18 @@ use Rattle.mirror.specs.declared.call.DeviceCall.{DeviceCall}
 use Rattle.window.specs.Window.{Window}
 use Rattle.spec.specs.declared.event.Event.{Event}
 use Rattle.spec.specs.declared.event.Answer.{Answer}
-use Rattle.scsi_unit.specs.declared.reading.HomeSectors.{HomeSectors}
+use Rattle.device_calls.specs.declared.ask.DeviceRead.{DeviceRead}
 use Rattle.disk_calls.specs.Plays.{Disk, medium_of, Plays}
 use Rattle.disk_machine.specs.Asking.{AsksFor, HandsOut, IsDone, HasRead, HasEnded, waits_behind}
 use Rattle.disk_machine.specs.Idling.{StepsOn, HasStepped}
 use Rattle.disk_machine.specs.Machine.{Machine}
 use Rattle.disk_machine.specs.Moves.{WaitsForDevice, is_behind, waiting_for, begun}
 use Rattle.disk_machine.specs.Packets.{PlaysOut, waits_for}
-use Rattle.disk_machine.specs.declared.ask.DeviceAsk.{DeviceAsk}
-use Rattle.disk_machine.specs.declared.ask.DeviceAsk.TheVariants as ask
+use Rattle.device_calls.specs.declared.ask.DeviceAsk.{DeviceAsk}
+use Rattle.device_calls.specs.declared.ask.DeviceAsk.TheVariants as ask
 use Rattle.disk_machine.specs.declared.asked.Asked.{Asked}
 use Rattle.disk_machine.specs.declared.asked.Asked.TheVariants as asked
-use Rattle.disk_machine.specs.declared.done_fault.DoneFault.{DoneFault}
+use Rattle.device_calls.specs.declared.done_fault.DoneFault.{DoneFault}
 use Rattle.disk_machine.specs.declared.waiting.Waiting.{Waiting}
 use Rattle.disk_machine.specs.declared.waiting.Waiting.TheVariants as waiting
 
@@ -72,17 +72,17 @@ calls_wait count true old new result ended =
 calls_wait count false old new result ended = λ waits some. absurd (some (ap (λ (s : Machine). s.waiting) ended.1.others))
 
 -- a device that reads is as far behind as one that is at no call
-read_behind : (home : HomeSectors) (calls : List DeviceCall) → is_behind (asked.Read home) calls ≡ is_behind asked.Nothing calls
+read_behind : (home : DeviceRead) (calls : List DeviceCall) → is_behind (asked.Read home) calls ≡ is_behind asked.Nothing calls
 read_behind home [] = refl
 read_behind home (call ∷ calls) = refl
 
-no_call : (old new : Machine) (home : HomeSectors) → old.asked ≡ asked.Read home → new.asked ≡ asked.Nothing → new.waiting ≡ old.waiting
+no_call : (old new : Machine) (home : DeviceRead) → old.asked ≡ asked.Read home → new.asked ≡ asked.Nothing → new.waiting ≡ old.waiting
     → (medium_of new.disk).outbox ≡ (medium_of old.disk).outbox → WaitStays old new
 no_call old new home was now waiting outbox waits some =
     (λ i. is_behind (now i) (outbox i)) ∙ sym (read_behind home (medium_of old.disk).outbox)
     ∙ ap (λ (a : Asked). is_behind a (medium_of old.disk).outbox) (sym was) ∙ waits (λ none. some (waiting ∙ none))
 
-read_waits : (home : HomeSectors) (ok : Bool) (old new : Machine) (bytes : List ℕ) (result : Result (Unit {0}) DoneFault)
+read_waits : (home : DeviceRead) (ok : Bool) (old new : Machine) (bytes : List ℕ) (result : Result (Unit {0}) DoneFault)
     → old.asked ≡ asked.Read home → HasRead home ok old bytes result new → WaitStays old new
 read_waits home true old new bytes result was (inl bad) = same_wait old new bad.1.1
 read_waits home true old new bytes result was (inr good) =

@@ -9,3 +9,5 @@ pub mod Staying
 pub mod Lagging
 pub mod Dying
 pub mod Living
+pub mod Turning
+pub mod Transferring

@@ -1,5 +1,5 @@
--- A life is served on through all calls.
-use Rattle.std.proofs.Common.{◌≡◌, inl, inr, ◌++◌, [], ◌∷◌, List, ℕ, refl, sym, ◌∙◌, ap, subst, arith, append_assoc}
+-- A life is served on through all calls, and what is said in them is by the rules.
+use Rattle.std.proofs.Common.{◌≡◌, inl, inr, ◌++◌, ◌*◌, [], ◌∷◌, List, ℕ, zero, suc, Bool, true, false, ◌≤◌, refl, sym, ◌∙◌, ap, subst, arith, append_assoc, drop}
 use Rattle.std.specs.Prelude.{Option, Some, None}
 use Rattle.std.proofs.lemmas.Bool.{cases_Bool}
 use Rattle.std.proofs.lemmas.List.{append-nil}
@@ -13,14 +13,22 @@ use Rattle.spec.specs.declared.event.Answer.{Answer}
 use Rattle.scsi_unit.specs.Laws.{IsSameLife}
 use Rattle.bot_machine.specs.BookLaws.{GrowsBy}
 use Rattle.bot_machine.specs.Disk.{over}
-use Rattle.disk_machine.specs.Lives.{Call, next, done, bulk_out, bulk_in, setup, idle, look_ahead, IsMade, ServesLater, ServesThroughout}
+use Rattle.disk_machine.specs.Ahead.{LooksAhead}
+use Rattle.disk_machine.specs.Idling.{HasStepped}
+use Rattle.disk_machine.specs.Lives.{Call, next, done, bulk_out, bulk_in, take_transfer, send_transfer, setup, idle, look_ahead}
+use Rattle.disk_machine.specs.Lives.{IsMade, turns_of, ServesLater, ServesThroughout, turns_in_all}
 use Rattle.disk_machine.specs.Machine.{Machine, Serves, has_refused}
 use Rattle.disk_machine.specs.Moves.{ServesOn, ServesEvent, ServesToken}
-use Rattle.disk_machine.specs.Packets.{TakesOut, SendsIn}
+use Rattle.disk_machine.specs.Packets.{TakesOne, SendsIn}
+use Rattle.disk_machine.specs.Transfers.{packet_at, TakesFirst, EndsTaking, TakesTransfer, SendsAt, SendsFirst}
+use Rattle.disk_machine.specs.Transfers.{EndsSending, SendsTransfer, SendsInto}
+use Rattle.disk_machine.specs.Turns.{Turn, played, TurnsRun, turns_one, turns_in, turns_idle, turns_taken, turns_not_taken}
+use Rattle.disk_machine.specs.Turns.{turns_of_taking, turns_at, turns_sent, turns_last, turns_of_sending, turns_into}
 use Rattle.disk_machine.proofs.StepLaws.{opening_stays, writes_grow}
+use Rattle.disk_machine.proofs.Turning.{runs_through, same_over, asks_say, done_says, steps_run}
 
-abbrev LivesOn : Machine → Machine → Type 0
-LivesOn old new = (told : ℕ) (book : Book) → Serves old told book → ServesLater told book new
+abbrev LivesOn : Machine → List Turn → Machine → Type 0
+LivesOn old turns new = (told : ℕ) (book : Book) → Serves old told book → ServesLater told book old turns new
 
 same_life : (book : Book) → IsSameLife book book
 same_life book = record { blocks = refl; opening = refl; stamp = refl; ours = refl }
@@ -33,17 +41,47 @@ life_through a b c f g = record {
   ours = g.ours ∙ f.ours;
 }
 
--- no event
-served_on : (old new : Machine) → ServesOn old new → LivesOn old new
-served_on old new on told book serves = record {
-  told_now = told;
+then : (old mid new : Machine) (first last : List Turn) (told : ℕ) (book : Book) → ServesLater told book old first mid
+    → LivesOn mid last new → ServesLater told book old (first ++ last) new
+then old mid new before behind told book first on =
+    let last = on first.told_now first.later first.serves in record {
+      told_now = last.told_now;
+      later = last.later;
+      serves = last.serves;
+      told_stays = omega (arith, first.told_stays, last.told_stays);
+      life = life_through book first.later last.later first.life last.life;
+      since = first.since ++ last.since;
+      writes = last.writes ∙ ap (λ (l : List Write). l ++ last.since) first.writes
+          ∙ append_assoc book.writes first.since last.since;
+      run = runs_through (over old.disk book) (over mid.disk first.later) (over new.disk last.later) before behind first.run last.run;
+    }
+
+through : (old mid new : Machine) (first last : List Turn) → LivesOn old first mid → LivesOn mid last new
+    → LivesOn old (first ++ last) new
+through old mid new before behind first last told book serves =
+    then old mid new before behind told book (first told book serves) last
+
+-- ---- one call
+
+-- the book stays
+with_book : (old new : Machine) (turns : List Turn) (told now : ℕ) (book : Book) → told ≤ now → Serves new now book
+    → TurnsRun (over old.disk book) turns (over new.disk book) → ServesLater told book old turns new
+with_book old new turns told now book more serves run = record {
+  told_now = now;
   later = book;
-  serves = on told book serves;
-  told_stays = omega arith;
+  serves = serves;
+  told_stays = more;
   life = same_life book;
   since = [];
   writes = sym (append-nil book.writes);
+  run = run;
 }
+
+-- no event
+served_on : (old new : Machine) (turns : List Turn) → ServesOn old new
+    → ((book : Book) → TurnsRun (over old.disk book) turns (over new.disk book)) → LivesOn old turns new
+served_on old new turns on run told book serves =
+    with_book old new turns told told book (omega arith) (on told book serves) (run book)
 
 some_since : (write : Option Write) (old new : UnitState) → GrowsBy write old new
     → (since : List Write) × (new.book.writes ≡ old.book.writes ++ since)
@@ -52,7 +90,8 @@ some_since (Some write) old new (inl more) = (write ∷ [], more)
 some_since (Some write) old new (inr refused) = ([], refused.1 ∙ sym (append-nil old.book.writes))
 
 -- an event
-served_event : (old new : Machine) (event : Event) (answer : Answer) → ServesEvent old event answer new → LivesOn old new
+served_event : (old new : Machine) (event : Event) (answer : Answer) → ServesEvent old event answer new
+    → LivesOn old (played event answer ∷ []) new
 served_event old new event answer serves told book served =
     let by = serves told book served in
     let more = some_since (write_of_event (over old.disk book) event) (over old.disk book).unit (over new.disk by.1).unit
@@ -64,65 +103,131 @@ served_event old new event answer serves told book served =
       life = opening_stays by.0 (over old.disk book) (over new.disk by.1) event answer by.2;
       since = more.0;
       writes = more.1;
+      run = (by.0, over new.disk by.1, by.2, refl);
     }
 
 -- a token
-served_token : (old new : Machine) (answer : Answer) → ServesToken old answer new → LivesOn old new
-served_token old new answer serves told book served = elim (cases_Bool (has_refused new.asked)) [
-  | inl refused ↦ served_on old new (λ t b s. (serves t b s).1) told book served
-  | inr fine ↦ record {
-    told_now = book.mark;
-    later = book;
-    serves = (serves told book served).2 fine;
-    told_stays = served.fewer;
-    life = same_life book;
-    since = [];
-    writes = sym (append-nil book.writes);
-  }
-]
-
-nothing_changes : (old new : Machine) → new ≡ old → LivesOn old new
-nothing_changes old new same = subst (λ (s : Machine). LivesOn old s) (sym same) (served_on old old (λ told book serves. serves))
-
-taken_out : (old new : Machine) (packet : List ℕ) (code : ℕ) → TakesOut old packet new code → LivesOn old new
-taken_out old new packet code takes = elim takes.one [
-  | inl long ↦ nothing_changes old new long.2
-  | inr fits ↦ elim fits.1 [
-    | inl held ↦ nothing_changes old new held.2
-    | inr free ↦ elim free.1 [
-      | inl lacks ↦ served_on old new lacks.4.serves
-      | inr plays ↦ served_event old new (event.Out (record { items = packet })) plays.1.played.answer plays.1.serves
+served_token : (old new : Machine) (answer : Answer) → ServesToken old answer new
+    → LivesOn old (played event.In answer ∷ []) new
+served_token old new answer serves told book served =
+    let by = serves told book served in
+    let run : TurnsRun (over old.disk book) (played event.In answer ∷ []) (over new.disk book) =
+    (false, over new.disk book, by.0, refl) in
+    elim (cases_Bool (has_refused new.asked)) [
+      | inl refused ↦ with_book old new (played event.In answer ∷ []) told told book (omega arith) by.1 run
+      | inr fine ↦ with_book old new (played event.In answer ∷ []) told book.mark book served.fewer (by.2 fine) run
     ]
-  ]
-]
 
-sent_in : (old new : Machine) (room filled : List ℕ) (size code : ℕ) → SendsIn old room new filled size code → LivesOn old new
+nothing_changes : (old new : Machine) → new ≡ old → LivesOn old [] new
+nothing_changes old new same = subst (λ (s : Machine). LivesOn old [] s) (sym same)
+    (served_on old old [] (λ told book serves. serves) (λ book. refl))
+
+taken_one : (old new : Machine) (packet : List ℕ) (code : ℕ) (takes : TakesOne old packet new code)
+    → LivesOn old (turns_one old packet new code takes) new
+taken_one old new packet code (inl long) = nothing_changes old new long.2
+taken_one old new packet code (inr (few, inl held)) = nothing_changes old new held.2
+taken_one old new packet code (inr (few, inr (free, inl lacks))) =
+    served_on old new [] lacks.4.serves (same_over old new (ap (λ (s : Machine). s.disk) lacks.3))
+taken_one old new packet code (inr (few, inr (free, inr (none, serves)))) =
+    served_event old new (event.Out (record { items = packet })) serves.played.answer serves.serves
+
+sent_in : (old new : Machine) (room filled : List ℕ) (size code : ℕ) (sends : SendsIn old room new filled size code)
+    → LivesOn old (turns_in old room new filled size code sends) new
 sent_in old new room filled size code (inl waits) = nothing_changes old new waits.2
-sent_in old new room filled size code (inr sends) = served_token old new sends.1.0 sends.1.4
+sent_in old new room filled size code (inr (none, sends)) = served_token old new sends.0 sends.4
 
-one : (call : Call) (old new : Machine) → IsMade call old new → LivesOn old new
-one (next room) old new made = served_on old new made.3.serves
-one (done ok bytes) old new made = served_on old new made.1.2.serves
-one (bulk_out packet) old new made = taken_out old new packet made.0 made.1
-one (bulk_in room) old new made = sent_in old new room made.0 made.1 made.2 made.3
-one (setup packet room) old new made = served_event old new (event.Setup packet) made.3.0 made.3.4
-one idle old new made = served_on old new made.1.serves
-one (look_ahead first count) old new made = served_on old new made.1.stays.serves
+idled : (old new : Machine) (stepped : HasStepped old new) → ServesOn old new → LivesOn old (turns_idle old new stepped) new
+idled old new (inl held) on = nothing_changes old new held.1
+idled old new (inr (free, makes, others)) on = λ told book serves.
+    with_book old new (turns_idle old new (inr (free, makes, others))) told told book (omega arith) (on told book serves)
+    (steps_run old.most makes.count old new.disk makes.steps told book serves)
 
-then : (mid new : Machine) (told : ℕ) (book : Book) → ServesLater told book mid → LivesOn mid new → ServesLater told book new
-then mid new told book first on =
-    let last = on first.told_now first.later first.serves in record {
-      told_now = last.told_now;
-      later = last.later;
-      serves = last.serves;
-      told_stays = omega (arith, first.told_stays, last.told_stays);
-      life = life_through book first.later last.later first.life last.life;
-      since = first.since ++ last.since;
-      writes = last.writes ∙ ap (λ (l : List Write). l ++ last.since) first.writes
-          ∙ append_assoc book.writes first.since last.since;
-    }
+looked : (old new : Machine) (first count : ℕ) (reads : Bool) → LooksAhead old first count new reads → LivesOn old [] new
+looked old new first count true looks =
+    served_on old new [] looks.stays.serves (same_over old new (ap (λ (s : Machine). s.disk) looks.one.2))
+looked old new first count false looks =
+    served_on old new [] looks.stays.serves (same_over old new (ap (λ (s : Machine). s.disk) looks.one.1))
+
+-- ---- a transfer
+
+taken_first : (most : ℕ) (bytes : List ℕ) (count : ℕ) (old new : Machine) (first : TakesFirst most bytes count old new)
+    → LivesOn old (turns_taken most bytes count old new first) new
+taken_first most bytes zero old new same = nothing_changes old new same
+taken_first most bytes (suc number) old new (mid, first, has, takes) =
+    through old mid new (turns_taken most bytes number old mid first)
+    (turns_one mid (packet_at most bytes number) new 0 takes.one) (taken_first most bytes number old mid first)
+    (taken_one mid new (packet_at most bytes number) 0 takes.one)
+
+not_taken : (most : ℕ) (bytes : List ℕ) (count : ℕ) (mid new : Machine) (taken code : ℕ)
+    (ends : EndsTaking most bytes count mid new taken code)
+    → LivesOn mid (turns_not_taken most bytes count mid new taken code ends) new
+not_taken most bytes count mid new taken code (inl all) = nothing_changes mid new all.1
+not_taken most bytes count mid new taken code (inr (has, takes, at, told)) =
+    taken_one mid new (packet_at most bytes count) code takes.one
+
+transfer_taken : (old new : Machine) (bytes : List ℕ) (taken code : ℕ) (takes : TakesTransfer old bytes new taken code)
+    → LivesOn old (turns_of_taking old bytes new taken code takes) new
+transfer_taken old new bytes taken code takes =
+    let most = old.disk.line.packet_size in
+    through old takes.mid new (turns_taken most bytes takes.count old takes.mid takes.first)
+    (turns_not_taken most bytes takes.count takes.mid new taken code takes.ends)
+    (taken_first most bytes takes.count old takes.mid takes.first)
+    (not_taken most bytes takes.count takes.mid new taken code takes.ends)
+
+sent_at : (most at : ℕ) (old new : Machine) (room filled : List ℕ) (size code : ℕ)
+    (sends : SendsAt most at old room new filled size code)
+    → LivesOn old (turns_at most at old room new filled size code sends) new
+sent_at most at old new room filled size code (fits, rest, sends, are) = sent_in old new (drop at room) rest size code sends
+
+sent_first : (most count : ℕ) (old new : Machine) (room filled : List ℕ) (first : SendsFirst most count old room new filled)
+    → LivesOn old (turns_sent most count old room new filled first) new
+sent_first most zero old new room filled same = nothing_changes old new same.0
+sent_first most (suc number) old new room filled (mid, before, first, sends) =
+    through old mid new (turns_sent most number old room mid before first)
+    (turns_at most (number * most) mid before new filled most 0 sends) (sent_first most number old mid room before first)
+    (sent_at most (number * most) mid new before filled most 0 sends)
+
+sent_last : (most count : ℕ) (mid new : Machine) (before filled : List ℕ) (given code : ℕ)
+    (ends : EndsSending most count mid before new filled given code)
+    → LivesOn mid (turns_last most count mid before new filled given code ends) new
+sent_last most count mid new before filled given code (inl full) = nothing_changes mid new full.1
+sent_last most count mid new before filled given code (inr (size, told, sends, last)) =
+    sent_at most (count * most) mid new before filled size told sends
+
+transfer_sent : (old new : Machine) (room filled : List ℕ) (given code : ℕ) (sends : SendsTransfer old room new filled given code)
+    → LivesOn old (turns_of_sending old room new filled given code sends) new
+transfer_sent old new room filled given code sends =
+    let most = old.disk.line.packet_size in
+    through old sends.mid new (turns_sent most sends.count old room sends.mid sends.before sends.first)
+    (turns_last most sends.count sends.mid sends.before new filled given code sends.ends)
+    (sent_first most sends.count old sends.mid room sends.before sends.first)
+    (sent_last most sends.count sends.mid new sends.before filled given code sends.ends)
+
+sent_into : (old new : Machine) (room : List ℕ) (was : ℕ) (filled : List ℕ) (given code : ℕ)
+    (sends : SendsInto old room was new filled given code)
+    → LivesOn old (turns_into old room was new filled given code sends) new
+sent_into old new room was filled given code (inl little) = nothing_changes old new little.2
+sent_into old new room was filled given code (inr (has, sends)) = transfer_sent old new room filled given code sends
+
+-- ---- all calls
+
+one : (call : Call) (old new : Machine) (made : IsMade call old new) → LivesOn old (turns_of call old new made) new
+one (next room) old new made =
+    served_on old new [] made.3.serves (asks_say old new room made.0 made.1 made.2)
+one (done ok bytes) old new made =
+    served_on old new (turns_of (done ok bytes) old new made) made.1.2.serves
+    (λ book. done_says old new bytes made.1.0 book old.asked ok made.1.1)
+one (bulk_out packet) old new (code, takes) = taken_one old new packet code takes.one
+one (bulk_in room) old new (filled, size, code, sends) = sent_in old new room filled size code sends
+one (take_transfer bytes) old new (taken, code, takes) = transfer_taken old new bytes taken code takes
+one (send_transfer room) old new (was, filled, given, code, sends) = sent_into old new room was filled given code sends
+one (setup packet room) old new (filled, size, code, answers) =
+    served_event old new (event.Setup packet) answers.0 answers.4
+one idle old new (left, idles) = idled old new idles.stepped idles.serves
+one (look_ahead first count) old new (reads, looks) = looked old new first count reads looks
 
 pub serves_throughout : ServesThroughout
 serves_throughout [] old new same = nothing_changes old new same
-serves_throughout (call ∷ calls) old new made = λ told book serves.
-    then made.0 new told book (one call old made.0 made.1 told book serves) (serves_throughout calls made.0 new made.2)
+serves_throughout (call ∷ calls) old new (mid, made, rest) =
+    through old mid new (turns_of call old mid made) (turns_in_all calls mid new rest) (one call old mid made)
+    (serves_throughout calls mid new rest)

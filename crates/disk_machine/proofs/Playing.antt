@@ -148,7 +148,17 @@ module _ (old new : Machine) (plays : Plays old.disk event.Tick answer.Ticked ne
       let same : played.1 ≡ book = same_book played.0 (over old.disk book).unit (over new.disk played.1).unit played.2.1 in
       subst (λ (b : Book). Serves new told b) same played.3
 
-abbrev with_disk : Machine → Disk → Machine
+  pub tick_step : (told : ℕ) (book : Book) → Serves old told book
+      → (refused : Bool) × UnitStep refused (over old.disk book) event.Tick answer.Ticked (over new.disk book)
+  tick_step told book serves =
+      let played = quiet_serves old new event.Tick answer.Ticked plays others (λ book block taken carried_out. carried_out)
+      told book serves in
+      let same : played.1 ≡ book = same_book played.0 (over old.disk book).unit (over new.disk played.1).unit played.2.1 in (
+        played.0,
+        subst (λ (b : Book). UnitStep played.0 (over old.disk book) event.Tick answer.Ticked (over new.disk b)) same played.2,
+      )
+
+abbrev pub with_disk : Machine → Disk → Machine
 with_disk s disk = record s { disk = disk }
 
 -- steps, one by one

@@ -7,7 +7,7 @@ use Rattle.mirror.specs.declared.call.DeviceCall.{DeviceCall}
 use Rattle.window.specs.Window.{Window, take_first}
 use Rattle.spec.specs.declared.event.Event.{Event}
 use Rattle.spec.specs.declared.event.Answer.{Answer}
-use Rattle.scsi_unit.specs.declared.reading.HomeSectors.{HomeSectors}
+use Rattle.device_calls.specs.declared.ask.DeviceRead.{DeviceRead}
 use Rattle.store_calls.specs.Outbox.{without}
 use Rattle.disk_calls.specs.Plays.{Disk, medium_of, layout_on, Plays}
 use Rattle.disk_calls.specs.Refusals.{HasRoom}
@@ -17,12 +17,12 @@ use Rattle.disk_machine.specs.Idling.{StepsOn, HasStepped}
 use Rattle.disk_machine.specs.Machine.{Machine}
 use Rattle.disk_machine.specs.Moves.{ServesAtRest, StaysSafe, KeepsGoing, HasRoomBeside}
 use Rattle.disk_machine.specs.Packets.{HoldsBack, PlaysOut}
-use Rattle.disk_machine.specs.declared.ask.DeviceAsk.{DeviceAsk}
-use Rattle.disk_machine.specs.declared.ask.DeviceAsk.TheVariants as ask
+use Rattle.device_calls.specs.declared.ask.DeviceAsk.{DeviceAsk}
+use Rattle.device_calls.specs.declared.ask.DeviceAsk.TheVariants as ask
 use Rattle.disk_machine.specs.declared.asked.Asked.{Asked}
 use Rattle.disk_machine.specs.declared.asked.Asked.TheVariants as asked
 use Rattle.disk_machine.specs.declared.lack.Lack.{Lack}
-use Rattle.disk_machine.specs.declared.done_fault.DoneFault.{DoneFault}
+use Rattle.device_calls.specs.declared.done_fault.DoneFault.{DoneFault}
 use Rattle.disk_machine.proofs.Handing.{asks_serves, asks_leave}
 use Rattle.disk_machine.proofs.Dying.{asks_dead, done_dead, event_dead, idle_dead}
 use Rattle.disk_machine.proofs.Lagging.{asks_wait, done_wait, event_waits, out_waits, idle_waits}
@@ -83,11 +83,11 @@ given_up_room old new count gone = keeps_room old new (ap (λ (s : Machine). s.m
     (ap (λ (d : Disk). layout_on d) gone.refused.others)
     (ap (λ (w : Window). w.room) gone.refused.emptied.medium ∙ some_go (length (medium_of old.disk).outbox) (medium_of old.disk))
 
-shown_room : (old new : Machine) (home : HomeSectors) (bytes : List ℕ) → IsShownTo old home bytes new → RoomStays old new
+shown_room : (old new : Machine) (home : DeviceRead) (bytes : List ℕ) → IsShownTo old home bytes new → RoomStays old new
 shown_room old new home bytes shown = keeps_room old new (ap (λ (s : Machine). s.most) shown.others)
     (ap (λ (d : Disk). layout_on d) shown.sees.others) (ap (λ (w : Window). w.room) shown.sees.shown.others)
 
-read_room : (home : HomeSectors) (ok : Bool) (old new : Machine) (bytes : List ℕ) (result : Result (Unit {0}) DoneFault)
+read_room : (home : DeviceRead) (ok : Bool) (old new : Machine) (bytes : List ℕ) (result : Result (Unit {0}) DoneFault)
     → HasRead home ok old bytes result new → RoomStays old new
 read_room home true old new bytes result (inl bad) = same_room old new bad.1.1
 read_room home true old new bytes result (inr good) = shown_room old new home bytes good.2

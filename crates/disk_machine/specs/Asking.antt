@@ -7,17 +7,17 @@ use Rattle.mirror.specs.declared.call.DeviceCall.{DeviceCall}
 use Rattle.mirror.specs.declared.call.DeviceCall.TheVariants as call
 use Rattle.window.specs.Window.{state_of}
 use Rattle.store_calls.specs.Outbox.{without, IsLongestRun}
-use Rattle.scsi_unit.specs.declared.reading.HomeSectors.{HomeSectors}
+use Rattle.device_calls.specs.declared.ask.DeviceRead.{DeviceRead}
 use Rattle.disk_calls.specs.Plays.{medium_of, Sees}
 use Rattle.disk_calls.specs.Refused.{IsRefused}
 use Rattle.disk_calls.specs.Runs.{KeepsRest}
 use Rattle.disk_machine.specs.Machine.{Machine}
-use Rattle.disk_machine.specs.declared.ask.DeviceAsk.{DeviceAsk}
-use Rattle.disk_machine.specs.declared.ask.DeviceAsk.TheVariants as ask
+use Rattle.device_calls.specs.declared.ask.DeviceAsk.{DeviceAsk}
+use Rattle.device_calls.specs.declared.ask.DeviceAsk.TheVariants as ask
 use Rattle.disk_machine.specs.declared.asked.Asked.{Asked}
 use Rattle.disk_machine.specs.declared.asked.Asked.TheVariants as asked
-use Rattle.disk_machine.specs.declared.done_fault.DoneFault.{DoneFault}
-use Rattle.disk_machine.specs.declared.done_fault.DoneFault.TheVariants as fault
+use Rattle.device_calls.specs.declared.done_fault.DoneFault.{DoneFault}
+use Rattle.device_calls.specs.declared.done_fault.DoneFault.TheVariants as fault
 use Rattle.disk_machine.specs.declared.lack.Lack.{Lack}
 use Rattle.disk_machine.specs.declared.lack.Lack.TheVariants as lack
 use Rattle.disk_machine.specs.declared.waiting.Waiting.{Waiting}
@@ -33,7 +33,7 @@ pub record HandsOut (old : Machine) (count : ℕ) (new : Machine) : Type 0 where
   pub others : new ≡ record old { disk = new.disk; asked = asked.Calls count }
 
 -- the sectors that are to be read: a READ lacks them, or they are read ahead
-abbrev pub to_read : Lack → Option HomeSectors
+abbrev pub to_read : Lack → Option DeviceRead
 to_read lack.Nothing = None
 to_read (lack.Wanted home) = Some home
 to_read (lack.Ahead home) = Some home
@@ -94,16 +94,16 @@ is_ahead (lack.Unread home) = false
 
 -- Sectors that a READ lacks, and that the disk did not take, count as unread: its packet is played
 -- without them. Those that were read ahead do not: a READ that lacks them has them read.
-abbrev pub lack_behind : Lack → HomeSectors → Bool → Lack
+abbrev pub lack_behind : Lack → DeviceRead → Bool → Lack
 lack_behind was home taken = if taken || is_ahead was then lack.Ended else lack.Unread home
 
 -- a read of these sectors is over, and the disk took them or not
-abbrev pub read_over : Machine → HomeSectors → Bool → Machine
+abbrev pub read_over : Machine → DeviceRead → Bool → Machine
 read_over s home taken =
     record s { asked = asked.Nothing; lack = lack_behind s.lack home taken }
 
 -- the device read these sectors
-pub record IsShownTo (old : Machine) (home : HomeSectors) (bytes : List ℕ) (new : Machine)
+pub record IsShownTo (old : Machine) (home : DeviceRead) (bytes : List ℕ) (new : Machine)
     : Type 0 where
   pub taken : Bool
   pub sees : Sees old.disk home.first bytes new.disk taken
@@ -114,7 +114,7 @@ abbrev pub IsNotDone : DoneFault → Machine → Result (Unit {0}) DoneFault →
 IsNotDone why old result new = (result ≡ Err why) × (new ≡ old)
 
 -- a read has ended, good or not
-abbrev pub HasRead : HomeSectors → Bool → Machine → List ℕ → Result (Unit {0}) DoneFault → Machine
+abbrev pub HasRead : DeviceRead → Bool → Machine → List ℕ → Result (Unit {0}) DoneFault → Machine
     → Type 0
 HasRead home true old bytes result new =
     ((length bytes ≢ 512 * home.count) × IsNotDone fault.BadLength old result new)
@@ -141,5 +141,5 @@ Hears old ok bytes result new = IsDone old.asked ok old bytes result new
 
 -- the bytes are those that the device holds, where it read some
 abbrev pub IsHonest : Machine → Bool → List ℕ → Type 0
-IsHonest s ok bytes = ok ≡ true → (home : HomeSectors) → s.asked ≡ asked.Read home
+IsHonest s ok bytes = ok ≡ true → (home : DeviceRead) → s.asked ≡ asked.Read home
     → AreHeld (state_of (medium_of s.disk)).content home.first (length bytes / 512) bytes

@@ -5,3 +5,5 @@ pub mod Lives
 pub mod Machine
 pub mod Moves
 pub mod Packets
+pub mod Transfers
+pub mod Turns

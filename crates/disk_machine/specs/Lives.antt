@@ -1,16 +1,21 @@
--- Calls of a machine, one after the other, and what they keep of a life.
+-- Calls of a machine, one after the other: what they keep of a life, and what is said in them.
 use Rattle.std.specs.Prelude.{◌≡◌, ℕ, ◌≤◌, Bool, List, [], ◌∷◌, ◌++◌, Result}
+use Rattle.device_calls.specs.declared.ask.DeviceAsk.{DeviceAsk}
+use Rattle.device_calls.specs.declared.done_fault.DoneFault.{DoneFault}
 use Rattle.spec.specs.Blocks.{Write}
 use Rattle.spec.specs.Book.{Book}
+use Rattle.spec.specs.declared.event.Event.TheVariants as event
 use Rattle.scsi_unit.specs.Laws.{IsSameLife}
+use Rattle.bot_machine.specs.Disk.{over}
 use Rattle.disk_machine.specs.Ahead.{LooksAhead}
 use Rattle.disk_machine.specs.Asking.{AsksFor, Hears, IsHonest}
 use Rattle.disk_machine.specs.Idling.{Idles}
 use Rattle.disk_machine.specs.Machine.{Machine, Serves}
 use Rattle.disk_machine.specs.Moves.{StaysSafe}
 use Rattle.disk_machine.specs.Packets.{TakesOut, SendsIn, AnswersSetup}
-use Rattle.disk_machine.specs.declared.ask.DeviceAsk.{DeviceAsk}
-use Rattle.disk_machine.specs.declared.done_fault.DoneFault.{DoneFault}
+use Rattle.disk_machine.specs.Transfers.{TakesTransfer, SendsInto}
+use Rattle.disk_machine.specs.Turns.{Turn, played, TurnsRun, turns_out, turns_in, turns_done}
+use Rattle.disk_machine.specs.Turns.{turns_idle, turns_of_taking, turns_into}
 
 -- a call, with what it is given
 pub data Call : Type 0 where
@@ -18,6 +23,8 @@ pub data Call : Type 0 where
   done : Bool → List ℕ → Call
   bulk_out : List ℕ → Call
   bulk_in : List ℕ → Call
+  take_transfer : List ℕ → Call
+  send_transfer : List ℕ → Call
   setup : List ℕ → List ℕ → Call
   idle : Call
   look_ahead : ℕ → ℕ → Call
@@ -32,6 +39,10 @@ IsMade (done ok bytes) old new = IsHonest old ok bytes
 IsMade (bulk_out packet) old new = (code : ℕ) × TakesOut old packet new code
 IsMade (bulk_in room) old new = (filled : List ℕ) × (size : ℕ) × (code : ℕ)
     × SendsIn old room new filled size code
+IsMade (take_transfer bytes) old new = (taken : ℕ) × (code : ℕ)
+    × TakesTransfer old bytes new taken code
+IsMade (send_transfer room) old new = (was : ℕ) × (filled : List ℕ) × (given : ℕ) × (code : ℕ)
+    × SendsInto old room was new filled given code
 IsMade (setup packet room) old new = (filled : List ℕ) × (size : ℕ) × (code : ℕ)
     × AnswersSetup old packet room new filled size code
 IsMade idle old new = (left : Bool) × Idles old new left
@@ -41,9 +52,32 @@ abbrev pub AreMade : List Call → Machine → Machine → Type 0
 AreMade [] old new = new ≡ old
 AreMade (call ∷ calls) old new = (mid : Machine) × IsMade call old mid × AreMade calls mid new
 
+-- what the host and the disk say to each other in a call
+abbrev pub turns_of : (call : Call) (old new : Machine) → IsMade call old new → List Turn
+turns_of (next room) old new made = []
+turns_of (done ok bytes) old new made = turns_done old.asked ok
+turns_of (bulk_out packet) old new (code, takes) = turns_out old packet new code takes
+turns_of (bulk_in room) old new (filled, size, code, sends) =
+    turns_in old room new filled size code sends
+turns_of (take_transfer bytes) old new (taken, code, takes) =
+    turns_of_taking old bytes new taken code takes
+turns_of (send_transfer room) old new (was, filled, given, code, sends) =
+    turns_into old room was new filled given code sends
+turns_of (setup packet room) old new (filled, size, code, answers) =
+    played (event.Setup packet) answers.0 ∷ []
+turns_of idle old new (left, idles) = turns_idle old new idles.stepped
+turns_of (look_ahead first count) old new made = []
+
+abbrev pub turns_in_all : (calls : List Call) (old new : Machine) → AreMade calls old new
+    → List Turn
+turns_in_all [] old new same = []
+turns_in_all (call ∷ calls) old new (mid, made, rest) =
+    turns_of call old mid made ++ turns_in_all calls mid new rest
+
 -- The life is served on: all that was told is told still, and the accepted writes are those of
--- before, and maybe more.
-pub record ServesLater (told : ℕ) (book : Book) (new : Machine) : Type 0 where
+-- before, and maybe more. What was said since is by the rules, from this book to the later one.
+pub record ServesLater (told : ℕ) (book : Book) (old : Machine) (turns : List Turn) (new : Machine)
+    : Type 0 where
   pub told_now : ℕ
   pub later : Book
   pub serves : Serves new told_now later
@@ -51,8 +85,10 @@ pub record ServesLater (told : ℕ) (book : Book) (new : Machine) : Type 0 where
   pub life : IsSameLife book later
   pub since : List Write
   pub writes : later.writes ≡ book.writes ++ since
+  pub run : TurnsRun (over old.disk book) turns (over new.disk later)
 
 -- whatever calls of a machine come, in any order
 abbrev pub ServesThroughout : Type 0
-ServesThroughout = (calls : List Call) (old new : Machine) → AreMade calls old new
-    → (told : ℕ) (book : Book) → Serves old told book → ServesLater told book new
+ServesThroughout = (calls : List Call) (old new : Machine) (made : AreMade calls old new)
+    (told : ℕ) (book : Book) → Serves old told book
+    → ServesLater told book old (turns_in_all calls old new made) new

@@ -19,8 +19,8 @@ use Rattle.disk_calls.specs.Room.{room_for}
 use Rattle.disk_machine.specs.Machine.{Machine, MayLeave, Serves, IsCaughtUp, has_refused}
 use Rattle.disk_machine.specs.declared.asked.Asked.{Asked}
 use Rattle.disk_machine.specs.declared.asked.Asked.TheVariants as asked
-use Rattle.disk_machine.specs.declared.state.MachineState.{MachineState}
-use Rattle.disk_machine.specs.declared.state.MachineState.TheVariants as state
+use Rattle.device_calls.specs.declared.state.MachineState.{MachineState}
+use Rattle.device_calls.specs.declared.state.MachineState.TheVariants as state
 use Rattle.disk_machine.specs.declared.waiting.Waiting.{Waiting}
 use Rattle.disk_machine.specs.declared.waiting.Waiting.TheVariants as waiting
 use Rattle.disk_machine.specs.declared.lack.Lack.TheVariants as lack

@@ -5,7 +5,7 @@ use Rattle.window.specs.Window.{state_of}
 use Rattle.spec.specs.Book.{Book}
 use Rattle.spec.specs.declared.event.Event.TheVariants as event
 use Rattle.spec.specs.declared.event.Answer.{Answer}
-use Rattle.scsi_unit.specs.declared.reading.HomeSectors.{HomeSectors}
+use Rattle.device_calls.specs.declared.ask.DeviceRead.{DeviceRead}
 use Rattle.bot_machine.specs.Disk.{FitsDisk, over}
 use Rattle.bot_machine.specs.Promising.{PromisesIn, PromisesNone}
 use Rattle.disk_calls.specs.Codes.{TOO_LONG, code_of}
@@ -43,13 +43,13 @@ HoldsBack s = (is_starting s.waiting ≡ true) ⊎ ((is_reading s.asked ≡ true
     ⊎ (s.most < length (medium_of s.disk).outbox))
 
 -- the packet is not taken before the device has read these home sectors
-abbrev pub Lacks : Machine → List ℕ → HomeSectors → Type 0
+abbrev pub Lacks : Machine → List ℕ → DeviceRead → Type 0
 Lacks s packet home = Wants s.disk packet home.first home.count × (s.lack ≢ lack.Unread home)
 
 -- what the packet has read is in sight, or the device could not read it when it was asked
 abbrev pub LacksNone : Machine → List ℕ → Type 0
 LacksNone s packet = WantsNone s.disk packet
-    ⊎ ((home : HomeSectors) × Wants s.disk packet home.first home.count
+    ⊎ ((home : DeviceRead) × Wants s.disk packet home.first home.count
     × (s.lack ≡ lack.Unread home))
 
 -- ---- what a packet does
@@ -89,13 +89,17 @@ pub record ServesOut (old : Machine) (packet : List ℕ) (new : Machine) (code :
 -- A packet to Bulk-Out that is too long changes nothing. One that is not taken now is told to come
 -- again, and the disk does not see it: the sectors that it lacks are to be read. Each other is
 -- played.
+abbrev pub TakesOne : Machine → List ℕ → Machine → ℕ → Type 0
+TakesOne old packet new code =
+    ((old.disk.line.packet_size < length packet) × (code ≡ TOO_LONG) × (new ≡ old))
+    ⊎ ((length packet ≤ old.disk.line.packet_size)
+    × ((HoldsBack old × (code ≡ 1) × (new ≡ old))
+    ⊎ ((¬ HoldsBack old) × (((home : DeviceRead) × Lacks old packet home × (code ≡ 1)
+    × (new ≡ record old { lack = lack.Wanted home }) × StaysSafe old new)
+    ⊎ (LacksNone old packet × ServesOut old packet new code)))))
+
 pub record TakesOut (old : Machine) (packet : List ℕ) (new : Machine) (code : ℕ) : Type 0 where
-  pub one : ((old.disk.line.packet_size < length packet) × (code ≡ TOO_LONG) × (new ≡ old))
-      ⊎ ((length packet ≤ old.disk.line.packet_size)
-      × ((HoldsBack old × (code ≡ 1) × (new ≡ old))
-      ⊎ ((¬ HoldsBack old) × (((home : HomeSectors) × Lacks old packet home × (code ≡ 1)
-      × (new ≡ record old { lack = lack.Wanted home }) × StaysSafe old new)
-      ⊎ (LacksNone old packet × ServesOut old packet new code)))))
+  pub one : TakesOne old packet new code
 
 -- ---- tokens and requests
 

@@ -1,5 +1,5 @@
 //! What the device was asked for last.
-use scsi_unit::HomeSectors;
+use device_calls::DeviceRead;
 
 /// What the device was asked for last, and has not told done.
 #[derive(Clone, Copy, Debug, PartialEq, Eq)]
@@ -8,7 +8,7 @@ pub enum Asked {
     /// So many calls of the outbox: one flush, or writes to neighbouring sectors.
     Calls(usize),
     /// Sectors, which a READ lacks or may lack.
-    Read(HomeSectors),
+    Read(DeviceRead),
     /// It refused so many calls, behind which so many waited that it is not asked for. It is asked
     /// for nothing until the next start.
     Refused(usize, usize),

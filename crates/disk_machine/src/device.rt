@@ -6,10 +6,10 @@ ghost use Rattle.disk_machine.specs.Asking.{AsksFor};
 ghost use Rattle.disk_machine.specs.Moves.{StaysSafe};
 ghost use Rattle.disk_machine.specs.declared.asked.Asked.TheVariants as asked;
 
-use crate::ask::DeviceAsk;
 use crate::asked::Asked;
 use crate::lack::Lack;
 use crate::machine::DiskMachine;
+use device_calls::DeviceAsk;
 use disk_calls::gather;
 use mirror::DeviceCall;
 

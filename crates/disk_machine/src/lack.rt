@@ -1,16 +1,16 @@
 //! What the device is to read, and what became of it.
-use scsi_unit::HomeSectors;
+use device_calls::DeviceRead;
 
 /// The sectors that the device is to read, or was asked to, since a packet was played.
 #[derive(Clone, Copy, Debug, PartialEq, Eq)]
 pub enum Lack {
     Nothing,
     /// A READ lacks these home sectors: they are to be read.
-    Wanted(HomeSectors),
+    Wanted(DeviceRead),
     /// No READ lacks these sectors yet: they are to be read ahead.
-    Ahead(HomeSectors),
+    Ahead(DeviceRead),
     /// The read has ended, of a READ good: nothing is read ahead before the next packet is played.
     Ended,
     /// The device could not read these home sectors, which a READ lacks.
-    Unread(HomeSectors),
+    Unread(DeviceRead),
 }

@@ -5,9 +5,9 @@ ghost use Rattle.disk_machine.specs.Moves.{begun, state_by, state_of};
 
 use crate::asked::Asked;
 use crate::lack::Lack;
-use crate::state::MachineState;
 use crate::waiting::Waiting;
 use bot_machine::Disk;
+use device_calls::MachineState;
 use medium::Medium;
 use mirror::device_laws;
 use window::WindowMedium;

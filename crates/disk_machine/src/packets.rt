@@ -10,8 +10,8 @@ use crate::asked::Asked;
 use crate::lack::Lack;
 use crate::machine::DiskMachine;
 use crate::waiting::Waiting;
+use device_calls::DeviceRead;
 use disk_calls::{NAK, TOO_LONG, play_packet, unseen};
-use scsi_unit::HomeSectors;
 
 impl DiskMachine {
     /// A packet to Bulk-Out, and the number of its answer. It is told to come again while the
@@ -92,13 +92,13 @@ impl DiskMachine {
     }
 
     // The home sectors that the device is to read before this packet is taken.
-    fn lacks(&self, packet: &[u8]) -> Option<HomeSectors>
+    fn lacks(&self, packet: &[u8]) -> Option<DeviceRead>
         ensures { MatchOption result (LacksNone self.now packet.now) (Lacks self.now packet.now) }
     {
         let Some((first, count)) = unseen(&self.disk, packet) else {
             return None;
         };
-        let home = HomeSectors { first, count };
+        let home = DeviceRead { first, count };
         if self.is_unread(home) {
             return None;
         }
@@ -106,7 +106,7 @@ impl DiskMachine {
     }
 
     // Whether the device could not read these home sectors when it was asked.
-    fn is_unread(&self, home: HomeSectors) -> bool
+    fn is_unread(&self, home: DeviceRead) -> bool
         ensures { IsTrue result ↔ (self.now.lack ≡ lack.Unread home) }
     {
         match self.lack {

@@ -1,9 +1,15 @@
 //! What a machine does with tokens and requests.
+ghost use Rattle.std.specs.Prelude.{◌≤◌, length};
+ghost use Rattle.disk_calls.specs.Plays.{SendsPacket, Foresees, medium_of};
 ghost use Rattle.disk_machine.specs.Packets.{SendsIn, AnswersSetup};
 
 use crate::machine::DiskMachine;
 use crate::waiting::Waiting;
-use disk_calls::{NAK, answer_request, send_packet};
+use bot_machine::{Disk, InAnswer};
+use disk_calls::{ACK, NAK, STALL, answer_request, send_packet};
+use medium::Medium;
+use mirror::device_laws;
+use window::WindowMedium;
 
 impl DiskMachine {
     /// A token to Bulk-In: the packet to send, how many bytes it has, and the number of the answer.
@@ -27,4 +33,32 @@ impl DiskMachine {
     {
         answer_request(&mut self.disk, packet, to, size)
     }
+}
+
+/// A token of a disk, whose packet is copied once, to the front of a room in which the greatest has
+/// place.
+pub(crate) fn give_packet(disk: &mut Disk<WindowMedium>, to: &mut [u8], size: &mut usize) -> u32
+    requires { disk.old.line.packet_size ≤ length to.old }
+    ensures sends { SendsPacket disk.old to.old disk.new to.new size.new result }
+    ensures few { size.new ≤ disk.old.line.packet_size }
+{
+    *size = 0;
+    foresee(disk);
+    match disk.bulk_in() {
+        InAnswer::Data(packet) => {
+            to[..packet.len()].copy_from_slice(packet);
+            *size = packet.len();
+            ACK
+        }
+        InAnswer::Nak => NAK,
+        InAnswer::Stall => STALL,
+    }
+}
+
+// Does nothing. The laws of the outbox say of all that may come what it is for the device.
+fn foresee(disk: &Disk<WindowMedium>)
+    ensures { Foresees (medium_of disk.now) }
+{
+    let _waiting = disk.medium().waiting();
+    device_laws();
 }

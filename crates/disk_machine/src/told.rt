@@ -5,12 +5,11 @@ ghost use Rattle.disk_machine.specs.Asking.{IsGivenUp, counted, is_ahead, read_o
 ghost use Rattle.disk_machine.specs.Moves.{StaysSafe, ServesAtRest};
 
 use crate::asked::Asked;
-use crate::done_fault::DoneFault;
 use crate::lack::Lack;
 use crate::machine::DiskMachine;
 use crate::waiting::Waiting;
+use device_calls::{DeviceRead, DoneFault};
 use disk_calls::{refuse, show_sectors};
-use scsi_unit::HomeSectors;
 
 const SECTOR: usize = 512;
 
@@ -73,7 +72,7 @@ impl DiskMachine {
     }
 
     // A read of these sectors has ended, good or not.
-    fn take_read(&mut self, home: HomeSectors, ok: bool, bytes: &[u8]) -> Result<(), DoneFault>
+    fn take_read(&mut self, home: DeviceRead, ok: bool, bytes: &[u8]) -> Result<(), DoneFault>
         ensures { HasRead home ok self.old bytes.now result self.new }
     {
         if !ok {
@@ -89,7 +88,7 @@ impl DiskMachine {
     }
 
     // A read of these sectors is over, and the disk took them or not.
-    fn end_read(&mut self, home: HomeSectors, taken: bool)
+    fn end_read(&mut self, home: DeviceRead, taken: bool)
         ensures { self.new ≡ read_over self.old home taken }
     {
         self.asked = Asked::Nothing;

@@ -1,5 +1,9 @@
 use Rattle.disk_machine.proofs.Living.{serves_throughout}
+use Rattle.disk_machine.proofs.Turning.{events_run}
 use Rattle.disk_machine.proofs.laws.machine_laws.Goals as goal
 
-pub returns : goal.returns
-returns c = serves_throughout
+pub returns-clause-serves : goal.returns-clause-serves
+returns-clause-serves c = serves_throughout
+
+pub returns-clause-runs : goal.returns-clause-runs
+returns-clause-runs c = events_run
