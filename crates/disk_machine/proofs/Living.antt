@@ -1,5 +1,6 @@
 -- A life is served on through all calls, and what is said in them is by the rules.
-use Rattle.std.proofs.Common.{◌≡◌, inl, inr, ◌++◌, ◌*◌, [], ◌∷◌, List, ℕ, zero, suc, Bool, true, false, ◌≤◌, refl, sym, ◌∙◌, ap, subst, arith, append_assoc, drop}
+use Rattle.std.proofs.Common.{◌≡◌, inl, inr, ◌++◌, ◌*◌, [], ◌∷◌, List, ℕ, zero, suc, Bool, true, false, ◌≤◌}
+use Rattle.std.proofs.Common.{refl, sym, ◌∙◌, ap, subst, arith, append_assoc, drop}
 use Rattle.std.specs.Prelude.{Option, Some, None}
 use Rattle.std.proofs.lemmas.Bool.{cases_Bool}
 use Rattle.std.proofs.lemmas.List.{append-nil}

@@ -2,6 +2,7 @@
 use Rattle.std.specs.Prelude.{◌≡◌, ◌≢◌, ◌⊎◌, ℕ, zero, suc, ◌+◌, ◌*◌, ◌<◌, ◌≤◌, ◌==◌, ◌++◌, List}
 use Rattle.std.specs.Prelude.{length, take, drop, if◌then◌else◌}
 use Rattle.disk_calls.specs.Codes.{BAD_LENGTH}
+use Rattle.disk_calls.specs.Plays.{Disk, SendsPacket}
 use Rattle.disk_machine.specs.Machine.{Machine}
 use Rattle.disk_machine.specs.Packets.{TakesOut, SendsIn}
 
@@ -37,6 +38,15 @@ pub record TakesTransfer (old : Machine) (bytes : List ℕ) (new : Machine) (tak
   pub ends : EndsTaking old.disk.line.packet_size bytes count mid new taken code
 
 -- ---- from Bulk-In
+
+-- a token gives no more bytes than a packet has at most
+abbrev pub GivesPacket : Disk → List ℕ → Disk → List ℕ → ℕ → ℕ → Type 0
+GivesPacket old room new filled size code =
+    SendsPacket old room new filled size code × (size ≤ old.line.packet_size)
+
+abbrev pub SendsToken : Machine → List ℕ → Machine → List ℕ → ℕ → ℕ → Type 0
+SendsToken old room new filled size code =
+    SendsIn old room new filled size code × (size ≤ old.disk.line.packet_size)
 
 -- a token, whose packet goes to its place in the room; there is room for the greatest
 abbrev pub SendsAt : ℕ → ℕ → Machine → List ℕ → Machine → List ℕ → ℕ → ℕ → Type 0

@@ -112,7 +112,8 @@ abbrev pub turns_of_taking : (old : Machine) (bytes : List ℕ) (new : Machine) 
     → TakesTransfer old bytes new taken code → List Turn
 turns_of_taking old bytes new taken code takes =
     turns_taken old.disk.line.packet_size bytes takes.count old takes.mid takes.first
-    ++ turns_not_taken old.disk.line.packet_size bytes takes.count takes.mid new taken code takes.ends
+    ++ turns_not_taken old.disk.line.packet_size bytes takes.count takes.mid new taken code
+    takes.ends
 
 abbrev pub turns_at : (most at : ℕ) (old : Machine) (room : List ℕ) (new : Machine)
     (filled : List ℕ) (size code : ℕ) → SendsAt most at old room new filled size code → List Turn

@@ -5,7 +5,8 @@ ghost use Rattle.disk_machine.specs.Turns.{TurnsAreRun};
 /// Does nothing. Whatever calls of a machine come, in any order, a life that it serves is served
 /// throughout: at each moment a loss of power leaves what a start finds the promised writes in, and
 /// of those behind them the first some, none in part. What the host and the disk say to each other
-/// in these calls is by the rules; where the device refuses nothing it is a run of the conversation.
+/// in these calls is by the rules; where the device refuses nothing it is a run of the
+/// conversation.
 pub fn machine_laws()
     ensures serves { ServesThroughout }
     ensures runs { TurnsAreRun }

@@ -1,7 +1,7 @@
 //! What a machine does with tokens and requests.
 ghost use Rattle.std.specs.Prelude.{◌≤◌, length};
-ghost use Rattle.disk_calls.specs.Plays.{SendsPacket, Foresees, medium_of};
 ghost use Rattle.disk_machine.specs.Packets.{SendsIn, AnswersSetup};
+ghost use Rattle.disk_machine.specs.Transfers.{GivesPacket};
 
 use crate::machine::DiskMachine;
 use crate::waiting::Waiting;
@@ -39,11 +39,12 @@ impl DiskMachine {
 /// place.
 pub(crate) fn give_packet(disk: &mut Disk<WindowMedium>, to: &mut [u8], size: &mut usize) -> u32
     requires { disk.old.line.packet_size ≤ length to.old }
-    ensures sends { SendsPacket disk.old to.old disk.new to.new size.new result }
-    ensures few { size.new ≤ disk.old.line.packet_size }
+    ensures { GivesPacket disk.old to.old disk.new to.new size.new result }
 {
     *size = 0;
-    foresee(disk);
+    // the laws of the outbox say of all that may come what it is for the device
+    let _waiting = disk.medium().waiting();
+    device_laws();
     match disk.bulk_in() {
         InAnswer::Data(packet) => {
             to[..packet.len()].copy_from_slice(packet);
@@ -53,12 +54,4 @@ pub(crate) fn give_packet(disk: &mut Disk<WindowMedium>, to: &mut [u8], size: &m
         InAnswer::Nak => NAK,
         InAnswer::Stall => STALL,
     }
-}
-
-// Does nothing. The laws of the outbox say of all that may come what it is for the device.
-fn foresee(disk: &Disk<WindowMedium>)
-    ensures { Foresees (medium_of disk.now) }
-{
-    let _waiting = disk.medium().waiting();
-    device_laws();
 }

@@ -1,7 +1,7 @@
 //! Whole transfers: the packets of an endpoint, one after the other.
 ghost use Rattle.std.specs.Prelude.{◌≡◌, ◌⊎◌, ◌↔◌, ℕ, ◌*◌, ◌<◌, ◌≤◌, length};
-ghost use Rattle.disk_machine.specs.Packets.{SendsIn};
-ghost use Rattle.disk_machine.specs.Transfers.{TakesTransfer, SendsTransfer, SendsInto};
+ghost use Rattle.disk_machine.specs.Transfers.{TakesTransfer, SendsToken, SendsTransfer};
+ghost use Rattle.disk_machine.specs.Transfers.{SendsInto};
 
 use crate::machine::DiskMachine;
 use crate::tokens::give_packet;
@@ -70,8 +70,7 @@ impl DiskMachine {
     // A token to Bulk-In, whose packet goes to the front of a room in which the greatest has place.
     fn token(&mut self, to: &mut [u8], size: &mut usize) -> u32
         requires { self.old.disk.line.packet_size ≤ length to.old }
-        ensures sends { SendsIn self.old to.old self.new to.new size.new result }
-        ensures few { size.new ≤ self.old.disk.line.packet_size }
+        ensures { SendsToken self.old to.old self.new to.new size.new result }
     {
         match self.waiting {
             Waiting::Nothing => give_packet(&mut self.disk, to, size),

@@ -20,7 +20,7 @@ loop-count-preserved c =
           (put_mid (count * most) (length room - count * most) room told.new.to)) is
           (sent_more most count told.new.size told.result c.args.room.now room told.new.to c.args.self.now c.loop-count.self told.new.self
           first fits
-          (omega (arith, told.ensures.few, c.if-size-most.false, c.loop-count.invariant.packets_stay, is))
-          c.if-told-ne-ACK.false told.ensures.sends);
-      packets_stay = token_stays _ _ _ _ _ _ told.ensures.sends ∙ c.loop-count.invariant.packets_stay;
+          (omega (arith, told.ensures.1, c.if-size-most.false, c.loop-count.invariant.packets_stay, is))
+          c.if-told-ne-ACK.false told.ensures.0);
+      packets_stay = token_stays _ _ _ _ _ _ told.ensures.0 ∙ c.loop-count.invariant.packets_stay;
     }
