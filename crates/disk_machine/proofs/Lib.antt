@@ -8,6 +8,7 @@ pub mod Playing
 pub mod Staying
 pub mod Lagging
 pub mod Dying
+pub mod WorkSteps
 pub mod Living
 pub mod Turning
 pub mod Transferring

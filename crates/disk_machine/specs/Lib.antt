@@ -7,3 +7,4 @@ pub mod Moves
 pub mod Packets
 pub mod Transfers
 pub mod Turns
+pub mod Working
