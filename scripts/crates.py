@@ -28,9 +28,19 @@ def text_of(path):
         return file.read()
 
 
+def folder_of(crate):
+    """The folder of a crate, or of a judge that is built without a proof."""
+    return f"{ROOT}/judges/{crate}" if os.path.isdir(f"{ROOT}/judges/{crate}") else f"{ROOT}/crates/{crate}"
+
+
+def lists():
+    """The crates, and the judges that are built without a proof."""
+    return [it for it in (f"{ROOT}/crates.txt", f"{ROOT}/judges/judges.txt") if os.path.isfile(it)]
+
+
 def uses():
-    """The crates of crates.txt, each with its line and those crates that it stands on itself. Their order says nothing."""
-    rows = [it.partition("#")[0].strip() for it in text_of(f"{ROOT}/crates.txt").split("\n")]
+    """The crates of both lists, each with its line and those crates that it stands on itself. Their order says nothing."""
+    rows = [it.partition("#")[0].strip() for path in lists() for it in text_of(path).split("\n")]
     heads = {it.split(":")[0].split()[0]: it for it in rows if it}
     return {name: (row, [it for it in row.partition(":")[2].split() if it in heads]) for name, row in heads.items()}
 
@@ -55,7 +65,7 @@ def files_below(folder):
 def text_files(crate):
     """The files that a crate's proof reads."""
     for part in ("src", "specs", "proofs"):
-        yield from files_below(f"{ROOT}/crates/{crate}/{part}")
+        yield from files_below(f"{folder_of(crate)}/{part}")
 
 
 def sum_of(name):
