@@ -150,6 +150,15 @@ def packets(text):
     return picture("What exchanges cost, in copies", told, {"peer": "a copy by the C library"}, sections)
 
 
+def traffics(text):
+    """The speed over a link, of each device, beside a plain disk."""
+    rows = table(text, "Device", "Traffic")
+    for name in dict.fromkeys(it[0] for it in rows):
+        mine = [it for it in rows if it[0] == name]
+        bars = [(plain(it[1]), [Bar(mark, number(cell), cell) for mark, cell in zip(("slow", "ours", "peer"), (it[4], it[2], it[5]))], None) for it in mine]
+        yield Section(f"MB a second over a link of 35, while the device works: {name}", bars)
+
+
 def device(text):
     sections = []
     rows = table(text, "Format", "Slots", "Workload")
@@ -159,8 +168,12 @@ def device(text):
             (plain(it[2]), [Bar(mark, number(cell), cell) for mark, cell in zip(("slow", "ours", "peer"), it[3:6])], None) for it in mine
         ]
         sections.append(Section(f"MB a second, format {form}, 6 slots", bars, (40, "the device moves 40")))
-    rows = table(text, "A packet through the library for C", "Format", "Instructions")
-    bars = [(f"{plain(it[0]).partition(', its')[0]}, format {it[1]}", [Bar("ours", number(it[2]), f"{it[2]} {it[4]}")], number(it[3])) for it in rows]
+    sections += traffics(text)
+    rows = table(text, "A packet through the library for C", "Format", "Slots")
+    bars = [
+        (f"{plain(it[0]).partition(', its')[0]}, format {it[1]}, K {it[2]}", [Bar("ours", number(it[3]), f"{it[3]} {it[5]}")], number(it[4]))
+        for it in rows
+    ]
     sections.append(Section("Instructions of a packet through the library for C", bars))
     told = "Bars of the speed of each workload on a model of a device, beside a disk that writes through and promises nothing; then instructions."
     names = {"ours": "this disk, in runs of neighbours", "peer": "the floor: writes through, promises nothing"}

@@ -1,5 +1,6 @@
-/* Prints what a device feels of a disk: a host plays workloads of WRITEs on a disk over the library for C, and a model of a
- * device counts each call of the outbox. Beside it the same by a disk that writes through and promises nothing: the floor.
+/* Prints what a device feels of a disk: a host plays workloads of WRITEs on a disk over the library
+ * for C, and a model of a device counts each call, which it carries out at once. Beside it the same
+ * by a disk that writes through and promises nothing: the floor.
  *
  * device [MICROSECONDS A COMMAND [MICROSECONDS A FLUSH [MB A SECOND]]] */
 #include "host.h"
@@ -10,42 +11,44 @@
 
 enum { PAGE_BLOCKS = 8, MIB_BLOCKS = 2048 };
 
-/* A workload: WRITEs of `blocks` blocks (0: as many as a transfer has), one behind the other or at random pages, forced or
- * not, with a SYNCHRONIZE CACHE behind each `sync_blocks` blocks (0: none), and up to `steps` steps in the background behind
- * each WRITE, at random. */
+/* A workload: WRITEs of `blocks` blocks (0: as many as a transfer has), one behind the other or at
+ * random pages, forced or not, with a SYNCHRONIZE CACHE behind each `sync_blocks` blocks (0: none),
+ * and up to `idle` idle moments behind each WRITE, at random. */
 struct workload {
     const char *what;
     uint32_t blocks;
     bool at_random, is_forced;
     uint32_t sync_blocks;
-    unsigned writes, steps;
+    unsigned writes, idle;
 };
 
 static const struct workload workloads[] = {
     { "longest WRITEs with FUA", 0, false, true, 0, 400, 0 },
     { "4 KiB with FUA, at random", PAGE_BLOCKS, true, true, 0, 2000, 0 },
-    { "4 KiB at random, a SYNCHRONIZE CACHE each 32", PAGE_BLOCKS, true, false, 32 * PAGE_BLOCKS, 3200, 0 },
+    { "4 KiB at random, a SYNCHRONIZE CACHE each 32", PAGE_BLOCKS, true, false, 32 * PAGE_BLOCKS,
+      3200, 0 },
     { "longest WRITEs, a SYNCHRONIZE CACHE each 1 MiB", 0, false, false, MIB_BLOCKS, 400, 0 },
     { "longest WRITEs, none forced", 0, false, false, 0, 400, 0 },
 };
 enum { WORKLOADS = sizeof workloads / sizeof *workloads };
 
-/* Forced WRITEs with steps between, on a disk that retires ahead: as many flushes as without, but for a twentieth. */
-static const struct workload stepped[] = {
+/* Forced WRITEs with idle moments between, on a disk that retires ahead: as many flushes as
+ * without, but for a twentieth. */
+static const struct workload rested[] = {
     { "4 KiB with FUA, at random", PAGE_BLOCKS, true, true, 0, 2000, 2 },
     { "4 KiB with FUA, at random", PAGE_BLOCKS, true, true, 0, 2000, 10 },
     { "longest WRITEs with FUA", 0, false, true, 0, 400, 2 },
     { "longest WRITEs with FUA", 0, false, true, 0, 400, 10 },
 };
-enum { STEPPED = sizeof stepped / sizeof *stepped };
+enum { RESTED = sizeof rested / sizeof *rested };
 
-/* A disk over a device that is a model, what the worst event took, and how many flushes steps made. The host is the first
- * field. */
+/* A disk over a device that is a model, what the worst command took, and how many flushes idle
+ * moments made. The host is the first field. */
 struct bench {
     struct host host;
     struct device device;
-    uint64_t most_calls, flushes_of_steps;
-    double longest_event;
+    uint64_t most_calls, idle_flushes;
+    double longest;
 };
 
 static uint64_t seed;
@@ -58,27 +61,36 @@ static uint32_t random_below(uint32_t most)
     return (uint32_t)(seed >> 33) % most;
 }
 
-/* Carries out the outbox behind an event, and notes what it took. */
-static void persist(struct host *host)
+/* Counts a call that the device is told. */
+static void note(struct host *host, const struct usbdisk_call *call)
 {
-    static uint8_t bytes[512];
-    struct bench *bench = (struct bench *)host;
-    double before = bench->device.time[BY_RUNS];
-    uint64_t sector, calls = 0;
-    for (uint32_t kind; (kind = usbdisk_take(&host->disk, &sector, bytes)) != USBDISK_NOTHING; calls++) {
-        if (kind == USBDISK_WRITE)
-            device_write(&bench->device, sector);
-        else if (kind == USBDISK_FLUSH)
-            device_flush(&bench->device);
-        else
-            fail("take answers an error");
-    }
-    device_rest(&bench->device);
-    double took = bench->device.time[BY_RUNS] - before;
-    if (calls > bench->most_calls)
-        bench->most_calls = calls;
-    if (took > bench->longest_event)
-        bench->longest_event = took;
+    struct device *device = &((struct bench *)host)->device;
+    if (call->kind == USBDISK_FLUSH)
+        device_flush(device);
+    else if (call->kind == USBDISK_WRITE)
+        device_write_through(device, call->sector, call->count);
+}
+
+static uint64_t calls_of(const struct device *device)
+{
+    return device->sectors_written + device->flushes;
+}
+
+/* Plays a command, and notes what it took of the device. */
+static void measure_command(struct bench *bench, const struct command *command)
+{
+    double began = bench->device.time[BY_RUNS];
+    uint64_t before = calls_of(&bench->device);
+    play_command(&bench->host, command);
+    double took = bench->device.time[BY_RUNS] - began;
+    uint64_t calls = calls_of(&bench->device) - before;
+    bench->most_calls = calls > bench->most_calls ? calls : bench->most_calls;
+    bench->longest = took > bench->longest ? took : bench->longest;
+}
+
+static uint32_t blocks_of(const struct bench *bench, const struct workload *work)
+{
+    return work->blocks ? work->blocks : bench->host.limit;
 }
 
 /* Where the next WRITE goes: on from the last one, or to a page at random. */
@@ -89,36 +101,47 @@ static uint32_t next_address(const struct workload *work, uint32_t blocks, unsig
     return i * blocks % (BLOCKS - BLOCKS % blocks);
 }
 
-/* Up to so many steps, at random. */
-static void make_steps(struct bench *bench, unsigned most)
+/* Up to so many idle moments, at random. */
+static void rest(struct bench *bench, unsigned most)
 {
     uint64_t before = bench->device.flushes;
-    if (most == 0)
-        return;
-    for (uint32_t left = random_below(most + 1); left > 0; left--)
-        step(&bench->host);
-    bench->flushes_of_steps += bench->device.flushes - before;
+    for (uint32_t left = most ? random_below(most + 1) : 0; left > 0; left--)
+        rest_once(&bench->host);
+    bench->idle_flushes += bench->device.flushes - before;
 }
 
-/* `writes` WRITEs, carried out by the disk, or by the floor. */
-static void play(struct bench *bench, const struct workload *work, unsigned writes, bool is_floor)
+/* A WRITE, and the SYNCHRONIZE CACHE that is due behind it, by the disk. */
+static void play_once(struct bench *bench, const struct workload *work, uint32_t address,
+                      bool is_due)
 {
-    uint32_t blocks = work->blocks ? work->blocks : bench->host.limit, since = 0;
+    const struct command write = { WRITE_10, address, blocks_of(bench, work), work->is_forced };
+    const struct command synchronize = { .code = SYNCHRONIZE_10 };
+    measure_command(bench, &write);
+    if (is_due)
+        measure_command(bench, &synchronize);
+    rest(bench, work->idle);
+}
+
+/* The same, by the floor. */
+static void write_through(struct bench *floor, const struct workload *work, uint32_t address,
+                          bool is_due)
+{
+    device_write_through(&floor->device, address, blocks_of(floor, work));
+    if (work->is_forced || is_due)
+        device_flush(&floor->device);
+}
+
+typedef void player(struct bench *bench, const struct workload *work, uint32_t address,
+                    bool is_due);
+
+static void play(struct bench *bench, const struct workload *work, unsigned writes, player *one)
+{
+    uint32_t blocks = blocks_of(bench, work), since = 0;
     for (unsigned i = 0; i < writes; i++) {
-        uint32_t address = next_address(work, blocks, i);
         since += blocks;
         bool is_due = work->sync_blocks && since + blocks > work->sync_blocks;
-        if (is_floor)
-            device_write_through(&bench->device, address, blocks);
-        else
-            write_blocks(&bench->host, address, blocks, work->is_forced);
-        if (is_floor && (work->is_forced || is_due))
-            device_flush(&bench->device);
-        else if (is_due)
-            synchronize(&bench->host);
+        one(bench, work, next_address(work, blocks, i), is_due);
         since = is_due ? 0 : since;
-        if (!is_floor)
-            make_steps(bench, work->steps);
     }
 }
 
@@ -126,53 +149,58 @@ static void play(struct bench *bench, const struct workload *work, unsigned writ
 static void tell(const struct bench *bench, const struct bench *floor, const struct workload *work)
 {
     const struct device *device = &bench->device;
-    double sectors = (double)(work->blocks ? work->blocks : bench->host.limit) * work->writes;
-    printf("| %u | %llu | %s |", bench->host.format, (unsigned long long)bench->host.slots, work->what);
-    printf(" %.2f | %.2f | %.1f |", 512 * sectors / device->time[BY_SECTORS], 512 * sectors / device->time[BY_RUNS],
-           512 * sectors / floor->device.time[BY_RUNS]);
-    printf(" %.2f | %.2f |", (double)device->flushes / work->writes, device->sectors_written / sectors);
+    double sectors = (double)blocks_of(bench, work) * work->writes;
+    printf("| %u | %llu | %s |", bench->host.format, (unsigned long long)bench->host.slots,
+           work->what);
+    printf(" %.2f | %.2f | %.1f |", 512 * sectors / device->time[BY_SECTORS],
+           512 * sectors / device->time[BY_RUNS], 512 * sectors / floor->device.time[BY_RUNS]);
+    printf(" %.2f | %.2f |", (double)device->flushes / work->writes,
+           device->sectors_written / sectors);
     printf(" %.1f | %.2f |", (double)device->commands[BY_SECTORS] / work->writes,
            (double)device->commands[BY_RUNS] / work->writes);
     printf(" %.2f | %llu | %.2f |\n", device->partial_pages / (sectors / PAGE_BLOCKS),
-           (unsigned long long)bench->most_calls, bench->longest_event / 1000);
+           (unsigned long long)bench->most_calls, bench->longest / 1000);
 }
 
 /* The workload on a disk that has filled its log before. */
-static struct bench played(const struct workload *work, uint32_t format, uint64_t slots, const struct costs *costs)
+static struct bench played(const struct workload *work, uint32_t format, uint64_t slots,
+                           const struct costs *costs)
 {
-    struct bench bench = { .host = { .format = format, .slots = slots, .persist = persist } };
+    struct bench bench = { .host = { .format = format, .slots = slots, .note = note } };
     seed = 88172645463325252u;
     start_disk(&bench.host);
-    play(&bench, work, 3 * (unsigned)slots + 40, false);
+    play(&bench, work, 3 * (unsigned)slots + 40, play_once);
     bench.device = (struct device){ .costs = *costs };
     bench.most_calls = 0;
-    bench.longest_event = 0;
-    bench.flushes_of_steps = 0;
-    play(&bench, work, work->writes, false);
+    bench.longest = 0;
+    bench.idle_flushes = 0;
+    play(&bench, work, work->writes, play_once);
     stop_disk(&bench.host);
     return bench;
 }
 
 /* The workload on such a disk, and on the floor. */
-static void measure(const struct workload *work, uint32_t format, uint64_t slots, const struct costs *costs)
+static void measure(const struct workload *work, uint32_t format, uint64_t slots,
+                    const struct costs *costs)
 {
     struct bench bench = played(work, format, slots, costs);
     struct bench floor = { .host = { .limit = bench.host.limit }, .device = { .costs = *costs } };
-    play(&floor, work, work->writes, true);
+    play(&floor, work, work->writes, write_through);
     tell(&bench, &floor, work);
 }
 
-/* The flushes that forced WRITEs make themselves with steps between, and the worst event, beside those without steps. */
-static void measure_steps(const struct workload *work, uint64_t slots, const struct costs *costs)
+/* The flushes that forced WRITEs make themselves with idle moments between, and the worst command,
+ * beside those without. */
+static void measure_rest(const struct workload *work, uint64_t slots, const struct costs *costs)
 {
     struct workload alone = *work;
-    alone.steps = 0;
+    alone.idle = 0;
     struct bench bench = played(work, 2, slots, costs), without = played(&alone, 2, slots, costs);
-    double own = (double)(bench.device.flushes - bench.flushes_of_steps) / work->writes;
-    bool is_reached = own <= 1.05 && bench.longest_event <= without.longest_event + 1;
-    printf("| %llu | %s | 0 to %u | %.2f | %.2f |", (unsigned long long)slots, work->what, work->steps, own,
-           (double)bench.device.flushes / work->writes);
-    printf(" %.2f | %.2f | %s |\n", bench.longest_event / 1000, without.longest_event / 1000,
+    double own = (double)(bench.device.flushes - bench.idle_flushes) / work->writes;
+    bool is_reached = own <= 1.05 && bench.longest <= without.longest + 1;
+    printf("| %llu | %s | 0 to %u | %.2f | %.2f |", (unsigned long long)slots, work->what,
+           work->idle, own, (double)bench.device.flushes / work->writes);
+    printf(" %.2f | %.2f | %s |\n", bench.longest / 1000, without.longest / 1000,
            is_reached ? "reached" : "missed");
 }
 
@@ -186,9 +214,10 @@ int main(int count, char **words)
         costs.flush = atof(words[2]);
     if (count > 3)
         costs.sector = 512 / atof(words[3]);
-    printf("A device with %.0f microseconds a command, %.0f a flush, %.1f MB a second:\n\n", costs.command, costs.flush,
-           512 / costs.sector);
-    puts("| Format | Slots | Workload | MB/s, a command a sector | MB/s, in runs | MB/s, the floor | Flushes a WRITE "
+    printf("A device with %.0f microseconds a command, %.0f a flush, %.1f MB a second:\n\n",
+           costs.command, costs.flush, 512 / costs.sector);
+    puts("| Format | Slots | Workload | MB/s, a command a sector | MB/s, in runs | MB/s, the floor "
+         "| Flushes a WRITE "
          "| Sectors written a sector | Commands a WRITE, a sector each | Commands a WRITE, in runs "
          "| Partly written pages a page | Calls of the worst event | Its milliseconds |");
     puts("|---|---|---|---|---|---|---|---|---|---|---|---|---|");
@@ -196,13 +225,15 @@ int main(int count, char **words)
         for (size_t k = 0; k < sizeof slots / sizeof *slots; k++)
             for (int i = 0; i < WORKLOADS; i++)
                 measure(&workloads[i], format, slots[k], &costs);
-    puts("\nFormat 2, with steps in the background behind each WRITE, at most 1.05 flushes a WRITE, and no longer event than "
+    puts("\nFormat 2, with steps in the background behind each WRITE, at most 1.05 flushes a "
+         "WRITE, and no longer event than "
          "without steps:\n");
-    puts("| Slots | Workload | Steps | Flushes a WRITE | Those of its steps too | Milliseconds of the worst event "
+    puts("| Slots | Workload | Steps | Flushes a WRITE | Those of its steps too | Milliseconds of "
+         "the worst event "
          "| Without steps | |");
     puts("|---|---|---|---|---|---|---|---|");
     for (size_t k = 0; k < sizeof ahead / sizeof *ahead; k++)
-        for (int i = 0; i < STEPPED; i++)
-            measure_steps(&stepped[i], ahead[k], &costs);
+        for (int i = 0; i < RESTED; i++)
+            measure_rest(&rested[i], ahead[k], &costs);
     return 0;
 }

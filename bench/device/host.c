@@ -4,8 +4,7 @@
 #include <stdlib.h>
 #include <string.h>
 
-static const struct usbdisk_identity who = { "EXAMPLE ", "MEASURE         ", "0001", "000000000001" };
-static const struct usbdisk_device name;
+static uint8_t buffer[512 * MOST];
 
 void fail(const char *what)
 {
@@ -13,90 +12,115 @@ void fail(const char *what)
     exit(EXIT_FAILURE);
 }
 
-/* A packet to the disk. It may ask for sectors of the device first. */
-static void bulk_out(struct host *host, const uint8_t *packet, size_t size)
+void let_device_work(struct host *host)
 {
-    uint64_t first;
-    uint32_t count, code;
-    while ((code = usbdisk_bulk_out(&host->disk, packet, size, &first, &count)) == USBDISK_NEEDS)
-        if (usbdisk_show(&host->disk, first, host->device + 512 * first, 512 * (size_t)count))
-            fail("sectors are not taken");
-    if (code != USBDISK_ACK)
-        fail("a packet is not taken");
-    host->persist(host);
+    struct usbdisk_call call;
+    for (;;) {
+        if (usbdisk_next(&host->disk, &call, buffer, sizeof buffer))
+            fail("the disk does not say what comes next");
+        if (call.kind == USBDISK_NOTHING)
+            return;
+        if (host->note)
+            host->note(host, &call);
+        bool is_read = call.kind == USBDISK_READ;
+        const uint8_t *bytes = is_read ? host->device + 512 * call.sector : buffer;
+        if (usbdisk_done(&host->disk, true, bytes, is_read ? 512 * call.count : 0))
+            fail("the end of a call is not taken");
+    }
 }
 
-static void bulk_in(struct host *host, uint32_t size)
+static void send(struct host *host, const uint8_t *bytes, size_t size)
 {
-    uint8_t packet[512];
-    uint32_t got;
-    if (usbdisk_bulk_in(&host->disk, packet, &got) != USBDISK_ACK || got != size)
-        fail("no packet of this size comes");
-    if (size == 13 && packet[12] != 0)
+    size_t taken, at = 0;
+    uint32_t code;
+    while ((code = usbdisk_out(&host->disk, bytes + at, size - at, &taken)) == USBDISK_NAK) {
+        at += taken;
+        let_device_work(host);
+    }
+    if (code != USBDISK_ACK)
+        fail("a packet is not taken");
+    let_device_work(host);
+}
+
+static void receive(struct host *host, size_t size)
+{
+    static uint8_t bytes[512 * MOST + 512];
+    size_t given;
+    if (usbdisk_in(&host->disk, bytes, sizeof bytes, &given) || given != size)
+        fail("no packets of this size come");
+    if (bytes[size - 1])
         fail("a command fails");
 }
 
-/* The command block wrapper of a command of 10 bytes, whose data has `length` bytes. */
-static void send_wrapper(struct host *host, const uint8_t block[10], uint32_t length, bool sends)
+void make_wrapper(const struct command *command, uint8_t wrapper[WRAPPER])
 {
-    uint8_t wrapper[31] = { 'U', 'S', 'B', 'C', 1, 0, 0, 0, length & 255, length >> 8 & 255, length >> 16 & 255, 0,
-                            sends ? 0x80 : 0, 0, 10 };
-    memcpy(wrapper + 15, block, 10);
-    bulk_out(host, wrapper, sizeof wrapper);
+    uint32_t length = command->code == SYNCHRONIZE_10 ? 0 : 512 * command->blocks;
+    uint32_t address = command->address;
+    const uint8_t bytes[WRAPPER] = {
+        'U',
+        'S',
+        'B',
+        'C',
+        1,
+        [8] = length & 255,
+        length >> 8 & 255,
+        length >> 16 & 255,
+        [12] = command->code == READ_10 ? 0x80 : 0,
+        [14] = 10,
+        command->code,
+        [16] = command->is_forced ? 8 : 0,
+        address >> 24,
+        address >> 16 & 255,
+        address >> 8 & 255,
+        address & 255,
+        [22] = command->blocks >> 8 & 255,
+        command->blocks & 255,
+    };
+    memcpy(wrapper, bytes, sizeof bytes);
 }
 
-/* READ(10) or WRITE(10). */
-static void command_block(uint8_t block[10], uint8_t code, uint32_t address, uint32_t blocks, bool is_forced)
+void play_command(struct host *host, const struct command *command)
 {
-    const uint8_t bytes[10] = { code, is_forced ? 8 : 0, address >> 24, address >> 16 & 255, address >> 8 & 255,
-                                address & 255, 0, blocks >> 8 & 255, blocks & 255 };
-    memcpy(block, bytes, sizeof bytes);
+    static const uint8_t data[512 * MOST];
+    uint8_t wrapper[WRAPPER];
+    make_wrapper(command, wrapper);
+    send(host, wrapper, sizeof wrapper);
+    if (command->code == WRITE_10)
+        send(host, data, 512 * command->blocks);
+    receive(host, (command->code == READ_10 ? 512 * command->blocks : 0) + 13);
 }
 
-void write_blocks(struct host *host, uint32_t address, uint32_t blocks, bool is_forced)
+/* A command of 18 bytes of sense, which ends the unit attention. */
+static void request_sense(struct host *host)
 {
-    static uint8_t data[512];
-    uint8_t block[10];
-    command_block(block, 0x2A, address, blocks, is_forced);
-    send_wrapper(host, block, 512 * blocks, false);
-    for (uint32_t i = 0; i < blocks; i++)
-        bulk_out(host, data, sizeof data);
-    bulk_in(host, 13);
-}
-
-void read_blocks(struct host *host, uint32_t address, uint32_t blocks)
-{
-    uint8_t block[10];
-    command_block(block, 0x28, address, blocks, false);
-    send_wrapper(host, block, 512 * blocks, true);
-    for (uint32_t i = 0; i < blocks; i++)
-        bulk_in(host, 512);
-    bulk_in(host, 13);
-}
-
-void synchronize(struct host *host)
-{
-    const uint8_t block[10] = { 0x35 };
-    send_wrapper(host, block, 0, false);
-    bulk_in(host, 13);
+    static const uint8_t wrapper[WRAPPER] = {
+        'U', 'S', 'B', 'C', 1, [8] = 18, [12] = 0x80, [14] = 6, 0x03, [19] = 18
+    };
+    send(host, wrapper, sizeof wrapper);
+    uint8_t room[512];
+    size_t given;
+    if (usbdisk_in(&host->disk, room, sizeof room, &given) || given != 18)
+        fail("no sense data come");
+    receive(host, 13);
 }
 
 void start_disk(struct host *host)
 {
-    uint64_t sectors = 2 + (host->format == 1 ? 50 : 249) * host->slots + BLOCKS;
-    host->device = malloc(512 * sectors);
-    if (!host->device || format_memory(host->device, 512 * sectors, host->format, BLOCKS, host->slots))
+    struct usbdisk_options options = {
+        .identity = { "EXAMPLE ", "MEASURE         ", "0001", "000000000001" },
+        .packet = 512,
+    };
+    host->sectors = 2 + (host->format == 1 ? 50 : 249) * host->slots + BLOCKS;
+    host->device = malloc(512 * host->sectors);
+    if (!host->device ||
+        format_memory(host->device, 512 * host->sectors, host->format, BLOCKS, host->slots))
         fail("no image");
-    host->limit = host->format == 1 ? 48 : 240;
-    uint64_t near = host->is_whole ? sectors : usbdisk_near(host->device);
-    if (usbdisk_start(&host->disk, host->device, 512 * near, sectors, &name, &who, 512, host->limit,
-                      usbdisk_room(host->format, host->slots)))
+    host->limit = host->format == 1 ? 48 : MOST;
+    options.sectors = host->sectors;
+    if (usbdisk_start(&host->disk, &options))
         fail("no disk");
-    host->persist(host);
-    const uint8_t request_sense[10] = { 0x03, 0, 0, 0, 18 };
-    send_wrapper(host, request_sense, 18, true);
-    bulk_in(host, 18);
-    bulk_in(host, 13);
+    let_device_work(host);
+    request_sense(host);
 }
 
 void stop_disk(struct host *host)
@@ -105,15 +129,9 @@ void stop_disk(struct host *host)
     free(host->device);
 }
 
-bool step(struct host *host)
+bool rest_once(struct host *host)
 {
-    bool is_left = usbdisk_tick(&host->disk) == 1;
-    host->persist(host);
+    bool is_left = usbdisk_idle(&host->disk) == 1;
+    let_device_work(host);
     return is_left;
-}
-
-void settle(struct host *host)
-{
-    while (step(host))
-        ;
 }

@@ -11,8 +11,8 @@ struct costs {
     double command, sector, flush;
 };
 
-/* How the calls of the outbox reach the device: each sector by a command of its own, or neighbours that come one behind the
- * other by one command. */
+/* How the calls of the outbox reach the device: each sector by a command of its own, or neighbours
+ * that come one behind the other by one command. */
 enum way { BY_SECTORS, BY_RUNS, WAYS };
 
 struct device {
