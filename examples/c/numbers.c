@@ -277,6 +277,28 @@ static void play_store(void)
     must(!usbdisk_stop(&store) && !heap_blocks, "a stop of a store");
 }
 
+/* In format 2 with three slots a sync behind a write flushes once, however often. */
+static void play_flushes(void)
+{
+    enum { ALL = 2 + 249 * 3 + BLOCKS };
+    static uint8_t large[ALL * 512];
+    const struct usbdisk_options options = { .sectors = ALL };
+    struct usbdisk store = USBDISK_NONE;
+    struct usbdisk_call call;
+    must(!format_memory(large, sizeof large, 2, BLOCKS, 3), "a format");
+    must(!usbdisk_store_start(&store, &options), "a start");
+    carry_all(&store, large);
+    for (unsigned i = 0; i < 40; i++) {
+        unsigned flushes = 0;
+        must(!usbdisk_store_write(&store, i % BLOCKS, bytes, 512), "a write");
+        must(usbdisk_store_sync(&store) == USBDISK_BUSY, "a sync of it");
+        while (carry_one(&store, large, &call))
+            flushes += call.kind == USBDISK_FLUSH;
+        must(flushes == 1 && !usbdisk_store_sync(&store), "a sync flushes more than once");
+    }
+    must(!usbdisk_stop(&store) && !heap_blocks, "a stop of a large store");
+}
+
 /* The device refuses what a sync wants, and then each call says so. */
 static void play_dead_store(void)
 {
@@ -337,6 +359,7 @@ int main(void)
     play_kinds();
     begin_image(SLOTS);
     play_store();
+    play_flushes();
     play_dead_store();
     begin_image(SLOTS);
     play_images();

@@ -68,6 +68,23 @@ static void play_opening(void)
     end(&disk);
 }
 
+/* What a start on an image that was left in order writes: three flushes and the head. */
+static void play_recovery(void)
+{
+    struct usbdisk disk = USBDISK_NONE;
+    struct usbdisk_call call;
+    unsigned flushes = 0, heads = 0;
+    begin(&disk);
+    while (carry_one(&disk, medium, &call)) {
+        bool is_head = call.kind == USBDISK_WRITE && call.sector == 1 && call.count == 1;
+        flushes += call.kind == USBDISK_FLUSH;
+        heads += is_head;
+        must(call.kind != USBDISK_WRITE || is_head, "a start writes something else");
+    }
+    must(flushes == 3 && heads == 1, "the calls of a start");
+    end(&disk);
+}
+
 /* What comes while a disk starts, and behind it. */
 static void play_bus(void)
 {
@@ -120,12 +137,38 @@ static void play_ahead(void)
     end(&disk);
 }
 
+/* Wrappers around REQUEST SENSE, and around a READ (10) of block 5. */
+static const uint8_t sense[31] = {
+    'U', 'S', 'B', 'C', [8] = 18, [12] = 0x80, [14] = 6, 3, [19] = 18
+};
+static const uint8_t read_five[31] = {
+    'U', 'S', 'B', 'C', [9] = 2, [12] = 0x80, [14] = 10, 0x28, [20] = 5, [23] = 1
+};
+
+/* A packet takes the wish away, and one that comes while the device reads has to wait. */
+static void play_wish(void)
+{
+    struct usbdisk disk = USBDISK_NONE;
+    struct usbdisk_call call;
+    size_t moved;
+    begin(&disk);
+    carry_all(&disk, medium);
+    must(usbdisk_ahead(&disk, FIRST, 2) == 1 && !usbdisk_out(&disk, sense, 31, &moved), "a packet");
+    must(!carry_one(&disk, medium, &call), "a wish that a packet took away");
+    must(!usbdisk_in(&disk, bytes, 512, &moved) && !usbdisk_in(&disk, bytes, 512, &moved),
+         "the sense and its status");
+    must(usbdisk_ahead(&disk, FIRST, 2) == 1 && !usbdisk_next(&disk, &call, bytes, 512) &&
+             call.kind == USBDISK_READ,
+         "a wish behind it");
+    must(usbdisk_out(&disk, sense, 31, &moved) == USBDISK_NAK && !moved, "a packet meanwhile");
+    must(!usbdisk_done(&disk, true, medium + 512 * FIRST, 1024), "the READ ends");
+    must(!usbdisk_out(&disk, sense, 31, &moved) && moved == 31, "the packet behind it");
+    end(&disk);
+}
+
 /* A READ of block 5 inside of what was read ahead wants no device, and gets its bytes. */
 static void play_hit(void)
 {
-    static const uint8_t wrapper
-        [31] = { 'U', 'S', 'B', 'C', [9] = 2, [12] = 0x80, [14] = 10, 0x28, [20] = 5, [23] = 1 },
- sense[31] = { 'U', 'S', 'B', 'C', [8] = 18, [12] = 0x80, [14] = 6, 3, [19] = 18 };
     struct usbdisk disk = USBDISK_NONE;
     struct usbdisk_call call;
     size_t moved;
@@ -137,7 +180,8 @@ static void play_hit(void)
          "REQUEST SENSE");
     must(usbdisk_ahead(&disk, FIRST, 8) == 1, "the first eight ahead");
     carry_all(&disk, medium);
-    must(!usbdisk_out(&disk, wrapper, 31, &moved) && moved == 31, "a READ of what was read ahead");
+    must(!usbdisk_out(&disk, read_five, 31, &moved) && moved == 31,
+         "a READ of what was read ahead");
     must(!carry_one(&disk, medium, &call), "it wants the device");
     must(!usbdisk_in(&disk, bytes, 1024, &moved) && moved == 512 + 13 && bytes[511] == 0x5A &&
              !bytes[512 + 12],
@@ -148,7 +192,9 @@ static void play_hit(void)
 void play_disk(void)
 {
     play_opening();
+    play_recovery();
     play_bus();
     play_ahead();
+    play_wish();
     play_hit();
 }
