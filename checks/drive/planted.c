@@ -1,5 +1,5 @@
-/* Faults that examples/c/behind.c is to find, around the calls of the library. PLANTED is the
- * number of one:
+/* Faults that examples/c/behind.c is to find, around the calls of the library. The
+ * environment's PLANTED is the number of one:
  *
  * 1 a promise is told before the device has caught up
  * 2 a call that the device refused counts as done

@@ -3,10 +3,19 @@
 #define PLANTED_H
 
 #include "usbdisk.h"
+#include <stdlib.h>
 
-#ifndef PLANTED
-#define PLANTED 0
-#endif
+/* The number of the fault, which the environment's PLANTED tells, or 0. */
+static inline int planted_number(void)
+{
+    static int number = -1;
+    const char *told = number < 0 ? getenv("PLANTED") : NULL;
+    if (number < 0)
+        number = told ? atoi(told) : 0;
+    return number;
+}
+
+#define PLANTED planted_number()
 
 /* The calls of the library, which the linker hands through the functions of planted.c. */
 #define REAL(name) __real_usbdisk_##name

@@ -1,5 +1,5 @@
-/* Faults that examples/c/behind_store.c is to find, around the calls of the library. PLANTED is the
- * number of one:
+/* Faults that examples/c/behind_store.c is to find, around the calls of the library. The
+ * environment's PLANTED is the number of one:
  *
  * 1 a sync is good while the device has something to carry out
  * 2 a call that the device refused counts as done
@@ -8,18 +8,9 @@
  * 5 the read behind one that was refused is refused too
  * 6 a read tells old bytes, which the device gave before
  * 7 a call is answered BUSY once more than it has to be, and then for good */
-#include "usbdisk.h"
+#include "planted.h"
 #include <string.h>
 
-#ifndef PLANTED
-#define PLANTED 0
-#endif
-
-#define REAL(name) __real_usbdisk_##name
-#define WRAP(name) __wrap_usbdisk_##name
-
-uint32_t REAL(next)(struct usbdisk *, struct usbdisk_call *, uint8_t *, size_t);
-uint32_t REAL(done)(struct usbdisk *, bool, const uint8_t *, size_t);
 uint32_t REAL(store_read)(struct usbdisk *, uint64_t, uint8_t *, size_t);
 uint32_t REAL(store_write)(struct usbdisk *, uint64_t, const uint8_t *, size_t);
 uint32_t REAL(store_sync)(struct usbdisk *);
