@@ -108,6 +108,19 @@ static bool settle(struct host *host)
     return goes_on;
 }
 
+/* The device rests, and all answers are read: what is not answered waits for the host. */
+static void rest(struct host *host)
+{
+    struct client *client = attached_client();
+    const char *cause;
+    bool goes_on = true;
+    do {
+        disk_rest(&server.disk);
+        goes_on = goes_on && serve_waiting(client, &server.device, &cause) == GOES_ON;
+    } while (disk_is_busy(&server.disk));
+    judge(goes_on && settle(host), "a host that waits is not let go");
+}
+
 static int come(void)
 {
     int file = socket(AF_UNIX, SOCK_STREAM | SOCK_CLOEXEC, 0);
@@ -197,12 +210,21 @@ static void crowd(struct source *source)
     turn();
 }
 
+/* What the attached host sends next. */
+static size_t make_message(struct source *source, struct host *host, uint8_t *bytes, bool is_right)
+{
+    if (is_right)
+        return host_message(source, host, bytes);
+    rest(host);
+    return host_wrong_message(source, host, bytes);
+}
+
 /* One message of the attached host, and what it does to its connection. */
 static void play_message(struct source *source, struct host *host)
 {
     static uint8_t bytes[HEAD + TRANSFER_MOST];
-    bool is_right;
-    size_t size = host_message(source, host, bytes, &is_right);
+    bool is_right = below(source, 50) > 0;
+    size_t size = make_message(source, host, bytes, is_right);
     if (below(source, 64) == 0) {
         hand_over(host, bytes, below(source, (uint32_t)size));
         leave(host);

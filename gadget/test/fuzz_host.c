@@ -205,15 +205,16 @@ static size_t put_recovery(struct host *host, uint8_t *bytes)
     return HEAD;
 }
 
-size_t host_message(struct source *source, struct host *host, uint8_t *bytes, bool *is_right)
+size_t host_wrong_message(struct source *source, struct host *host, uint8_t *bytes)
 {
-    uint32_t kind = below(source, 100);
-    *is_right = kind >= 2;
-    if (!*is_right) {
-        put_in(source, host, bytes);
-        spoil(source, host, bytes);
-        return HEAD;
-    }
+    put_in(source, host, bytes);
+    spoil(source, host, bytes);
+    return HEAD;
+}
+
+size_t host_message(struct source *source, struct host *host, uint8_t *bytes)
+{
+    uint32_t kind = 2 + below(source, 98);
     if (host->count >= WAITING_MOST - 2 || host->bytes + 2 * TRANSFER_MOST > WAITING_BYTES_MOST ||
         kind < 8)
         return kind < 4 || !host->count ? put_recovery(host, bytes)

@@ -42,8 +42,11 @@ struct host {
 
 void host_forget(struct host *host);
 
-/* The next message, with its bytes. Answers how long it is, and whether it is right. */
-size_t host_message(struct source *source, struct host *host, uint8_t *bytes, bool *is_right);
+/* The next message, with its bytes. Answers how long it is. */
+size_t host_message(struct source *source, struct host *host, uint8_t *bytes);
+
+/* One that is wrong. What is not answered has to wait for the host, and not for the device. */
+size_t host_wrong_message(struct source *source, struct host *host, uint8_t *bytes);
 
 /* A right message is sent: its answer is waited for. */
 void host_sent(struct host *host, const uint8_t *head);
