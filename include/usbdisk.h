@@ -2,13 +2,13 @@
  * (USB Mass Storage Class Bulk-Only Transport 1.0), behind any USB controller, over any medium of
  * sectors of 512 bytes, of any size.
  *
- * Most programs need not this page but port/usbdisk_io.h, a layer over it in C: three functions of a
- * device, and whole transfers. docs/MAKERS.md begins with it.
+ * Most programs need not this page but port/usbdisk_io.h, a layer over it in C: three functions of
+ * a device, and whole transfers. docs/MAKERS.md begins with it.
  *
  * The library makes no call of the device. It says what the device is to do next, one call at a
- * time: usbdisk_next tells the call, the program has the device carry it out, by DMA, in a thread or
- * at once, and usbdisk_done tells how it ended. In between the disk serves the bus as ever. A start
- * is such calls too, and so are a format and a migration.
+ * time: usbdisk_next tells the call, the program has the device carry it out, by DMA, in a thread
+ * or at once, and usbdisk_done tells how it ended. In between the disk serves the bus as ever. A
+ * start is such calls too, and so are a format and a migration.
  *
  *     usbdisk_start(&disk, &options);
  *     for (;;) {
@@ -24,20 +24,21 @@
  *
  * What a loss of power leaves, wherever the device is: the next start finds the accepted writes in
  * order, none in part, and all that were promised to the host. A status that promises (of a WRITE
- * with FUA or with the write cache off, a READ with FUA, a SYNCHRONIZE CACHE, a MODE SELECT while the
- * write cache is on) is handed out when the device has carried out all that waited. No other answer
- * waits for the device, but while a promise does. docs/MAKERS.md tells what the device must promise.
+ * with FUA or with the write cache off, a READ with FUA, a SYNCHRONIZE CACHE, a MODE SELECT while
+ * the write cache is on) is handed out when the device has carried out all that waited. No other
+ * answer waits for the device, but while a promise does. docs/MAKERS.md tells what the device must
+ * promise.
  *
  * Link the program with libusbdisk_c.a, and define the two functions at the end of this file.
  *
- * Threads: a handle is used by one thread at a time. The library has no data of its own, and none of
- * a thread, so a handle may go from one to another behind a lock of the program's. No call may be
- * made from a signal handler or from an interrupt that can interrupt another call. No call waits.
- * Memory is taken by the calls that start something, and by usbdisk_done while that starts.
+ * Threads: a handle is used by one thread at a time. The library has no data of its own, and none
+ * of a thread, so a handle may go from one to another behind a lock of the program's. No call may
+ * be made from a signal handler or from an interrupt that can interrupt another call. No call
+ * waits. Memory is taken by the calls that start something, and by usbdisk_done while that starts.
  *
- * Errors: a call that answers one of the errors, from 16 on, changed nothing, neither what the handle
- * holds nor what its pointers point to. No pointer may be null, also where the size beside it is 0,
- * and no two may overlap. */
+ * Errors: a call that answers one of the errors, from 16 on, changed nothing, neither what the
+ * handle holds nor what its pointers point to. No pointer may be null, also where the size beside
+ * it is 0, and no two may overlap. */
 #ifndef USBDISK_H
 #define USBDISK_H
 
@@ -55,13 +56,16 @@ extern "C" {
 
 uint32_t usbdisk_version(void);
 
-/* A handle. It holds a disk, a store, or the work on an image. Set it to USBDISK_NONE before the call
- * that starts one of them; never write or copy it after. */
+/* A handle. It holds a disk, a store, or the work on an image. Set it to USBDISK_NONE before the
+ * call that starts one of them; never write or copy it after. */
 struct usbdisk {
     void *at;
 };
 
-#define USBDISK_NONE { 0 }
+#define USBDISK_NONE                                                                               \
+    {                                                                                              \
+        0                                                                                          \
+    }
 
 /* What an endpoint is to answer. */
 enum usbdisk_answer {
@@ -73,16 +77,16 @@ enum usbdisk_answer {
 /* Why there is no disk, no store or no image on the device. */
 enum usbdisk_fault {
     USBDISK_NO_MEMORY = 1,
-    USBDISK_READ_REFUSED = 2,    /* the device refused a READ */
-    USBDISK_WRITE_REFUSED = 3,   /* the device refused a WRITE */
-    USBDISK_FLUSH_REFUSED = 4,   /* the device refused a FLUSH */
-    USBDISK_BAD_SUPER = 5,       /* sector 0 is no super: no image, or a format was cut off */
+    USBDISK_READ_REFUSED = 2,  /* the device refused a READ */
+    USBDISK_WRITE_REFUSED = 3, /* the device refused a WRITE */
+    USBDISK_FLUSH_REFUSED = 4, /* the device refused a FLUSH */
+    USBDISK_BAD_SUPER = 5,     /* sector 0 is no super: no image, or a format was cut off */
     USBDISK_BAD_VERSION = 6,
-    USBDISK_BAD_SIZE = 7,        /* bad sizes, or the device is too short for them */
-    USBDISK_BAD_HEAD = 8,        /* sector 1 is no head */
+    USBDISK_BAD_SIZE = 7, /* bad sizes, or the device is too short for them */
+    USBDISK_BAD_HEAD = 8, /* sector 1 is no head */
     USBDISK_STAMPS_USED_UP = 9,
-    USBDISK_LOG_TOO_SMALL = 10,  /* of usbdisk_migrate alone: fewer than 5 slots */
-    USBDISK_DEAD = 11            /* of a store: it neither reads nor writes until the next start */
+    USBDISK_LOG_TOO_SMALL = 10, /* of usbdisk_migrate alone: fewer than 5 slots */
+    USBDISK_DEAD = 11           /* of a store: it neither reads nor writes until the next start */
 };
 
 /* What a store answers before the device has done what it has to. */
@@ -95,19 +99,14 @@ enum usbdisk_error {
     USBDISK_BAD_IDENTITY = 19,    /* a character is not printable ASCII (20h to 7Eh) */
     USBDISK_BAD_PACKET_SIZE = 20, /* neither 64 nor 512 */
     USBDISK_BAD_LENGTH = 21,      /* bytes of no sectors or blocks, or a part of one, or too few */
-    USBDISK_BAD_SIZES = 22,       /* sizes out of their limits, or the device is too short for them */
-    USBDISK_BAD_RANGE = 24,       /* a block behind the last one */
-    USBDISK_NOT_ASKED = 26,       /* no call of the device is under way */
-    USBDISK_OTHER_KIND = 27       /* the handle holds something of another kind */
+    USBDISK_BAD_SIZES = 22, /* sizes out of their limits, or the device is too short for them */
+    USBDISK_BAD_RANGE = 24, /* a block behind the last one */
+    USBDISK_NOT_ASKED = 26, /* no call of the device is under way */
+    USBDISK_OTHER_KIND = 27 /* the handle holds something of another kind */
 };
 
 /* What the device is to do. */
-enum usbdisk_kind {
-    USBDISK_NOTHING = 0,
-    USBDISK_WRITE = 1,
-    USBDISK_FLUSH = 2,
-    USBDISK_READ = 3
-};
+enum usbdisk_kind { USBDISK_NOTHING = 0, USBDISK_WRITE = 1, USBDISK_FLUSH = 2, USBDISK_READ = 3 };
 
 /* A call of the device: `count` sectors, at least 1, from sector `sector` on, are to be read or
  * written. Of NOTHING and FLUSH both are 0. */
@@ -119,11 +118,12 @@ struct usbdisk_call {
 
 /* What a handle is at. */
 enum usbdisk_state {
-    USBDISK_STARTING = 0, /* the device has not carried out all that the start, or the work, takes */
-    USBDISK_SERVING = 1,  /* a disk or a store serves */
-    USBDISK_FAULTED = 2,  /* the device refused a WRITE or a FLUSH of a disk or a store */
-    USBDISK_DONE = 3,     /* the work on an image is done */
-    USBDISK_FAILED = 4    /* there is no disk, no store or no image, for the reason that is told */
+    USBDISK_STARTING =
+        0,               /* the device has not carried out all that the start, or the work, takes */
+    USBDISK_SERVING = 1, /* a disk or a store serves */
+    USBDISK_FAULTED = 2, /* the device refused a WRITE or a FLUSH of a disk or a store */
+    USBDISK_DONE = 3,    /* the work on an image is done */
+    USBDISK_FAILED = 4   /* there is no disk, no store or no image, for the reason that is told */
 };
 
 /* What image begins with a sector 0. */
@@ -141,9 +141,9 @@ struct usbdisk_layout {
  * Answers 0; or BAD_SUPER, BAD_VERSION or BAD_SIZE, as a start does, and `*layout` stays. */
 uint32_t usbdisk_look(const uint8_t sector[512], struct usbdisk_layout *layout);
 
-/* How many bytes of memory a disk takes, on an image of this format (1 or 2) with `slots` log slots,
- * of every size of the device; while it starts it takes the first sectors once more. A store takes
- * less. 0 where there is no such format or number of slots. */
+/* How many bytes of memory a disk takes, on an image of this format (1 or 2) with `slots` log
+ * slots, of every size of the device; while it starts it takes the first sectors once more. A store
+ * takes less. 0 where there is no such format or number of slots. */
 uint64_t usbdisk_memory(uint32_t format, uint64_t slots);
 
 /* Who the disk is, as INQUIRY tells it: printable ASCII, padded with spaces, with no final 0. */
@@ -161,10 +161,12 @@ struct usbdisk_options {
     uint32_t packet;                  /* of a disk alone: 64 at full speed, 512 at high speed */
 };
 
-/* Starts a disk: on what the device holds, which it recovers from whatever a loss of power left. The
- * device is to read sector 0 first, then the others before the blocks, and then to carry out what the
- * recovery writes: three flushes and a write of the head; where power was lost, blocks too. Until it
- * has, the disk is STARTING. Where that fails it is FAILED, and nothing is left but to stop it.
+/* Starts a disk: on what the device holds, which it recovers from whatever a loss of power left.
+ * The device is to read sector 0 first, then the others before the blocks, and then to carry out
+ * what the recovery writes: three flushes and a write of the head; where power was lost, blocks
+ * too. Until it has, the disk is STARTING. Where there is no disk on the device, or its first
+ * sectors cannot be read, it is FAILED, and nothing is left but to stop it; of a device of no
+ * sectors at once, by BAD_SUPER.
  *
  * The first command behind a start, other than INQUIRY and REQUEST SENSE, ends with CHECK CONDITION
  * and 6/29/00: the power was off. REQUEST SENSE tells it too, and ends it.
@@ -172,14 +174,14 @@ struct usbdisk_options {
  * Answers 0; STARTED, BAD_PACKET_SIZE or BAD_IDENTITY; or NO_MEMORY, and the handle stays empty. */
 uint32_t usbdisk_start(struct usbdisk *disk, const struct usbdisk_options *options);
 
-/* Stops what the handle holds, and frees all memory. It writes nothing: what was not synchronised is
- * lost as by a cut, and an image is left as by a cut. A call that is under way is the device's own:
- * let it end, or not. Answers 0 or EMPTY. */
+/* Stops what the handle holds, and frees all memory. It writes nothing: what was not synchronised
+ * is lost as by a cut, and an image is left as by a cut. A call that is under way is the device's
+ * own: let it end, or not. Answers 0 or EMPTY. */
 uint32_t usbdisk_stop(struct usbdisk *disk);
 
-/* The next call of the device, which is under way from then on, until usbdisk_done tells that it has
- * ended. NOTHING: none is wanted now, or one is under way; ask again behind the next call of the bus
- * or of the store, or idle.
+/* The next call of the device, which is under way from then on, until usbdisk_done tells that it
+ * has ended. NOTHING: none is wanted now, or one is under way; ask again behind the next call of
+ * the bus or of the store, or idle.
  *
  * WRITE: the bytes lie in `buffer`, `count` sectors one behind the other, as many as wait in a row
  * and as it has room for: one write of the device. FLUSH: all writes that were told done are to be
@@ -191,22 +193,24 @@ uint32_t usbdisk_stop(struct usbdisk *disk);
  * size: 512 for each sector that there is room for; 122,880 is enough for each run and each READ.
  *
  * Answers 0; or EMPTY, or BAD_LENGTH where size is 0 or no multiple of 512. */
-uint32_t usbdisk_next(struct usbdisk *disk, struct usbdisk_call *call, uint8_t *buffer, size_t size);
+uint32_t usbdisk_next(struct usbdisk *disk, struct usbdisk_call *call, uint8_t *buffer,
+                      size_t size);
 
-/* The call that is under way has ended. ok: the device carried it out. Of a READ `bytes` are what it
- * gave, 512 for each sector; of the others they are not looked at: pass any address, and 0.
+/* The call that is under way has ended. ok: the device carried it out. Of a READ `bytes` are what
+ * it gave, 512 for each sector; of the others they are not looked at: pass any address, and 0.
  *
  * Not ok, a READ of the first sectors, or any call of the work on an image: it is FAILED. Not ok, a
- * READ behind the start: the READ of the host that lacks these sectors ends with CHECK CONDITION and
- * 3/11/00, when its packet is handed in again, and the disk goes on. Not ok, a WRITE or FLUSH of a
- * disk or a store: it is FAULTED. No promise is told that was not told before, and the device is
- * asked for nothing more. A good status that was not handed out turns from 00h into 01h, and REQUEST
- * SENSE tells 3/0C/00, a write error. Each later command that needs the medium ends with CHECK
- * CONDITION and 4/44/00, until the next start. What was promised before is on the device. Writes that
- * were not promised may be lost, as by a cut; any part of the WRITE may be on the device.
+ * READ behind the start: the READ of the host that lacks these sectors ends with CHECK CONDITION
+ * and 3/11/00, when its packet is handed in again, and the disk goes on. Not ok, a WRITE or FLUSH
+ * of a disk or a store: it is FAULTED. No promise is told that was not told before, and the device
+ * is asked for nothing more. A good status that was not handed out turns from 00h into 01h, and
+ * REQUEST SENSE tells 3/0C/00, a write error. Each later command that needs the medium ends with
+ * CHECK CONDITION and 4/44/00, until the next start. What was promised before is on the device.
+ * Writes that were not promised may be lost, as by a cut; any part of the WRITE may be on the
+ * device.
  *
- * Answers 0. Errors, in this order: EMPTY; NOT_ASKED where no call is under way; BAD_LENGTH where the
- * bytes of a good READ are not as many as were asked for: the call is still under way. */
+ * Answers 0. Errors, in this order: EMPTY; NOT_ASKED where no call is under way; BAD_LENGTH where
+ * the bytes of a good READ are not as many as were asked for: the call is still under way. */
 uint32_t usbdisk_done(struct usbdisk *disk, bool ok, const uint8_t *bytes, size_t size);
 
 /* Answers STARTING, SERVING, FAULTED, DONE or FAILED, or EMPTY. `*fault` is why, of enum
@@ -219,36 +223,38 @@ uint32_t usbdisk_state(struct usbdisk *disk, uint32_t *fault);
  *
  * Answers ACK: all of them. NAK: the disk waits for its device (it starts, it reads, so much waits
  * that a packet may have no room, or the packet is a READ that lacks sectors, which usbdisk_next
- * tells from now on), or the host has not taken the status of the command before. Nothing happened to
- * the packet behind those that were taken: hand it in again, behind the next done, idle or status;
- * where a bus reset comes first, let go of it. STALL: the endpoint is halted. Errors: EMPTY,
- * OTHER_KIND. */
+ * tells from now on), or the host has not taken the status of the command before. Nothing happened
+ * to the packet behind those that were taken: hand it in again, behind the next done, idle or
+ * status; where a bus reset comes first, let go of it. STALL: the endpoint is halted. Errors:
+ * EMPTY, OTHER_KIND. */
 uint32_t usbdisk_out(struct usbdisk *disk, const uint8_t *bytes, size_t size, size_t *taken);
 
 /* The host asks the Bulk-In endpoint for packets. They lie one behind the other in the room, and
  * `*given` tells how many bytes they have: until one is shorter than a packet may be, or a further
- * one has no room, or there is none now. The bytes behind them stay. It asks the device for nothing.
+ * one has no room, or there is none now. The bytes behind them stay. It asks the device for
+ * nothing.
  *
- * Answers ACK: here they are. NAK: there is none now; so also while a status that promises waits for
- * the device. STALL: the endpoint is halted. Where packets came before a NAK or a STALL, the answer
- * is ACK; ask again. Errors: EMPTY, OTHER_KIND; BAD_LENGTH where there is no room for a packet. */
+ * Answers ACK: here they are. NAK: there is none now; so also while a status that promises waits
+ * for the device. STALL: the endpoint is halted. Where packets came before a NAK or a STALL, the
+ * answer is ACK; ask again. Errors: EMPTY, OTHER_KIND; BAD_LENGTH where there is no room for a
+ * packet. */
 uint32_t usbdisk_in(struct usbdisk *disk, uint8_t *room, size_t size, size_t *given);
 
-/* A request for the mass storage interface or one of its endpoints came to the control endpoint: the
- * class reset, GET MAX LUN, CLEAR_FEATURE(ENDPOINT_HALT) and GET_STATUS of an endpoint. `setup` is
- * the setup packet, for interface 0 and the endpoints 81h and 02h: with other numbers rewrite its
- * byte 4, which in the first two is the interface. At ACK `*size` bytes, 0 to 2, go to the host. A
- * class reset drops an answer that waits, and takes no accepted write back. It is answered whatever
- * the device is at, but by STALL until the first sectors are read: connect to the bus when the state
- * is SERVING. Answers ACK, STALL, EMPTY or OTHER_KIND. */
+/* A request for the mass storage interface or one of its endpoints came to the control endpoint:
+ * the class reset, GET MAX LUN, CLEAR_FEATURE(ENDPOINT_HALT) and GET_STATUS of an endpoint. `setup`
+ * is the setup packet, for interface 0 and the endpoints 81h and 02h: with other numbers rewrite
+ * its byte 4, which in the first two is the interface. At ACK `*size` bytes, 0 to 2, go to the
+ * host. A class reset drops an answer that waits, and takes no accepted write back. It is answered
+ * whatever the device is at, but by STALL until the first sectors are read: connect to the bus when
+ * the state is SERVING. Answers ACK, STALL, EMPTY or OTHER_KIND. */
 uint32_t usbdisk_setup(struct usbdisk *disk, const uint8_t setup[8], uint8_t data[2],
                        uint32_t *size);
 
 /* Background work of a disk, up to 32 steps, or of a store, up to one, while few calls wait for the
- * device and no promise does. Call it while the bus is idle; it may be called at any time. Answers 1
- * while steps are left, or EMPTY or OTHER_KIND; 0 where every accepted write is durable and at its
- * home place once the device has carried out what waits. Of what starts, failed or faulted it
- * answers 1. */
+ * device and no promise does. Call it while the bus is idle; it may be called at any time. Answers
+ * 1 while steps are left, or EMPTY or OTHER_KIND; 0 where every accepted write is durable and at
+ * its home place once the device has carried out what waits. While the first sectors are read, and
+ * of what failed or faulted, it answers 1. */
 uint32_t usbdisk_idle(struct usbdisk *disk);
 
 /* The device is to read `count` sectors from sector `first` of the device on before a READ of the
@@ -258,13 +264,13 @@ uint32_t usbdisk_idle(struct usbdisk *disk);
  * READ.
  *
  * Answers 1 where they will be read, or EMPTY or OTHER_KIND. Else 0, and nothing changes: where the
- * disk does not serve; count is 0, or more than the limit of a READ of the host (48 in format 1, 240
- * in format 2), or the device has not as many; or the device is at a call, or calls wait for it; or
- * since the last packet that was taken sectors were read, or are to be.
+ * disk does not serve; count is 0, or more than the limit of a READ of the host (48 in format 1,
+ * 240 in format 2), or the device has not as many; or the device is at a call, or calls wait for
+ * it; or since the last packet that was taken sectors were read, or are to be.
  *
- * A packet that comes before the device has begun with them takes the wish away; one that comes while
- * it reads gets NAK. Where it cannot read them (usbdisk_done with ok false) no READ of the host ends
- * for that: one that lacks them has them read anew. */
+ * A packet that comes before the device has begun with them takes the wish away; one that comes
+ * while it reads gets NAK. Where it cannot read them (usbdisk_done with ok false) no READ of the
+ * host ends for that: one that lacks them has them read anew. */
 uint32_t usbdisk_ahead(struct usbdisk *disk, uint64_t first, uint32_t count);
 
 /* What image is made. Format 1 takes 2 + 50 * slots + blocks sectors, format 2 takes
@@ -277,43 +283,44 @@ struct usbdisk_plan {
 };
 
 /* Makes an image of blocks of zeros. The device is to read sector 0, and then to carry out as many
- * calls as the image has sectors, and seven more, in runs as the buffer has room for. Only a part of
- * them waits at a time, so the memory is the same for every number of blocks. When the state is DONE
- * the image is there. Power may go at any point: a cut leaves what was there before, until the second
- * write is carried out, no image, or the new one, whole.
+ * calls as the image has sectors, and seven more, in runs as the buffer has room for. Only a part
+ * of them waits at a time, so the memory is the same for every number of blocks. When the state is
+ * DONE the image is there. Power may go at any point: a cut leaves what was there before, until the
+ * second write is carried out, no image, or the new one, whole.
  *
  * Answers 0; STARTED or BAD_SIZES; or NO_MEMORY, and the handle stays empty. */
 uint32_t usbdisk_format(struct usbdisk *image, const struct usbdisk_plan *plan);
 
 /* Makes an image around blocks that are at home already: super, head and log alone. The new image
- * stands for what home holds; no sector from there on is written, and none is read. What waited in an
- * old log is gone. A cut leaves what was there before, no image, or the new one, whole.
+ * stands for what home holds; no sector from there on is written, and none is read. What waited in
+ * an old log is gone. A cut leaves what was there before, no image, or the new one, whole.
  *
  * Answers as usbdisk_format. */
 uint32_t usbdisk_lay_log(struct usbdisk *image, const struct usbdisk_plan *plan);
 
 /* Turns an image of format 1 into one of format 2, with the same blocks at the same home sectors:
- * recovers it, and brings the records that wait home. An image of format 2 is recovered. Of the plan
- * it reads `sectors` alone. At each point of it the image stands for the same blocks.
+ * recovers it, and brings the records that wait home. An image of format 2 is recovered. Of the
+ * plan it reads `sectors` alone. At each point of it the image stands for the same blocks.
  *
  * Answers 0; STARTED; or NO_MEMORY, and the handle stays empty. */
 uint32_t usbdisk_migrate(struct usbdisk *image, const struct usbdisk_plan *plan);
 
-/* The store without the transport, for a USB stack that has SCSI in it: its callbacks read and write
- * blocks of 512 bytes and synchronise them. docs/MAKERS.md has a section on it, and
+/* The store without the transport, for a USB stack that has SCSI in it: its callbacks read and
+ * write blocks of 512 bytes and synchronise them. docs/MAKERS.md has a section on it, and
  * examples/c/tinyusb.c has the callbacks.
  *
- * Where one of the calls answers BUSY, nothing happened that has to be undone: have the device carry
- * out what usbdisk_next tells, until it tells NOTHING, and make the same call again.
+ * Where one of the calls answers BUSY, nothing happened that has to be undone: have the device
+ * carry out what usbdisk_next tells, until it tells NOTHING, and make the same call again.
  *
- * Starts a store, as usbdisk_start starts a disk; of the options it reads `sectors` alone. In format
- * 2 with 3 slots or more it brings blocks home ahead of the flush of its next record: a sync flushes
- * once for each record that it writes. Answers 0; STARTED; or NO_MEMORY, and the handle stays empty. */
+ * Starts a store, as usbdisk_start starts a disk; of the options it reads `sectors` alone. In
+ * format 2 with 3 slots or more it brings blocks home ahead of the flush of its next record: a sync
+ * flushes once for each record that it writes. Answers 0; STARTED; or NO_MEMORY, and the handle
+ * stays empty. */
 uint32_t usbdisk_store_start(struct usbdisk *store, const struct usbdisk_options *options);
 
-/* How many blocks there are, and how many of them one read or write may have: 48 in format 1, 240 in
- * format 2. Answers 0; BUSY while it starts; a number from 1 to 10 where the start failed; EMPTY or
- * OTHER_KIND. */
+/* How many blocks there are, and how many of them one read or write may have: 48 in format 1, 240
+ * in format 2. Answers 0; BUSY while it starts; a number from 1 to 10 where the start failed; EMPTY
+ * or OTHER_KIND. */
 uint32_t usbdisk_store_sizes(struct usbdisk *store, uint64_t *blocks, uint32_t *limit);
 
 /* Reads whole blocks, from `block` on, as they are after all accepted writes. size: 512 for each.
@@ -327,22 +334,22 @@ uint32_t usbdisk_store_read(struct usbdisk *store, uint64_t block, uint8_t *byte
 /* Writes whole blocks, from `block` on: one write, of which a cut leaves all or nothing. The next
  * good sync promises it.
  *
- * Answers 0 where it is accepted; BUSY, and it is not; DEAD, and none of it is written: the store was
- * dead, or died in this call; a number from 1 to 10 where the start failed. Errors: EMPTY,
+ * Answers 0 where it is accepted; BUSY, and it is not; DEAD, and none of it is written: the store
+ * was dead, or died in this call; a number from 1 to 10 where the start failed. Errors: EMPTY,
  * OTHER_KIND, BAD_LENGTH and BAD_RANGE, as of usbdisk_store_read. */
 uint32_t usbdisk_store_write(struct usbdisk *store, uint64_t block, const uint8_t *bytes,
                              size_t size);
 
-/* Makes every accepted write durable. Answers 0: all are. BUSY: what the device has to carry out for
- * that waits. DEAD, and nothing more is promised; a number from 1 to 10 where the start failed; EMPTY
- * or OTHER_KIND. */
+/* Makes every accepted write durable. Answers 0: all are. BUSY: what the device has to carry out
+ * for that waits. DEAD, and nothing more is promised; a number from 1 to 10 where the start failed;
+ * EMPTY or OTHER_KIND. */
 uint32_t usbdisk_store_sync(struct usbdisk *store);
 
 /* What the program gives to the library.
  *
- * rattle_alloc: `size` bytes, 1 or more, aligned to `alignment`, a power of two up to 16; `ok` is false
- * where there are none, and then `at` is not read. rattle_dealloc: frees a block. port/usbdisk_heap.c has
- * both over malloc, port/usbdisk_arena.c out of one array. */
+ * rattle_alloc: `size` bytes, 1 or more, aligned to `alignment`, a power of two up to 16; `ok` is
+ * false where there are none, and then `at` is not read. rattle_dealloc: frees a block.
+ * port/usbdisk_heap.c has both over malloc, port/usbdisk_arena.c out of one array. */
 struct rattle_tried {
     bool ok;
     void *at;
