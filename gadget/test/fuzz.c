@@ -108,16 +108,25 @@ static bool settle(struct host *host)
     return goes_on;
 }
 
+/* How many calls the device was asked for, where it rests. */
+static uint64_t calls_when_at_rest(void)
+{
+    disk_rest(&server.disk);
+    const struct counters *counters = &server.disk.counters;
+    return counters->reads + counters->writes + counters->flushes;
+}
+
 /* The device rests, and all answers are read: what is not answered waits for the host. */
 static void rest(struct host *host)
 {
     struct client *client = attached_client();
     const char *cause;
     bool goes_on = true;
+    uint64_t before;
     do {
-        disk_rest(&server.disk);
+        before = calls_when_at_rest();
         goes_on = goes_on && serve_waiting(client, &server.device, &cause) == GOES_ON;
-    } while (disk_is_busy(&server.disk));
+    } while (calls_when_at_rest() != before);
     judge(goes_on && settle(host), "a host that waits is not let go");
 }
 
@@ -285,8 +294,8 @@ static void begin(const char *image)
     server.device.product = "a disk";
     server.listener = socket(AF_UNIX, SOCK_STREAM | SOCK_CLOEXEC | SOCK_NONBLOCK, 0);
     address.sun_family = AF_UNIX;
-    bool is_bound = bind(server.listener, (struct sockaddr *)&address, sizeof address.sun_family) ==
-                    0;
+    bool is_bound =
+        bind(server.listener, (struct sockaddr *)&address, sizeof address.sun_family) == 0;
     judge(is_bound && listen(server.listener, 64) == 0, "the server listens");
     judge(getsockname(server.listener, (struct sockaddr *)&address, &address_size) == 0,
           "it has a name");
