@@ -41,21 +41,15 @@ void number_disk(struct disk *disk)
              (hash ^ hash >> 48) & 0xFFFFFFFFFFFFu);
 }
 
-/* A field of the identity is padded with spaces. */
-static void put_field(char *field, size_t size, const char *text, const char *otherwise)
+static const char *or_else(const char *text, const char *otherwise)
 {
-    text = text ? text : otherwise;
-    size_t length = strnlen(text, size);
-    memset(field, ' ', size);
-    memcpy(field, text, length);
+    return text ? text : otherwise;
 }
 
 void disk_name(struct disk *disk, const struct names *names)
 {
-    struct usbdisk_identity *identity = &disk->identity;
-    put_field(identity->vendor, sizeof identity->vendor, names->vendor, "USBDISK");
-    put_field(identity->product, sizeof identity->product, names->product, "POWER SAFE DISK");
-    put_field(identity->revision, sizeof identity->revision, names->revision, "0001");
-    put_field(identity->serial, sizeof identity->serial, names->serial, disk->serial);
-    memcpy(disk->serial, identity->serial, sizeof identity->serial);
+    usbdisk_identify(&disk->identity, or_else(names->vendor, "USBDISK"),
+                     or_else(names->product, "POWER SAFE DISK"), or_else(names->revision, "0001"),
+                     or_else(names->serial, disk->serial));
+    memcpy(disk->serial, disk->identity.serial, sizeof disk->identity.serial);
 }
