@@ -24,7 +24,7 @@ COURSE = [(STATUS_IN, HALT), (STATUS_OUT, HALT), ("out", "ack|nak|stall"), *[("i
 
 def is_wrapper(packet):
     """The table: the length, the signature, and flags, unit and length of the command block such as are defined. Which of them is wrong shows in no
-    answer: crates/worked compares that."""
+    answer: judges/worked compares that."""
     return len(packet) == 31 and packet[:4] == b"USBC" and packet[12] in (0, 0x80) and packet[13] == 0 and 1 <= packet[14] <= 16
 
 
