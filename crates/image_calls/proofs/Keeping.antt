@@ -17,7 +17,7 @@ use Rattle.device_calls.specs.declared.done_fault.DoneFault.{DoneFault}
 use Rattle.image_calls.specs.Formats.{IsFormatting, MakesParts}
 use Rattle.image_calls.specs.Machines.{Machine, begun, carried, under_way, MayLeave, LeavesSince, LeavesAtRest, CarriesOut, GoesOn}
 use Rattle.image_calls.specs.Machines.{Asks, AsksBy, AsksForNext, IsDone}
-use Rattle.image_calls.specs.Works.{Work}
+use Rattle.image_calls.specs.declared.work.Work.{Work}
 use Rattle.image_calls.specs.declared.asked.ImageAsked.{ImageAsked}
 use Rattle.image_calls.specs.declared.asked.ImageAsked.TheVariants as asked
 use Rattle.image_calls.specs.declared.asked.ImageCall.{ImageCall}

@@ -18,7 +18,7 @@ use Rattle.recovery.specs.declared.start_fault.StartFault.{StartFault}
 use Rattle.journal.specs.Formats.{shape_of}
 use Rattle.image_calls.specs.Parts.{IsBegun}
 use Rattle.image_calls.specs.Formats.{BeginsFormat, HasRoom}
-use Rattle.image_calls.specs.Works.{Work}
+use Rattle.image_calls.specs.declared.work.Work.{Work}
 use Rattle.image_calls.specs.declared.plan.Plan.{Plan}
 use Rattle.image_calls.specs.Images.{IsLaidOn, IsMigratedOn, IsMigratedNot, MissesNone}
 

@@ -32,7 +32,6 @@ module _ (near holds : List ℕ) (plan : ImagePlan) where
 
   pub plan_fault : (why : ImageFault) → IsLayFault near plan.sectors (shape_by plan) (medium_by near holds plan) why
       → IsPlanFault near plan why
-  plan_fault fault.Held is = is
   plan_fault fault.Length is = is
   plan_fault fault.Sizes is = λ sizes. is (sizes_on sizes)
   plan_fault (fault.Start why) is = is

@@ -1,4 +1,3 @@
-pub mod Values
 pub mod Laid
 pub mod OnWay
 pub mod NextCall

@@ -22,7 +22,7 @@ use Rattle.image_calls.specs.Machines.{Machine, MayLeave, LeavesAtRest, Begins, 
 use Rattle.image_calls.specs.Machines.{AsksBy, carried, under_way}
 use Rattle.device_calls.specs.declared.ask.DeviceAsk.TheVariants as ask
 use Rattle.image_calls.specs.Parts.{IsMadeAnew, IsOnWay}
-use Rattle.image_calls.specs.Works.{Work}
+use Rattle.image_calls.specs.declared.work.Work.{Work}
 use Rattle.image_calls.specs.declared.asked.ImageAsked.{ImageAsked}
 use Rattle.image_calls.specs.declared.asked.ImageAsked.TheVariants as asked
 use Rattle.image_calls.specs.declared.plan.Plan.{Plan}

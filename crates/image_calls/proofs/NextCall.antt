@@ -6,7 +6,7 @@ use Rattle.medium.specs.Moments.{IsUnchanged}
 use Rattle.medium.proofs.Moments.{then_unchanged}
 use Rattle.medium.proofs.SparedSectors.{spared_joined, spared_unchanged}
 use Rattle.mirror.specs.declared.call.DeviceCall.{DeviceCall}
-use Rattle.window.specs.Window.{Window, state_of, take_first, without_first, ComesAfter, CoversDevice}
+use Rattle.window.specs.Window.{Window, state_of, take_first, ComesAfter, CoversDevice}
 use Rattle.window.specs.WindowLaws.{is_sound, comes_after_through}
 use Rattle.journal.specs.Places.{Shape, sectors_of, slot_sectors_of}
 use Rattle.journal.specs.Sectors.{IsSuper, IsHead}
@@ -14,8 +14,8 @@ use Rattle.journal.specs.Standing.{IsOurs}
 use Rattle.recovery.specs.Calls.{FormatLeaves, IsMidway}
 use Rattle.image_calls.specs.Parts.{IsUnderWay, IsMadeAnew, IsOnWay, KeepsOnWay, FailsOnWay, SendsPart}
 use Rattle.image_calls.specs.Images.{WaitFor}
-use Rattle.image_calls.specs.Formats.{IsFormatting, HasRoom, LetsGo, MakesParts}
-use Rattle.image_calls.specs.Works.{Work}
+use Rattle.image_calls.specs.Formats.{IsFormatting, HasRoom, MakesParts}
+use Rattle.image_calls.specs.declared.work.Work.{Work}
 use Rattle.image_calls.specs.declared.plan.Plan.{Plan}
 use Rattle.image_calls.proofs.Laid.{none_refused}
 use Rattle.image_calls.proofs.OnWay.{BLANK}
@@ -78,22 +78,6 @@ module _ (shape : Shape) (first now new : Window) (same : IsUnchanged (state_of 
 pub has_room_on : (left : Option Plan) (now new : Window) → new.room ≡ now.room → HasRoom left now → HasRoom left new
 has_room_on (Some plan) now new same room = omega (arith, same, room)
 has_room_on None now new same room = tt
-
--- the call that waits first was let go
-pub let_go : (old new : Work) → new.medium ≡ without_first old.medium → new.left ≡ old.left
-    → IsUnchanged (state_of old.medium) (state_of new.medium) → LetsGo old new
-let_go old new medium left same = record {
-  medium = medium;
-  left = left;
-  keeps = λ shape first formatting. record {
-    on_way = subst (λ (l : Option Plan). IsOnWay shape l (state_of first) (state_of new.medium)) (sym left)
-        (on_way_on shape first old.medium new.medium same
-        (ap (λ (w : Window). (state_of w).looked) medium ∙ looked_on old.medium.outbox old.medium) old.left formatting.on_way);
-    room = subst (λ (l : Option Plan). HasRoom l new.medium) (sym left)
-        (has_room_on old.left old.medium new.medium
-        (ap (λ (w : Window). w.room) medium ∙ room_on old.medium.outbox old.medium) formatting.room);
-  };
-}
 
 -- ---- the parts
 

@@ -1,11 +1,10 @@
 -- A format on a device, a part at a time: the next waits where the one before it is handed out.
-use Rattle.std.specs.Prelude.{◌≡◌, ◌⊎◌, ℕ, ◌+◌, ◌*◌, ◌<◌, ◌≤◌, List, length, Option, Some, None}
-use Rattle.mirror.specs.OutboxMedium.{first_of}
-use Rattle.window.specs.Window.{Window, state_of, without_first}
+use Rattle.std.specs.Prelude.{◌≡◌, ◌⊎◌, ◌+◌, ◌*◌, ◌<◌, ◌≤◌, length, Option, Some, None}
+use Rattle.window.specs.Window.{Window, state_of}
 use Rattle.journal.specs.Places.{Shape, slot_sectors_of}
-use Rattle.image_calls.specs.Images.{WaitFor, Shows}
+use Rattle.image_calls.specs.Images.{WaitFor}
 use Rattle.image_calls.specs.Parts.{IsOnWay}
-use Rattle.image_calls.specs.Works.{Work}
+use Rattle.image_calls.specs.declared.work.Work.{Work}
 use Rattle.image_calls.specs.declared.plan.Plan.{Plan}
 
 -- an outbox has room for each part
@@ -34,24 +33,3 @@ pub record MakesParts (old new : Work) : Type 0 where
   pub ends : (shape : Shape) (first : Window) → IsFormatting shape first old
       → (0 < length new.medium.outbox) ⊎ (new.left ≡ None)
   pub stays : (0 < length old.medium.outbox) ⊎ (old.left ≡ None) → new ≡ old
-
--- the first call leaves what waits, and whatever format was under way is so still, or made
-pub record LetsGo (old new : Work) : Type 0 where
-  pub medium : new.medium ≡ without_first old.medium
-  pub left : new.left ≡ old.left
-  pub keeps : (shape : Shape) (first : Window) → IsFormatting shape first old
-      → IsFormatting shape first new
-
--- what comes next is made, where nothing waits, and the first call of what waits then is shown, and
--- leaves it
-abbrev pub ShowsNext : Work → ℕ → List ℕ → Work → ℕ → List ℕ → ℕ → Type 0
-ShowsNext old sector room new sector' filled kind = (mid : Work) × MakesParts old mid
-    × Shows (first_of mid.medium.outbox) sector room sector' filled kind × LetsGo mid new
-
--- Where the handle has nothing, nothing is told.
-abbrev pub HandsOn : Option Work → ℕ → List ℕ → Option Work → ℕ → List ℕ → Option ℕ → Type 0
-HandsOn (Some old) sector room (Some new) sector' filled (Some kind) =
-    ShowsNext old sector room new sector' filled kind
-HandsOn None sector room new sector' filled None =
-    (new ≡ None) × (sector' ≡ sector) × (filled ≡ room)
-HandsOn old sector room new sector' filled kind = ⊥

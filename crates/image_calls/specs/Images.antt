@@ -1,8 +1,6 @@
 -- What is made of an image on a device, and what waits for the device then.
 use Rattle.std.specs.Prelude.{◌≡◌, ◌≢◌, ◌⊎◌, ℕ, ◌+◌, ◌*◌, ◌%◌, ◌<◌, ◌≤◌, List, length, Bool}
-use Rattle.std.specs.Prelude.{Option, Some, None, Result, MatchResult}
-use Rattle.mirror.specs.declared.call.DeviceCall.{DeviceCall}
-use Rattle.mirror.specs.declared.call.DeviceCall.TheVariants.{Write, Flush}
+use Rattle.std.specs.Prelude.{None}
 use Rattle.window.specs.Window.{Window, state_of, kept_out, ComesAfter, CoversDevice}
 use Rattle.journal.specs.Places.{Shape, first_home}
 use Rattle.recovery.specs.Calls.{HoldsLog}
@@ -15,7 +13,7 @@ use Rattle.recovery.specs.declared.start_fault.StartFault.{StartFault}
 use Rattle.recovery.specs.declared.start_fault.StartFault.TheVariants.{NoMemory}
 use Rattle.recovery.specs.declared.start_fault.StartFault.TheVariants as fault_of_start
 use Rattle.medium.specs.Sent.{sent}
-use Rattle.image_calls.specs.Works.{Work}
+use Rattle.image_calls.specs.declared.work.Work.{Work}
 use Rattle.image_calls.specs.declared.image_fault.ImageFault.{ImageFault}
 use Rattle.image_calls.specs.declared.image_fault.ImageFault.TheVariants as fault
 
@@ -39,7 +37,6 @@ pub record IsLaidOn (shape : Shape) (first new : Window) : Type 0 where
 
 -- why none was: for want of memory, or by the lengths or the sizes
 abbrev pub IsLayFault : List ℕ → ℕ → Shape → Window → ImageFault → Type 0
-IsLayFault near sectors shape first fault.Held = ⊥
 IsLayFault near sectors shape first fault.Length = IsNoLength near sectors
 IsLayFault near sectors shape first fault.Sizes = ¬ AreSizes (state_of first).size shape
 IsLayFault near sectors shape first (fault.Start why) = why ≡ NoMemory
@@ -73,31 +70,6 @@ pub record IsMigratedNot (first after : Window) (why : StartFault) : Type 0 wher
       → kept_out after.seen.told.refused ≡ kept_out first.seen.told.refused
   pub seen : MissesNone first after
 
-abbrev pub IsMigrateFault : List ℕ → ℕ → Window → ImageFault → Type 0
-IsMigrateFault near sectors first fault.Held = ⊥
-IsMigrateFault near sectors first fault.Length = IsNoLength near sectors
-IsMigrateFault near sectors first fault.Sizes = ⊥
-IsMigrateFault near sectors first (fault.Start why) = (why ≡ NoMemory)
-    ⊎ ((after : Window) × IsMigratedNot first after why)
-
 -- that was done on the medium, and nothing is left to do
 abbrev pub IsWhole : (Window → Type 0) → Work → Type 0
 IsWhole Is work = Is work.medium × (work.left ≡ None)
-
--- What is in a handle after a call: what was there stays, where there was something. Else there is
--- work that was made so, or none, for such a reason.
-abbrev pub Makes : (Work → Type 0) → (ImageFault → Type 0) → Option Work → Option Work
-    → Result (Unit {0}) ImageFault → Type 0
-Makes Is Why (Some old) new result =
-    MatchResult result (λ done. ⊥) (λ why. (why ≡ fault.Held) × (new ≡ Some old))
-Makes Is Why None (Some new) result = MatchResult result (λ done. Is new) (λ why. ⊥)
-Makes Is Why None None result = MatchResult result (λ done. ⊥) Why
-
--- the number of a call's kind, and where it is a write its sector and bytes
-abbrev pub Shows : Option DeviceCall → ℕ → List ℕ → ℕ → List ℕ → ℕ → Type 0
-Shows None sector bytes sector' bytes' kind =
-    (kind ≡ 0) × (sector' ≡ sector) × (bytes' ≡ bytes)
-Shows (Some (Write w)) sector bytes sector' bytes' kind =
-    (kind ≡ 1) × (sector' ≡ w.sector) × (bytes' ≡ w.block)
-Shows (Some Flush) sector bytes sector' bytes' kind =
-    (kind ≡ 2) × (sector' ≡ sector) × (bytes' ≡ bytes)

@@ -1,7 +1,4 @@
-pub mod Held
 pub mod Images
-pub mod WorkRow
-pub mod Works
 pub mod Formats
 pub mod Parts
 pub mod Machines

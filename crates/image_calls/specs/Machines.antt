@@ -17,7 +17,7 @@ use Rattle.device_calls.specs.declared.ask.DeviceAsk.TheVariants as ask
 use Rattle.device_calls.specs.declared.done_fault.DoneFault.{DoneFault}
 use Rattle.device_calls.specs.declared.done_fault.DoneFault.TheVariants as fault
 use Rattle.image_calls.specs.Formats.{IsFormatting, MakesParts}
-use Rattle.image_calls.specs.Works.{Work}
+use Rattle.image_calls.specs.declared.work.Work.{Work}
 use Rattle.image_calls.specs.declared.asked.ImageAsked.{ImageAsked}
 use Rattle.image_calls.specs.declared.asked.ImageAsked.TheVariants as asked
 use Rattle.image_calls.specs.declared.asked.ImageCall.{ImageCall}

@@ -27,7 +27,6 @@ medium_by near holds plan =
 
 -- why the plan is not carried out: by the lengths or the sizes, or for want of memory
 abbrev pub IsPlanFault : List ℕ → ImagePlan → ImageFault → Type 0
-IsPlanFault near plan fault.Held = ⊥
 IsPlanFault near plan fault.Length = IsNoLength near plan.sectors
 IsPlanFault near plan fault.Sizes = ¬ AreSizes plan.sectors (shape_by plan)
 IsPlanFault near plan (fault.Start why) = why ≡ start.NoMemory
@@ -51,7 +50,6 @@ pub record IsMigratedNever (first : Window) (why : StartFault) : Type 0 where
       → why ≢ start.Read
 
 abbrev pub IsMigrateRefusal : List ℕ → ℕ → Window → ImageFault → Type 0
-IsMigrateRefusal near sectors first fault.Held = ⊥
 IsMigrateRefusal near sectors first fault.Length = IsNoLength near sectors
 IsMigrateRefusal near sectors first fault.Sizes = ⊥
 IsMigrateRefusal near sectors first (fault.Start why) =

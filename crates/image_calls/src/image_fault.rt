@@ -4,9 +4,6 @@ use thiserror::Error;
 
 #[derive(Clone, Copy, Debug, PartialEq, Eq, Error)]
 pub enum ImageFault {
-    /// The handle has a medium, whose calls may wait still.
-    #[error("the handle is in use")]
-    Held,
     /// The first sectors are none, no whole ones, or more than the device has.
     #[error("bad length")]
     Length,
