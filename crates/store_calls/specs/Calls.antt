@@ -1,13 +1,12 @@
 -- What each call does to a store.
 use Rattle.std.specs.Prelude.{◌≡◌, ◌≢◌, ◌⊎◌, ◌↔◌, ℕ, ◌+◌, ◌*◌, ◌/◌, ◌%◌, ◌<◌, Bool, true, false}
-use Rattle.std.specs.Prelude.{not, List, length, Option, Some, None, Result, Ok, Err}
+use Rattle.std.specs.Prelude.{not, List, length, Result, Ok, Err}
 use Rattle.inlet.specs.Inlet.{AreHeld}
 use Rattle.spec.specs.Blocks.{Write}
-use Rattle.mirror.specs.OutboxMedium.{first_of}
 use Rattle.journal.specs.Places.{first_home}
-use Rattle.window.specs.Window.{state_of, without_first, ComesAfter, IsShown}
+use Rattle.window.specs.Window.{state_of, ComesAfter, IsShown}
 use Rattle.blocks.specs.Background.{IsBackgroundStep, CountsDown}
-use Rattle.spec.specs.Book.{Book, array_of, blocks_at, write_of, promised}
+use Rattle.spec.specs.Book.{Book, array_of, blocks_at, promised}
 use Rattle.blocks.specs.Book.{IsTransfer}
 use Rattle.blocks.specs.Passing.{KeepsStore, PassesOn, PassesPaid, IsUntouched}
 use Rattle.blocks.specs.Sent.{batch_sends}
@@ -21,12 +20,9 @@ use Rattle.medium.specs.Sent.{SendsUpTo}
 use Rattle.medium.specs.declared.fault.MediumFault.TheVariants.{Flush}
 use Rattle.blocks.specs.Turns.{IsTurn, IsWriteTurn}
 use Rattle.store_calls.specs.Stores.{Store}
-use Rattle.store_calls.specs.Outbox.{Shows, ShowsRun, IsNoRoom}
-use Rattle.store_calls.specs.Rooms.{Appends, HoldsLog, AreInSight, AreMissing}
+use Rattle.store_calls.specs.Rooms.{Appends, HoldsLog}
 use Rattle.store_calls.specs.declared.call_fault.CallFault.{CallFault}
 use Rattle.store_calls.specs.declared.call_fault.CallFault.TheVariants as fault
-use Rattle.store_calls.specs.declared.reading.Missing.{Missing}
-use Rattle.store_calls.specs.declared.calls.Sizes.{Sizes}
 
 -- ---- whether a call may move blocks
 
@@ -71,20 +67,6 @@ pub record IsUnread (address count : ℕ) (old new : Store) : Type 0 where
   pub unseen : ¬ HoldsLog old
   pub all : KeepsAll address count old new
 
--- The blocks were read; or sectors are to be shown before, and nothing has changed.
-abbrev pub ReadsBlocks : ℕ → Store → List ℕ → Store → List ℕ → Result (Option Missing) CallFault
-    → Type 0
-ReadsBlocks address old room new filled (Ok None) = MayMove old.cached address (length room)
-    × AreInSight old.medium (home_of old address) (length room / 512)
-    × IsRead address (length room / 512) old filled new
-ReadsBlocks address old room new filled (Ok (Some missing)) =
-    MayMove old.cached address (length room) × (new ≡ old) × (filled ≡ room)
-    × AreMissing old.medium (home_of old address) (length room / 512) missing.first missing.count
-ReadsBlocks address old room new filled (Err why) =
-    (MayNotMove old.cached address (length room) why × (new ≡ old) × (filled ≡ room))
-    ⊎ ((why ≡ fault.Unread) × MayMove old.cached address (length room)
-    × IsUnread address (length room / 512) old new)
-
 -- ---- a write
 
 -- One write was accepted, whole, or none. A store that does not accept it is dead then.
@@ -112,15 +94,6 @@ pub record CostsWrite (address count : ℕ) (old new : Store) : Type 0 where
       → (state_of new.medium).made Flush
       ≡ (state_of old.medium).made Flush + wants old.cached.frozen.numbers
   pub headroom : old.goes_ahead ≡ true → HasHeadroom old.cached.log → HasHeadroom new.cached.log
-
-abbrev pub WritesBlocks : ℕ → List ℕ → Store → Store → Result (Unit {0}) CallFault → Type 0
-WritesBlocks address bytes old new (Ok done) = MayMove old.cached address (length bytes)
-    × IsWritten (write_of address bytes) true old new
-    × CostsWrite address (length bytes / 512) old new
-WritesBlocks address bytes old new (Err why) =
-    (MayNotMove old.cached address (length bytes) why × (new ≡ old))
-    ⊎ ((why ≡ fault.Dead) × MayMove old.cached address (length bytes)
-    × IsWritten (write_of address bytes) false old new)
 
 -- ---- a sync, and the work in the background
 
@@ -166,31 +139,7 @@ pub record MakesStep (old new : Store) (more : Bool) : Type 0 where
   pub none_left : (more ≡ false) ↔ ((is_dead new.cached ≡ false) × (steps_left new.cached ≡ 0))
   pub at_home : more ≡ false → IsSettled (state_of new.medium) new.cached
 
-abbrev pub StepsOn : Store → Store → Result Bool CallFault → Type 0
-StepsOn old new (Ok more) = MakesStep old new more
-StepsOn old new (Err why) = ⊥
-
 -- ---- the device
-
--- the first call leaves the outbox, and nothing else of the store changes
-pub record LetsGo (old new : Store) : Type 0 where
-  pub medium : new.medium ≡ without_first old.medium
-  pub untouched : IsUntouched state_of old new
-
-abbrev pub HandsOn : ℕ → List ℕ → ℕ → List ℕ → Store → Store → Result ℕ CallFault → Type 0
-HandsOn sector room sector' filled old new (Ok kind) =
-    Shows (first_of old.medium.outbox) sector room sector' filled kind × LetsGo old new
-HandsOn sector room sector' filled old new (Err why) = ⊥
-
--- A run leaves the outbox, or one call that is no write, and nothing else of the store changes.
--- Room for no sector, or for a part of one, is refused, and nothing changes.
-abbrev pub HandsOnRun : ℕ → List ℕ → ℕ → ℕ → List ℕ → ℕ → Store → Store → Result ℕ CallFault
-    → Type 0
-HandsOnRun sector room was sector' filled count old new (Ok kind) = (¬ IsNoRoom (length room))
-    × ShowsRun (first_of old.medium.outbox) old.medium sector room was
-    new.medium sector' filled count kind × IsUntouched state_of old new
-HandsOnRun sector room was sector' filled count old new (Err why) = (why ≡ fault.Length)
-    × IsNoRoom (length room) × (new ≡ old) × (sector' ≡ sector) × (filled ≡ room) × (count ≡ was)
 
 -- Sectors are shown, and taken or not. Where they are what the medium holds, the store fits what it
 -- fitted; where they are not, nothing but the medium has changed.
@@ -199,13 +148,3 @@ pub record Sees (first : ℕ) (bytes : List ℕ) (taken : Bool) (old new : Store
   pub cached : new.cached ≡ old.cached
   pub untouched : AreHeld (state_of old.medium).content first (length bytes / 512) bytes
       → IsUntouched state_of old new
-
-abbrev pub IsShownTo : ℕ → List ℕ → Store → Store → Result Bool CallFault → Type 0
-IsShownTo first bytes old new (Ok taken) = Sees first bytes taken old new
-IsShownTo first bytes old new (Err why) = ⊥
-
--- how many blocks there are, and how many a read and a write have at most
-abbrev pub TellsSizes : Store → Store → Result Sizes CallFault → Type 0
-TellsSizes old new (Ok sizes) = (new ≡ old) × (sizes.blocks ≡ blocks_of old.cached)
-    × (sizes.limit ≡ transfer_limit old.cached)
-TellsSizes old new (Err why) = ⊥

@@ -1,4 +1,3 @@
-pub mod Held
 pub mod StoreRow
 pub mod Stores
 pub mod Rooms
@@ -6,7 +5,6 @@ pub mod Outbox
 pub mod Starts
 pub mod Calls
 pub mod Refused
-pub mod Handles
 pub mod StoreMachine
 pub mod Serving
 pub mod Asking

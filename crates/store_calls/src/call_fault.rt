@@ -1,15 +1,9 @@
-//! Why a call of a store behind a handle is refused.
+//! Why a call of a store is refused.
 use blocks::StartFault;
 use thiserror::Error;
 
 #[derive(Clone, Copy, Debug, PartialEq, Eq, Error)]
 pub enum CallFault {
-    /// The handle has no store.
-    #[error("the handle is empty")]
-    Empty,
-    /// The handle has a store already.
-    #[error("the handle is in use")]
-    Held,
     /// The outbox has less room than the image on the device wants.
     #[error("too little room")]
     LittleRoom,

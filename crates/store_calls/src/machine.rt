@@ -5,8 +5,8 @@ ghost use Rattle.store_calls.specs.StoreMachine.{stage_of, stage_by, IsCaughtUp}
 ghost use Rattle.store_calls.specs.Serving.{BeginsOver, Rests};
 
 use crate::asked::Asked;
-use crate::calls::Sizes;
 use crate::lack::Lack;
+use crate::sizes::Sizes;
 use blocks::Store;
 use device_calls::MachineState;
 use mirror::device_laws;

@@ -61,7 +61,7 @@ pub fn begin_machine(
 {
     let reserve = reserve_for(near);
     match begin(alloc, near, sectors, device, reserve.span, reserve.room) {
-        Ok(held) => Ok(StoreMachine::new(Box::into_inner(held))),
+        Ok(store) => Ok(StoreMachine::new(store)),
         Err(why) => Err(why),
     }
 }

@@ -1,26 +1,10 @@
 //! What a device has to carry out, and what it shows.
-ghost use Rattle.mirror.specs.OutboxMedium.{first_of};
 ghost use Rattle.store_calls.specs.Outbox.{Shows};
-ghost use Rattle.store_calls.specs.Calls.{LetsGo, Sees};
+ghost use Rattle.store_calls.specs.Calls.{Sees};
 
 use blocks::Store;
 use mirror::DeviceCall;
 use window::WindowMedium;
-
-/// The next call for the device leaves the outbox.
-pub(crate) fn next_call(
-    store: &mut Store<WindowMedium>,
-    sector: &mut u64,
-    to: &mut [u8; 512],
-) -> u32
-    ensures shows { Shows (first_of store.old.medium.outbox)
-        sector.old to.old sector.new to.new result }
-    ensures lets_go { LetsGo store.old store.new }
-{
-    let call = store.medium().first();
-    store.pop();
-    show_call(call, sector, to)
-}
 
 /// The number of a call's kind, and where it is a write its sector and bytes.
 pub fn show_call(call: Option<DeviceCall>, sector: &mut u64, to: &mut [u8; 512]) -> u32

@@ -3,7 +3,7 @@ ghost use Rattle.std.specs.Prelude.{◌≡◌, ◌<◌, ◌≤◌, ◌+◌, ◌/
 ghost use Rattle.journal.specs.Places.{first_home};
 ghost use Rattle.blocks.specs.StoreValue.{layout_of, blocks_of};
 ghost use Rattle.store_calls.specs.Rooms.{AreInSight, AreMissing, Foresees};
-ghost use Rattle.store_calls.specs.Calls.{MayMove, MayNotMove, ReadsBlocks};
+ghost use Rattle.store_calls.specs.Calls.{MayMove, MayNotMove};
 ghost use Rattle.store_calls.specs.Calls.{IsRead, IsUnread, home_of};
 
 use crate::CallFault;
@@ -52,26 +52,6 @@ pub(crate) fn may_move(
         return Err(CallFault::Dead);
     }
     Ok(())
-}
-
-/// Reads blocks as they are after all accepted writes; or tells which sectors are to be shown
-/// before, and changes nothing.
-pub(crate) fn read_blocks(
-    store: &mut Store<WindowMedium>,
-    address: u64,
-    to: &mut [u8],
-) -> Result<Option<Missing>, CallFault>
-    ensures { ReadsBlocks address store.old to.old store.new to.new result }
-{
-    may_move(store, address, to.len())?;
-    let count = (to.len() / BLOCK) as u32;
-    if let Some(missing) = unseen(store, address, count) {
-        return Ok(Some(missing));
-    }
-    match read_seen(store, address, to) {
-        Ok(()) => Ok(None),
-        Err(why) => Err(why),
-    }
 }
 
 // Those of the home sectors of `count` blocks that are neither in memory nor in sight: all from the

@@ -1,69 +1,14 @@
 //! Writes to neighbouring sectors leave the outbox together.
-ghost use Rattle.std.specs.Prelude.{◌≡◌, ◌↔◌, ◌+◌, Some, MatchOption, IsTrue, length};
+ghost use Rattle.std.specs.Prelude.{◌≡◌, ◌+◌, Some, MatchOption};
 ghost use Rattle.mirror.specs.declared.call.DeviceCall.TheVariants as call;
 ghost use Rattle.blocks.specs.Passing.{IsUntouched};
 ghost use Rattle.window.specs.Window.{state_of};
-ghost use Rattle.mirror.specs.OutboxMedium.{first_of};
-ghost use Rattle.store_calls.specs.Outbox.{IsLongestRun, IsTo, IsNoRoom, ShowsRun};
-ghost use Rattle.store_calls.specs.Calls.{HandsOnRun};
+ghost use Rattle.store_calls.specs.Outbox.{IsLongestRun, IsTo};
 
-use crate::CallFault;
 use crate::reading::BLOCK;
 use blocks::Store;
 use mirror::{DeviceCall, put_sector};
 use window::WindowMedium;
-
-/// The next calls for the device leave the outbox: a flush, or writes to neighbouring sectors.
-pub(crate) fn next_run(
-    store: &mut Store<WindowMedium>,
-    sector: &mut u64,
-    to: &mut [u8],
-    count: &mut usize,
-) -> Result<u32, CallFault>
-    ensures { HandsOnRun sector.old to.old count.old sector.new to.new count.new
-        store.old store.new result }
-{
-    if is_no_room(to.len()) {
-        return Err(CallFault::Length);
-    }
-    Ok(take_run(store, sector, to, count))
-}
-
-// Whether `size` bytes are room for no sector, or for a part of one.
-fn is_no_room(size: usize) -> bool
-    ensures { IsTrue result ↔ IsNoRoom size }
-{
-    size == 0 || size % BLOCK != 0
-}
-
-// The next calls leave an outbox, where there is room for whole sectors. Their kind.
-fn take_run(
-    store: &mut Store<WindowMedium>,
-    sector: &mut u64,
-    to: &mut [u8],
-    count: &mut usize,
-) -> u32
-    requires { ¬ IsNoRoom (length to.old) }
-    ensures { ShowsRun (first_of store.old.medium.outbox) store.old.medium sector.old to.old
-        count.old store.new.medium sector.new to.new count.new result
-        × IsUntouched state_of store.old store.new }
-{
-    match store.medium().first() {
-        Some(DeviceCall::Write(write)) => {
-            *sector = write.sector;
-            *count = gather(store, write.sector, to);
-            1
-        }
-        Some(DeviceCall::Flush) => {
-            store.pop();
-            2
-        }
-        None => {
-            store.pop();
-            0
-        }
-    }
-}
 
 // Lets go of writes to the sectors from this one on, as long as they wait first and have room, and
 // copies their bytes. How many they were.

@@ -82,9 +82,9 @@ pub(crate) fn begin(
     device: &DeviceHolds,
     span: u32,
     room: usize,
-) -> Result<Box<Store<WindowMedium>>, CallFault>
-    ensures ok { IfOk result (λ held. (¬ IsNoLength near.now sectors)
-        × Begins (fresh sectors near.now device.now.bytes span room) held.value) }
+) -> Result<Store<WindowMedium>, CallFault>
+    ensures ok { IfOk result (λ store. (¬ IsNoLength near.now sectors)
+        × Begins (fresh sectors near.now device.now.bytes span room) store) }
     ensures err { IfErr result (IsNoStart near.now sectors
         (fresh sectors near.now device.now.bytes span room)) }
 {
@@ -93,12 +93,8 @@ pub(crate) fn begin(
     // The law of the medium, from the first call on.
     let _waiting = medium.waiting();
     device_laws();
-    let store = match Store::start_ahead(alloc, medium) {
-        Ok(store) => store,
-        Err(error) => return Err(CallFault::Start(error.fault)),
-    };
-    match Box::new(alloc, store) {
-        Ok(held) => Ok(held),
-        Err(_) => Err(CallFault::Start(StartFault::NoMemory)),
+    match Store::start_ahead(alloc, medium) {
+        Ok(store) => Ok(store),
+        Err(error) => Err(CallFault::Start(error.fault)),
     }
 }

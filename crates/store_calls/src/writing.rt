@@ -1,28 +1,12 @@
 //! How blocks are written, and made durable.
-ghost use Rattle.std.specs.Prelude.{◌≡◌, ◌/◌, true, IfOk, IfErr, length};
+ghost use Rattle.std.specs.Prelude.{◌≡◌, ◌/◌, true, length};
 ghost use Rattle.spec.specs.Book.{write_of};
-ghost use Rattle.store_calls.specs.Calls.{WritesBlocks, SyncsStore, MayMove, IsWritten, CostsWrite};
+ghost use Rattle.store_calls.specs.Calls.{SyncsStore, MayMove, IsWritten, CostsWrite};
 
 use crate::CallFault;
-use crate::reading::{foresee, may_move};
+use crate::reading::foresee;
 use blocks::Store;
 use window::WindowMedium;
-
-/// Writes blocks: one write, accepted whole, or not.
-pub(crate) fn write_blocks(
-    store: &mut Store<WindowMedium>,
-    address: u64,
-    bytes: &[u8],
-) -> Result<(), CallFault>
-    ensures { WritesBlocks address bytes.now store.old store.new result }
-{
-    may_move(store, address, bytes.len())?;
-    if put_blocks(store, address, bytes) {
-        Ok(())
-    } else {
-        Err(CallFault::Dead)
-    }
-}
 
 /// Writes blocks that may be written. Whether they are accepted.
 pub(crate) fn put_blocks(store: &mut Store<WindowMedium>, address: u64, bytes: &[u8]) -> bool

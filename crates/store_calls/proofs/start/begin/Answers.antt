@@ -22,13 +22,13 @@ returns-in-Err-clause-err c =
       )),
     )
 
-pub returns-in-Ok-new-clause-ok : goal.returns-in-Ok-new-clause-ok
-returns-in-Ok-new-clause-ok c =
+pub returns-in-Ok-clause-ok : goal.returns-in-Ok-clause-ok
+returns-in-Ok-clause-ok c =
     let starts = c.in-Ok.ensures.starts in
     let follows = starts.leaves.follows in (
       c.in_ok-medium.ensures.sized,
       began (fresh c.args.sectors c.args.near.now c.args.device.now.bytes c.args.span c.args.room) c.in_ok-medium.medium c.in-Ok.store
-          c.in-Ok-new.held.value c.in_ok-medium.ensures.ok c.in-Ok-new.ensures.ok
+          c.in-Ok.store c.in_ok-medium.ensures.ok refl
           (ap (λ (w : Window). length w.outbox) c.in_ok-medium.ensures.ok) starts.started starts.leaves
           (c.waiting-waiting.ensures.device _ follows)
           (c.device_laws.ensures (mirror_of c.in_ok-medium.medium) (mirror_of c.in-Ok.store.medium)
