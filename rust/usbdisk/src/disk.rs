@@ -1,228 +1,121 @@
-//! The disk, by the packets of a controller.
-use crate::outbox::{persist, DiskHandle};
-use crate::{read_first, sys, Device, Error, Identity, Layout, Refusal, SECTOR};
-
-const NEEDS: u32 = 3;
+//! The disk, by the transfers of a controller.
+use crate::calls::{holds, Calls, Handle, Holds};
+use crate::{sys, Identity, Misuse, Refusal};
 
 /// What an endpoint is to answer.
 #[derive(Debug, Clone, Copy, PartialEq, Eq)]
-pub enum Answer<'a> {
-    /// The packet is taken; or these bytes go to the host, also none.
-    Ack(&'a [u8]),
+pub enum Answer {
+    /// Taken, or here are bytes.
+    Ack,
     /// Nothing now: the host tries again.
     Nak,
     /// The endpoint is halted, or the request is refused.
     Stall,
 }
 
-/// What the bus brought, for [`Disk::play`].
-#[derive(Debug, Clone, Copy, PartialEq, Eq)]
-pub enum Event<'p> {
-    /// A packet came to Bulk-Out.
-    Out(&'p [u8]),
-    /// The host asks Bulk-In for a packet.
-    In,
-    /// A request came for the mass storage interface or one of its endpoints.
-    Setup([u8; 8]),
-    /// A bus reset.
-    Reset,
-    /// Nothing came for a while.
-    Idle,
+impl Answer {
+    // The answer with this number; what is none is told by name.
+    fn of(code: u32) -> Result<Answer, Misuse> {
+        match code {
+            0 => Ok(Answer::Ack),
+            1 => Ok(Answer::Nak),
+            2 => Ok(Answer::Stall),
+            code => Misuse::check(code).map(|()| Answer::Ack),
+        }
+    }
 }
 
-/// A disk over a device, which it owns. The buffer is for sectors on their way.
+/// A disk. It tells its calls of the device ([`Calls`]), and takes transfers and requests meanwhile.
+/// For a device that is called at once there is [`Io`](crate::Io) over it.
+///
+/// It stops where it is dropped, and writes nothing then: what was not synchronised is lost as by a cut.
 #[derive(Debug)]
-pub struct Disk<'b, D> {
-    handle: DiskHandle,
-    device: D,
-    buffer: &'b mut [u8],
-    packet: [u8; 512],
-    layout: Layout,
-    has_faulted: bool,
-}
+pub struct Disk(Handle);
 
-impl<'b, D: Device> Disk<'b, D> {
-    /// Starts a disk on what the device holds, recovers it, and has the device carry that out.
+holds!(Disk);
+
+impl Disk {
+    /// Starts a disk on a device of so many sectors, on what it holds. `packet` is 64 at full speed, 512
+    /// at high speed.
     ///
-    /// `near` takes the first sectors for the time of the call, as many bytes as [`crate::first_size`]
-    /// tells. `buffer` has room for the longest transfer, 48 sectors in format 1 and 240 in format 2.
-    /// `packet` is 64 at full speed, 512 at high speed.
-    pub fn start(
-        mut device: D,
-        near: &mut [u8],
-        buffer: &'b mut [u8],
-        identity: &Identity,
-        packet: u32,
-    ) -> Result<Self, Error<D::Error>> {
-        let (near, layout) = read_first(&mut device, near)?;
-        let span = if layout.format == 1 { 48 } else { 240 };
-        let buffer = buffer.get_mut(..span * SECTOR).ok_or(Error::LittleBuffer)?;
-        let room = crate::room(layout.format, layout.slots).max(1) as usize;
-        let mut handle = DiskHandle(sys::usbdisk::NONE);
-        // SAFETY: the handle holds nothing, and all that is pointed to is lent for the call.
-        Refusal::check(unsafe {
-            sys::usbdisk_start(
-                &mut handle.0,
-                near.as_ptr(),
-                near.len(),
-                device.sectors(),
-                &sys::DEVICE,
-                identity,
-                packet,
-                span as u32,
-                room,
-            )
-        })?;
-        let packet = [0; 512];
-        let mut disk = Disk {
-            handle,
-            device,
-            buffer,
+    /// It is [`State::Starting`](crate::State) until the device has carried out what that takes: the
+    /// first sectors are read, and the recovery is written.
+    ///
+    /// [`Misuse::BadPacketSize`], [`Misuse::BadIdentity`], or [`Fault::NoMemory`](crate::Fault).
+    pub fn start(sectors: u64, identity: &Identity, packet: u32) -> Result<Self, Refusal> {
+        let mut disk = Disk(Handle::NONE);
+        let identity = *identity;
+        let options = sys::usbdisk_options {
+            sectors,
+            identity,
             packet,
-            layout,
-            has_faulted: false,
         };
-        disk.persist()?;
+        // SAFETY: the handle holds nothing, and both are lent for the call.
+        Refusal::check(unsafe { sys::usbdisk_start(disk.handle(), &options) })?;
         Ok(disk)
     }
 
-    /// Plays an event by the call of its kind, with that call's answer; of a bus reset [`Answer::Ack`], of
-    /// a step in the background [`Answer::Ack`] while more are left, and [`Answer::Nak`] where not.
-    pub fn play(&mut self, event: Event<'_>) -> Result<Answer<'_>, Error<D::Error>> {
-        match event {
-            Event::Out(packet) => self.bulk_out(packet),
-            Event::In => Ok(self.bulk_in()),
-            Event::Setup(request) => Ok(self.setup(&request)),
-            Event::Reset => {
-                self.bus_reset();
-                Ok(Answer::Ack(&[]))
-            }
-            Event::Idle => match self.tick() {
-                Ok(true) => Ok(Answer::Ack(&[])),
-                Ok(false) => Ok(Answer::Nak),
-                Err(error) => Err(Error::Device(error)),
-            },
-        }
-    }
-
-    /// A packet came to Bulk-Out. A READ of sectors that the device cannot read ends alone, with a check
-    /// condition.
+    /// Bytes came to Bulk-Out: a transfer of the host, or a part of one that ends where a packet does;
+    /// no bytes are one empty packet. The answer, and how many of them were taken.
     ///
-    /// At [`Error::Device`] the packet was acknowledged all the same: a host whose promise cannot be kept
-    /// hears of it by the status.
-    pub fn bulk_out(&mut self, packet: &[u8]) -> Result<Answer<'static>, Error<D::Error>> {
-        let (mut first, mut count) = (0, 0);
-        let (bytes, size) = (packet.as_ptr(), packet.len());
-        loop {
-            let handle = &mut self.handle.0;
-            // SAFETY: the handle is lent to this call alone; bytes and size are of one slice.
-            let mut code =
-                unsafe { sys::usbdisk_bulk_out(handle, bytes, size, &mut first, &mut count) };
-            if code == NEEDS {
-                if self.show(first, count as usize * SECTOR) {
-                    continue;
-                }
-                // SAFETY: as above.
-                code = unsafe { sys::usbdisk_bulk_out_unread(&mut self.handle.0, bytes, size) };
-            }
-            self.persist()?;
-            return Ok(answer(code, &[])?);
-        }
+    /// [`Answer::Nak`]: nothing happened to the packet behind those. Hand it in again behind the next
+    /// [`Calls::done`], [`Disk::idle`] or status; where a bus reset comes first, let go of it.
+    pub fn out(&mut self, bytes: &[u8]) -> (Answer, usize) {
+        let (mut taken, from, size) = (0, bytes.as_ptr(), bytes.len());
+        // SAFETY: the handle is lent to this call alone, and bytes and size are of one slice.
+        let code = unsafe { sys::usbdisk_out(self.handle(), from, size, &mut taken) };
+        (Answer::of(code).unwrap_or(Answer::Stall), taken)
     }
 
-    // Reads sectors of the device and shows them to the disk. False: they are not read.
-    fn show(&mut self, first: u64, size: usize) -> bool {
-        if size > self.buffer.len() {
-            return false;
-        }
-        let bytes = &mut self.buffer[..size];
-        if self.device.read(first, bytes).is_err() {
-            return false;
-        }
-        // SAFETY: the handle is lent to this call alone; pointer and size are of one slice.
-        unsafe { sys::usbdisk_show(&mut self.handle.0, first, bytes.as_ptr(), size) == 0 }
-    }
-
-    /// The host asks Bulk-In for a packet. It makes no call of the device.
-    pub fn bulk_in(&mut self) -> Answer<'_> {
-        let mut size = 0;
-        let bytes = self.packet.as_mut_ptr();
-        // SAFETY: the handle is lent to this call alone, and 512 bytes.
-        let code = unsafe { sys::usbdisk_bulk_in(&mut self.handle.0, bytes, &mut size) };
-        self.answer(code, size)
+    /// The host asks Bulk-In for packets. They lie in the room one behind the other: until one is shorter
+    /// than a packet may be, or a further one has no room, or there is none now. The answer, and how many
+    /// bytes they have.
+    ///
+    /// [`Answer::Nak`]: there is none now; so also while a status that promises waits for the device.
+    /// [`Misuse::BadLength`]: there is no room for a packet.
+    pub fn in_(&mut self, room: &mut [u8]) -> Result<(Answer, usize), Misuse> {
+        let (mut given, to, size) = (0, room.as_mut_ptr(), room.len());
+        // SAFETY: the handle is lent to this call alone, and room and size are of one slice.
+        let code = unsafe { sys::usbdisk_in(self.handle(), to, size, &mut given) };
+        Ok((Answer::of(code)?, given))
     }
 
     /// A request came for the mass storage interface or one of its endpoints (0, 81h and 02h): its setup
-    /// packet. It makes no call of the device.
-    pub fn setup(&mut self, request: &[u8; 8]) -> Answer<'_> {
-        let mut size = 0;
-        let bytes = self.packet.as_mut_ptr();
-        // SAFETY: the handle is lent to this call alone, 8 bytes, and 2 of 512.
-        let code =
-            unsafe { sys::usbdisk_setup(&mut self.handle.0, request.as_ptr(), bytes, &mut size) };
-        self.answer(code, size)
+    /// packet. The answer, and how many bytes of `data` go to the host.
+    ///
+    /// It is answered whatever the device is at, but by [`Answer::Stall`] until the first sectors are
+    /// read: connect to the bus when the disk serves.
+    pub fn setup(&mut self, request: &[u8; 8], data: &mut [u8; 2]) -> (Answer, usize) {
+        let (mut size, from, to) = (0, request.as_ptr(), data.as_mut_ptr());
+        // SAFETY: the handle is lent to this call alone, 8 bytes, and 2.
+        let code = unsafe { sys::usbdisk_setup(self.handle(), from, to, &mut size) };
+        (Answer::of(code).unwrap_or(Answer::Stall), size as usize)
     }
 
-    /// A bus reset, which does what a host's reset recovery does: class reset, both halts cleared.
+    /// A bus reset, which does what a host's reset recovery does: class reset, both halts cleared. The
+    /// call that is under way goes on.
     pub fn bus_reset(&mut self) {
-        self.setup(&[0x21, 0xFF, 0, 0, 0, 0, 0, 0]);
-        self.setup(&[0x02, 1, 0, 0, 0x81, 0, 0, 0]);
-        self.setup(&[0x02, 1, 0, 0, 0x02, 0, 0, 0]);
+        let data = &mut [0; 2];
+        self.setup(&[0x21, 0xFF, 0, 0, 0, 0, 0, 0], data);
+        self.setup(&[0x02, 1, 0, 0, 0x81, 0, 0, 0], data);
+        self.setup(&[0x02, 1, 0, 0, 0x02, 0, 0, 0], data);
     }
 
-    /// A step in the background, for when the bus is idle: whether more are left.
-    pub fn tick(&mut self) -> Result<bool, D::Error> {
-        if self.has_faulted {
-            return Ok(false);
-        }
+    /// Steps in the background, for when the bus is idle: whether more are left. False: every accepted
+    /// write is durable and at home once the device has carried out what waits. While the first sectors
+    /// are read, and of a disk that failed or faulted, it stays true.
+    pub fn idle(&mut self) -> bool {
         // SAFETY: the handle is lent to this call alone.
-        let code = unsafe { sys::usbdisk_tick(&mut self.handle.0) };
-        self.carry_out()?;
-        Ok(code == 1)
+        unsafe { sys::usbdisk_idle(self.handle()) == 1 }
     }
 
-    /// Stops the disk. It writes nothing: what was neither promised nor brought home by [`Disk::tick`] is
-    /// lost as by a cut.
-    pub fn stop(self) -> D {
-        self.device
-    }
-
-    /// The device under the disk.
-    pub fn device(&self) -> &D {
-        &self.device
-    }
-
-    /// What image the disk stands on.
-    pub fn layout(&self) -> &Layout {
-        &self.layout
-    }
-
-    /// Whether the device refused a write or a flush: no block is served until the next start.
-    pub fn has_faulted(&self) -> bool {
-        self.has_faulted
-    }
-
-    fn carry_out(&mut self) -> Result<(), D::Error> {
-        let done = persist(&mut self.handle, &mut self.device, self.buffer);
-        self.has_faulted |= done.is_err();
-        done
-    }
-
-    fn persist(&mut self) -> Result<(), Error<D::Error>> {
-        self.carry_out().map_err(Error::Device)
-    }
-
-    // The answer with this number, of a call that a disk which was started never refuses.
-    fn answer(&self, code: u32, size: u32) -> Answer<'_> {
-        answer(code, &self.packet[..size as usize]).unwrap_or(Answer::Stall)
-    }
-}
-
-pub fn answer(code: u32, bytes: &[u8]) -> Result<Answer<'_>, Refusal> {
-    match code {
-        0 => Ok(Answer::Ack(bytes)),
-        1 => Ok(Answer::Nak),
-        2 => Ok(Answer::Stall),
-        code => Refusal::check(code).map(|()| Answer::Ack(bytes)),
+    /// The device is to read `count` sectors from sector `first` on before a READ of the host lacks them,
+    /// for when the bus rests, or while the host takes the bytes of a READ: whether they will be read.
+    /// False, and nothing changes: the disk does not serve; there are not as many, or more than a READ
+    /// may have (48 in format 1, 240 in format 2); the device is at a call, or calls wait for it; or since
+    /// the last packet that was taken sectors were read, or are to be.
+    pub fn ahead(&mut self, first: u64, count: u32) -> bool {
+        // SAFETY: the handle is lent to this call alone.
+        unsafe { sys::usbdisk_ahead(self.handle(), first, count) == 1 }
     }
 }

@@ -1,97 +1,76 @@
 //! Images on a device.
-use crate::{read_first, sys, Device, Error, Refusal, SECTOR};
+use crate::calls::{holds, Calls, Handle, Holds};
+use crate::{sys, Device, Error, Plan, Refusal, SECTOR};
 
-// A handle of the library, which is let go with it.
-struct Image(sys::usbdisk_image);
+/// The work on an image. It tells its calls of the device ([`Calls`]), and the image is there when it is
+/// [`State::Done`](crate::State). For a device that is called at once there are [`format`](fn@format),
+/// [`lay_log`] and [`migrate`] over it.
+#[derive(Debug)]
+pub struct Image(Handle);
+
+holds!(Image);
+
+type Making = unsafe extern "C" fn(*mut sys::usbdisk, *const Plan) -> u32;
 
 impl Image {
-    fn none() -> Self {
-        Image(sys::usbdisk_image::NONE)
+    /// Makes an image of blocks of zeros. A cut leaves what was there before, no image, or the new one,
+    /// whole.
+    pub fn format(plan: &Plan) -> Result<Self, Refusal> {
+        Image::begin(sys::usbdisk_format, plan)
     }
 
-    // The device carries out all that the handle has for it.
-    fn carry_out<D: Device>(mut self, device: &mut D) -> Result<(), Error<D::Error>> {
-        let (mut sector, mut bytes) = (0, [0; SECTOR]);
-        loop {
-            // SAFETY: the handle is lent to this call alone, and the bytes of a sector.
-            let kind = unsafe { sys::usbdisk_next(&mut self.0, &mut sector, bytes.as_mut_ptr()) };
-            match kind {
-                1 => device.write(sector, &bytes),
-                2 => device.flush(),
-                _ => return Ok(()),
-            }
-            .map_err(Error::Device)?;
+    /// Makes an image around the blocks that the device holds behind its log, by writing super, head and
+    /// log alone. A cut leaves what [`Image::format`] tells.
+    pub fn lay_log(plan: &Plan) -> Result<Self, Refusal> {
+        Image::begin(sys::usbdisk_lay_log, plan)
+    }
+
+    /// Turns an image of format 1, on a device of so many sectors, into one of format 2 with the same
+    /// blocks; one of format 2 is recovered. After a cut, make it again.
+    pub fn migrate(sectors: u64) -> Result<Self, Refusal> {
+        let plan = Plan {
+            sectors,
+            ..Plan::default()
+        };
+        Image::begin(sys::usbdisk_migrate, &plan)
+    }
+
+    fn begin(making: Making, plan: &Plan) -> Result<Self, Refusal> {
+        let mut image = Image(Handle::NONE);
+        // SAFETY: the handle holds nothing, and both are lent for the call.
+        Refusal::check(unsafe { making(image.handle(), plan) })?;
+        Ok(image)
+    }
+}
+
+impl Plan {
+    // On this device; 0 blocks: as many as there is room for behind the log.
+    fn on<D: Device>(device: &D, format: u32, slots: u64, blocks: u64) -> Self {
+        let sectors = device.sectors();
+        let slot = if format == 1 { 50 } else { 249 };
+        let home = slots.saturating_mul(slot).saturating_add(2);
+        let most = sectors.saturating_sub(home).min(1 << 31);
+        Plan {
+            sectors,
+            format,
+            slots,
+            blocks: if blocks == 0 { most } else { blocks },
         }
     }
 }
 
-impl Drop for Image {
-    fn drop(&mut self) {
-        // SAFETY: the handle is lent to this call alone, and is not used behind it.
-        unsafe { sys::usbdisk_end(&mut self.0) };
-    }
-}
-
-type Making = unsafe extern "C" fn(
-    *mut sys::usbdisk_image,
-    *const u8,
-    usize,
-    u64,
-    *const sys::usbdisk_device,
-    u32,
-    u64,
-    u64,
-) -> u32;
-
-fn make<D: Device>(
-    making: Making,
-    device: &mut D,
-    format: u32,
-    blocks: u64,
-    slots: u64,
-) -> Result<(), Error<D::Error>> {
-    let mut first = [0; SECTOR];
-    device.read(0, &mut first).map_err(Error::Device)?;
-    let mut image = Image::none();
-    let (near, sectors) = (first.as_ptr(), device.sectors());
-    let blocks = if blocks == 0 {
-        most_blocks(sectors, format, slots)
-    } else {
-        blocks
-    };
-    // SAFETY: the handle holds nothing, and all that is pointed to is lent for the call.
-    let code = unsafe {
-        making(
-            &mut image.0,
-            near,
-            SECTOR,
-            sectors,
-            &sys::DEVICE,
-            format,
-            blocks,
-            slots,
-        )
-    };
-    Refusal::check(code)?;
-    image.carry_out(device)
-}
-
-// How many blocks there is room for behind the log.
-fn most_blocks(sectors: u64, format: u32, slots: u64) -> u64 {
-    let slot = if format == 1 { 50 } else { 249 };
-    let home = slots.saturating_mul(slot).saturating_add(2);
-    sectors.saturating_sub(home).min(1 << 31)
-}
-
-/// Makes an image of zeros, of format 1 or 2, with so many blocks and log slots; 0 blocks: as many as
-/// there is room for. A cut leaves what was there before, no image, or the new one, whole.
+/// Makes an image of zeros, of format 1 or 2, with so many log slots and blocks; 0 blocks: as many as
+/// there is room for. The device writes runs as long as the buffer, which has whole sectors, 1 or more. A
+/// cut leaves what was there before, no image, or the new one, whole.
 pub fn format<D: Device>(
     device: &mut D,
+    buffer: &mut [u8],
     format: u32,
-    blocks: u64,
     slots: u64,
+    blocks: u64,
 ) -> Result<(), Error<D::Error>> {
-    make(sys::usbdisk_format, device, format, blocks, slots)
+    let mut image = Image::format(&Plan::on(device, format, slots, blocks))?;
+    image.carry_out(device, buffer).map(|_| ())
 }
 
 /// Makes an image as [`format`](fn@format) does, where the device is blank: each byte of sector 0 is 00h,
@@ -100,50 +79,35 @@ pub fn format<D: Device>(
 /// on it.
 pub fn format_blank<D: Device>(
     device: &mut D,
+    buffer: &mut [u8],
     log: u32,
-    blocks: u64,
     slots: u64,
+    blocks: u64,
 ) -> Result<(), Error<D::Error>> {
     let mut sector = [0; SECTOR];
     device.read(0, &mut sector).map_err(Error::Device)?;
     if sector != [0x00; SECTOR] && sector != [0xFF; SECTOR] {
         return Ok(());
     }
-    format(device, log, blocks, slots)
+    format(device, buffer, log, slots, blocks)
 }
 
-/// Makes an image around the blocks that the device holds behind its log, by writing the log alone. A
-/// cut leaves what [`format`](fn@format) tells.
+/// Makes an image around the blocks that the device holds behind its log, by writing the log alone. The
+/// numbers and the buffer are those of [`format`](fn@format), and a cut leaves what it tells.
 pub fn lay_log<D: Device>(
     device: &mut D,
+    buffer: &mut [u8],
     format: u32,
-    blocks: u64,
     slots: u64,
+    blocks: u64,
 ) -> Result<(), Error<D::Error>> {
-    make(sys::usbdisk_lay_log, device, format, blocks, slots)
+    let mut image = Image::lay_log(&Plan::on(device, format, slots, blocks))?;
+    image.carry_out(device, buffer).map(|_| ())
 }
 
 /// Turns an image of format 1 into one of format 2 with the same blocks; one of format 2 is recovered.
-/// `near` takes the first sectors, as many bytes as [`crate::first_size`] tells. After a cut, make it
-/// again.
-pub fn migrate<D: Device>(device: &mut D, near: &mut [u8]) -> Result<(), Error<D::Error>> {
-    let (near, layout) = read_first(device, near)?;
-    let room = if layout.format == 1 {
-        98 * layout.slots + 9
-    } else {
-        240 * layout.slots + 4
-    };
-    let mut image = Image::none();
-    // SAFETY: the handle holds nothing, and all that is pointed to is lent for the call.
-    Refusal::check(unsafe {
-        sys::usbdisk_migrate(
-            &mut image.0,
-            near.as_ptr(),
-            near.len(),
-            device.sectors(),
-            &sys::DEVICE,
-            room as usize,
-        )
-    })?;
-    image.carry_out(device)
+/// The buffer has whole sectors, 1 or more. After a cut, make it again.
+pub fn migrate<D: Device>(device: &mut D, buffer: &mut [u8]) -> Result<(), Error<D::Error>> {
+    let mut image = Image::migrate(device.sectors())?;
+    image.carry_out(device, buffer).map(|_| ())
 }

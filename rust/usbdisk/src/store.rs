@@ -1,151 +1,66 @@
 //! The store without the transport, by blocks.
-use crate::outbox::{persist, StoreHandle};
-use crate::{read_first, sys, Device, Error, Refusal, SECTOR};
+use crate::calls::{holds, Calls, Handle, Holds};
+use crate::{sys, Identity, Refusal};
 
-const NEEDS: u32 = 3;
-
-/// A store over a device, which it owns. The buffer is for sectors on their way.
+/// A store: blocks of 512 bytes, for a stack that speaks SCSI itself. It tells its calls of the device
+/// ([`Calls`]). For a device that is called at once there is [`Blocks`](crate::Blocks) over it.
+///
+/// Where a call answers [`Refusal::Busy`], nothing happened that has to be undone: have the device carry
+/// out what it is asked for, until that is nothing, and make the same call again.
 #[derive(Debug)]
-pub struct Store<'b, D> {
-    handle: StoreHandle,
-    device: D,
-    buffer: &'b mut [u8],
-    blocks: u64,
-    limit: u32,
-    has_faulted: bool,
-}
+pub struct Store(Handle);
 
-impl<'b, D: Device> Store<'b, D> {
-    /// Starts a store on what the device holds, recovers it, and has the device carry that out.
-    ///
-    /// `near` takes the first sectors for the time of the call, as many bytes as [`crate::first_size`]
-    /// tells. `buffer` has room for one sector or more: with more, reads and runs are longer.
-    pub fn start(
-        mut device: D,
-        near: &mut [u8],
-        buffer: &'b mut [u8],
-    ) -> Result<Self, Error<D::Error>> {
-        let (near, layout) = read_first(&mut device, near)?;
-        let span = (buffer.len() / SECTOR).min(240);
-        if span == 0 {
-            return Err(Error::LittleBuffer);
-        }
-        let room = crate::room(layout.format, layout.slots).max(1) as usize;
-        let mut handle = StoreHandle(sys::usbdisk_store::NONE);
-        let (mut blocks, mut limit) = (0, 0);
-        // SAFETY: the handle holds nothing, and all that is pointed to is lent for the call.
-        Refusal::check(unsafe {
-            sys::usbdisk_store_start(
-                &mut handle.0,
-                near.as_ptr(),
-                near.len(),
-                device.sectors(),
-                &sys::DEVICE,
-                span as u32,
-                room,
-            )
-        })?;
-        // SAFETY: the handle is lent to this call alone.
-        unsafe { sys::usbdisk_store_sizes(&mut handle.0, &mut blocks, &mut limit) };
-        let buffer = &mut buffer[..span * SECTOR];
-        let mut store = Store {
-            handle,
-            device,
-            buffer,
-            blocks,
-            limit,
-            has_faulted: false,
+holds!(Store);
+
+impl Store {
+    /// Starts a store on a device of so many sectors, as [`Disk::start`](crate::Disk::start) starts a
+    /// disk.
+    pub fn start(sectors: u64) -> Result<Self, Refusal> {
+        let mut store = Store(Handle::NONE);
+        // (of the options it reads the sectors alone)
+        let options = sys::usbdisk_options {
+            sectors,
+            identity: Identity::new("", "", "", ""),
+            packet: 0,
         };
-        store.persist()?;
+        // SAFETY: the handle holds nothing, and both are lent for the call.
+        Refusal::check(unsafe { sys::usbdisk_store_start(store.handle(), &options) })?;
         Ok(store)
     }
 
-    /// How many blocks there are.
-    pub fn blocks(&self) -> u64 {
-        self.blocks
-    }
-
-    /// How many blocks one write may have: 48 in format 1, 240 in format 2.
-    pub fn limit(&self) -> usize {
-        self.limit as usize
+    /// How many blocks there are, and how many of them one read or write may have: 48 in format 1, 240
+    /// in format 2.
+    pub fn sizes(&mut self) -> Result<(u64, usize), Refusal> {
+        let (mut blocks, mut limit) = (0, 0);
+        // SAFETY: the handle is lent to this call alone.
+        let code = unsafe { sys::usbdisk_store_sizes(self.handle(), &mut blocks, &mut limit) };
+        Refusal::check(code).map(|()| (blocks, limit as usize))
     }
 
     /// Reads whole blocks from `block` on, as they are after all accepted writes.
-    pub fn read(&mut self, block: u64, bytes: &mut [u8]) -> Result<(), Error<D::Error>> {
-        if bytes.is_empty() || bytes.len() % SECTOR != 0 {
-            return Err(Refusal::BadLength.into());
-        }
-        let most = self.buffer.len().min(self.limit() * SECTOR);
-        let parts = bytes.chunks_mut(most);
-        for (part, at) in parts.zip((block..).step_by(most / SECTOR)) {
-            self.read_part(at, part)?;
-        }
-        Ok(())
-    }
-
-    fn read_part(&mut self, block: u64, bytes: &mut [u8]) -> Result<(), Error<D::Error>> {
-        let (mut first, mut count) = (0, 0);
+    pub fn read(&mut self, block: u64, bytes: &mut [u8]) -> Result<(), Refusal> {
         let (to, size) = (bytes.as_mut_ptr(), bytes.len());
-        loop {
-            let handle = &mut self.handle.0;
-            // SAFETY: the handle is lent to this call alone; pointer and size are of one slice.
-            let code =
-                unsafe { sys::usbdisk_store_read(handle, block, to, size, &mut first, &mut count) };
-            if code != NEEDS {
-                return Ok(Refusal::check(code)?);
-            }
-            let size = count as usize * SECTOR;
-            let shown = self.buffer.get_mut(..size).ok_or(Error::LittleBuffer)?;
-            self.device.read(first, shown).map_err(Error::Device)?;
-            // SAFETY: as above.
-            Refusal::check(unsafe {
-                sys::usbdisk_store_show(&mut self.handle.0, first, shown.as_ptr(), size)
-            })?;
-        }
+        // SAFETY: the handle is lent to this call alone; pointer and size are of one slice.
+        Refusal::check(unsafe { sys::usbdisk_store_read(self.handle(), block, to, size) })
     }
 
     /// Writes whole blocks from `block` on, by one write, of which a cut leaves all or nothing. The next
     /// good [`Store::sync`] promises it.
-    pub fn write(&mut self, block: u64, bytes: &[u8]) -> Result<(), Error<D::Error>> {
+    pub fn write(&mut self, block: u64, bytes: &[u8]) -> Result<(), Refusal> {
         let (from, size) = (bytes.as_ptr(), bytes.len());
         // SAFETY: the handle is lent to this call alone; pointer and size are of one slice.
-        let code = unsafe { sys::usbdisk_store_write(&mut self.handle.0, block, from, size) };
-        self.persist()?;
-        Ok(Refusal::check(code)?)
+        Refusal::check(unsafe { sys::usbdisk_store_write(self.handle(), block, from, size) })
     }
 
     /// Makes every accepted write durable.
-    pub fn sync(&mut self) -> Result<(), Error<D::Error>> {
+    pub fn sync(&mut self) -> Result<(), Refusal> {
         // SAFETY: the handle is lent to this call alone.
-        let code = unsafe { sys::usbdisk_store_sync(&mut self.handle.0) };
-        self.persist()?;
-        Ok(Refusal::check(code)?)
+        Refusal::check(unsafe { sys::usbdisk_store_sync(self.handle()) })
     }
 
-    /// A step in the background, for when nothing else is to be done: whether more are left.
-    pub fn tick(&mut self) -> Result<bool, Error<D::Error>> {
-        if self.has_faulted {
-            return Ok(false);
-        }
+    /// A step in the background, for when nothing else is to be done, as [`Disk::idle`](crate::Disk::idle).
+    pub fn idle(&mut self) -> bool {
         // SAFETY: the handle is lent to this call alone.
-        let code = unsafe { sys::usbdisk_store_tick(&mut self.handle.0) };
-        self.persist()?;
-        Ok(code == 1)
-    }
-
-    /// Stops the store. It writes nothing: what was not synchronised is lost as by a cut.
-    pub fn stop(self) -> D {
-        self.device
-    }
-
-    /// The device under the store.
-    pub fn device(&self) -> &D {
-        &self.device
-    }
-
-    fn persist(&mut self) -> Result<(), Error<D::Error>> {
-        let done = persist(&mut self.handle, &mut self.device, self.buffer);
-        self.has_faulted |= done.is_err();
-        done.map_err(Error::Device)
+        unsafe { sys::usbdisk_idle(self.handle()) == 1 }
     }
 }

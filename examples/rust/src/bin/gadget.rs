@@ -1,14 +1,13 @@
 //! The program of examples/c over a device in memory: REQUEST SENSE, a WRITE with FUA, a READ, a class
 //! reset and a bus reset.
 use std::convert::Infallible;
-use usbdisk::{
-    first_size, format, version, Answer, Device, Disk, Error, Identity, BUFFER, VERSION,
-};
+use usbdisk::{format, version, Answer, Device, Error, Identity, Io, BUFFER, VERSION};
 
 const BLOCKS: u64 = 64;
 const SLOTS: u64 = 2;
 const WHO: Identity = Identity::new("EXAMPLE", "MEMORY", "0001", "000000000001");
 
+#[derive(Debug)]
 struct Memory {
     bytes: Vec<u8>,
     sectors: usize,
@@ -54,13 +53,56 @@ fn wrapper(tag: u8, length: u16, flags: u8, command: &[u8]) -> [u8; 31] {
     bytes
 }
 
-fn show(what: &str, answer: Answer<'_>) {
-    match answer {
-        Answer::Ack([]) => println!("{what}: ack"),
-        Answer::Ack(bytes) => println!("{what}: ack, {bytes:02X?}"),
-        Answer::Nak => println!("{what}: nak"),
-        Answer::Stall => println!("{what}: stall"),
+fn show(what: &str, answer: Answer, given: &[u8]) {
+    match (answer, given) {
+        (Answer::Ack, []) => println!("{what}: ack"),
+        (Answer::Ack, bytes) => println!("{what}: ack, {bytes:02X?}"),
+        (Answer::Nak, _) => println!("{what}: nak"),
+        (Answer::Stall, _) => println!("{what}: stall"),
     }
+}
+
+type Shown<'b> = Io<'b, Memory>;
+
+/// The host sends these bytes.
+fn send(what: &str, disk: &mut Shown<'_>, bytes: &[u8]) {
+    let (answer, _) = disk.out(bytes);
+    show(what, answer, &[]);
+}
+
+/// The host waits for a packet.
+fn wait(what: &str, disk: &mut Shown<'_>) -> Result<(), Error<Infallible>> {
+    let mut room = [0; 512];
+    let (answer, size) = disk.in_(&mut room)?;
+    show(what, answer, &room[..size]);
+    Ok(())
+}
+
+const SENSE: [u8; 6] = [3, 0, 0, 0, 18, 0];
+const READ: [u8; 10] = [0x28, 0, 0, 0, 0, 5, 0, 0, 1, 0];
+const WRITE: [u8; 10] = [0x2A, 8, 0, 0, 0, 5, 0, 0, 1, 0];
+
+fn serve(disk: &mut Shown<'_>) -> Result<(), Error<Infallible>> {
+    send("REQUEST SENSE", disk, &wrapper(1, 18, 0x80, &SENSE));
+    wait("  data", disk)?;
+    wait("  status", disk)?;
+    send("WRITE(10) with FUA", disk, &wrapper(2, 512, 0, &WRITE));
+    send("  data", disk, &[0xA5; 512]);
+    wait("  status", disk)?;
+    send("READ(10)", disk, &wrapper(3, 512, 0x80, &READ));
+    let mut block = [0; 512];
+    assert_eq!(disk.in_(&mut block)?, (Answer::Ack, 512));
+    assert_eq!(block, [0xA5; 512]);
+    wait("  status", disk)?;
+    send("a packet that is no wrapper", disk, &[0; 3]);
+    wait("  the in endpoint", disk)?;
+    let (answer, _) = disk.setup(&[0x21, 0xFF, 0, 0, 0, 0, 0, 0], &mut [0; 2]);
+    show("class reset", answer, &[]);
+    disk.bus_reset();
+    let what = "READ(10), and a bus reset before its data";
+    send(what, disk, &wrapper(4, 512, 0x80, &READ));
+    disk.bus_reset();
+    wait("the in endpoint", disk)
 }
 
 fn main() -> Result<(), Error<Infallible>> {
@@ -72,52 +114,18 @@ fn main() -> Result<(), Error<Infallible>> {
         writes: 0,
         flushes: 0,
     };
-    format(&mut device, 1, BLOCKS, SLOTS)?;
+    let mut buffer = [0; BUFFER];
+    format(&mut device, &mut buffer, 1, SLOTS, BLOCKS)?;
     (device.sectors, device.writes, device.flushes) = (0, 0, 0);
-    let size = first_size(&mut device).map_err(Error::Device)?;
-    let (mut near, mut buffer) = (vec![0; size], [0; BUFFER]);
-    let mut disk = Disk::start(device, &mut near, &mut buffer, &WHO, 512)?;
-    let read = [0x28, 0, 0, 0, 0, 5, 0, 0, 1, 0];
-    show(
-        "REQUEST SENSE",
-        disk.bulk_out(&wrapper(1, 18, 0x80, &[3, 0, 0, 0, 18, 0]))?,
-    );
-    show("  data", disk.bulk_in());
-    show("  status", disk.bulk_in());
-    let write = [0x2A, 8, 0, 0, 0, 5, 0, 0, 1, 0];
-    show(
-        "WRITE(10) with FUA",
-        disk.bulk_out(&wrapper(2, 512, 0, &write))?,
-    );
-    show("  data", disk.bulk_out(&[0xA5; 512])?);
-    show("  status", disk.bulk_in());
-    show("READ(10)", disk.bulk_out(&wrapper(3, 512, 0x80, &read))?);
-    assert_eq!(disk.bulk_in(), Answer::Ack(&[0xA5; 512]));
-    show("  status", disk.bulk_in());
-    show("a packet that is no wrapper", disk.bulk_out(&[0; 3])?);
-    show("  the in endpoint", disk.bulk_in());
-    show("class reset", disk.setup(&[0x21, 0xFF, 0, 0, 0, 0, 0, 0]));
-    disk.bus_reset();
-    show(
-        "READ(10), and a bus reset before its data",
-        disk.bulk_out(&wrapper(4, 512, 0x80, &read))?,
-    );
-    disk.bus_reset();
-    show("the in endpoint", disk.bulk_in());
-    while disk.tick().map_err(Error::Device)? {}
-    let mut device = disk.stop();
-    let Memory {
-        sectors,
-        writes,
-        flushes,
-        ..
-    } = device;
+    let mut disk = Io::start(device, &mut buffer, &WHO, 512)?;
+    serve(&mut disk)?;
+    while disk.idle() {}
+    let device = disk.stop();
+    let (sectors, writes, flushes) = (device.sectors, device.writes, device.flushes);
     println!("all at home: {sectors} sectors by {writes} writes, {flushes} flushes");
     // Block 5 is at home, on the device.
-    let mut home = [0; 512];
-    device
-        .read(2 + 50 * SLOTS + 5, &mut home)
-        .map_err(Error::Device)?;
-    println!("the device holds what was written: {}", home == [0xA5; 512]);
+    let home = 512 * (2 + 50 * SLOTS as usize + 5);
+    let is_there = device.bytes[home..home + 512] == [0xA5; 512];
+    println!("the device holds what was written: {is_there}");
     Ok(())
 }

@@ -1,7 +1,7 @@
-//! A device that refuses a call once, and a caller that logs the error and goes on: a WRITE with FUA
-//! during which a call was refused is never answered good, whichever call it was, in both formats.
+//! A device that refuses a call once, and a caller that goes on: a WRITE with FUA during which a call was
+//! refused is never answered good, whichever call it was, in both formats.
 use std::cell::Cell;
-use usbdisk::{first_size, format, Answer, Device, Disk, Error, Identity, BUFFER};
+use usbdisk::{format, Answer, Device, Error, Identity, Io, BUFFER};
 
 const BLOCKS: u64 = 64;
 const SLOTS: u64 = 3;
@@ -72,18 +72,18 @@ fn wrapper(length: u16, flags: u8, command: &[u8]) -> [u8; 31] {
     bytes
 }
 
-type Lent<'d, 'b> = Disk<'b, &'d mut Memory>;
+type Lent<'d, 'b> = Io<'b, &'d mut Memory>;
 
 /// A disk whose unit attention was told.
 fn start<'d, 'b>(
     device: &'d mut Memory,
     buffer: &'b mut [u8],
 ) -> Result<Lent<'d, 'b>, Error<Refused>> {
-    let mut near = vec![0; first_size(device).map_err(Error::Device)?];
-    let mut disk = Disk::start(device, &mut near, buffer, &WHO, 512)?;
-    disk.bulk_out(&wrapper(18, 0x80, &[3, 0, 0, 0, 18, 0]))?;
-    disk.bulk_in();
-    disk.bulk_in();
+    let mut disk = Io::start(device, buffer, &WHO, 512)?;
+    disk.out(&wrapper(18, 0x80, &[3, 0, 0, 0, 18, 0]));
+    let mut room = [0; 512];
+    disk.in_(&mut room)?;
+    disk.in_(&mut room)?;
     Ok(disk)
 }
 
@@ -93,12 +93,14 @@ fn write(device: &mut Memory, refused: u32) -> Result<Option<u8>, Error<Refused>
     let mut buffer = [0; BUFFER];
     let mut disk = start(device, &mut buffer)?;
     disk.device().refuse(refused);
-    disk.bulk_out(&wrapper(512, 0, &[0x2A, 8, 0, 0, 0, 5, 0, 0, 1, 0]))?;
-    if disk.bulk_out(&WRITTEN).is_ok() {
+    disk.out(&wrapper(512, 0, &[0x2A, 8, 0, 0, 0, 5, 0, 0, 1, 0]));
+    disk.out(&WRITTEN);
+    if disk.error().is_none() {
         return Ok(None);
     }
-    match disk.bulk_in() {
-        Answer::Ack(status) => Ok(status.last().copied()),
+    let mut room = [0; 512];
+    match disk.in_(&mut room)? {
+        (Answer::Ack, 13) => Ok(Some(room[12])),
         _ => Ok(Some(0xFF)),
     }
 }
@@ -109,9 +111,10 @@ fn is_there(device: &mut Memory) -> Result<bool, Error<Refused>> {
     device.bytes.copy_from_slice(&device.durable);
     device.refuse(0);
     let mut disk = start(device, &mut buffer)?;
-    let read = [0x28, 0, 0, 0, 0, 5, 0, 0, 1, 0];
-    disk.bulk_out(&wrapper(512, 0x80, &read))?;
-    Ok(disk.bulk_in() == Answer::Ack(&WRITTEN))
+    disk.out(&wrapper(512, 0x80, &[0x28, 0, 0, 0, 0, 5, 0, 0, 1, 0]));
+    let mut room = [0; 512];
+    let moved = disk.in_(&mut room)?;
+    Ok(moved == (Answer::Ack, 512) && room == WRITTEN)
 }
 
 /// The status of the WRITE, and whether its block is there.
@@ -123,7 +126,7 @@ fn live(log: u32, slot: u64, refused: u32) -> Result<Option<(u8, bool)>, Error<R
         durable,
         left: Cell::new(0),
     };
-    format(&mut device, log, BLOCKS, SLOTS)?;
+    format(&mut device, &mut [0; BUFFER], log, SLOTS, BLOCKS)?;
     match write(&mut device, refused)? {
         Some(status) => Ok(Some((status, is_there(&mut device)?))),
         None => Ok(None),

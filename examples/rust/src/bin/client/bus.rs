@@ -8,39 +8,55 @@ const READ: [u8; 10] = [0x28, 0, 0, 0, 7, 8, 0, 0, 1, 0];
 const WRITE: [u8; 10] = [0x2A, 8, 0, 0, 7, 8, 0, 0, 1, 0];
 const TO_HOST: u8 = 0x80;
 
-/// The host, by the number of its steps.
-#[derive(Default)]
-pub struct Bus(usize);
+/// The host, by the number of its steps, and the bytes that move.
+pub struct Bus {
+    step: usize,
+    bytes: [u8; 512],
+    data: [u8; 2],
+}
+
+impl Default for Bus {
+    fn default() -> Self {
+        let (step, bytes, data) = (0, [0; 512], [0; 2]);
+        Bus { step, bytes, data }
+    }
+}
 
 impl Bus {
-    /// The next event of the bus, whose packet lies in the buffer. None: the host is gone.
-    pub fn next<'p>(&mut self, packet: &'p mut [u8; 512]) -> Option<Event<'p>> {
-        packet.fill(0x5A);
-        Some(match self.0 {
+    /// The next event of the bus. None: the host is gone.
+    pub fn next(&mut self) -> Option<Event<'_>> {
+        self.bytes.fill(0x5A);
+        let bytes = &mut self.bytes;
+        Some(match self.step {
             0 => Event::Reset,
-            1 => Event::Setup(GET_MAX_LUN),
-            2 => wrapped(packet, 0, 0, &TEST),
-            4 => wrapped(packet, 512, TO_HOST, &READ),
-            7 => wrapped(packet, 512, 0, &WRITE),
-            8 => Event::Out(packet),
-            3 | 5 | 6 | 9 => Event::In,
+            1 => Event::Setup(&GET_MAX_LUN, &mut self.data),
+            2 => wrapped(bytes, 0, 0, &TEST),
+            4 => wrapped(bytes, 512, TO_HOST, &READ),
+            7 => wrapped(bytes, 512, 0, &WRITE),
+            8 => Event::Out(bytes),
+            3 | 5 | 6 | 9 => Event::In(bytes),
             10 => Event::Idle,
             _ => return None,
         })
     }
 
-    /// What the endpoint is to answer. A packet that was answered NAK comes again once something else
-    /// has come; an idle while more is left.
-    pub fn answer(&mut self, answer: Answer<'_>) {
-        if self.0 == 10 && answer != Answer::Nak {
+    /// What the endpoint is to answer, and how many bytes were taken, or go to the host. What was answered
+    /// NAK comes again once something else has come; an idle while more is left.
+    pub fn answer(&mut self, (answer, moved): (Answer, usize)) {
+        if self.step == 10 && answer != Answer::Nak {
             return;
         }
-        println!("{}: {}", self.name(), told(answer));
-        self.0 += 1;
+        let given = match self.step {
+            1 => &self.data[..moved],
+            3 | 5 | 6 | 9 => &self.bytes[..moved],
+            _ => &[],
+        };
+        println!("{}: {}", self.name(), told(answer, given));
+        self.step += 1;
     }
 
     fn name(&self) -> &'static str {
-        match self.0 {
+        match self.step {
             0 => "bus reset",
             1 => "Get Max LUN",
             2 => "TEST UNIT READY",
@@ -53,12 +69,12 @@ impl Bus {
     }
 }
 
-fn told(answer: Answer<'_>) -> String {
-    match answer {
-        Answer::Ack([.., last]) => format!("ack, the last byte is {last:02X}"),
-        Answer::Ack([]) => "ack".into(),
-        Answer::Nak => "nak".into(),
-        Answer::Stall => "stall".into(),
+fn told(answer: Answer, given: &[u8]) -> String {
+    match (answer, given) {
+        (Answer::Ack, [.., last]) => format!("ack, the last byte is {last:02X}"),
+        (Answer::Ack, []) => "ack".into(),
+        (Answer::Nak, _) => "nak".into(),
+        (Answer::Stall, _) => "stall".into(),
     }
 }
 

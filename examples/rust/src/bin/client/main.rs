@@ -3,7 +3,7 @@
 mod bus;
 
 use std::{env, fs::File, io, os::unix::fs::FileExt};
-use usbdisk::{first_size, format_blank, Device, Disk, Error, Identity, BUFFER};
+use usbdisk::{format_blank, Device, Error, Identity, Io, BUFFER};
 
 const WHO: Identity = Identity::new("EXAMPLE", "FILE", "0001", "000000000001");
 
@@ -33,14 +33,13 @@ fn main() -> Result<(), Error<io::Error>> {
     let name = env::args_os().nth(1).unwrap_or_default();
     let file = File::options().read(true).write(true).open(name);
     let mut flash = Flash(file.map_err(Error::Device)?);
-    format_blank(&mut flash, 2, 0, 6)?;
-    let mut near = vec![0; first_size(&mut flash).map_err(Error::Device)?];
-    let (mut buffer, mut packet) = ([0; BUFFER], [0; 512]);
-    let mut disk = Disk::start(flash, &mut near, &mut buffer, &WHO, 512)?;
+    let (mut buffer, mut bus) = ([0; BUFFER], bus::Bus::default());
+    format_blank(&mut flash, &mut buffer, 2, 6, 0)?;
+    let mut disk = Io::start(flash, &mut buffer, &WHO, 512)?;
     println!("start: good");
-    let mut bus = bus::Bus::default();
-    while let Some(event) = bus.next(&mut packet) {
-        bus.answer(disk.play(event)?);
+    while let Some(event) = bus.next() {
+        let moved = disk.play(event)?;
+        bus.answer(moved);
     }
     Ok(())
 }
