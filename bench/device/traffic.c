@@ -60,17 +60,28 @@ static double play(struct linked *linked, const struct traffic *traffic, unsigne
     return (double)blocks * commands;
 }
 
+static double time_of_device(const struct device_costs *costs, const struct traffic *traffic)
+{
+    double read = costs->command + traffic->blocks * costs->read;
+    double write = costs->command + traffic->blocks * costs->write;
+    return (traffic->reads * read + (PERCENT - traffic->reads) * write) / PERCENT;
+}
+
+static double flushes_of(const struct traffic *traffic)
+{
+    if (traffic->is_forced)
+        return 1;
+    return traffic->sync ? 1.0 / traffic->sync : 0;
+}
+
 /* MB/s of a plain disk: of each command the device's time comes behind the link's, or they overlap
  * but for its flushes. */
 static double plain(const struct device_costs *costs, const struct traffic *traffic, bool is_back)
 {
     double link = 100 + traffic->blocks * 512 / 35.0;
-    double read = costs->command + traffic->blocks * costs->read;
-    double write = costs->command + traffic->blocks * costs->write;
-    double device = (traffic->reads * read + (PERCENT - traffic->reads) * write) / PERCENT;
-    double flushes = traffic->is_forced ? 1 : traffic->sync ? 1.0 / traffic->sync : 0;
-    double both = is_back && !traffic->is_forced ? (link > device ? link : device) : link + device;
-    return traffic->blocks * 512 / (both + flushes * costs->flush);
+    double device = time_of_device(costs, traffic), longer = link > device ? link : device;
+    double both = is_back && !traffic->is_forced ? longer : link + device;
+    return traffic->blocks * 512 / (both + flushes_of(traffic) * costs->flush);
 }
 
 static int compare(const void *left, const void *right)

@@ -1,5 +1,5 @@
-//! A store on a device that is read on demand, without any transport: what it is asked for, and what
-//! its device is to do next.
+//! A store on a device that is read on demand, without any transport: what it is asked for, and
+//! what its device is to do next.
 #![tactic(auto)]
 
 mod asked;
