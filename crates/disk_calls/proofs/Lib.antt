@@ -1,5 +1,3 @@
 pub mod Refusals
 pub mod Rooms
 pub mod OutboxTaken
-pub mod Values
-pub mod TakingOut

@@ -24,13 +24,12 @@ use Rattle.bot_machine.specs.Reading.{ReadsAt}
 use Rattle.spec.specs.declared.event.Event.{Event}
 use Rattle.spec.specs.declared.event.Event.TheVariants as event
 use Rattle.spec.specs.declared.event.Answer.{Answer}
-use Rattle.disk_calls.specs.Plays.{Disk, medium_of, layout_on, Foresees, Plays, PlaysPacket}
+use Rattle.disk_calls.specs.Plays.{Disk, medium_of, layout_on, Foresees, Plays}
 use Rattle.disk_calls.specs.Refusals.{RefusesNothing, HasRoom, IsRoomy, HoldsLog, SeesHome, HasRoomToStart, HoldsImageLog}
 use Rattle.disk_calls.specs.Refusals.{StartRefusesNothing}
 use Rattle.store_calls.specs.Rooms as store
 use Rattle.store_calls.specs.Rooms.{WantsMore}
 use Rattle.store_calls.proofs.Roomy.{enough as enough_for}
-use Rattle.disk_calls.specs.Wanted.{WantsNone}
 use Rattle.disk_calls.specs.Room.{room_of, room_for}
 
 -- for each event
@@ -102,16 +101,6 @@ played old event answer new sees step follows = record {
   faulted = λ dead. (asks_nothing (medium_of old) (medium_of new) follows (step.few.faulted dead).0, (step.few.faulted dead).1);
   roomy = stays_roomy old new step.few.layout_stays follows.room_stays;
 }
-
--- a packet for which nothing is missing
-pub nothing_missed : (old : Disk) (packet : List ℕ) (new : Disk) (code : ℕ) → WantsNone old packet → PlaysPacket old packet new code
-    → RefusesNothing (HasRoom old) (HoldsLog old) (medium_of old) (medium_of new)
-nothing_missed old packet new code none plays =
-    let all = plays.1.refuses in record {
-      kept = all.kept;
-      seen = λ log. all.seen (log, none);
-      none = λ room log. all.none room (log, none);
-    }
 
 -- ---- a start, good or refused, on a medium that was asked nothing yet
 

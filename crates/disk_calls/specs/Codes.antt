@@ -61,15 +61,3 @@ BAD_LENGTH = 21
 
 abbrev pub BAD_SIZES : ℕ
 BAD_SIZES = 22
-
--- sectors are to be shown before this packet is taken
-abbrev pub NEEDS : ℕ
-NEEDS = 3
-
--- sectors that were shown are not taken
-abbrev pub NOT_TAKEN : ℕ
-NOT_TAKEN = 23
-
--- an image wants more room in the outbox than it was given
-abbrev pub LITTLE_ROOM : ℕ
-LITTLE_ROOM = 25

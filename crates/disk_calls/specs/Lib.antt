@@ -1,6 +1,5 @@
 pub mod Codes
 pub mod DiskRow
-pub mod Held
 pub mod Parts
 pub mod Seen
 pub mod Wanted
@@ -11,4 +10,3 @@ pub mod Runs
 pub mod Refused
 pub mod Layouts
 pub mod Starting
-pub mod Exports

@@ -5,13 +5,12 @@ use Rattle.std.specs.List.{list_all}
 use Rattle.medium.specs.Sent.{sent}
 use Rattle.medium.specs.Moments.{IsUnchanged}
 use Rattle.inlet.specs.Inlet.{AreHeld}
-use Rattle.window.specs.Window.{Window, state_of, without_first, ComesAfter, CoversDevice, IsServed}
+use Rattle.window.specs.Window.{Window, state_of, ComesAfter, CoversDevice, IsServed}
 use Rattle.window.specs.Window.{IsShown, is_in_sight}
-pub use Rattle.store_calls.specs.Outbox.{Shows}
 use Rattle.scsi_unit.specs.Background.{IsSettled, is_dead, steps_left}
 use Rattle.spec.specs.Book.{Book}
 use Rattle.recovery.specs.declared.start_fault.StartFault.TheVariants as fault
-use Rattle.scsi_unit.specs.StartFaults.{StartFault, NoMemory}
+use Rattle.scsi_unit.specs.StartFaults.{StartFault}
 use Rattle.bot_machine.specs.Device.{Device}
 use Rattle.bot_machine.specs.Disk.{FitsDisk, IsStep, IsRearmed}
 use Rattle.bot_machine.specs.Opening.{IsOpened, IsNotOpened, StartLeaves}
@@ -19,12 +18,11 @@ use Rattle.spec.specs.declared.event.Event.{Event}
 use Rattle.spec.specs.declared.event.Event.TheVariants as event
 use Rattle.spec.specs.declared.event.Answer.{Answer}
 use Rattle.spec.specs.declared.event.Answer.TheVariants as answer
-use Rattle.disk_calls.specs.Codes.{code_of, bytes_of, TOO_LONG, NEEDS}
+use Rattle.disk_calls.specs.Codes.{code_of, bytes_of}
 pub use Rattle.disk_calls.specs.Seen.{Disk, medium_of, layout_on}
-use Rattle.disk_calls.specs.Wanted.{Wants, WantsNone}
 use Rattle.disk_calls.specs.Parts.{CoversParts}
-use Rattle.disk_calls.specs.Refusals.{RefusesNothing, HasRoom, HoldsLog, EventRefusesNothing}
-use Rattle.disk_calls.specs.Refusals.{HoldsImageLog, StartRefusesNothing, IsRoomy}
+use Rattle.disk_calls.specs.Refusals.{HoldsLog, EventRefusesNothing, HoldsImageLog}
+use Rattle.disk_calls.specs.Refusals.{StartRefusesNothing, IsRoomy}
 
 -- what a medium says of all calls of it that may come
 pub record Foresees (m : Window) : Type 0 where
@@ -44,7 +42,7 @@ pub record Plays (old : Disk) (event : Event) (answer : Answer) (new : Disk) : T
   -- room for all of its writes and flushes,
   pub served : IsServed (medium_of old) (medium_of new)
   -- as they were, and as it had, where the log is in memory, what is read at home is in sight, and
-  -- `usbdisk_room` tells no more than what is left of the room
+  -- the room of the image is left
   pub refuses : EventRefusesNothing old event new
   -- a faulted disk asks its device for nothing, and stays faulted
   pub faulted : is_dead old.unit.store.cached ≡ true
@@ -56,26 +54,6 @@ pub record Plays (old : Disk) (event : Event) (answer : Answer) (new : Disk) : T
 abbrev pub PlaysPacket : Disk → List ℕ → Disk → ℕ → Type 0
 PlaysPacket old packet new code = (answer : Answer)
     × Plays old (event.Out (record { items = packet })) answer new × (code ≡ code_of answer)
-
--- A packet that is too long changes nothing; nor does one before which sectors are to be shown, and
--- they are told then alone. One that is played reads nothing that is not in sight.
-pub record TakesPacket (old : Disk) (packet : List ℕ) (first count : ℕ) (new : Disk)
-    (first' count' code : ℕ) : Type 0 where
-  pub one : ((old.line.packet_size < length packet) × (code ≡ TOO_LONG) × (new ≡ old)
-      × (first' ≡ first) × (count' ≡ count))
-      ⊎ ((length packet ≤ old.line.packet_size) × (code ≡ NEEDS) × (new ≡ old)
-      × Wants old packet first' count')
-      ⊎ ((length packet ≤ old.line.packet_size) × WantsNone old packet
-      × PlaysPacket old packet new code
-      × RefusesNothing (HasRoom old) (HoldsLog old) (medium_of old) (medium_of new)
-      × (first' ≡ first) × (count' ≡ count))
-
--- The same without any sector that was not shown: a packet that is not too long is played, whatever
--- of what it reads is out of sight. Each read names a sector of the log, or one of the home sectors
--- that `Disk::home_sectors` tells for it; the medium refuses those that are out of sight.
-pub record TakesUnread (old : Disk) (packet : List ℕ) (new : Disk) (code : ℕ) : Type 0 where
-  pub one : ((old.line.packet_size < length packet) × (code ≡ TOO_LONG) × (new ≡ old))
-      ⊎ ((length packet ≤ old.line.packet_size) × PlaysPacket old packet new code)
 
 -- Sectors are shown, and taken or not. Where they are what the medium holds, the disk fits what it
 -- fitted; where they are not, nothing but the medium has changed.
@@ -111,13 +89,6 @@ pub record MakesStep (old new : Disk) (code : ℕ) : Type 0 where
       × (steps_left new.unit.store.cached ≡ 0))
   pub at_home : code ≡ 0 → IsSettled (state_of (medium_of new)) new.unit.store.cached
 
--- the first call leaves the outbox, and nothing else of the disk changes
-pub record LetsGo (old new : Disk) : Type 0 where
-  pub medium : medium_of new ≡ without_first (medium_of old)
-  pub others : IsRearmed old new
-  pub fits : (book : Book) → FitsDisk (state_of (medium_of old)) old book
-      → FitsDisk (state_of (medium_of new)) new book
-
 -- a disk was started on this medium
 pub record Begins (first : Window) (device : Device) (new : Disk) : Type 0 where
   pub opened : IsOpened (state_of first) (state_of (medium_of new)) device new
@@ -143,7 +114,3 @@ pub record EndsIn (first after : Window) (why : StartFault) : Type 0 where
       → sent (state_of first) + first.room < sent (state_of after)
   pub unseen : why ≡ fault.Read → list_all (is_in_sight first) follows.looks ≡ false
   pub sighted : HoldsImageLog first → why ≢ fault.Read
-
--- no disk was started on this medium
-abbrev pub BeginsNot : Window → StartFault → Type 0
-BeginsNot first why = (why ≡ NoMemory) ⊎ ((after : Window) × EndsIn first after why)

@@ -22,7 +22,7 @@ pub record RefusesNothing (Room Sight : Type 0) (old new : Window) : Type 0 wher
 
 -- ---- an event
 
--- the outbox has room, beside what waits, for as many calls as `usbdisk_room` tells for the image
+-- the outbox has room, beside what waits, for as many calls as an event or a start of the image has
 abbrev pub HasRoom : Disk → Type 0
 HasRoom disk = length (medium_of disk).outbox + room_for (layout_on disk) ≤ (medium_of disk).room
 
@@ -52,8 +52,8 @@ EventRefusesNothing old event new =
 
 -- ---- a start
 
--- the room that `usbdisk_room` tells for the format and the slots of the super, or whatever the
--- bytes that it tells for format 2 and 64 slots
+-- the room for the format and the slots of the super, or whatever the bytes that for format 2 and
+-- 64 slots
 abbrev pub HasRoomToStart : Window → Type 0
 HasRoomToStart first =
     let before : State = state_of first in
@@ -61,7 +61,7 @@ HasRoomToStart first =
     × (room_for shape ≤ first.room))
     ⊎ (room_of Two 64 ≤ first.room)
 
--- the first sectors are all before the first home sector, as `usbdisk_near` tells how many they are
+-- the first sectors are all before the first home sector, as `opening` reads them
 abbrev pub HoldsImageLog : Window → Type 0
 HoldsImageLog first = recovery.HoldsLog first.near (state_of first).size (state_of first).content
 

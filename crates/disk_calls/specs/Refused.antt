@@ -1,11 +1,10 @@
 -- The device refused the call that was handed out last, and the disk is told so.
-use Rattle.std.specs.Prelude.{◌≡◌, Option, Some, None, ℕ}
+use Rattle.std.specs.Prelude.{◌≡◌}
 use Rattle.window.specs.Window.{state_of}
 use Rattle.store_calls.specs.Outbox.{IsEmptied}
 use Rattle.spec.specs.Book.{Book}
 use Rattle.bot_machine.specs.Disk.{FitsDisk, IsRearmed, over}
 use Rattle.bot_machine.specs.Faulting.{faulted_disk, faulted_over}
-use Rattle.disk_calls.specs.Codes.{EMPTY}
 use Rattle.disk_calls.specs.Plays.{Disk, medium_of}
 use Rattle.disk_calls.specs.Runs.{KeepsRest}
 
@@ -24,8 +23,3 @@ pub record IsRefused (old new : Disk) : Type 0 where
   pub by_rules : (book : Book) → over new book ≡ faulted_over (over old book)
   pub fits : (book : Book) → FitsDisk (state_of (medium_of old)) old book
       → FitsDisk (state_of (medium_of new)) new book
-
-abbrev pub IsTold : Option Disk → Option Disk → ℕ → Type 0
-IsTold (Some old) (Some new) code = (code ≡ 0) × IsRefused old new
-IsTold (Some old) None code = ⊥
-IsTold None new code = (code ≡ EMPTY) × (new ≡ None)

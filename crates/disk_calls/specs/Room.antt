@@ -1,5 +1,5 @@
 -- How many calls an outbox must have room for, and how much memory a disk takes.
-use Rattle.std.specs.Prelude.{◌≡◌, ◌≢◌, ◌≤◌, ◌<◌, ◌⊎◌, ℕ, ◌+◌, ◌*◌, ◌^◌, max}
+use Rattle.std.specs.Prelude.{◌≡◌, ◌≢◌, ◌≤◌, ◌<◌, ◌⊎◌, ℕ, ◌+◌, ◌*◌, max}
 use Rattle.journal.specs.Places.{Shape, limit_of}
 use Rattle.journal.specs.declared.log_format.LogFormat.{LogFormat}
 use Rattle.journal.specs.declared.log_format.LogFormat.TheVariants.{One, Two}
@@ -32,10 +32,6 @@ pub record Tells (of : LogFormat → ℕ) (format slots told : ℕ) : Type 0 whe
 abbrev pub TellsNone : ℕ → ℕ → ℕ → Type 0
 TellsNone format slots told = AreNone format slots → told ≡ 0
 
-abbrev pub TellsRoom : ℕ → ℕ → ℕ → Type 0
-TellsRoom format slots told =
-    Tells (λ (kind : LogFormat). room_of kind slots) format slots told × TellsNone format slots told
-
 -- how many bytes each slot takes, by measure
 abbrev pub slot_memory : LogFormat → ℕ
 slot_memory One = 2312
@@ -46,8 +42,3 @@ slot_memory Two = 5776
 abbrev pub memory_of : ℕ → ℕ → ℕ → ℕ → LogFormat → ℕ
 memory_of size slots span room format =
     size + 512 * span + 528 * room + 2096 * limit_of format + slot_memory format * slots + 2672
-
-abbrev pub TellsMemory : ℕ → ℕ → ℕ → ℕ → ℕ → ℕ → Type 0
-TellsMemory size format slots span room told =
-    (size ≤ 2 ^ 48 → room ≤ 2 ^ 32 → Tells (memory_of size slots span room) format slots told)
-    × TellsNone format slots told

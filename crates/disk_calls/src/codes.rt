@@ -10,8 +10,6 @@ pub const NAK: u32 = 1;
 
 pub const STALL: u32 = 2;
 
-pub const NEEDS: u32 = 3;
-
 pub const UNREAD: u32 = 2;
 
 pub const DEAD: u32 = 11;
@@ -30,11 +28,7 @@ pub const BAD_LENGTH: u32 = 21;
 
 pub const BAD_SIZES: u32 = 22;
 
-pub const NOT_TAKEN: u32 = 23;
-
 pub const BAD_RANGE: u32 = 24;
-
-pub const LITTLE_ROOM: u32 = 25;
 
 /// The number of the fault for which a start is refused.
 pub fn number_of(fault: StartFault) -> u32

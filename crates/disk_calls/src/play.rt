@@ -1,18 +1,14 @@
-//! What C asks of a disk, and what it is told.
-ghost use Rattle.disk_calls.specs.Plays.{TakesPacket, SendsPacket, AnswersRequest, MakesStep};
-ghost use Rattle.disk_calls.specs.Plays.{Shows, LetsGo, Plays, Foresees, medium_of, Sees};
-ghost use Rattle.disk_calls.specs.Plays.{PlaysPacket, TakesUnread};
+//! What a disk is asked, and what it answers by number.
+ghost use Rattle.disk_calls.specs.Plays.{SendsPacket, AnswersRequest, MakesStep};
+ghost use Rattle.disk_calls.specs.Plays.{PlaysPacket, Plays, Foresees, medium_of, Sees};
 ghost use Rattle.spec.specs.declared.event.Answer.TheVariants as answer;
 ghost use Rattle.spec.specs.declared.event.Event.TheVariants as event;
 ghost use Rattle.std.specs.Prelude.{◌≤◌, length};
-ghost use Rattle.mirror.specs.OutboxMedium.{first_of};
 
-use crate::codes::{ACK, NAK, NEEDS, STALL, TOO_LONG};
-use crate::wanted::unseen;
+use crate::codes::{ACK, NAK, STALL};
 use bot_machine::{Disk, InAnswer, OutAnswer, SetupAnswer};
 use medium::Medium;
 use mirror::device_laws;
-use store_calls::show_call;
 use window::WindowMedium;
 
 // Does nothing. The laws of the outbox say of all that may come what it is for the device, and that
@@ -22,41 +18,6 @@ fn foresee(disk: &Disk<WindowMedium>)
 {
     let _waiting = disk.medium().waiting();
     device_laws();
-}
-
-/// A packet to Bulk-Out. One that is longer than those of the disk changes nothing, and one before
-/// which sectors are to be shown tells them, and changes nothing else.
-pub(crate) fn take_packet(
-    disk: &mut Disk<WindowMedium>,
-    packet: &[u8],
-    first: &mut u64,
-    count: &mut u32,
-) -> u32
-    ensures { TakesPacket disk.old packet.now first.old count.old
-        disk.new first.new count.new result }
-{
-    if packet.len() > disk.packet_size() as usize {
-        return TOO_LONG;
-    }
-    match unseen(disk, packet) {
-        Some((at, blocks)) => {
-            *first = at;
-            *count = blocks;
-            NEEDS
-        }
-        None => play_packet(disk, packet),
-    }
-}
-
-/// A packet to Bulk-Out, of which the device cannot read the sectors that were asked for.
-pub(crate) fn take_unread(disk: &mut Disk<WindowMedium>, packet: &[u8]) -> u32
-    ensures { TakesUnread disk.old packet.now disk.new result }
-{
-    let most = disk.packet_size() as usize;
-    if packet.len() > most {
-        return TOO_LONG;
-    }
-    play_packet(disk, packet)
 }
 
 /// Plays a packet that is no longer than those of the disk, whatever of the sectors that it reads
@@ -138,15 +99,4 @@ fn tick(disk: &mut Disk<WindowMedium>)
 {
     foresee(disk);
     disk.tick();
-}
-
-/// The next call for the device leaves the outbox.
-pub(crate) fn next_call(disk: &mut Disk<WindowMedium>, sector: &mut u64, to: &mut [u8; 512]) -> u32
-    ensures shows { Shows (first_of (medium_of disk.old).outbox)
-        sector.old to.old sector.new to.new result }
-    ensures lets_go { LetsGo disk.old disk.new }
-{
-    let call = disk.medium().first();
-    disk.pop();
-    show_call(call, sector, to)
 }

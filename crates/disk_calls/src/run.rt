@@ -1,45 +1,14 @@
 //! Writes to neighbouring sectors leave the outbox together.
 ghost use Rattle.store_calls.specs.Outbox.{IsLongestRun};
 ghost use Rattle.disk_calls.specs.Plays.{medium_of};
-ghost use Rattle.disk_calls.specs.Runs.{TakesRun, KeepsRest};
+ghost use Rattle.disk_calls.specs.Runs.{KeepsRest};
 
-use crate::codes::BAD_LENGTH;
 use bot_machine::Disk;
-use mirror::{DeviceCall, put_sector};
+use mirror::put_sector;
 use store_calls::block_for;
 use window::WindowMedium;
 
 const SECTOR: usize = 512;
-
-/// The next calls for the device leave the outbox: a flush, or writes to neighbouring sectors.
-pub(crate) fn next_run(
-    disk: &mut Disk<WindowMedium>,
-    sector: &mut u64,
-    to: &mut [u8],
-    count: &mut usize,
-) -> u32
-    ensures { TakesRun disk.old sector.old to.old count.old
-        disk.new sector.new to.new count.new result }
-{
-    if to.len() == 0 || to.len() % SECTOR != 0 {
-        return BAD_LENGTH;
-    }
-    match disk.medium().first() {
-        Some(DeviceCall::Write(write)) => {
-            *sector = write.sector;
-            *count = gather(disk, write.sector, to);
-            1
-        }
-        Some(DeviceCall::Flush) => {
-            disk.pop();
-            2
-        }
-        None => {
-            disk.pop();
-            0
-        }
-    }
-}
 
 /// Lets go of writes to the sectors from this one on, as long as they wait first and have room, and
 /// copies their bytes. How many they were.

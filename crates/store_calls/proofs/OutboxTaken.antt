@@ -1,8 +1,6 @@
 -- Calls that leave an outbox, one by one.
 use Rattle.std.proofs.Common.{◌≡◌, ℕ, zero, suc, ◌+◌, ◌<◌, List, [], ◌∷◌, ◌++◌, Some, length, drop}
-use Rattle.std.proofs.Common.{refl, sym, ◌∙◌, ap, subst, arith, append_assoc, add-one, inl, inr, ◌/◌}
-use Rattle.std.specs.Prelude.{Option}
-use Rattle.std.proofs.lemmas.Bool.{cases_lt}
+use Rattle.std.proofs.Common.{refl, sym, ◌∙◌, ap, subst, arith, append_assoc, add-one}
 use Rattle.std.proofs.lemmas.List.{drop_all}
 use Rattle.medium.specs.Medium.{Holds}
 use Rattle.medium.specs.Writes.{sector_of}
@@ -10,7 +8,7 @@ use Rattle.mirror.specs.OutboxMedium.{first_of}
 use Rattle.mirror.specs.declared.call.DeviceCall.{DeviceCall}
 use Rattle.mirror.specs.declared.call.DeviceCall.TheVariants.{Write}
 use Rattle.window.specs.Window.{Window, take_first, without_first}
-use Rattle.store_calls.specs.Outbox.{without, IsEmptied, IsNoRoom, IsTo, IsRun, IsLongestRun, ShowsRun, writes_of}
+use Rattle.store_calls.specs.Outbox.{without, IsEmptied, IsRun, writes_of}
 
 -- ---- a run
 
@@ -50,34 +48,6 @@ module _ (old mid new : Window) (sector count : ℕ) (room was filled block : Li
     medium = goes ∙ ap (λ (w : Window). take_first w.outbox w) run.medium;
     behind = λ i le. stored.elsewhere i (omega (arith, le)) ∙ run.behind i (omega (arith, le));
   })
-
--- room for a sector
-some_room : (size : ℕ) → ¬ IsNoRoom size → 0 < size / 512
-some_room size room = elim (cases_lt 0 (size / 512)) [
-  | inl some ↦ some
-  | inr small ↦ elim (cases_lt 0 size) [
-    | inl more ↦ absurd (room (inr (λ whole. absurd (omega (arith, small, more, whole)))))
-    | inr none ↦ absurd (room (inl (omega (arith, none))))
-  ]
-]
-
-module _ (old new : Window) (sector : ℕ) (block room filled : List ℕ)
-    (first : first_of old.outbox ≡ Some (Write (record { sector = sector; block = block }))) (has_room : ¬ IsNoRoom (length room)) where
-  -- a run begins with the write that waits first
-  begins : (count : ℕ) → IsLongestRun old new sector count room filled → 0 < count
-  begins zero longest = elim longest.ends [
-    | inl full ↦ absurd (omega (arith, full, some_room (length room) has_room))
-    | inr none ↦
-        let same = ap (λ (w : Window). first_of w.outbox) longest.run.medium ∙ first in
-        absurd (none (subst (λ (next : Option DeviceCall). IsTo (sector + 0) next) (sym same) (omega arith)))
-  ]
-  begins (suc count) longest = omega arith
-
-  pub shows_run : (count was at : ℕ) → IsLongestRun old new sector count room filled
-      → ShowsRun (first_of old.outbox) old at room was new sector filled count 1
-  shows_run count was at longest =
-      subst (λ (next : Option DeviceCall). ShowsRun next old at room was new sector filled count 1) (sym first)
-      (refl, refl, begins count longest, longest)
 
 -- ---- all of them
 

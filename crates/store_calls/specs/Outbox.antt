@@ -1,20 +1,11 @@
--- What leaves an outbox: one call, or writes to neighbouring sectors together.
-use Rattle.std.specs.Prelude.{◌≡◌, ◌≢◌, ◌⊎◌, ℕ, zero, suc, ◌+◌, ◌/◌, ◌%◌, ◌<◌, ◌≤◌, List, [], ◌∷◌}
+-- What leaves an outbox, and how many writes to neighbouring sectors leave it together.
+use Rattle.std.specs.Prelude.{◌≡◌, ◌≢◌, ◌⊎◌, ℕ, zero, suc, ◌+◌, ◌/◌, ◌%◌, ◌≤◌, List, [], ◌∷◌}
 use Rattle.std.specs.Prelude.{◌++◌, length, Option, Some, None}
 use Rattle.medium.specs.Writes.{sector_of}
 use Rattle.mirror.specs.declared.call.DeviceCall.{DeviceCall}
 use Rattle.mirror.specs.declared.call.DeviceCall.TheVariants.{Write, Flush}
 use Rattle.mirror.specs.OutboxMedium.{first_of}
 use Rattle.window.specs.Window.{Window, without_first}
-
--- the number of a call's kind, and where it is a write its sector and bytes
-abbrev pub Shows : Option DeviceCall → ℕ → List ℕ → ℕ → List ℕ → ℕ → Type 0
-Shows None sector bytes sector' bytes' kind =
-    (kind ≡ 0) × (sector' ≡ sector) × (bytes' ≡ bytes)
-Shows (Some (Write w)) sector bytes sector' bytes' kind =
-    (kind ≡ 1) × (sector' ≡ w.sector) × (bytes' ≡ w.block)
-Shows (Some Flush) sector bytes sector' bytes' kind =
-    (kind ≡ 2) × (sector' ≡ sector) × (bytes' ≡ bytes)
 
 -- this many calls leave the outbox, one by one
 abbrev pub without : ℕ → Window → Window
@@ -57,15 +48,3 @@ pub record IsLongestRun (old new : Window) (sector count : ℕ) (room filled : L
 -- `size` bytes are room for no sector, or for a part of one
 abbrev pub IsNoRoom : ℕ → Type 0
 IsNoRoom size = (size ≡ 0) ⊎ (size % 512 ≢ 0)
-
--- Where a write waits first, it and its neighbours behind it leave the outbox, as many as there are
--- or have room; else one call does.
-abbrev pub ShowsRun : Option DeviceCall → Window → ℕ → List ℕ → ℕ → Window → ℕ → List ℕ → ℕ → ℕ
-    → Type 0
-ShowsRun (Some (Write w)) old sector room was new sector' filled count kind =
-    (kind ≡ 1) × (sector' ≡ w.sector) × (0 < count)
-    × IsLongestRun old new w.sector count room filled
-ShowsRun (Some Flush) old sector room was new sector' filled count kind =
-    Shows (Some Flush) sector room sector' filled kind × (count ≡ was) × (new ≡ without_first old)
-ShowsRun None old sector room was new sector' filled count kind =
-    Shows None sector room sector' filled kind × (count ≡ was) × (new ≡ without_first old)

@@ -16,8 +16,8 @@ use Rattle.blocks.specs.Sent.{most_sent}
 use Rattle.blocks.specs.StoreValue.{layout_of}
 use Rattle.store_calls.specs.Stores.{Store}
 
--- As many writes and flushes as `usbdisk_room` tells: those of an event of a disk, which are more
--- than those of any call of a store, and those of a start that finds `slots` slots.
+-- As many writes and flushes as an event of a disk has, which are more than those of any call of a
+-- store, and as a start has that finds `slots` slots.
 abbrev pub room_of : LogFormat → ℕ → ℕ
 room_of format slots = max (3 * most_sent format) (most_start_sends format slots)
 
@@ -45,7 +45,7 @@ pub record Foresees (m : Window) : Type 0 where
 
 -- ---- a call
 
--- the outbox has room, beside what waits, for as many calls as `usbdisk_room` tells for the image
+-- the outbox has room, beside what waits, for as many calls as an event or a start of the image has
 abbrev pub HasRoom : Store → Type 0
 HasRoom s = length s.medium.outbox + room_for (layout_of s.cached) ≤ s.medium.room
 
@@ -85,13 +85,13 @@ pub record AreMissing (m : Window) (home count first missing : ℕ) : Type 0 whe
 
 -- ---- a start
 
--- The first sectors begin with the super of an image for which `usbdisk_room` tells more than this.
+-- the first sectors begin with the super of an image that wants more room than this
 abbrev pub WantsMore : List ℕ → ℕ → Type 0
 WantsMore near room = (512 ≤ length near)
     × ((shape : Shape) × IsSuper shape (sector_of near 0) × (room < room_for shape))
 
--- the room that `usbdisk_room` tells for the format and the slots of the super, or whatever the
--- bytes that it tells for format 2 and 64 slots
+-- the room for the format and the slots of the super, or whatever the bytes that for format 2 and
+-- 64 slots
 abbrev pub HasRoomToStart : Window → Type 0
 HasRoomToStart first =
     let before : State = state_of first in
@@ -99,7 +99,7 @@ HasRoomToStart first =
     × (room_for shape ≤ first.room))
     ⊎ (room_of Two 64 ≤ first.room)
 
--- the first sectors are all before the first home sector, as `usbdisk_near` tells how many they are
+-- the first sectors are all before the first home sector, as `opening` reads them
 abbrev pub HoldsImageLog : Window → Type 0
 HoldsImageLog first = recovery.HoldsLog first.near (state_of first).size (state_of first).content
 

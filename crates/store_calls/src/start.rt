@@ -19,7 +19,7 @@ use window::{DeviceHolds, WindowError, WindowMedium};
 ///
 /// `Length` where the first sectors are none, no whole ones or more than the device has; or `Start`
 /// with `NoMemory`.
-pub fn window_of(
+pub(crate) fn window_of(
     alloc: Global,
     near: &[u8],
     sectors: u64,
