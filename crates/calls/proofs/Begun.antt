@@ -1,0 +1,109 @@
+-- Why a disk begins, and why it does not.
+use Rattle.std.proofs.Common.{◌≡◌, ◌≤◌, ℕ, List, length, inr, refl, sym, subst, ap, arith}
+use Rattle.medium.specs.Writes.{sector_of}
+use Rattle.window.specs.Window.{Window, state_of, mirror_of, ComesAfter, CoversDevice, IsServed}
+use Rattle.mirror.specs.OutboxMedium.{sent}
+use Rattle.window.proofs.Kept.{opened_front}
+use Rattle.journal.specs.Places.{Shape}
+use Rattle.journal.specs.Sectors.{IsSuper}
+use Rattle.journal.specs.declared.log_format.LogFormat.{LogFormat}
+use Rattle.journal.specs.declared.log_format.LogFormat.TheVariants.{One, Two}
+use Rattle.recovery.specs.declared.start_fault.StartFault.{StartFault}
+use Rattle.store_calls.specs.Rooms.{WantsMore, room_of, room_for}
+use Rattle.store_calls.specs.Starts.{IsNoLength}
+use Rattle.bot_machine.specs.Device.{Device}
+use Rattle.bot_machine.specs.Opening.{StartsDisk, RefusesDisk}
+use Rattle.disk_calls.specs.Parts.{CoversParts}
+use Rattle.disk_calls.specs.Plays.{Disk, medium_of, layout_on, Begins}
+use Rattle.disk_calls.specs.Room as disk_room
+use Rattle.disk_calls.proofs.Refusals.{ends_in}
+use Rattle.disk_calls.proofs.Rooms.{start_refuses, holds_log, roomy}
+use Rattle.disk_machine.specs.Machine.{Machine}
+use Rattle.disk_machine.specs.Moves.{begun, ServesAtRest, BeginsBehind, HasRoomBeside}
+use Rattle.calls.specs.Reserve.{IsReserve, AHEAD}
+use Rattle.calls.specs.Starting.{IsMediumOn, StartsOn, IsRefusedOn}
+
+-- no image wants more than what is reserved for it
+enough : (near : List ℕ) (span room : ℕ) → IsReserve near span room → ¬ WantsMore near room
+enough near span room reserve more =
+    let told = reserve.image more.1.0 (more.0, more.1.1) in omega (arith, told.1, more.1.2)
+
+-- the room of a store is that of a disk
+as_store : (shape : Shape) → room_for shape ≡ disk_room.room_for shape
+as_store shape = told shape.format shape.slots
+  where
+    told : (format : LogFormat) (slots : ℕ) → room_of format slots ≡ disk_room.room_of format slots
+    told One slots = refl
+    told Two slots = refl
+
+module _ (near : List ℕ) (sectors : ℕ) (content : List ℕ) (first : Window) (on : IsMediumOn near sectors content first)
+    (length_is : ¬ IsNoLength near sectors) where
+  some : 512 ≤ length near
+  some = grind (arith, length_is)
+
+  empty : length first.outbox ≡ 0
+  empty = ap (λ (w : Window). length w.outbox) on.3
+
+  -- none does, as the recovery was refused
+  pub refused : (device : Device) (after : Window) (why : StartFault) → RefusesDisk state_of ComesAfter first after why
+      → IsServed first after → IsRefusedOn near sectors content device why
+  refused device after why refuses served =
+      inr (inr (
+        length_is,
+        first,
+        on,
+        (
+          after,
+          ends_in first after empty refuses.leaves.leaves refuses.leaves.medium why refuses.cause
+              served,
+        ),
+      ))
+
+  module _ (disk : Disk) (device : Device) (starts : StartsDisk state_of ComesAfter first device disk)
+      (covers : CoversDevice first (medium_of disk)) (parts : CoversParts first (medium_of disk))
+      (served : IsServed first (medium_of disk)) where
+    follows : ComesAfter first (medium_of disk)
+    follows = starts.leaves.medium.follows
+
+    began : Begins first device disk
+    began = record {
+      opened = starts.opened;
+      leaves = starts.leaves.leaves;
+      follows = follows;
+      covers = covers;
+      parts = parts;
+      served = served;
+      refuses = start_refuses first (medium_of disk) empty starts.leaves.leaves starts.leaves.medium served;
+      holds = holds_log first disk device starts.opened follows;
+      roomy = roomy near content sectors on.0 on.1 first disk device on.3 some (enough near on.0 on.1 on.2) starts.opened follows;
+    }
+
+    -- the image is that of the super with which the first sectors begin
+    super : IsSuper (layout_on disk) (sector_of near 0)
+    super = subst (λ (b : List ℕ). IsSuper (layout_on disk) b) (sym (opened_front sectors near content 0 (omega (arith, some))))
+        (subst (λ (w : Window). IsSuper (layout_on disk) ((state_of w).content 0)) on.3 starts.opened.store.stood.keeps.super)
+
+    beside : HasRoomBeside (begun disk AHEAD)
+    beside = omega (
+      arith,
+      (on.2.image (layout_on disk) (some, super)).1,
+      as_store (layout_on disk),
+      follows.room_stays,
+      ap (λ (w : Window). w.room) on.3,
+    )
+
+    -- the machine is that of the disk
+    pub begins : (new : Machine) → new ≡ begun disk AHEAD → ServesAtRest new → BeginsBehind new
+        → StartsOn near sectors content device new
+    begins new is serves behind = record {
+      first = first;
+      on = on;
+      length_is = length_is;
+      disk = disk;
+      begins = began;
+      is = is;
+      serves = serves;
+      leaves = behind first (ap (λ (w : Window). sent (mirror_of w)) on.3)
+          (subst (λ (s : Machine). CoversParts first (medium_of s.disk)) (sym is) parts);
+      beside = subst (λ (s : Machine). HasRoomBeside s) (sym is) beside;
+    }

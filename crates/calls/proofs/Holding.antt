@@ -1,0 +1,66 @@
+-- The first sectors that are read hold the log.
+use Rattle.std.proofs.Common.{◌≡◌, ◌<◌, ◌≤◌, ◌*◌, ◌/◌, ◌∙◌, min, ℕ, List, [], ◌∷◌, length, sym, subst, ap, arith}
+use Rattle.medium.specs.Writes.{sector_of}
+use Rattle.journal.specs.Places.{Shape, first_home}
+use Rattle.journal.specs.Sectors.{IsSuper}
+use Rattle.window.specs.Window.{Window, state_of, mirror_of, fresh}
+use Rattle.window.proofs.Kept.{opened_front, opened_length}
+use Rattle.bot_machine.specs.Device.{Device}
+use Rattle.disk_calls.specs.Refusals.{HoldsImageLog, HoldsLog}
+use Rattle.disk_machine.specs.Machine.{Machine}
+use Rattle.store_calls.specs.Starts.{IsNoLength}
+use Rattle.opening.specs.Reading.{Reading, IsSound, IsWhole, IsUntil}
+use Rattle.opening.specs.declared.reach.Reach.{Reach}
+use Rattle.opening.specs.declared.reach.Reach.TheVariants as reach
+use Rattle.recovery.specs.declared.start_fault.StartFault.{StartFault}
+use Rattle.calls.specs.Starting.{StartsOn, IsRefusedOn}
+
+-- as many are read as lie before the first home sector, or as the device has
+until_is : (r : Reach) (sectors : ℕ) (near : List ℕ) (until : ℕ) → 0 < length near → r ≡ reach.Near → IsUntil r sectors near until
+    → (shape : Shape) → IsSuper shape (sector_of near 0) → until ≡ min (first_home shape) sectors
+until_is reach.First sectors near until some is told shape super = cc
+until_is reach.Near sectors [] until some is told shape super = absurd (omega (arith, some))
+until_is reach.Near sectors (b ∷ bytes) until some is told shape super =
+    told.2 ∙ ap (λ (n : ℕ). min n sectors) (told.1.home shape super)
+
+module _ (o : Reading) (sound : IsSound o) (whole : IsWhole o) (is : o.reach ≡ reach.Near) (length_is : ¬ IsNoLength o.near o.sectors)
+    (content : List ℕ) (span room : ℕ) where
+  some : 512 ≤ length o.near
+  some = grind (arith, length_is)
+
+  within : length o.near ≤ 512 * o.sectors
+  within = grind (arith, length_is)
+
+  -- the device has as many sectors as are told
+  long : length (mirror_of (fresh o.sectors o.near content span room)).story.opening ≡ 512 * o.sectors
+  long = opened_length o.sectors o.near content within
+
+  pub holds : HoldsImageLog (fresh o.sectors o.near content span room)
+  holds = record {
+    some = omega (arith, some);
+    log = λ shape has.
+        let front = sym (opened_front o.sectors o.near content 0 (omega (arith, some))) in
+        let super = subst (λ (b : List ℕ). IsSuper shape b) front has.super in
+        let until = until_is o.reach o.sectors o.near o.until (omega (arith, some)) is sound.until_is shape super in
+        omega (arith, until, has.fits, sound.within, whole, long);
+  }
+
+-- a disk that begins on what was read holds the log
+pub begins_on : (o : Reading) (sound : IsSound o) (whole : IsWhole o) (content : List ℕ) (device : Device) (near : List ℕ) (sectors : ℕ)
+    (s : Machine) → near ≡ o.near → sectors ≡ o.sectors → StartsOn near sectors content device s
+    → StartsOn o.near o.sectors content device s × (o.reach ≡ reach.Near → HoldsLog s.disk)
+begins_on o sound whole content device near sectors s same many was =
+    let starts : StartsOn o.near o.sectors content device s =
+    subst (λ (n : ℕ). StartsOn o.near n content device s) many (subst (λ (b : List ℕ). StartsOn b sectors content device s) same was) in (
+      starts,
+      λ is. subst (λ (m : Machine). HoldsLog m.disk) (sym starts.is) (starts.begins.holds
+          (subst (λ (w : Window). HoldsImageLog w) (sym starts.on.3)
+          (holds o sound whole is starts.length_is content starts.on.0 starts.on.1))),
+    )
+
+-- none begins, as on what was read
+pub refused_on : (o : Reading) (content : List ℕ) (device : Device) (near : List ℕ) (sectors : ℕ) (why : StartFault) → near ≡ o.near
+    → sectors ≡ o.sectors → IsRefusedOn near sectors content device why → IsRefusedOn o.near o.sectors content device why
+refused_on o content device near sectors why same many was =
+    subst (λ (n : ℕ). IsRefusedOn o.near n content device why) many
+    (subst (λ (b : List ℕ). IsRefusedOn b sectors content device why) same was)

@@ -1,0 +1,4 @@
+pub mod Values
+pub mod Begun
+pub mod Holding
+pub mod Working

@@ -1,0 +1,22 @@
+use Rattle.window.specs.Window.{mirror_of}
+use Rattle.bot_machine.specs.Device.{device_by, Ahead}
+use Rattle.disk_calls.specs.Plays.{medium_of}
+use Rattle.calls.proofs.Begun.{refused, begins}
+use Rattle.calls.proofs.beginning.disk_on.Goals as goal
+
+pub returns-in-Err : goal.returns-in-Err
+returns-in-Err g c =
+    let back = c.in-Err.ensures in
+    refused _ _ g.content _ c.in_ok-medium.ensures.ok c.in_ok-medium.ensures.sized (device_by c.args.identity c.args.size Ahead)
+    c.in-Err.error.medium _ back
+    (c.waiting-waiting.ensures.served _ back.leaves.medium.follows)
+
+pub returns-in-Ok : goal.returns-in-Ok
+returns-in-Ok g c =
+    let starts = c.in-Ok.ensures in
+    let follows = starts.leaves.medium.follows in
+    begins _ _ g.content _ c.in_ok-medium.ensures.ok c.in_ok-medium.ensures.sized _ (device_by c.args.identity c.args.size Ahead) starts
+    (c.waiting-waiting.ensures.device _ follows)
+    (c.device_laws.ensures (mirror_of c.in_ok-medium.medium) (mirror_of (medium_of c.in-Ok.disk))
+    (c.waiting-waiting.ensures.device _ follows))
+    (c.waiting-waiting.ensures.served _ follows) _ c.new.ensures.is c.new.ensures.serves c.new.ensures.starts

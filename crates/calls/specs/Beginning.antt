@@ -1,0 +1,76 @@
+-- How a store and the work on an image begin, and why they do not.
+use Rattle.std.specs.Prelude.{◌≡◌, ℕ, List, Result, Ok, Err, MatchResult}
+use Rattle.recovery.specs.declared.start_fault.StartFault.{StartFault}
+use Rattle.recovery.specs.declared.start_fault.StartFault.TheVariants as start
+use Rattle.store_calls.specs.MachineStart as stores
+use Rattle.store_calls.specs.StoreMachine as store
+use Rattle.store_calls.specs.declared.call_fault.CallFault.{CallFault}
+use Rattle.store_calls.specs.declared.call_fault.CallFault.TheVariants as call
+use Rattle.image_calls.specs.Formats as formats
+use Rattle.image_calls.specs.Images.{IsLaidOn, IsWhole}
+use Rattle.image_calls.specs.Machines as images
+use Rattle.image_calls.specs.Plans.{Migrates, IsPlanFault, shape_by, medium_by}
+use Rattle.image_calls.specs.Works.{Work}
+use Rattle.image_calls.specs.declared.image_fault.ImageFault.{ImageFault}
+use Rattle.image_calls.specs.declared.image_fault.ImageFault.TheVariants as fault
+use Rattle.image_calls.specs.declared.image_plan.ImagePlan.{ImagePlan}
+use Rattle.journal.specs.Places.{Shape}
+use Rattle.window.specs.Window.{Window}
+use Rattle.opening.specs.Reading.{Reading}
+use Rattle.calls.specs.declared.held.Stage.{Stage}
+use Rattle.calls.specs.declared.held.Stage.TheVariants as stage
+
+-- ---- a store
+
+-- why there is none: of first sectors that are none BAD_SUPER; nothing else comes
+abbrev pub fault_of_call : CallFault → StartFault
+fault_of_call call.Empty = start.BadSuper
+fault_of_call call.Held = start.BadSuper
+fault_of_call call.LittleRoom = start.BadSuper
+fault_of_call call.Length = start.BadSuper
+fault_of_call call.Range = start.BadSuper
+fault_of_call call.Unread = start.BadSuper
+fault_of_call call.Dead = start.BadSuper
+fault_of_call (call.Start why) = why
+
+abbrev pub IsStore : Result store.Machine CallFault → Stage → Type 0
+IsStore (Ok s) new = new ≡ stage.Store s
+IsStore (Err why) new = new ≡ stage.Failed (fault_of_call why)
+
+-- a store begins on what was read, or there is none
+abbrev pub BeginsStore : List ℕ → Reading → Stage → Type 0
+BeginsStore content o new = (result : Result store.Machine CallFault) × IsStore result new
+    × MatchResult result (stores.StartsOn o.near o.sectors content)
+    (stores.IsNotStarted o.near o.sectors content)
+
+-- ---- the work on an image
+
+-- why there is none: of first sectors that are none BAD_SUPER; sizes were asked for before
+abbrev pub fault_of_image : ImageFault → StartFault
+fault_of_image fault.Held = start.BadSuper
+fault_of_image fault.Length = start.BadSuper
+fault_of_image fault.Sizes = start.BadSize
+fault_of_image (fault.Start why) = why
+
+abbrev pub IsImage : Result images.Machine ImageFault → Stage → Type 0
+IsImage (Ok s) new = new ≡ stage.Image s
+IsImage (Err why) new = new ≡ stage.Failed (fault_of_image why)
+
+-- by a plan
+abbrev pub BeginsBy : (Shape → Window → Work → Type 0) → List ℕ → ImagePlan → Reading → Stage
+    → Type 0
+BeginsBy Is content plan o new = let first : Window = medium_by o.near content plan in
+    (result : Result images.Machine ImageFault) × IsImage result new
+    × MatchResult result (images.Begins (Is (shape_by plan) first) first)
+    (IsPlanFault o.near plan)
+
+abbrev pub BeginsFormat : List ℕ → ImagePlan → Reading → Stage → Type 0
+BeginsFormat content plan o new = BeginsBy formats.BeginsFormat content plan o new
+
+abbrev pub BeginsLog : List ℕ → ImagePlan → Reading → Stage → Type 0
+BeginsLog content plan o new = BeginsBy
+    (λ (shape : Shape) (first : Window). IsWhole (IsLaidOn shape first)) content plan o new
+
+abbrev pub BeginsMigration : List ℕ → Reading → Stage → Type 0
+BeginsMigration content o new = (result : Result images.Machine ImageFault) × IsImage result new
+    × Migrates o.near o.sectors content result

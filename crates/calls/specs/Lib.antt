@@ -1,0 +1,16 @@
+pub mod HeldRow
+pub mod Owned
+pub mod Codes
+pub mod Asks
+pub mod Handles
+pub mod Reserve
+pub mod Beginning
+pub mod Starting
+pub mod Plans
+pub mod Asking
+pub mod Telling
+pub mod Bus
+pub mod Idling
+pub mod State
+pub mod Storing
+pub mod Memory

@@ -1,0 +1,124 @@
+-- How what was started begins, and why it does not.
+use Rattle.std.specs.Prelude.{◌≡◌, ◌≢◌, ◌⊎◌, ℕ, ◌==◌, List, Option, Some, None, if◌then◌else◌}
+use Rattle.window.specs.Window.{Window, fresh}
+use Rattle.recovery.specs.declared.start_fault.StartFault.{StartFault}
+use Rattle.recovery.specs.declared.start_fault.StartFault.TheVariants as start
+use Rattle.store_calls.specs.Starts.{IsNoLength}
+use Rattle.spec.specs.Identification.{Identification, IsLegible}
+use Rattle.spec.specs.declared.packet_size.PacketSize.{PacketSize}
+use Rattle.spec.specs.Packets.{bytes_of}
+use Rattle.bot_machine.specs.Device.{Device, device_by, Ahead}
+use Rattle.disk_calls.specs.Codes.{EMPTY, STARTED, BAD_IDENTITY, BAD_PACKET_SIZE}
+use Rattle.disk_calls.specs.Plays.{Disk, Begins, EndsIn}
+use Rattle.disk_calls.specs.Refusals.{HoldsLog}
+use Rattle.disk_calls.specs.Starting.{identity_of}
+use Rattle.disk_machine.specs.Machine.{Machine}
+use Rattle.disk_machine.specs.Moves.{begun, ServesAtRest, LeavesOfStart, HasRoomBeside}
+use Rattle.opening.specs.Reading.{Reading, unread, IsWhole}
+use Rattle.opening.specs.declared.reach.Reach.{Reach}
+use Rattle.opening.specs.declared.reach.Reach.TheVariants as reach
+use Rattle.calls.specs.Beginning.{BeginsStore, BeginsFormat, BeginsLog, BeginsMigration}
+use Rattle.calls.specs.Handles.{Held}
+use Rattle.calls.specs.Reserve.{IsReserve, AHEAD}
+use Rattle.calls.specs.declared.held.Purpose.{Purpose}
+use Rattle.calls.specs.declared.held.Purpose.TheVariants as purpose
+use Rattle.calls.specs.declared.held.Stage.{Stage}
+use Rattle.calls.specs.declared.held.Stage.TheVariants as stage
+use Rattle.calls.specs.declared.options.UsbDiskOptions.{UsbDiskOptions}
+
+-- ---- what begins
+
+-- the medium of a device of so many sectors, of which these are the first, and which holds this
+-- content behind them
+abbrev pub medium_on : List ℕ → ℕ → List ℕ → ℕ → ℕ → Window
+medium_on near sectors content span room = fresh sectors near content span room
+
+-- with the room that an image wants
+abbrev pub IsMediumOn : List ℕ → ℕ → List ℕ → Window → Type 0
+IsMediumOn near sectors content m = (span : ℕ) × (room : ℕ) × IsReserve near span room
+    × (m ≡ medium_on near sectors content span room)
+
+-- a disk was started on it
+pub record StartsOn (near : List ℕ) (sectors : ℕ) (content : List ℕ) (device : Device)
+    (new : Machine) : Type 0 where
+  pub first : Window
+  pub on : IsMediumOn near sectors content first
+  pub length_is : ¬ IsNoLength near sectors
+  pub disk : Disk
+  pub begins : Begins first device disk
+  pub is : new ≡ begun disk AHEAD
+  pub serves : ServesAtRest new
+  -- as long as the device carries out the calls of the start, a loss of power leaves what it could
+  -- of the start
+  pub leaves : LeavesOfStart first new
+  -- no packet is refused a call for want of room
+  pub beside : HasRoomBeside new
+
+-- None was: for want of memory; of first sectors that are none; or as the recovery was refused.
+abbrev pub IsRefusedOn : List ℕ → ℕ → List ℕ → Device → StartFault → Type 0
+IsRefusedOn near sectors content device why = (why ≡ start.NoMemory)
+    ⊎ ((why ≡ start.BadSuper) × IsNoLength near sectors)
+    ⊎ ((¬ IsNoLength near sectors) × (first : Window) × IsMediumOn near sectors content first
+    × ((after : Window) × EndsIn first after why))
+
+-- A disk begins on what was read, or there is none. Where all before the first home sector was
+-- read, it is all that events read of the log: none is refused a READ for want of sight of it.
+abbrev pub BeginsDisk : List ℕ → Reading → Device → Stage → Type 0
+BeginsDisk content o device (stage.Opening o') = ⊥
+BeginsDisk content o device (stage.Disk s) = StartsOn o.near o.sectors content device s
+    × (o.reach ≡ reach.Near → HoldsLog s.disk)
+BeginsDisk content o device (stage.Store s) = ⊥
+BeginsDisk content o device (stage.Image s) = ⊥
+BeginsDisk content o device (stage.Failed why) = IsRefusedOn o.near o.sectors content device why
+
+-- what was started begins
+abbrev pub BeginsAs : List ℕ → Purpose → Reading → Stage → Type 0
+BeginsAs content (purpose.Disk identity size) o new =
+    BeginsDisk content o (device_by identity size Ahead) new
+BeginsAs content purpose.Store o new = BeginsStore content o new
+BeginsAs content (purpose.Format plan) o new = BeginsFormat content plan o new
+BeginsAs content (purpose.LayLog plan) o new = BeginsLog content plan o new
+BeginsAs content purpose.Migration o new = BeginsMigration content o new
+
+-- where all is read, it begins
+abbrev pub GoesOn : List ℕ → Purpose → Reading → Stage → Type 0
+GoesOn content what o new = (IsWhole o × BeginsAs content what o new)
+    ⊎ ((¬ IsWhole o) × (new ≡ stage.Opening o))
+
+-- ---- what is started
+
+-- the first sectors are to be read; of a device without any there is no image
+abbrev pub first_stage : ℕ → Reach → Stage
+first_stage sectors reach =
+    if sectors == 0 then stage.Failed start.BadSuper else stage.Opening (unread sectors reach)
+
+abbrev pub started : Purpose → ℕ → Reach → Held
+started what sectors reach = record { purpose = what; stage = first_stage sectors reach }
+
+-- it goes into the handle, or there is no memory for it and the handle stays
+abbrev pub Opens : Purpose → ℕ → Reach → Option Held → Option Held → ℕ → Type 0
+Opens what sectors reach old new code =
+    ((code ≡ 0) × (new ≡ Some (started what sectors reach))) ⊎ ((code ≡ 1) × (new ≡ old))
+
+-- What is there stays. What is wrong with the options is told before anything is done. Else the
+-- first sectors are to be read.
+abbrev pub StartsDisk : UsbDiskOptions → Option Held → Option Held → ℕ → Type 0
+StartsDisk options (Some old) new code = (code ≡ STARTED) × (new ≡ Some old)
+StartsDisk options None new code =
+    ((options.packet ≢ 64) × (options.packet ≢ 512) × (code ≡ BAD_PACKET_SIZE) × (new ≡ None))
+    ⊎ ((size : PacketSize) × (options.packet ≡ bytes_of size)
+    × (((¬ IsLegible (identity_of options.identity)) × (code ≡ BAD_IDENTITY) × (new ≡ None))
+    ⊎ (IsLegible (identity_of options.identity)
+    × Opens (purpose.Disk (identity_of options.identity) size) options.sectors reach.Near None new
+    code)))
+
+-- a store, of which the options tell the sectors alone
+abbrev pub StartsStore : UsbDiskOptions → Option Held → Option Held → ℕ → Type 0
+StartsStore options (Some old) new code = (code ≡ STARTED) × (new ≡ Some old)
+StartsStore options None new code =
+    Opens purpose.Store options.sectors reach.Near None new code
+
+-- what the handle holds goes
+abbrev pub Stops : Option Held → Option Held → ℕ → Type 0
+Stops (Some old) new code = (code ≡ 0) × (new ≡ None)
+Stops None new code = (code ≡ EMPTY) × (new ≡ None)

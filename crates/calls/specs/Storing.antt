@@ -1,0 +1,73 @@
+-- What a store reads, writes and makes durable.
+use Rattle.std.specs.Prelude.{◌≡◌, ℕ, List, Result, Ok, Err}
+use Rattle.blocks.specs.StoreValue.{blocks_of, transfer_limit}
+use Rattle.store_calls.specs.StoreMachine.{Machine}
+use Rattle.store_calls.specs.Transfers.{Reads, Writes, Syncs}
+use Rattle.store_calls.specs.declared.store_fault.StoreFault.{StoreFault}
+use Rattle.store_calls.specs.declared.store_fault.StoreFault.TheVariants as fault
+use Rattle.disk_calls.specs.Codes.{number_of, BAD_LENGTH}
+use Rattle.calls.specs.Codes.{BUSY, OTHER_KIND}
+use Rattle.calls.specs.Handles.{Held}
+use Rattle.calls.specs.declared.held.Purpose.{Purpose}
+use Rattle.calls.specs.declared.held.Purpose.TheVariants as purpose
+use Rattle.calls.specs.declared.held.Stage.{Stage}
+use Rattle.calls.specs.declared.held.Stage.TheVariants as stage
+
+abbrev pub code_of_fault : StoreFault → ℕ
+code_of_fault fault.Busy = BUSY
+code_of_fault fault.ReadRefused = 2
+code_of_fault fault.Dead = 11
+code_of_fault fault.Length = BAD_LENGTH
+code_of_fault fault.Range = 24
+
+abbrev pub code_of_done : Result (Unit {0}) StoreFault → ℕ
+code_of_done (Ok done) = 0
+code_of_done (Err why) = code_of_fault why
+
+-- of a store that is not there this number; of another kind OTHER_KIND
+abbrev pub code_before : ℕ → Purpose → ℕ
+code_before code (purpose.Disk identity size) = OTHER_KIND
+code_before code purpose.Store = code
+code_before code (purpose.Format plan) = OTHER_KIND
+code_before code (purpose.LayLog plan) = OTHER_KIND
+code_before code purpose.Migration = OTHER_KIND
+
+-- The store does this, and stays. Where it is not there yet the answer is BUSY, where its start
+-- failed the number of that, and where there is something of another kind OTHER_KIND: then the
+-- handle stays, and the second is so.
+abbrev pub ToStore : (Machine → Machine → ℕ → Type 0) → Type 0 → Stage → Held → Held → ℕ → Type 0
+ToStore Does Stays (stage.Opening o) old new code =
+    (new ≡ old) × (code ≡ code_before BUSY old.purpose) × Stays
+ToStore Does Stays (stage.Disk s) old new code = (new ≡ old) × (code ≡ OTHER_KIND) × Stays
+ToStore Does Stays (stage.Store s) old new code =
+    (s' : Machine) × (new ≡ record old { stage = stage.Store s' }) × Does s s' code
+ToStore Does Stays (stage.Image s) old new code = (new ≡ old) × (code ≡ OTHER_KIND) × Stays
+ToStore Does Stays (stage.Failed why) old new code =
+    (new ≡ old) × (code ≡ code_before (number_of why) old.purpose) × Stays
+
+-- how many blocks there are, and how many of them a read or a write has at most
+pub record Tells (s s' : Machine) (blocks limit code : ℕ) : Type 0 where
+  pub stays : s' ≡ s
+  pub code_is : code ≡ 0
+  pub blocks_are : blocks ≡ blocks_of s.store.cached
+  pub limit_is : limit ≡ transfer_limit s.store.cached
+
+abbrev pub TellsSizes : ℕ → ℕ → ℕ → ℕ → Held → Held → ℕ → Type 0
+TellsSizes blocks limit blocks' limit' old new code = ToStore
+    (λ s s' answer. Tells s s' blocks' limit' answer)
+    ((blocks' ≡ blocks) × (limit' ≡ limit)) old.stage old new code
+
+abbrev pub ReadsBlocks : ℕ → List ℕ → List ℕ → Held → Held → ℕ → Type 0
+ReadsBlocks block room filled old new code = ToStore
+    (λ s s' answer. (result : Result (Unit {0}) StoreFault) × (answer ≡ code_of_done result)
+    × Reads block s room s' filled result) (filled ≡ room) old.stage old new code
+
+abbrev pub WritesBlocks : ℕ → List ℕ → Held → Held → ℕ → Type 0
+WritesBlocks block bytes old new code = ToStore
+    (λ s s' answer. (result : Result (Unit {0}) StoreFault) × (answer ≡ code_of_done result)
+    × Writes block bytes s s' result) (Unit {0}) old.stage old new code
+
+abbrev pub SyncsStore : Held → Held → ℕ → Type 0
+SyncsStore old new code = ToStore
+    (λ s s' answer. (result : Result (Unit {0}) StoreFault) × (answer ≡ code_of_done result)
+    × Syncs s s' result) (Unit {0}) old.stage old new code

@@ -1,0 +1,65 @@
+//! What the device is to do next.
+ghost use Rattle.std.specs.Prelude.{◌≡◌, length};
+ghost use Rattle.store_calls.specs.Outbox.{IsNoRoom};
+ghost use Rattle.calls.specs.Handles.{InHandle};
+ghost use Rattle.calls.specs.Asking.{HandsOut, Asks, AsksDisk};
+
+use crate::asks::{UsbDiskCall, told};
+use crate::handle::UsbDisk;
+use crate::held::{Held, Stage};
+use crate::moves::{adopt, reclaim};
+use device_calls::DeviceAsk;
+use disk_calls::{ACK, BAD_LENGTH, EMPTY};
+use disk_machine::DiskMachine;
+use std::alloc::Global;
+
+const SECTOR: usize = 512;
+
+/// The next call of the device, of which the bytes of writes go to the front of the buffer.
+pub fn next_call(alloc: Global, h: &mut UsbDisk, call: &mut UsbDiskCall, buffer: &mut [u8]) -> u32
+    ensures { InHandle (HandsOut call.old buffer.old call.new buffer.new)
+        ((call.new ≡ call.old) × (buffer.new ≡ buffer.old)) h.old.held h.new.held result }
+{
+    let Some(mut held) = reclaim(h, alloc) else {
+        return EMPTY;
+    };
+    let code = held.hand_out(call, buffer);
+    adopt(h, alloc, held);
+    code
+}
+
+impl Held {
+    // Tells what the device is to do next.
+    fn hand_out(&mut self, call: &mut UsbDiskCall, buffer: &mut [u8]) -> u32
+        ensures { HandsOut call.old buffer.old call.new buffer.new self.old self.new result }
+    {
+        if buffer.len() == 0 || buffer.len() % SECTOR != 0 {
+            return BAD_LENGTH;
+        }
+        *call = told(self.ask(buffer));
+        ACK
+    }
+
+    // What the device is to do next.
+    fn ask(&mut self, buffer: &mut [u8]) -> DeviceAsk
+        requires { ¬ IsNoRoom (length buffer.old) }
+        ensures { Asks self.old.stage buffer.old result self.old self.new buffer.new }
+    {
+        match &mut self.stage {
+            Stage::Opening(opening) => opening.next((buffer.len() / SECTOR) as u64),
+            Stage::Disk(disk) => ask_disk(disk, buffer),
+            Stage::Store(store) => store.next(buffer),
+            Stage::Image(image) => image.next(buffer),
+            Stage::Failed(_) => DeviceAsk::Nothing,
+        }
+    }
+}
+
+// What a disk asks for, behind steps that spare later calls where its device has nothing to do.
+fn ask_disk(disk: &mut DiskMachine, buffer: &mut [u8]) -> DeviceAsk
+    requires { ¬ IsNoRoom (length buffer.old) }
+    ensures { AsksDisk disk.old buffer.old result disk.new buffer.new }
+{
+    let _made = disk.work_ahead();
+    disk.next(buffer)
+}

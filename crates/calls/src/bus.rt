@@ -1,0 +1,135 @@
+//! Transfers, tokens and requests of the bus.
+ghost use Rattle.std.specs.Prelude.{◌≡◌};
+ghost use Rattle.calls.specs.Handles.{InHandle};
+ghost use Rattle.calls.specs.Bus.{TakesOut, SendsIn, AnswersSetup};
+ghost use Rattle.calls.specs.Bus.{WaitsOut, WaitsIn, IsStalled};
+
+use crate::codes::OTHER_KIND;
+use crate::handle::UsbDisk;
+use crate::held::{Held, Purpose, Stage};
+use crate::moves::{adopt, reclaim};
+use disk_calls::{BAD_LENGTH, EMPTY, NAK, STALL};
+use std::alloc::Global;
+
+/// Bytes to Bulk-Out: a transfer of the host, or a part of one that ends where a packet does.
+pub fn take_out(alloc: Global, h: &mut UsbDisk, bytes: &[u8], taken: &mut usize) -> u32
+    ensures { InHandle (TakesOut bytes.now taken.old taken.new) (taken.new ≡ taken.old)
+        h.old.held h.new.held result }
+{
+    let Some(mut held) = reclaim(h, alloc) else {
+        return EMPTY;
+    };
+    let code = held.take(bytes, taken);
+    adopt(h, alloc, held);
+    code
+}
+
+/// Tokens to Bulk-In, whose packets lie one behind the other in the room.
+pub fn send_in(alloc: Global, h: &mut UsbDisk, room: &mut [u8], given: &mut usize) -> u32
+    ensures { InHandle (SendsIn room.old given.old room.new given.new)
+        ((room.new ≡ room.old) × (given.new ≡ given.old)) h.old.held h.new.held result }
+{
+    let Some(mut held) = reclaim(h, alloc) else {
+        return EMPTY;
+    };
+    let code = held.send(room, given);
+    adopt(h, alloc, held);
+    code
+}
+
+/// A control request.
+pub fn answer_setup(
+    alloc: Global,
+    h: &mut UsbDisk,
+    packet: &[u8; 8],
+    to: &mut [u8; 2],
+    size: &mut u32,
+) -> u32
+    ensures { InHandle (AnswersSetup packet.now to.old size.old to.new size.new)
+        ((to.new ≡ to.old) × (size.new ≡ size.old)) h.old.held h.new.held result }
+{
+    let Some(mut held) = reclaim(h, alloc) else {
+        return EMPTY;
+    };
+    let code = held.answer(packet, to, size);
+    adopt(h, alloc, held);
+    code
+}
+
+impl Held {
+    // Bytes to Bulk-Out. None is taken where no disk is there yet.
+    fn take(&mut self, bytes: &[u8], taken: &mut usize) -> u32
+        ensures { TakesOut bytes.now taken.old taken.new self.old self.new result }
+    {
+        match &mut self.stage {
+            Stage::Disk(disk) => disk.take_transfer(bytes, taken),
+            Stage::Opening(_) | Stage::Failed(_) => self.purpose.wait_out(taken),
+            Stage::Store(_) | Stage::Image(_) => OTHER_KIND,
+        }
+    }
+
+    // Tokens to Bulk-In. None is given a packet where no disk is there yet.
+    fn send(&mut self, room: &mut [u8], given: &mut usize) -> u32
+        ensures { SendsIn room.old given.old room.new given.new self.old self.new result }
+    {
+        match &mut self.stage {
+            Stage::Disk(disk) => disk.send_transfer(room, given),
+            Stage::Opening(_) | Stage::Failed(_) => self.purpose.wait_in(room, given),
+            Stage::Store(_) | Stage::Image(_) => OTHER_KIND,
+        }
+    }
+
+    // A control request. It is refused where no disk is there yet.
+    fn answer(&mut self, packet: &[u8; 8], to: &mut [u8; 2], size: &mut u32) -> u32
+        ensures { AnswersSetup packet.now to.old size.old to.new size.new self.old self.new result }
+    {
+        match &mut self.stage {
+            Stage::Disk(disk) => disk.setup(packet, to, size),
+            Stage::Opening(_) | Stage::Failed(_) => self.purpose.stall(size),
+            Stage::Store(_) | Stage::Image(_) => OTHER_KIND,
+        }
+    }
+}
+
+impl Purpose {
+    // Bytes to Bulk-Out of a disk that is not there yet: they are to come again.
+    fn wait_out(&self, taken: &mut usize) -> u32
+        ensures { WaitsOut taken.old self.now taken.new result }
+    {
+        match self {
+            Purpose::Disk(_, _) => {
+                *taken = 0;
+                NAK
+            }
+            _ => OTHER_KIND,
+        }
+    }
+
+    // A token to Bulk-In of a disk that is not there yet: it is to come again, with room for a
+    // packet.
+    fn wait_in(&self, room: &[u8], given: &mut usize) -> u32
+        ensures { WaitsIn room.now given.old self.now given.new result }
+    {
+        let Purpose::Disk(_, size) = self else {
+            return OTHER_KIND;
+        };
+        if room.len() < size.bytes() as usize {
+            return BAD_LENGTH;
+        }
+        *given = 0;
+        NAK
+    }
+
+    // A request to a disk that is not there yet: it is refused.
+    fn stall(&self, size: &mut u32) -> u32
+        ensures { IsStalled size.old self.now size.new result }
+    {
+        match self {
+            Purpose::Disk(_, _) => {
+                *size = 0;
+                STALL
+            }
+            _ => OTHER_KIND,
+        }
+    }
+}

@@ -1,0 +1,88 @@
+//! What is done while the bus rests.
+ghost use Rattle.std.specs.Prelude.{◌≡◌};
+ghost use Rattle.calls.specs.Handles.{InHandle};
+ghost use Rattle.calls.specs.Idling.{MakesSteps, ReadsAhead, Rests, ReadsNone, code_of_bool};
+
+use crate::codes::OTHER_KIND;
+use crate::handle::UsbDisk;
+use crate::held::{Held, Purpose, Stage};
+use crate::moves::{adopt, reclaim};
+use disk_calls::EMPTY;
+use std::alloc::Global;
+
+/// Steps in the background.
+pub fn make_steps(alloc: Global, h: &mut UsbDisk) -> u32
+    ensures { InHandle MakesSteps (Unit {0}) h.old.held h.new.held result }
+{
+    let Some(mut held) = reclaim(h, alloc) else {
+        return EMPTY;
+    };
+    let code = held.idle();
+    adopt(h, alloc, held);
+    code
+}
+
+/// The device is to read these sectors when it is free.
+pub fn look_ahead(alloc: Global, h: &mut UsbDisk, first: u64, count: u32) -> u32
+    ensures { InHandle (ReadsAhead first count) (Unit {0}) h.old.held h.new.held result }
+{
+    let Some(mut held) = reclaim(h, alloc) else {
+        return EMPTY;
+    };
+    let code = held.wish(first, count);
+    adopt(h, alloc, held);
+    code
+}
+
+impl Held {
+    // Makes steps, and tells whether some are left.
+    fn idle(&mut self) -> u32
+        ensures { MakesSteps self.old self.new result }
+    {
+        match &mut self.stage {
+            Stage::Disk(disk) => code_of(disk.idle()),
+            Stage::Store(store) => code_of(store.idle()),
+            Stage::Opening(_) | Stage::Failed(_) => self.purpose.rests(),
+            Stage::Image(_) => OTHER_KIND,
+        }
+    }
+
+    // Tells whether the device is to read these sectors when it is free.
+    fn wish(&mut self, first: u64, count: u32) -> u32
+        ensures { ReadsAhead first count self.old self.new result }
+    {
+        match &mut self.stage {
+            Stage::Disk(disk) => code_of(disk.look_ahead(first, count)),
+            Stage::Opening(_) | Stage::Failed(_) => self.purpose.reads_none(),
+            Stage::Store(_) | Stage::Image(_) => OTHER_KIND,
+        }
+    }
+}
+
+impl Purpose {
+    // Whether steps are left of what is not there yet: always.
+    fn rests(&self) -> u32
+        ensures { Rests self.now result }
+    {
+        match self {
+            Purpose::Disk(_, _) | Purpose::Store => 1,
+            Purpose::Format(_) | Purpose::LayLog(_) | Purpose::Migration => OTHER_KIND,
+        }
+    }
+
+    // Whether sectors are read ahead of what is not there yet: never.
+    fn reads_none(&self) -> u32
+        ensures { ReadsNone self.now result }
+    {
+        match self {
+            Purpose::Disk(_, _) => 0,
+            _ => OTHER_KIND,
+        }
+    }
+}
+
+fn code_of(is: bool) -> u32
+    ensures { result ≡ code_of_bool is }
+{
+    if is { 1 } else { 0 }
+}

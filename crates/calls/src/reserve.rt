@@ -1,0 +1,48 @@
+//! What a disk on an image takes of the memory.
+ghost use Rattle.std.specs.Prelude.{◌≡◌, MatchOption};
+ghost use Rattle.calls.specs.Reserve.{IsReserve, HasSuper, IsTheSuper};
+ghost use Rattle.journal.specs.Formats.{shape_of};
+
+use journal::Super;
+
+const SECTOR: usize = 512;
+
+/// How many calls may wait when a packet is taken: the outbox has room for them beside those of the
+/// packet.
+pub(crate) const AHEAD: usize = 256;
+
+/// How many sectors are shown at a time at most, and how many calls the outbox has room for.
+#[derive(Clone, Copy)]
+pub(crate) struct Reserve {
+    pub(crate) span: u32,
+    pub(crate) room: usize,
+}
+
+/// What a disk on an image of these first sectors takes.
+pub(crate) fn reserve_for(near: &[u8]) -> Reserve
+    ensures { IsReserve near.now result.span result.room }
+{
+    match super_of(near) {
+        Some(sizes) => Reserve {
+            span: sizes.format.limit(),
+            room: store_calls::room_for(sizes.format, sizes.slots) as usize + AHEAD,
+        },
+        None => Reserve {
+            span: 0,
+            room: AHEAD,
+        },
+    }
+}
+
+// The super with which these first sectors begin, if they do.
+fn super_of(near: &[u8]) -> Option<Super>
+    ensures { MatchOption result (¬ HasSuper near.now)
+        (λ sizes. IsTheSuper near.now (shape_of sizes)) }
+{
+    if near.len() < SECTOR {
+        return None;
+    }
+    let mut sector = [0; SECTOR];
+    sector.copy_from_slice(&near[..SECTOR]);
+    Super::decode(&sector).ok()
+}

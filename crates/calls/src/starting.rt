@@ -1,0 +1,107 @@
+//! Something starts behind a handle, and stops.
+ghost use Rattle.std.specs.Prelude.{◌≡◌, ◌≢◌, MatchOption};
+ghost use Rattle.std.specs.Option.{SomeIff};
+ghost use Rattle.spec.specs.Packets.{bytes_of};
+ghost use Rattle.spec.specs.Identification.{IsLegible};
+ghost use Rattle.disk_calls.specs.Starting.{identity_of};
+ghost use Rattle.calls.specs.Starting.{StartsDisk, StartsStore, Opens, Stops, started, first_stage};
+
+use crate::handle::UsbDisk;
+use crate::held::{Held, Purpose, Stage};
+use crate::moves::{adopt, holds_any, reclaim};
+use crate::options::UsbDiskOptions;
+use bot_machine::{Identity, PacketSize, StartFault};
+use disk_calls::{ACK, BAD_IDENTITY, BAD_PACKET_SIZE, EMPTY, STARTED, UsbDiskIdentity, number_of};
+use opening::{Opening, Reach};
+use std::alloc::Global;
+
+/// A disk starts behind a handle that holds nothing.
+pub fn start_disk(alloc: Global, h: &mut UsbDisk, options: &UsbDiskOptions) -> u32
+    ensures { StartsDisk options.now h.old.held h.new.held result }
+{
+    if holds_any(h, alloc) {
+        return STARTED;
+    }
+    let Some(size) = packet_size(options.packet) else {
+        return BAD_PACKET_SIZE;
+    };
+    let Some(identity) = read_identity(&options.identity) else {
+        return BAD_IDENTITY;
+    };
+    let disk = Purpose::Disk(identity, size);
+    open(alloc, h, disk, options.sectors, Reach::Near)
+}
+
+/// A store starts behind a handle that holds nothing. Of the options it reads the sectors alone.
+pub fn start_store(alloc: Global, h: &mut UsbDisk, options: &UsbDiskOptions) -> u32
+    ensures { StartsStore options.now h.old.held h.new.held result }
+{
+    if holds_any(h, alloc) {
+        return STARTED;
+    }
+    open(alloc, h, Purpose::Store, options.sectors, Reach::Near)
+}
+
+/// What a handle holds goes.
+pub fn stop(alloc: Global, h: &mut UsbDisk) -> u32
+    ensures { Stops h.old.held h.new.held result }
+{
+    let Some(_held) = reclaim(h, alloc) else {
+        return EMPTY;
+    };
+    ACK
+}
+
+/// What is started goes into a handle that holds nothing.
+pub(crate) fn open(
+    alloc: Global,
+    h: &mut UsbDisk,
+    purpose: Purpose,
+    sectors: u64,
+    reach: Reach,
+) -> u32
+    ensures { Opens purpose sectors reach h.old.held h.new.held result }
+{
+    let stage = first_stage(alloc, sectors, reach);
+    match Box::new(alloc, Held { purpose, stage }) {
+        Ok(held) => {
+            adopt(h, alloc, held);
+            ACK
+        }
+        Err(_) => number_of(StartFault::NoMemory),
+    }
+}
+
+// The first sectors are to be read. Of a device without any there is no image.
+fn first_stage(alloc: Global, sectors: u64, reach: Reach) -> Stage
+    ensures { result ≡ first_stage sectors reach }
+{
+    if sectors == 0 {
+        return Stage::Failed(StartFault::BadSuper);
+    }
+    Stage::Opening(Opening::new(alloc, sectors, reach))
+}
+
+// The size of a packet of `bytes` bytes.
+fn packet_size(bytes: u32) -> Option<PacketSize>
+    ensures { MatchOption result ((bytes ≢ 64) × (bytes ≢ 512)) (λ size. bytes ≡ bytes_of size) }
+{
+    match bytes {
+        64 => Some(PacketSize::Full64),
+        512 => Some(PacketSize::High512),
+        _ => None,
+    }
+}
+
+// The identity of these texts.
+fn read_identity(identity: &UsbDiskIdentity) -> Option<Identity>
+    ensures { SomeIff result (IsLegible (identity_of identity.now)) (identity_of identity.now) }
+{
+    let UsbDiskIdentity {
+        vendor,
+        product,
+        revision,
+        serial,
+    } = *identity;
+    Identity::new(vendor, product, revision, serial)
+}

@@ -1,0 +1,148 @@
+//! What a store reads, writes and makes durable.
+ghost use Rattle.std.specs.Prelude.{◌≡◌};
+ghost use Rattle.calls.specs.Handles.{InHandle};
+ghost use Rattle.calls.specs.Storing.{TellsSizes, ReadsBlocks, WritesBlocks, SyncsStore};
+ghost use Rattle.calls.specs.Storing.{code_before, code_of_fault, code_of_done};
+
+use crate::codes::{BUSY, OTHER_KIND};
+use crate::handle::UsbDisk;
+use crate::held::{Held, Purpose, Stage};
+use crate::moves::{adopt, reclaim};
+use disk_calls::{ACK, BAD_LENGTH, BAD_RANGE, DEAD, EMPTY, UNREAD, number_of};
+use std::alloc::Global;
+use store_calls::StoreFault;
+
+/// How many blocks there are, and how many of them a read or a write has at most.
+pub fn tell_sizes(alloc: Global, h: &mut UsbDisk, blocks: &mut u64, limit: &mut u32) -> u32
+    ensures { InHandle (TellsSizes blocks.old limit.old blocks.new limit.new)
+        ((blocks.new ≡ blocks.old) × (limit.new ≡ limit.old)) h.old.held h.new.held result }
+{
+    let Some(held) = reclaim(h, alloc) else {
+        return EMPTY;
+    };
+    let code = held.sizes(blocks, limit);
+    adopt(h, alloc, held);
+    code
+}
+
+/// Reads whole blocks, as they are after all accepted writes.
+pub fn read_blocks(alloc: Global, h: &mut UsbDisk, block: u64, to: &mut [u8]) -> u32
+    ensures { InHandle (ReadsBlocks block to.old to.new) (to.new ≡ to.old)
+        h.old.held h.new.held result }
+{
+    let Some(mut held) = reclaim(h, alloc) else {
+        return EMPTY;
+    };
+    let code = held.read(block, to);
+    adopt(h, alloc, held);
+    code
+}
+
+/// Writes whole blocks, as one write.
+pub fn write_blocks(alloc: Global, h: &mut UsbDisk, block: u64, bytes: &[u8]) -> u32
+    ensures { InHandle (WritesBlocks block bytes.now) (Unit {0}) h.old.held h.new.held result }
+{
+    let Some(mut held) = reclaim(h, alloc) else {
+        return EMPTY;
+    };
+    let code = held.write(block, bytes);
+    adopt(h, alloc, held);
+    code
+}
+
+/// Makes every accepted write durable.
+pub fn sync(alloc: Global, h: &mut UsbDisk) -> u32
+    ensures { InHandle SyncsStore (Unit {0}) h.old.held h.new.held result }
+{
+    let Some(mut held) = reclaim(h, alloc) else {
+        return EMPTY;
+    };
+    let code = held.sync();
+    adopt(h, alloc, held);
+    code
+}
+
+impl Held {
+    fn sizes(&self, blocks: &mut u64, limit: &mut u32) -> u32
+        ensures { TellsSizes blocks.old limit.old blocks.new limit.new self.now self.now result }
+    {
+        match &self.stage {
+            Stage::Store(store) => {
+                let sizes = store.sizes();
+                *blocks = sizes.blocks;
+                *limit = sizes.limit;
+                ACK
+            }
+            Stage::Opening(_) => self.purpose.code_before(BUSY),
+            Stage::Failed(why) => self.purpose.code_before(number_of(*why)),
+            Stage::Disk(_) | Stage::Image(_) => OTHER_KIND,
+        }
+    }
+
+    fn read(&mut self, block: u64, to: &mut [u8]) -> u32
+        ensures { ReadsBlocks block to.old to.new self.old self.new result }
+    {
+        match &mut self.stage {
+            Stage::Store(store) => code_of(store.read(block, to)),
+            Stage::Opening(_) => self.purpose.code_before(BUSY),
+            Stage::Failed(why) => self.purpose.code_before(number_of(*why)),
+            Stage::Disk(_) | Stage::Image(_) => OTHER_KIND,
+        }
+    }
+
+    fn write(&mut self, block: u64, bytes: &[u8]) -> u32
+        ensures { WritesBlocks block bytes.now self.old self.new result }
+    {
+        match &mut self.stage {
+            Stage::Store(store) => code_of(store.write(block, bytes)),
+            Stage::Opening(_) => self.purpose.code_before(BUSY),
+            Stage::Failed(why) => self.purpose.code_before(number_of(*why)),
+            Stage::Disk(_) | Stage::Image(_) => OTHER_KIND,
+        }
+    }
+
+    fn sync(&mut self) -> u32
+        ensures { SyncsStore self.old self.new result }
+    {
+        match &mut self.stage {
+            Stage::Store(store) => code_of(store.sync()),
+            Stage::Opening(_) => self.purpose.code_before(BUSY),
+            Stage::Failed(why) => self.purpose.code_before(number_of(*why)),
+            Stage::Disk(_) | Stage::Image(_) => OTHER_KIND,
+        }
+    }
+}
+
+impl Purpose {
+    // What a store is told that is not there, by this number; of another kind OTHER_KIND.
+    fn code_before(&self, code: u32) -> u32
+        ensures { result ≡ code_before code self.now }
+    {
+        match self {
+            Purpose::Store => code,
+            _ => OTHER_KIND,
+        }
+    }
+}
+
+// The number of what a call of a store answers.
+fn code_of(done: Result<(), StoreFault>) -> u32
+    ensures { result ≡ code_of_done done }
+{
+    match done {
+        Ok(()) => ACK,
+        Err(why) => code_of_fault(why),
+    }
+}
+
+fn code_of_fault(why: StoreFault) -> u32
+    ensures { result ≡ code_of_fault why }
+{
+    match why {
+        StoreFault::Busy => BUSY,
+        StoreFault::ReadRefused => UNREAD,
+        StoreFault::Dead => DEAD,
+        StoreFault::Length => BAD_LENGTH,
+        StoreFault::Range => BAD_RANGE,
+    }
+}

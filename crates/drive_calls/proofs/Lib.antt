@@ -1,3 +1,0 @@
-pub mod Values
-pub mod InHandle
-pub mod Begun
