@@ -1,1 +1,2 @@
 pub mod Until
+pub mod Kept

@@ -1,5 +1,5 @@
 -- How many sectors are read in all, as more of them are.
-use Rattle.std.proofs.Common.{◌≡◌, ℕ, ◌*◌, ◌<◌, ◌≤◌, min, List, [], ◌∷◌, ◌++◌, length, take, drop, sym, subst, arith}
+use Rattle.std.proofs.Common.{◌≡◌, ℕ, ◌≤◌, min, List, [], ◌∷◌, ◌++◌, length, sym, subst, arith}
 use Rattle.std.proofs.lemmas.List.{take-append-le}
 use Rattle.medium.specs.Writes.{sector_of}
 use Rattle.opening.specs.Near.{IsNear}

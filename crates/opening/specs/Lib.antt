@@ -1,2 +1,4 @@
 pub mod Near
 pub mod Reading
+pub mod Room
+pub mod Inside

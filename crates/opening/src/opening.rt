@@ -1,14 +1,15 @@
 //! The first sectors of a device are read.
-ghost use Rattle.std.specs.Prelude.{◌≡◌, ◌≢◌, ◌<◌, ◌≤◌, ◌*◌, ◌/◌, ◌++◌, ◌↔◌, length};
-ghost use Rattle.std.specs.Prelude.{IsTrue, OnOk, OnErr};
+ghost use Rattle.std.specs.Prelude.{◌≡◌, ◌≢◌, ◌<◌, ◌≤◌, ◌*◌, ◌/◌, ◌++◌, ◌+◌, ◌↔◌, length};
+ghost use Rattle.std.specs.Prelude.{IsTrue, take};
 ghost use Rattle.opening.specs.Reading.{unread, IsSound, IsWhole, AsksToRead, HasRead};
 ghost use Rattle.opening.specs.Reading.{IsUntil, TakesRead, left};
+ghost use Rattle.opening.specs.Room.{MakesRoom};
 
 use crate::near::near_in;
 use crate::reach::Reach;
 use crate::read_end::ReadEnd;
 use device_calls::{DeviceAsk, DeviceRead, DoneFault};
-use std::alloc::{AllocError, Global};
+use std::alloc::Global;
 use std::marker::Model;
 
 const SECTOR: usize = 512;
@@ -19,8 +20,11 @@ const MOST: u64 = 240;
 /// The first sectors of a device, which are read a run at a time, from sector 0 on.
 #[derive(Drop)]
 pub struct Opening {
-    // What was read.
-    near: Vec<u8>,
+    alloc: Global,
+    // Room for all that is read, once sector 0 is: what was read lies at its front.
+    bytes: Vec<u8>,
+    // How many sectors were read.
+    read: u64,
     // How many sectors the device has.
     sectors: u64,
     reach: Reach,
@@ -31,25 +35,15 @@ pub struct Opening {
 }
 
 impl Model for Opening {
-    ghost use Rattle.opening.specs.Reading.{Reading, IsSound};
+    ghost use Rattle.opening.specs.Reading.{Reading};
 
     ghost Value = { Reading };
 
-    ghost view = { λ a. record {
-      near = a.near.items;
-      sectors = a.sectors;
-      reach = a.reach;
-      until = a.until;
-      asked = a.asked;
-    } };
+    ghost use Rattle.opening.specs.Inside.{reading_of, Invariant};
 
-    ghost invariant = { λ a. IsSound (record {
-      near = a.near.items;
-      sectors = a.sectors;
-      reach = a.reach;
-      until = a.until;
-      asked = a.asked;
-    }) };
+    ghost view = { reading_of };
+
+    ghost invariant = { Invariant };
 }
 
 impl Opening {
@@ -58,7 +52,9 @@ impl Opening {
         ensures { result ≡ unread sectors reach }
     {
         Opening {
-            near: Vec::new(alloc),
+            alloc,
+            bytes: Vec::new(alloc),
+            read: 0,
             sectors,
             reach,
             until: sectors.min(1),
@@ -92,9 +88,11 @@ impl Opening {
             return DeviceAsk::Nothing;
         }
         let count = room.min(left.min(MOST)) as u32;
-        let first = (self.near.len() / SECTOR) as u64;
         self.asked = count;
-        DeviceAsk::Read(DeviceRead { first, count })
+        DeviceAsk::Read(DeviceRead {
+            first: self.read,
+            count,
+        })
     }
 
     /// The read that was asked for has ended, good or not: these are its bytes.
@@ -120,7 +118,7 @@ impl Opening {
         ensures is { result ≡ left self.now }
         ensures sound { IsSound self.now }
     {
-        self.until - (self.near.len() / SECTOR) as u64
+        self.until - self.read
     }
 
     // A good read of these bytes has ended.
@@ -132,10 +130,12 @@ impl Opening {
             return Err(DoneFault::BadLength);
         }
         let until = self.until_with(bytes);
-        if append(&mut self.near, bytes, until as usize * SECTOR).is_err() {
+        if !make_room(self.alloc, &mut self.bytes, self.read, until) {
             return Ok(ReadEnd::NoMemory);
         }
+        put(&mut self.bytes, self.read as usize * SECTOR, bytes);
         self.until = until;
+        self.read += u64::from(self.asked);
         self.asked = 0;
         Ok(ReadEnd::Taken)
     }
@@ -147,8 +147,9 @@ impl Opening {
         ensures is { IsUntil self.now.reach self.now.sectors (self.now.near ++ bytes.now) result }
         ensures few { result ≤ 16384 }
         ensures within { length (self.now.near ++ bytes.now) / 512 ≤ result }
+        ensures stays { 0 < length self.now.near → result ≡ self.now.until }
     {
-        if self.near.len() > 0 {
+        if self.read > 0 {
             return self.until;
         }
         match self.reach {
@@ -161,16 +162,31 @@ impl Opening {
     pub fn into_near(self) -> Vec<u8>
         ensures { result.items ≡ self.near }
     {
-        self.near
+        let mut bytes = self.bytes;
+        bytes.truncate(self.read as usize * SECTOR);
+        bytes
     }
 }
 
-// Appends bytes, with room for `size` in all. Nothing changes where there is no memory.
-fn append(near: &mut Vec<u8>, bytes: &[u8], size: usize) -> Result<(), AllocError>
-    ensures ok { OnOk result (near.new.items ≡ near.old.items ++ bytes.now) }
-    ensures err { OnErr result (near.new.items ≡ near.old.items) }
+// Makes room for so many sectors, where none was read. Nothing changes where there is no memory.
+fn make_room(alloc: Global, bytes: &mut Vec<u8>, read: u64, until: u64) -> bool
+    requires { until ≤ 16384 }
+    ensures { MakesRoom read until bytes.old.items bytes.new.items result }
 {
-    let more = size.saturating_sub(near.len());
-    near.reserve_exact(more)?;
-    near.extend_from_slice(bytes)
+    if read > 0 {
+        return true;
+    }
+    let Ok(room) = vec![in alloc; 0u8; until as usize * SECTOR] else {
+        return false;
+    };
+    *bytes = room;
+    true
+}
+
+// Copies these bytes behind the first ones.
+fn put(bytes: &mut [u8], at: usize, more: &[u8])
+    requires { at + length more.now ≤ length bytes.old }
+    ensures { take (at + length more.now) bytes.new ≡ take at bytes.old ++ more.now }
+{
+    bytes[at..at + more.len()].copy_from_slice(more);
 }

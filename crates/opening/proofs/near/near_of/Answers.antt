@@ -1,4 +1,4 @@
-use Rattle.std.proofs.Common.{ap, refl}
+use Rattle.std.proofs.Common.{ap}
 use Rattle.journal.specs.Places.{Shape, first_home}
 use Rattle.opening.proofs.near.near_of.Goals as goal
 
