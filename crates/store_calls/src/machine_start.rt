@@ -28,7 +28,7 @@ fn reserve_for(near: &[u8]) -> Reserve
             span: sizes.format.limit(),
             room: room_for(sizes.format, sizes.slots) as usize,
         },
-        None => Reserve { span: 0, room: 0 },
+        None => Reserve { span: 0, room: 1 },
     }
 }
 
