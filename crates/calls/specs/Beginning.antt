@@ -10,7 +10,7 @@ use Rattle.image_calls.specs.Formats as formats
 use Rattle.image_calls.specs.Images.{IsLaidOn, IsWhole}
 use Rattle.image_calls.specs.Machines as images
 use Rattle.image_calls.specs.Plans.{Migrates, IsPlanFault, shape_by, medium_by}
-use Rattle.image_calls.specs.Works.{Work}
+use Rattle.image_calls.specs.declared.work.Work.{Work}
 use Rattle.image_calls.specs.declared.image_fault.ImageFault.{ImageFault}
 use Rattle.image_calls.specs.declared.image_fault.ImageFault.TheVariants as fault
 use Rattle.image_calls.specs.declared.image_plan.ImagePlan.{ImagePlan}
@@ -24,8 +24,6 @@ use Rattle.calls.specs.declared.held.Stage.TheVariants as stage
 
 -- why there is none: of first sectors that are none BAD_SUPER; nothing else comes
 abbrev pub fault_of_call : CallFault → StartFault
-fault_of_call call.Empty = start.BadSuper
-fault_of_call call.Held = start.BadSuper
 fault_of_call call.LittleRoom = start.BadSuper
 fault_of_call call.Length = start.BadSuper
 fault_of_call call.Range = start.BadSuper
@@ -47,7 +45,6 @@ BeginsStore content o new = (result : Result store.Machine CallFault) × IsStore
 
 -- why there is none: of first sectors that are none BAD_SUPER; sizes were asked for before
 abbrev pub fault_of_image : ImageFault → StartFault
-fault_of_image fault.Held = start.BadSuper
 fault_of_image fault.Length = start.BadSuper
 fault_of_image fault.Sizes = start.BadSize
 fault_of_image (fault.Start why) = why

@@ -90,6 +90,6 @@ fn fault_of_image(why: ImageFault) -> StartFault
     match why {
         ImageFault::Start(cause) => cause,
         ImageFault::Sizes => StartFault::BadSize,
-        ImageFault::Held | ImageFault::Length => StartFault::BadSuper,
+        ImageFault::Length => StartFault::BadSuper,
     }
 }

@@ -1,18 +1,16 @@
-//! The exports of a disk: one for each call of include/usbdisk.h, which tells what each does.
-ghost use Rattle.disk_calls.specs.Exports.{Starts, Stops, TakesOut, SendsIn, AnswersSetup, Ticks};
-ghost use Rattle.disk_calls.specs.Exports.{HandsOut, IsShownTo, TellsNear, TakesOutUnread};
-ghost use Rattle.disk_calls.specs.Starting.{identity_of};
-ghost use Rattle.disk_calls.specs.Room.{TellsRoom, TellsMemory};
-ghost use Rattle.disk_calls.specs.Refused.{IsTold};
-ghost use Rattle.disk_calls.specs.Runs.{HandsOutRun};
+//! The exports that every handle has, and those of a disk.
+ghost use Rattle.std.specs.Prelude.{◌≡◌, ℕ, List};
+ghost use Rattle.calls.specs.Asking.{HandsOut};
+ghost use Rattle.calls.specs.Handles.{InHandle};
+ghost use Rattle.calls.specs.Memory.{TellsMemory};
+ghost use Rattle.calls.specs.Starting.{StartsDisk, Stops};
+ghost use Rattle.calls.specs.State.{TellsState};
+ghost use Rattle.calls.specs.Telling.{TellsDone};
 ghost use Rattle.usbdisk_c.specs.Codes.{TellsVersion};
-ghost use Rattle.window.specs.Window.{fresh};
 
 use crate::codes::VERSION;
-use disk_calls::{UsbDisk, UsbDiskIdentity, memory_for, room_for};
-use journal::Super;
+use calls::{UsbDisk, UsbDiskCall, UsbDiskOptions};
 use std::alloc::Global;
-use window::DeviceHolds;
 
 #[unsafe(no_mangle)]
 pub extern "C" fn usbdisk_version() -> u32
@@ -22,152 +20,53 @@ pub extern "C" fn usbdisk_version() -> u32
 }
 
 #[unsafe(no_mangle)]
-pub extern "C" fn usbdisk_room(format: u32, slots: u64) -> u64
-    ensures { TellsRoom format slots result }
+pub extern "C" fn usbdisk_memory(format: u32, slots: u64) -> u64
+    ensures { TellsMemory format slots result }
 {
-    room_for(format, slots)
+    calls::memory_of(format, slots)
 }
 
 #[unsafe(no_mangle)]
-pub extern "C" fn usbdisk_memory(
-    near_size: u64,
-    format: u32,
-    slots: u64,
-    span: u32,
-    room: u64,
-) -> u64
-    ensures { TellsMemory near_size format slots span room result }
+pub extern "C" fn usbdisk_start(alloc: Global, disk: &mut UsbDisk, options: &UsbDiskOptions) -> u32
+    ensures { StartsDisk options.now disk.old.held disk.new.held result }
 {
-    memory_for(near_size, format, slots, span, room)
-}
-
-#[unsafe(no_mangle)]
-pub extern "C" fn usbdisk_near(sector: &[u8; 512]) -> u64
-    ensures { TellsNear sector.now result }
-{
-    match Super::decode(sector) {
-        Ok(sizes) => sizes.home,
-        Err(_) => 2,
-    }
-}
-
-#[unsafe(no_mangle)]
-pub extern "C" fn usbdisk_start(
-    alloc: Global,
-    disk: &mut UsbDisk,
-    near: &[u8],
-    sectors: u64,
-    device: &DeviceHolds,
-    identity: &UsbDiskIdentity,
-    packet: u32,
-    span: u32,
-    room: usize,
-) -> u32
-    ensures { Starts near.now sectors (fresh sectors near.now device.now.bytes span room)
-        (identity_of identity.now) packet disk.old.disk disk.new.disk result }
-{
-    disk_calls::start_disk(
-        alloc, disk, near, sectors, device, identity, packet, span, room,
-    )
+    calls::start_disk(alloc, disk, options)
 }
 
 #[unsafe(no_mangle)]
 pub extern "C" fn usbdisk_stop(alloc: Global, disk: &mut UsbDisk) -> u32
-    ensures { Stops disk.old.disk disk.new.disk result }
+    ensures { Stops disk.old.held disk.new.held result }
 {
-    disk_calls::stop_disk(alloc, disk)
+    calls::stop(alloc, disk)
 }
 
 #[unsafe(no_mangle)]
-pub extern "C" fn usbdisk_bulk_out(
+pub extern "C" fn usbdisk_next(
     alloc: Global,
     disk: &mut UsbDisk,
-    packet: &[u8],
-    first: &mut u64,
-    count: &mut u32,
+    call: &mut UsbDiskCall,
+    buffer: &mut [u8],
 ) -> u32
-    ensures { TakesOut disk.old.disk packet.now first.old count.old
-        disk.new.disk first.new count.new result }
+    ensures { InHandle (HandsOut call.old buffer.old call.new buffer.new)
+        ((call.new ≡ call.old) × (buffer.new ≡ buffer.old)) disk.old.held disk.new.held result }
 {
-    disk_calls::bulk_out(alloc, disk, packet, first, count)
+    calls::next_call(alloc, disk, call, buffer)
+}
+
+// Whatever the device holds behind the first sectors: the contract holds for each content.
+#[unsafe(no_mangle)]
+pub extern "C" fn usbdisk_done(alloc: Global, disk: &mut UsbDisk, ok: bool, bytes: &[u8]) -> u32
+    ghost content: { List ℕ }
+    ensures { InHandle (TellsDone content ok bytes.now) (Unit {0})
+        disk.old.held disk.new.held result }
+{
+    calls::tell_done(alloc, disk, ok, bytes)
 }
 
 #[unsafe(no_mangle)]
-pub extern "C" fn usbdisk_bulk_out_unread(alloc: Global, disk: &mut UsbDisk, packet: &[u8]) -> u32
-    ensures { TakesOutUnread disk.old.disk packet.now disk.new.disk result }
+pub extern "C" fn usbdisk_state(alloc: Global, disk: &mut UsbDisk, fault: &mut u32) -> u32
+    ensures { InHandle (TellsState fault.new) (fault.new ≡ fault.old)
+        disk.old.held disk.new.held result }
 {
-    disk_calls::bulk_out_unread(alloc, disk, packet)
-}
-
-#[unsafe(no_mangle)]
-pub extern "C" fn usbdisk_show(alloc: Global, disk: &mut UsbDisk, first: u64, bytes: &[u8]) -> u32
-    ensures { IsShownTo disk.old.disk first bytes.now disk.new.disk result }
-{
-    disk_calls::show(alloc, disk, first, bytes)
-}
-
-#[unsafe(no_mangle)]
-pub extern "C" fn usbdisk_bulk_in(
-    alloc: Global,
-    disk: &mut UsbDisk,
-    to: &mut [u8; 512],
-    size: &mut u32,
-) -> u32
-    ensures { SendsIn disk.old.disk to.old size.old disk.new.disk to.new size.new result }
-{
-    disk_calls::bulk_in(alloc, disk, to, size)
-}
-
-#[unsafe(no_mangle)]
-pub extern "C" fn usbdisk_setup(
-    alloc: Global,
-    disk: &mut UsbDisk,
-    packet: &[u8; 8],
-    to: &mut [u8; 2],
-    size: &mut u32,
-) -> u32
-    ensures { AnswersSetup disk.old.disk packet.now to.old size.old
-        disk.new.disk to.new size.new result }
-{
-    disk_calls::setup(alloc, disk, packet, to, size)
-}
-
-#[unsafe(no_mangle)]
-pub extern "C" fn usbdisk_tick(alloc: Global, disk: &mut UsbDisk) -> u32
-    ensures { Ticks disk.old.disk disk.new.disk result }
-{
-    disk_calls::tick(alloc, disk)
-}
-
-#[unsafe(no_mangle)]
-pub extern "C" fn usbdisk_take(
-    alloc: Global,
-    disk: &mut UsbDisk,
-    sector: &mut u64,
-    to: &mut [u8; 512],
-) -> u32
-    ensures { HandsOut disk.old.disk sector.old to.old disk.new.disk sector.new to.new result }
-{
-    disk_calls::take(alloc, disk, sector, to)
-}
-
-#[unsafe(no_mangle)]
-pub extern "C" fn usbdisk_take_run(
-    alloc: Global,
-    disk: &mut UsbDisk,
-    sector: &mut u64,
-    to: &mut [u8],
-    count: &mut usize,
-) -> u32
-    ensures { HandsOutRun disk.old.disk sector.old to.old count.old
-        disk.new.disk sector.new to.new count.new result }
-{
-    disk_calls::take_run(alloc, disk, sector, to, count)
-}
-
-#[unsafe(no_mangle)]
-pub extern "C" fn usbdisk_refused(alloc: Global, disk: &mut UsbDisk) -> u32
-    ensures { IsTold disk.old.disk disk.new.disk result }
-{
-    disk_calls::tell_refused(alloc, disk)
+    calls::tell_state(alloc, disk, fault)
 }
