@@ -55,6 +55,11 @@ def bodies():
     return tuple(found)
 
 
+def proved_bodies():
+    """Those of crates: a judge without a proof has no clause that anybody answers."""
+    return [it for it in bodies() if not it.path.endswith(".unproved")]
+
+
 def long_ones():
     return [f"{it} has {it.function.size}" for it in bodies() if it.function.size > 25]
 
@@ -76,13 +81,13 @@ def crate_of_most_clauses():
 
 
 def over_five():
-    return [f"{it} has {len(it.clauses)}" for it in bodies() if len(it.clauses) > 5]
+    return [f"{it} has {len(it.clauses)}" for it in proved_bodies() if len(it.clauses) > 5]
 
 
 def repeated(word):
     """The clauses of this word that stand the same in another function. Those that an `impl` has to repeat are not counted."""
     places = collections.defaultdict(list)
-    for it in bodies():
+    for it in proved_bodies():
         for clause in it.clauses:
             if clause.word == word:
                 places[clause.says].append(str(it))
@@ -91,7 +96,7 @@ def repeated(word):
 
 def all_of(word):
     """How many clauses of this word there are."""
-    return sum(clause.word == word for it in bodies() for clause in it.clauses)
+    return sum(clause.word == word for it in proved_bodies() for clause in it.clauses)
 
 
 def edited():

@@ -38,8 +38,5 @@ fn memory_on(format: LogFormat, slots: u64) -> u64
 fn slot_memory(format: LogFormat) -> u64
     ensures { result ≡ slot_memory format }
 {
-    match format {
-        LogFormat::One => 2_312,
-        LogFormat::Two => 5_776,
-    }
+    1_928 * format.version() + 8 * u64::from(format.limit())
 }

@@ -1,6 +1,7 @@
 -- How many calls an outbox must have room for, and how much memory a disk takes.
 use Rattle.std.specs.Prelude.{◌≡◌, ◌≢◌, ◌≤◌, ◌<◌, ◌⊎◌, ℕ, ◌+◌, ◌*◌, max}
 use Rattle.journal.specs.Places.{Shape, limit_of}
+use Rattle.journal.specs.Sectors.{version_of}
 use Rattle.journal.specs.declared.log_format.LogFormat.{LogFormat}
 use Rattle.journal.specs.declared.log_format.LogFormat.TheVariants.{One, Two}
 use Rattle.recovery.specs.Calls.{most_start_sends}
@@ -32,10 +33,10 @@ pub record Tells (of : LogFormat → ℕ) (format slots told : ℕ) : Type 0 whe
 abbrev pub TellsNone : ℕ → ℕ → ℕ → Type 0
 TellsNone format slots told = AreNone format slots → told ≡ 0
 
--- how many bytes each slot takes, by measure
+-- How many bytes each slot takes, by measure: the numbers of a record, in format 2 the first bytes
+-- of its blocks too, and for each of these an entry of the index.
 abbrev pub slot_memory : LogFormat → ℕ
-slot_memory One = 2312
-slot_memory Two = 5776
+slot_memory format = 1928 * version_of format + 8 * limit_of format
 
 -- How many bytes of memory a start takes, by measure: the first sectors, the window, the outbox,
 -- two batches and two buffers of a transfer each, what each slot takes, and the disk.
