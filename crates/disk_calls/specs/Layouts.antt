@@ -13,7 +13,7 @@ pub record IsLayout (shape : Shape) (told : UsbDiskLayout) : Type 0 where
   pub format : told.format ≡ version_of shape.format
   pub slots : told.slots ≡ shape.slots
   pub blocks : told.blocks ≡ shape.blocks
-  pub near : told.near ≡ first_home shape
+  pub home : told.home ≡ first_home shape
   pub sectors : told.sectors ≡ sectors_of shape
 
 -- a start refuses a sector with this fault by this number

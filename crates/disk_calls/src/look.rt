@@ -14,7 +14,7 @@ pub struct UsbDiskLayout {
     pub format: u32,
     pub slots: u64,
     pub blocks: u64,
-    pub near: u64,
+    pub home: u64,
     pub sectors: u64,
 }
 
@@ -26,7 +26,7 @@ pub fn layout_of(sizes: &Super) -> UsbDiskLayout
         format: sizes.format.version() as u32,
         slots: sizes.slots,
         blocks: sizes.blocks,
-        near: sizes.home,
+        home: sizes.home,
         sectors: sizes.sectors(),
     }
 }
