@@ -142,8 +142,9 @@ struct usbdisk_layout {
 uint32_t usbdisk_look(const uint8_t sector[512], struct usbdisk_layout *layout);
 
 /* How many bytes of memory a disk takes, on an image of this format (1 or 2) with `slots` log
- * slots, of every size of the device; while it starts it takes the first sectors once more. A store
- * takes less. 0 where there is no such format or number of slots. */
+ * slots, of every size of the device, and no more while it starts. An image that was migrated may
+ * take up to 126,976 bytes more. A store takes less; while it starts it takes the first sectors
+ * twice. 0 where there is no such format or number of slots. */
 uint64_t usbdisk_memory(uint32_t format, uint64_t slots);
 
 /* Who the disk is, as INQUIRY tells it: printable ASCII, padded with spaces, with no final 0. */
@@ -189,6 +190,9 @@ uint32_t usbdisk_stop(struct usbdisk *disk);
  * many as the buffer has room for; then at most 240, in format 1 at most 48. The buffer is the
  * program's, who may have the device read it until usbdisk_done: the library writes it in this call
  * alone, and never keeps its address.
+ *
+ * Where the device has nothing else to do, a disk has it bring blocks home, and write records that
+ * wait: what a later command would have to do, and no flush but the one of each record.
  *
  * size: 512 for each sector that there is room for; 122,880 is enough for each run and each READ.
  *

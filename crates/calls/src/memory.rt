@@ -7,7 +7,7 @@ use crate::reserve::AHEAD;
 use journal::LogFormat;
 
 // What the box behind a handle takes.
-const KEPT: u64 = 2_792;
+const KEPT: u64 = 864;
 
 /// How many bytes of memory a disk takes on an image of this format with `slots` slots, whose
 /// blocks begin behind the log. 0 where there is no such format or number of slots.

@@ -42,4 +42,4 @@ slot_memory format = 1928 * version_of format + 8 * limit_of format
 -- two batches and two buffers of a transfer each, what each slot takes, and the disk.
 abbrev pub memory_of : ℕ → ℕ → ℕ → ℕ → LogFormat → ℕ
 memory_of size slots span room format =
-    size + 512 * span + 528 * room + 2096 * limit_of format + slot_memory format * slots + 2672
+    size + 512 * span + 528 * room + 2096 * limit_of format + slot_memory format * slots + 744
