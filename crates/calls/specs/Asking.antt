@@ -1,5 +1,5 @@
 -- What the device is to do next.
-use Rattle.std.specs.Prelude.{◌≡◌, ◌⊎◌, ℕ, ◌/◌, Bool, List, length}
+use Rattle.std.specs.Prelude.{◌≡◌, ◌⊎◌, ℕ, ◌/◌, List, length}
 use Rattle.store_calls.specs.Outbox.{IsNoRoom}
 use Rattle.device_calls.specs.declared.ask.DeviceAsk.{DeviceAsk}
 use Rattle.device_calls.specs.declared.ask.DeviceAsk.TheVariants as ask
@@ -8,7 +8,6 @@ use Rattle.disk_calls.specs.Codes.{BAD_LENGTH}
 use Rattle.disk_machine.specs.Machine.{Machine}
 use Rattle.disk_machine.specs.Asking.{AsksFor}
 use Rattle.disk_machine.specs.Moves.{StaysSafe}
-use Rattle.disk_machine.specs.Working.{WorksAhead}
 use Rattle.store_calls.specs.Asking as stores
 use Rattle.store_calls.specs.StoreMachine as store
 use Rattle.image_calls.specs.Machines as images
@@ -18,16 +17,6 @@ use Rattle.calls.specs.declared.asks.UsbDiskCall.{UsbDiskCall}
 use Rattle.calls.specs.declared.held.Stage.{Stage}
 use Rattle.calls.specs.declared.held.Stage.TheVariants as stage
 
--- what a disk asks for: where its device has nothing to do, steps that spare later calls come
--- before
-pub record AsksDisk (old : Machine) (room : List ℕ) (what : DeviceAsk) (new : Machine)
-    (filled : List ℕ) : Type 0 where
-  pub mid : Machine
-  pub made : Bool
-  pub worked : WorksAhead old mid made
-  pub asks : AsksFor mid room what new filled
-  pub stays : StaysSafe mid new
-
 -- What the device is asked for: the next of the first sectors, or what the disk, the store or the
 -- work asks for, whose bytes of writes lie at the front of the room. Where there is nothing, it is
 -- asked for nothing.
@@ -36,7 +25,8 @@ Asks (stage.Opening o) room what old new filled = (o' : Reading)
     × (new ≡ record old { stage = stage.Opening o' }) × (filled ≡ room)
     × AsksToRead o (length room / 512) what o'
 Asks (stage.Disk s) room what old new filled = (s' : Machine)
-    × (new ≡ record old { stage = stage.Disk s' }) × AsksDisk s room what s' filled
+    × (new ≡ record old { stage = stage.Disk s' }) × AsksFor s room what s' filled
+    × StaysSafe s s'
 Asks (stage.Store s) room what old new filled = (s' : store.Machine)
     × (new ≡ record old { stage = stage.Store s' }) × stores.TellsNext s room what s' filled
 Asks (stage.Image s) room what old new filled = (s' : images.Machine)

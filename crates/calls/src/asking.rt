@@ -2,7 +2,7 @@
 ghost use Rattle.std.specs.Prelude.{◌≡◌, length};
 ghost use Rattle.store_calls.specs.Outbox.{IsNoRoom};
 ghost use Rattle.calls.specs.Handles.{InHandle};
-ghost use Rattle.calls.specs.Asking.{HandsOut, Asks, AsksDisk};
+ghost use Rattle.calls.specs.Asking.{HandsOut, Asks};
 
 use crate::asks::{UsbDiskCall, told};
 use crate::handle::UsbDisk;
@@ -10,7 +10,6 @@ use crate::held::{Held, Stage};
 use crate::moves::{adopt, reclaim};
 use device_calls::DeviceAsk;
 use disk_calls::{ACK, BAD_LENGTH, EMPTY};
-use disk_machine::DiskMachine;
 use std::alloc::Global;
 
 const SECTOR: usize = 512;
@@ -47,19 +46,10 @@ impl Held {
     {
         match &mut self.stage {
             Stage::Opening(opening) => opening.next((buffer.len() / SECTOR) as u64),
-            Stage::Disk(disk) => ask_disk(disk, buffer),
+            Stage::Disk(disk) => disk.next(buffer),
             Stage::Store(store) => store.next(buffer),
             Stage::Image(image) => image.next(buffer),
             Stage::Failed(_) => DeviceAsk::Nothing,
         }
     }
-}
-
-// What a disk asks for, behind steps that spare later calls where its device has nothing to do.
-fn ask_disk(disk: &mut DiskMachine, buffer: &mut [u8]) -> DeviceAsk
-    requires { ¬ IsNoRoom (length buffer.old) }
-    ensures { AsksDisk disk.old buffer.old result disk.new buffer.new }
-{
-    let _made = disk.work_ahead();
-    disk.next(buffer)
 }
