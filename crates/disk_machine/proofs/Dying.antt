@@ -75,7 +75,7 @@ event_dead old new event answer plays same dead =
       (plays.faulted dead).1,
     )
 
-pub steps_dead : (old : Machine) (most count : ℕ) (new : Disk) → StepsOn most count old.disk new → IsDead old
+steps_dead : (old : Machine) (most count : ℕ) (new : Disk) → StepsOn most count old.disk new → IsDead old
     → LeavesNoMore old (record old { disk = new }) × IsDead (record old { disk = new })
 steps_dead old most zero new same dead =
     subst (λ (d : Disk). LeavesNoMore old (record old { disk = d }) × IsDead (record old { disk = d })) (sym same)

@@ -26,7 +26,7 @@ use Rattle.disk_machine.specs.declared.waiting.Waiting.TheVariants as waiting
 abbrev WaitStays : Machine → Machine → Type 0
 WaitStays old new = WaitsForDevice old → WaitsForDevice new
 
-pub same_wait : (old new : Machine) → new ≡ old → WaitStays old new
+same_wait : (old new : Machine) → new ≡ old → WaitStays old new
 same_wait old new same = subst (λ (s : Machine). WaitStays old s) (sym same) (λ waits. waits)
 
 -- ---- the start
@@ -136,7 +136,7 @@ out_waits old new packet code plays waits some =
 
 -- ---- steps
 
-pub steps_wait : (old : Machine) (most count : ℕ) (new : Disk) → StepsOn most count old.disk new → WaitStays old (record old { disk = new })
+steps_wait : (old : Machine) (most count : ℕ) (new : Disk) → StepsOn most count old.disk new → WaitStays old (record old { disk = new })
 steps_wait old most zero new same = subst (λ (d : Disk). WaitStays old (record old { disk = d })) (sym same) (λ waits. waits)
 steps_wait old most (suc count) new steps = λ waits.
     event_waits (record old { disk = steps.0 }) (record old { disk = new }) _ _ steps.3 refl refl

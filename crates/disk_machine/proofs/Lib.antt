@@ -8,7 +8,6 @@ pub mod Playing
 pub mod Staying
 pub mod Lagging
 pub mod Dying
-pub mod WorkSteps
 pub mod Living
 pub mod Turning
 pub mod Transferring

@@ -16,7 +16,7 @@ use Rattle.bot_machine.specs.BookLaws.{GrowsBy}
 use Rattle.bot_machine.specs.Disk.{over}
 use Rattle.disk_machine.specs.Ahead.{LooksAhead}
 use Rattle.disk_machine.specs.Idling.{HasStepped}
-use Rattle.disk_machine.specs.Lives.{Call, next, done, bulk_out, bulk_in, take_transfer, send_transfer, setup, idle, work_ahead, look_ahead}
+use Rattle.disk_machine.specs.Lives.{Call, next, done, bulk_out, bulk_in, take_transfer, send_transfer, setup, idle, look_ahead}
 use Rattle.disk_machine.specs.Lives.{IsMade, turns_of, ServesLater, ServesThroughout, turns_in_all}
 use Rattle.disk_machine.specs.Machine.{Machine, Serves, has_refused}
 use Rattle.disk_machine.specs.Moves.{ServesOn, ServesEvent, ServesToken}
@@ -25,9 +25,7 @@ use Rattle.disk_machine.specs.Transfers.{packet_at, TakesFirst, EndsTaking, Take
 use Rattle.disk_machine.specs.Transfers.{EndsSending, SendsTransfer, SendsInto}
 use Rattle.disk_machine.specs.Turns.{Turn, played, TurnsRun, turns_one, turns_in, turns_idle, turns_taken, turns_not_taken}
 use Rattle.disk_machine.specs.Turns.{turns_of_taking, turns_at, turns_sent, turns_last, turns_of_sending, turns_into}
-use Rattle.disk_machine.specs.Working.{HasWorked, turns_working}
 use Rattle.disk_machine.proofs.StepLaws.{opening_stays, writes_grow}
-use Rattle.disk_machine.proofs.WorkSteps.{are_steps}
 use Rattle.disk_machine.proofs.Turning.{runs_through, same_over, asks_say, done_says, steps_run}
 
 abbrev LivesOn : Machine → List Turn → Machine → Type 0
@@ -145,13 +143,6 @@ idled old new (inr (free, makes, others)) on = λ told book serves.
     with_book old new (turns_idle old new (inr (free, makes, others))) told told book (omega arith) (on told book serves)
     (steps_run old.most makes.count old new.disk makes.steps told book serves)
 
-worked : (old new : Machine) (made : Bool) (works : HasWorked old new made) → ServesOn old new
-    → LivesOn old (turns_working old new made works) new
-worked old new made (inl busy) on = nothing_changes old new busy.1
-worked old new made (inr (leisure, makes, others)) on = λ told book serves.
-    with_book old new (turns_working old new made (inr (leisure, makes, others))) told told book (omega arith) (on told book serves)
-    (steps_run old.most makes.count old new.disk (are_steps old.most makes.count old.disk new.disk makes.steps) told book serves)
-
 looked : (old new : Machine) (first count : ℕ) (reads : Bool) → LooksAhead old first count new reads → LivesOn old [] new
 looked old new first count true looks =
     served_on old new [] looks.stays.serves (same_over old new (ap (λ (s : Machine). s.disk) looks.one.2))
@@ -234,7 +225,6 @@ one (send_transfer room) old new (was, filled, given, code, sends) = sent_into o
 one (setup packet room) old new (filled, size, code, answers) =
     served_event old new (event.Setup packet) answers.0 answers.4
 one idle old new (left, idles) = idled old new idles.stepped idles.serves
-one work_ahead old new (made, works) = worked old new made works.worked works.serves
 one (look_ahead first count) old new (reads, looks) = looked old new first count reads looks
 
 pub serves_throughout : ServesThroughout

@@ -35,7 +35,7 @@ keeps_room : (old new : Machine) → new.most ≡ old.most → layout_on new.dis
     → (medium_of new.disk).room ≡ (medium_of old.disk).room → RoomStays old new
 keeps_room old new most layout room fits = omega (arith, most, room, ap (λ (s : Shape). room_for s) layout, fits)
 
-pub same_room : (old new : Machine) → new ≡ old → RoomStays old new
+same_room : (old new : Machine) → new ≡ old → RoomStays old new
 same_room old new same = subst (λ (s : Machine). RoomStays old s) (sym same) (λ fits. fits)
 
 -- ---- calls that leave the outbox
@@ -132,7 +132,7 @@ has_room s free fits = elim (cases_lt s.most (length (medium_of s.disk).outbox))
   | inr few ↦ omega (arith, few, fits)
 ]
 
-pub step_room : (old : Machine) (most count : ℕ) (new : Disk) → StepsOn most count old.disk new → RoomStays old (record old { disk = new })
+step_room : (old : Machine) (most count : ℕ) (new : Disk) → StepsOn most count old.disk new → RoomStays old (record old { disk = new })
 step_room old most zero new same = disk_stays old (record old { disk = new }) refl same
 step_room old most (suc count) new steps = λ fits.
     event_room (record old { disk = steps.0 }) (record old { disk = new }) _ _ steps.3 refl

@@ -7,4 +7,3 @@ pub mod Moves
 pub mod Packets
 pub mod Transfers
 pub mod Turns
-pub mod Working

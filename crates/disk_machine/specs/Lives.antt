@@ -16,7 +16,6 @@ use Rattle.disk_machine.specs.Packets.{TakesOut, SendsIn, AnswersSetup}
 use Rattle.disk_machine.specs.Transfers.{TakesTransfer, SendsInto}
 use Rattle.disk_machine.specs.Turns.{Turn, played, TurnsRun, turns_out, turns_in, turns_done}
 use Rattle.disk_machine.specs.Turns.{turns_idle, turns_of_taking, turns_into}
-use Rattle.disk_machine.specs.Working.{WorksAhead, turns_working}
 
 -- a call, with what it is given
 pub data Call : Type 0 where
@@ -28,7 +27,6 @@ pub data Call : Type 0 where
   send_transfer : List ℕ → Call
   setup : List ℕ → List ℕ → Call
   idle : Call
-  work_ahead : Call
   look_ahead : ℕ → ℕ → Call
 
 -- the call is made, as its contract says; what the device read is told as it is
@@ -48,7 +46,6 @@ IsMade (send_transfer room) old new = (was : ℕ) × (filled : List ℕ) × (giv
 IsMade (setup packet room) old new = (filled : List ℕ) × (size : ℕ) × (code : ℕ)
     × AnswersSetup old packet room new filled size code
 IsMade idle old new = (left : Bool) × Idles old new left
-IsMade work_ahead old new = (made : Bool) × WorksAhead old new made
 IsMade (look_ahead first count) old new = (reads : Bool) × LooksAhead old first count new reads
 
 abbrev pub AreMade : List Call → Machine → Machine → Type 0
@@ -69,7 +66,6 @@ turns_of (send_transfer room) old new (was, filled, given, code, sends) =
 turns_of (setup packet room) old new (filled, size, code, answers) =
     played (event.Setup packet) answers.0 ∷ []
 turns_of idle old new (left, idles) = turns_idle old new idles.stepped
-turns_of work_ahead old new (made, works) = turns_working old new made works.worked
 turns_of (look_ahead first count) old new made = []
 
 abbrev pub turns_in_all : (calls : List Call) (old new : Machine) → AreMade calls old new

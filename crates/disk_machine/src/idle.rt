@@ -38,7 +38,7 @@ impl DiskMachine {
     }
 
     // Whether no step is made now.
-    pub(crate) fn is_held(&self) -> bool
+    fn is_held(&self) -> bool
         ensures { IsTrue result ↔ IsHeld self.now }
     {
         self.is_waiting() || self.is_reading() || self.is_wanted()
@@ -78,7 +78,7 @@ fn make_steps(disk: &mut Disk<WindowMedium>, most: usize)
 }
 
 // Whether so few calls wait that a step is made.
-pub(crate) fn is_short(disk: &Disk<WindowMedium>, most: usize) -> bool
+fn is_short(disk: &Disk<WindowMedium>, most: usize) -> bool
     ensures { IsTrue result ↔ IsShort most disk.now }
 {
     let waiting = disk.medium().waiting();

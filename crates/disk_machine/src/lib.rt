@@ -13,7 +13,6 @@ mod tokens;
 mod told;
 mod transfers;
 mod waiting;
-mod working;
 
 pub use asked::Asked;
 pub use lack::Lack;
