@@ -7,7 +7,7 @@ use Rattle.medium.specs.Sent.{SendsUpTo}
 use Rattle.medium.specs.declared.fault.MediumFault.TheVariants.{Flush}
 use Rattle.cache.specs.Entries.{Entries}
 use Rattle.redo_log.specs.Value.{begun, died, IsStepped, IsRetireStepped, next_calls}
-use Rattle.redo_log.specs.Value.{next_sends, next_step_flushes, next_turn_flushes, IsAway}
+use Rattle.redo_log.specs.Value.{next_sends, next_step_flushes, next_turn_flushes}
 use Rattle.redo_log.specs.declared.progress.Progress.{Progress}
 use Rattle.redo_log.specs.declared.progress.Progress.TheVariants.{More, Durable}
 use Rattle.blocks.specs.declared.fault.StoreFault.{StoreFault}
@@ -112,14 +112,6 @@ pub record CountsRetired {M : Type 0} (old new : StoreValue M) : Type 0 where
 -- store goes ahead three slots are free: two are left for records that a call has to begin.
 abbrev pub MayBegin : Bool → Cached → Type 0
 MayBegin ahead s = IsRoomy ahead s.log × (0 < unwritten s)
-
--- The next step spares a later call: it goes on with the record under way, begins that of the
--- frozen batch, or brings a block of the oldest record home. It makes no flush but the one of a
--- record, which that record needs anyway.
-abbrev pub HasWorkAhead : Bool → Cached → Type 0
-HasWorkAhead ahead s = (is_dead s ≡ false) × ((0 < s.log.steps_left)
-    ⊎ ((s.log.steps_left ≡ 0) × ((MayBegin ahead s × (0 < length s.frozen.numbers))
-    ⊎ ((¬ MayBegin ahead s) × IsAway s.log))))
 
 -- One background step. A dead store makes none. With a record under way only that record goes on;
 -- else the next batch is begun where it may be, and the oldest record is retired where none may.

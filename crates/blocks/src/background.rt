@@ -8,7 +8,6 @@ ghost use Rattle.blocks.specs.Turns.{IsTurn};
 ghost use Rattle.blocks.specs.Passing.{PassesOn, MayEmpty};
 ghost use Rattle.blocks.specs.Background.{IsBackgroundStep, CountsDown, WorksOn, BeginsNext};
 ghost use Rattle.blocks.specs.Background.{Freezes, Begins, StepsOn, RetiresOn, MayBegin};
-ghost use Rattle.blocks.specs.Background.{HasWorkAhead};
 
 use crate::{Store, StoreFault};
 use medium::Medium;
@@ -49,24 +48,6 @@ impl<M: Medium> Store<M> {
             return;
         }
         let _ = self.retire();
-    }
-
-    /// Whether the next step spares a later call: it goes on with the record under way, begins that
-    /// of the frozen batch, or brings a block of the oldest record home. It makes no flush but the
-    /// one of a record. So it may be made whenever the medium has nothing else to do.
-    pub fn has_work_ahead(&self) -> bool
-        ensures { IsTrue result ↔ HasWorkAhead self.now.goes_ahead self.now.cached }
-    {
-        if self.is_dead() {
-            return false;
-        }
-        if self.writing {
-            return true;
-        }
-        if self.may_begin() {
-            return !self.frozen.is_empty();
-        }
-        self.log.is_away()
     }
 
     // Whether a record may be begun: the log has room, and a batch holds blocks. A store that goes

@@ -7,8 +7,7 @@ ghost use mathlib.Core.Option.{none};
 ghost use Rattle.medium.specs.Moments.{EachCut, IsUnchanged};
 ghost use Rattle.spec.specs.Book.{Book};
 ghost use Rattle.scsi_unit.specs.Books.{MayFind};
-ghost use Rattle.scsi_unit.specs.Background.{IsSettled, HasLimits, HasWorkAhead};
-ghost use Rattle.scsi_unit.specs.Background.{is_dead, steps_left};
+ghost use Rattle.scsi_unit.specs.Background.{IsSettled, HasLimits, is_dead, steps_left};
 ghost use Rattle.scsi_unit.specs.Serving.{TicksOver};
 ghost use Rattle.scsi_unit.specs.Starting.{HasLimit};
 ghost use Rattle.scsi_unit.specs.UnitValue.{unit_limit, TellsLimit};
@@ -86,17 +85,6 @@ impl<M: Medium> Disk<M> {
             self.now.unit.store.cached }
     {
         self.unit.is_settled()
-    }
-
-    /// Whether the next step in the background spares a later call, and makes no flush but the one
-    /// of a record: it goes on with the record under way, begins that of the frozen batch, or
-    /// brings a block of the oldest record home. So it may be made whenever the medium has nothing
-    /// else to do.
-    pub fn has_work_ahead(&self) -> bool
-        ensures { IsTrue result
-            ↔ HasWorkAhead self.now.unit.store.goes_ahead self.now.unit.store.cached }
-    {
-        self.unit.has_work_ahead()
     }
 
     /// The medium that the disk stands on.

@@ -4,7 +4,6 @@ ghost use Rattle.std.specs.Prelude.{◌↔◌, IsTrue};
 ghost use Rattle.inlet.specs.Inlet.{AreHeld};
 ghost use Rattle.medium.specs.Moments.{EachCut, IsUnchanged};
 ghost use Rattle.spec.specs.Book.{Book};
-ghost use Rattle.blocks.specs.Background.{HasWorkAhead};
 ghost use Rattle.blocks.specs.Finding.{MayFind};
 ghost use Rattle.blocks.specs.Settled.{IsSettled};
 ghost use Rattle.blocks.specs.StoreValue.{is_dead, steps_left, HasLimits, FitsBook};
@@ -137,16 +136,6 @@ impl<M: Medium> Unit<M> {
             → IsSettled (M.state self.now.store.medium) self.now.store.cached }
     {
         self.store.is_settled()
-    }
-
-    /// Whether the next step in the background spares a later call, and makes no flush but the one
-    /// of a record: it goes on with the record under way, begins that of the frozen batch, or
-    /// brings a block of the oldest record home.
-    pub fn has_work_ahead(&self) -> bool
-        ensures { IsTrue result
-            ↔ HasWorkAhead self.now.store.goes_ahead self.now.store.cached }
-    {
-        self.store.has_work_ahead()
     }
 
     /// The medium that the unit stands on.
