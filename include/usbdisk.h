@@ -191,9 +191,6 @@ uint32_t usbdisk_stop(struct usbdisk *disk);
  * program's, who may have the device read it until usbdisk_done: the library writes it in this call
  * alone, and never keeps its address.
  *
- * Where the device has nothing else to do, a disk has it bring blocks home, and write records that
- * wait: what a later command would have to do, and no flush but the one of each record.
- *
  * size: 512 for each sector that there is room for; 122,880 is enough for each run and each READ.
  *
  * Answers 0; or EMPTY, or BAD_LENGTH where size is 0 or no multiple of 512. */
