@@ -121,7 +121,7 @@ pub trait Calls: Holds {
             1 => State::Serving,
             2 => State::Faulted,
             3 => State::Done,
-            _ => State::Failed(Fault::of(fault).unwrap_or(Fault::Dead)),
+            _ => State::Failed(Fault::told(fault)),
         }
     }
 

@@ -99,6 +99,12 @@ impl Refusal {
     }
 }
 
+impl Fault {
+    pub(crate) fn told(code: u32) -> Fault {
+        Fault::of(code).unwrap_or_else(|| unreachable!("a fault that usbdisk.h does not have"))
+    }
+}
+
 impl Misuse {
     // Of a call that answers 0 or what is wrong with it.
     pub(crate) fn check(code: u32) -> Result<(), Misuse> {
@@ -157,5 +163,41 @@ impl<E: fmt::Display> fmt::Display for Error<E> {
             Error::Refused(refusal) => refusal.fmt(f),
             Error::Device(error) => error.fmt(f),
         }
+    }
+}
+
+#[cfg(test)]
+mod tests {
+    extern crate std;
+    use super::{Fault, Misuse};
+    use std::{collections::BTreeMap, format, string::String, vec::Vec};
+
+    const HEADER: &str = include_str!("../../../include/usbdisk.h");
+
+    // The numbers of an enumeration of the header, by the names that Rust has for them.
+    fn numbers(name: &str) -> BTreeMap<u32, String> {
+        let from = HEADER.find(&format!("enum {name} {{")).unwrap();
+        let rows = HEADER[from..].split('}').next().unwrap().lines();
+        let pairs = rows.filter_map(|row| row.trim().strip_prefix("USBDISK_")?.split_once(" = "));
+        let number = |told: &str| told.split([',', ' ']).next().unwrap().parse().unwrap();
+        pairs.map(|(it, told)| (number(told), camel(it))).collect()
+    }
+
+    fn camel(name: &str) -> String {
+        let words = name.split('_').map(|word| word.split_at(1));
+        let words: Vec<_> = words
+            .map(|(head, rest)| format!("{head}{}", rest.to_lowercase()))
+            .collect();
+        words.concat()
+    }
+
+    #[test]
+    fn each_number_is_that_of_the_header() {
+        let found = (0..64).filter_map(|it| Some((it, format!("{:?}", Fault::of(it)?))));
+        assert_eq!(found.collect::<BTreeMap<_, _>>(), numbers("usbdisk_fault"));
+        let found = (0..64).filter_map(|it| Some((it, format!("{:?}", Misuse::of(it)?))));
+        let mut told = numbers("usbdisk_error");
+        told.retain(|_, it| !["Empty", "Started", "OtherKind"].contains(&it.as_str()));
+        assert_eq!(found.collect::<BTreeMap<_, _>>(), told);
     }
 }
