@@ -111,3 +111,42 @@ pub fn migrate<D: Device>(device: &mut D, buffer: &mut [u8]) -> Result<(), Error
     let mut image = Image::migrate(device.sectors())?;
     image.carry_out(device, buffer).map(|_| ())
 }
+
+#[cfg(test)]
+mod tests {
+    use super::{Device, Plan};
+
+    struct Long(u64);
+
+    impl Device for Long {
+        type Error = ();
+
+        fn sectors(&self) -> u64 {
+            self.0
+        }
+
+        fn read(&mut self, _first: u64, _bytes: &mut [u8]) -> Result<(), ()> {
+            Err(())
+        }
+
+        fn write(&mut self, _first: u64, _bytes: &[u8]) -> Result<(), ()> {
+            Err(())
+        }
+
+        fn flush(&mut self) -> Result<(), ()> {
+            Err(())
+        }
+    }
+
+    #[test]
+    fn as_many_blocks_as_there_is_room_for() {
+        let blocks = |sectors, format, slots| Plan::on(&Long(sectors), format, slots, 0).blocks;
+        assert_eq!(blocks(1000, 1, 2), 898);
+        assert_eq!(blocks(1000, 2, 2), 500);
+        assert_eq!(blocks(1000, 2, 4), 2);
+        assert_eq!(blocks(1000, 2, 5), 0);
+        assert_eq!(blocks((1 << 31) + 501, 2, 2), 1 << 31);
+        assert_eq!(blocks(u64::MAX, 2, 64), 1 << 31);
+        assert_eq!(Plan::on(&Long(1000), 2, 2, 7).blocks, 7);
+    }
+}

@@ -1,0 +1,74 @@
+//! What is started takes memory, and gives all of it back where it is dropped.
+use std::alloc::{GlobalAlloc, Layout, System};
+use std::cell::Cell;
+use usbdisk::{memory, version, Disk, Identity, Image, Plan, Store, VERSION};
+
+struct Counted;
+
+thread_local! {
+    static TAKEN: Cell<usize> = const { Cell::new(0) };
+}
+
+// SAFETY: the system's allocator does all of it.
+unsafe impl GlobalAlloc for Counted {
+    unsafe fn alloc(&self, layout: Layout) -> *mut u8 {
+        TAKEN.with(|it| it.set(it.get().wrapping_add(layout.size())));
+        System.alloc(layout)
+    }
+
+    unsafe fn dealloc(&self, at: *mut u8, layout: Layout) {
+        TAKEN.with(|it| it.set(it.get().wrapping_sub(layout.size())));
+        System.dealloc(at, layout)
+    }
+}
+
+#[global_allocator]
+static COUNTED: Counted = Counted;
+
+/// How much is taken while it is there. Then nothing is.
+fn taken<T>(make: impl FnOnce() -> T) -> usize {
+    let before = TAKEN.with(Cell::get);
+    let made = make();
+    let taken = TAKEN.with(Cell::get).wrapping_sub(before);
+    drop(made);
+    assert_eq!(TAKEN.with(Cell::get), before);
+    taken
+}
+
+#[test]
+fn library_and_crate_are_of_one_version() {
+    assert_eq!(version(), VERSION);
+    let told = format!(
+        "{}.{}.{}",
+        VERSION >> 16,
+        VERSION >> 8 & 0xFF,
+        VERSION & 0xFF
+    );
+    assert_eq!(told, env!("CARGO_PKG_VERSION"));
+}
+
+#[test]
+fn an_identity_is_padded() {
+    let who = Identity::new("EXAMPLE", "", "0001", "000000000001");
+    assert_eq!((who.vendor, who.product), (*b"EXAMPLE ", [b' '; 16]));
+}
+
+#[test]
+fn what_is_dropped_gives_its_memory_back() {
+    let who = Identity::new("EXAMPLE", "COUNTED", "0001", "000000000001");
+    let (sectors, format, slots, blocks) = (1000, 1, 2, 64);
+    let plan = Plan {
+        sectors,
+        format,
+        slots,
+        blocks,
+    };
+    assert!(taken(|| Disk::start(sectors, &who, 512).unwrap()) > 0);
+    assert!(taken(|| Store::start(sectors).unwrap()) > 0);
+    assert!(taken(|| Image::format(&plan).unwrap()) > 0);
+    assert!(taken(|| Image::lay_log(&plan).unwrap()) > 0);
+    assert!(taken(|| Image::migrate(sectors).unwrap()) > 0);
+    assert_eq!(taken(|| Disk::start(sectors, &who, 63).err()), 0);
+    assert!(memory(1, 3) > memory(1, 2) && memory(1, 2) > 0);
+    assert_eq!((memory(3, 2), memory(2, 65)), (0, 0));
+}
