@@ -85,28 +85,35 @@ static void play_recovery(void)
     end(&disk);
 }
 
-/* What comes while a disk starts, and behind it. */
+/* What comes while a disk starts: `read` of its first sectors were read. */
+static void play_bus_between(struct usbdisk *disk, uint64_t read)
+{
+    uint32_t fault;
+    size_t moved = UNTOLD;
+    bool serves = usbdisk_state(disk, &fault) == USBDISK_SERVING;
+    must(serves || (usbdisk_out(disk, bytes, 31, &moved) == USBDISK_NAK && !moved),
+         "a packet while a disk starts");
+    must(usbdisk_in(disk, bytes, 512, &moved) == USBDISK_NAK && !moved, "nothing is to be sent");
+    must(serves || !usbdisk_ahead(disk, FIRST, 1), "sectors ahead while a disk starts");
+    must(usbdisk_idle(disk) == (read < FIRST), "steps are left until the first sectors are read");
+    moved = UNTOLD;
+    must(usbdisk_in(disk, bytes, 511, &moved) == USBDISK_BAD_LENGTH && moved == UNTOLD,
+         "room for no packet");
+}
+
+/* And behind it. */
 static void play_bus(void)
 {
     struct usbdisk disk = USBDISK_NONE;
-    struct usbdisk_call call;
-    uint32_t fault;
+    struct usbdisk_call call = { .kind = USBDISK_NOTHING };
+    uint64_t read = 0;
     size_t moved = UNTOLD;
     begin(&disk);
     for (bool goes_on = true; goes_on; goes_on = carry_one(&disk, medium, &call)) {
-        bool serves = usbdisk_state(&disk, &fault) == USBDISK_SERVING;
-        must(serves || (usbdisk_out(&disk, bytes, 31, &moved) == USBDISK_NAK && !moved),
-             "a packet while a disk starts");
-        must(usbdisk_in(&disk, bytes, 512, &moved) == USBDISK_NAK && !moved,
-             "nothing is to be sent");
-        must(serves || (usbdisk_idle(&disk) == 1 && !usbdisk_ahead(&disk, FIRST, 1)),
-             "a step while a disk starts");
-        moved = UNTOLD;
-        must(usbdisk_in(&disk, bytes, 511, &moved) == USBDISK_BAD_LENGTH && moved == UNTOLD,
-             "room for no packet");
+        read += call.kind == USBDISK_READ ? call.count : 0;
+        play_bus_between(&disk, read);
     }
     state_of(&disk, USBDISK_SERVING);
-    must(!usbdisk_idle(&disk), "steps of a disk that has begun");
     must(!usbdisk_out(&disk, bytes, 0, &moved) && !moved, "an empty packet");
     must(usbdisk_out(&disk, bytes, 31, &moved) == USBDISK_STALL && !moved, "behind no wrapper");
     must(usbdisk_in(&disk, bytes, 512, &moved) == USBDISK_STALL && !moved, "Bulk-In behind it");
