@@ -1,5 +1,5 @@
-/* How much memory a disk takes, by format and slots, against what usbdisk_memory tells, how much
- * more while it starts, and that a store takes less; how much stack a start and the events take. */
+/* How much memory a disk takes, by format and slots, against what usbdisk_memory tells, and that a
+ * store takes less; how much stack a start and the events take. */
 #include "gadget.h"
 #include "image.h"
 #include "stack.h"
@@ -36,16 +36,16 @@ static bool serves(struct usbdisk *handle)
     return usbdisk_state(handle, &fault) == USBDISK_SERVING;
 }
 
-/* The memory that a disk takes is what usbdisk_memory tells, to the byte, and while it starts the
- * first sectors once more. */
+/* The memory that a disk takes is what usbdisk_memory tells, to the byte, and no more while it
+ * starts. */
 static bool is_memory_told(uint32_t format, uint64_t slots, bool tells)
 {
     struct usbdisk disk = USBDISK_NONE;
-    uint64_t told = usbdisk_memory(format, slots), first = 512 * home_of(format, slots);
+    uint64_t told = usbdisk_memory(format, slots);
     make_device(format, slots);
     heap_most = heap_now;
-    bool good = !usbdisk_start(&disk, &options) && serves(&disk) && told == heap_now &&
-                heap_most <= told + first;
+    bool good =
+        !usbdisk_start(&disk, &options) && serves(&disk) && told == heap_now && heap_most == told;
     if (!good || tells)
         printf("format %u, %llu slots: %zu bytes, at most %zu, told %llu\n", format,
                (unsigned long long)slots, heap_now, heap_most, (unsigned long long)told);
@@ -54,12 +54,15 @@ static bool is_memory_told(uint32_t format, uint64_t slots, bool tells)
     return good && heap_blocks == 0;
 }
 
+/* A store takes less, and the first sectors twice while it starts. */
 static bool is_store_less(uint32_t format, uint64_t slots, bool tells)
 {
     struct usbdisk store = USBDISK_NONE;
-    uint64_t told = usbdisk_memory(format, slots);
+    uint64_t told = usbdisk_memory(format, slots), first = 512 * home_of(format, slots);
     make_device(format, slots);
-    bool good = !usbdisk_store_start(&store, &options) && serves(&store) && heap_now < told;
+    heap_most = heap_now;
+    bool good = !usbdisk_store_start(&store, &options) && serves(&store) && heap_now < told &&
+                heap_most <= heap_now + first;
     if (!good || tells)
         printf("store of format %u, %llu slots: %zu bytes less\n", format,
                (unsigned long long)slots, (size_t)told - heap_now);

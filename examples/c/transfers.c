@@ -76,17 +76,17 @@ static void attend(struct usbdisk_io *io)
          "REQUEST SENSE");
 }
 
-/* A start takes what is told, and not more than the first sectors besides while it runs. */
+/* A start takes what is told, and no more while it runs. */
 static struct usbdisk_io *start(uint32_t packet)
 {
     struct usbdisk_layout layout;
     struct usbdisk_io *io = NULL;
     must(!usbdisk_look(device[0], &layout), "no image");
-    size_t most = layout.format == 1 ? 48 : 240, first = layout.home * 512;
+    size_t most = layout.format == 1 ? 48 : 240;
     size_t told = usbdisk_memory(layout.format, layout.slots) + 512 * most;
     heap_most = heap_now;
     must(!usbdisk_io_start(&io, &memory, &who, packet), "a start");
-    must(heap_now > told && heap_now < told + 256 && heap_most <= heap_now + first, "its memory");
+    must(heap_now > told && heap_now < told + 256 && heap_most == heap_now, "its memory");
     attend(io);
     return io;
 }
