@@ -73,8 +73,7 @@ bool usbdisk_identify(struct usbdisk_identity *who, const char *vendor, const ch
  * speed, 512 at high speed.
  *
  * Takes as much memory as usbdisk_memory tells, the buffer of one call of the device (24,576 bytes
- * in format 1, 122,880 in format 2) and less than 256 bytes. While it runs it takes the first
- * sectors once more.
+ * in format 1, 122,880 in format 2) and less than 256 bytes.
  *
  * Answers 0, and `*io` is the disk; or why there is none, and `*io` stays: NO_MEMORY; READ_REFUSED,
  * WRITE_REFUSED or FLUSH_REFUSED of the device; BAD_SUPER, BAD_VERSION, BAD_SIZE, BAD_HEAD or

@@ -159,8 +159,9 @@ pub fn version() -> u32 {
     unsafe { sys::usbdisk_version() }
 }
 
-/// How many bytes of memory a disk takes, on an image of this format with so many slots; while it starts
-/// it takes the first sectors once more. A store takes less. 0 where there is no such image.
+/// How many bytes of memory a disk takes, on an image of this format with so many slots, and no more
+/// while it starts. An image that was migrated may take up to 126,976 bytes more. A store takes less;
+/// while it starts it takes the first sectors twice. 0 where there is no such image.
 pub fn memory(format: u32, slots: u64) -> u64 {
     // SAFETY: the call takes numbers alone.
     unsafe { sys::usbdisk_memory(format, slots) }
