@@ -5,9 +5,8 @@
 #include "board.h"
 #include "usbdisk.h"
 
-/* Enough for a start in format 2 with three slots: usbdisk_memory tells the bytes, and while it
- * runs it takes the first sectors once more. */
-enum { HEAP = 5 << 19 };
+/* Enough for a start in format 2 with three slots: usbdisk_memory tells the bytes. */
+enum { HEAP = 2 << 20 };
 
 static _Alignas(16) uint8_t heap[HEAP];
 static size_t taken, blocks;
