@@ -1,7 +1,8 @@
-/* A library to be loaded before a program (LD_PRELOAD): each call by which the program opens a file, locks it, gives it a length, reads, writes or
- * synchronises it is a line on descriptor 9, with the descriptor of the file first, and behind a read or write its place and how many bytes were
- * moved. Where SHORT tells a number, no read and no write moves more bytes than that. No header is included, so that the toolchain's own compiler
- * builds it anywhere. */
+/* A library to be loaded before a program (LD_PRELOAD): each call by which the program opens a
+ * file, locks it, gives it a length, reads, writes or synchronises it is a line on descriptor 9,
+ * with the descriptor of the file first, and behind a read or write its place and how many bytes
+ * were moved. Where SHORT tells a number, no read and no write moves more bytes than that. No
+ * header is included, so that the toolchain's own compiler builds it anywhere. */
 
 typedef unsigned long size;
 

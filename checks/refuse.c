@@ -1,6 +1,7 @@
-/* A library to be loaded before a program (LD_PRELOAD): the request for memory whose number REFUSE tells, counted from
- * 1, is answered that there is none, and every other one by the C library. Where one was refused, descriptor 9 is
- * written to. No header is included, so that the toolchain's own compiler builds it anywhere. */
+/* A library to be loaded before a program (LD_PRELOAD): the request for memory whose number REFUSE
+ * tells, counted from 1, is answered that there is none, and every other one by the C library.
+ * Where one was refused, descriptor 9 is written to. No header is included, so that the toolchain's
+ * own compiler builds it anywhere. */
 
 typedef unsigned long size;
 

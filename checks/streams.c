@@ -1,7 +1,8 @@
-/* A library to be loaded before a program (LD_PRELOAD), by which its streams fail in mid-stream. WRITER tells how
- * many bytes standard output takes, at most 7 a call, before a write is refused (EPIPE). READER tells how many lines
- * the file `script` gives, one a call, before a read is refused (EIO), at its end too. Every other call is answered by
- * the C library. No header is included, so that the toolchain's own compiler builds it anywhere. */
+/* A library to be loaded before a program (LD_PRELOAD), by which its streams fail in mid-stream.
+ * WRITER tells how many bytes standard output takes, at most 7 a call, before a write is refused
+ * (EPIPE). READER tells how many lines the file `script` gives, one a call, before a read is
+ * refused (EIO), at its end too. Every other call is answered by the C library. No header is
+ * included, so that the toolchain's own compiler builds it anywhere. */
 
 typedef unsigned long size;
 

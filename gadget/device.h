@@ -11,8 +11,8 @@ bool refuse(struct disk *disk, int status, const char *cause);
 /* The same, for a call of the system that was refused: errno tells the cause. */
 bool refuse_call(struct disk *disk, const char *call);
 
-/* Opens it, and locks it and what it stands on. A device that is mounted, and what a loop device has
- * open, is refused. False: said why. */
+/* Opens it, and locks it and what it stands on. A device that is mounted, and what a loop device
+ * has open, is refused. False: said why. */
 bool open_file(struct disk *disk);
 
 /* The same, and tells how long it is, and lets go of what the system's cache keeps of it. False:

@@ -121,8 +121,9 @@ struct server {
     bool is_attached, has_steps, is_idle, unplugs;
 };
 
-/* usbip_server.c: a turn waits for clients, where it may, and serves them, or makes a step in the background. The
- * end lets the clients go, and brings home what is left; false: the disk has faulted. */
+/* usbip_server.c: a turn waits for clients, where it may, and serves them, or makes a step in the
+ * background. The end lets the clients go, and brings home what is left; false: the disk has
+ * faulted. */
 void server_begin(struct server *server);
 void server_turn(struct server *server, bool waits);
 bool server_end(struct server *server);

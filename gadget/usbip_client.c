@@ -266,8 +266,8 @@ static enum outcome unlink_transfer(struct client *client, const struct message 
                                     const char **cause)
 {
     struct transfer **at = find(client, message->victim);
-    struct transfer *reply = new_transfer(client, &(struct message){ .number = message->number },
-                                          cause);
+    struct transfer *reply =
+        new_transfer(client, &(struct message){ .number = message->number }, cause);
     if (!reply)
         return ENDS;
     put_unlink_reply(reply->answer, message->number, at ? UNLINKED : GOOD);

@@ -1,5 +1,6 @@
-/* Clients of usbdisk-usbip that keep no rule: hostile PORT MESSAGES [SEED]. Messages are malformed, short, huge, or right ones
- * at the wrong moment. WRITEs are to blocks from 1000 on. Ends with 0 where the server took them all and still listens. */
+/* Clients of usbdisk-usbip that keep no rule: hostile PORT MESSAGES [SEED]. Messages are malformed,
+ * short, huge, or right ones at the wrong moment. WRITEs are to blocks from 1000 on. Ends with 0
+ * where the server took them all and still listens. */
 #define _GNU_SOURCE
 #include <arpa/inet.h>
 #include <netinet/tcp.h>
@@ -106,7 +107,8 @@ static void import(struct stranger *it)
         leave(it);
 }
 
-/* A request of a client that is not attached: nonsense, or a right one that is cut off or at which nobody looks. */
+/* A request of a client that is not attached: nonsense, or a right one that is cut off or at which
+ * nobody looks. */
 static void request(struct stranger *it)
 {
     uint8_t bytes[256];
@@ -125,7 +127,8 @@ static void request(struct stranger *it)
         leave(it);
 }
 
-static void put_head(struct stranger *it, uint8_t *head, uint32_t command, bool in, uint32_t endpoint, uint32_t length)
+static void put_head(struct stranger *it, uint8_t *head, uint32_t command, bool in,
+                     uint32_t endpoint, uint32_t length)
 {
     memset(head, 0, HEAD);
     put(head, command);
@@ -139,7 +142,8 @@ static void put_head(struct stranger *it, uint8_t *head, uint32_t command, bool 
 /* A wrapper, right or nearly so, with any command. */
 static size_t put_wrapper(struct stranger *it, uint8_t *bytes)
 {
-    static const uint8_t commands[] = { 0x00, 0x03, 0x12, 0x1A, 0x1E, 0x25, 0x28, 0x2A, 0x35, 0x5A, 0x88, 0x8A, 0x91, 0x9E };
+    static const uint8_t commands[] = { 0x00, 0x03, 0x12, 0x1A, 0x1E, 0x25, 0x28,
+                                        0x2A, 0x35, 0x5A, 0x88, 0x8A, 0x91, 0x9E };
     fill(it, bytes, 31);
     memcpy(bytes, "USBC", 4);
     put(bytes + 8, htonl(below(it, 4) * 512));
@@ -184,7 +188,9 @@ static size_t put_transfer(struct stranger *it, uint8_t *bytes)
 /* Requests that clear what halts the disk, so that others get further. */
 static size_t put_recovery(struct stranger *it, uint8_t *bytes)
 {
-    static const uint8_t setups[4][8] = { { 0x21, 0xFF }, { 2, 1, 0, 0, 0x81 }, { 2, 1, 0, 0, 2 }, { 0, 9, 1 } };
+    static const uint8_t setups[4][8] = {
+        { 0x21, 0xFF }, { 2, 1, 0, 0, 0x81 }, { 2, 1, 0, 0, 2 }, { 0, 9, 1 }
+    };
     for (int i = 0; i < 4; i++) {
         put_head(it, bytes + i * HEAD, 1, false, 0, 0);
         memcpy(bytes + i * HEAD + 40, setups[i], 8);
@@ -199,7 +205,8 @@ static void message(struct stranger *it)
     uint32_t kind = below(it, 40);
     size_t size = kind < 8 ? put_recovery(it, bytes) : put_transfer(it, bytes);
     if (kind >= 36)
-        put(bytes + 4 * below(it, 10), below(it, 2) ? below(it, 1u << 31) * 2 : 1u << below(it, 32));
+        put(bytes + 4 * below(it, 10),
+            below(it, 2) ? below(it, 1u << 31) * 2 : 1u << below(it, 32));
     if (kind == 35)
         size = below(it, (uint32_t)size);
     if (kind == 34)
@@ -229,6 +236,7 @@ int main(int count, char **words)
     }
     come(&it);
     leave(&it);
-    printf("%lu messages of %lu attached hosts, %lu other requests\n", it.messages, it.attachments, it.requests);
+    printf("%lu messages of %lu attached hosts, %lu other requests\n", it.messages, it.attachments,
+           it.requests);
     return EXIT_SUCCESS;
 }
