@@ -27,12 +27,13 @@ enum {
     GET_MAX_LUN = 0xA1FE
 };
 
+/* clang-format off: tables, a descriptor a line */
 static int put_device(uint8_t *data)
 {
     static const uint8_t device[DEVICE_SIZE] = {
-        DEVICE_SIZE, DEVICE_TYPE, 0x00, 0x02, 0,    0,    0, 64, /* USB 2.0 */
-        0x09,        0x12,        0x01, 0x00, 0x00, 0x01,        /* the numbers are for tests */
-        1,           2,           3,    1,                       /* strings, and configurations */
+        DEVICE_SIZE, DEVICE_TYPE, 0x00, 0x02, 0, 0, 0, 64, /* USB 2.0 */
+        0x09, 0x12, 0x01, 0x00, 0x00, 0x01,                /* the numbers are for tests */
+        1, 2, 3, 1,                                        /* strings, and configurations */
     };
     memcpy(data, device, sizeof device);
     return DEVICE_SIZE;
@@ -43,22 +44,15 @@ static int put_configuration(uint8_t *data, uint8_t type, uint32_t packet)
 {
     uint8_t low = (uint8_t)packet, high = (uint8_t)(packet >> 8);
     const uint8_t configuration[CONFIGURATION_SIZE] = {
-        9,    type, CONFIGURATION_SIZE,
-        0,    1,    1,
-        0,    0x80, 50, /* bus-powered, 100 mA */
-        9,    4,    0,
-        0,    2,    0x08,
-        0x06, 0x50, 0, /* mass storage, SCSI, Bulk-Only */
-        7,    5,    0x81,
-        2,    low,  high,
-        0, /* Bulk-In */
-        7,    5,    0x02,
-        2,    low,  high,
-        0, /* Bulk-Out */
+        9, type, CONFIGURATION_SIZE, 0, 1, 1, 0, 0x80, 50, /* bus-powered, 100 mA */
+        9, 4, 0, 0, 2, 0x08, 0x06, 0x50, 0,                /* mass storage, SCSI, Bulk-Only */
+        7, 5, 0x81, 2, low, high, 0,                       /* Bulk-In */
+        7, 5, 0x02, 2, low, high, 0,                       /* Bulk-Out */
     };
     memcpy(data, configuration, sizeof configuration);
     return CONFIGURATION_SIZE;
 }
+/* clang-format on */
 
 static int put_qualifier(uint8_t *data)
 {
