@@ -27,7 +27,8 @@ enum {
     GET_MAX_LUN = 0xA1FE
 };
 
-/* clang-format off: tables, a descriptor a line */
+/* A descriptor a line. */
+/* clang-format off */
 static int put_device(uint8_t *data)
 {
     static const uint8_t device[DEVICE_SIZE] = {
