@@ -311,7 +311,8 @@ uint32_t usbdisk_migrate(struct usbdisk *image, const struct usbdisk_plan *plan)
  * examples/c/tinyusb.c has the callbacks.
  *
  * Where one of the calls answers BUSY, nothing happened that has to be undone: have the device
- * carry out what usbdisk_next tells, until it tells NOTHING, and make the same call again.
+ * carry out what usbdisk_next tells, until it tells NOTHING, and make the same call again. While
+ * the first sectors are read each of these calls answers BUSY, whatever it is given.
  *
  * Starts a store, as usbdisk_start starts a disk; of the options it reads `sectors` alone. In
  * format 2 with 3 slots or more it brings blocks home ahead of the flush of its next record: a sync
@@ -320,8 +321,8 @@ uint32_t usbdisk_migrate(struct usbdisk *image, const struct usbdisk_plan *plan)
 uint32_t usbdisk_store_start(struct usbdisk *store, const struct usbdisk_options *options);
 
 /* How many blocks there are, and how many of them one read or write may have: 48 in format 1, 240
- * in format 2. Answers 0; BUSY while it starts; a number from 1 to 10 where the start failed; EMPTY
- * or OTHER_KIND. */
+ * in format 2. Answers 0; BUSY; a number from 1 to 10 where the start failed; EMPTY or OTHER_KIND.
+ */
 uint32_t usbdisk_store_sizes(struct usbdisk *store, uint64_t *blocks, uint32_t *limit);
 
 /* Reads whole blocks, from `block` on, as they are after all accepted writes. size: 512 for each.

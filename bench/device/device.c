@@ -4,6 +4,7 @@
  *
  * device [MICROSECONDS A COMMAND [MICROSECONDS A FLUSH [MB A SECOND]]] */
 #include "host.h"
+#include "draw.h"
 #include "model.h"
 #include <stdio.h>
 #include <stdlib.h>
@@ -55,10 +56,7 @@ static uint64_t seed;
 
 static uint32_t random_below(uint32_t most)
 {
-    seed ^= seed << 13;
-    seed ^= seed >> 7;
-    seed ^= seed << 17;
-    return (uint32_t)(seed >> 33) % most;
+    return draw_below(&seed, most);
 }
 
 /* Counts a call that the device is told. */

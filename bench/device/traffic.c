@@ -3,6 +3,7 @@
  * no order, written through, and written back as fast as link and device allow.
  *
  * traffic [FORMAT [SLOTS]] */
+#include "draw.h"
 #include "link.h"
 #include <stdio.h>
 #include <stdlib.h>
@@ -28,10 +29,7 @@ static uint64_t seed;
 
 static uint32_t random_below(uint32_t most)
 {
-    seed ^= seed << 13;
-    seed ^= seed >> 7;
-    seed ^= seed << 17;
-    return (uint32_t)(seed >> 33) % most;
+    return draw_below(&seed, most);
 }
 
 static struct command next_command(const struct traffic *traffic, uint32_t blocks, unsigned played)

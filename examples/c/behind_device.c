@@ -2,6 +2,7 @@
  * long as it likes. Of the writes since its last flush, those of a run under way among them, a cut
  * keeps any. */
 #include "behind.h"
+#include "draw.h"
 #include <stdlib.h>
 #include <string.h>
 
@@ -12,10 +13,7 @@ const char *wrong;
 
 unsigned random_below(unsigned most)
 {
-    seed ^= seed << 13;
-    seed ^= seed >> 7;
-    seed ^= seed << 17;
-    return (unsigned)(seed >> 33) % most;
+    return draw_below(&seed, most);
 }
 
 bool fails(const char *what)

@@ -5,6 +5,7 @@
  *
  * hostile [LIVES [SEED]] */
 #include "gadget.h"
+#include "draw.h"
 #include "usbdisk_blocks.h"
 #include <stdio.h>
 #include <stdlib.h>
@@ -34,10 +35,7 @@ static void must(bool good, const char *what)
 
 static uint32_t below(uint32_t most)
 {
-    seed ^= seed << 13;
-    seed ^= seed >> 7;
-    seed ^= seed << 17;
-    return (uint32_t)(seed >> 33) % most;
+    return draw_below(&seed, most);
 }
 
 static bool is_refused(uint64_t first, size_t count)

@@ -5,6 +5,7 @@
  * the one rule that stays.
  *
  * hostile_maker [ROUNDS [SEED]] */
+#include "draw.h"
 #include "gadget.h"
 #include "image.h"
 #include <stdio.h>
@@ -34,10 +35,7 @@ static void must(bool good, const char *what)
 
 static uint32_t below(uint32_t most)
 {
-    seed ^= seed << 13;
-    seed ^= seed >> 7;
-    seed ^= seed << 17;
-    return (uint32_t)(seed >> 33) % most;
+    return draw_below(&seed, most);
 }
 
 static void fill(uint8_t *bytes, size_t size)

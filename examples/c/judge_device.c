@@ -1,6 +1,7 @@
 /* The device under test, call by call, until the power goes. */
 #include "judge.h"
 #include "device.h"
+#include "draw.h"
 
 enum { LONGEST = 240 };
 
@@ -11,10 +12,7 @@ const char *wrong;
 
 unsigned random_below(unsigned most)
 {
-    seed ^= seed << 13;
-    seed ^= seed >> 7;
-    seed ^= seed << 17;
-    return (unsigned)(seed >> 33) % most;
+    return draw_below(&seed, most);
 }
 
 bool fails(const char *what)

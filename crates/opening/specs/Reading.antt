@@ -63,14 +63,16 @@ AsksToRead old room (ask.Read read) new =
 abbrev pub appended : Reading → List ℕ → ℕ → Reading
 appended s bytes until = record s { near = s.near ++ bytes; until = until; asked = 0 }
 
--- A good read has ended: its bytes are taken, or there was no memory for them, and nothing changes.
--- Bytes of another number than those that were asked for change nothing.
+-- A good read has ended: its bytes are taken; or, of sector 0, there was no memory for all that it
+-- tells, and nothing changes. Bytes of another number than those that were asked for change
+-- nothing.
 abbrev pub TakesRead : Reading → List ℕ → Result ReadEnd DoneFault → Reading → Type 0
 TakesRead old bytes (Ok end.Taken) new = (length bytes ≡ 512 * old.asked)
     × IsUntil old.reach old.sectors (old.near ++ bytes) new.until
     × (new ≡ appended old bytes new.until)
 TakesRead old bytes (Ok end.Refused) new = ⊥
-TakesRead old bytes (Ok end.NoMemory) new = (length bytes ≡ 512 * old.asked) × (new ≡ old)
+TakesRead old bytes (Ok end.NoMemory) new =
+    (old.near ≡ []) × (length bytes ≡ 512 * old.asked) × (new ≡ old)
 TakesRead old bytes (Err fault.NothingAsked) new = ⊥
 TakesRead old bytes (Err fault.BadLength) new =
     (length bytes ≢ 512 * old.asked) × (new ≡ old)

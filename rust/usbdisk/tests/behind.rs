@@ -2,7 +2,7 @@
 //! them is refused. What was answered good, and promises, is there behind a cut.
 mod common;
 
-use common::wrapper;
+use common::{refuse_each_call, wrapper};
 use usbdisk::{format, Answer, Call, Calls, Device, Disk, Error, Fault, Identity, Image, Misuse};
 use usbdisk::{Plan, Refusal, State, Store, BUFFER, SECTOR};
 
@@ -201,10 +201,7 @@ fn live(log: u32, refused: u32) -> bool {
 
 #[test]
 fn a_refused_call_is_never_answered_good() {
-    for log in 1..=2 {
-        let lives = (1..).take_while(|refused| live(log, *refused)).count();
-        assert!(lives > 4, "{lives}");
-    }
+    refuse_each_call(live);
 }
 
 #[test]

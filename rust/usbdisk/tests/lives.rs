@@ -2,7 +2,7 @@
 //! there behind a cut.
 mod common;
 
-use common::wrapper;
+use common::{refuse_each_call, wrapper};
 use usbdisk::{format, format_blank, lay_log, look, memory, migrate, Device, Error, Identity};
 use usbdisk::{Answer, Blocks, Event, Fault, Io, Layout, Misuse, BUFFER, SECTOR};
 
@@ -169,10 +169,7 @@ fn live(log: u32, refused: u32) -> bool {
 
 #[test]
 fn a_refused_call_is_never_answered_good() {
-    for log in 1..=2 {
-        let lives = (1..).take_while(|refused| live(log, *refused)).count();
-        assert!(lives > 4, "{lives}");
-    }
+    refuse_each_call(live);
 }
 
 #[test]
@@ -250,12 +247,7 @@ fn live_by_blocks(log: u32, refused: u32) -> bool {
 
 #[test]
 fn a_store_keeps_what_a_sync_promised() {
-    for log in 1..=2 {
-        let lives = (1..)
-            .take_while(|refused| live_by_blocks(log, *refused))
-            .count();
-        assert!(lives > 4, "{lives}");
-    }
+    refuse_each_call(live_by_blocks);
 }
 
 #[test]

@@ -10,3 +10,12 @@ pub fn wrapper(length: u16, flags: u8, command: &[u8]) -> [u8; 31] {
     bytes[15..15 + command.len()].copy_from_slice(command);
     bytes
 }
+
+/// Refuses each call of the device in turn, in lives on both formats, until one has fewer calls. A life tells whether its call
+/// came.
+pub fn refuse_each_call(live: impl Fn(u32, u32) -> bool) {
+    for log in 1..=2 {
+        let lives = (1..).take_while(|refused| live(log, *refused)).count();
+        assert!(lives > 4, "{lives}");
+    }
+}
