@@ -1,11 +1,12 @@
 -- What the calls of a store do that make it go ahead.
-use Rattle.std.specs.Prelude.{◌≡◌, ◌≤◌, ◌<◌, ◌+◌, ℕ, false, Result}
+use Rattle.std.specs.Prelude.{◌≡◌, ◌≤◌, ◌<◌, ◌+◌, ℕ, true, false, Result}
 use Rattle.medium.specs.Medium.{State}
 use Rattle.medium.specs.Sent.{SendsUpTo}
 use Rattle.medium.specs.declared.fault.MediumFault.TheVariants.{Flush}
 use Rattle.redo_log.specs.Value.{LogValue, IsSentHome, next_calls, next_sends, pass_calls}
 use Rattle.blocks.specs.declared.fault.StoreFault.{StoreFault}
 use Rattle.blocks.specs.Ahead.{counted, past}
+use Rattle.blocks.specs.Background.{HasDied}
 use Rattle.blocks.specs.Passing.{PassesPaid, KeepsMedium, TellsLife}
 use Rattle.blocks.specs.StoreValue.{Cached, StoreValue, is_dead, steps_left}
 use Rattle.blocks.specs.Turns.{IsTurn}
@@ -28,18 +29,22 @@ pub record CountsFlush (old new : Cached) : Type 0 where
 pub record PassesHead (before after : State) (old new : Cached) : Type 0 where
   pub log : is_dead new ≡ false → new.log ≡ past old.log
   pub calls : is_dead new ≡ false → after.calls ≡ before.calls + pass_calls old.log
+  pub most : after.calls ≤ before.calls + pass_calls old.log
   pub flushed : after.made Flush ≡ before.made Flush
   pub fewer : is_dead new ≡ false → steps_left new ≤ steps_left old
+  pub dies : is_dead new ≡ true → HasDied before after old new
   pub stays : StaysIdle old new
 
 -- one more block of the oldest record goes home
 pub record BringsHome (before after : State) (old new : Cached) : Type 0 where
   pub log : is_dead new ≡ false → IsSentHome old.log new.log
   pub calls : is_dead new ≡ false → after.calls ≡ before.calls + next_calls old.log
+  pub most : after.calls ≤ before.calls + next_calls old.log
   pub flushed : after.made Flush ≡ before.made Flush
   pub sent : SendsUpTo (next_sends old.log) before after
   pub fewer : is_dead new ≡ false → steps_left new < steps_left old
   pub head : new.log.head ≡ old.log.head
+  pub dies : is_dead new ≡ true → HasDied before after old new
   pub stays : StaysIdle old new
 
 -- Where it is good, the log is this one, by exactly count calls. None of its calls is a flush,

@@ -21,3 +21,4 @@ pub mod Steady
 pub mod Stopping
 pub mod StoreValue
 pub mod Turns
+pub mod Work

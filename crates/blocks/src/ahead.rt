@@ -14,17 +14,17 @@ use medium::Medium;
 use redo_log::Log;
 
 impl<M: Medium> Store<M> {
-    // Counts the flush of a record that became durable for the oldest one, which went home before
-    // it.
-    fn count_flush(&mut self)
+    /// Counts the flush of a record that became durable for the oldest one, which went home before
+    /// it.
+    pub(crate) fn count_flush(&mut self)
         requires idle { self.old.cached.log.steps_left ≡ 0 }
         ensures { SettlesFlush M.state self.old self.new }
     {
         count_covered(&mut self.log);
     }
 
-    // Writes the head past the oldest record, where that is flushed at home.
-    fn pass_head(&mut self) -> Result<(), StoreFault>
+    /// Writes the head past the oldest record, where that is flushed at home.
+    pub(crate) fn pass_head(&mut self) -> Result<(), StoreFault>
         requires live { is_dead self.old.cached ≡ false }
         requires idle { self.old.cached.log.steps_left ≡ 0 }
         ensures { GoesPast M.state M.follows result self.old self.new }
@@ -37,8 +37,8 @@ impl<M: Medium> Store<M> {
         }
     }
 
-    // Brings one block of the oldest record home.
-    fn bring_home(&mut self) -> Result<(), StoreFault>
+    /// Brings one block of the oldest record home.
+    pub(crate) fn bring_home(&mut self) -> Result<(), StoreFault>
         requires live { is_dead self.old.cached ≡ false }
         requires idle { self.old.cached.log.steps_left ≡ 0 }
         requires away { IsAway self.old.cached.log }

@@ -30,12 +30,12 @@ impl<M: Medium> Store<M> {
         if self.is_dead() || self.is_settled() {
             return;
         }
-        self.work();
+        self.go_on();
     }
 
     // Makes one step of a live store. It stands apart so that a tick with nothing to do is short.
     #[inline(never)]
-    fn work(&mut self)
+    fn go_on(&mut self)
         requires live { is_dead self.old.cached ≡ false }
         ensures { WorksOn M.state M.follows self.old self.new }
     {

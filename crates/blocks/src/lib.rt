@@ -15,9 +15,11 @@ mod start_error;
 mod stop;
 mod store;
 mod sync;
+mod work;
 mod write;
 
 pub use fault::StoreFault;
 pub use recovery::StartFault;
 pub use start_error::StartError;
 pub use store::Store;
+pub use work::Work;

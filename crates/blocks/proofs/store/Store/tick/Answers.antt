@@ -20,7 +20,7 @@ returns-then-is_dead-clause-passes g c = record {
 pub returns-clause-headroom : goal.returns-clause-headroom
 returns-clause-headroom g c on head live =
     let old = c.args.self.now in
-    let order = subst (λ (b : Bool). IsBackgroundStep b (g.M.Medium.state old.medium) (g.M.Medium.state c.work.new.self.medium) old.cached
-    c.work.new.self.cached) on c.work.ensures.order in
-    headroom_stepped (g.M.Medium.state old.medium) (g.M.Medium.state c.work.new.self.medium) old.cached c.work.new.self.cached order
+    let order = subst (λ (b : Bool). IsBackgroundStep b (g.M.Medium.state old.medium) (g.M.Medium.state c.go_on.new.self.medium) old.cached
+    c.go_on.new.self.cached) on c.go_on.ensures.order in
+    headroom_stepped (g.M.Medium.state old.medium) (g.M.Medium.state c.go_on.new.self.medium) old.cached c.go_on.new.self.cached order
     head live

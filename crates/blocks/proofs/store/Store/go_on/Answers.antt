@@ -5,7 +5,7 @@ use Rattle.blocks.specs.Background.{MayBegin}
 use Rattle.blocks.specs.StoreValue.{is_dead}
 use Rattle.blocks.proofs.Headroom.{room_of}
 use Rattle.blocks.proofs.SectorsRead.{none}
-use Rattle.blocks.proofs.store.Store.work.Goals as goal
+use Rattle.blocks.proofs.store.Store.go_on.Goals as goal
 
 pub returns-then-may_begin : goal.returns-then-may_begin
 returns-then-may_begin g c = record {

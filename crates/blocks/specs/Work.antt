@@ -1,0 +1,75 @@
+-- What one step of the background work does, by what it works towards.
+use Rattle.std.specs.Prelude.{◌≡◌, ◌<◌, ◌≤◌, Bool, true, false, Result}
+use Rattle.medium.specs.Medium.{State}
+use Rattle.medium.specs.Moments.{IsUnchanged}
+use Rattle.medium.specs.declared.fault.MediumFault.TheVariants.{Flush}
+use Rattle.redo_log.specs.Value.{CanPass, IsAway}
+use Rattle.blocks.specs.declared.work.Work.{Work}
+use Rattle.blocks.specs.declared.work.Work.TheVariants.{Settle, Ahead}
+use Rattle.blocks.specs.declared.fault.StoreFault.{StoreFault}
+use Rattle.blocks.specs.Ahead.{counted}
+use Rattle.blocks.specs.Background.{IsBackgroundStep, HasDied, LeavesFewer}
+use Rattle.blocks.specs.Going.{PassesHead, BringsHome}
+use Rattle.blocks.specs.Passing.{PassesOn, TellsLife}
+use Rattle.blocks.specs.Turns.{IsTurn}
+use Rattle.blocks.specs.StoreValue.{Cached, StoreValue, is_dead, steps_left}
+
+-- The flush of a record that became durable counts for the oldest one, where it covers that.
+abbrev pub with_counted : Cached → Cached
+with_counted s = record s { log = counted s.log }
+
+-- What a step ahead does once a flush is counted. Where the head may go past the oldest record it
+-- does, by one write; where blocks of that record are away, one more goes home; and else nothing is
+-- done. No call is a flush, and both batches stay. A refused call makes the store dead.
+pub record GoesOnAhead (before after : State) (old new : Cached) : Type 0 where
+  pub passes : CanPass old.log → PassesHead before after old new
+  pub brings : IsAway old.log → BringsHome before after old new
+  pub rests : ¬ CanPass old.log → ¬ IsAway old.log → (new ≡ old) × IsUnchanged before after
+  pub flushed : after.made Flush ≡ before.made Flush
+  pub active : new.active ≡ old.active
+  pub frozen : new.frozen ≡ old.frozen
+  pub dies : is_dead new ≡ true → HasDied before after old new
+
+-- One step ahead. A dead store makes none, nor one that does not go ahead, nor one with a record
+-- under way.
+pub record IsAheadStep (ahead : Bool) (before after : State) (old new : Cached) : Type 0 where
+  pub dead : is_dead old ≡ true → (new ≡ old) × IsUnchanged before after
+  pub plain : ahead ≡ false → (new ≡ old) × IsUnchanged before after
+  pub under_way : 0 < old.log.steps_left → (new ≡ old) × IsUnchanged before after
+  pub goes : ahead ≡ true → is_dead old ≡ false → old.log.steps_left ≡ 0
+      → GoesOnAhead before after (with_counted old) new
+
+-- one step of the background work, by what it works towards
+abbrev pub IsWork : Work → Bool → State → State → Cached → Cached → Type 0
+IsWork Settle ahead before after old new = IsBackgroundStep ahead before after old new
+IsWork Ahead ahead before after old new = IsAheadStep ahead before after old new
+
+-- A step towards rest leaves fewer steps, where there was one and the store lives. One ahead never
+-- leaves more.
+abbrev pub LeavesBy : Work → Cached → Cached → Type 0
+LeavesBy Settle old new = LeavesFewer old new
+LeavesBy Ahead old new = steps_left new ≤ steps_left old
+
+-- Each step leaves fewer of them, or no more, and where none is left, or the store is dead, nothing
+-- happens.
+pub record CountsBy {M : Type 0} (work : Work) (old new : StoreValue M) : Type 0 where
+  pub left : LeavesBy work old.cached new.cached
+  pub rests : steps_left old.cached ≡ 0 → new ≡ old
+  pub dead : is_dead old.cached ≡ true → new ≡ old
+
+-- one step ahead is made of a live store with no record under way, and told
+pub record StepsAhead {M : Type 0} (state : M → State) (Follows : M → M → Type 0)
+    (result : Result (Unit {0}) StoreFault) (old new : StoreValue M) : Type 0 where
+  pub passes : PassesOn state Follows IsTurn 2 2 old new
+  pub goes : GoesOnAhead (state old.medium) (state new.medium) old.cached new.cached
+  pub left : steps_left new.cached ≤ steps_left old.cached
+  pub rests : steps_left old.cached ≡ 0 → new ≡ old
+  pub answer : TellsLife result new.cached
+
+-- one step ahead is made, or none
+pub record WorksAhead {M : Type 0} (state : M → State) (Follows : M → M → Type 0)
+    (old new : StoreValue M) : Type 0 where
+  pub passes : PassesOn state Follows IsTurn 2 2 old new
+  pub order : IsAheadStep old.goes_ahead (state old.medium) (state new.medium)
+      old.cached new.cached
+  pub steps : CountsBy Ahead old new
