@@ -17,7 +17,8 @@ use Rattle.blocks.specs.Finding.{MayFind}
 use Rattle.blocks.specs.Going.{StaysIdle, PassesHead, BringsHome}
 use Rattle.blocks.specs.Ahead.{is_covered, past}
 use Rattle.blocks.specs.Retiring.{oldest_retired}
-use Rattle.blocks.specs.StoreValue.{Cached, layout_of, steps_left}
+use Rattle.blocks.specs.Background.{HasDied}
+use Rattle.blocks.specs.StoreValue.{Cached, layout_of, is_dead, steps_left}
 use Rattle.blocks.specs.Turns.{IsTurn}
 use Rattle.blocks.proofs.BookTurns.{moves}
 use Rattle.blocks.proofs.TurnsJoined.{exits}
@@ -263,13 +264,20 @@ died_idle s log' is idle = record {
   head = let e = ap (λ (l : LogValue). l.head) is in omega (arith, e);
 }
 
-pub passes_head : (before after : State) (s : Cached) (log' : LogValue) → Owes s.log → ((CanPass s.log → ⊥) → log' ≡ s.log)
+died_so : (before after : State) (s : Cached) (log' : LogValue) → log' ≡ died s.log → after.failures ≡ before.failures + 1
+    → HasDied before after s (record s { log = log' })
+died_so before after s log' is failures = record { is = ap (λ (l : LogValue). record s { log = l }) is; failures = failures }
+
+pub passes_head : (before after : State) (s : Cached) (log' : LogValue) → Owes s.log → is_dead s ≡ false
+    → ((CanPass s.log → ⊥) → log' ≡ s.log)
     → (CanPass s.log → IsRetireStepped s.log log') → s.log.steps_left ≡ 0 → after.calls ≡ before.calls + pass_calls s.log
     → after.made Flush ≡ before.made Flush → PassesHead before after s (record s { log = log' })
-passes_head before after s log' owes none some idle calls flushed = record {
+passes_head before after s log' owes live none some idle calls flushed = record {
   log = λ alive. is_past s.log log' none some;
   calls = λ alive. calls;
+  most = omega (arith, calls);
   flushed = flushed;
+  dies = λ dead. absurd (false≢true (sym live ∙ sym (past_stays s.log log' owes none some).dead ∙ dead));
   fewer = λ alive. let fewer = past_fewer s log' none some in omega (arith, fewer);
   stays = record {
     active = refl;
@@ -280,23 +288,28 @@ passes_head before after s log' owes none some idle calls flushed = record {
 }
 
 pub passes_none : (before after : State) (s : Cached) (log' : LogValue) → log' ≡ died s.log → s.log.steps_left ≡ 0
+    → after.failures ≡ before.failures + 1 → after.calls ≤ before.calls + pass_calls s.log
     → after.made Flush ≡ before.made Flush → PassesHead before after s (record s { log = log' })
-passes_none before after s log' is idle flushed =
+passes_none before after s log' is idle failures most flushed =
     let dead = ap (λ (l : LogValue). l.dead) is in record {
       log = λ alive. absurd (false≢true (sym alive ∙ dead));
       calls = λ alive. absurd (false≢true (sym alive ∙ dead));
+      most = most;
       flushed = flushed;
+      dies = λ lost. died_so before after s log' is failures;
       fewer = λ alive. absurd (false≢true (sym alive ∙ dead));
       stays = died_idle s log' is idle;
     }
 
-pub brings_home : (before after : State) (s : Cached) (log' : LogValue) → IsAway s.log → IsSentHome s.log log' → s.log.steps_left ≡ 0
+pub brings_home : (before after : State) (s : Cached) (log' : LogValue) → is_dead s ≡ false → IsAway s.log → IsSentHome s.log log' → s.log.steps_left ≡ 0
     → after.calls ≡ before.calls + next_calls s.log → SendsUpTo (next_sends s.log) before after → after.made Flush ≡ before.made Flush
     → BringsHome before after s (record s { log = log' })
-brings_home before after s log' away sent idle calls sends flushed =
+brings_home before after s log' live away sent idle calls sends flushed =
     let head = home_head s.log log' away sent in record {
       log = λ alive. sent;
       calls = λ alive. calls;
+      most = omega (arith, calls);
+      dies = λ dead. absurd (false≢true (sym live ∙ sym (home_stays s.log log' away sent).dead ∙ dead));
       flushed = flushed;
       sent = sends;
       fewer = λ alive. home_fewer s log' away sent;
@@ -310,11 +323,13 @@ brings_home before after s log' away sent idle calls sends flushed =
     }
 
 pub brings_none : (before after : State) (s : Cached) (log' : LogValue) → log' ≡ died s.log → s.log.steps_left ≡ 0
-    → SendsUpTo (next_sends s.log) before after → after.made Flush ≡ before.made Flush → BringsHome before after s (record s { log = log' })
-brings_none before after s log' is idle sends flushed =
+    → after.failures ≡ before.failures + 1 → after.calls ≤ before.calls + next_calls s.log → SendsUpTo (next_sends s.log) before after → after.made Flush ≡ before.made Flush → BringsHome before after s (record s { log = log' })
+brings_none before after s log' is idle failures most sends flushed =
     let dead = ap (λ (l : LogValue). l.dead) is in record {
       log = λ alive. absurd (false≢true (sym alive ∙ dead));
       calls = λ alive. absurd (false≢true (sym alive ∙ dead));
+      most = most;
+      dies = λ lost. died_so before after s log' is failures;
       flushed = flushed;
       sent = sends;
       fewer = λ alive. absurd (false≢true (sym alive ∙ dead));

@@ -5,6 +5,7 @@ pub mod SteadyRing
 pub mod BookTurns
 pub mod RoomFlushes
 pub mod AheadTurns
+pub mod AheadSteps
 pub mod OldestHome
 pub mod ImageLimit
 pub mod Limits

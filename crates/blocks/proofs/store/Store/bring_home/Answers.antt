@@ -1,5 +1,5 @@
 use Rattle.std.proofs.Common.{◌∙◌, ap, arith, rules}
-use Rattle.blocks.specs.StoreValue.{Cached}
+use Rattle.blocks.specs.StoreValue.{Cached, is_dead}
 use Rattle.blocks.proofs.AheadTurns.{home_stays, home_retained, goes_home, home_fewer, away_is, brings_home, brings_none}
 use Rattle.redo_log.proofs.RecordSteps.{few_next}
 use Rattle.blocks.proofs.LogTurns.{dies}
@@ -78,13 +78,15 @@ returns g c = record {
       let away = rw (← c.self.view_is) at c.requires.away in
       let costs = away_is i.log away in
       let idle = ap (λ v. v.cached.log.steps_left) c.self.view_is ∙ c.requires.idle in
+      let live = ap (λ v. is_dead v.cached) c.self.view_is ∙ c.requires.live in
       let before = g.M.Medium.state i.medium in
       let after = g.M.Medium.state c.home_ahead.new.m in
       elim c.match-home_ahead.branch [
-        | in-Ok w ↦ rw (← c.self.view_is) (brings_home before after old c.home_ahead.new.self away (w.in-Ok.ensures.answers.ok away) idle
+        | in-Ok w ↦ rw (← c.self.view_is) (brings_home before after old c.home_ahead.new.self live away (w.in-Ok.ensures.answers.ok away) idle
             (omega (arith, w.in-Ok.ensures.passes.calls.exact, costs)) w.in-Ok.ensures.passes.calls.sent
             (omega (arith, w.in-Ok.ensures.passes.calls.flushed.exact)))
         | in-Err w ↦ rw (← c.self.view_is) (brings_none before after old c.home_ahead.new.self w.in-Err.ensures.answers.err idle
+            w.in-Err.ensures.passes.failures (omega (arith, w.in-Err.ensures.passes.calls.most, costs))
             w.in-Err.ensures.passes.calls.sent
             (omega (arith, w.in-Err.ensures.passes.calls.flushed.later, w.in-Err.ensures.passes.calls.flushed.most)))
       ];

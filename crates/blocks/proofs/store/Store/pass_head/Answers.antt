@@ -1,5 +1,5 @@
 use Rattle.std.proofs.Common.{◌∙◌, ap, arith, rules}
-use Rattle.blocks.specs.StoreValue.{Cached}
+use Rattle.blocks.specs.StoreValue.{Cached, is_dead}
 use Rattle.blocks.proofs.AheadTurns.{past_stays, past_retained, goes_past, few_pass, past_fewer, pass_left, passes_head, passes_none}
 use Rattle.blocks.proofs.LogTurns.{dies}
 use Rattle.blocks.proofs.Retired.{still_kept, died_kept}
@@ -75,13 +75,15 @@ returns g c = record {
       let i = c.self.inside in
       let old : Cached = record { log = i.log; active = i.active; frozen = i.frozen } in
       let idle = ap (λ v. v.cached.log.steps_left) c.self.view_is ∙ c.requires.idle in
+      let live = ap (λ v. is_dead v.cached) c.self.view_is ∙ c.requires.live in
       let before = g.M.Medium.state i.medium in
       let after = g.M.Medium.state c.head_ahead.new.m in
       elim c.match-head_ahead.branch [
-        | in-Ok w ↦ rw (← c.self.view_is) (passes_head before after old c.head_ahead.new.self c.is_retired.ensures.owes
+        | in-Ok w ↦ rw (← c.self.view_is) (passes_head before after old c.head_ahead.new.self c.is_retired.ensures.owes live
             (λ none. (w.in-Ok.ensures.none none).1) w.in-Ok.ensures.answers.ok idle w.in-Ok.ensures.passes.calls.exact
             (omega (arith, w.in-Ok.ensures.passes.calls.flushed.exact)))
         | in-Err w ↦ rw (← c.self.view_is) (passes_none before after old c.head_ahead.new.self w.in-Err.ensures.answers.err idle
+            w.in-Err.ensures.passes.failures w.in-Err.ensures.passes.calls.most
             (omega (arith, w.in-Err.ensures.passes.calls.flushed.later, w.in-Err.ensures.passes.calls.flushed.most)))
       ];
   answer = search rules;

@@ -1,0 +1,38 @@
+use Rattle.std.proofs.Common.{ap, sym, subst, ◌∙◌, refl, arith}
+use Rattle.std.proofs.lemmas.Bool.{false≢true}
+use Rattle.medium.proofs.Moments.{unchanged}
+use Rattle.redo_log.specs.Value.{LogValue, CanPass, IsAway}
+use Rattle.blocks.proofs.TurnsJoined.{stays}
+use Rattle.blocks.proofs.SectorsRead.{none}
+use Rattle.blocks.proofs.store.Store.step_ahead.Goals as goal
+
+pub returns : goal.returns
+returns g c =
+    let log_is = ap (λ v. v.cached.log) c.self.view_is in
+    let m = g.M.Medium.state c.args.self.now.medium in
+    let s = c.args.self.now.cached in
+    record {
+      passes = record {
+        turn = stays _ _ (g.met.M.Medium.sound c.args.self.now.medium);
+        calls = omega arith;
+        sent = omega arith;
+        none_refused = λ live. refl;
+        follows = g.met.M.Medium.follows_itself c.args.self.now.medium;
+        looks = none m m s (λ i. m.looked);
+        policy = refl;
+      };
+      goes = record {
+        passes = λ can. absurd (false≢true (sym c.if-can_pass.false
+            ∙ c.can_pass.ensures.1 (subst (λ (l : LogValue). CanPass l) (sym log_is) can)));
+        brings = λ away. absurd (false≢true (sym c.if-is_away.false
+            ∙ c.is_away.ensures.1 (subst (λ (l : LogValue). IsAway l) (sym log_is) away)));
+        rests = λ not home. (refl, unchanged m);
+        flushed = refl;
+        active = refl;
+        frozen = refl;
+        dies = λ dead. absurd (false≢true (sym c.requires.live ∙ dead));
+      };
+      left = omega arith;
+      rests = λ none. refl;
+      answer = c.requires.live;
+    }
