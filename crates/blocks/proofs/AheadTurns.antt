@@ -301,9 +301,9 @@ passes_none before after s log' is idle failures most flushed =
       stays = died_idle s log' is idle;
     }
 
-pub brings_home : (before after : State) (s : Cached) (log' : LogValue) → is_dead s ≡ false → IsAway s.log → IsSentHome s.log log' → s.log.steps_left ≡ 0
-    → after.calls ≡ before.calls + next_calls s.log → SendsUpTo (next_sends s.log) before after → after.made Flush ≡ before.made Flush
-    → BringsHome before after s (record s { log = log' })
+pub brings_home : (before after : State) (s : Cached) (log' : LogValue) → is_dead s ≡ false → IsAway s.log → IsSentHome s.log log'
+    → s.log.steps_left ≡ 0 → after.calls ≡ before.calls + next_calls s.log → SendsUpTo (next_sends s.log) before after
+    → after.made Flush ≡ before.made Flush → BringsHome before after s (record s { log = log' })
 brings_home before after s log' live away sent idle calls sends flushed =
     let head = home_head s.log log' away sent in record {
       log = λ alive. sent;
@@ -323,7 +323,8 @@ brings_home before after s log' live away sent idle calls sends flushed =
     }
 
 pub brings_none : (before after : State) (s : Cached) (log' : LogValue) → log' ≡ died s.log → s.log.steps_left ≡ 0
-    → after.failures ≡ before.failures + 1 → after.calls ≤ before.calls + next_calls s.log → SendsUpTo (next_sends s.log) before after → after.made Flush ≡ before.made Flush → BringsHome before after s (record s { log = log' })
+    → after.failures ≡ before.failures + 1 → after.calls ≤ before.calls + next_calls s.log → SendsUpTo (next_sends s.log) before after
+    → after.made Flush ≡ before.made Flush → BringsHome before after s (record s { log = log' })
 brings_none before after s log' is idle failures most sends flushed =
     let dead = ap (λ (l : LogValue). l.dead) is in record {
       log = λ alive. absurd (false≢true (sym alive ∙ dead));

@@ -114,7 +114,11 @@ landed_shape log = from log.steps_left
     from zero = refl
     from (suc steps) = refl
 
-wants_one : (numbers : List ℕ) → 0 < length numbers → wants numbers ≡ 1
+-- a log with headroom is of format 2
+pub two_with_headroom : (log : LogValue) → HasHeadroom log → log.shape.format ≡ Two
+two_with_headroom log head = two_of log.shape (ap (λ (s : Shape). may_go_ahead s) (sym (landed_shape log)) ∙ head.order.may)
+
+pub wants_one : (numbers : List ℕ) → 0 < length numbers → wants numbers ≡ 1
 wants_one [] some = absurd (omega (arith, some))
 wants_one (n ∷ numbers) some = refl
 
@@ -122,7 +126,7 @@ wants_one (n ∷ numbers) some = refl
 pub one_each : (numbers : List ℕ) (log : LogValue) → HasHeadroom log → (0 < log.steps_left → 0 < length numbers)
     → finish_flushes numbers log ≡ wants numbers
 one_each numbers log head under_way =
-    let two : log.shape.format ≡ Two = two_of log.shape (ap (λ (s : Shape). may_go_ahead s) (sym (landed_shape log)) ∙ head.order.may) in
+    let two = two_with_headroom log head in
     ⊎_elim
     (λ (some : 0 < log.steps_left).
     flushes_under_way numbers log some

@@ -14,6 +14,7 @@ pub mod KnownImages
 pub mod BackgroundCalls
 pub mod ReadBlocks
 pub mod Headroom
+pub mod FlushesOnce
 pub mod RingRoom
 pub mod Ready
 pub mod Retired

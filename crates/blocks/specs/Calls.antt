@@ -7,7 +7,7 @@ use Rattle.medium.specs.declared.fault.MediumFault.TheVariants.{Flush}
 use Rattle.cache.specs.Blocks.{is_listed}
 use Rattle.blocks.specs.Retiring.{finished, finish_calls}
 use Rattle.blocks.specs.Flushing.{finish_flushes}
-use Rattle.blocks.specs.Headroom.{HasHeadroom}
+use Rattle.blocks.specs.Headroom.{HasHeadroom, FlushesOnce}
 use Rattle.blocks.specs.Steady.{IsSteady}
 use Rattle.spec.specs.Blocks.{Write}
 use Rattle.blocks.specs.declared.fault.StoreFault.{StoreFault}
@@ -64,6 +64,8 @@ pub record CostsWrite {A E : Type 0} (ahead : Bool) (result : Result A E) (addre
   pub once : ahead ≡ true → HasHeadroom old.log
       → ¬ FitsBeside (transfer_limit old) (active_of old) address count
       → OnOk result (after.made Flush ≡ before.made Flush + wants old.frozen.numbers)
+  -- one for each record that became durable, whether or not the range fits
+  pub as_many : FlushesOnce ahead before after old new
 
 -- where a write of count blocks from this address on is good: the batch that takes it, and the
 -- batches before that
@@ -99,6 +101,7 @@ pub record CostsAlone {A E : Type 0} (ahead : Bool) (result : Result A E) (befor
       ≡ before.made Flush + finish_flushes old.frozen.numbers old.log)
   pub once : ahead ≡ true → HasHeadroom old.log
       → OnOk result (after.made Flush ≡ before.made Flush + wants old.frozen.numbers)
+  pub as_many : FlushesOnce ahead before after old new
 
 -- The active batch takes the range, for which one more is to become a record at most. The log and
 -- the frozen batch stay.

@@ -13,7 +13,7 @@ use Rattle.blocks.specs.Retiring.{RetiresForRoom, finished, made_ready, written_
 use Rattle.blocks.specs.Retiring.{HasSlots, with_spare, to_begin, record_calls, calls_from}
 use Rattle.blocks.specs.Retiring.{both_calls, ready_calls, room_calls}
 use Rattle.blocks.specs.Steady.{IsSteady, IsFilling, IsFuller, steady_calls}
-use Rattle.blocks.specs.Headroom.{HasHeadroom, KeepsHeadroom, records_of}
+use Rattle.blocks.specs.Headroom.{HasHeadroom, KeepsHeadroom, FlushesOnce, records_of}
 use Rattle.blocks.specs.Flushing.{left_flushes, room_flushes, both_flushes}
 
 -- what a call of a store answers that gives nothing
@@ -100,7 +100,7 @@ pub record FinishesFrozen {M : Type 0} (result : Answer) (old new : StoreValue M
 -- How many calls a good sync makes: those that make one batch durable, and then the other, and no
 -- other. Where a slot is free for each record that is to be begun, and two besides where the store
 -- goes ahead, they are those that write the records.
-pub record CostsSync (ahead : Bool) (result : Answer) (before after : State) (old : Cached)
+pub record CostsSync (ahead : Bool) (result : Answer) (before after : State) (old new : Cached)
     : Type 0 where
   pub exactly : OnOk result (after.calls
       ≡ before.calls + both_calls ahead old.frozen.numbers old.active.numbers old.log)
@@ -122,6 +122,8 @@ pub record CostsSync (ahead : Bool) (result : Answer) (before after : State) (ol
   -- Where the store goes ahead and has headroom, each record flushes once, and nothing else does.
   pub each_once : ahead ≡ true → HasHeadroom old.log
       → OnOk result (after.made Flush ≡ before.made Flush + records_of old)
+  -- These are the records that became durable.
+  pub as_many : FlushesOnce ahead before after old new
   -- So it does in such a ring.
   pub steady_once : old.log.shape.format ≡ Two → IsSteady old.log → old.frozen.numbers ≡ []
       → 0 < length old.active.numbers → OnOk result (after.made Flush ≡ before.made Flush + 1)

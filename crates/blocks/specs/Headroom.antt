@@ -1,6 +1,9 @@
 -- A store that goes ahead, and whose ring was not full when it started, never finds it full: each
 -- record makes one flush, which is its own, whatever background steps come between.
 use Rattle.std.specs.Prelude.{◌≡◌, ◌⊎◌, ◌+◌, ◌≤◌, ◌<◌, ℕ, zero, suc, [], length, true, false, All}
+use Rattle.std.specs.Prelude.{Bool}
+use Rattle.medium.specs.Medium.{State}
+use Rattle.medium.specs.declared.fault.MediumFault.TheVariants.{Flush}
 use Rattle.redo_log.specs.Value.{LogValue, IsCovered, of_oldest}
 use Rattle.blocks.specs.Ahead.{may_go_ahead}
 use Rattle.blocks.specs.Retiring.{HasSlots, written_out}
@@ -49,3 +52,14 @@ KeepsHeadroom old new = old.goes_ahead ≡ true → HasHeadroom old.cached.log
 -- how many records both batches make: one for each that holds blocks
 abbrev pub records_of : Cached → ℕ
 records_of s = wants s.frozen.numbers + wants s.active.numbers
+
+-- The stamp of the record that becomes durable next. It rises by one with each that does, and by
+-- nothing else.
+abbrev pub next_durable : LogValue → ℕ
+next_durable log = log.head + length log.waiting
+
+-- A call makes exactly as many flushes as records became durable in it, where the store goes ahead,
+-- had headroom and lives.
+abbrev pub FlushesOnce : Bool → State → State → Cached → Cached → Type 0
+FlushesOnce ahead before after old new = ahead ≡ true → HasHeadroom old.log → is_dead new ≡ false
+    → after.made Flush + next_durable old.log ≡ before.made Flush + next_durable new.log

@@ -16,6 +16,7 @@ pub mod Reads
 pub mod Retiring
 pub mod Sent
 pub mod Settled
+pub mod Sparing
 pub mod Started
 pub mod Steady
 pub mod Stopping

@@ -1,5 +1,5 @@
 -- What one step of the background work does, by what it works towards.
-use Rattle.std.specs.Prelude.{◌≡◌, ◌<◌, ◌≤◌, Bool, true, false, Result}
+use Rattle.std.specs.Prelude.{◌≡◌, ◌⊎◌, ◌<◌, ◌≤◌, Bool, true, false, Result}
 use Rattle.medium.specs.Medium.{State}
 use Rattle.medium.specs.Moments.{IsUnchanged}
 use Rattle.medium.specs.declared.fault.MediumFault.TheVariants.{Flush}
@@ -8,11 +8,12 @@ use Rattle.blocks.specs.declared.work.Work.{Work}
 use Rattle.blocks.specs.declared.work.Work.TheVariants.{Settle, Ahead}
 use Rattle.blocks.specs.declared.fault.StoreFault.{StoreFault}
 use Rattle.blocks.specs.Ahead.{counted}
-use Rattle.blocks.specs.Background.{IsBackgroundStep, HasDied, LeavesFewer}
+use Rattle.blocks.specs.Background.{IsBackgroundStep, HasDied, LeavesFewer, MayBegin}
 use Rattle.blocks.specs.Going.{PassesHead, BringsHome}
-use Rattle.blocks.specs.Passing.{PassesOn, TellsLife}
+use Rattle.blocks.specs.Headroom.{KeepsHeadroom, FlushesOnce}
+use Rattle.blocks.specs.Passing.{PassesOn, TellsLife, MayEmpty}
 use Rattle.blocks.specs.Turns.{IsTurn}
-use Rattle.blocks.specs.StoreValue.{Cached, StoreValue, is_dead, steps_left}
+use Rattle.blocks.specs.StoreValue.{Cached, StoreValue, is_dead, active_of, steps_left}
 
 -- The flush of a record that became durable counts for the oldest one, where it covers that.
 abbrev pub with_counted : Cached → Cached
@@ -50,6 +51,12 @@ abbrev pub LeavesBy : Work → Cached → Cached → Type 0
 LeavesBy Settle old new = LeavesFewer old new
 LeavesBy Ahead old new = steps_left new ≤ steps_left old
 
+-- A step towards rest retires where no record is under way and none may be begun. One ahead does so
+-- by no flush.
+abbrev pub RetiresNone : Work → Bool → Cached → Type 0
+RetiresNone Settle ahead old = (0 < old.log.steps_left) ⊎ MayBegin ahead old
+RetiresNone Ahead ahead old = Unit {0}
+
 -- Each step leaves fewer of them, or no more, and where none is left, or the store is dead, nothing
 -- happens.
 pub record CountsBy {M : Type 0} (work : Work) (old new : StoreValue M) : Type 0 where
@@ -57,7 +64,12 @@ pub record CountsBy {M : Type 0} (work : Work) (old new : StoreValue M) : Type 0
   pub rests : steps_left old.cached ≡ 0 → new ≡ old
   pub dead : is_dead old.cached ≡ true → new ≡ old
 
--- one step ahead is made of a live store with no record under way, and told
+-- the store is live, and no record is under way
+pub record IsIdle (s : Cached) : Type 0 where
+  pub live : is_dead s ≡ false
+  pub idle : s.log.steps_left ≡ 0
+
+-- one step ahead is made of such a store, and told
 pub record StepsAhead {M : Type 0} (state : M → State) (Follows : M → M → Type 0)
     (result : Result (Unit {0}) StoreFault) (old new : StoreValue M) : Type 0 where
   pub passes : PassesOn state Follows IsTurn 2 2 old new
@@ -66,6 +78,19 @@ pub record StepsAhead {M : Type 0} (state : M → State) (Follows : M → M → 
   pub rests : steps_left old.cached ≡ 0 → new ≡ old
   pub answer : TellsLife result new.cached
 
+-- One step of the work is made, of at most two calls. It leaves headroom where there was some, and
+-- where it retires none, one flush is made for each record that becomes durable.
+pub record DoesWork {M : Type 0} (state : M → State) (Follows : M → M → Type 0) (work : Work)
+    (old new : StoreValue M) : Type 0 where
+  pub passes : PassesOn state Follows IsTurn 2 2 old new
+  pub order : IsWork work old.goes_ahead (state old.medium) (state new.medium)
+      old.cached new.cached
+  pub steps : CountsBy work old new
+  pub active : MayEmpty (active_of old.cached) (active_of new.cached)
+  pub headroom : KeepsHeadroom old new
+  pub once : RetiresNone work old.goes_ahead old.cached
+      → FlushesOnce old.goes_ahead (state old.medium) (state new.medium) old.cached new.cached
+
 -- one step ahead is made, or none
 pub record WorksAhead {M : Type 0} (state : M → State) (Follows : M → M → Type 0)
     (old new : StoreValue M) : Type 0 where
@@ -73,3 +98,4 @@ pub record WorksAhead {M : Type 0} (state : M → State) (Follows : M → M → 
   pub order : IsAheadStep old.goes_ahead (state old.medium) (state new.medium)
       old.cached new.cached
   pub steps : CountsBy Ahead old new
+  pub active : new.cached.active ≡ old.cached.active

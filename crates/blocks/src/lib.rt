@@ -9,6 +9,7 @@
 mod ahead;
 mod background;
 mod fault;
+mod laws;
 mod read;
 mod start;
 mod start_error;
@@ -19,6 +20,7 @@ mod work;
 mod write;
 
 pub use fault::StoreFault;
+pub use laws::flush_laws;
 pub use recovery::StartFault;
 pub use start_error::StartError;
 pub use store::Store;

@@ -31,7 +31,7 @@ impl<M: Medium> Store<M> {
         // It makes the calls that write the records and that retire for their room, and no other
         // call or flush.
         ensures cost { CostsSync self.old.goes_ahead result (M.state self.old.medium)
-            (M.state self.new.medium) self.old.cached }
+            (M.state self.new.medium) self.old.cached self.new.cached }
     {
         self.finish()?;
         self.freeze();

@@ -1,10 +1,5 @@
 //! The steps in the background, by what they work towards.
-ghost use Rattle.std.specs.Prelude.{◌≡◌, false};
-ghost use Rattle.blocks.specs.StoreValue.{active_of, is_dead};
-ghost use Rattle.blocks.specs.Headroom.{KeepsHeadroom};
-ghost use Rattle.blocks.specs.Turns.{IsTurn};
-ghost use Rattle.blocks.specs.Passing.{PassesOn, MayEmpty};
-ghost use Rattle.blocks.specs.Work.{IsWork, CountsBy, WorksAhead, StepsAhead};
+ghost use Rattle.blocks.specs.Work.{DoesWork, WorksAhead, StepsAhead, IsIdle};
 
 use crate::{Store, StoreFault};
 use medium::Medium;
@@ -25,12 +20,7 @@ impl<M: Medium> Store<M> {
     ///
     /// Where it makes the store dead, the next call that writes tells.
     pub fn work(&mut self, work: Work)
-        ensures passes { PassesOn M.state M.follows IsTurn 2 2 self.old self.new }
-        ensures order { IsWork work self.old.goes_ahead (M.state self.old.medium)
-            (M.state self.new.medium) self.old.cached self.new.cached }
-        ensures steps { CountsBy work self.old self.new }
-        ensures active { MayEmpty (active_of self.old.cached) (active_of self.new.cached) }
-        ensures headroom { KeepsHeadroom self.old self.new }
+        ensures { DoesWork M.state M.follows work self.old self.new }
     {
         match work {
             Work::Settle => self.tick(),
@@ -52,8 +42,7 @@ impl<M: Medium> Store<M> {
     // The head goes past the oldest record where it may, and else one block of that goes home that
     // is away.
     fn step_ahead(&mut self) -> Result<(), StoreFault>
-        requires live { is_dead self.old.cached ≡ false }
-        requires idle { self.old.cached.log.steps_left ≡ 0 }
+        requires { IsIdle self.old.cached }
         ensures { StepsAhead M.state M.follows result self.old self.new }
     {
         if self.log.can_pass() {

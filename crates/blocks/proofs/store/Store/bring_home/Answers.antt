@@ -82,7 +82,8 @@ returns g c = record {
       let before = g.M.Medium.state i.medium in
       let after = g.M.Medium.state c.home_ahead.new.m in
       elim c.match-home_ahead.branch [
-        | in-Ok w ↦ rw (← c.self.view_is) (brings_home before after old c.home_ahead.new.self live away (w.in-Ok.ensures.answers.ok away) idle
+        | in-Ok w ↦ rw (← c.self.view_is) (brings_home before after old c.home_ahead.new.self live away
+            (w.in-Ok.ensures.answers.ok away) idle
             (omega (arith, w.in-Ok.ensures.passes.calls.exact, costs)) w.in-Ok.ensures.passes.calls.sent
             (omega (arith, w.in-Ok.ensures.passes.calls.flushed.exact)))
         | in-Err w ↦ rw (← c.self.view_is) (brings_none before after old c.home_ahead.new.self w.in-Err.ensures.answers.err idle

@@ -9,7 +9,7 @@ use Rattle.medium.specs.Sent.{sent}
 use Rattle.medium.specs.declared.fault.MediumFault.TheVariants.{Flush}
 use Rattle.blocks.specs.Flushing.{finish_flushes, both_flushes}
 use Rattle.blocks.proofs.Headroom.{both_each, headroom_finished, ok_of}
-use Rattle.blocks.specs.Headroom.{HasHeadroom}
+use Rattle.blocks.specs.Headroom.{HasHeadroom, next_durable}
 use Rattle.blocks.specs.Sent.{most_sent}
 use Rattle.blocks.specs.Steady.{IsSteady, IsFilling, IsFuller}
 use Rattle.blocks.specs.StoreValue.{Cached, firsts_in}
@@ -20,6 +20,8 @@ use Rattle.blocks.proofs.RoomFlushes.{flushes_of, once}
 use Rattle.blocks.proofs.Steady.{steady_sync, steady_roomy}
 use Rattle.blocks.proofs.TurnsJoined.{turns}
 use Rattle.blocks.proofs.SectorsRead.{none, looks_on}
+use Rattle.blocks.proofs.FlushesOnce.{both_durable}
+use Rattle.blocks.proofs.store.Store.sync.Given.{Over}
 use Rattle.blocks.proofs.store.Store.sync.Goals as goal
 
 pub returns-clause-passes : goal.returns-clause-passes
@@ -55,11 +57,11 @@ returns-clause-ok g c book fits =
     let fitting = c.finish-2.ensures.passes.turn.fits book half in
     on_ok_weaker c.finish-2.result (λ done. settles _ _ book done.1 active fitting) c.finish-2.ensures.batch.done
 
-pub returns-clause-batches : goal.returns-clause-batches
-returns-clause-batches g c =
-    let finishes : OnOk c.finish-2.result (c.finish-2.new.self.cached.log
+-- each batch has become a record
+both_finished : (g : Over) (c : goal.After-finish-2 g) → OnOk c.finish-2.result (c.finish-2.new.self.cached.log
     ≡ finished c.args.self.now.goes_ahead c.args.self.now.cached.active
-    (finished c.args.self.now.goes_ahead c.args.self.now.cached.frozen c.args.self.now.cached.log)) =
+    (finished c.args.self.now.goes_ahead c.args.self.now.cached.frozen c.args.self.now.cached.log))
+both_finished g c =
     let old = c.args.self.now.cached in
     let half = c.finish.new.self.cached in
     let ahead = c.args.self.now.goes_ahead in
@@ -69,7 +71,11 @@ returns-clause-batches g c =
     ∙ ap (λ (cached : Cached). finished ahead cached.frozen cached.log) c.freeze.ensures.swapped
     ∙ ap (λ (batch : Entries). finished ahead batch half.log) c.finish.ensures.batch.active
     ∙ ap (λ (l : LogValue). finished ahead old.active l) first in
-    on_ok_weaker c.finish-2.result (λ done. done ∙ is) c.finish-2.ensures.batch.finishes in
+    on_ok_weaker c.finish-2.result (λ done. done ∙ is) c.finish-2.ensures.batch.finishes
+
+pub returns-clause-batches : goal.returns-clause-batches
+returns-clause-batches g c =
+    let finishes = both_finished g c in
     record {
       active = search rules;
       rests = λ none.
@@ -119,6 +125,7 @@ returns-in_err-finish-clause-cost g c = record {
   flushes = search rules;
   once = λ two room none some. search rules;
   each_once = λ on head. search rules;
+  as_many = λ on head live. search rules;
   steady_once = λ two still none some. search rules;
 }
 
@@ -158,6 +165,16 @@ returns-clause-cost g c =
           let each = ap (λ (b : Bool). both_flushes b old.frozen.numbers old.active.numbers old.log) on
           ∙ both_each old.frozen.numbers old.active.numbers old.log head c.in_ok-finish.ensures.batch.some in
           on_ok_weaker c.finish-2.result (λ all. omega (arith, all, flushes, silent, flushed, each)) c.finish-2.ensures.flushes;
+      as_many = λ on head live.
+          let new = c.finish-2.new.self.cached in
+          let each = ap (λ (b : Bool). both_flushes b old.frozen.numbers old.active.numbers old.log) on
+          ∙ both_each old.frozen.numbers old.active.numbers old.log head c.in_ok-finish.ensures.batch.some in
+          let is = ok_of c.finish-2.result new c.finish-2.ensures.batch.answers.answer live (both_finished g c)
+          ∙ ap (λ (b : Bool). finished b old.active (finished b old.frozen old.log)) on in
+          let records = ap (λ (l : LogValue). next_durable l) is
+          ∙ both_durable old.frozen old.active old.log head c.in_ok-finish.ensures.batch.some in
+          let all = ok_of c.finish-2.result new c.finish-2.ensures.batch.answers.answer live c.finish-2.ensures.flushes in
+          omega (arith, all, flushes, silent, flushed, each, records);
       steady_once = λ two still none some.
           let one = once ahead old.frozen.numbers old.active.numbers old.log two (steady_roomy old.log still) none some in
           on_ok_weaker c.finish-2.result (λ all. omega (arith, all, flushes, silent, flushed, one)) c.finish-2.ensures.flushes;

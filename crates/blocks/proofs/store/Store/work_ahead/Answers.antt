@@ -42,6 +42,7 @@ returns-then-not-self g c =
         ];
       };
       steps = record { left = omega arith; rests = λ none. refl; dead = λ dead. refl };
+      active = refl;
     }
 
 pub returns : goal.returns
@@ -64,7 +65,8 @@ returns g c =
         follows = subst (λ m. g.M.Medium.follows m new.medium) keeps.medium step.passes.follows;
         looks = looks_on (g.M.Medium.state old.medium) (g.M.Medium.state mid.medium) (g.M.Medium.state new.medium) old.cached mid.cached
             keeps.turn.goes_on.layout_stays
-            (none (g.M.Medium.state old.medium) (g.M.Medium.state mid.medium) old.cached (ap (λ m. (g.M.Medium.state m).looked) keeps.medium))
+            (none (g.M.Medium.state old.medium) (g.M.Medium.state mid.medium) old.cached
+            (ap (λ m. (g.M.Medium.state m).looked) keeps.medium))
             step.passes.looks;
         policy = step.passes.policy ∙ keeps.policy;
       };
@@ -87,4 +89,5 @@ returns g c =
             (cached ∙ ap (λ (l : LogValue). record old.cached { log = l }) (none_counted old.cached nothing)) keeps.policy;
         dead = λ dead. absurd (false≢true (sym live ∙ dead));
       };
+      active = step.goes.active ∙ counts.stays.active;
     }

@@ -3,11 +3,12 @@ use Rattle.std.proofs.lemmas.Result.{err_from_is_err_and}
 use Rattle.medium.specs.Sent.{sent}
 use Rattle.redo_log.specs.Value.{LogValue}
 use Rattle.medium.specs.declared.fault.MediumFault.TheVariants.{Flush}
-use Rattle.blocks.specs.Headroom.{HasHeadroom}
+use Rattle.blocks.specs.Headroom.{HasHeadroom, next_durable}
 use Rattle.blocks.specs.Retiring.{finished}
 use Rattle.blocks.specs.Steady.{IsSteady}
 use Rattle.blocks.specs.StoreValue.{firsts_in}
 use Rattle.blocks.proofs.Headroom.{headroom_finished, one_each}
+use Rattle.blocks.proofs.FlushesOnce.{one_durable}
 use Rattle.blocks.proofs.TurnsJoined.{not_written, then_written}
 use Rattle.blocks.proofs.SectorsRead.{none, looks_on}
 use Rattle.blocks.proofs.store.Store.write_alone.Goals as goal
@@ -71,4 +72,13 @@ returns-clause-cost g c = record {
       let one = one_each old.frozen.numbers old.log head c.in_ok-finish.ensures.batch.some in
       let quiet = ap (λ m. (g.M.Medium.state m).made Flush) c.begin_batch.ensures.keeps.medium in
       omega (arith, quiet, one, c.in_ok-finish.ensures.flushes);
+  as_many = λ on head live.
+      let old = c.args.self.now.cached in
+      let under_way = c.in_ok-finish.ensures.batch.some in
+      let one = one_each old.frozen.numbers old.log head under_way in
+      let quiet = ap (λ m. (g.M.Medium.state m).made Flush) c.begin_batch.ensures.keeps.medium in
+      let is = c.begin_batch.ensures.log ∙ c.in_ok-finish.ensures.batch.finishes ∙ ap (λ (b : Bool). finished b old.frozen old.log) on in
+      let records = ap (λ (l : LogValue). next_durable l) is
+      ∙ one_durable old.frozen.numbers (firsts_in old.frozen) old.log head under_way in
+      omega (arith, quiet, one, c.in_ok-finish.ensures.flushes, records);
 }
