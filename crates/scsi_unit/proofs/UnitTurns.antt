@@ -2,13 +2,16 @@
 use Rattle.std.proofs.Common.{◌≡◌, ◌≢◌, ◌⊎◌, ◌<◌, ◌≤◌, ◌+◌, ℕ, List, [], inl, inr, ⊎_elim, Bool, true, false, arith, refl, ap, subst, ◌∙◌}
 use Rattle.std.proofs.lemmas.Bool.Decides.{nat_tests}
 use Rattle.medium.specs.Medium.{State}
+use Rattle.medium.specs.Moments.{IsUnchanged}
 use Rattle.medium.specs.Sent.{SendsUpTo}
 use Rattle.blocks.specs.Limit.{Shape, limit_of}
-use Rattle.blocks.specs.Background.{IsBackgroundStep}
 use Rattle.blocks.specs.Headroom.{KeepsHeadroom}
 use Rattle.blocks.specs.Looks.{LooksAtLog}
+use Rattle.blocks.specs.Work.{IsWork, LeavesBy}
+use Rattle.blocks.specs.declared.work.Work.{Work}
+use Rattle.blocks.specs.declared.work.Work.TheVariants.{Settle, Ahead}
 use Rattle.spec.specs.Book.{Book}
-use Rattle.blocks.specs.StoreValue.{Cached, StoreValue, FitsBook, layout_of, blocks_of, transfer_limit, is_dead, active_of, steps_left}
+use Rattle.blocks.specs.StoreValue.{Cached, StoreValue, FitsBook, layout_of, blocks_of, transfer_limit, is_dead, active_of}
 use Rattle.blocks.specs.Turns.{GoesOn, HasCause, IsTurn}
 use Rattle.spec.specs.Rules.{MayFault, Ticks, intention_by, Intention}
 use Rattle.spec.specs.Sense.{Sense}
@@ -71,17 +74,24 @@ steady_through moved good old store on block n out =
     (subst (λ (s : Shape). intention_by s.blocks (limit_of s.format) old.kept.attention (is_dead store.cached) block ≡ moved n)
     on.layout_stays out)
 
+-- a dead store makes no step, whatever it works towards
+dead_stays : (work : Work) (ahead : Bool) (before after : State) (old new : Cached) → IsWork work ahead before after old new
+    → is_dead old ≡ true → (new ≡ old) × IsUnchanged before after
+dead_stays Settle ahead before after old new step dead = step.dead dead
+dead_stays Ahead ahead before after old new step dead = step.dead dead
+
 -- a unit over a store that made a step in the background
-pub ticks_over : {M : Type 0} (before after : State) (old : UnitValue M) (store : StoreValue M)
-    → IsTurn before after old.store.cached store.cached → IsBackgroundStep old.store.goes_ahead before after old.store.cached store.cached
+pub ticks_over : {M : Type 0} (work : Work) (before after : State) (old : UnitValue M) (store : StoreValue M)
+    → IsTurn before after old.store.cached store.cached → IsWork work old.store.goes_ahead before after old.store.cached store.cached
     → after.calls ≤ before.calls + 2 → SendsUpTo 2 before after
     → LooksAtLog before after old.store.cached
-    → (is_dead store.cached ≡ false → (steps_left store.cached < steps_left old.store.cached) ⊎ (steps_left old.store.cached ≡ 0))
+    → LeavesBy work old.store.cached store.cached
     → (active_of store.cached ≡ active_of old.store.cached) ⊎ (active_of store.cached ≡ [])
     → store.goes_ahead ≡ old.store.goes_ahead → KeepsHeadroom old.store store
-    → TicksOver before after old (record old { store = store })
-ticks_over before after old store turn step few sends looks left active policy headroom = record {
+    → TicksOver work before after old (record old { store = store })
+ticks_over work before after old store turn step few sends looks left active policy headroom = record {
   step = step;
+  faulted = dead_stays work old.store.goes_ahead before after old.store.cached store.cached step;
   headroom = headroom;
   line = λ book fits. (ticks_line before after old store book turn.goes_on fits, turn.fits book fits);
   cuts = turn.cuts;

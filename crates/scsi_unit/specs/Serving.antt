@@ -1,19 +1,20 @@
 -- What carrying out a command does to a unit over its medium, and to each book that the unit fits.
-use Rattle.std.specs.Prelude.{◌≡◌, ◌⊎◌, ℕ, ◌<◌, ◌≤◌, ◌+◌, nat_lt, ◌&&◌, ◌||◌, not, Bool, true}
+use Rattle.std.specs.Prelude.{◌≡◌, ◌⊎◌, ℕ, ◌≤◌, ◌+◌, nat_lt, ◌&&◌, ◌||◌, not, Bool, true}
 use Rattle.std.specs.Prelude.{false, List, [], Option, Some, None, Result, Ok, Err, is_ok}
 use Rattle.std.specs.Prelude.{if◌then◌else◌}
 use Rattle.medium.specs.Medium.{State}
-use Rattle.medium.specs.Moments.{LeavesOnly}
+use Rattle.medium.specs.Moments.{LeavesOnly, IsUnchanged}
 use Rattle.medium.specs.Sent.{SendsUpTo}
-use Rattle.blocks.specs.Background.{IsBackgroundStep}
 use Rattle.spec.specs.Book.{Book}
 use Rattle.blocks.specs.Finding.{MayFind, FoundWith}
 use Rattle.blocks.specs.Calls.{TurnsBatches}
 use Rattle.blocks.specs.Headroom.{KeepsHeadroom}
 use Rattle.blocks.specs.Looks.{LooksAtLog}
+use Rattle.blocks.specs.Work.{IsWork, LeavesBy}
+use Rattle.blocks.specs.declared.work.Work.{Work}
 use Rattle.blocks.specs.Passing.{MayEmpty}
 use Rattle.blocks.specs.Retiring.{finished}
-use Rattle.blocks.specs.StoreValue.{Cached, layout_of, blocks_of, is_dead, active_of, steps_left}
+use Rattle.blocks.specs.StoreValue.{Cached, layout_of, blocks_of, is_dead, active_of}
 use Rattle.blocks.specs.StoreValue.{transfer_limit, FitsBeside, TakesRange}
 use Rattle.spec.specs.Sense.{Sense}
 use Rattle.spec.specs.declared.command.Command.{Command}
@@ -162,10 +163,14 @@ pub record IsSparing {M : Type 0} (before after : State) (block taken : List ℕ
 
 -- ---- a step in the background
 
--- A step in the background was made by a unit over its medium.
-pub record TicksOver {M : Type 0} (before after : State) (old new : UnitValue M) : Type 0 where
+-- A step in the background was made by a unit over its medium, by what it works towards.
+pub record TicksOver {M : Type 0} (work : Work) (before after : State) (old new : UnitValue M)
+    : Type 0 where
   -- exactly one step of the store, by the order of its work
-  pub step : IsBackgroundStep old.store.goes_ahead before after old.store.cached new.store.cached
+  pub step : IsWork work old.store.goes_ahead before after old.store.cached new.store.cached
+  -- a faulted unit makes none
+  pub faulted : is_dead old.store.cached ≡ true
+      → (new.store.cached ≡ old.store.cached) × IsUnchanged before after
   -- a ring that was not full at the start never is, where the unit goes ahead
   pub headroom : KeepsHeadroom old.store new.store
   pub line : (book : Book) → FitsUnit before old book
@@ -185,12 +190,16 @@ pub record TicksOver {M : Type 0} (before after : State) (old new : UnitValue M)
       → intention_of old block ≡ intent.Out n
   pub steady_in : (block : List ℕ) (n : ℕ) → intention_of new block ≡ intent.In n
       → intention_of old block ≡ intent.In n
-  -- at most two calls, and there is less left to do, or there was nothing
+  -- at most two calls, and as many steps are left as such a step leaves
   pub few : after.calls ≤ before.calls + 2
   pub sent : SendsUpTo 2 before after
   -- no sector at home is read
   pub looks : LooksAtLog before after old.store.cached
-  pub left : is_dead new.store.cached ≡ false
-      → (steps_left new.store.cached < steps_left old.store.cached)
-      ⊎ (steps_left old.store.cached ≡ 0)
+  pub left : LeavesBy work old.store.cached new.store.cached
   pub active : MayEmpty (active_of old.store.cached) (active_of new.store.cached)
+
+-- the same of a unit whose medium comes after what it was, by calls alone
+pub record WorksUnit {M : Type 0} (work : Work) (state : M → State) (Follows : M → M → Type 0)
+    (old new : UnitValue M) : Type 0 where
+  pub ticks : TicksOver work (state old.store.medium) (state new.store.medium) old new
+  pub follows : Follows old.store.medium new.store.medium

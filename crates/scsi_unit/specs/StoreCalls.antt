@@ -1,8 +1,7 @@
 -- What the unit's calls of the store do to its batches, its log and its medium.
-use Rattle.std.specs.Prelude.{◌≡◌, ◌⊎◌, ℕ, ◌+◌, ◌*◌, ◌<◌, ◌≤◌, Bool, true, false, List, take}
+use Rattle.std.specs.Prelude.{◌≡◌, ℕ, ◌+◌, ◌*◌, ◌<◌, ◌≤◌, Bool, true, false, List, take}
 use Rattle.std.specs.Prelude.{Result, OnOk, IfOk, IfErr, MatchResult, is_ok, if◌then◌else◌}
 use Rattle.medium.specs.Medium.{State}
-use Rattle.blocks.specs.Background.{IsBackgroundStep}
 use Rattle.spec.specs.Book.{Book, array_of, blocks_at, promised, write_of}
 use Rattle.blocks.specs.Calls.{reads_of, TurnsBatches}
 use Rattle.blocks.specs.Flushing.{finish_flushes}
@@ -14,8 +13,10 @@ use Rattle.medium.specs.Sent.{SendsUpTo}
 use Rattle.blocks.specs.Passing.{MayEmpty}
 use Rattle.blocks.specs.Sent.{batch_sends}
 use Rattle.blocks.specs.StoreValue.{Cached, StoreValue, transfer_limit, is_dead, active_of}
-use Rattle.blocks.specs.StoreValue.{batch_steps, steps_left, FitsBook, FitsBeside, TakesRange}
+use Rattle.blocks.specs.StoreValue.{batch_steps, FitsBook, FitsBeside, TakesRange}
 use Rattle.blocks.specs.Turns.{IsTurn, IsWriteTurn}
+use Rattle.blocks.specs.Work.{IsWork, LeavesBy}
+use Rattle.blocks.specs.declared.work.Work.{Work}
 use Rattle.spec.specs.Sense.{Sense}
 use Rattle.spec.specs.SenseCodes.{unrecovered_read_error, write_error}
 use Rattle.spec.specs.declared.command.Transfer.{Transfer}
@@ -86,16 +87,16 @@ pub record WritesBlocks (ahead : Bool) (transfer : Transfer) (taken : List ℕ)
       → OnOk result (after.made Flush
       ≡ before.made Flush + finish_flushes old.frozen.numbers old.log)
 
--- One step in the background: by the order of the store's work, of at most two calls, and with less
--- left to do behind it, or nothing was left.
-pub record StepsBehind (ahead : Bool) (before after : State) (old new : Cached) : Type 0 where
+-- One step in the background, by what it works towards: by the order of the store's work, of at
+-- most two calls, and with as many steps left behind it as such a step leaves.
+pub record StepsBehind (work : Work) (ahead : Bool) (before after : State) (old new : Cached)
+    : Type 0 where
   pub turn : IsTurn before after old new
-  pub order : IsBackgroundStep ahead before after old new
+  pub order : IsWork work ahead before after old new
   pub calls : after.calls ≤ before.calls + 2
   pub sent : SendsUpTo 2 before after
   pub looks : LooksAtLog before after old
-  pub left : is_dead new ≡ false
-      → (steps_left new < steps_left old) ⊎ (steps_left old ≡ 0)
+  pub left : LeavesBy work old new
   pub active : MayEmpty (active_of old) (active_of new)
 
 -- What each call of the store passes on: where it is not wanted it does nothing and is good; ..

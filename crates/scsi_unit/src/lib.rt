@@ -2,7 +2,8 @@
 //! whole writes when power is lost.
 //!
 //! A command is checked (`Unit::intend` tells what it is about to move) and then carried out by
-//! `Unit::carry_out`, which answers data or a sense. `Unit::tick` makes a step in the background.
+//! `Unit::carry_out`, which answers data or a sense. `Unit::work` makes a step in the background,
+//! which works towards rest or ahead; `Unit::tick` makes one towards rest.
 #![tactic(auto)]
 
 mod checks;
@@ -17,7 +18,7 @@ mod store_calls;
 mod transfers;
 mod unit;
 
-pub use blocks::{StartError, StartFault};
+pub use blocks::{StartError, StartFault, Work};
 pub use laws::unit_laws;
 pub use pages::Identity;
 pub use reading::HomeSectors;

@@ -6,7 +6,7 @@ ghost use Rattle.scsi_unit.specs.StoreCalls.{ComesAfter, MakesDurable, ReadsBloc
 ghost use Rattle.scsi_unit.specs.StoreCalls.{StepsBehind, PassesDurable, PassesRead, PassesWrite};
 
 use crate::checks::BLOCK;
-use blocks::Store;
+use blocks::{Store, Work};
 use cdb::Transfer;
 use medium::Medium;
 use sense::Sense;
@@ -67,10 +67,10 @@ pub(crate) fn write_blocks<M: Medium>(
 }
 
 /// Makes a step in the background.
-pub(crate) fn step<M: Medium>(store: &mut Store<M>)
-    ensures steps { StepsBehind store.old.goes_ahead (M.state store.old.medium)
+pub(crate) fn step<M: Medium>(store: &mut Store<M>, work: Work)
+    ensures steps { StepsBehind work store.old.goes_ahead (M.state store.old.medium)
         (M.state store.new.medium) store.old.cached store.new.cached }
     ensures follows { ComesAfter M.follows store.old store.new }
 {
-    store.tick();
+    store.work(work);
 }

@@ -12,15 +12,16 @@ ghost use Rattle.scsi_unit.specs.UnitValue.{unit_limit, state_of, intention_of, 
 ghost use Rattle.scsi_unit.specs.UnitValue.{FitsUnit, TellsLimit, ArmsUnit};
 ghost use Rattle.spec.specs.declared.intent.Intent.TheVariants as intent;
 ghost use Rattle.blocks.specs.Limit.{HasLimit};
+ghost use Rattle.blocks.specs.declared.work.Work.TheVariants.{Settle};
 ghost use Rattle.scsi_unit.specs.Asking.{CanCarryOut};
-ghost use Rattle.scsi_unit.specs.Serving.{Serves, IsSparing, TicksOver};
+ghost use Rattle.scsi_unit.specs.Serving.{Serves, IsSparing, TicksOver, WorksUnit};
 ghost use Rattle.scsi_unit.specs.Calls.{PassesOn};
 ghost use Rattle.scsi_unit.specs.Performing.{settled_kept};
 
 use crate::Intent;
 use crate::checks::moves;
 use crate::store_calls::step;
-use blocks::Store;
+use blocks::{Store, Work};
 use inlet::Inlet;
 use medium::{Medium, Outlet, Switch};
 use pages::Identity;
@@ -115,16 +116,24 @@ impl<M: Medium> Unit<M> {
         answer
     }
 
-    /// Makes a step in the background, of at most two calls of the medium.
+    /// Makes a step in the background towards rest, of at most two calls of the medium.
     ///
     /// Where it faults the unit, no command fails with a write error: those that need the medium
     /// fail from then on with an internal target failure.
     pub fn tick(&mut self)
-        ensures ticks { TicksOver (M.state self.old.store.medium) (M.state self.new.store.medium)
-            self.old self.new }
+        ensures ticks { TicksOver Settle (M.state self.old.store.medium)
+            (M.state self.new.store.medium) self.old self.new }
         ensures follows { M.follows self.old.store.medium self.new.store.medium }
     {
-        step(&mut self.store);
+        self.work(Work::Settle);
+    }
+
+    /// Makes a step in the background that works towards this, of at most two calls of the medium.
+    /// It may fault the unit as `tick` may.
+    pub fn work(&mut self, work: Work)
+        ensures { WorksUnit work M.state M.follows self.old self.new }
+    {
+        step(&mut self.store, work);
     }
 
     /// Whether no background step is left: each accepted write is durable and at home then, and no
