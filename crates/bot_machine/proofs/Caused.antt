@@ -1,11 +1,10 @@
 -- Each action in which a medium in memory refused a call has a cause.
-use Rattle.std.proofs.Common.{◌≡◌, ℕ, ◌+◌, ◌≤◌, Bool, true, false, if◌then◌else◌, Option, Some, List, [], ◌∷◌, ◌++◌, refl, sym, ap}
-use Rattle.std.proofs.Common.{◌∙◌, arith}
+use Rattle.std.proofs.Common.{◌≡◌, ℕ, ◌+◌, ◌≤◌, Bool, true, false, if◌then◌else◌, Option, Some, List, [], ◌∷◌, ◌++◌, refl}
+use Rattle.std.proofs.Common.{arith}
 use Rattle.std.proofs.lemmas.List.Sums.{sum_by-append}
 use Rattle.medium.specs.Power.{is_armed, faults_in}
 use Rattle.medium.specs.Sim.{Sim, state_of, ComesAfter}
 use Rattle.medium.proofs.SimCalls.{keeps_power}
-use Rattle.medium.specs.declared.power.Power.{Power}
 use Rattle.scsi_unit.specs.Serving.{has_refused}
 use Rattle.spec.specs.Conversation.{refused_events}
 use Rattle.spec.specs.Lives.{Action}
