@@ -6,7 +6,7 @@ use Rattle.spec.specs.declared.case.Endpoint.{Endpoint}
 use Rattle.spec.specs.declared.case.Endpoint.TheVariants as endpoint
 use Rattle.medium.specs.Medium.{State, IsSound}
 use Rattle.medium.proofs.SectorsRead.{no_looks, looks_wider}
-use Rattle.scsi_unit.specs.Background.{is_dead}
+use Rattle.scsi_unit.specs.Background.{Work, is_dead}
 use Rattle.scsi_unit.specs.Reading.{first_home_of}
 use Rattle.spec.specs.Sense.{Sense}
 use Rattle.spec.specs.Book.{Book}
@@ -27,7 +27,7 @@ use Rattle.spec.specs.Exchange.{after_request}
 use Rattle.spec.specs.Conversation.{OutStep, SetupStep}
 use Rattle.spec.specs.UnitConversation.{Intends, write_of_packet, on_line}
 use Rattle.bot_machine.specs.Acts.{PacketCarriesOut}
-use Rattle.bot_machine.specs.Disk.{DiskValue, FitsDisk, Proceeds, Tells, IsStep, Elapses, TakesFew}
+use Rattle.bot_machine.specs.Disk.{DiskValue, FitsDisk, Proceeds, Tells, IsStepBy, IsStep, Elapses, TakesFew}
 use Rattle.spec.specs.declared.intent.Intent.TheVariants as intent
 use Rattle.bot_machine.specs.Refinement.{taking_of, left_of, halt_of, IsInPhase, Invariant}
 use Rattle.spec.specs.Packets.{packets_of}
@@ -176,10 +176,10 @@ goes_on before after old new packet t taken halted left takes rests spares few l
     })
 
 -- a step in the background
-pub ticked : {M : Type 0} (before after : State) (old new : DiskValue M)
-    → TicksOver before after old.unit new.unit → new.line ≡ old.line
-    → IsStep before after old event.Tick answer.Ticked new
-ticked before after old new ticks line = record {
+pub ticked : {M : Type 0} (work : Work) (before after : State) (old new : DiskValue M)
+    → TicksOver work before after old.unit new.unit → new.line ≡ old.line
+    → IsStepBy work before after old event.Tick answer.Ticked new
+ticked work before after old new ticks line = record {
   proceeds = λ book fits.
       let one = ticks.line book fits in
       proceeding before after old.unit new.unit _ None book book (refl, one.0, line) one.1 refl (ticks.cuts book fits);
@@ -192,7 +192,7 @@ ticked before after old new ticks line = record {
     layout_stays = ticks.layout_stays;
     policy_stays = ticks.policy_stays;
     headroom = ticks.headroom;
-    faulted = λ dead. ((ticks.step.dead dead).1.calls_stay, ap is_dead (ticks.step.dead dead).0 ∙ dead);
+    faulted = λ dead. ((ticks.faulted dead).1.calls_stay, ap is_dead (ticks.faulted dead).0 ∙ dead);
   };
   looks = looks_wider (λ s. s < first_home_of old.unit) (λ s. (s < first_home_of old.unit) ⊎ ReadsAt old event.Tick s) before after
       (λ s low. inl low) ticks.looks;

@@ -11,7 +11,7 @@ use Rattle.medium.specs.Medium.{State, Image}
 use Rattle.medium.specs.Moments.{LeavesOnly, EachCut, IsUnchanged}
 use Rattle.medium.specs.Sent.{SendsUpTo}
 use Rattle.spec.specs.Sense.{Sense}
-use Rattle.scsi_unit.specs.Background.{is_dead}
+use Rattle.scsi_unit.specs.Background.{Work, Settle, is_dead}
 use Rattle.spec.specs.Book.{Book}
 use Rattle.scsi_unit.specs.Books.{MayFind, FoundWith}
 use Rattle.spec.specs.Rules.{UnitState, CarriesOut, Ticks}
@@ -22,6 +22,7 @@ use Rattle.scsi_unit.specs.Starting.{layout_of}
 use Rattle.scsi_unit.specs.UnitValue.{UnitValue, unit_limit, state_of, FitsUnit}
 use Rattle.spec.specs.declared.event.Event.{Event}
 use Rattle.spec.specs.declared.event.Answer.{Answer}
+use Rattle.spec.specs.declared.event.Answer.TheVariants.{Ticked}
 pub use Rattle.bot_machine.specs.DiskValue.{DiskValue}
 use Rattle.spec.specs.Exchange.{Line, finished, sending}
 use Rattle.spec.specs.Conversation.{Conversation, refused_events, SetupStep}
@@ -67,11 +68,13 @@ pub record Proceeds {M : Type 0} (before after : State) (old new : UnitValue M)
   pub cuts : book.ours ≡ true → LeavesOnly (FoundWith before.size book write) before after
   pub at_exit : book.ours ≡ true → EachCut (MayFind after.size later) after
 
--- a step in the background is exactly one step of the unit, and leaves the line
-abbrev pub TicksIn : {M : Type 0} → State → State → DiskValue M → Event → DiskValue M → Type 0
-TicksIn before after old happens.Tick new =
-    TicksOver before after old.unit new.unit × (new.line ≡ old.line)
-TicksIn before after old other new = ⊤
+-- a step in the background is exactly one step of the unit, by what it works towards, and leaves
+-- the line
+abbrev pub TicksIn : {M : Type 0} → Work → State → State → DiskValue M → Event → DiskValue M
+    → Type 0
+TicksIn work before after old happens.Tick new =
+    TicksOver work before after old.unit new.unit × (new.line ≡ old.line)
+TicksIn work before after old other new = ⊤
 
 -- the status that tells the answer to a command
 abbrev pub status_of_answer : Result (List ℕ) Sense → Status
@@ -83,9 +86,10 @@ abbrev pub Tells : Result (List ℕ) Sense → Line → Type 0
 Tells answer line = (packets : List (List ℕ)) × (halt : Option Endpoint) × (tag : ℕ) × (residue : ℕ)
     × (line.left ≡ sending packets halt (status_wrapper tag residue (status_of_answer answer)))
 
--- one event of a disk and its answer
-pub record IsStep {M : Type 0} (before after : State) (old : DiskValue M) (event : Event)
-    (answer : Answer) (new : DiskValue M) : Type 0 where
+-- One event of a disk and its answer, where a step in the background works towards this. A host
+-- sees nothing of what that is.
+pub record IsStepBy {M : Type 0} (work : Work) (before after : State) (old : DiskValue M)
+    (event : Event) (answer : Answer) (new : DiskValue M) : Type 0 where
   pub proceeds : (book : Book) → FitsDisk before old book → Proceeds before after old.unit new.unit
       (λ unit later. UnitStep (has_refused before after)
       (on_line old.line unit) event answer (on_line new.line later))
@@ -93,7 +97,7 @@ pub record IsStep {M : Type 0} (before after : State) (old : DiskValue M) (event
   -- where the unit has nothing to do it stays as it is, and its medium too
   pub rests : (book : Book) → FitsDisk before old book → ¬ Acts (over old book) event
       → new.unit ≡ old.unit
-  pub ticks : TicksIn before after old event new
+  pub ticks : TicksIn work before after old event new
   -- a command makes no call of the medium that it does not need, no more than its calls of the
   -- store add up to, and the host is told its answer
   pub spares : (book : Book) → FitsDisk before old book → (block taken : List ℕ)
@@ -108,6 +112,11 @@ pub record IsStep {M : Type 0} (before after : State) (old : DiskValue M) (event
   pub elapses : Elapses before after
   pub limit_stays : unit_limit new.unit ≡ unit_limit old.unit
   pub packets_stay : new.line.packet_size ≡ old.line.packet_size
+
+-- the same of an event of a run, whose steps in the background work towards rest
+abbrev pub IsStep : {M : Type 0} → State → State → DiskValue M → Event → Answer → DiskValue M
+    → Type 0
+IsStep before after old event answer new = IsStepBy Settle before after old event answer new
 
 -- an image that a cut in one of the events of a run may leave: accepted writes of the book at the
 -- beginning of that event, perhaps with the one in progress in it
@@ -163,6 +172,14 @@ pub record IsRun {M : Type 0} (state : M → State) (old : DiskValue M) (events 
       refusals new book
   pub elapses : Elapses (state old.unit.store.medium) (state new.unit.store.medium)
   pub packets_stay : new.line.packet_size ≡ old.line.packet_size
+
+-- a step in the background that works towards this was made on a disk, and its medium comes after
+-- what it was, by calls alone
+pub record WorksDisk {M : Type 0} (work : Work) (state : M → State) (Follows : M → M → Type 0)
+    (old new : DiskValue M) : Type 0 where
+  pub step : IsStepBy work (state old.unit.store.medium) (state new.unit.store.medium) old
+      happens.Tick Ticked new
+  pub follows : Follows old.unit.store.medium new.unit.store.medium
 
 -- something was armed in the medium, and nothing else of the disk has changed
 abbrev pub IsRearmed : {M : Type 0} → DiskValue M → DiskValue M → Type 0

@@ -7,7 +7,7 @@ ghost use mathlib.Core.Option.{none};
 ghost use Rattle.medium.specs.Moments.{EachCut, IsUnchanged};
 ghost use Rattle.spec.specs.Book.{Book};
 ghost use Rattle.scsi_unit.specs.Books.{MayFind};
-ghost use Rattle.scsi_unit.specs.Background.{IsSettled, HasLimits, is_dead, steps_left};
+ghost use Rattle.scsi_unit.specs.Background.{IsSettled, HasLimits, Settle, is_dead, steps_left};
 ghost use Rattle.scsi_unit.specs.Serving.{TicksOver};
 ghost use Rattle.scsi_unit.specs.Starting.{HasLimit};
 ghost use Rattle.scsi_unit.specs.UnitValue.{unit_limit, TellsLimit};
@@ -15,7 +15,7 @@ ghost use Rattle.spec.specs.Exchange.{in_answer, after_in, after_request};
 ghost use Rattle.spec.specs.Requests.{mass_storage_reset};
 ghost use Rattle.bot_machine.specs.Answers.{answer_to_out, answer_to_in, answer_to_setup, IsPacket};
 ghost use Rattle.spec.specs.Conversation.{SetupStep};
-ghost use Rattle.bot_machine.specs.Disk.{FitsDisk, IsStep, IsRearmed, ArmsDisk};
+ghost use Rattle.bot_machine.specs.Disk.{FitsDisk, IsStep, WorksDisk, IsRearmed, ArmsDisk};
 ghost use Rattle.bot_machine.specs.Disk.{AnswersSetup};
 ghost use Rattle.spec.specs.declared.event.Event.TheVariants as event;
 ghost use Rattle.spec.specs.declared.event.Answer.TheVariants as answer;
@@ -27,7 +27,7 @@ use crate::event::{InAnswer, OutAnswer, SetupAnswer};
 use crate::request::{ControlRequest, read_request};
 use inlet::Inlet;
 use medium::{Medium, Outlet, Switch};
-use scsi_unit::Unit;
+use scsi_unit::{Unit, Work};
 use std::marker::Model;
 
 /// A disk over a medium.
@@ -217,16 +217,24 @@ impl<M: Medium> Disk<M> {
         self.bulk.phase = Phase::Command;
     }
 
-    /// Makes a step in the background, of at most two calls of the medium.
+    /// Makes a step in the background towards rest, of at most two calls of the medium.
     pub fn tick(&mut self)
         ensures step { IsStep (M.state self.old.unit.store.medium)
             (M.state self.new.unit.store.medium) self.old event.Tick answer.Ticked self.new }
-        ensures ticks { TicksOver (M.state self.old.unit.store.medium)
+        ensures ticks { TicksOver Settle (M.state self.old.unit.store.medium)
             (M.state self.new.unit.store.medium) self.old.unit self.new.unit }
         ensures line { self.new.line ≡ self.old.line }
         ensures follows { M.follows self.old.unit.store.medium self.new.unit.store.medium }
     {
-        self.unit.tick();
+        self.work(Work::Settle);
+    }
+
+    /// Makes a step in the background that works towards this, of at most two calls of the medium.
+    /// A host sees nothing of it.
+    pub fn work(&mut self, work: Work)
+        ensures { WorksDisk work M.state M.follows self.old self.new }
+    {
+        self.unit.work(work);
     }
 }
 

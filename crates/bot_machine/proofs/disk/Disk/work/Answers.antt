@@ -1,13 +1,16 @@
 use Rattle.std.proofs.Common.{refl}
 use Rattle.bot_machine.proofs.OutPackets.{ticked, still_in_phase, kept_as}
-use Rattle.bot_machine.proofs.disk.Disk.tick.Goals as goal
+use Rattle.bot_machine.proofs.disk.Disk.work.Goals as goal
 
-pub returns-clause-step : goal.returns-clause-step
-returns-clause-step g c = rw (← c.self.view_is) (ticked _ _ _ _ c.tick.ensures.ticks refl)
+pub returns : goal.returns
+returns g c = rw (← c.self.view_is) (record {
+  step = ticked _ _ _ _ _ c.work.ensures.ticks refl;
+  follows = c.work.ensures.follows;
+})
 
 pub invariant_of-self : goal.invariant_of-self
 invariant_of-self g c =
-    let ticks = c.tick.ensures.ticks in
+    let ticks = c.work.ensures.ticks in
     let d = c.self.inside in
     kept_as _ _ _ d.bulk.phase d.taken.items d.staging.items ticks.limit_stays (record {
       taken_room = c.self.invariant.taken_room;
