@@ -1,5 +1,5 @@
 -- Wrappers by turns: the command wrappers that a run takes, and the status wrappers that it sends.
-use Rattle.std.specs.Prelude.{◌≡◌, ⊤, ℕ, Bool, false, List, [], ◌∷◌, ◌++◌, Option, Some, None}
+use Rattle.std.specs.Prelude.{◌≡◌, ⊤, ℕ, Bool, true, false, List, [], ◌∷◌, ◌++◌, Option, Some, None}
 use Rattle.std.specs.Prelude.{Result}
 use Rattle.spec.specs.declared.way.Way.{Way}
 use Rattle.spec.specs.declared.status.Status.{Status}
@@ -8,8 +8,14 @@ use Rattle.spec.specs.StatusWrapper.{status_wrapper}
 use Rattle.spec.specs.declared.event.Event.{Event}
 use Rattle.spec.specs.declared.event.Event.TheVariants as event
 use Rattle.spec.specs.declared.event.Answer.{Answer}
-use Rattle.spec.specs.Exchange.{Script, finished, sending, Line}
+use Rattle.spec.specs.Exchange.{Script, finished, taking, sending, Line}
 use Rattle.spec.specs.Conversation.{Conversation, Run}
+
+-- a status wrapper is still to be sent, behind data or not
+abbrev pub owes_status : Script → Bool
+owes_status finished = false
+owes_status (taking case command intended bytes due) = false
+owes_status (sending packets halt status) = true
 
 -- what a step does of these
 pub data Mark : Type 0 where

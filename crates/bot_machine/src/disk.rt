@@ -17,6 +17,7 @@ ghost use Rattle.bot_machine.specs.Answers.{answer_to_out, answer_to_in, answer_
 ghost use Rattle.spec.specs.Conversation.{SetupStep};
 ghost use Rattle.bot_machine.specs.Disk.{FitsDisk, IsStep, WorksDisk, IsRearmed, ArmsDisk};
 ghost use Rattle.bot_machine.specs.Disk.{AnswersSetup};
+ghost use Rattle.bot_machine.specs.Turns.{owes_status};
 ghost use Rattle.spec.specs.declared.event.Event.TheVariants as event;
 ghost use Rattle.spec.specs.declared.event.Answer.TheVariants as answer;
 ghost use Rattle.bot_machine.specs.contracts.disk.Disk.{the_row};
@@ -85,6 +86,18 @@ impl<M: Medium> Disk<M> {
             self.now.unit.store.cached }
     {
         self.unit.is_settled()
+    }
+
+    /// Whether the host is still to take a status wrapper, with or without data before it
+    /// (Bulk-Only Transport 1.0, 5.3.3). A command whose data is still to come owes none, and a
+    /// mass storage reset drops what is owed.
+    pub fn owes_status(&self) -> bool
+        ensures { result ≡ owes_status self.now.line.left }
+    {
+        match self.bulk.phase {
+            Phase::Command | Phase::DataOut(_) => false,
+            Phase::DataIn { .. } | Phase::Status => true,
+        }
     }
 
     /// The medium that the disk stands on.
