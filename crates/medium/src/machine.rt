@@ -7,7 +7,7 @@ ghost use Rattle.medium.specs.Machine.{TellsCall, GoesOn, HasRoom, Driven, Talli
 
 use crate::{Call, Medium, MediumFault, perform};
 
-/// It tells its next call, and is told how that ended.
+/// It tells its next call, and is told how that ended: a read with the bytes that it gave.
 pub trait Machine<M: Medium> {
     /// What stays for the whole run, as the medium at its beginning.
     ghost View: { Type 0 };
@@ -27,14 +27,17 @@ pub trait Machine<M: Medium> {
     /// No call names a sector from this one on.
     ghost ends: { Self → ℕ };
 
-    /// How many calls of each kind are left.
+    /// How many calls of each kind are left, or at most are.
     ghost cost: { Self → Tally };
+
+    /// So many are left, and not fewer: no bytes that it reads spare it a call.
+    ghost exact: { Type 0 };
 
     /// A call is left.
     ghost due: { Self → Type 0 };
 
-    /// The second is the first once its next call is made.
-    ghost after: { Self → Self → Type 0 };
+    /// The second is the first once its next call is made, which left these bytes in the sector.
+    ghost after: { Self → List ℕ → Self → Type 0 };
 
     /// The second is the first once that call was refused.
     ghost gone: { Self → Self → Type 0 };
@@ -42,13 +45,13 @@ pub trait Machine<M: Medium> {
     /// The next call, and in the sector what it writes; none at the end.
     fn next(&self, sector: &mut [u8; 512]) -> Option<Call>
         ensures { MatchOption result ((cost self.now ≡ none) × (sector.new ≡ sector.old))
-            (λ call. TellsCall M.state fits holds reads ends cost due after gone self.now
+            (λ call. TellsCall M.state fits holds reads ends cost exact due after gone self.now
             sector.old call sector.new) };
 
-    /// The call is made.
-    fn made(&mut self)
+    /// The call is made, with this sector lent.
+    fn made(&mut self, sector: &[u8; 512])
         requires { due self.old }
-        ensures { after self.old self.new };
+        ensures { after self.old sector.now self.new };
 
     /// The call was refused.
     fn refused(&mut self)
@@ -60,7 +63,8 @@ pub trait Machine<M: Medium> {
 
     ghost room: { HasRoom fits ends };
 
-    ghost goes_on: { (s t : Self) → due s → after s t → GoesOn fits reads ends s t };
+    ghost goes_on: { (s t : Self) (got : List ℕ) → due s → after s got t
+        → GoesOn fits reads ends s t };
 }
 
 /// Makes the calls of a machine until it has none left, or one is refused.
@@ -74,10 +78,10 @@ pub fn drive<M: Medium, T: Machine<M>>(
     sector: &mut [u8; 512],
 ) -> Result<(), MediumFault>
     requires { T.fits machine.old (M.state m.old).size }
-    ensures driven { Driven M.state T.fits T.holds T.may T.reads T.ends T.cost machine.old
-        sector.old m.old result machine.new sector.new m.new }
+    ensures driven { Driven M.state T.fits T.holds T.may T.reads T.ends T.cost T.exact
+        machine.old sector.old m.old result machine.new sector.new m.new }
     ensures done { OnOk result ((T.cost machine.new ≡ none)
-        × Tallied (T.cost machine.old) none result (M.state m.old) (M.state m.new)) }
+        × Tallied T.exact (T.cost machine.old) none result (M.state m.old) (M.state m.new)) }
     ensures follows { M.follows m.old m.new }
 {
     while let Some(call) = machine.next(sector) {
@@ -85,7 +89,7 @@ pub fn drive<M: Medium, T: Machine<M>>(
             machine.refused();
             return Err(fault);
         }
-        machine.made();
+        machine.made(sector);
     }
     Ok(())
 }

@@ -29,9 +29,11 @@ impl<M: Medium> Machine<M> for Clearing {
 
     ghost cost = { λ s. record { reads = 0; writes = s.end - s.at; flushes = 0 } };
 
+    ghost exact = { Unit {0} };
+
     ghost due = { λ s. s.at < s.end };
 
-    ghost after = { λ s t. (t.at ≡ s.at + 1) × (t.end ≡ s.end) };
+    ghost after = { λ s got t. (t.at ≡ s.at + 1) × (t.end ≡ s.end) };
 
     ghost gone = { λ s t. t ≡ s };
 
@@ -43,7 +45,7 @@ impl<M: Medium> Machine<M> for Clearing {
         Some(Call::Write(self.at))
     }
 
-    fn made(&mut self) {
+    fn made(&mut self, _: &[u8; 512]) {
         self.at += 1;
     }
 
@@ -53,7 +55,7 @@ impl<M: Medium> Machine<M> for Clearing {
 
     ghost room = { λ s size fits. fits };
 
-    ghost goes_on = { λ s t due after. record {
+    ghost goes_on = { λ s t got due after. record {
       reads_stay = λ i. 0;
       ends_stay = after.1;
       fits_still = λ size fits. rw after.1 fits;

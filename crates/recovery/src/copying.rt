@@ -38,9 +38,11 @@ impl<'a, M: Medium> Machine<M> for Copying<'a> {
 
     ghost cost = { λ s. copies_left (length s.read.now.numbers.items - s.i) s.has_bytes };
 
+    ghost exact = { Unit {0} };
+
     ghost due = { λ s. s.i < length s.read.now.numbers.items };
 
-    ghost after = { λ s t. (t.sizes ≡ s.sizes) × (t.stamp ≡ s.stamp) × (t.read.now ≡ s.read.now)
+    ghost after = { λ s got t. (t.sizes ≡ s.sizes) × (t.stamp ≡ s.stamp) × (t.read.now ≡ s.read.now)
         × IsCopyStep s.i s.has_bytes t.i t.has_bytes };
 
     ghost gone = { λ s t. (t.sizes ≡ s.sizes) × (t.stamp ≡ s.stamp) × (t.read.now ≡ s.read.now)
@@ -59,7 +61,7 @@ impl<'a, M: Medium> Machine<M> for Copying<'a> {
         Some(Call::Write(self.sizes.home_of(self.read.numbers[self.i])))
     }
 
-    fn made(&mut self) {
+    fn made(&mut self, _: &[u8; 512]) {
         if self.has_bytes {
             self.i += 1;
         }
@@ -75,7 +77,7 @@ impl<'a, M: Medium> Machine<M> for Copying<'a> {
 
     ghost room = { λ s size fits. fits };
 
-    ghost goes_on = { λ s t due after. record {
+    ghost goes_on = { λ s t got due after. record {
       reads_stay = rw after.0 (λ i. first_home (shape_of s.sizes));
       ends_stay = rw after.0 (λ i. sectors_of (shape_of s.sizes));
       fits_still = λ size fits. rw after.0 fits;

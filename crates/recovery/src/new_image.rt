@@ -34,9 +34,11 @@ impl<M: Medium> Machine<M> for NewImage {
 
     ghost cost = { λ s. image_left s.stage s.end };
 
+    ghost exact = { Unit {0} };
+
     ghost due = { λ s. 0 < (image_left s.stage s.end).flushes };
 
-    ghost after = { λ s t. (t.sizes ≡ s.sizes) × (t.end ≡ s.end) × IsAfter s.stage s.end t.stage
+    ghost after = { λ s got t. (t.sizes ≡ s.sizes) × (t.end ≡ s.end) × IsAfter s.stage s.end t.stage
         × IsLive t.stage };
 
     ghost gone = { λ s t. (t.sizes ≡ s.sizes) × (t.end ≡ s.end) × (t.stage ≡ Refused) };
@@ -67,7 +69,7 @@ impl<M: Medium> Machine<M> for NewImage {
         }
     }
 
-    fn made(&mut self) {
+    fn made(&mut self, _: &[u8; 512]) {
         self.stage = match self.stage {
             ImageStage::Wipe => ImageStage::FlushWipe,
             ImageStage::FlushWipe => ImageStage::Zeros(1),
@@ -95,7 +97,7 @@ impl<M: Medium> Machine<M> for NewImage {
 
     ghost room = { λ s size fits. fits.0 };
 
-    ghost goes_on = { λ s t due after. record {
+    ghost goes_on = { λ s t got due after. record {
       reads_stay = λ i. 0;
       ends_stay = after.1;
       fits_still = λ size fits. (rw after.1 fits.0, after.3);

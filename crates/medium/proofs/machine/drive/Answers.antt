@@ -1,5 +1,5 @@
-use Rattle.std.proofs.Common.{◌∙◌, refl, sym}
-use Rattle.medium.proofs.Driving.{not_driven, driven_call, driven_refused}
+use Rattle.std.proofs.Common.{refl}
+use Rattle.medium.proofs.Driving.{not_driven, driven_call, driven_refused, tallied_all, fewer_left}
 use Rattle.medium.proofs.machine.drive.Goals as goal
 
 pub loop-call-init : goal.loop-call-init
@@ -19,8 +19,12 @@ loop-call-preserved g c = (
   g.met.M.Medium.follows_through _ _ _ c.loop-call.invariant.1 c.perform.ensures.follows,
 )
 
+pub loop-call-smaller : goal.loop-call-smaller
+loop-call-smaller g c =
+    fewer_left _ c.in-Some.ensures.pays (c.in-Some.ensures.rests c.perform.new.sector c.made.new.self c.made.ensures)
+
 pub returns-clause-done : goal.returns-clause-done
 returns-clause-done g c =
     let end = c.in_default.ensures.0 in
     let so_far = c.loop-call.invariant.0 in
-    (end, rw (sym so_far.on.1 ∙ end) at so_far.tallied)
+    (end, tallied_all so_far.tallied so_far.on.1 end)

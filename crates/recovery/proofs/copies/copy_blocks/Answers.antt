@@ -41,7 +41,7 @@ returns-clause-done g c =
     on_ok_weaker c.drive.result
     (λ end. let none_left = ap (λ (t : Tally). t.writes) end.0 in (
       λ k below. copied k (omega (arith, none_left, same, below)),
-      omega (arith, calls_all end.1 refl),
+      omega (arith, calls_all end.1 tt refl),
     )) c.drive.ensures.done
 
 pub returns-clause-copies : goal.returns-clause-copies

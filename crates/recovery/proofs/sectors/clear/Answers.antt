@@ -40,7 +40,7 @@ returns-clause-clears g c =
       elsewhere = λ x not. run.1.elsewhere x (rw run.1.end_is at not);
       moments = run.0;
       calls = omega (arith, calls_most driven.tallied);
-      exact = on_ok_weaker c.drive.result (λ end. omega (arith, calls_all end.1 refl)) c.drive.ensures.done;
+      exact = on_ok_weaker c.drive.result (λ end. omega (arith, calls_all end.1 tt refl)) c.drive.ensures.done;
       cause = refused_call c.drive.result driven.tallied;
     }
 

@@ -1,4 +1,5 @@
 use Rattle.std.proofs.Common.{◌≡◌, ◌+◌, ◌-◌, arith, refl}
+use Rattle.medium.proofs.Driving.{left_all}
 use Rattle.recovery.proofs.ClearedSectors.{cleared_on, cleared_still}
 use Rattle.recovery.proofs.clearing.ClearingMachine.next.Goals as goal
 
@@ -15,5 +16,5 @@ returns g c =
       refused = λ m n got view next e fits held performed gone. rw gone (cleared_still due held performed);
       rest = record { reads = 0; writes = s.end - (s.at + 1); flushes = 0 };
       pays = rw one refl;
-      rests = λ next after. rw (after.0, after.1) refl;
+      rests = λ got next after. left_all (rw (after.0, after.1) refl);
     }

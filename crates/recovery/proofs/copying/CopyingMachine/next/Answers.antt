@@ -6,6 +6,7 @@ use Rattle.journal.specs.Formats.{layout_of, shape_of}
 use Rattle.journal.specs.Reading.{data_at}
 use Rattle.journal.proofs.SectorsRead.{place_before}
 use Rattle.recovery.specs.Driven.{IsCopyStep}
+use Rattle.medium.proofs.Driving.{left_all}
 use Rattle.recovery.proofs.CopiedBlocks.{unread, read_on, unwritten, write_on}
 use Rattle.recovery.proofs.copying.CopyingMachine.next.Goals as goal
 
@@ -33,9 +34,9 @@ returns-then-not-self g c =
           rw (gone.0, gone.1, gone.2, gone.3, gone.4) (unread held performed);
       rest = tally (left - 1);
       pays = rw unread_yet (ap tally one);
-      rests = λ next after.
+      rests = λ got next after.
           let step : IsCopyStep s.i false next.i next.has_bytes = rw unread_yet at after.3 in
-          rw (after.2, step.0, step.1) refl;
+          left_all (rw (after.2, step.0, step.1) refl);
     }
 
 pub returns : goal.returns
@@ -64,7 +65,7 @@ returns g c =
           rw (gone.0, gone.1, gone.2, gone.3, gone.4) (unwritten held s.blocks due is performed);
       rest = tally (left - 1) (left - 1);
       pays = rw full (ap (tally (left - 1)) one);
-      rests = λ next after.
+      rests = λ got next after.
           let step : IsCopyStep s.i true next.i next.has_bytes = rw full at after.3 in
-          rw (after.2, step.0, step.1) (ap (λ (n : ℕ). tally n n) next_left);
+          left_all (rw (after.2, step.0, step.1) (ap (λ (n : ℕ). tally n n) next_left));
     }

@@ -3,6 +3,7 @@ use Rattle.medium.specs.Medium.{Image, Holds}
 use Rattle.recovery.specs.Calls.{IsWritten, IsNoneOrWritten}
 use Rattle.recovery.specs.NewImage.{IsBlank, IsHeaded, MidwayImage, MayBeImage}
 use Rattle.recovery.specs.declared.image_stage.ImageStage.TheVariants.{FlushWipe, Zeros, FlushHead, Super, FlushSuper, Made}
+use Rattle.medium.proofs.Driving.{left_all}
 use Rattle.recovery.proofs.ImageCalls.{write_leaves, write_shows, flush_leaves, flush_shows, flush_only, moved, stopped, stopped_late}
 use Rattle.recovery.proofs.ImageCalls.{blank_on, headed, written, wiped}
 use Rattle.recovery.proofs.new_image.NewImageMachine.next.Goals as goal
@@ -35,7 +36,7 @@ returns-in-Wipe g c =
           (λ i cut. inl cut) (λ b i cut holds. inr (inl holds.here))) (λ past. absurd (omega (arith, past, h.calls tt, h.end_is))));
       rest = record { reads = 0; writes = s.end + 1; flushes = 3 };
       pays = rw is (rw two refl);
-      rests = λ next after. rw (after.1, rw is at after.2) refl;
+      rests = λ got next after. left_all (rw (after.1, rw is at after.2) refl);
     }
 
 pub returns-in-FlushWipe : goal.returns-in-FlushWipe
@@ -61,7 +62,7 @@ returns-in-FlushWipe g c =
           (λ i either. ⊎_elim inl (λ none. inr (inl none)) either)) (λ past. absurd (omega (arith, past, h.calls tt, h.end_is))));
       rest = record { reads = 0; writes = s.end - 1 + 2; flushes = 2 };
       pays = rw is (rw one refl);
-      rests = λ next after. rw (after.1, rw is at after.2) refl;
+      rests = λ got next after. left_all (rw (after.1, rw is at after.2) refl);
     }
 
 pub returns-then-at-self : goal.returns-then-at-self
@@ -92,7 +93,7 @@ returns-then-at-self g c =
           (λ b i none holds. inl (holds.elsewhere 0 (λ e. omega (arith, e, h.shows.content.some)) ∙ none))));
       rest = record { reads = 0; writes = s.end - (at + 1) + 2; flushes = 2 };
       pays = rw is (rw one refl);
-      rests = λ next after. rw (after.1, (rw is at after.2).0 below) refl;
+      rests = λ got next after. left_all (rw (after.1, (rw is at after.2).0 below) refl);
     }
 
 pub returns-else-at-self : goal.returns-else-at-self
@@ -125,7 +126,7 @@ returns-else-at-self g c =
           (λ i none. inl none) (λ b i none holds. inl (holds.elsewhere 0 (λ e. omega arith) ∙ none))));
       rest = record { reads = 0; writes = 1; flushes = 2 };
       pays = rw is (rw two refl);
-      rests = λ next after. rw (after.1, (rw is at after.2).1 full) refl;
+      rests = λ got next after. left_all (rw (after.1, (rw is at after.2).1 full) refl);
     }
 
 pub returns-in-FlushHead : goal.returns-in-FlushHead
@@ -145,7 +146,7 @@ returns-in-FlushHead g c =
           (flush_leaves (IsNoneOrWritten view.shape view.end old.content) h.shows.cuts performed (λ i none. inl none)));
       rest = record { reads = 0; writes = 1; flushes = 1 };
       pays = rw is refl;
-      rests = λ next after. rw (after.1, rw is at after.2) refl;
+      rests = λ got next after. left_all (rw (after.1, rw is at after.2) refl);
     }
 
 pub returns-in-Super : goal.returns-in-Super
@@ -176,7 +177,7 @@ returns-in-Super g c =
           (λ i has. inl has.blank) (λ b i has holds. inr (written b i (omega (arith, long, h.end_is)) super has holds))));
       rest = record { reads = 0; writes = 0; flushes = 1 };
       pays = rw is refl;
-      rests = λ next after. rw (after.1, rw is at after.2) refl;
+      rests = λ got next after. left_all (rw (after.1, rw is at after.2) refl);
     }
 
 pub returns-in-FlushSuper : goal.returns-in-FlushSuper
@@ -197,5 +198,5 @@ returns-in-FlushSuper g c =
           (flush_leaves (IsNoneOrWritten view.shape view.end old.content) h.shows.cuts performed (λ i either. either)));
       rest = record { reads = 0; writes = 0; flushes = 0 };
       pays = rw is refl;
-      rests = λ next after. rw (after.1, rw is at after.2) refl;
+      rests = λ got next after. left_all (rw (after.1, rw is at after.2) refl);
     }
