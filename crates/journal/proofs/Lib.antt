@@ -4,6 +4,7 @@ pub mod Engine
 pub mod Format1Laws
 pub mod Formats
 pub mod SectorsRead
+pub mod NamedBlocks
 pub mod StandingLaws
 pub mod SlotTwo
 pub mod Wholeness

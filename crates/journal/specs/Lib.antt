@@ -3,6 +3,7 @@ pub mod Sectors
 pub mod Layout
 pub mod Format2
 pub mod Formats
+pub mod Naming
 pub mod Reading
 pub mod Record
 pub mod Staged

@@ -12,6 +12,6 @@ pub use descriptor::Descriptor;
 pub(crate) use descriptor::firsts_in;
 pub(crate) use places::{COMMIT, ENTRIES, FIRST_DATA, GAP, LIMIT, SLOT_SECTORS};
 pub use places::{commit_place, data_place, descriptor_place, place_of};
-pub(crate) use read::{are_stamped, read_record};
+pub(crate) use read::{are_blocks, are_stamped, count_of, descriptor_of, read_record};
 pub use record::descriptors;
 pub(crate) use record::{early, part, parts};

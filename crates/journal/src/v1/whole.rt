@@ -31,8 +31,8 @@ pub fn whole_record(
     }
 }
 
-// Whether these bytes are the commit of a record with this stamp and `count` blocks.
-fn is_commit(sector: &[u8; 512], stamp: u64, count: u64) -> bool
+/// Whether these bytes are the commit of a record with this stamp and `count` blocks.
+pub(crate) fn is_commit(sector: &[u8; 512], stamp: u64, count: u64) -> bool
     ensures { IsTrue result ↔ IsCommit stamp count sector.now }
 {
     match Commit::decode(sector) {
@@ -41,8 +41,8 @@ fn is_commit(sector: &[u8; 512], stamp: u64, count: u64) -> bool
     }
 }
 
-// Whether the numbers are all below this one.
-fn are_below(numbers: &[u64], end: u64) -> bool
+/// Whether the numbers are all below this one.
+pub(crate) fn are_below(numbers: &[u64], end: u64) -> bool
     ensures { IsTrue result ↔ All (λ b. b < end) numbers.now }
 {
     numbers.iter().all(|b| *b < end)

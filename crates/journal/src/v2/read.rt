@@ -16,8 +16,8 @@ use crate::v2::{
 use crate::{Record, Super, are_rising, slot_of};
 use medium::{Medium, MediumFault};
 
-// How many blocks the record of a stamp has, if this is its commit.
-fn count_of(sector: &[u8; 512], stamp: u64) -> Option<u64>
+/// How many blocks the record of a stamp has, if this is its commit.
+pub(crate) fn count_of(sector: &[u8; 512], stamp: u64) -> Option<u64>
     ensures { MatchOption result ((n : ℕ) → ¬ IsCommitTwo stamp n sector.now)
         (λ n. IsCommitTwo stamp n sector.now) }
 {
@@ -42,8 +42,13 @@ fn read_count<M: Medium>(m: &mut M, slot: u64, stamp: u64) -> Result<Option<u64>
     Ok(count_of(&commit, stamp))
 }
 
-// Descriptor j of the record of a stamp with `count` blocks, if these bytes are that.
-fn descriptor_of(sector: &[u8; 512], stamp: u64, count: u64, j: u64) -> Option<Descriptor>
+/// Descriptor j of the record of a stamp with `count` blocks, if these bytes are that.
+pub(crate) fn descriptor_of(
+    sector: &[u8; 512],
+    stamp: u64,
+    count: u64,
+    j: u64,
+) -> Option<Descriptor>
     ensures { MatchOption result
         ((numbers : List ℕ) (firsts : List (List ℕ))
         → ¬ IsDescriptorTwo stamp count j numbers firsts sector.now)
@@ -108,8 +113,8 @@ fn read_descriptors<M: Medium>(
     Ok(true)
 }
 
-// Whether these block numbers rise, and each is below the number of blocks.
-fn are_blocks(numbers: &[u64], blocks: u64) -> bool
+/// Whether these block numbers rise, and each is below the number of blocks.
+pub(crate) fn are_blocks(numbers: &[u64], blocks: u64) -> bool
     ensures { IsTrue result ↔ IsRising numbers.now × All (λ b. b < blocks) numbers.now }
 {
     are_rising(numbers) && numbers.iter().all(|b| *b < blocks)

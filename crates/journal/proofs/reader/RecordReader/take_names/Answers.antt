@@ -1,0 +1,155 @@
+use Rattle.std.proofs.Common.{◌≡◌, ◌+◌, ◌*◌, ◌%◌, ◌<◌, ◌≤◌, length, ⊎_elim, arith}
+use Rattle.std.proofs.lemmas.List.{length-append}
+use Rattle.medium.specs.Medium.{Image}
+use Rattle.journal.specs.Format2.{descriptors_of, place_of}
+use Rattle.journal.specs.Naming.{AreNamedTo, IsBehindTwo}
+use Rattle.journal.proofs.NamedBlocks.{unnamed, named_on, named_good, named_bad}
+use Rattle.journal.proofs.reader.RecordReader.take_names.Goals as goal
+use Rattle.journal.proofs.reader.RecordReader.take_names.Goals.{After-append}
+use Rattle.journal.specs.Formats.{shape_of}
+
+pub returns-in_default-clause-learns : goal.returns-in_default-clause-learns
+returns-in_default-clause-learns c =
+    let s = c.args.self.now in
+    let is = c.requires in
+    let b = s.reads.behind_two _ _ is in
+    record {
+      knows = λ image reads had known.
+          let k = rw is at known in
+          let here = rw is at had in
+          rw k.0 (unnamed s.sizes image s.stamp s.read b.two c.args.count c.args.index k.1 b.more
+          (λ has. c.in_default.ensures has.0 has.1 (rw here has.2)));
+      nearer = rw is (omega (arith, b.more, b.few));
+    }
+
+pub append-requires-clause-numbers_fit : goal.append-requires-clause-numbers_fit
+append-requires-clause-numbers_fit c =
+    let b = c.args.self.now.reads.behind_two _ _ c.requires in
+    let d = c.in-Some.ensures.entries in
+    rw c.deref.ensures.0 (omega (arith, b.numbers_long, d.many, d.used, d.few))
+
+pub append-requires-clause-firsts_fit : goal.append-requires-clause-firsts_fit
+append-requires-clause-firsts_fit c =
+    let b = c.args.self.now.reads.behind_two _ _ c.requires in
+    let d = c.in-Some.ensures.entries in
+    rw c.deref-2.ensures.0 (omega (arith, b.firsts_long, d.each, d.many, d.used, d.few))
+
+-- how much was read with this descriptor
+long : (c : After-append) → (length c.append.new.self.numbers.items + 30 * c.args.index ≤ 480)
+    × (30 * c.args.index < length c.append.new.self.numbers.items)
+    × (c.args.index + 1 < descriptors_of c.args.count
+    → IsBehindTwo (shape_of c.args.self.now.sizes) c.args.count (c.args.index + 1) c.append.new.self)
+    × (length c.append.new.self.numbers.items ≤ 240)
+long c =
+    let b = c.args.self.now.reads.behind_two _ _ c.requires in
+    let d = c.in-Some.ensures.entries in
+    let numbers_are : length c.append.new.self.numbers.items
+    ≡ length c.args.self.now.read.numbers.items + length c.in-Some.found.numbers.items =
+    rw (c.append.ensures.numbers, c.deref.ensures.0)
+    (length-append c.args.self.now.read.numbers.items c.in-Some.found.numbers.items) in
+    let firsts_are : length c.append.new.self.firsts.items
+    ≡ length c.args.self.now.read.firsts.items + length c.in-Some.found.firsts.items =
+    rw (c.append.ensures.firsts, c.deref-2.ensures.0)
+    (length-append c.args.self.now.read.firsts.items c.in-Some.found.firsts.items) in (
+      omega (arith, numbers_are, b.numbers_long, d.many, d.used, d.few),
+      omega (arith, numbers_are, b.numbers_long, d.many, d.used, d.few),
+      λ more. record {
+        two = b.two;
+        few = b.few;
+        more = more;
+        numbers_long = omega (arith, more, numbers_are, b.numbers_long, d.many, d.used, d.few);
+        firsts_long = omega (arith, more, firsts_are, b.firsts_long, d.each, d.many, d.used, d.few);
+      },
+      omega (arith, numbers_are, b.numbers_long, d.many, d.used, d.few),
+    )
+
+-- what they are then
+named_to : (c : After-append) (image : Image)
+    → c.args.sector.now ≡ image (place_of (c.args.self.now.stamp % c.args.self.now.sizes.slots) + c.args.index)
+    → AreNamedTo image (place_of (c.args.self.now.stamp % c.args.self.now.sizes.slots)) c.args.self.now.stamp c.args.count c.args.index
+    c.args.self.now.read
+    → AreNamedTo image (place_of (c.args.self.now.stamp % c.args.self.now.sizes.slots)) c.args.self.now.stamp c.args.count
+    (c.args.index + 1) c.append.new.self
+named_to c image here so_far =
+    let s = c.args.self.now in
+    let b = s.reads.behind_two _ _ c.requires in
+    named_on s.sizes image s.stamp s.read b.two c.args.count c.args.index so_far b.more (rw here at c.in-Some.ensures)
+    c.append.new.self (rw c.deref.ensures.0 at c.append.ensures.numbers) (rw c.deref-2.ensures.0 at c.append.ensures.firsts)
+
+pub invariant_of-self-then-index-descriptors : goal.invariant_of-self-then-index-descriptors
+invariant_of-self-then-index-descriptors c =
+    let more : c.args.index + 1 < descriptors_of c.args.count =
+    omega (arith, c.if-index-descriptors.true, c.descriptors.ensures) in
+    let all = long (goal.at.invariant_of-self-then-index-descriptors c).After-append in
+    record {
+      reads = record {
+        one = λ e. cc e;
+        behind_one = λ e. cc e;
+        two = λ e. cc e;
+        behind_two = λ n i e.
+            let one : c.args.count ≡ n = cc e in
+            let two : c.args.index + 1 ≡ i = cc e in
+            rw (← one, ← two) (all.2 more);
+        named = λ e. cc e;
+      };
+    }
+
+pub invariant_of-self-else-index-descriptors : goal.invariant_of-self-else-index-descriptors
+invariant_of-self-else-index-descriptors c =
+    let b = c.args.self.now.reads.behind_two _ _ c.requires in
+    let all = long (goal.at.invariant_of-self-else-index-descriptors c).After-append in
+    record {
+      reads = ⊎_elim (λ yes.
+          let blocks = rw c.deref-else-index-descriptors.ensures.0 at (c.are_blocks.ensures.0 yes.1) in
+          rw yes.0 (record {
+            one = λ e. cc e;
+            behind_one = λ e. cc e;
+            two = λ e. cc e;
+            behind_two = λ n i e. cc e;
+            named = λ e. record {
+              some = omega (arith, all.1);
+              few = rw b.two (omega (arith, all.3));
+              rising = blocks.0;
+              inside = blocks.1;
+            };
+          })) (λ no. rw no.0 (record {
+            one = λ e. cc e;
+            behind_one = λ e. cc e;
+            two = λ e. cc e;
+            behind_two = λ n i e. cc e;
+            named = λ e. cc e;
+          })) c.named_if-self.ensures;
+    }
+
+pub returns-then-index-descriptors-clause-learns : goal.returns-then-index-descriptors-clause-learns
+returns-then-index-descriptors-clause-learns c =
+    let b = c.args.self.now.reads.behind_two _ _ c.requires in
+    let after = (goal.at.returns-then-index-descriptors-clause-learns c).After-append in
+    record {
+      knows = λ image reads had known.
+          let k = rw c.requires at known in
+          (omega (arith, k.0), named_to after image (rw c.requires at had) k.1);
+      nearer = rw c.requires (omega (arith, b.more, b.few));
+    }
+
+pub returns-else-index-descriptors-clause-learns : goal.returns-else-index-descriptors-clause-learns
+returns-else-index-descriptors-clause-learns c =
+    let s = c.args.self.now in
+    let b = s.reads.behind_two _ _ c.requires in
+    let after = (goal.at.returns-else-index-descriptors-clause-learns c).After-append in
+    let last : c.args.index + 1 ≡ descriptors_of c.args.count =
+    omega (arith, c.if-index-descriptors.false, c.descriptors.ensures, b.more) in
+    let blocks = rw c.deref-else-index-descriptors.ensures.0 at c.are_blocks.ensures in
+    record {
+      knows = λ image reads had known.
+          let k = rw c.requires at known in
+          let is = named_to after image (rw c.requires at had) k.1 in
+          let all : reads + 1 ≡ 1 + descriptors_of c.args.count = omega (arith, k.0, last) in
+          ⊎_elim (λ yes. let both = blocks.0 yes.1 in
+          rw (yes.0, all) (named_good s.sizes image s.stamp c.append.new.self b.two c.args.count (c.args.index + 1) is last both.0
+          both.1)) (λ no.
+          rw (no.0, all) (named_bad s.sizes image s.stamp c.append.new.self b.two c.args.count (c.args.index + 1) is last
+          (λ both. no.1 (blocks.1 both)))) c.named_if-self.ensures;
+      nearer = ⊎_elim (λ yes. rw (c.requires, yes.0) (omega (arith, b.more, b.few)))
+          (λ no. rw (c.requires, no.0) (omega (arith, b.more, b.few))) c.named_if-self.ensures;
+    }
