@@ -64,6 +64,7 @@ pub(crate) fn next_call(
 }
 
 // Puts part p of a record into the sector, and tells its place.
+#[inline(never)]
 fn put_part(
     sizes: &Super,
     stamp: u64,

@@ -1,6 +1,8 @@
 //! The calls of the record under way, one after the other.
-ghost use Rattle.std.specs.Prelude.{◌≡◌, ◌<◌, ◌≤◌, ◌*◌, length};
+ghost use Rattle.std.specs.Prelude.{◌≡◌, ◌<◌, ◌≤◌, ◌*◌, ◌++◌, ◌∷◌, [], length};
+ghost use Rattle.std.specs.VecDeque.{deque_len, deque_capacity};
 ghost use Rattle.journal.specs.Record.{entries_of};
+ghost use Rattle.redo_log.specs.Shown.{lists_of};
 ghost use Rattle.redo_log.specs.Value.{IsStepped};
 ghost use Rattle.redo_log.specs.Steps.{TellsStep};
 
@@ -12,6 +14,7 @@ use crate::stage::steps_for;
 use crate::{Log, Progress};
 use journal::slot_of;
 use medium::{Call, Medium};
+use std::collections::VecDeque;
 
 impl Log {
     /// The next call of the record under way, and in the sector what it writes. It is not made, and
@@ -49,20 +52,22 @@ impl Log {
         self.made = None;
         let stamp = self.head + self.waiting.len() as u64;
         enter_record(&mut self.index, slot_of(stamp, self.sizes.slots), numbers);
-        self.waiting.push_back_reserved(numbers_of(numbers));
+        keep_numbers(&mut self.waiting, numbers);
         self.under_way = BegunNumbers::of(&[]);
         Progress::Durable
     }
 }
 
-// These numbers, of which there are no more than a record has.
-fn numbers_of(numbers: &[u64]) -> Numbers
-    requires { length numbers.now ≤ 240 }
-    ensures { result.items ≡ numbers.now }
+// Keeps these numbers behind the others. They are written into their place, since the stack has no
+// room for a copy of them under a call of the medium.
+#[inline(never)]
+fn keep_numbers(waiting: &mut VecDeque<Numbers>, numbers: &[u64])
+    requires few { length numbers.now ≤ 240 }
+    requires room { deque_len waiting.old < deque_capacity waiting.old }
+    ensures keeps { lists_of waiting.new.items ≡ lists_of waiting.old.items ++ numbers.now ∷ [] }
+    ensures capacity { deque_capacity waiting.new ≡ deque_capacity waiting.old }
 {
-    let mut list = Numbers::new();
-    for number in numbers {
-        list.push(*number);
-    }
-    list
+    let place = waiting.len();
+    waiting.push_back_reserved(Numbers::new());
+    let _ = waiting[place].try_extend_from_slice(numbers);
 }
