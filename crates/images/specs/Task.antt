@@ -4,6 +4,8 @@ use Rattle.journal.specs.declared.log_format.LogFormat.{LogFormat}
 use Rattle.journal.specs.declared.log_format.LogFormat.TheVariants.{One, Two}
 use Rattle.console.specs.Numbers.{SpellsNumber}
 use Rattle.console.specs.Words.{IsFileWord}
+use Rattle.images.specs.declared.task.ImageTask.{ImageTask}
+use Rattle.images.specs.declared.task.ImageTask.TheVariants as one
 use Rattle.images.specs.declared.task.Task.{Task}
 use Rattle.images.specs.declared.task.Task.TheVariants as task
 
@@ -86,13 +88,30 @@ Asks words (Import raw image format slots replace) =
     AreImportWords words raw image format slots replace
 Asks words (Export image raw replace) = AreExportWords words image raw replace
 
+-- the slots behind their name, and the format: what stands at the end where an image is made
+pub record AreOptions (words : List (List ℕ)) (format : LogFormat) (slots : ℕ) (replace : Bool)
+    : Type 0 where
+  pub slots_word : List ℕ
+  pub words_are : words
+      ≡ codes "--slots" ∷ slots_word ∷ codes "--format" ∷ format_word format ∷ replace_words replace
+  pub slots_are : SpellsNumber 0 4294967295 slots_word slots
+
+abbrev pub HasOptions : List (List ℕ) → Type 0
+HasOptions words = (format : LogFormat) × (slots : ℕ) × (replace : Bool)
+    × AreOptions words format slots replace
+
+-- what a task is that names one file at most
+abbrev pub image_wanted : ImageTask → Wanted
+image_wanted one.Help = Help
+image_wanted one.Version = Version
+image_wanted (one.Show image) = Show image.now
+image_wanted (one.Migrate image) = Migrate image.now
+image_wanted (one.Make image blocks options) =
+    Make image.now options.format blocks options.slots options.replace
+
 -- what a task is
 abbrev pub wanted_of : Task → Wanted
-wanted_of task.Help = Help
-wanted_of task.Version = Version
-wanted_of (task.Show image) = Show image.now
-wanted_of (task.Migrate image) = Migrate image.now
-wanted_of (task.Make image format blocks slots replace) = Make image.now format blocks slots replace
-wanted_of (task.Import raw image format slots replace) =
-    Import raw.now image.now format slots replace
+wanted_of (task.Image it) = image_wanted it
+wanted_of (task.Import raw image options) =
+    Import raw.now image.now options.format options.slots options.replace
 wanted_of (task.Export image raw replace) = Export image.now raw.now replace

@@ -1,14 +1,11 @@
 //! The blocks of an image are copied to a plain file.
-ghost use Rattle.std.specs.Prelude.{◌≡◌, ◌≤◌, [], ◌∷◌, Some, length, OnOk, IfOk, IfErr};
+ghost use Rattle.std.specs.Prelude.{◌≡◌, ◌⊎◌, ◌≤◌, [], ◌∷◌, Some, length, OnOk, IfOk, IfErr};
 ghost use Rattle.mirror.specs.declared.call.DeviceCall.TheVariants.{Flush};
 ghost use Rattle.device_file.specs.Asked.{AsksFor};
 ghost use Rattle.images.specs.Copying.{Copies};
 ghost use Rattle.images.specs.Exported.{
-  IsExported,
   IsExportedOf,
   IsNoCopyMade,
-  IsNoPlainCopy,
-  IsNotExported,
   IsNotExportedOf,
   IsPlainCopy,
   export_refusal,
@@ -23,7 +20,7 @@ ghost use Rattle.images.specs.Exporting.{
   IsRecoveredIn,
   recovery_room,
 };
-ghost use Rattle.images.specs.Opened.{made_at};
+ghost use Rattle.images.specs.Opened.{HasNoFirst, WithFirst, made_at};
 ghost use Rattle.images.specs.Program.{IsExport, IsExportRefused};
 
 use crate::copying::{CopyRoom, copy_room, tell_of};
@@ -112,90 +109,88 @@ pub fn export_file<
         (S.refuses image.now) (S.size image.now) device.now.bytes (O.contents out.old)
         (O.contents out.new) (made_at raw.now replace) stopped.file stopped.refusal) }
 {
-    match first_of(rt.alloc(), image) {
-        Ok(first) => export_from(rt, image, first, device, raw, replace, out, err),
+    match ready_to_copy(rt.alloc(), image, device) {
+        Ok(mut ready) => make_copy(rt, image, &mut ready, raw, replace, out, err),
         Err(refusal) => Err(Stopped::from(refusal)),
     }
 }
 
-// Copies the blocks of an image with these first sectors, which is only read. The plain file is
-// made once the image is recovered: one with a fault makes none.
-fn export_from<R: Files<File = File> + AllocGlobal, S: DeviceFile, O: Write, E: Write + IsTerminal>(
-    rt: &R,
+// An image that was recovered in a window, and the memory of a copy.
+#[derive(Drop)]
+struct Ready {
+    window: WindowMedium,
+    sizes: Super,
+    room: CopyRoom,
+}
+
+// Recovers the image of a file, which is only read, and has all the memory of a copy, before a
+// plain file is made for it.
+fn ready_to_copy<S: DeviceFile>(
+    alloc: Global,
     image: &S,
-    first: FirstSectors,
     device: &DeviceHolds,
-    raw: &str,
-    replace: bool,
-    out: &mut O,
-    err: &mut E,
-) -> Result<LockedFile, Stopped>
-    ensures ok { IfOk result (λ plain. IsExported (S.holds image.now) (S.refuses image.now) first
-        device.now.bytes (O.contents out.old) (O.contents out.new) (made_at raw.now replace)
-        (Some plain)) }
-    ensures err { IfErr result (λ stopped. IsNotExported (S.holds image.now) (S.refuses image.now)
-        first device.now.bytes (O.contents out.old) (O.contents out.new) (made_at raw.now replace)
-        stopped.file stopped.refusal) }
+) -> Result<Ready, Refusal>
+    ensures ok { IfOk result (λ ready. WithFirst (S.holds image.now) (S.size image.now)
+        (λ first. IsRecoveredIn first device.now.bytes ready.sizes ready.window)) }
+    ensures line { IfOk result
+        (λ ready. ready.room.line.items ≡ exported_text ready.sizes.blocks) }
+    ensures err { IfErr result (λ refusal. HasNoFirst (S.refuses image.now) (S.size image.now)
+        refusal ⊎ WithFirst (S.holds image.now) (S.size image.now)
+        (λ first. IsNotRecoveredIn first device.now.bytes refusal)) }
 {
-    match recover_in_window(rt.alloc(), first, device) {
-        Ok((mut window, sizes)) => {
-            copy_out(rt, image, &sizes, &mut window, raw, replace, out, err)
-        }
-        Err(refusal) => Err(Stopped {
-            refusal,
-            file: None,
+    let (window, sizes) = match recover_file(alloc, image, device) {
+        Ok(recovered) => recovered,
+        Err(refusal) => return Err(refusal),
+    };
+    match copy_room(alloc, b"exported ", sizes.blocks) {
+        Ok(room) => Ok(Ready {
+            window,
+            sizes,
+            room,
         }),
+        Err(refusal) => Err(refusal),
     }
 }
 
-// Copies the blocks of an image that was recovered in this window.
-fn copy_out<R: Files<File = File> + AllocGlobal, S: DeviceFile, O: Write, E: Write + IsTerminal>(
-    rt: &R,
+// Recovers the image of a file in a window over its first sectors, which are read.
+fn recover_file<S: DeviceFile>(
+    alloc: Global,
     image: &S,
-    sizes: &Super,
-    window: &mut WindowMedium,
-    raw: &str,
-    replace: bool,
-    out: &mut O,
-    err: &mut E,
-) -> Result<LockedFile, Stopped>
-    ensures ok { IfOk result (λ plain. IsPlainCopy (S.holds image.now) (S.refuses image.now)
-        sizes.now window.old.outbox (O.contents out.old) (O.contents out.new)
-        (made_at raw.now replace) (Some plain)) }
-    ensures err { IfErr result (λ stopped. IsNoPlainCopy (S.holds image.now) (S.refuses image.now)
-        sizes.now window.old.outbox (O.contents out.old) (O.contents out.new)
-        (made_at raw.now replace) stopped.file stopped.refusal) }
+    device: &DeviceHolds,
+) -> Result<(WindowMedium, Super), Refusal>
+    ensures ok { IfOk result (λ found. WithFirst (S.holds image.now) (S.size image.now)
+        (λ first. IsRecoveredIn first device.now.bytes found.1 found.0)) }
+    ensures err { IfErr result (λ refusal. HasNoFirst (S.refuses image.now) (S.size image.now)
+        refusal ⊎ WithFirst (S.holds image.now) (S.size image.now)
+        (λ first. IsNotRecoveredIn first device.now.bytes refusal)) }
 {
-    let mut room = match copy_room(rt.alloc(), b"exported ", sizes.blocks) {
-        Ok(room) => room,
-        Err(refusal) => return Err(Stopped::from(refusal)),
-    };
-    make_copy(rt, image, sizes, window, raw, replace, &mut room, out, err)
+    match first_of(alloc, image) {
+        Ok(first) => recover_in_window(alloc, first, device),
+        Err(refusal) => Err(refusal),
+    }
 }
 
 // Makes a plain file, once all memory is had, and copies the blocks to it.
 fn make_copy<R: Files<File = File>, S: DeviceFile, O: Write, E: Write + IsTerminal>(
     rt: &R,
     image: &S,
-    sizes: &Super,
-    window: &mut WindowMedium,
+    ready: &mut Ready,
     raw: &str,
     replace: bool,
-    room: &mut CopyRoom,
     out: &mut O,
     err: &mut E,
 ) -> Result<LockedFile, Stopped>
-    requires { room.old.line.items ≡ exported_text sizes.now.blocks }
+    requires { ready.old.room.line.items ≡ exported_text ready.old.sizes.blocks }
     ensures ok { IfOk result (λ copied. IsPlainCopy (S.holds image.now) (S.refuses image.now)
-        sizes.now window.old.outbox (O.contents out.old) (O.contents out.new)
+        ready.old.sizes ready.old.window.outbox (O.contents out.old) (O.contents out.new)
         (made_at raw.now replace) (Some copied)) }
     ensures err { IfErr result (λ stopped. IsNoCopyMade (S.holds image.now) (S.refuses image.now)
-        sizes.now window.old.outbox (O.contents out.old) (O.contents out.new)
+        ready.old.sizes ready.old.window.outbox (O.contents out.old) (O.contents out.new)
         (made_at raw.now replace) stopped.file stopped.refusal) }
 {
-    let mut plain = new_target(rt, raw, sizes.blocks, replace)?;
-    match export_watched(image, sizes, window, &mut plain, room, err) {
-        Ok(()) => tell_of(plain, out, room),
+    let mut plain = new_target(rt, raw, ready.sizes.blocks, replace)?;
+    match export_watched(image, ready, &mut plain, err) {
+        Ok(()) => tell_of(plain, out, &ready.room),
         Err(fault) => Err(Stopped::with(refusal_of(fault), plain)),
     }
 }
@@ -203,21 +198,28 @@ fn make_copy<R: Files<File = File>, S: DeviceFile, O: Write, E: Write + IsTermin
 // Has a plain file hold the blocks of an image, and tells on the way how far it is.
 fn export_watched<S: DeviceFile, D: DeviceFile, E: Write + IsTerminal>(
     image: &S,
-    sizes: &Super,
-    window: &mut WindowMedium,
+    ready: &mut Ready,
     to: &mut D,
-    room: &mut CopyRoom,
     err: &mut E,
 ) -> Result<(), CopyFault>
-    ensures ok { OnOk result (HasBlocks (S.holds image.now) sizes.now window.old.outbox
-        (D.told to.old) (D.told to.new)) }
-    ensures err { IfErr result (HasSomeBlocks (S.holds image.now) (S.refuses image.now) sizes.now
-        window.old.outbox (D.told to.old) (D.told to.new)) }
-    ensures size { (D.size to.new ≡ D.size to.old) × (room.new.line ≡ room.old.line) }
+    ensures ok { OnOk result (HasBlocks (S.holds image.now) ready.old.sizes
+        ready.old.window.outbox (D.told to.old) (D.told to.new)) }
+    ensures err { IfErr result (HasSomeBlocks (S.holds image.now) (S.refuses image.now)
+        ready.old.sizes ready.old.window.outbox (D.told to.old) (D.told to.new)) }
+    ensures size { (D.size to.new ≡ D.size to.old)
+        × (ready.new.room.line ≡ ready.old.room.line) }
 {
     let mut bar = Gauge::new(err);
-    let (run, bytes) = (&mut room.run, &mut room.bytes);
-    let done = export_blocks(image, sizes, window, to, run, bytes, &mut bar);
+    let (run, bytes) = (&mut ready.room.run, &mut ready.room.bytes);
+    let done = export_blocks(
+        image,
+        &ready.sizes,
+        &mut ready.window,
+        to,
+        run,
+        bytes,
+        &mut bar,
+    );
     bar.end();
     done
 }

@@ -71,7 +71,7 @@ fn write_word<E: Write>(to: &mut E, is_shown: bool, word: Word)
 fn show_word<E: Write>(to: &mut E, word: Word) {
     let _ = match word {
         Word::Part { done, all } => write!(to, "\r{} of {} MiB", done / MIB, all / MIB),
-        Word::End => writeln!(to),
+        Word::End => to.write_all(b"\n"),
     };
     let _ = to.flush();
 }

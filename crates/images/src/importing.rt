@@ -16,8 +16,9 @@ use crate::image::{new_target, sizes_of};
 use crate::making::ask_to_be;
 use crate::opening::open_plain;
 use crate::refusal::Refusal;
+use crate::task::ImageOptions;
 use device_file::{CopyFault, DeviceFile, Meter, Run, copy_sectors};
-use journal::{LogFormat, Super};
+use journal::Super;
 use std::fs::{File, Files};
 use std::io::{IsTerminal, Write};
 
@@ -27,26 +28,24 @@ pub(crate) fn import<R: Files<File = File> + AllocGlobal, O: Write, E: Write + I
     rt: &R,
     raw: &str,
     image: &str,
-    format: LogFormat,
-    slots: u64,
-    replace: bool,
+    options: &ImageOptions,
     out: &mut O,
     err: &mut E,
 ) -> Result<LeftFiles, Refused>
-    ensures done { IfOk result (λ left. IsImport raw.now (made_at image.now replace)
-        (O.contents out.old) (O.contents out.new) left.file left.raw format slots) }
+    ensures done { IfOk result (λ left. IsImport raw.now (made_at image.now options.now.replace)
+        (O.contents out.old) (O.contents out.new) left.file left.raw options.now.format
+        options.now.slots) }
     ensures refused { IfErr result (λ refused. IsImportRefused raw.now
-        (made_at image.now replace) (O.contents out.old) (O.contents out.new) refused.files.file
-        refused.files.raw format slots refused.refusal) }
+        (made_at image.now options.now.replace) (O.contents out.old) (O.contents out.new)
+        refused.files.file refused.files.raw options.now.format options.now.slots
+        refused.refusal) }
 {
     let plain = open_plain(rt, raw)?;
     let mut room = match copy_room(rt.alloc(), b"imported ", plain.sectors()) {
         Ok(room) => room,
         Err(refusal) => return Err(refused_with(refusal, None, plain)),
     };
-    match import_from(
-        rt, &plain, image, format, slots, replace, &mut room, out, err,
-    ) {
+    match import_from(rt, &plain, image, options, &mut room, out, err) {
         Ok(file) => Ok(LeftFiles {
             file: Some(file),
             raw: Some(plain),
@@ -77,25 +76,24 @@ fn import_from<R: Files<File = File>, S: DeviceFile, O: Write, E: Write + IsTerm
     rt: &R,
     plain: &S,
     image: &str,
-    format: LogFormat,
-    slots: u64,
-    replace: bool,
+    options: &ImageOptions,
     room: &mut CopyRoom,
     out: &mut O,
     err: &mut E,
 ) -> Result<LockedFile, Stopped>
     requires { room.old.line.items ≡ imported_text (S.size plain.now) }
-    ensures ok { IfOk result (λ file. IsImage (S.holds plain.now) (S.refuses plain.now) format
-        (S.size plain.now) slots (O.contents out.old) (O.contents out.new)
-        (made_at image.now replace) (Some file)) }
+    ensures ok { IfOk result (λ file. IsImage (S.holds plain.now) (S.refuses plain.now)
+        options.now.format (S.size plain.now) options.now.slots (O.contents out.old)
+        (O.contents out.new) (made_at image.now options.now.replace) (Some file)) }
     ensures err { IfErr result (λ stopped. IsNoImage (S.holds plain.now) (S.refuses plain.now)
-        format (S.size plain.now) slots (O.contents out.old) (O.contents out.new)
-        (made_at image.now replace) stopped.file stopped.refusal) }
+        options.now.format (S.size plain.now) options.now.slots (O.contents out.old)
+        (O.contents out.new) (made_at image.now options.now.replace) stopped.file
+        stopped.refusal) }
 {
-    let Some(sizes) = sizes_of(format, plain.sectors(), slots) else {
+    let Some(sizes) = sizes_of(options.format, plain.sectors(), options.slots) else {
         return Err(Stopped::from(Refusal::Sizes));
     };
-    let mut file = new_image(rt, image, &sizes, replace)?;
+    let mut file = new_image(rt, image, &sizes, options.replace)?;
     match import_watched(plain, &sizes, &mut file, room, err) {
         Ok(()) => tell_of(file, out, room),
         Err(fault) => Err(Stopped::with(refusal_of(fault), file)),

@@ -21,7 +21,7 @@ ghost use Rattle.images.specs.Program.{
   version_text,
 };
 ghost use Rattle.images.specs.Opened.{AreCalls, made_at};
-ghost use Rattle.images.specs.Task.{wanted_of};
+ghost use Rattle.images.specs.Task.{image_wanted, wanted_of};
 ghost use Rattle.journal.specs.Formats.{shape_of};
 
 use crate::ended::{Ended, LeftFile, LeftFiles, Refused, Stopped};
@@ -32,10 +32,10 @@ use crate::making::ask_to_be;
 use crate::migrating::migrate;
 use crate::refusal::Refusal;
 use crate::showing::show;
-use crate::task::{Task, read_words};
+use crate::task::{ImageOptions, ImageTask, Task, read_words};
 use console::{ArgumentFault, words_of, write_out};
 use device_file::Run;
-use journal::{LogFormat, Super};
+use journal::Super;
 use std::fs::{File, Files};
 use std::io::{IsTerminal, Write};
 use window::DeviceHolds;
@@ -138,29 +138,42 @@ fn do_task<R: Files<File = File> + AllocGlobal, O: Write, E: Write + IsTerminal>
         refused.refusal) }
 {
     match task {
-        Task::Help => alone(say_help(out)),
-        Task::Version => alone(say_version(out)),
-        Task::Show { image } => alone(show(rt, image, device, out)),
-        Task::Migrate { image } => alone(migrate(rt, image, device, out)),
-        Task::Make {
-            image,
-            format,
-            blocks,
-            slots,
-            replace,
-        } => alone(make(rt, image, format, blocks, slots, replace, out)),
+        Task::Image(task) => alone(do_image(rt, task, device, out)),
         Task::Import {
             raw,
             image,
-            format,
-            slots,
-            replace,
-        } => import(rt, raw, image, format, slots, replace, out, err),
+            options,
+        } => import(rt, raw, image, &options, out, err),
         Task::Export {
             image,
             raw,
             replace,
         } => export(rt, image, raw, replace, device, out, err),
+    }
+}
+
+// Does what a command line asks for that names one file at most.
+fn do_image<R: Files<File = File> + AllocGlobal, O: Write>(
+    rt: &R,
+    task: ImageTask,
+    device: &DeviceHolds,
+    out: &mut O,
+) -> Result<LeftFile, Stopped>
+    ensures done { IfOk result (λ back. HasDone device.now.bytes (O.contents out.old)
+        (O.contents out.new) back None (image_wanted task.entry)) }
+    ensures refused { IfErr result (λ stopped. HasNotDone device.now.bytes (O.contents out.old)
+        (O.contents out.new) stopped.file None (image_wanted task.entry) stopped.refusal) }
+{
+    match task {
+        ImageTask::Help => say_help(out),
+        ImageTask::Version => say_version(out),
+        ImageTask::Show { image } => show(rt, image, device, out),
+        ImageTask::Migrate { image } => migrate(rt, image, device, out),
+        ImageTask::Make {
+            image,
+            blocks,
+            options,
+        } => make(rt, image, blocks, &options, out),
     }
 }
 
@@ -207,23 +220,21 @@ fn say_version<O: Write>(out: &mut O) -> Result<LeftFile, Stopped>
 fn make<R: Files<File = File> + AllocGlobal, O: Write>(
     rt: &R,
     image: &str,
-    format: LogFormat,
     blocks: u64,
-    slots: u64,
-    replace: bool,
+    options: &ImageOptions,
     out: &mut O,
 ) -> Result<LeftFile, Stopped>
     ensures done { IfOk result (λ back. IsMake (O.contents out.old) (O.contents out.new) back
-        (made_at image.now replace) format blocks slots) }
+        (made_at image.now options.now.replace) options.now.format blocks options.now.slots) }
     ensures refused { IfErr result (λ stopped. IsMakeRefused (O.contents out.old)
-        (O.contents out.new) stopped.file (made_at image.now replace) format blocks slots
-        stopped.refusal) }
+        (O.contents out.new) stopped.file (made_at image.now options.now.replace)
+        options.now.format blocks options.now.slots stopped.refusal) }
 {
-    let Some(sizes) = sizes_of(format, blocks, slots) else {
+    let Some(sizes) = sizes_of(options.format, blocks, options.slots) else {
         return Err(Stopped::from(Refusal::Sizes));
     };
     match Run::new(rt.alloc()) {
-        Ok(run) => make_with(rt, image, &sizes, replace, run, out),
+        Ok(run) => make_with(rt, image, &sizes, options.replace, run, out),
         Err(_) => Err(Stopped::from(Refusal::NoMemory)),
     }
 }
@@ -267,13 +278,20 @@ fn report<E: Write>(refusal: Refusal, words: &[&str], err: &mut E) -> u8
     ensures { result ≡ status_of refusal }
 {
     let text = refusal.text();
-    let _ = match (refusal, words) {
-        (Refusal::Words, _) => writeln!(err, "{text}"),
-        (Refusal::Target(_), [_, _, target, ..]) => writeln!(err, "{target}: {text}"),
-        (_, [_, image, ..]) => writeln!(err, "{image}: {text}"),
-        _ => writeln!(err, "{text}"),
+    let _ = match name_of(refusal, words) {
+        Some(name) => writeln!(err, "{name}: {text}"),
+        None => writeln!(err, "{text}"),
     };
     refusal.status()
+}
+
+// The file of a command that its refusal names: the second behind the command's name, or the first.
+fn name_of<'a>(refusal: Refusal, words: &[&'a str]) -> Option<&'a str> {
+    match refusal {
+        Refusal::Words => None,
+        Refusal::Target(_) => words.get(2).copied(),
+        _ => words.get(1).copied(),
+    }
 }
 
 /// Does what the program's arguments ask for, and gives the exit status. Where they are not had, it

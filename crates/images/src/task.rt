@@ -1,11 +1,13 @@
 //! The words of a command line.
 ghost use Rattle.std.specs.Prelude.{◌≡◌, [], ◌∷◌, IfSome, IfNone, Bool, map, codes};
 ghost use Rattle.images.specs.Task.{
-  Wanted,
+  AreOptions,
   Asks,
+  HasOptions,
   IsExportLine,
   IsImportLine,
   IsMakeLine,
+  Wanted,
   format_word,
   replace_words,
   wanted_of,
@@ -18,9 +20,36 @@ use journal::LogFormat;
 // The greatest size that a word may tell.
 const MOST: u64 = 4_294_967_295;
 
+/// What an image is made with: the slots of its log, its format, and whether a file is replaced.
+#[derive(Clone, Copy)]
+pub(crate) struct ImageOptions {
+    pub(crate) slots: u64,
+    pub(crate) format: LogFormat,
+    pub(crate) replace: bool,
+}
+
 /// What a command line asks for.
 #[derive(Clone, Copy)]
 pub(crate) enum Task<'a> {
+    /// What names one file at most.
+    Image(ImageTask<'a>),
+    /// To make an image of the blocks of a plain file.
+    Import {
+        raw: &'a str,
+        image: &'a str,
+        options: ImageOptions,
+    },
+    /// To copy the blocks of an image to a plain file.
+    Export {
+        image: &'a str,
+        raw: &'a str,
+        replace: bool,
+    },
+}
+
+/// What a command line asks for that names one file at most.
+#[derive(Clone, Copy)]
+pub(crate) enum ImageTask<'a> {
     /// To tell the commands.
     Help,
     /// To tell the version.
@@ -33,27 +62,11 @@ pub(crate) enum Task<'a> {
     Migrate {
         image: &'a str,
     },
-    /// To make an image of the blocks of a plain file, with `slots` slots for the log of a format.
-    Import {
-        raw: &'a str,
-        image: &'a str,
-        format: LogFormat,
-        slots: u64,
-        replace: bool,
-    },
-    /// To copy the blocks of an image to a plain file.
-    Export {
-        image: &'a str,
-        raw: &'a str,
-        replace: bool,
-    },
-    /// To make an image of `blocks` blocks of zeros, with `slots` slots for the log of a format.
+    /// To make an image of `blocks` blocks of zeros.
     Make {
         image: &'a str,
-        format: LogFormat,
         blocks: u64,
-        slots: u64,
-        replace: bool,
+        options: ImageOptions,
     },
 }
 
@@ -81,8 +94,8 @@ fn short_task<'a>(word: &str) -> Option<Task<'a>>
     ensures none { IfNone result ((wanted : Wanted) → Asks (word.now ∷ []) wanted → ⊥) }
 {
     match word {
-        "--help" => Some(Task::Help),
-        "--version" => Some(Task::Version),
+        "--help" => Some(Task::Image(ImageTask::Help)),
+        "--version" => Some(Task::Image(ImageTask::Version)),
         _ => None,
     }
 }
@@ -98,8 +111,8 @@ fn image_task<'a>(verb: &str, image: &'a str) -> Option<Task<'a>>
         return None;
     }
     match verb {
-        "show" => Some(Task::Show { image }),
-        "migrate" => Some(Task::Migrate { image }),
+        "show" => Some(Task::Image(ImageTask::Show { image })),
+        "migrate" => Some(Task::Image(ImageTask::Migrate { image })),
         _ => None,
     }
 }
@@ -127,48 +140,28 @@ fn make_task<'a>(image: &'a str, first: &str, rest: &[&str]) -> Option<Task<'a>>
         ∷ map (λ word. word.now) rest.now) → ⊥) }
 {
     match rest {
-        [blocks, second, slots, third, format, ending @ ..] => {
-            make_words(image, first, blocks, second, slots, third, format, ending)
-        }
+        [blocks, options @ ..] => sized_task(image, first, blocks, options),
         _ => None,
     }
 }
 
-// What seven words behind `make` ask for, and the one that may stand behind them.
-fn make_words<'a>(
-    image: &'a str,
-    first: &str,
-    blocks: &str,
-    second: &str,
-    slots: &str,
-    third: &str,
-    format: &str,
-    ending: &[&str],
-) -> Option<Task<'a>>
+// What the words behind `make` ask for, of which the blocks are told first.
+fn sized_task<'a>(image: &'a str, first: &str, blocks: &str, options: &[&str]) -> Option<Task<'a>>
     ensures task { IfSome result (λ task. Asks (codes "make" ∷ image.entry.now ∷ first.now
-        ∷ blocks.now ∷ second.now ∷ slots.now ∷ third.now ∷ format.now
-        ∷ map (λ word. word.now) ending.now) (wanted_of task)) }
+        ∷ blocks.now ∷ map (λ word. word.now) options.now) (wanted_of task)) }
     ensures none { IfNone result (IsMakeLine (codes "make" ∷ image.entry.now ∷ first.now
-        ∷ blocks.now ∷ second.now ∷ slots.now ∷ third.now ∷ format.now
-        ∷ map (λ word. word.now) ending.now) → ⊥) }
+        ∷ blocks.now ∷ map (λ word. word.now) options.now) → ⊥) }
 {
-    if first != "--blocks" || second != "--slots" || third != "--format" {
-        return None;
-    }
-    if !is_file_word(image) {
+    if first != "--blocks" || !is_file_word(image) {
         return None;
     }
     let blocks = read_number(blocks.as_bytes(), 0, MOST)?;
-    let slots = read_number(slots.as_bytes(), 0, MOST)?;
-    let format = read_format(format)?;
-    let replace = read_replace(ending)?;
-    Some(Task::Make {
+    let options = read_options(options)?;
+    Some(Task::Image(ImageTask::Make {
         image,
-        format,
         blocks,
-        slots,
-        replace,
-    })
+        options,
+    }))
 }
 
 // What the words behind `import` ask for.
@@ -178,45 +171,54 @@ fn import_task<'a>(raw: &'a str, image: &'a str, rest: &[&str]) -> Option<Task<'
     ensures none { IfNone result (IsImportLine (codes "import" ∷ raw.entry.now ∷ image.entry.now
         ∷ map (λ word. word.now) rest.now) → ⊥) }
 {
-    match rest {
+    if !is_file_word(raw) || !is_file_word(image) {
+        return None;
+    }
+    let options = read_options(rest)?;
+    Some(Task::Import {
+        raw,
+        image,
+        options,
+    })
+}
+
+// What an image is made with, from the words at the end.
+fn read_options(words: &[&str]) -> Option<ImageOptions>
+    ensures some { IfSome result (λ options. AreOptions (map (λ word. word.now) words.now)
+        options.format options.slots options.replace) }
+    ensures none { IfNone result (HasOptions (map (λ word. word.now) words.now) → ⊥) }
+{
+    match words {
         [first, slots, second, format, ending @ ..] => {
-            import_words(raw, image, first, slots, second, format, ending)
+            options_of(first, slots, second, format, ending)
         }
         _ => None,
     }
 }
 
-// What six words behind `import` ask for, and the one that may stand behind them.
-fn import_words<'a>(
-    raw: &'a str,
-    image: &'a str,
+// The same of four words, and of the one that may stand behind them.
+fn options_of(
     first: &str,
     slots: &str,
     second: &str,
     format: &str,
     ending: &[&str],
-) -> Option<Task<'a>>
-    ensures task { IfSome result (λ task. Asks (codes "import" ∷ raw.entry.now ∷ image.entry.now
-        ∷ first.now ∷ slots.now ∷ second.now ∷ format.now ∷ map (λ word. word.now) ending.now)
-        (wanted_of task)) }
-    ensures none { IfNone result (IsImportLine (codes "import" ∷ raw.entry.now ∷ image.entry.now
-        ∷ first.now ∷ slots.now ∷ second.now ∷ format.now ∷ map (λ word. word.now) ending.now)
-        → ⊥) }
+) -> Option<ImageOptions>
+    ensures some { IfSome result (λ options. AreOptions (first.now ∷ slots.now ∷ second.now
+        ∷ format.now ∷ map (λ word. word.now) ending.now)
+        options.format options.slots options.replace) }
+    ensures none { IfNone result (HasOptions (first.now ∷ slots.now ∷ second.now ∷ format.now
+        ∷ map (λ word. word.now) ending.now) → ⊥) }
 {
     if first != "--slots" || second != "--format" {
-        return None;
-    }
-    if !is_file_word(raw) || !is_file_word(image) {
         return None;
     }
     let slots = read_number(slots.as_bytes(), 0, MOST)?;
     let format = read_format(format)?;
     let replace = read_replace(ending)?;
-    Some(Task::Import {
-        raw,
-        image,
-        format,
+    Some(ImageOptions {
         slots,
+        format,
         replace,
     })
 }
