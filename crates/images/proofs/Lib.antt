@@ -5,7 +5,6 @@ pub mod InOrder
 pub mod Lines
 pub mod Options
 pub mod Exports
-pub mod ImageWords
 pub mod Imports
 pub mod Misses
 pub mod Statuses

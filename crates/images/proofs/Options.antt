@@ -1,5 +1,5 @@
 -- Facts on options and results.
-use Rattle.std.proofs.Common.{◌≡◌, subst, Option, Some, None, Result, Ok, Err}
+use Rattle.std.proofs.Common.{Option, Some, None, Result, Ok, Err}
 use Rattle.std.specs.Prelude.{IfNone, IfOk, IfErr}
 
 -- what follows where there is no value
@@ -15,9 +15,3 @@ if_ok (Err e) follows holds = tt
 pub if_err : {T E : Type 0} {P Q : E → Type 0} (r : Result T E) → ((e : E) → P e → Q e) → IfErr r P → IfErr r Q
 if_err (Ok x) follows holds = tt
 if_err (Err e) follows holds = follows e holds
-
--- an error that another one is made of
-pub err_of : {A B E F : Type 0} (r : Result A E) (s : Result B F) (P : E → Type 0) (f : E → F) (Q : F → Type 0)
-    → IfErr r (λ e. P e × (s ≡ Err (f e))) → IfErr s Q → IfErr r (λ e. P e × Q (f e))
-err_of (Ok x) s P f Q both holds = tt
-err_of {A} {B} {E} {F} (Err e) s P f Q both holds = (both.0, subst (λ (t : Result B F). IfErr t Q) both.1 holds)
