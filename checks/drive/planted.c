@@ -26,7 +26,7 @@
  * 23 a wish to read ahead is forgotten
  * 24 of a transfer that is taken in part nothing is told to be taken
  * 25 a byte of the room behind the packets changes
- * 26 a start flushes nothing before it writes the head */
+ * 26 a start flushes nothing before its first write */
 #include "planted.h"
 #include <stdlib.h>
 #include <string.h>
@@ -99,8 +99,7 @@ static bool is_left_out(struct spy *it, const struct usbdisk_call *call, bool *o
     *ok = !is_read;
     it->is_ahead_lost &= !is_lost;
     return (PLANTED == 12 && is_flush && it->call.kind == USBDISK_WRITE) ||
-           (PLANTED == 26 && is_flush && it->call.kind == USBDISK_READ) ||
-           (PLANTED == 18 && is_read) || is_lost;
+           (PLANTED == 26 && is_flush && !it->is_open) || (PLANTED == 18 && is_read) || is_lost;
 }
 
 /* The next call of the library, but for those that are left out. */

@@ -6,6 +6,9 @@
  * k of the accepted writes, in order, none in part: all that were promised by a status that the
  * host was given. No answer may wait that promises nothing, and none where the device rests.
  *
+ * In some lives the disk stops and the device keeps its power, with what it had not flushed. The
+ * next disk starts on that, and is cut behind each of the calls by which it does.
+ *
  * behind [LIVES [FIRST SEED]] */
 #include "behind.h"
 #include "gadget.h"
@@ -22,16 +25,20 @@ enum { STEPS = 3000, LIVES_OF_AN_IMAGE = 10, CUTS_AT_ONCE = 3, SEEN = 50 };
 static struct history history;
 static struct {
     uint32_t blocks[BLOCKS]; /* after all accepted writes */
+    size_t found;            /* of these, by the start; it makes them durable */
     size_t mark;             /* the writes that the last command promises, where it is good */
     bool is_cached;          /* the host sees the write cache enabled */
     bool is_settled;         /* no step is left since the last write */
     bool is_plain;           /* nearly all of its commands are WRITEs that promise nothing */
+    bool is_unflushed;       /* the device had unflushed sectors when the disk started */
+    bool keeps_power;        /* the device does, when the disk stops */
     uint8_t key, code;       /* of the sense that is told next, or 0 */
 } book;
 
 static struct {
     uint64_t cuts, opening, starting,
-        faulted; /* of them while a start reads, and while it writes */
+        faulted;               /* of them while a start reads, and while it writes */
+    uint64_t stops, unflushed; /* with no cut, and of them with unflushed sectors */
     uint64_t writes, behind, parts, reads, refused, ahead, failed, resets, waiting, wrong;
 } counts;
 
@@ -61,51 +68,11 @@ static bool cut_here(void)
 
 /* ---- what the host does */
 
-static bool writes(const struct command *command)
-{
-    return command->code == 0x2A || command->code == 0x8A;
-}
-
-static bool reads(const struct command *command)
-{
-    return command->code == 0x28 || command->code == 0x88;
-}
-
-static bool promises(const struct command *command)
-{
-    if (writes(command))
-        return command->flags || !book.is_cached;
-    if (reads(command))
-        return command->flags;
-    return command->code == 0x15 ? book.is_cached : command->code != 0x03;
-}
-
-/* WRITEs and READs, of a few blocks or many, some forced, and what promises without data. */
-static struct command some_command(void)
-{
-    static uint32_t numbers = 1;
-    static const uint8_t codes[16] = { 0x35, 0x91, 0x15, 0x28, 0x88, 0x28, 0x28, 0x8A };
-    unsigned which = random_below(16), count = 1 + random_below(random_below(8) ? 4 : MOST);
-    if (book.is_plain && random_below(64)) {
-        which = 15;
-        count = MOST;
-    }
-    struct command command = { .code = codes[which] ? codes[which] : 0x2A, .count = count };
-    command.address = random_below((random_below(4) && count < MOST ? MOST : BLOCKS) - count + 1);
-    if (writes(&command) || reads(&command))
-        command.flags = random_below(8) || which == 15 ? 0 : 8;
-    if (command.code == 0x15)
-        command = (struct command){ .code = 0x15, .flags = 0x10, .cache = random_below(4) != 0 };
-    if (command.code == 0x35 || command.code == 0x91)
-        command.address = command.count = 0;
-    command.number = numbers++;
-    return command;
-}
-
 static void begin(void)
 {
-    struct command command = book.key ? (struct command){ .code = 0x03 } : some_command();
-    host_begin(&bench.host, &command, promises(&command));
+    struct command command =
+        book.key ? (struct command){ .code = 0x03 } : some_command(book.is_plain);
+    host_begin(&bench.host, &command, promises(&command, book.is_cached));
 }
 
 /* The last packet of a command was taken: what it wrote is accepted from here on. */
@@ -228,13 +195,26 @@ static bool play_idle(void)
     return left <= 1 || fails("idle answers an error");
 }
 
+/* A start on unflushed sectors: a cut is made behind each call by which it writes and flushes. */
+static bool cut_start(void)
+{
+    uint32_t fault;
+    bool is_ended = !bench.host.is_opening && bench.device.call.kind == USBDISK_NOTHING;
+    if (!is_ended || !book.is_unflushed)
+        return true;
+    book.is_unflushed = usbdisk_state(&bench.disk, &fault) == USBDISK_STARTING;
+    return cut_here();
+}
+
 static bool play_device(void)
 {
     if (!bench_device(&bench))
         return false;
+    if (!bench.device.count && history.promised < book.found)
+        history.promised = book.found;
     if (bench.rests && book.is_settled && !bench.is_faulted)
         history.promised = history.accepted;
-    return true;
+    return cut_start();
 }
 
 /* The bus rests: steps in the background, or sectors that the next READ may want. */
@@ -262,6 +242,14 @@ static unsigned speed_now(unsigned speed, bool is_late)
     return book.is_plain && history.accepted ? 1 : speed;
 }
 
+/* A life goes on for a while behind a refusal, and may stop while the device is to flush. */
+static bool is_over(void)
+{
+    bool is_flushing = bench.device.call.kind == USBDISK_FLUSH;
+    return (bench.is_faulted && !random_below(64)) ||
+           (book.keeps_power && is_flushing && !random_below(16));
+}
+
 /* Steps of the host, the device and the background, until the power goes or something is wrong. */
 static bool live(void)
 {
@@ -269,9 +257,10 @@ static bool live(void)
     unsigned speed = speeds[random_below(5)], idle = book.is_plain ? 0 : random_below(3) * 2;
     unsigned steps = random_below(STEPS), rare = random_below(8) ? 128 : 32;
     bool goes_on = true, is_late = !random_below(8);
-    for (unsigned i = 0; goes_on && i < steps && history.accepted < WRITES; i++) {
+    size_t most = book.found + WRITES_OF_A_LIFE;
+    for (unsigned i = 0; goes_on && i < steps && history.accepted < most; i++) {
         goes_on = play_one(speed_now(speed, is_late), idle);
-        if (bench.is_faulted && !random_below(64))
+        if (is_over())
             steps = i;
         if (goes_on && (bench.has_failed || !random_below(rare)))
             goes_on = bench_state(&bench) && cut_here();
@@ -283,27 +272,59 @@ static bool live(void)
     return goes_on;
 }
 
-/* A life on what the last one's cut left. Its own may come at once, before its start is carried
- * out. */
-static bool play_life(void)
+/* The power goes, and what a start finds is what the next life begins with. */
+static bool end_by_cut(void)
 {
     uint32_t found[BLOCKS];
-    bench.goes_on = random_below(3) ? 0 : 60;
+    device_cut(&bench.device, ANY, &bench.device);
+    bool good = cut(ANY, found);
+    memcpy(history.opening, found, sizeof found);
     history.accepted = history.promised = 0;
+    return good;
+}
+
+/* The disk stops, and the device keeps its power. What a start finds now a cut may still take back,
+ * where it was not promised, until the start has flushed it. */
+static bool end_by_stop(void)
+{
+    uint32_t found[BLOCKS];
+    size_t writes;
+    device_forsake(&bench.device);
+    counts.stops++;
+    counts.unflushed += bench.device.count > 0;
+    if (!cut(EACH, found) || !is_allowed(&history, found, &writes))
+        return false;
+    history.accepted = writes;
+    settle(&history);
+    return true;
+}
+
+/* What is known when a life begins, on what the last one left. */
+static void open_book(void)
+{
+    memcpy(book.blocks, history.opening, sizeof book.blocks);
+    for (size_t i = 0; i < history.accepted; i++)
+        put(book.blocks, &history.writes[i]);
+    book.found = book.mark = history.accepted;
+    book.is_unflushed = bench.device.count > 0;
     book.is_cached = true;
     book.is_settled = false;
     book.is_plain = random_below(4) == 0;
+    book.keeps_power = random_below(4) == 0;
     book.key = 6; /* the first command is told that the power was off */
     book.code = 0x29;
-    memcpy(book.blocks, history.opening, sizeof book.blocks);
+}
+
+/* A life on what the last one left. Its own end may come at once, before its start is carried out.
+ */
+static bool play_life(void)
+{
+    open_book();
+    bench.goes_on = random_below(3) ? 0 : 60;
     bool good = bench_start(&bench, random_below(4) ? 512 : 64) && live();
+    bool has_room = history.accepted - history.promised <= WRITES_OF_A_LIFE;
     bench_stop(&bench);
-    if (!good)
-        return false;
-    device_cut(&bench.device, ANY, &bench.device);
-    good = cut(ANY, found);
-    memcpy(history.opening, found, sizeof found);
-    return good;
+    return good && (book.keeps_power && has_room ? end_by_stop() : end_by_cut());
 }
 
 static bool make_image(uint32_t format)
@@ -321,7 +342,11 @@ static bool make_image(uint32_t format)
 /* Behind some lives what a judge has to see was seen. */
 static bool has_seen(long lives)
 {
-    return lives < SEEN || counts.behind || fails("no write is accepted while a call is under way");
+    if (lives < SEEN)
+        return true;
+    if (!counts.behind)
+        return fails("no write is accepted while a call is under way");
+    return counts.unflushed || fails("no start finds unflushed sectors");
 }
 
 static bool play_lives(uint32_t format, long lives)
@@ -338,6 +363,8 @@ static bool play_lives(uint32_t format, long lives)
     printf("  %lu cuts, %lu of them while a start read, %lu while it wrote, %lu behind a refusal; "
            "%lu starts failed\n",
            counts.cuts, counts.opening, counts.starting, counts.faulted, counts.failed);
+    printf("  %lu stops with no cut, %lu of them with unflushed sectors\n", counts.stops,
+           counts.unflushed);
     printf("  %lu writes accepted, %lu of them while a call was under way, %lu transfers taken in "
            "part\n",
            counts.writes, counts.behind, counts.parts);

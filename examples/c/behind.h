@@ -43,12 +43,15 @@ void device_close(struct device *device);
 /* Begins the call in `call`. A WRITE has its bytes in the buffer. */
 bool device_begin(struct device *device);
 
-/* Ends it; where it is not good a READ gives nothing, and any part of a WRITE may be there. */
+/* Ends it; where it is not good a READ gives nothing, and of a WRITE any part is there. */
 void device_end(struct device *device, bool is_good);
 
+/* Nobody waits for the call under way any more: it ends, carried out or not. */
+void device_forsake(struct device *device);
+
 /* Leaves on another device, or on this one, what a cut may leave of it: of the unflushed writes
- * those of `kept`, where they are few, else any. */
-enum { FEW = 4, ANY = 1 << FEW };
+ * those of `kept`, where they are few, else any, or each. */
+enum { FEW = 4, ANY = 1 << FEW, EACH };
 void device_cut(const struct device *device, unsigned kept, struct device *other);
 
 /* ---- the host */
@@ -59,6 +62,16 @@ struct command {
     uint32_t number;         /* that fills each block of a WRITE */
     bool cache;              /* that a MODE SELECT sets */
 };
+
+bool writes(const struct command *command);
+bool reads(const struct command *command);
+
+/* Whether a host asks for a promise, or for one if it sees the write cache enabled. */
+bool promises(const struct command *command, bool is_cached);
+
+/* WRITEs and READs, of a few blocks or many, some forced, and what promises without data; or nearly
+ * WRITEs alone that promise nothing. */
+struct command some_command(bool is_plain);
 
 enum stage { AT_REST, WRAPPER, DATA_OUT, DATA_IN, STATUS, RESET };
 enum outcome { WRONG, GOES_ON, CARRIED_OUT, ENDED };
@@ -137,8 +150,9 @@ struct write {
 };
 
 /* What a host knows of a life: the blocks that it began with, the accepted writes behind them, and
- * how many of these were promised to it. */
-enum { WRITES = 400 };
+ * how many of these were promised to it. Of a life before it on a device that kept its power there
+ * may be writes that were not promised. */
+enum { WRITES_OF_A_LIFE = 400, WRITES = 2 * WRITES_OF_A_LIFE };
 struct history {
     uint32_t opening[BLOCKS];
     struct write writes[WRITES];
@@ -154,8 +168,11 @@ void put(uint32_t blocks[BLOCKS], const struct write *write);
 /* The number in a block, or one that no write has where it is filled with several. */
 uint32_t number_in(const uint8_t block[512]);
 
-/* Whether these are the blocks after the first k writes, for a k that may be. */
-bool is_allowed(const struct history *history, const uint32_t found[BLOCKS]);
+/* Whether these are the blocks after the first k writes, for a k that may be, and which it is. */
+bool is_allowed(const struct history *history, const uint32_t found[BLOCKS], size_t *writes);
+
+/* The writes that were promised are a part of what the life began with. */
+void settle(struct history *history);
 
 /* Cuts a device, starts a disk on what is left of another one, and reads all blocks of that.
  * Whether they are those after the first k writes, for a k that may be. */

@@ -62,37 +62,62 @@ bool device_begin(struct device *device)
     return true;
 }
 
-void device_end(struct device *device, bool is_good)
-{
-    struct usbdisk_call call = device->call;
-    device->call.kind = USBDISK_NOTHING;
-    uint8_t *place = device->now + 512 * call.sector;
-    if (!is_good)
-        memset(device->buffer, 0xEE, sizeof device->buffer);
-    else if (call.kind == USBDISK_READ)
-        memcpy(device->buffer, place, 512 * (size_t)call.count);
-    else if (call.kind == USBDISK_WRITE)
-        memcpy(place, device->buffer, 512 * (size_t)call.count);
-    else
-        for (; device->count > 0; device->count--) {
-            uint64_t sector = device->unflushed[device->count - 1].sector;
-            memcpy(device->durable + 512 * sector, device->now + 512 * sector, 512);
-        }
-}
-
-/* How many of 16 unflushed writes a cut keeps: none, all, most, half, few. In the last way, the
- * first. */
+/* How many of 16 writes are kept: none, all, most, half, few. In the last way, the first. */
 static const unsigned ways[] = { 0, 16, 14, 8, 2 };
-enum { WAYS = sizeof ways / sizeof *ways };
+enum { NONE, ALL, WAYS = sizeof ways / sizeof *ways };
 
 static bool is_kept(unsigned way, size_t behind, size_t number)
 {
     return way < WAYS ? random_below(16) < ways[way] : number < behind;
 }
 
+/* The writes of the run under way, which are the last unflushed ones, are carried out, or some. */
+static void end_write(struct device *device, unsigned way)
+{
+    size_t first = device->count - (size_t)device->call.count, most = device->count;
+    size_t behind = random_below((unsigned)device->call.count + 1);
+    device->count = first;
+    for (size_t i = first; i < most; i++) {
+        const struct unflushed *write = &device->unflushed[i];
+        if (!is_kept(way, behind, i - first))
+            continue;
+        memcpy(device->now + 512 * write->sector, write->bytes, 512);
+        memmove(&device->unflushed[device->count++], write, sizeof *write);
+    }
+}
+
+static void end_flush(struct device *device)
+{
+    for (; device->count > 0; device->count--) {
+        uint64_t sector = device->unflushed[device->count - 1].sector;
+        memcpy(device->durable + 512 * sector, device->now + 512 * sector, 512);
+    }
+}
+
+void device_end(struct device *device, bool is_good)
+{
+    const struct usbdisk_call *call = &device->call;
+    const uint8_t *place = device->now + 512 * call->sector;
+    if (call->kind == USBDISK_WRITE)
+        end_write(device, is_good ? ALL : random_below(WAYS + 1));
+    else if (is_good && call->kind == USBDISK_READ)
+        memcpy(device->buffer, place, 512 * (size_t)call->count);
+    else if (is_good)
+        end_flush(device);
+    if (!is_good)
+        memset(device->buffer, 0xEE, sizeof device->buffer);
+    device->call.kind = USBDISK_NOTHING;
+}
+
+void device_forsake(struct device *device)
+{
+    if (device->call.kind != USBDISK_NOTHING)
+        device_end(device, random_below(2));
+}
+
 void device_cut(const struct device *device, unsigned kept, struct device *other)
 {
-    unsigned way = random_below(WAYS + 1);
+    unsigned way = kept == EACH ? ALL : random_below(WAYS + 1);
     size_t behind = random_below((unsigned)device->count + 1);
     if (other != device)
         memcpy(other->durable, device->durable, (size_t)SECTORS * 512);

@@ -43,23 +43,36 @@ static bool find(uint32_t found[BLOCKS])
     return good;
 }
 
-bool is_allowed(const struct history *history, const uint32_t found[BLOCKS])
+bool is_allowed(const struct history *history, const uint32_t found[BLOCKS], size_t *writes)
 {
     uint32_t blocks[BLOCKS];
     memcpy(blocks, history->opening, sizeof blocks);
     for (size_t k = 0; k <= history->accepted; k++) {
+        if (k > 0)
+            put(blocks, &history->writes[k - 1]);
+        *writes = k;
         if (k >= history->promised && !memcmp(blocks, found, sizeof blocks))
             return true;
-        put(blocks, &history->writes[k]);
     }
     return fails("a start finds what no cut may leave");
+}
+
+void settle(struct history *history)
+{
+    size_t left = history->accepted - history->promised;
+    for (size_t k = 0; k < history->promised; k++)
+        put(history->opening, &history->writes[k]);
+    memmove(history->writes, history->writes + history->promised, left * sizeof *history->writes);
+    history->accepted = left;
+    history->promised = 0;
 }
 
 bool finds_what_it_may(const struct device *device, unsigned kept, const struct history *history,
                        uint32_t found[BLOCKS])
 {
+    size_t writes;
     device_cut(device, kept, &other.device);
-    return find(found) && is_allowed(history, found);
+    return find(found) && is_allowed(history, found, &writes);
 }
 
 bool finds_open(void)

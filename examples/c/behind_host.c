@@ -18,14 +18,54 @@ static bool request(struct host *host, const uint8_t setup[8])
            fails("a request is refused");
 }
 
+bool writes(const struct command *command)
+{
+    return command->code == 0x2A || command->code == 0x8A;
+}
+
+bool reads(const struct command *command)
+{
+    return command->code == 0x28 || command->code == 0x88;
+}
+
+bool promises(const struct command *command, bool is_cached)
+{
+    if (writes(command))
+        return command->flags || !is_cached;
+    if (reads(command))
+        return command->flags;
+    return command->code == 0x15 ? is_cached : command->code != 0x03;
+}
+
+struct command some_command(bool is_plain)
+{
+    static uint32_t numbers = 1;
+    static const uint8_t codes[16] = { 0x35, 0x91, 0x15, 0x28, 0x88, 0x28, 0x28, 0x8A };
+    unsigned which = random_below(16), count = 1 + random_below(random_below(8) ? 4 : MOST);
+    if (is_plain && random_below(64)) {
+        which = 15;
+        count = MOST;
+    }
+    struct command command = { .code = codes[which] ? codes[which] : 0x2A, .count = count };
+    command.address = random_below((random_below(4) && count < MOST ? MOST : BLOCKS) - count + 1);
+    if (writes(&command) || reads(&command))
+        command.flags = random_below(8) || which == 15 ? 0 : 8;
+    if (command.code == 0x15)
+        command = (struct command){ .code = 0x15, .flags = 0x10, .cache = random_below(4) != 0 };
+    if (command.code == 0x35 || command.code == 0x91)
+        command.address = command.count = 0;
+    command.number = numbers++;
+    return command;
+}
+
 static bool sends_data(const struct command *command)
 {
-    return command->code == 0x2A || command->code == 0x8A || command->code == 0x15;
+    return writes(command) || command->code == 0x15;
 }
 
 static bool wants_data(const struct command *command)
 {
-    return command->code == 0x28 || command->code == 0x88 || command->code == 0x03;
+    return reads(command) || command->code == 0x03;
 }
 
 static unsigned length_of(const struct command *command)

@@ -115,10 +115,11 @@ static bool find(uint32_t found[BLOCKS])
 static bool cut(uint32_t found[BLOCKS])
 {
     uint32_t fault;
+    size_t writes;
     counts.cuts++;
     counts.starting += usbdisk_state(&store, &fault) == USBDISK_STARTING;
     device_cut(&device, ANY, &other);
-    return find(found) && is_allowed(&history, found);
+    return find(found) && is_allowed(&history, found, &writes);
 }
 
 /* ---- what a stack does */
@@ -231,6 +232,7 @@ static bool play_one(unsigned speed)
 static bool play_life(void)
 {
     uint32_t found[BLOCKS];
+    size_t writes;
     unsigned speed = 8 + random_below(48), steps = random_below(STEPS);
     book.goes_on = random_below(3) ? 0 : 40;
     book.asked = NONE;
@@ -248,7 +250,7 @@ static bool play_life(void)
     device_cut(&device, ANY, &device);
     memcpy(other.durable, device.durable, (size_t)SECTORS * 512);
     memcpy(other.now, device.now, (size_t)SECTORS * 512);
-    good = find(found) && is_allowed(&history, found);
+    good = find(found) && is_allowed(&history, found, &writes);
     memcpy(history.opening, found, sizeof found);
     return good;
 }
