@@ -16,6 +16,7 @@ pub mod ReadBlocks
 pub mod Headroom
 pub mod FlushesOnce
 pub mod RingRoom
+pub mod Paid
 pub mod Ready
 pub mod Retired
 pub mod Room

@@ -17,21 +17,13 @@ use Rattle.blocks.proofs.Ready.{made_finished}
 use Rattle.blocks.specs.StoreValue.{is_dead, firsts_in}
 use Rattle.blocks.specs.Steady.{IsSteady, IsFuller}
 use Rattle.blocks.proofs.RoomCalls.{finish_under_way, finish_none, finish_begun}
+use Rattle.blocks.proofs.Paid.{rested, kept_paid, paid_then, paid_more}
 use Rattle.blocks.proofs.TurnsJoined.{turns, stays}
 use Rattle.blocks.proofs.SectorsRead.{none, looks_on}
 use Rattle.blocks.proofs.store.Store.finish.Goals as goal
 
 pub returns-then-is_dead-clause-passes : goal.returns-then-is_dead-clause-passes
-returns-then-is_dead-clause-passes g c = record {
-  policy = search rules;
-  turn = stays _ _ (g.met.M.Medium.sound c.args.self.now.medium);
-  paid = search rules;
-  sent = search rules;
-  none_refused = search rules;
-  follows = search rules;
-  looks = none (g.M.Medium.state c.args.self.now.medium) (g.M.Medium.state c.args.self.now.medium) c.args.self.now.cached
-      (λ i. (g.M.Medium.state c.args.self.now.medium).looked);
-}
+returns-then-is_dead-clause-passes g c = kept_paid g.met.M.Medium.follows_itself (rested (g.met.M.Medium.sound c.args.self.now.medium)) (λ live. omega arith)
 
 pub returns-then-self-clause-batch : goal.returns-then-self-clause-batch
 returns-then-self-clause-batch g c = record {
@@ -75,53 +67,32 @@ returns-then-self-clause-batch g c = record {
 }
 
 pub returns-then-is_empty-clause-passes : goal.returns-then-is_empty-clause-passes
-returns-then-is_empty-clause-passes g c = record {
-  policy = search rules;
-  turn = stays _ _ (g.met.M.Medium.sound c.args.self.now.medium);
-  paid = search rules;
-  sent = search rules;
-  none_refused = search rules;
-  follows = search rules;
-  looks = none (g.M.Medium.state c.args.self.now.medium) (g.M.Medium.state c.args.self.now.medium) c.args.self.now.cached
-      (λ i. (g.M.Medium.state c.args.self.now.medium).looked);
-}
+returns-then-is_empty-clause-passes g c = kept_paid g.met.M.Medium.follows_itself (rested (g.met.M.Medium.sound c.args.self.now.medium)) (λ live. omega arith)
 
 pub returns-clause-passes : goal.returns-clause-passes
-returns-clause-passes g c = record {
-  policy = search rules;
-  turn =
-      let written = turns _ _ _ _ _ _ c.begin.ensures.keeps.turn c.write_out-2.ensures.passes.turn in
-      turns _ _ _ _ _ _ c.make_ready.ensures.ready.passes.turn written;
-  paid = search rules;
-  sent =
-      let old = c.args.self.now.cached in
-      let mid = c.make_ready.new.self.cached in
-      let frozen_is : c.self.inside.frozen ≡ old.frozen = ap (λ v. v.cached.frozen) c.self.view_is in
-      let log_is : c.self.inside.log ≡ old.log = ap (λ v. v.cached.log) c.self.view_is in
-      let begun_is = (c.begin.ensures.begins.live c.in_ok-begin.ensures.answer).1
-      ∙ ap (λ (batch : Entries). begun batch.numbers (firsts_in batch) mid.log) c.make_ready.ensures.ready.room.frozen in
-      let steps = ap (λ (log : LogValue). log.steps_left) begun_is
-      ∙ ap (λ (shape : Shape). steps_of shape.format old.frozen.numbers) c.make_ready.ensures.ready.passes.turn.goes_on.layout_stays in
-      let long = ap (λ (batch : Entries). length batch.numbers) frozen_is in
-      let format = ap (λ (log : LogValue). limit_of log.shape.format) log_is in
-      let few = few_steps_for old.log.shape.format (length old.frozen.numbers)
-      (omega (arith, c.self.invariant.frozen.well_formed.within, c.self.invariant.frozen.room, long, format)) in
-      let quiet = ap (λ m. sent (g.M.Medium.state m)) c.begin.ensures.keeps.medium in
-      omega (arith, c.make_ready.ensures.ready.passes.sent, c.write_out-2.ensures.passes.sent, steps, few, quiet);
-  none_refused = search rules;
-  follows = g.met.M.Medium.follows_through c.args.self.now.medium c.make_ready.new.self.medium c.write_out-2.new.self.medium
-      c.make_ready.ensures.ready.passes.follows
-      (subst (λ m. g.M.Medium.follows m c.write_out-2.new.self.medium) c.begin.ensures.keeps.medium c.write_out-2.ensures.passes.follows);
-  looks =
-      let mid = g.M.Medium.state c.make_ready.new.self.medium in
-      let begun = g.M.Medium.state c.begin.new.self.medium in
-      let after = g.M.Medium.state c.write_out-2.new.self.medium in
-      looks_on (g.M.Medium.state c.args.self.now.medium) mid after c.args.self.now.cached c.make_ready.new.self.cached
-      c.make_ready.ensures.ready.passes.turn.goes_on.layout_stays c.make_ready.ensures.ready.passes.looks
-      (looks_on mid begun after c.make_ready.new.self.cached c.begin.new.self.cached c.begin.ensures.keeps.turn.goes_on.layout_stays
-      (none mid begun c.make_ready.new.self.cached (ap (λ m. (g.M.Medium.state m).looked) c.begin.ensures.keeps.medium))
-      c.write_out-2.ensures.passes.looks);
-}
+returns-clause-passes g c =
+    let old = c.args.self.now.cached in
+    let mid = c.make_ready.new.self.cached in
+    let ready = c.make_ready.ensures.ready in
+    let begins = c.begin.ensures in
+    let written = c.write_out-2.ensures.passes in
+    let frozen_is : c.self.inside.frozen ≡ old.frozen = ap (λ v. v.cached.frozen) c.self.view_is in
+    let log_is : c.self.inside.log ≡ old.log = ap (λ v. v.cached.log) c.self.view_is in
+    let begun_is = (begins.begins.live c.in_ok-begin.ensures.answer).1
+    ∙ ap (λ (batch : Entries). begun batch.numbers (firsts_in batch) mid.log) ready.room.frozen in
+    let steps = ap (λ (log : LogValue). log.steps_left) begun_is
+    ∙ ap (λ (shape : Shape). steps_of shape.format old.frozen.numbers) ready.passes.turn.goes_on.layout_stays in
+    let long = ap (λ (batch : Entries). length batch.numbers) frozen_is in
+    let format = ap (λ (log : LogValue). limit_of log.shape.format) log_is in
+    let few = few_steps_for old.log.shape.format (length old.frozen.numbers)
+    (omega (arith, c.self.invariant.frozen.well_formed.within, c.self.invariant.frozen.room, long, format)) in
+    let quiet = ap (λ m. sent (g.M.Medium.state m)) begins.keeps.medium in
+    paid_then {last = c.begin.new.self.cached.log.steps_left} g.met.M.Medium.follows_through ready.passes
+    c.in_ok-make_ready.ensures.ready.answer
+    (paid_then {first = 0} g.met.M.Medium.follows_through
+    (kept_paid g.met.M.Medium.follows_itself begins.keeps (λ live. omega (arith, begins.begins.falls live)))
+    c.in_ok-begin.ensures.answer written (omega (arith, quiet, written.sent)))
+    (omega (arith, ready.passes.sent, written.sent, steps, few, quiet))
 
 pub returns-then-is_empty-clause-batch : goal.returns-then-is_empty-clause-batch
 returns-then-is_empty-clause-batch g c = record {
@@ -200,22 +171,13 @@ returns-clause-batch g c =
     }
 
 pub returns-in_err-begin-clause-passes : goal.returns-in_err-begin-clause-passes
-returns-in_err-begin-clause-passes g c = record {
-  policy = search rules;
-  turn = turns _ _ _ _ _ _ c.make_ready.ensures.ready.passes.turn c.begin.ensures.keeps.turn;
-  paid = search rules;
-  sent =
-      let quiet = ap (λ m. sent (g.M.Medium.state m)) c.begin.ensures.keeps.medium in
-      omega (arith, c.make_ready.ensures.ready.passes.sent, quiet);
-  none_refused = search rules;
-  follows = search rules;
-  looks =
-      let mid = g.M.Medium.state c.make_ready.new.self.medium in
-      let after = g.M.Medium.state c.begin.new.self.medium in
-      looks_on (g.M.Medium.state c.args.self.now.medium) mid after c.args.self.now.cached c.make_ready.new.self.cached
-      c.make_ready.ensures.ready.passes.turn.goes_on.layout_stays c.make_ready.ensures.ready.passes.looks
-      (none mid after c.make_ready.new.self.cached (ap (λ m. (g.M.Medium.state m).looked) c.begin.ensures.keeps.medium));
-}
+returns-in_err-begin-clause-passes g c =
+    let quiet = ap (λ m. sent (g.M.Medium.state m)) c.begin.ensures.keeps.medium in
+    let ready = c.make_ready.ensures.ready in
+    let begins = c.begin.ensures in
+    paid_then {last = 0} g.met.M.Medium.follows_through ready.passes c.in_ok-make_ready.ensures.ready.answer
+    (kept_paid g.met.M.Medium.follows_itself begins.keeps (λ live. omega (arith, begins.begins.falls live)))
+    (omega (arith, ready.passes.sent, quiet))
 
 pub returns-then-self-clause-cost : goal.returns-then-self-clause-cost
 returns-then-self-clause-cost g c =
@@ -278,29 +240,13 @@ returns-in_err-begin-clause-batch g c = record {
 }
 
 pub returns-then-self-clause-passes : goal.returns-then-self-clause-passes
-returns-then-self-clause-passes g c = record {
-  policy = search rules;
-  turn = c.write_out.ensures.passes.turn;
-  paid = c.write_out.ensures.passes.paid;
-  sent =
-      let log_is : c.self.inside.log ≡ c.args.self.now.cached.log = ap (λ v. v.cached.log) c.self.view_is in
-      let few = subst (λ (log : LogValue). log.steps_left ≤ most_steps log.shape.format) log_is c.self.invariant.few_steps in
-      omega (arith, c.write_out.ensures.passes.sent, few);
-  none_refused = c.write_out.ensures.passes.none_refused;
-  follows = c.write_out.ensures.passes.follows;
-  looks = c.write_out.ensures.passes.looks;
-}
+returns-then-self-clause-passes g c = 
+    let log_is = ap (λ v. v.cached.log) c.self.view_is in
+    let few = subst (λ (log : LogValue). log.steps_left ≤ most_steps log.shape.format) log_is c.self.invariant.few_steps in
+    paid_more c.write_out.ensures.passes (omega (arith, c.write_out.ensures.passes.sent, few))
 
 pub returns-in_err-make_ready-clause-passes : goal.returns-in_err-make_ready-clause-passes
-returns-in_err-make_ready-clause-passes g c = record {
-  policy = search rules;
-  turn = c.make_ready.ensures.ready.passes.turn;
-  paid = c.make_ready.ensures.ready.passes.paid;
-  sent = omega (arith, c.make_ready.ensures.ready.passes.sent);
-  none_refused = c.make_ready.ensures.ready.passes.none_refused;
-  follows = c.make_ready.ensures.ready.passes.follows;
-  looks = c.make_ready.ensures.ready.passes.looks;
-}
+returns-in_err-make_ready-clause-passes g c = paid_more c.make_ready.ensures.ready.passes (omega (arith, c.make_ready.ensures.ready.passes.sent))
 
 pub returns-then-self-clause-flushes : goal.returns-then-self-clause-flushes
 returns-then-self-clause-flushes g c =

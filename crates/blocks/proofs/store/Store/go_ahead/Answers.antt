@@ -13,22 +13,14 @@ use Rattle.blocks.specs.StoreValue.{Cached, StoreValue, layout_of, is_dead}
 use Rattle.blocks.specs.Turns.{IsTurn}
 use Rattle.blocks.proofs.OldestHome.{rests_passed, rests_calls, rests_home, rests_home_calls, passes_short, calls_short}
 use Rattle.blocks.proofs.OldestHome.{goes_short, going_short}
+use Rattle.blocks.proofs.Paid.{rested, kept_paid, paid_then}
 use Rattle.blocks.proofs.TurnsJoined.{turns, stays}
 use Rattle.blocks.proofs.BackgroundCalls.{pays_both}
 use Rattle.blocks.proofs.SectorsRead.{none, looks_on}
 use Rattle.blocks.proofs.store.Store.go_ahead.Goals as goal
 
 pub returns-then-has_slots-clause-passes : goal.returns-then-has_slots-clause-passes
-returns-then-has_slots-clause-passes g c = record {
-  policy = search rules;
-  turn = stays _ _ (g.met.M.Medium.sound c.args.self.now.medium);
-  paid = search rules;
-  sent = search rules;
-  none_refused = search rules;
-  follows = search rules;
-  looks = none (g.M.Medium.state c.args.self.now.medium) (g.M.Medium.state c.args.self.now.medium) c.args.self.now.cached
-      (λ i. (g.M.Medium.state c.args.self.now.medium).looked);
-}
+returns-then-has_slots-clause-passes g c = kept_paid g.met.M.Medium.follows_itself (rested (g.met.M.Medium.sound c.args.self.now.medium)) (λ live. omega arith)
 
 pub returns-then-has_slots-clause-going : goal.returns-then-has_slots-clause-going
 returns-then-has_slots-clause-going g c =
@@ -48,41 +40,6 @@ returns-then-has_slots-clause-going g c =
       answer = c.requires.live;
     }
 
--- a flush was counted, and then the head passed
-counted : {M : Type 0} (state : M → State) (Follows : M → M → Type 0) (old mid new : StoreValue M) → KeepsMedium state IsTurn old mid
-    → CountsFlush old.cached mid.cached → is_dead mid.cached ≡ false → PassesPaid state Follows 1 mid new
-    → PassesPaid state Follows 1 old new
-counted state Follows old mid new keeps counts live passes =
-    let calls = ap (λ m. (state m).calls) keeps.medium in
-    let quiet = ap (λ m. sent (state m)) keeps.medium in
-    let failures = ap (λ m. (state m).failures) keeps.medium in
-    record {
-      turn = turns _ _ _ _ _ _ keeps.turn passes.turn;
-      paid = record {
-        most = omega (arith, passes.paid.most, counts.fewer, calls);
-        rest = λ lives. omega (arith, passes.paid.rest lives, counts.fewer, calls);
-      };
-      sent = omega (arith, passes.sent, quiet);
-      none_refused = λ lives. passes.none_refused lives ∙ failures;
-      follows = subst (λ m. Follows m new.medium) keeps.medium passes.follows;
-      looks = looks_on (state old.medium) (state mid.medium) (state new.medium) old.cached mid.cached keeps.turn.goes_on.layout_stays
-          (none (state old.medium) (state mid.medium) old.cached (ap (λ m. (state m).looked) keeps.medium)) passes.looks;
-      policy = passes.policy ∙ keeps.policy;
-    }
-
--- fewer writes and flushes were made than that
-fewer : {M : Type 0} (state : M → State) (Follows : M → M → Type 0) (few many : ℕ) (old new : StoreValue M) → few ≤ many
-    → PassesPaid state Follows few old new → PassesPaid state Follows many old new
-fewer state Follows few many old new le passes = record {
-  turn = passes.turn;
-  paid = passes.paid;
-  sent = omega (arith, passes.sent, le);
-  none_refused = passes.none_refused;
-  follows = passes.follows;
-  looks = passes.looks;
-  policy = passes.policy;
-}
-
 -- both batches stay
 idles : (old mid new : Cached) → CountsFlush old mid → StaysIdle mid new → StaysIdle old new
 idles old mid new counts stays = record {
@@ -94,10 +51,11 @@ idles old mid new counts stays = record {
 
 pub returns-in_err-pass_head-clause-passes : goal.returns-in_err-pass_head-clause-passes
 returns-in_err-pass_head-clause-passes g c =
-    fewer g.M.Medium.state g.M.Medium.follows 1 (limit_of (layout_of c.args.self.now.cached).format + 1) c.args.self.now
-    c.pass_head.new.self (omega arith)
-    (counted g.M.Medium.state g.M.Medium.follows c.args.self.now c.count_flush.new.self c.pass_head.new.self c.count_flush.ensures.keeps
-    c.count_flush.ensures.counts (c.count_flush.ensures.life ∙ c.requires.live) c.pass_head.ensures.passes)
+    let counts = c.count_flush.ensures in
+    let quiet = ap (λ m. sent (g.M.Medium.state m)) counts.keeps.medium in
+    paid_then {first = 0} g.met.M.Medium.follows_through
+    (kept_paid g.met.M.Medium.follows_itself counts.keeps (λ live. counts.counts.fewer)) (counts.life ∙ c.requires.live)
+    c.pass_head.ensures.passes (omega (arith, quiet, c.pass_head.ensures.passes.sent))
 
 pub returns-in_err-pass_head-clause-going : goal.returns-in_err-pass_head-clause-going
 returns-in_err-pass_head-clause-going g c =
@@ -115,10 +73,11 @@ returns-in_err-pass_head-clause-going g c =
 
 pub returns-then-has_slots-2-clause-passes : goal.returns-then-has_slots-2-clause-passes
 returns-then-has_slots-2-clause-passes g c =
-    fewer g.M.Medium.state g.M.Medium.follows 1 (limit_of (layout_of c.args.self.now.cached).format + 1) c.args.self.now
-    c.pass_head.new.self (omega arith)
-    (counted g.M.Medium.state g.M.Medium.follows c.args.self.now c.count_flush.new.self c.pass_head.new.self c.count_flush.ensures.keeps
-    c.count_flush.ensures.counts (c.count_flush.ensures.life ∙ c.requires.live) c.pass_head.ensures.passes)
+    let counts = c.count_flush.ensures in
+    let quiet = ap (λ m. sent (g.M.Medium.state m)) counts.keeps.medium in
+    paid_then {first = 0} g.met.M.Medium.follows_through
+    (kept_paid g.met.M.Medium.follows_itself counts.keeps (λ live. counts.counts.fewer)) (counts.life ∙ c.requires.live)
+    c.pass_head.ensures.passes (omega (arith, quiet, c.pass_head.ensures.passes.sent))
 
 pub returns-then-has_slots-2-clause-going : goal.returns-then-has_slots-2-clause-going
 returns-then-has_slots-2-clause-going g c =
@@ -150,24 +109,17 @@ returns-then-has_slots-2-clause-going g c =
 
 pub returns-clause-passes : goal.returns-clause-passes
 returns-clause-passes g c =
-    let before = c.args.self.now in
-    let mid = c.pass_head.new.self in
-    let after = c.go_home.new.self in
-    let first = counted g.M.Medium.state g.M.Medium.follows before c.count_flush.new.self mid c.count_flush.ensures.keeps
-    c.count_flush.ensures.counts (c.count_flush.ensures.life ∙ c.requires.live) c.pass_head.ensures.passes in
+    let counts = c.count_flush.ensures in
+    let passing = c.pass_head.ensures.passes in
     let last = c.go_home.ensures.passes in
-    let same = ap (λ (shape : Shape). limit_of shape.format) first.turn.goes_on.layout_stays in
-    let failures = first.none_refused c.in_ok-pass_head.ensures.answer in
-    record {
-      policy = last.policy ∙ first.policy;
-      turn = turns _ _ _ _ _ _ first.turn last.turn;
-      paid = pays_both _ _ _ _ _ _ first.paid c.in_ok-pass_head.ensures.answer last.paid;
-      sent = omega (arith, first.sent, last.sent, same);
-      none_refused = λ lives. last.none_refused lives ∙ failures;
-      follows = g.met.M.Medium.follows_through _ _ _ first.follows last.follows;
-      looks = looks_on (g.M.Medium.state before.medium) (g.M.Medium.state mid.medium) (g.M.Medium.state after.medium) before.cached
-          mid.cached first.turn.goes_on.layout_stays first.looks last.looks;
-    }
+    let quiet = ap (λ m. sent (g.M.Medium.state m)) counts.keeps.medium in
+    let layout = passing.turn.goes_on.layout_stays ∙ counts.keeps.turn.goes_on.layout_stays in
+    let same = ap (λ (shape : Shape). limit_of shape.format) layout in
+    let first = kept_paid {sends = 0} g.met.M.Medium.follows_itself counts.keeps (λ live. counts.counts.fewer) in
+    let blocks = limit_of (layout_of c.pass_head.new.self.cached).format in
+    paid_then {last = blocks + 1} g.met.M.Medium.follows_through first (counts.life ∙ c.requires.live)
+    (paid_then g.met.M.Medium.follows_through passing c.in_ok-pass_head.ensures.answer last (omega (arith, passing.sent, last.sent)))
+    (omega (arith, passing.sent, last.sent, same, quiet))
 
 pub returns-clause-going : goal.returns-clause-going
 returns-clause-going g c =

@@ -4,21 +4,12 @@ use Rattle.redo_log.specs.Value.{LogValue}
 use Rattle.blocks.specs.Background.{MayBegin}
 use Rattle.blocks.specs.StoreValue.{is_dead}
 use Rattle.blocks.proofs.Headroom.{room_of}
-use Rattle.blocks.proofs.SectorsRead.{none}
+use Rattle.blocks.proofs.Paid.{kept_on}
 use Rattle.blocks.proofs.store.Store.go_on.Goals as goal
 
 pub returns-then-may_begin : goal.returns-then-may_begin
 returns-then-may_begin g c = record {
-  passes = record {
-    policy = search rules;
-    turn = c.begin_next.ensures.keeps.turn;
-    calls = search rules;
-    sent = search rules;
-    none_refused = search rules;
-    follows = search rules;
-    looks = none (g.M.Medium.state c.args.self.now.medium) (g.M.Medium.state c.begin_next.new.self.medium) c.args.self.now.cached
-        (ap (λ m. (g.M.Medium.state m).looked) c.begin_next.ensures.keeps.medium);
-  };
+  passes = kept_on g.met.M.Medium.follows_itself c.begin_next.ensures.keeps;
   order =
       let live : is_dead c.args.self.now.cached ≡ false = c.requires.live in
       let may : MayBegin c.args.self.now.goes_ahead c.args.self.now.cached = c.may_begin.ensures.begins.0 c.if-may_begin.true in

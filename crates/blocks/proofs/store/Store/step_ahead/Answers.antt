@@ -2,6 +2,7 @@ use Rattle.std.proofs.Common.{ap, sym, subst, ◌∙◌, refl, arith}
 use Rattle.std.proofs.lemmas.Bool.{false≢true}
 use Rattle.medium.proofs.Moments.{unchanged}
 use Rattle.redo_log.specs.Value.{LogValue, CanPass, IsAway}
+use Rattle.blocks.proofs.Paid.{rested, kept_on}
 use Rattle.blocks.proofs.TurnsJoined.{stays}
 use Rattle.blocks.proofs.SectorsRead.{none}
 use Rattle.blocks.proofs.store.Store.step_ahead.Goals as goal
@@ -12,15 +13,7 @@ returns g c =
     let m = g.M.Medium.state c.args.self.now.medium in
     let s = c.args.self.now.cached in
     record {
-      passes = record {
-        turn = stays _ _ (g.met.M.Medium.sound c.args.self.now.medium);
-        calls = omega arith;
-        sent = omega arith;
-        none_refused = λ live. refl;
-        follows = g.met.M.Medium.follows_itself c.args.self.now.medium;
-        looks = none m m s (λ i. m.looked);
-        policy = refl;
-      };
+      passes = kept_on g.met.M.Medium.follows_itself (rested (g.met.M.Medium.sound c.args.self.now.medium));
       goes = record {
         passes = λ can. absurd (false≢true (sym c.if-can_pass.false
             ∙ c.can_pass.ensures.1 (subst (λ (l : LogValue). CanPass l) (sym log_is) can)));

@@ -10,14 +10,15 @@ use Rattle.medium.specs.declared.fault.MediumFault.TheVariants.{Flush}
 use Rattle.blocks.specs.Flushing.{finish_flushes, both_flushes}
 use Rattle.blocks.proofs.Headroom.{both_each, headroom_finished, ok_of}
 use Rattle.blocks.specs.Headroom.{HasHeadroom, next_durable}
-use Rattle.blocks.specs.Sent.{most_sent}
+use Rattle.blocks.specs.Sent.{most_sent, batch_sends}
 use Rattle.blocks.specs.Steady.{IsSteady, IsFilling, IsFuller}
-use Rattle.blocks.specs.StoreValue.{Cached, firsts_in}
+use Rattle.blocks.specs.StoreValue.{Cached, firsts_in, is_dead, steps_left}
 use Rattle.blocks.proofs.Ready.{calls_of, roomy_both}
 use Rattle.blocks.proofs.BookTurns.{settles}
 use Rattle.blocks.proofs.AllHome.{none_of}
 use Rattle.blocks.proofs.RoomFlushes.{flushes_of, once}
 use Rattle.blocks.proofs.Steady.{steady_sync, steady_roomy}
+use Rattle.blocks.proofs.Paid.{swapped_steps, kept_paid, paid_then, paid_more}
 use Rattle.blocks.proofs.TurnsJoined.{turns}
 use Rattle.blocks.proofs.SectorsRead.{none, looks_on}
 use Rattle.blocks.proofs.FlushesOnce.{both_durable}
@@ -25,27 +26,21 @@ use Rattle.blocks.proofs.store.Store.sync.Given.{Over}
 use Rattle.blocks.proofs.store.Store.sync.Goals as goal
 
 pub returns-clause-passes : goal.returns-clause-passes
-returns-clause-passes g c = record {
-  policy = search rules;
-  turn = turns _ _ _ _ _ _ c.finish.ensures.passes.turn (turns _ _ _ _ _ _ c.freeze.ensures.keeps.turn c.finish-2.ensures.passes.turn);
-  paid = search rules;
-  sent =
-      let quiet = ap (λ m. sent (g.M.Medium.state m)) c.freeze.ensures.keeps.medium in
-      let layout = c.freeze.ensures.keeps.turn.goes_on.layout_stays ∙ c.finish.ensures.passes.turn.goes_on.layout_stays in
-      let same = ap (λ (shape : Shape). most_sent shape.format) layout in
-      omega (arith, c.finish.ensures.passes.sent, c.finish-2.ensures.passes.sent, quiet, same);
-  none_refused = search rules;
-  follows = search rules;
-  looks =
-      let mid = g.M.Medium.state c.finish.new.self.medium in
-      let half = g.M.Medium.state c.freeze.new.self.medium in
-      let after = g.M.Medium.state c.finish-2.new.self.medium in
-      looks_on (g.M.Medium.state c.args.self.now.medium) mid after c.args.self.now.cached c.finish.new.self.cached
-      c.finish.ensures.passes.turn.goes_on.layout_stays c.finish.ensures.passes.looks
-      (looks_on mid half after c.finish.new.self.cached c.freeze.new.self.cached c.freeze.ensures.keeps.turn.goes_on.layout_stays
-      (none mid half c.finish.new.self.cached (ap (λ m. (g.M.Medium.state m).looked) c.freeze.ensures.keeps.medium))
-      c.finish-2.ensures.passes.looks);
-}
+returns-clause-passes g c =
+    let first = c.finish.ensures.passes in
+    let keeps = c.freeze.ensures.keeps in
+    let last = c.finish-2.ensures.passes in
+    let live = c.in_ok-finish.ensures.batch.answers.answer in
+    let quiet = ap (λ m. sent (g.M.Medium.state m)) keeps.medium in
+    let same = ap (λ (shape : Shape). most_sent shape.format) (keeps.turn.goes_on.layout_stays ∙ first.turn.goes_on.layout_stays) in
+    let is = c.freeze.ensures.swapped in
+    let steps = ap (λ (s : Cached). steps_left s) is in
+    let fewer = swapped_steps c.finish.new.self.cached c.in_ok-finish.ensures.batch.done.0 in
+    paid_then {last = batch_sends c.freeze.new.self.cached} g.met.M.Medium.follows_through first live
+    (paid_then {first = 0} g.met.M.Medium.follows_through
+    (kept_paid g.met.M.Medium.follows_itself keeps (λ lives. omega (arith, steps, fewer)))
+    (ap (λ (s : Cached). is_dead s) is ∙ live) last (omega (arith, quiet, last.sent)))
+    (omega (arith, first.sent, last.sent, quiet, same))
 
 pub returns-clause-ok : goal.returns-clause-ok
 returns-clause-ok g c book fits =
@@ -181,12 +176,4 @@ returns-clause-cost g c =
     }
 
 pub returns-in_err-finish-clause-passes : goal.returns-in_err-finish-clause-passes
-returns-in_err-finish-clause-passes g c = record {
-  policy = search rules;
-  turn = c.finish.ensures.passes.turn;
-  paid = c.finish.ensures.passes.paid;
-  sent = omega (arith, c.finish.ensures.passes.sent);
-  none_refused = c.finish.ensures.passes.none_refused;
-  follows = c.finish.ensures.passes.follows;
-  looks = c.finish.ensures.passes.looks;
-}
+returns-in_err-finish-clause-passes g c = paid_more c.finish.ensures.passes (omega (arith, c.finish.ensures.passes.sent))

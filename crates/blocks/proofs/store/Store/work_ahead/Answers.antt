@@ -7,6 +7,7 @@ use Rattle.blocks.specs.StoreValue.{Cached, is_dead}
 use Rattle.blocks.specs.Work.{GoesOnAhead, with_counted}
 use Rattle.blocks.proofs.AheadSteps.{cached_is, none_counted, store_is}
 use Rattle.blocks.proofs.SectorsRead.{none, looks_on}
+use Rattle.blocks.proofs.Paid.{rested, kept_on}
 use Rattle.blocks.proofs.TurnsJoined.{stays, turns}
 use Rattle.blocks.proofs.store.Store.work_ahead.Goals as goal
 use Rattle.blocks.proofs.store.Store.work_ahead.Goals.{then-not-self-via-then-not-self, then-not-self-via-else-not-self+then-self}
@@ -17,15 +18,7 @@ returns-then-not-self g c =
     let old = c.args.self.now in
     let m = g.M.Medium.state old.medium in
     record {
-      passes = record {
-        turn = stays _ _ (g.met.M.Medium.sound old.medium);
-        calls = omega arith;
-        sent = omega arith;
-        none_refused = λ live. refl;
-        follows = g.met.M.Medium.follows_itself old.medium;
-        looks = none m m old.cached (λ i. m.looked);
-        policy = refl;
-      };
+      passes = kept_on g.met.M.Medium.follows_itself (rested (g.met.M.Medium.sound old.medium));
       order = record {
         dead = λ dead. (refl, unchanged m);
         plain = λ plain. (refl, unchanged m);

@@ -1,0 +1,84 @@
+-- What the calls of a store pass on, one after another.
+use Rattle.std.proofs.Common.{◌≡◌, ◌≤◌, ◌+◌, ◌*◌, ℕ, ◌∙◌, ap, sym, refl, subst, arith, false}
+use Rattle.medium.specs.Medium.{State, IsSound}
+use Rattle.medium.specs.Sent.{sent, SendsUpTo}
+use Rattle.blocks.specs.Passing.{PassesOn, PassesPaid, KeepsMedium}
+use Rattle.blocks.specs.StoreValue.{Cached, StoreValue, is_dead, steps_left, batch_steps, steps_for, waiting}
+use Rattle.blocks.specs.Turns.{IsTurn}
+use Rattle.blocks.proofs.BackgroundCalls.{pays_both}
+use Rattle.blocks.proofs.SectorsRead.{none, looks_on}
+use Rattle.blocks.proofs.TurnsJoined.{stays, turns}
+
+-- nothing was done
+pub rested : {M : Type 0} {state : M → State} {old : StoreValue M} → IsSound (state old.medium) → KeepsMedium state IsTurn old old
+rested sound = record { turn = stays _ _ sound; medium = refl; policy = refl }
+
+-- both batches change places where no record is under way, and as many steps are left
+pub swapped_steps : (s : Cached) → s.log.steps_left ≡ 0 → steps_left (record s { active = s.frozen; frozen = s.active }) ≤ steps_left s
+swapped_steps s idle =
+    let active = at_rest s.log.steps_left (steps_for (batch_steps s) s.active.numbers) idle in
+    let frozen = at_rest s.log.steps_left (steps_for (batch_steps s) s.frozen.numbers) idle in
+    omega (arith, active, frozen)
+  where
+    at_rest : (left steps : ℕ) → left ≡ 0 → waiting left steps ≡ steps
+    at_rest left steps none = ap (λ (n : ℕ). waiting n steps) none
+
+module _ {M : Type 0} {state : M → State} {Follows : M → M → Type 0} where
+  -- no call was made
+  pub kept_on : {Turn : State → State → Cached → Cached → Type 0} {most sends : ℕ} {old new : StoreValue M} → ((m : M) → Follows m m)
+      → KeepsMedium state Turn old new → PassesOn state Follows Turn most sends old new
+  kept_on {old = old} {new = new} itself keeps =
+      let calls = ap (λ m. (state m).calls) keeps.medium in
+      let quiet = ap (λ m. sent (state m)) keeps.medium in
+      record {
+        turn = keeps.turn;
+        calls = omega (arith, calls);
+        sent = omega (arith, quiet);
+        none_refused = λ live. ap (λ m. (state m).failures) keeps.medium;
+        follows = subst (λ m. Follows old.medium m) (sym keeps.medium) (itself old.medium);
+        looks = none (state old.medium) (state new.medium) old.cached (ap (λ m. (state m).looked) keeps.medium);
+        policy = keeps.policy;
+      }
+
+  -- and no step more is left
+  pub kept_paid : {sends : ℕ} {old new : StoreValue M} → ((m : M) → Follows m m) → KeepsMedium state IsTurn old new
+      → (is_dead new.cached ≡ false → steps_left new.cached ≤ steps_left old.cached) → PassesPaid state Follows sends old new
+  kept_paid {sends = sends} {old = old} {new = new} itself keeps fewer =
+      let on : PassesOn state Follows IsTurn 0 sends old new = kept_on itself keeps in
+      record {
+        turn = on.turn;
+        paid = record { most = omega (arith, on.calls); rest = λ live. omega (arith, on.calls, fewer live) };
+        sent = on.sent;
+        none_refused = on.none_refused;
+        follows = on.follows;
+        looks = on.looks;
+        policy = on.policy;
+      }
+
+  -- one call after another, with so many writes and flushes in all
+  pub paid_then : {first last all : ℕ} {old mid new : StoreValue M} → ((m n k : M) → Follows m n → Follows n k → Follows m k)
+      → PassesPaid state Follows first old mid → is_dead mid.cached ≡ false → PassesPaid state Follows last mid new
+      → SendsUpTo all (state old.medium) (state new.medium) → PassesPaid state Follows all old new
+  paid_then {old = old} {mid = mid} {new = new} through one live two sent = record {
+    turn = turns _ _ _ _ _ _ one.turn two.turn;
+    paid = pays_both _ _ _ _ _ _ one.paid live two.paid;
+    sent = sent;
+    none_refused = λ lives. two.none_refused lives ∙ one.none_refused live;
+    follows = through _ _ _ one.follows two.follows;
+    looks = looks_on (state old.medium) (state mid.medium) (state new.medium) old.cached mid.cached one.turn.goes_on.layout_stays
+        one.looks two.looks;
+    policy = two.policy ∙ one.policy;
+  }
+
+  -- more writes and flushes are allowed
+  pub paid_more : {few many : ℕ} {old new : StoreValue M} → PassesPaid state Follows few old new
+      → SendsUpTo many (state old.medium) (state new.medium) → PassesPaid state Follows many old new
+  paid_more paid sent = record {
+    turn = paid.turn;
+    paid = paid.paid;
+    sent = sent;
+    none_refused = paid.none_refused;
+    follows = paid.follows;
+    looks = paid.looks;
+    policy = paid.policy;
+  }
