@@ -1,96 +1,370 @@
--- The blocks of a record are copied home, call by call.
-use Rattle.std.proofs.Common.{◌≡◌, ◌≢◌, ◌<◌, ◌+◌, ◌++◌, ℕ, List, [], length, drop, get_or, inl, inr, ⊎_elim, ◌∙◌, arith}
-use Rattle.std.proofs.Common.{Ok, Result, Bool, true, false}
-use Rattle.std.proofs.lemmas.Bool.{cases_eq}
-use Rattle.medium.specs.Medium.{State}
+-- Records are copied home, call by call.
+use Rattle.std.proofs.Common.{◌≡◌, ◌≢◌, ◌<◌, ◌≤◌, ◌+◌, ◌*◌, ◌++◌, ℕ, List, [], ◌∷◌, length, drop, get_or, take, inl, inr, ⊎_elim}
+use Rattle.std.proofs.Common.{◌∙◌, sym, ap, refl, arith, Ok, Err, Result, true, false, Some, zero, suc}
+use Rattle.std.proofs.lemmas.Bool.{cases_eq, cases_lt}
+use Rattle.std.proofs.lemmas.List.{take_more, take_all, length-append, get_or_append_left, get_or_push}
+use Rattle.medium.specs.Medium.{State, Image}
 use Rattle.medium.specs.Performed.{Performed}
 use Rattle.medium.specs.declared.fault.MediumFault.{MediumFault}
 use Rattle.medium.specs.declared.medium_call.Call.TheVariants.{Read, Write}
 use Rattle.medium.proofs.Moments.{gains_within}
-use Rattle.journal.specs.Places.{Shape, first_home}
-use Rattle.journal.specs.Reading.{data_at}
+use Rattle.journal.specs.declared.log_format.LogFormat.{LogFormat}
 use Rattle.journal.specs.declared.record.Record.{Record}
-use Rattle.recovery.specs.Calls.{AreBlocks, IsHomeOf, freed_at}
-use Rattle.recovery.specs.Driven.{CopyView, HoldsCopied}
+use Rattle.journal.specs.declared.reader.RecordReader.{RecordReader}
+use Rattle.journal.specs.declared.naming_stage.NamingStage.TheVariants.{Named}
+use Rattle.journal.specs.Places.{Shape, first_home}
+use Rattle.journal.specs.Formats.{shape_of, IsWhole}
+use Rattle.journal.specs.Record.{Entry, numbers_of, with_records, home_of, block_of}
+use Rattle.journal.specs.Reading.{data_at, IsRead, IsReadFor}
+use Rattle.journal.specs.Naming.{IsKnown, Learns, naming_place}
+use Rattle.journal.proofs.Wholeness.{with_blocks-copied, with_records-append}
+use Rattle.recovery.specs.Calls.{IsHomeInRecords, freed_at, copy_calls, calls_of, AreCopied}
+use Rattle.recovery.specs.Copying.{CopyView, HoldsCopied, IsNextRecord, HasRead, HasWritten, IsRefusedStep, one_if}
+use Rattle.recovery.specs.Copying.{IsTakenOrPassed}
+use Rattle.recovery.specs.declared.copy_step.CopyStep.{CopyStep}
+use Rattle.recovery.proofs.JoinedCalls.{not_in_log, number_of, long_as}
 
-module _ {M : Type 0} {state : M → State} {shape : Shape} {read : Record} {stamp i : ℕ} {has_bytes : Bool} {had bytes got : List ℕ}
-    {view : CopyView M} {m n : M} (held : HoldsCopied state shape read stamp i has_bytes had view m) where
-  -- a read that was refused
-  pub unread : {place : ℕ} {result : Result (Unit {0}) MediumFault} → Performed (Read place) bytes got result (state m) (state n)
-      → HoldsCopied state shape read stamp i false got view n
-  unread performed = record {
-    shape_is = held.shape_is;
-    blocks_are = held.blocks_are;
-    stamp_is = held.stamp_is;
-    copied = λ k below. performed.changes _ ∙ held.copied k below;
-    elsewhere = λ x not. performed.changes x ∙ held.elsewhere x not;
-    within = λ x c left. held.within x c (performed.adds x c left);
-    half = λ e. cc e;
-  }
+-- one call more for each block of one more record
+copy_calls-append : (format : LogFormat) (records : List (List Entry)) (entries : List Entry)
+    → copy_calls format (records ++ entries ∷ []) ≡ copy_calls format records + calls_of format (length entries)
+copy_calls-append format [] entries = omega arith
+copy_calls-append format (r ∷ records) entries = let more = copy_calls-append format records entries in omega (arith, more)
 
-  -- a read, of a place in the log
-  pub read_on : {place : ℕ} → place ≡ data_at shape stamp i → place < first_home shape
-      → Performed (Read place) bytes got (Ok tt) (state m) (state n) → HoldsCopied state shape read stamp i true got view n
-  read_on {place = place} is low performed =
-      let same = unread performed in
-      let here : (state m).content place ≡ (state view.start).content place =
-      held.elsewhere place (λ home. let at = home.2 in omega (arith, low, at)) in
-      record {
-        shape_is = same.shape_is;
-        blocks_are = same.blocks_are;
-        stamp_is = same.stamp_is;
-        copied = same.copied;
-        elsewhere = same.elsewhere;
-        within = same.within;
-        half = λ e. rw is at (performed.done ∙ here);
-      }
+-- as many calls as it takes
+calls_made : (format : LogFormat) (shape : Shape) (image : Image) (stamp : ℕ) (read : Record) (n reads : ℕ)
+    → IsReadFor format shape image stamp (Some read) reads → length read.numbers.items ≡ n → reads + 2 * n ≡ calls_of format n
+calls_made format shape image stamp read n reads is long = grind arith
 
-  module _ (blocks : AreBlocks shape read.numbers.items) (below : i < length read.numbers.items) {place : ℕ}
-      (is : place ≡ first_home shape + get_or read.numbers.items i 0) where
-    others : {result : Result (Unit {0}) MediumFault} → Performed (Write place) bytes got result (state m) (state n)
-        → (x : ℕ) → x ≢ place → (state n).content x ≡ (state m).content x
-    others performed x not = ⊎_elim (λ stays. stays x) (λ holds. holds.elsewhere x not) performed.changes
+module _ {M : Type 0} {state : M → State} {reader : RecordReader} {step : CopyStep} {had : List ℕ} {view : CopyView M} {m : M}
+    (held : HoldsCopied state reader step had view m) where
+  abbrev shape : Shape
+  shape = shape_of view.sizes
 
-    -- a write that was refused
-    pub unwritten : {result : Result (Unit {0}) MediumFault} → Performed (Write place) bytes got result (state m) (state n)
-        → HoldsCopied state shape read stamp i false got view n
-    unwritten performed = record {
-      shape_is = held.shape_is;
-      blocks_are = held.blocks_are;
-      stamp_is = held.stamp_is;
-      copied = λ k before.
-          let up = blocks.rising k i before below in
-          others performed _ (λ e. omega (arith, e, is, up)) ∙ held.copied k before;
-      elsewhere = λ x not. others performed x (λ e. not (i, below, e ∙ is)) ∙ held.elsewhere x not;
-      within = gains_within (freed_at (IsHomeOf shape read.numbers.items) (state view.start).may_leave) _ _ place bytes
-          held.within performed.adds (λ x c here. inr (i, below, here.0 ∙ is));
-      half = λ e. cc e;
+  abbrev start : Image
+  start = (state view.start).content
+
+  -- the log is as it was
+  pub same_log : (x : ℕ) → x < first_home (shape_of view.sizes) → (state m).content x ≡ (state view.start).content x
+  same_log x below = held.elsewhere x (not_in_log shape start view.head (length view.records) x below)
+
+  -- ---- a read
+  module _ {bytes got : List ℕ} {n : M} {place : ℕ} {result : Result (Unit {0}) MediumFault}
+      (performed : Performed (Read place) bytes got result (state m) (state n)) where
+    read_holds : {next : RecordReader} {after : CopyStep} → next.sizes ≡ reader.sizes → next.stamp ≡ reader.stamp
+        → after.left ≡ step.left → after.i ≡ step.i
+        → ((k : ℕ) → k < step.i → get_or next.read.numbers.items k 0 ≡ get_or reader.read.numbers.items k 0)
+        → (reads : ℕ) → IsKnown (shape_of view.sizes) (state view.start).content next.stamp reads next.stage next.read
+        → (after.left ≡ 0 → (reads ≡ 0) × (after.i ≡ 0) × (after.has_bytes ≡ false))
+        → (after.has_bytes ≡ true → got ≡ (state view.start).content (data_at (shape_of view.sizes) next.stamp after.i))
+        → (state m).failures ≤ (state n).failures
+        → ((state n).failures ≡ (state view.start).failures → (state n).calls ≡ (state view.start).calls
+        + copy_calls view.sizes.format (take held.home view.records) + (reads + 2 * after.i + one_if after.has_bytes))
+        → HoldsCopied state next after got view n
+    read_holds {next} {after} sizes stamp left i numbers reads known ended half grow calls = record {
+      sizes_are = held.sizes_are ∙ sym sizes;
+      whole = held.whole;
+      home = held.home;
+      left_is = omega (arith, left, held.left_is);
+      stamp_is = stamp ∙ held.stamp_is;
+      reads = reads;
+      known = known;
+      ended = ended;
+      copied = λ k below.
+          let before : k < step.i = omega (arith, below, i) in
+          performed.changes _ ∙ rw (numbers k before) (held.copied k before);
+      others = λ none b not. performed.changes _
+          ∙ held.others (omega (arith, none, grow, held.failures_grow)) b (λ k below e. not k (omega (arith, below, i)) (numbers k below ∙ e));
+      elsewhere = λ x not. performed.changes x ∙ held.elsewhere x not;
+      within = λ x c left. held.within x c (performed.adds x c left);
+      half = half;
+      failures_grow = omega (arith, grow, held.failures_grow);
+      calls = calls;
     }
 
-    -- a write, of what was read with these in place of the first bytes
-    pub write_on : has_bytes ≡ true → bytes ≡ get_or read.firsts.items i [] ++ drop (length (get_or read.firsts.items i [])) had
-        → Performed (Write place) bytes got (Ok tt) (state m) (state n) → HoldsCopied state shape read stamp (i + 1) false got view n
-    write_on full bytes_are performed =
-        let same = unwritten performed in
-        record {
-          shape_is = same.shape_is;
-          blocks_are = same.blocks_are;
-          stamp_is = same.stamp_is;
-          copied = λ k before. elim (cases_eq k i) [
-            | inl here ↦ rw (here, ← is) (rw (bytes_are, held.half full) at performed.done.here)
-            | inr not ↦ same.copied k (omega (arith, before, not))
-          ];
-          elsewhere = same.elsewhere;
-          within = same.within;
-          half = λ e. cc e;
-        }
+  -- it was refused
+  pub unread : {bytes got : List ℕ} {n : M} {place : ℕ} {e : MediumFault} {next : RecordReader} {after : CopyStep}
+      → Performed (Read place) bytes got (Err e) (state m) (state n) → IsRefusedStep reader step next after
+      → HoldsCopied state next after got view n
+  unread {next = next} {after = after} performed gone =
+      let same = gone.reader_stays in
+      let failed = performed.passes.failures_are in
+      read_holds performed (ap (λ (r : RecordReader). r.sizes) same) (ap (λ (r : RecordReader). r.stamp) same) gone.left_stays
+      gone.i_stays (λ k below. ap (λ (r : RecordReader). get_or r.read.numbers.items k 0) same) held.reads (rw same held.known)
+      (λ none. let ended = held.ended (sym gone.left_stays ∙ none) in (ended.0, gone.i_stays ∙ ended.1, gone.no_bytes))
+      (λ e. cc (e, gone.no_bytes)) (omega (arith, failed))
+      (λ none. absurd (omega (arith, none, failed, held.failures_grow)))
 
-module _ {M : Type 0} {state : M → State} {shape : Shape} {blocks : Record} {stamp i : ℕ} {has_bytes : Bool} {had : List ℕ}
-    {view : CopyView M} {m : M} (held : HoldsCopied state shape blocks stamp i has_bytes had view m) where
-  as_same : {other : Shape} {others : Record} {at : ℕ} → other ≡ shape → others ≡ blocks → at ≡ stamp
-      → HoldsCopied state other others at i has_bytes had view m
-  as_same one two three = rw (one, two, three) held
+  -- the sector that names blocks was read
+  module _ {bytes got : List ℕ} {n : M} {place : ℕ} (performed : Performed (Read place) bytes got (Ok tt) (state m) (state n)) (due : 0 < step.left)
+      (low : place < first_home (shape_of reader.sizes)) where
+    read_of_log : got ≡ (state view.start).content place
+    read_of_log = performed.done ∙ same_log place (rw held.sizes_are low)
 
-  -- what they hold, of what they began with
-  pub as_begun : HoldsCopied state view.shape view.blocks view.stamp i has_bytes had view m
-  as_begun = as_same held.shape_is held.blocks_are held.stamp_is
+    module _ (is : place ≡ naming_place (shape_of reader.sizes) reader.stamp reader.stage) where
+      learned : {stage : _} {read : Record} → Learns (shape_of reader.sizes) reader.stamp reader.stage reader.read got stage read
+          → IsKnown (shape_of view.sizes) (state view.start).content reader.stamp (held.reads + 1) stage read
+      learned learns =
+          rw held.sizes_are (learns.knows start held.reads (rw (← is) read_of_log) (rw held.sizes_are at held.known))
+
+      pub took : {next : RecordReader} {after : CopyStep} → step.i ≡ 0 → step.has_bytes ≡ false
+          → IsTakenOrPassed reader step got next after → HoldsCopied state next after got view n
+      took {next} {after} first no_bytes (inl taken) =
+          let same = taken.step_stays in
+          read_holds performed taken.sizes_stay taken.stamp_stays (ap (λ (s : CopyStep). s.left) same)
+          (ap (λ (s : CopyStep). s.i) same) (λ k below. absurd (omega (arith, below, first))) (held.reads + 1)
+          (rw taken.stamp_stays (learned taken.learns))
+          (λ none. absurd (omega (arith, ap (λ (s : CopyStep). s.left) same, none, due)))
+          (λ e. cc (e, ap (λ (s : CopyStep). s.has_bytes) same, no_bytes)) (omega (arith, performed.passes.failures_are))
+          (λ none. rw (same, first, no_bytes)
+          (let before = rw (first, no_bytes) at (held.calls (omega (arith, none, performed.passes.failures_are))) in
+          omega (arith, before, performed.passes.calls_are)))
+      took {next} {after} first no_bytes (inr passed) =
+          -- the record is whole
+          let inside : held.home < length view.records = omega (arith, held.left_is, due) in
+          absurd ((learned passed.1).all (get_or view.records held.home []) (rw held.stamp_is (held.whole held.home inside)))
+
+    -- the bytes of a block were read
+    pub block_read : {next : RecordReader} {after : CopyStep} → place ≡ data_at (shape_of reader.sizes) reader.stamp step.i
+        → step.has_bytes ≡ false → HasRead reader step next after → HoldsCopied state next after got view n
+    block_read {next} {after} is no_bytes has =
+        let same = has.reader_stays in
+        read_holds performed (ap (λ (r : RecordReader). r.sizes) same) (ap (λ (r : RecordReader). r.stamp) same) has.left_stays
+        has.i_stays (λ k below. ap (λ (r : RecordReader). get_or r.read.numbers.items k 0) same) held.reads (rw same held.known)
+        (λ none. absurd (omega (arith, has.left_stays, none, due)))
+        (λ e. rw (same, has.i_stays, held.sizes_are, ← is) read_of_log) (omega (arith, performed.passes.failures_are))
+        (λ none. rw (has.i_stays, has.bytes)
+        (let before = rw no_bytes at (held.calls (omega (arith, none, performed.passes.failures_are))) in
+        omega (arith, before, performed.passes.calls_are)))
+
+  -- ---- a write
+  module _ (due : 0 < step.left) (named : reader.stage ≡ Named) (below : step.i < length reader.read.numbers.items) where
+    abbrev entries : List Entry
+    entries = get_or view.records held.home []
+
+    inside : held.home < length view.records
+    inside = omega (arith, held.left_is, due)
+
+    whole : IsWhole (shape_of view.sizes) (state view.start).content reader.stamp (get_or view.records held.home [])
+    whole = rw held.stamp_is (held.whole held.home inside)
+
+    -- this was read of it
+    is_read : IsRead (shape_of view.sizes) (state view.start).content reader.stamp (get_or view.records held.home []) reader.read
+    is_read = (rw named at held.known).all entries whole
+
+    abbrev numbers : List ℕ
+    numbers = reader.read.numbers.items
+
+    long : length reader.read.numbers.items ≡ length (get_or view.records held.home [])
+    long = long_as entries numbers is_read.numbers_are
+
+    rising : (k : ℕ) → k < step.i → get_or reader.read.numbers.items k 0 < get_or reader.read.numbers.items step.i 0
+    rising k before =
+        let up = whole.fit.rising k step.i before (omega (arith, below, long, long_as entries (numbers_of entries) refl)) in
+        rw is_read.numbers_are up
+
+    module _ {bytes got : List ℕ} {n : M} {place : ℕ}
+        (is : place ≡ first_home (shape_of reader.sizes) + get_or reader.read.numbers.items step.i 0)
+        {result : Result (Unit {0}) MediumFault} (performed : Performed (Write place) bytes got result (state m) (state n)) where
+      others : (x : ℕ) → x ≢ place → (state n).content x ≡ (state m).content x
+      others x not = ⊎_elim (λ stays. stays x) (λ holds. holds.elsewhere x not) performed.changes
+
+      here : place ≡ first_home (shape_of view.sizes) + get_or reader.read.numbers.items step.i 0
+      here = rw held.sizes_are is
+
+      at_home : IsHomeInRecords (shape_of view.sizes) (state view.start).content view.head (length view.records) place
+      at_home = (
+        held.home,
+        inside,
+        (
+          entries,
+          held.whole held.home inside,
+          (step.i, omega (arith, below, long, long_as entries (numbers_of entries) refl), rw (← is_read.numbers_are) here),
+        ),
+      )
+
+      copied_before : (k : ℕ) → k < step.i → (state n).content (first_home (shape_of view.sizes) + get_or reader.read.numbers.items k 0)
+          ≡ block_of (get_or view.records held.home []) k
+      copied_before k before = others _ (λ e. omega (arith, e, here, rising k before)) ∙ held.copied k before
+
+      elsewhere : (x : ℕ)
+          → ¬ IsHomeInRecords (shape_of view.sizes) (state view.start).content view.head (length view.records) x
+          → (state n).content x ≡ (state view.start).content x
+      elsewhere x not = others x (λ e. not (rw e at_home)) ∙ held.elsewhere x not
+
+      within : (x : ℕ) (c : List ℕ) → (state n).may_leave x c
+          → freed_at (IsHomeInRecords (shape_of view.sizes) (state view.start).content view.head (length view.records))
+          (state view.start).may_leave x c
+      within = gains_within (freed_at (IsHomeInRecords shape start view.head (length view.records)) (state view.start).may_leave) _ _
+          place bytes held.within performed.adds (λ x c both. inr (rw both.0 at_home))
+
+    -- it was refused
+    pub unwritten : {bytes got : List ℕ} {n : M} {place : ℕ} {e : MediumFault} {next : RecordReader} {after : CopyStep}
+        → place ≡ first_home (shape_of reader.sizes) + get_or reader.read.numbers.items step.i 0
+        → Performed (Write place) bytes got (Err e) (state m) (state n) → IsRefusedStep reader step next after
+        → HoldsCopied state next after got view n
+    unwritten {next = next} {after = after} is performed gone =
+        let same = gone.reader_stays in
+        let failed = performed.passes.failures_are in
+        rw same (record {
+          sizes_are = held.sizes_are;
+          whole = held.whole;
+          home = held.home;
+          left_is = omega (arith, gone.left_stays, held.left_is);
+          stamp_is = held.stamp_is;
+          reads = held.reads;
+          known = held.known;
+          ended = λ none. absurd (omega (arith, gone.left_stays, none, due));
+          copied = λ k before. copied_before is performed k (omega (arith, before, gone.i_stays));
+          others = λ none b not. absurd (omega (arith, none, failed, held.failures_grow));
+          elsewhere = elsewhere is performed;
+          within = within is performed;
+          half = λ e. cc (e, gone.no_bytes);
+          failures_grow = omega (arith, failed, held.failures_grow);
+          calls = λ none. absurd (omega (arith, none, failed, held.failures_grow));
+        })
+
+    -- it is written, and there is one more, or none
+    module _ {bytes got : List ℕ} {n : M} {place : ℕ}
+        (is : place ≡ first_home (shape_of reader.sizes) + get_or reader.read.numbers.items step.i 0)
+        (full : step.has_bytes ≡ true)
+        (bytes_are : bytes ≡ get_or reader.read.firsts.items step.i [] ++ drop (length (get_or reader.read.firsts.items step.i [])) had)
+        (performed : Performed (Write place) bytes got (Ok tt) (state m) (state n)) where
+      written : (state n).content (first_home (shape_of view.sizes) + get_or reader.read.numbers.items step.i 0)
+          ≡ block_of (get_or view.records held.home []) step.i
+      written =
+          let block = is_read.blocks_are step.i (omega (arith, below, long)) in
+          rw (← (here is performed)) (rw (bytes_are, held.half full) at performed.done.here ∙ block)
+
+      copied_on : (k : ℕ) → k < step.i + 1 → (state n).content (first_home (shape_of view.sizes) + get_or reader.read.numbers.items k 0)
+          ≡ block_of (get_or view.records held.home []) k
+      copied_on k before = elim (cases_eq k step.i) [
+        | inl same ↦ rw same written
+        | inr not ↦ copied_before is performed k (omega (arith, before, not))
+      ]
+
+      none_failed : (state n).failures ≡ (state view.start).failures → (state m).failures ≡ (state view.start).failures
+      none_failed none = omega (arith, none, performed.passes.failures_are)
+
+      others_on : (state n).failures ≡ (state view.start).failures → (b : ℕ)
+          → ((k : ℕ) → k < step.i + 1 → get_or reader.read.numbers.items k 0 ≢ b)
+          → (state n).content (first_home (shape_of view.sizes) + b)
+          ≡ with_records (take held.home view.records) (home_of (shape_of view.sizes) (state view.start).content) b
+      others_on none b not =
+          others is performed _ (λ e. not step.i (omega arith) (omega (arith, e, here is performed)))
+          ∙ held.others (none_failed none) b (λ k before. not k (omega (arith, before)))
+
+      pub block_written : {next : RecordReader} {after : CopyStep} → HasWritten reader step next after
+          → HoldsCopied state next after got view n
+      block_written {next = next} {after = after} has =
+          rw has.reader_stays (record {
+            sizes_are = held.sizes_are;
+            whole = held.whole;
+            home = held.home;
+            left_is = omega (arith, has.left_stays, held.left_is);
+            stamp_is = held.stamp_is;
+            reads = held.reads;
+            known = held.known;
+            ended = λ none. absurd (omega (arith, has.left_stays, none, due));
+            copied = λ k before. copied_on k (omega (arith, before, has.i_on));
+            others = λ none b not. others_on none b (λ k before. not k (omega (arith, before, has.i_on)));
+            elsewhere = elsewhere is performed;
+            within = within is performed;
+            half = λ e. cc (e, has.no_bytes);
+            failures_grow = omega (arith, performed.passes.failures_are, held.failures_grow);
+            calls = λ none. rw (has.i_on, has.no_bytes)
+                (let before = rw full at (held.calls (none_failed none)) in omega (arith, before, performed.passes.calls_are));
+          })
+
+      pub record_written : {next : RecordReader} {after : CopyStep} → length reader.read.numbers.items ≤ step.i + 1
+          → IsNextRecord reader step next after → HoldsCopied state next after got view n
+      record_written {next = next} {after = after} last goes =
+          let all : step.i + 1 ≡ length entries = omega (arith, last, below, long) in
+          let exact = calls_made view.sizes.format shape start reader.stamp reader.read (length entries) held.reads
+          (rw named at held.known).exact long in
+          record {
+            sizes_are = held.sizes_are ∙ sym goes.sizes_stay;
+            whole = held.whole;
+            home = held.home + 1;
+            left_is = omega (arith, goes.left_is, held.left_is);
+            stamp_is = omega (arith, goes.stamp_is, held.stamp_is);
+            reads = 0;
+            known = rw held.sizes_are (goes.unread.knows start);
+            ended = λ none. (refl, goes.from_first, goes.no_bytes);
+            copied = λ k before. absurd (omega (arith, before, goes.from_first));
+            others = λ none b not. rw (take_more view.records held.home [] inside)
+                (with_blocks-copied entries
+                (with_records (take held.home view.records) (home_of shape start))
+                (λ b. (state n).content (first_home shape + b))
+                (λ i before. rw (← (number_of entries numbers i is_read.numbers_are)) (copied_on i (omega (arith, before, all))))
+                (λ b not. others_on none b (λ k before e.
+                not k (omega (arith, before, all)) (sym (number_of entries numbers k is_read.numbers_are) ∙ e))) b
+                ∙ sym (with_records-append (take held.home view.records) entries (home_of shape start) b));
+            elsewhere = elsewhere is performed;
+            within = within is performed;
+            half = λ e. cc (e, goes.no_bytes);
+            failures_grow = omega (arith, performed.passes.failures_are, held.failures_grow);
+            calls = λ none. rw (goes.from_first, goes.no_bytes, take_more view.records held.home [] inside)
+                (let before = rw full at (held.calls (none_failed none)) in
+                omega (
+                  arith,
+                  before,
+                  performed.passes.calls_are,
+                  exact,
+                  all,
+                  copy_calls-append view.sizes.format (take held.home view.records) entries,
+                ));
+          }
+
+-- what holds of each stamp holds of each of a list
+pub gathered : (P : ℕ → List Entry → Type 0) (count : ℕ) → ((j : ℕ) → j < count → (entries : List Entry) × P j entries)
+    → (records : List (List Entry)) × (length records ≡ count) × ((j : ℕ) → j < count → P j (get_or records j []))
+gathered P zero each = ([], refl, λ j below. absurd (omega (arith, below)))
+gathered P (suc count) each =
+    let before = gathered P count (λ j below. each j (omega (arith, below))) in
+    let last = each count (omega arith) in (
+      before.0 ++ last.0 ∷ [],
+      omega (arith, before.1, length-append before.0 (last.0 ∷ [])),
+      λ j below. elim (cases_lt j count) [
+        | inl less ↦ rw (get_or_append_left before.0 (last.0 ∷ []) [] j (omega (arith, less, before.1))) (before.2 j less)
+        | inr more ↦
+            let same : j ≡ count = omega (arith, below, more) in rw (same, get_or_push before.0 last.0 [] count before.1) last.1
+      ],
+    )
+
+-- before the first call
+pub not_copied : {M : Type 0} {state : M → State} (reader : RecordReader) (step : CopyStep) (had : List ℕ) (view : CopyView M)
+    → view.sizes ≡ reader.sizes → reader.stamp ≡ view.head → step.left ≡ length view.records → step.i ≡ 0 → step.has_bytes ≡ false
+    → ((image : Image) → IsKnown (shape_of view.sizes) image reader.stamp 0 reader.stage reader.read)
+    → ((k : ℕ) → k < length view.records → IsWhole (shape_of view.sizes) (state view.start).content (view.head + k)
+    (get_or view.records k [])) → HoldsCopied state reader step had view view.start
+not_copied {state = state} reader step had view sizes stamp left first no_bytes known whole = record {
+  sizes_are = sizes;
+  whole = whole;
+  home = 0;
+  left_is = omega (arith, left);
+  stamp_is = omega (arith, stamp);
+  reads = 0;
+  known = known (state view.start).content;
+  ended = λ none. (refl, first, no_bytes);
+  copied = λ k below. absurd (omega (arith, below, first));
+  others = λ none b not. refl;
+  elsewhere = λ x not. refl;
+  within = λ x c left. inl left;
+  half = λ e. cc (e, no_bytes);
+  failures_grow = omega arith;
+  calls = λ none. rw (first, no_bytes) (omega arith);
+}
+
+-- behind the last one
+pub all_copied : {M : Type 0} {state : M → State} {reader : RecordReader} {step : CopyStep} {had : List ℕ} {view : CopyView M} {m : M}
+    → HoldsCopied state reader step had view m → step.left ≡ 0 → (state m).failures ≡ (state view.start).failures
+    → AreCopied (shape_of view.sizes) view.records (state view.start) (state m)
+all_copied {view = view} held none good =
+    let end = held.ended none in
+    let all = take_all held.home view.records (omega (arith, held.left_is, none)) in
+    let home = rw all at (held.others good) in
+    let calls = rw (all, end.1, end.2) at (held.calls good) in
+    record {
+      home = λ b. home b (λ k below. absurd (omega (arith, below, end.1)));
+      exact = omega (arith, calls, end.0);
+    }

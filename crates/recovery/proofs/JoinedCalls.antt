@@ -169,36 +169,6 @@ quiet_before P old mid quiet h =
 pub quiet_after : (P : ℕ → Image → Type 0) (old mid : State) → IsQuiet old mid → P old.size old.content → P mid.size mid.content
 quiet_after P old mid quiet = quiet_before (λ n i. P n i → P mid.size mid.content) old mid quiet (λ h. h)
 
--- copies
-pub copies_on : {X Y Z : Type 0} {more all P Q : ℕ → Type 0} {few many most less much sends : ℕ} {old mid new : State}
-    {one : Result X MediumFault} {two : Result Y MediumFault} {result : Result Z MediumFault} → IsSound mid
-    → ((x : ℕ) → more x → all x)
-    → ((s : ℕ) → Q s → P s) → Copies all P few less old mid one → Copies more Q many much mid new two → few + many ≤ most
-    → less + much ≤ sends → IfErr result (IsRefusedCall old new) → Copies all P most sends old new result
-copies_on {all = all} {old = old} {mid = mid} sound f wider first second fit few cause =
-    let freed = freed_at all old.may_leave in
-    let moments = joined_same (CutLeaves freed) _ _ _ first.moments
-    (weaker _ _ _ _ (λ image cut s. ⊎_elim (sets_within freed old mid sound first.moments s (image s)) (λ p. inr (f s p)) (cut s))
-    second.moments) in
-    let elsewhere = λ (x : ℕ) (not : ¬ all x). second.elsewhere x (λ h. not (f x h)) ∙ first.elsewhere x not in
-    search (rules, elsewhere, moments, looks_joined _ _ _ _ first.looks (looks_wider _ _ _ _ wider second.looks))
-
--- reads copy nothing
-pub none_copies : {M X Y : Type 0} {state : M → State} {Follows : M → M → Type 0} {places reads : ℕ → Type 0}
-    {F : State → State → X → Type 0} {few most sends : ℕ} {old new : M} {one : Result X MediumFault} {result : Result Y MediumFault}
-    → IsSound (state old) → LooksUp state Follows few reads F old new one → few ≤ most
-    → IfErr result (IsRefusedCall (state old) (state new)) → Copies places reads most sends (state old) (state new) result
-none_copies {state = state} {places = places} {old = old} {new = new} sound looked fit cause =
-    let moments = quiet_leaves (CutLeaves (freed_at places (state old).may_leave)) _ _ sound (λ image cut s. inl (cut s))
-    looked.passes.quiet in
-    search (rules, moments, none_sent (state old) (state new) looked.passes.reads, looked.follows.1)
-
--- nor does no call
-pub none_made : {places reads : ℕ → Type 0} {most sends : ℕ} {m : State} → IsSound m
-    → Copies {X = Unit {0}} places reads most sends m m (Ok tt)
-none_made {places = places} {m = m} sound =
-    search (rules, started_within (freed_at places m.may_leave) m sound (λ s c left. inl left), no_looks)
-
 -- the calls for a few and for one more
 pub one_more : (each few many : ℕ) → few < many → each * few + each ≤ each * many
 one_more each few many less = omega (arith, mul-le-mul_left {m = few + 1} {n = many} each (omega arith))

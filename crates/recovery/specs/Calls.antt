@@ -108,12 +108,6 @@ pub record Writes {X : Type 0} (P : Image → Type 0) (end count : ℕ) (old new
   pub reads : ReadsNothing old new
   pub cause : IfErr result (IsRefusedCall old new)
 
--- The block numbers of a record in a log of this shape.
-pub record AreBlocks (shape : Shape) (numbers : List ℕ) : Type 0 where
-  pub few : length numbers ≤ limit_of shape.format
-  pub rising : IsRising numbers
-  pub inside : All (λ b. b < shape.blocks) numbers
-
 -- one of these blocks is at home in the sector
 abbrev pub IsHomeOf : Shape → List ℕ → ℕ → Type 0
 IsHomeOf shape numbers x = (i : ℕ) × (i < length numbers)

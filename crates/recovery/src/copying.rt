@@ -1,85 +1,145 @@
-//! The copying of a record's blocks home, call by call.
-ghost use Rattle.std.specs.Prelude.{◌≡◌, ◌<◌, ◌≤◌, ◌+◌, ◌-◌, length, true, false};
+//! The copying of whole records home, call by call.
+ghost use Rattle.std.specs.Prelude.{◌≡◌, ◌<◌, ◌≤◌, ◌+◌, ◌^◌, length, false};
 ghost use Rattle.medium.specs.Medium.{CutLeaves};
 ghost use Rattle.journal.specs.Formats.{shape_of};
 ghost use Rattle.journal.specs.Places.{first_home, sectors_of};
-ghost use Rattle.recovery.specs.Calls.{AreBlocks, IsHomeOf, freed_at};
-ghost use Rattle.recovery.specs.Driven.{CopyView, HoldsCopied, copies_left, IsCopyStep};
+ghost use Rattle.journal.specs.Naming.{IsReading, IsUnread};
+ghost use Rattle.journal.specs.declared.naming_stage.NamingStage.TheVariants.{Named};
+ghost use Rattle.recovery.specs.Calls.{IsHomeInRecords, freed_at};
+ghost use Rattle.recovery.specs.Copying.{CanCopy, CopyView, HoldsCopied, copies_left, IsCopyStep};
+ghost use Rattle.recovery.specs.Copying.{IsRefusedStep, IsTakenOrPassed, IsBlockStep};
 
-use journal::{Record, Super, copy_place, slot_of};
+use crate::copy_step::CopyStep;
+use journal::{NamingStage, RecordReader, copy_place, slot_of};
 use medium::{Call, Machine, Medium};
 
-/// The blocks of a record are to be copied home from this one on, each by a read and a write.
+/// Whole records are to be copied home from this one on: what names the blocks of each is read, and
+/// then each block is read and written.
 #[derive(Drop)]
-pub(crate) struct Copying<'a> {
-    pub sizes: Super,
-    pub stamp: u64,
-    pub read: &'a Record,
-    pub i: usize,
-    /// The bytes of this block in the log were read.
-    pub has_bytes: bool,
-    ghost blocks: { AreBlocks (shape_of sizes) read.now.numbers.items },
+pub(crate) struct Copying {
+    pub reader: RecordReader,
+    pub step: CopyStep,
+    ghost goes: { CanCopy reader step },
 }
 
-impl<'a, M: Medium> Machine<M> for Copying<'a> {
-    ghost View = { CopyView M };
-
-    ghost fits = { λ s size. sectors_of (shape_of s.sizes) ≤ size };
-
-    ghost holds = { λ s had m view. HoldsCopied M.state (shape_of s.sizes) s.read.now s.stamp
-        s.i s.has_bytes had view m };
-
-    ghost may = { λ view image. CutLeaves (freed_at
-        (IsHomeOf view.shape view.blocks.numbers.items) (M.state view.start).may_leave) image };
-
-    ghost reads = { λ s. first_home (shape_of s.sizes) };
-
-    ghost ends = { λ s. sectors_of (shape_of s.sizes) };
-
-    ghost cost = { λ s. copies_left (length s.read.now.numbers.items - s.i) s.has_bytes };
-
-    ghost exact = { Unit {0} };
-
-    ghost due = { λ s. s.i < length s.read.now.numbers.items };
-
-    ghost after = { λ s got t. (t.sizes ≡ s.sizes) × (t.stamp ≡ s.stamp) × (t.read.now ≡ s.read.now)
-        × IsCopyStep s.i s.has_bytes t.i t.has_bytes };
-
-    ghost gone = { λ s t. (t.sizes ≡ s.sizes) × (t.stamp ≡ s.stamp) × (t.read.now ≡ s.read.now)
-        × (t.i ≡ s.i) × (t.has_bytes ≡ false) };
-
-    fn next(&self, sector: &mut [u8; 512]) -> Option<Call> {
-        if self.i >= self.read.numbers.len() {
-            return None;
+impl Copying {
+    // A sector was read that names blocks.
+    fn take(&mut self, sector: &[u8; 512])
+        requires reading { IsReading self.old.reader.stage }
+        requires left { 0 < self.old.step.left }
+        ensures { IsTakenOrPassed self.old.reader self.old.step sector.now self.new.reader
+            self.new.step }
+    {
+        self.reader.take(sector);
+        match self.reader.stage {
+            NamingStage::Missing => {
+                self.reader = reader_behind(&self.reader);
+                self.step = first_step(self.step.left - 1);
+            }
+            _ => {}
         }
-        if !self.has_bytes {
-            let slot = slot_of(self.stamp, self.sizes.slots);
-            return Some(Call::Read(copy_place(self.sizes.format, slot, self.i)));
-        }
-        let first = self.read.first(self.i);
-        sector[..first.len()].copy_from_slice(first);
-        Some(Call::Write(self.sizes.home_of(self.read.numbers[self.i])))
     }
 
-    fn made(&mut self, _: &[u8; 512]) {
-        if self.has_bytes {
-            self.i += 1;
+    // A block was read, or it was written.
+    fn block_on(&mut self)
+        requires named { self.old.reader.stage ≡ Named }
+        requires left { 0 < self.old.step.left }
+        ensures { IsBlockStep self.old.step.has_bytes self.old.reader self.old.step
+            self.new.reader self.new.step }
+    {
+        if !self.step.has_bytes {
+            self.step.has_bytes = true;
+        } else if self.step.i + 1 < self.reader.read.numbers.len() {
+            self.step.i += 1;
+            self.step.has_bytes = false;
+        } else {
+            self.reader = reader_behind(&self.reader);
+            self.step = first_step(self.step.left - 1);
         }
-        self.has_bytes = !self.has_bytes;
+    }
+}
+
+// A reader of the record behind this one.
+fn reader_behind(reader: &RecordReader) -> RecordReader
+    requires { reader.now.stamp + 1 < 2 ^ 63 }
+    ensures of { (result.sizes ≡ reader.now.sizes) × (result.stamp ≡ reader.now.stamp + 1) }
+    ensures unread { IsUnread (shape_of reader.now.sizes) result.stamp result.stage result.read }
+{
+    RecordReader::new(&reader.sizes, reader.stamp + 1)
+}
+
+// The first block of a record, of which so many are left.
+pub(crate) fn first_step(left: u64) -> CopyStep
+    ensures { (result.left ≡ left) × (result.i ≡ 0) × (result.has_bytes ≡ false) }
+{
+    CopyStep {
+        left,
+        i: 0,
+        has_bytes: false,
+    }
+}
+
+impl<M: Medium> Machine<M> for Copying {
+    ghost View = { CopyView M };
+
+    ghost fits = { λ s size. sectors_of (shape_of s.reader.sizes) ≤ size };
+
+    ghost holds = { λ s had m view. HoldsCopied M.state s.reader s.step had view m };
+
+    ghost may = { λ view image. CutLeaves (freed_at (IsHomeInRecords (shape_of view.sizes)
+        (M.state view.start).content view.head (length view.records))
+        (M.state view.start).may_leave) image };
+
+    ghost reads = { λ s. first_home (shape_of s.reader.sizes) };
+
+    ghost ends = { λ s. sectors_of (shape_of s.reader.sizes) };
+
+    ghost cost = { λ s. copies_left s.reader s.step };
+
+    ghost exact = { ⊥ };
+
+    ghost due = { λ s. 0 < s.step.left };
+
+    ghost after = { λ s got t. IsCopyStep s.reader s.step got t.reader t.step };
+
+    ghost gone = { λ s t. IsRefusedStep s.reader s.step t.reader t.step };
+
+    fn next(&self, sector: &mut [u8; 512]) -> Option<Call> {
+        if self.step.left == 0 {
+            return None;
+        }
+        if let Some(place) = self.reader.next() {
+            return Some(Call::Read(place));
+        }
+        let sizes = &self.reader.sizes;
+        let i = self.step.i;
+        if !self.step.has_bytes {
+            let slot = slot_of(self.reader.stamp, sizes.slots);
+            return Some(Call::Read(copy_place(sizes.format, slot, i)));
+        }
+        let first = self.reader.read.first(i);
+        sector[..first.len()].copy_from_slice(first);
+        Some(Call::Write(sizes.home_of(self.reader.read.numbers[i])))
+    }
+
+    fn made(&mut self, sector: &[u8; 512]) {
+        match self.reader.next() {
+            Some(_) => self.take(sector),
+            None => self.block_on(),
+        }
     }
 
     fn refused(&mut self) {
-        self.has_bytes = false;
+        self.step.has_bytes = false;
     }
 
-    ghost leaves = { λ s had m view holds image cut. λ x. rw (holds.shape_is, holds.blocks_are)
-        (holds.within x (image x) (cut x)) };
+    ghost leaves = { λ s had m view holds image cut. λ x. holds.within x (image x) (cut x) };
 
     ghost room = { λ s size fits. fits };
 
     ghost goes_on = { λ s t got due after. record {
-      reads_stay = rw after.0 (λ i. first_home (shape_of s.sizes));
-      ends_stay = rw after.0 (λ i. sectors_of (shape_of s.sizes));
-      fits_still = λ size fits. rw after.0 fits;
+      reads_stay = rw after.sizes_stay (λ i. first_home (shape_of s.reader.sizes));
+      ends_stay = rw after.sizes_stay (λ i. sectors_of (shape_of s.reader.sizes));
+      fits_still = λ size fits. rw after.sizes_stay fits;
     } };
 }

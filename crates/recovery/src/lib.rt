@@ -3,6 +3,7 @@
 
 mod clearing;
 mod copies;
+mod copy_step;
 mod copying;
 mod format_fault;
 mod formatting;

@@ -1,71 +1,95 @@
-use Rattle.std.proofs.Common.{◌≡◌, ◌<◌, ◌+◌, ◌-◌, ◌*◌, ◌%◌, ◌++◌, ℕ, [], length, drop, get_or, ap, refl, ◌∙◌, arith, true, false}
+use Rattle.std.proofs.Common.{◌≡◌, ◌<◌, ◌≤◌, ◌+◌, ◌*◌, ◌%◌, ◌++◌, ℕ, [], length, drop, get_or, ap, refl, ◌∙◌, arith, true, false}
 use Rattle.std.proofs.lemmas.Nat.{mod_below}
-use Rattle.medium.specs.Tally.{Tally}
-use Rattle.journal.specs.Places.{first_home, first_data_of}
+use Rattle.journal.specs.declared.naming_stage.NamingStage.TheVariants.{Named}
+use Rattle.journal.specs.Places.{first_home, first_data_of, limit_of}
 use Rattle.journal.specs.Formats.{layout_of, shape_of}
 use Rattle.journal.specs.Reading.{data_at}
 use Rattle.journal.proofs.SectorsRead.{place_before}
-use Rattle.recovery.specs.Driven.{IsCopyStep}
-use Rattle.medium.proofs.Driving.{left_all}
-use Rattle.recovery.proofs.CopiedBlocks.{unread, read_on, unwritten, write_on}
+use Rattle.recovery.specs.Copying.{IsBlockStep, HasRead}
+use Rattle.recovery.proofs.CopiedBlocks.{unread, took, block_read, unwritten, block_written, record_written}
+use Rattle.recovery.proofs.CopyTally.{naming_pays, naming_left, block_pays, block_left, home_pays, home_left, is_named}
+use Rattle.std.proofs.Common.{⊎_elim, Bool, subst}
 use Rattle.recovery.proofs.copying.CopyingMachine.next.Goals as goal
+
+pub returns-in-Some : goal.returns-in-Some
+returns-in-Some g c =
+    let s = c.args.self.now in
+    let asked = c.in-Some.ensures in
+    let due : 0 < s.step.left = omega (arith, c.if-self-eq0.false) in
+    let first = s.goes.unnamed (λ is. rw is at asked.0) in
+    record {
+      due = due;
+      within = omega (arith, asked.1);
+      looks = asked.1;
+      made = λ m n got view next fits held performed after.
+          took held performed due asked.1 asked.2 first.0 first.1 (after.reading asked.0);
+      refused = λ m n got view next e fits held performed gone. unread held performed gone;
+      rest = _;
+      pays = naming_pays s.reader s.step due asked.0;
+      rests = λ got next after. naming_left s.reader s.step due asked.0 (λ e. e) after.sizes_stay (after.reading asked.0);
+    }
 
 pub returns-then-not-self : goal.returns-then-not-self
 returns-then-not-self g c =
     let s = c.args.self.now in
-    let left = length s.read.now.numbers.items - s.i in
-    let due : s.i < length s.read.now.numbers.items = omega (arith, c.if-self-len.false, c.len.ensures.value) in
-    let one : left ≡ left - 1 + 1 = omega (arith, due) in
-    let unread_yet : s.has_bytes ≡ false = c.if-not-self.true in
-    let is : c.copy_place.result ≡ data_at (shape_of s.sizes) s.stamp s.i = c.copy_place.ensures
-    ∙ ap (λ (k : ℕ). 2 + (layout_of s.sizes.format).slot_sectors * k + first_data_of s.sizes.format + s.i) c.slot_of-slot.ensures in
-    let low = place_before s.sizes.format s.sizes.slots s.sizes.home (s.stamp % s.sizes.slots) s.i s.sizes.home_is
-    (mod_below s.stamp s.sizes.slots s.sizes.some_slots) (omega (arith, due, s.blocks.few)) in
-    let below : c.copy_place.result < first_home (shape_of s.sizes) = omega (arith, is, low) in
-    let tally : ℕ → Tally = λ n. record { reads = n; writes = left; flushes = 0 } in
+    let r = s.reader in
+    let due : 0 < s.step.left = omega (arith, c.if-self-eq0.false) in
+    let named : s.reader.stage ≡ Named = is_named s.reader.stage c.in_default.ensures s.goes.there in
+    let below = s.goes.named named in
+    let inside : length s.reader.read.numbers.items ≤ limit_of s.reader.sizes.format = (s.reader.reads.named named).few in
+    let no_bytes : s.step.has_bytes ≡ false = c.if-not-self.true in
+    let is : c.copy_place.result ≡ data_at (shape_of r.sizes) r.stamp s.step.i = c.copy_place.ensures
+    ∙ ap (λ (k : ℕ). 2 + (layout_of r.sizes.format).slot_sectors * k + first_data_of r.sizes.format + s.step.i)
+    c.slot_of-slot.ensures in
+    let low = place_before r.sizes.format r.sizes.slots r.sizes.home (r.stamp % r.sizes.slots) s.step.i r.sizes.home_is
+    (mod_below r.stamp r.sizes.slots r.sizes.some_slots) (omega (arith, below, inside)) in
+    let lies : c.copy_place.result < first_home (shape_of r.sizes) = omega (arith, is, low) in
     record {
       due = due;
-      within = omega (arith, below);
-      looks = below;
+      within = omega (arith, lies);
+      looks = lies;
       made = λ m n got view next fits held performed after.
-          let step : IsCopyStep s.i false next.i next.has_bytes = rw unread_yet at after.3 in
-          rw (after.0, after.1, after.2, step.0, step.1) (read_on held is below performed);
-      refused = λ m n got view next e fits held performed gone.
-          rw (gone.0, gone.1, gone.2, gone.3, gone.4) (unread held performed);
-      rest = tally (left - 1);
-      pays = rw unread_yet (ap tally one);
+          let has : HasRead s.reader s.step next.reader next.step = subst (λ (b : Bool). IsBlockStep b s.reader s.step next.reader next.step)
+          no_bytes (after.copying named) in
+          block_read held performed due lies is no_bytes has;
+      refused = λ m n got view next e fits held performed gone. unread held performed gone;
+      rest = _;
+      pays = block_pays s.reader s.step due named below inside no_bytes;
       rests = λ got next after.
-          let step : IsCopyStep s.i false next.i next.has_bytes = rw unread_yet at after.3 in
-          left_all (rw (after.2, step.0, step.1) refl);
+          let has : HasRead s.reader s.step next.reader next.step = subst (λ (b : Bool). IsBlockStep b s.reader s.step next.reader next.step)
+          no_bytes (after.copying named) in
+          block_left s.reader s.step due named below inside (λ e. e) no_bytes has;
     }
 
 pub returns : goal.returns
 returns g c =
     let s = c.args.self.now in
-    let left = length s.read.now.numbers.items - s.i in
-    let due : s.i < length s.read.now.numbers.items = omega (arith, c.if-self-len.false, c.len.ensures.value) in
-    let one : left ≡ left - 1 + 1 = omega (arith, due) in
-    let next_left : length s.read.now.numbers.items - (s.i + 1) ≡ left - 1 = omega arith in
-    let full : s.has_bytes ≡ true = c.if-not-self.false in
-    let is : c.home_of.result ≡ first_home (shape_of s.sizes) + get_or s.read.now.numbers.items s.i 0 =
+    let r = s.reader in
+    let due : 0 < s.step.left = omega (arith, c.if-self-eq0.false) in
+    let named : s.reader.stage ≡ Named = is_named s.reader.stage c.in_default.ensures s.goes.there in
+    let below = s.goes.named named in
+    let names = s.reader.reads.named named in
+    let full : s.step.has_bytes ≡ true = c.if-not-self.false in
+    let is : c.home_of.result ≡ first_home (shape_of r.sizes) + get_or r.read.numbers.items s.step.i 0 =
     rw c.deref.ensures.0 at c.home_of.ensures in
-    let inside = s.blocks.inside s.i 0 due in
-    let first = get_or s.read.now.firsts.items s.i [] in
+    let inside = names.inside s.step.i 0 below in
+    let first = get_or r.read.firsts.items s.step.i [] in
     let bytes_are : c.copy_from_slice.new.self ++ drop (length c.first-first.result.now) c.args.sector.now
     ≡ first ++ drop (length first) c.args.sector.now = rw (c.copy_from_slice.ensures.after, c.first-first.ensures.is) refl in
-    let tally : ℕ → ℕ → Tally = λ r w. record { reads = r; writes = w; flushes = 0 } in
     record {
       due = due;
       within = omega (arith, is, inside);
       looks = tt;
       made = λ m n got view next fits held performed after.
-          let step : IsCopyStep s.i true next.i next.has_bytes = rw full at after.3 in
-          rw (after.0, after.1, after.2, step.0, step.1) (write_on held s.blocks due is full bytes_are performed);
-      refused = λ m n got view next e fits held performed gone.
-          rw (gone.0, gone.1, gone.2, gone.3, gone.4) (unwritten held s.blocks due is performed);
-      rest = tally (left - 1) (left - 1);
-      pays = rw full (ap (tally (left - 1)) one);
+          let went : IsBlockStep true s.reader s.step next.reader next.step = subst (λ (b : Bool). IsBlockStep b s.reader s.step next.reader next.step)
+          full (after.copying named) in
+          ⊎_elim (λ has. block_written held due named below is full bytes_are performed has)
+          (λ last. record_written held due named below is full bytes_are performed last.0 last.1) went;
+      refused = λ m n got view next e fits held performed gone. unwritten held due named below is performed gone;
+      rest = _;
+      pays = home_pays s.reader s.step due named below names.few;
       rests = λ got next after.
-          let step : IsCopyStep s.i true next.i next.has_bytes = rw full at after.3 in
-          left_all (rw (after.2, step.0, step.1) (ap (λ (n : ℕ). tally n n) next_left));
+          let went : IsBlockStep true s.reader s.step next.reader next.step = subst (λ (b : Bool). IsBlockStep b s.reader s.step next.reader next.step)
+          full (after.copying named) in
+          home_left s.reader s.step due named below names.few (λ e. e) full after.sizes_stay went;
     }

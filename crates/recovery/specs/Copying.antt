@@ -1,0 +1,162 @@
+-- What the copying of records home and a medium hold between two calls.
+use Rattle.std.specs.Prelude.{◌≡◌, ◌≢◌, ◌⊎◌, ℕ, ◌+◌, ◌*◌, ◌-◌, ◌≤◌, ◌<◌, ◌^◌, List, [], length, get_or, take}
+use Rattle.std.specs.Prelude.{slice_index, Bool, true, false}
+use Rattle.medium.specs.Medium.{State, Within}
+use Rattle.medium.specs.Tally.{Tally}
+use Rattle.journal.specs.declared.log_format.LogFormat.{LogFormat}
+use Rattle.journal.specs.declared.record.Record.{Record}
+use Rattle.journal.specs.declared.reader.RecordReader.{RecordReader}
+use Rattle.journal.specs.declared.super_sector.Super.{Super}
+use Rattle.journal.specs.declared.naming_stage.NamingStage.{NamingStage}
+use Rattle.journal.specs.declared.naming_stage.NamingStage.TheVariants as stage
+use Rattle.journal.specs.Naming.{IsReading, IsUnread, Learns, IsKnown, names_left}
+use Rattle.journal.specs.Places.{first_home, limit_of}
+use Rattle.journal.specs.Record.{Entry, with_records, home_of, block_of}
+use Rattle.journal.specs.Formats.{shape_of, IsWhole}
+use Rattle.journal.specs.Reading.{data_at, record_reads_of}
+use Rattle.recovery.specs.Calls.{IsHomeInRecords, freed_at, copy_calls}
+use Rattle.recovery.specs.declared.copy_step.CopyStep.{CopyStep}
+
+-- what a machine that copies holds, whatever it read
+pub record CanCopy (reader : RecordReader) (step : CopyStep) : Type 0 where
+  pub stamps : reader.stamp + step.left < 2 ^ 63
+  pub there : reader.stage ≢ stage.Missing
+  pub named : reader.stage ≡ stage.Named → step.i < length reader.read.numbers.items
+  pub unnamed : reader.stage ≢ stage.Named → (step.i ≡ 0) × (step.has_bytes ≡ false)
+
+-- one call, or none
+abbrev pub one_if : Bool → ℕ
+one_if true = 1
+one_if false = 0
+
+-- Of the calls that a record may take at most some are made, or spared it: reads, and writes.
+abbrev pub reads_spent : LogFormat → NamingStage → ℕ → ℕ → Bool → ℕ
+reads_spent format stage.Named n i has_bytes =
+    record_reads_of format + (limit_of format - (n - i)) + one_if has_bytes
+reads_spent format at n i has_bytes = record_reads_of format - names_left at
+
+abbrev pub writes_spent : LogFormat → NamingStage → ℕ → ℕ → ℕ
+writes_spent format stage.Named n i = limit_of format - (n - i)
+writes_spent format at n i = 0
+
+-- what is left of the calls of this many records
+abbrev pub calls_left : LogFormat → ℕ → ℕ → ℕ → Tally
+calls_left format left reads writes = record {
+  reads = (record_reads_of format + limit_of format) * left - reads;
+  writes = limit_of format * left - writes;
+  flushes = 0;
+}
+
+abbrev pub copies_left : RecordReader → CopyStep → Tally
+copies_left reader step = calls_left reader.sizes.format step.left
+    (reads_spent reader.sizes.format reader.stage (length reader.read.numbers.items) step.i
+    step.has_bytes)
+    (writes_spent reader.sizes.format reader.stage (length reader.read.numbers.items) step.i)
+
+-- the record is home, and the next one is to be read
+pub record IsNextRecord (reader : RecordReader) (step : CopyStep) (next : RecordReader)
+    (after : CopyStep) : Type 0 where
+  pub sizes_stay : next.sizes ≡ reader.sizes
+  pub stamp_is : next.stamp ≡ reader.stamp + 1
+  pub unread : IsUnread (shape_of reader.sizes) next.stamp next.stage next.read
+  pub left_is : after.left + 1 ≡ step.left
+  pub from_first : after.i ≡ 0
+  pub no_bytes : after.has_bytes ≡ false
+
+-- the reader took a sector, and the record goes on
+pub record IsTaken (reader : RecordReader) (step : CopyStep) (got : List ℕ) (next : RecordReader)
+    (after : CopyStep) : Type 0 where
+  pub sizes_stay : next.sizes ≡ reader.sizes
+  pub stamp_stays : next.stamp ≡ reader.stamp
+  pub learns : Learns (shape_of reader.sizes) reader.stamp reader.stage reader.read got next.stage
+      next.read
+  pub step_stays : after ≡ step
+
+-- so; or it found that the record is not whole, which is passed over
+abbrev pub IsTakenOrPassed : RecordReader → CopyStep → List ℕ → RecordReader → CopyStep → Type 0
+IsTakenOrPassed reader step got next after = IsTaken reader step got next after
+    ⊎ ((read : Record) × Learns (shape_of reader.sizes) reader.stamp reader.stage reader.read got
+    stage.Missing read × IsNextRecord reader step next after)
+
+-- the bytes of a block were read
+pub record HasRead (reader : RecordReader) (step : CopyStep) (next : RecordReader)
+    (after : CopyStep) : Type 0 where
+  pub reader_stays : next ≡ reader
+  pub left_stays : after.left ≡ step.left
+  pub i_stays : after.i ≡ step.i
+  pub bytes : after.has_bytes ≡ true
+
+-- it was written, and there is one more
+pub record HasWritten (reader : RecordReader) (step : CopyStep) (next : RecordReader)
+    (after : CopyStep) : Type 0 where
+  pub reader_stays : next ≡ reader
+  pub left_stays : after.left ≡ step.left
+  pub i_on : after.i ≡ step.i + 1
+  pub more : step.i + 1 < length reader.read.numbers.items
+  pub no_bytes : after.has_bytes ≡ false
+
+-- so, or it was the last one
+abbrev pub IsBlockStep : Bool → RecordReader → CopyStep → RecordReader → CopyStep → Type 0
+IsBlockStep false reader step next after = HasRead reader step next after
+IsBlockStep true reader step next after = HasWritten reader step next after
+    ⊎ ((length reader.read.numbers.items ≤ step.i + 1) × IsNextRecord reader step next after)
+
+-- the next call was made
+pub record IsCopyStep (reader : RecordReader) (step : CopyStep) (got : List ℕ)
+    (next : RecordReader) (after : CopyStep) : Type 0 where
+  pub sizes_stay : next.sizes ≡ reader.sizes
+  pub reading : IsReading reader.stage → IsTakenOrPassed reader step got next after
+  pub copying : reader.stage ≡ stage.Named → IsBlockStep step.has_bytes reader step next after
+
+-- it was refused: a block is read again
+pub record IsRefusedStep (reader : RecordReader) (step : CopyStep) (next : RecordReader)
+    (after : CopyStep) : Type 0 where
+  pub reader_stays : next ≡ reader
+  pub left_stays : after.left ≡ step.left
+  pub i_stays : after.i ≡ step.i
+  pub no_bytes : after.has_bytes ≡ false
+
+-- the medium when these records, from the head on, began to be copied home
+pub record CopyView (M : Type 0) : Type 0 where
+  pub start : M
+  pub sizes : Super
+  pub head : ℕ
+  pub records : List (List Entry)
+
+-- The records before this one are home, and of this one the blocks before the next. A cut may leave
+-- anything where a block of the records is at home. Between its read and its write the lent sector
+-- has what the log has of a block.
+pub record HoldsCopied {M : Type 0} (state : M → State) (reader : RecordReader) (step : CopyStep)
+    (had : List ℕ) (view : CopyView M) (m : M) : Type 0 where
+  pub sizes_are : view.sizes ≡ reader.sizes
+  pub whole : (k : ℕ) → k < length view.records → IsWhole (shape_of view.sizes)
+      (state view.start).content (view.head + k) (get_or view.records k [])
+  -- so many records are home
+  pub home : ℕ
+  pub left_is : home + step.left ≡ length view.records
+  pub stamp_is : reader.stamp ≡ view.head + home
+  -- and so many sectors that name the blocks of this one were read
+  pub reads : ℕ
+  pub known : IsKnown (shape_of view.sizes) (state view.start).content reader.stamp reads
+      reader.stage reader.read
+  pub ended : step.left ≡ 0 → (reads ≡ 0) × (step.i ≡ 0) × (step.has_bytes ≡ false)
+  pub copied : (k : ℕ) → k < step.i
+      → (state m).content (first_home (shape_of view.sizes)
+      + slice_index reader.read.numbers.items k) ≡ block_of (get_or view.records home []) k
+  -- where no call was refused, the others are those of the records before
+  pub others : (state m).failures ≡ (state view.start).failures → (b : ℕ)
+      → ((k : ℕ) → k < step.i → slice_index reader.read.numbers.items k ≢ b) → (state m).content (first_home (shape_of view.sizes) + b)
+      ≡ with_records (take home view.records)
+      (home_of (shape_of view.sizes) (state view.start).content) b
+  pub elsewhere : (x : ℕ) → ¬ IsHomeInRecords (shape_of view.sizes) (state view.start).content
+      view.head (length view.records) x → (state m).content x ≡ (state view.start).content x
+  pub within : Within (state m).may_leave (freed_at (IsHomeInRecords (shape_of view.sizes)
+      (state view.start).content view.head (length view.records)) (state view.start).may_leave)
+  pub half : step.has_bytes ≡ true
+      → had ≡ (state view.start).content (data_at (shape_of view.sizes) reader.stamp step.i)
+  pub failures_grow : (state view.start).failures ≤ (state m).failures
+  -- and as many calls were made as it takes
+  pub calls : (state m).failures ≡ (state view.start).failures → (state m).calls
+      ≡ (state view.start).calls
+      + copy_calls view.sizes.format (take home view.records) + (reads + 2 * step.i
+      + one_if step.has_bytes)
