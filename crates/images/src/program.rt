@@ -234,7 +234,7 @@ fn make<R: Files<File = File> + AllocGlobal, O: Write>(
         return Err(Stopped::from(Refusal::Sizes));
     };
     match Run::new(rt.alloc()) {
-        Ok(run) => make_with(rt, image, &sizes, options.replace, run, out),
+        Ok(mut run) => make_with(rt, image, &sizes, options.replace, &mut run, out),
         Err(_) => Err(Stopped::from(Refusal::NoMemory)),
     }
 }
@@ -245,7 +245,7 @@ fn make_with<R: Files<File = File>, O: Write>(
     image: &str,
     sizes: &Super,
     replace: bool,
-    mut run: Run,
+    run: &mut Run,
     out: &mut O,
 ) -> Result<LeftFile, Stopped>
     ensures done { IfOk result (λ back. IsMadeAs (O.contents out.old) (O.contents out.new) back
@@ -258,7 +258,7 @@ fn make_with<R: Files<File = File>, O: Write>(
         Ok(file) => file,
         Err(refusal) => return Err(Stopped::from(refusal)),
     };
-    if let Err(fault) = ask_to_be(&mut file, &mut run, sizes) {
+    if let Err(fault) = ask_to_be(&mut file, run, sizes) {
         return Err(Stopped {
             refusal: Refusal::File(fault),
             file: Some(file),

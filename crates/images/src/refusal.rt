@@ -9,7 +9,7 @@ use recovery::StartFault;
 use std::io::ErrorKind;
 
 /// Why a command was refused.
-#[derive(Clone, Copy)]
+#[derive(Clone, Copy, Debug, PartialEq, Eq)]
 pub enum Refusal {
     /// The words are none of a command.
     Words,

@@ -6,7 +6,7 @@ use console::ArgumentFault;
 use device_file::FileFault;
 
 /// Why an image file was not served to the end of the input.
-#[derive(Clone, Copy)]
+#[derive(Clone, Copy, Debug, PartialEq, Eq)]
 pub enum Refusal {
     /// The words are none of a command.
     Words,
