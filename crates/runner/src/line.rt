@@ -10,7 +10,7 @@ use arrayvec::ArrayVec;
 use bot_machine::PacketSize;
 
 /// Which lines a script may have.
-#[derive(Clone, Copy, Debug, PartialEq, Eq)]
+#[derive(Clone, Copy)]
 pub enum ScriptKind {
     /// Those of one life: the power stays on, so that `fuse`, `fail` and `cut` are none of its
     /// lines.
@@ -20,7 +20,7 @@ pub enum ScriptKind {
 }
 
 /// What a line of a script asks for.
-#[derive(Debug, Drop)]
+#[derive(Drop)]
 pub enum ScriptLine {
     /// Nothing: an empty line or a comment.
     Skipped,
