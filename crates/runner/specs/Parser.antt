@@ -1,6 +1,7 @@
 -- The command line, as its parser knows it.
 use Rattle.std.specs.Prelude.{◌≡◌, ℕ, List, codes, true, false, Some}
-use Rattle.clap.specs.Words.{App, Rule, app_of, new_app, new_rule, with_rule, with_subcommand}
+use Rattle.clap.specs.Words.{App, Rule, app_of, new_app, new_rule, rule_of, with_rule, with_subcommand}
+use Rattle.clap.specs.declared.builder.arg.Arg.{Arg}
 use Rattle.clap.specs.declared.builder.command.Command.{Command}
 use Rattle.clap.specs.declared.builder.command.Command.TheViews.{out-Command}
 
@@ -8,6 +9,11 @@ use Rattle.clap.specs.declared.builder.command.Command.TheViews.{out-Command}
 pub record IsParserOf (app : App) (command : Command) : Type 0 where
   pub shape : app_of command ≡ app
   pub local : (out-Command command).has_globals ≡ false
+
+-- a word or an option by this rule, for this command alone
+pub record IsArgOf (rule : Rule) (arg : Arg) : Type 0 where
+  pub rule_is : rule_of arg ≡ rule
+  pub local : arg.global ≡ false
 
 -- a word that must be there
 abbrev pub word_rule : List ℕ → Rule
