@@ -12,7 +12,7 @@ use console::read_number;
 const LAST_WRITE: u64 = 16_383;
 
 /// Which of the unflushed writes a cut keeps. They are numbered from 0 in order of issue.
-#[derive(Debug, Drop)]
+#[derive(Drop)]
 pub enum KeptWrites {
     None,
     All,
@@ -25,14 +25,14 @@ pub(crate) fn read_cut(line: &[u8]) -> Option<KeptWrites>
     ensures spelled { IfSome result (SpellsCut line.now) }
     ensures refused { IfNone result ((kept : KeptWrites) → SpellsCut line.now kept → ⊥) }
 {
-    match line {
-        b"cut none" => Some(KeptWrites::None),
-        b"cut all" => Some(KeptWrites::All),
-        _ => {
-            let numbers = read_numbers(behind(line, b"cut ")?)?;
-            Some(KeptWrites::These(numbers))
-        }
+    if line == b"cut none".as_slice() {
+        return Some(KeptWrites::None);
     }
+    if line == b"cut all".as_slice() {
+        return Some(KeptWrites::All);
+    }
+    let numbers = read_numbers(behind(line, b"cut ")?)?;
+    Some(KeptWrites::These(numbers))
 }
 
 // Reads numbers, parted by single spaces.
