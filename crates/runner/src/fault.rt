@@ -4,22 +4,29 @@ ghost use Rattle.std.specs.Prelude.{◌≡◌};
 use crate::read::ReadFault;
 use bot_machine::StartFault;
 use medium::Medium;
+use thiserror::Error;
 
 /// Why a script was not played to its end.
-#[derive(Clone, Copy)]
+#[derive(Clone, Copy, Debug, PartialEq, Eq, Error)]
 pub enum ScriptFault {
     /// The first line that is none of a script, counted from 1. Nothing was played.
+    #[error("line {0}: not a script line")]
     Line(u64),
     /// The script has more than 1,048,576 bytes. Nothing was played.
+    #[error("script too long")]
     TooLong,
     /// The disk did not start.
+    #[error("start: {0}")]
     Start(StartFault),
     /// Memory ran out outside a start. Nothing was played.
+    #[error("no memory")]
     NoMemory,
     /// The script's reader failed. Nothing was played.
+    #[error("the script was not read")]
     Reader,
     /// The writer failed. The disk played the events before, and the one whose answer was not
     /// written.
+    #[error("an answer was not written")]
     Writer,
 }
 

@@ -8,17 +8,22 @@ ghost use Rattle.runner.specs.Players.{IsPlayer};
 
 use bot_machine::{Answer, Disk, Event, PacketSize, answer_to};
 use medium::Medium;
+use thiserror::Error;
 
 /// Why lines were not served to their end by a player.
-#[derive(Clone, Copy)]
+#[derive(Clone, Copy, Debug, PartialEq, Eq, Error)]
 pub enum ServeFault {
     /// The first line that is none of a script, counted from 1. The lines before it were answered.
+    #[error("line {0}: not a script line")]
     Line(u64),
     /// The reader failed. All whole lines that it gave were answered.
+    #[error("the lines were not read")]
     Reader,
     /// The writer failed. Nothing was played behind the event whose answer was not written.
+    #[error("an answer was not written")]
     Writer,
     /// The player had no answer to an event. Of that one nothing was written.
+    #[error("an event has no answer")]
     Player,
 }
 

@@ -9,27 +9,34 @@ use clap::error::ErrorKind;
 use console::ArgumentFault;
 use medium::FileError;
 use std::alloc::AllocError;
-use std::fmt;
-use std::fmt::{Display, Formatter, Write};
+use thiserror::Error;
 
 /// Why a command was refused. Its text is what standard error gets.
-#[derive(Clone, Copy)]
+#[derive(Clone, Copy, Debug, PartialEq, Eq, Error)]
 pub enum Refusal {
     /// The number of the first line that is none of a script.
+    #[error("line {0}: not a script line")]
     Line(u64),
     /// The script has more bytes than the limit.
+    #[error("script too long")]
     TooLong,
     /// The words are none of a command.
+    #[error("bad command line")]
     Words,
     /// The image is empty, too long, or not of whole sectors.
+    #[error("image refused: length")]
     ImageLength,
     /// The image would have a size out of its limits.
+    #[error("image refused: size")]
     ImageSize,
     /// The disk does not start on the image: the number of the fault.
+    #[error("image refused: {0}")]
     Image(u8),
     /// A file was not read, or an answer not written.
+    #[error("file failed")]
     File,
     /// Memory ran out.
+    #[error("no memory")]
     NoMemory,
 }
 
@@ -49,31 +56,6 @@ impl Refusal {
             Refusal::Image(_) => 3,
             Refusal::File => 4,
             Refusal::NoMemory => 5,
-        }
-    }
-
-    // What it is called, but for a number.
-    fn text(self) -> &'static str {
-        match self {
-            Refusal::Line(_) => "not a script line",
-            Refusal::TooLong => "script too long",
-            Refusal::Words => "bad command line",
-            Refusal::ImageLength => "image refused: length",
-            Refusal::ImageSize => "image refused: size",
-            Refusal::Image(_) => "image refused",
-            Refusal::File => "file failed",
-            Refusal::NoMemory => "no memory",
-        }
-    }
-}
-
-impl Display for Refusal {
-    fn fmt<W: Write>(&self, f: &mut Formatter<W>) -> fmt::Result {
-        let text = self.text();
-        match *self {
-            Refusal::Line(number) => write!(f, "line {number}: {text}"),
-            Refusal::Image(fault) => write!(f, "{text}: {fault}"),
-            _ => f.write_str(text),
         }
     }
 }
