@@ -1,5 +1,6 @@
 -- Which refusals a command may have.
-use Rattle.std.proofs.Common.{◌≡◌, ◌⊎◌, ℕ, List, Option, refl, sym, ◌∙◌, ap, inl, inr, arith}
+use Rattle.std.proofs.Common.{◌≡◌, ◌⊎◌, ℕ, List, Option, None, refl, sym, ◌∙◌, ap, inl, inr, arith}
+use Rattle.std.proofs.KnownBytes.{Keeps-refl}
 use Rattle.medium.specs.ImageFile.{Copied}
 use Rattle.bot_machine.specs.StartFaults.{StartFault}
 use Rattle.bot_machine.specs.StartFaults as start
@@ -7,7 +8,7 @@ use Rattle.runner.specs.declared.fault.ScriptFault.{ScriptFault}
 use Rattle.runner.specs.declared.fault.ScriptFault.TheVariants as script
 use Rattle.runner.specs.declared.refusal.Refusal.{Refusal}
 use Rattle.runner.specs.declared.refusal.Refusal.TheVariants as refused
-use Rattle.runner.specs.Program.{IsUnread, HasNotDone, IsRefusedFor}
+use Rattle.runner.specs.Program.{IsUnread, NoImage, HasNotDone, IsRefusedFor}
 use Rattle.runner.specs.Status.{status_of, refusal_of_start, refusal_of_fault}
 use Rattle.runner.specs.Task.{IsCommandLine}
 
@@ -96,3 +97,13 @@ module _ (was now : Option (List ℕ)) (back : Option Copied) (words : List (Lis
   two_or_five (inl (is, opened, kept)) never = inr (ap status_of is)
   two_or_five (inr (inl (is, none, opened, kept))) never = inl (ap status_of is)
   two_or_five (inr (inr not_done)) never = absurd (not_asked not_done never)
+
+-- no image file was opened, and nothing was written
+pub no_image : (was : Option (List ℕ)) (refusal : Refusal) → IsUnread refusal → NoImage was was None refusal
+no_image was refusal unread = record { unread = unread; none = refl; kept = Keeps-refl was }
+
+-- why words were not read
+pub not_read : (was : Option (List ℕ)) (words : List (List ℕ)) (refusal : Refusal)
+    → (refusal ≡ refused.NoMemory) ⊎ ((refusal ≡ refused.Words) × (IsCommandLine words → ⊥)) → IsRefusedFor was was None words refusal
+not_read was words refusal (inl is) = inl (is, refl, Keeps-refl was)
+not_read was words refusal (inr is) = inr (inl (is.0, is.1, refl, Keeps-refl was))

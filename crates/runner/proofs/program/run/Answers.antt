@@ -1,10 +1,14 @@
-use Rattle.std.proofs.Common.{◌≡◌, ◌∙◌, Option, Some, Result, Ok, Err, refl, inr}
+use Rattle.std.proofs.Common.{◌≡◌, ◌∙◌, Option, None, Some, Result, Ok, Err, refl, inl, inr}
+use Rattle.std.proofs.KnownBytes.{Keeps-refl}
 use Rattle.std.specs.Prelude.{IfOk, IfErr, MatchResult}
 use Rattle.runner.specs.declared.ended.Stopped.{Stopped as StoppedOf}
 use Rattle.runner.specs.declared.fault.ScriptError.{ScriptError as ErrorOf}
-use Rattle.runner.specs.Program.{IsBack}
+use Rattle.spec.specs.Packets.{bytes_of}
+use Rattle.runner.specs.Program.{IsBack, IsRunRefused}
 use Rattle.runner.specs.Status.{refusal_of_fault}
 use Rattle.runner.proofs.Options.{if_ok, if_err}
+use Rattle.runner.proofs.Refusals.{no_image}
+use Rattle.runner.proofs.Taken.{if-err}
 use Rattle.runner.proofs.program.run.Goals as goal
 
 -- what playing a script has left, as a command tells it
@@ -33,6 +37,31 @@ err_both : {A E : Type 0} (r : Result A E) (P : E → Type 0) (R : A → Type 0)
     → IfErr r (λ e. P e × Q e)
 err_both (Ok a) P R Q err both = tt
 err_both (Err e) P R Q err both = (err, both)
+
+pub returns-in_err-_streams-clause-refused : goal.returns-in_err-_streams-clause-refused
+returns-in_err-_streams-clause-refused g c =
+    let out = g.O.Write.contents c.args.out.now in
+    if-err c.from_residual.result (λ stopped. stopped ≡ record { refusal = c.in_err-_streams.field-0.0; medium = None })
+    (λ stopped. IsRunRefused out out stopped.medium c.args.image.now (bytes_of c.args.size) stopped.refusal) c.from_residual.ensures.1
+    (λ stopped same. rw same (inl (no_image out c.in_err-_streams.field-0.0 (inr (inl c.in_err-_streams.ensures)))))
+
+pub returns-in_err-medium-clause-refused : goal.returns-in_err-medium-clause-refused
+returns-in_err-medium-clause-refused g c =
+    let out = g.O.Write.contents c.args.out.now in
+    if-err c.from_residual-in_err-medium.result (λ stopped. stopped ≡ record { refusal = c.in_err-medium.field-0.0; medium = None })
+    (λ stopped. IsRunRefused out out stopped.medium c.args.image.now (bytes_of c.args.size) stopped.refusal)
+    c.from_residual-in_err-medium.ensures.1
+    (λ stopped same. rw same (inl (no_image out c.in_err-medium.field-0.0 c.in_err-medium.ensures.refused)))
+
+pub returns-in_default-clause-refused : goal.returns-in_default-clause-refused
+returns-in_default-clause-refused g c = rw c.stopped_with.ensures
+    (inr (inl (record {
+      opened = c.in_ok-medium.medium;
+      is_opened = c.in_ok-medium.ensures.opened;
+      given = refl;
+      failed = refl;
+      kept = Keeps-refl (g.O.Write.contents c.args.out.now);
+    })))
 
 pub returns-clause-done : goal.returns-clause-done
 returns-clause-done g c =

@@ -2,7 +2,8 @@ use Rattle.std.proofs.Common.{◌≡◌, ◌≤◌, ◌-◌, ℕ, List, ◌∷�
 use Rattle.std.specs.Prelude.{get_or}
 use Rattle.std.specs.Borrow.{Bor}
 use Rattle.std.proofs.lemmas.List.{take_all}
-use Rattle.runner.specs.Task.{IsCommandLine}
+use Rattle.std.specs.Prelude.{IfSome}
+use Rattle.runner.specs.Task.{IsCommandLine, SpellsTask}
 use Rattle.runner.proofs.Options.{none_weaker}
 use Rattle.runner.proofs.task.exactly.Goals as goal
 
@@ -40,3 +41,13 @@ pub returns-in-len6-up-clause-none : goal.returns-in-len6-up-clause-none
 returns-in-len6-up-clause-none c =
     none_weaker c.format_task.result (λ never line. never (subst IsCommandLine (six c.args.words.now _ c.in-len6-up.len_at_least) line))
     c.format_task.ensures.none
+
+pub returns-in-len3-up-clause-task : goal.returns-in-len3-up-clause-task
+returns-in-len3-up-clause-task c =
+    subst (λ (words : List (List ℕ)). IfSome c.script_task.result (SpellsTask words))
+    (sym (three c.args.words.now _ c.in-len3-up.len_at_least)) c.script_task.ensures.task
+
+pub returns-in-len6-up-clause-task : goal.returns-in-len6-up-clause-task
+returns-in-len6-up-clause-task c =
+    subst (λ (words : List (List ℕ)). IfSome c.format_task.result (SpellsTask words))
+    (sym (six c.args.words.now _ c.in-len6-up.len_at_least)) c.format_task.ensures.task
