@@ -15,16 +15,17 @@ use Rattle.mirror.specs.declared.call.DeviceCall.{DeviceCall}
 use Rattle.recovery.specs.Calls.{most_start_sends}
 use Rattle.window.specs.Window.{Window, fresh, state_of, is_in_sight, ComesAfter, IsServed}
 use Rattle.window.specs.Looks.{near_in_sight, none_refused, none_missed, none_kept_out}
+use Rattle.scsi_unit.specs.Background.{Work}
 use Rattle.scsi_unit.specs.Calls.{most_sends_of}
 use Rattle.scsi_unit.specs.Reading.{first_home_of}
 use Rattle.bot_machine.specs.Device.{Device}
-use Rattle.bot_machine.specs.Disk.{IsStep}
+use Rattle.bot_machine.specs.Disk.{IsStepBy}
 use Rattle.bot_machine.specs.Opening.{IsOpened, StartLeaves, LeavesMedium}
 use Rattle.bot_machine.specs.Reading.{ReadsAt}
 use Rattle.spec.specs.declared.event.Event.{Event}
 use Rattle.spec.specs.declared.event.Event.TheVariants as event
 use Rattle.spec.specs.declared.event.Answer.{Answer}
-use Rattle.disk_calls.specs.Plays.{Disk, medium_of, layout_on, Foresees, Plays}
+use Rattle.disk_calls.specs.Plays.{Disk, medium_of, layout_on, Foresees, PlaysBy}
 use Rattle.disk_calls.specs.Refusals.{RefusesNothing, HasRoom, IsRoomy, HoldsLog, SeesHome, HasRoomToStart, HoldsImageLog}
 use Rattle.disk_calls.specs.Refusals.{StartRefusesNothing}
 use Rattle.store_calls.specs.Rooms as store
@@ -82,10 +83,10 @@ stays_roomy : (old new : Disk) → layout_on new ≡ layout_on old → (medium_o
 stays_roomy old new layout room enough_room = omega (arith, ap (λ (s : Shape). room_for s) layout, room, enough_room)
 
 -- an event, with what the medium says of all that may come
-pub played : (old : Disk) (event : Event) (answer : Answer) (new : Disk)
+pub played : {work : Work} → (old : Disk) (event : Event) (answer : Answer) (new : Disk)
     → Foresees (medium_of old)
-    → IsStep (state_of (medium_of old)) (state_of (medium_of new)) old event answer new
-    → ComesAfter (medium_of old) (medium_of new) → Plays old event answer new
+    → IsStepBy work (state_of (medium_of old)) (state_of (medium_of new)) old event answer new
+    → ComesAfter (medium_of old) (medium_of new) → PlaysBy work old event answer new
 played old event answer new sees step follows = record {
   step = step;
   follows = follows;

@@ -7,12 +7,12 @@ use Rattle.medium.specs.Moments.{IsUnchanged}
 use Rattle.inlet.specs.Inlet.{AreHeld}
 use Rattle.window.specs.Window.{Window, state_of, ComesAfter, CoversDevice, IsServed}
 use Rattle.window.specs.Window.{IsShown, is_in_sight}
-use Rattle.scsi_unit.specs.Background.{IsSettled, is_dead, steps_left}
+use Rattle.scsi_unit.specs.Background.{Work, Settle, IsSettled, is_dead, steps_left}
 use Rattle.spec.specs.Book.{Book}
 use Rattle.recovery.specs.declared.start_fault.StartFault.TheVariants as fault
 use Rattle.scsi_unit.specs.StartFaults.{StartFault}
 use Rattle.bot_machine.specs.Device.{Device}
-use Rattle.bot_machine.specs.Disk.{FitsDisk, IsStep, IsRearmed}
+use Rattle.bot_machine.specs.Disk.{FitsDisk, IsStepBy, IsRearmed}
 use Rattle.bot_machine.specs.Opening.{IsOpened, IsNotOpened, StartLeaves}
 use Rattle.spec.specs.declared.event.Event.{Event}
 use Rattle.spec.specs.declared.event.Event.TheVariants as event
@@ -30,9 +30,12 @@ pub record Foresees (m : Window) : Type 0 where
   pub parts : (new : Window) → ComesAfter m new → CoversParts m new
   pub served : (new : Window) → ComesAfter m new → IsServed m new
 
--- one event of the disk; all that it gave to the device is appended to the outbox
-pub record Plays (old : Disk) (event : Event) (answer : Answer) (new : Disk) : Type 0 where
-  pub step : IsStep (state_of (medium_of old)) (state_of (medium_of new)) old event answer new
+-- one event of the disk, where a step in the background works towards this; all that it gave to
+-- the device is appended to the outbox
+pub record PlaysBy (work : Work) (old : Disk) (event : Event) (answer : Answer) (new : Disk)
+    : Type 0 where
+  pub step : IsStepBy work (state_of (medium_of old)) (state_of (medium_of new)) old event answer
+      new
   pub follows : ComesAfter (medium_of old) (medium_of new)
   -- wherever in the outbox the device is, a cut of it leaves what a cut at some moment could,
   pub covers : CoversDevice (medium_of old) (medium_of new)
@@ -49,6 +52,10 @@ pub record Plays (old : Disk) (event : Event) (answer : Answer) (new : Disk) : T
       → ((medium_of new).outbox ≡ (medium_of old).outbox)
       × (is_dead new.unit.store.cached ≡ true)
   pub roomy : IsRoomy old → IsRoomy new
+
+-- the same of an event, whose steps in the background work towards rest
+abbrev pub Plays : Disk → Event → Answer → Disk → Type 0
+Plays old event answer new = PlaysBy Settle old event answer new
 
 -- a packet to Bulk-Out is played, and this is the number of its answer
 abbrev pub PlaysPacket : Disk → List ℕ → Disk → ℕ → Type 0
@@ -81,9 +88,9 @@ AnswersRequest old packet room new filled size code =
     (answer : Answer) × Plays old (event.Setup packet) answer new
     × Tells answer room filled size code
 
--- a step in the background, and whether none is left
-pub record MakesStep (old new : Disk) (code : ℕ) : Type 0 where
-  pub plays : Plays old event.Tick answer.Ticked new
+-- a step in the background that works towards this, and whether none is left
+pub record MakesStep (work : Work) (old new : Disk) (code : ℕ) : Type 0 where
+  pub plays : PlaysBy work old event.Tick answer.Ticked new
   pub few : code ≤ 1
   pub none_left : (code ≡ 0) ↔ ((is_dead new.unit.store.cached ≡ false)
       × (steps_left new.unit.store.cached ≡ 0))

@@ -1,12 +1,12 @@
 //! What a disk is asked, and what it answers by number.
 ghost use Rattle.disk_calls.specs.Plays.{SendsPacket, AnswersRequest, MakesStep};
-ghost use Rattle.disk_calls.specs.Plays.{PlaysPacket, Plays, Foresees, medium_of, Sees};
+ghost use Rattle.disk_calls.specs.Plays.{PlaysPacket, PlaysBy, Foresees, medium_of, Sees};
 ghost use Rattle.spec.specs.declared.event.Answer.TheVariants as answer;
 ghost use Rattle.spec.specs.declared.event.Event.TheVariants as event;
 ghost use Rattle.std.specs.Prelude.{◌≤◌, length};
 
 use crate::codes::{ACK, NAK, STALL};
-use bot_machine::{Disk, InAnswer, OutAnswer, SetupAnswer};
+use bot_machine::{Disk, InAnswer, OutAnswer, SetupAnswer, Work};
 use medium::Medium;
 use mirror::device_laws;
 use window::WindowMedium;
@@ -86,17 +86,18 @@ pub fn answer_request(
     }
 }
 
-/// A step in the background: 1 while steps are left, 0 where all is at home.
-pub fn make_step(disk: &mut Disk<WindowMedium>) -> u32
-    ensures { MakesStep disk.old disk.new result }
+/// A step in the background that works towards this: 1 while steps are left, 0 where all is at
+/// home.
+pub fn make_step(disk: &mut Disk<WindowMedium>, work: Work) -> u32
+    ensures { MakesStep work disk.old disk.new result }
 {
-    tick(disk);
+    step(disk, work);
     if disk.is_settled() { 0 } else { 1 }
 }
 
-fn tick(disk: &mut Disk<WindowMedium>)
-    ensures { Plays disk.old event.Tick answer.Ticked disk.new }
+fn step(disk: &mut Disk<WindowMedium>, work: Work)
+    ensures { PlaysBy work disk.old event.Tick answer.Ticked disk.new }
 {
     foresee(disk);
-    disk.tick();
+    disk.work(work);
 }
