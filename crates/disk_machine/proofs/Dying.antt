@@ -4,11 +4,11 @@ use Rattle.std.specs.Prelude.{Result}
 use Rattle.mirror.specs.declared.call.DeviceCall.{DeviceCall}
 use Rattle.spec.specs.declared.event.Event.{Event}
 use Rattle.spec.specs.declared.event.Answer.{Answer}
-use Rattle.scsi_unit.specs.Background.{is_dead}
+use Rattle.scsi_unit.specs.Background.{Work, Settle, Ahead, is_dead}
 use Rattle.device_calls.specs.declared.ask.DeviceRead.{DeviceRead}
-use Rattle.disk_calls.specs.Plays.{Disk, medium_of, Plays}
+use Rattle.disk_calls.specs.Plays.{Disk, medium_of, PlaysBy}
 use Rattle.disk_machine.specs.Asking.{AsksFor, IsDone, HasRead, HasEnded}
-use Rattle.disk_machine.specs.Idling.{StepsOn, HasStepped}
+use Rattle.disk_machine.specs.Idling.{StepsOn, HasGoneAhead, HasStepped}
 use Rattle.disk_machine.specs.Machine.{Machine, under_way}
 use Rattle.disk_machine.specs.Moves.{LeavesNoMore, IsDead}
 use Rattle.device_calls.specs.declared.ask.DeviceAsk.{DeviceAsk}
@@ -62,7 +62,8 @@ done_dead (asked.Refused count left) ok old new bytes result done = same_dead ol
 
 -- ---- events
 
-pub event_dead : (old new : Machine) (event : Event) (answer : Answer) → Plays old.disk event answer new.disk → new.asked ≡ old.asked
+pub event_dead : {work : Work} → (old new : Machine) (event : Event) (answer : Answer) → PlaysBy work old.disk event answer new.disk
+    → new.asked ≡ old.asked
     → IsDead old → LeavesNoMore old new × IsDead new
 event_dead old new event answer plays same dead =
     let still : IsSentStill (medium_of old.disk) (medium_of new.disk) = record {
@@ -75,13 +76,13 @@ event_dead old new event answer plays same dead =
       (plays.faulted dead).1,
     )
 
-steps_dead : (old : Machine) (most count : ℕ) (new : Disk) → StepsOn most count old.disk new → IsDead old
+steps_dead : (work : Work) (old : Machine) (most count : ℕ) (new : Disk) → StepsOn work most count old.disk new → IsDead old
     → LeavesNoMore old (record old { disk = new }) × IsDead (record old { disk = new })
-steps_dead old most zero new same dead =
+steps_dead work old most zero new same dead =
     subst (λ (d : Disk). LeavesNoMore old (record old { disk = d }) × IsDead (record old { disk = d })) (sym same)
     (λ image left. left, dead)
-steps_dead old most (suc count) new steps dead =
-    let before = steps_dead old most count steps.0 steps.1 dead in
+steps_dead work old most (suc count) new steps dead =
+    let before = steps_dead work old most count steps.0 steps.1 dead in
     let last = event_dead (record old { disk = steps.0 }) (record old { disk = new }) _ _ steps.3 refl before.1 in
     (λ image left. before.0 image (last.0 image left), last.1)
 
@@ -89,4 +90,10 @@ pub idle_dead : (old new : Machine) → HasStepped old new → IsDead old → Le
 idle_dead old new (inl held) dead =
     subst (λ (s : Machine). LeavesNoMore old s × IsDead s) (sym held.1) (λ image left. left, dead)
 idle_dead old new (inr made) dead =
-    subst (λ (s : Machine). LeavesNoMore old s × IsDead s) (sym made.2) (steps_dead old old.most made.1.count new.disk made.1.steps dead)
+    subst (λ (s : Machine). LeavesNoMore old s × IsDead s) (sym made.2) (steps_dead Settle old old.most made.1.count new.disk made.1.steps dead)
+
+pub ahead_dead : (old new : Machine) → HasGoneAhead old new → IsDead old → LeavesNoMore old new × IsDead new
+ahead_dead old new (inl busy) dead =
+    subst (λ (s : Machine). LeavesNoMore old s × IsDead s) (sym busy.1) (λ image left. left, dead)
+ahead_dead old new (inr made) dead =
+    subst (λ (s : Machine). LeavesNoMore old s × IsDead s) (sym made.2) (steps_dead Ahead old old.most made.1.count new.disk made.1.steps dead)

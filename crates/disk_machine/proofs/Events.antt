@@ -19,7 +19,8 @@ use Rattle.spec.specs.declared.event.Answer.{Answer}
 use Rattle.scsi_unit.specs.Serving as serving
 use Rattle.bot_machine.specs.Disk.{FitsDisk, over}
 use Rattle.bot_machine.specs.Promising.{PromisesNone}
-use Rattle.disk_calls.specs.Plays.{medium_of, Plays}
+use Rattle.scsi_unit.specs.Background.{Work}
+use Rattle.disk_calls.specs.Plays.{medium_of, PlaysBy}
 use Rattle.disk_machine.specs.Machine.{Machine, MayLeave, Finds, Keeps, has_refused, under_way, carried}
 use Rattle.disk_machine.specs.Moves.{ServesEvent}
 use Rattle.disk_machine.specs.declared.asked.Asked.{Asked}
@@ -27,7 +28,7 @@ use Rattle.disk_machine.specs.declared.waiting.Waiting.TheVariants as waiting
 use Rattle.disk_machine.proofs.Standing.{KeepsAll}
 use Rattle.disk_machine.proofs.StepLaws.{faulted_stays, mark_stays, mark_grows, finds_on, finds_with}
 
-module _ (old new : Machine) (event : Event) (answer : Answer) (plays : Plays old.disk event answer new.disk)
+module _ {work : Work} (old new : Machine) (event : Event) (answer : Answer) (plays : PlaysBy work old.disk event answer new.disk)
     (same : new.asked ≡ old.asked) where
   -- what was sent before is the first part of what was sent
   more_sent : sent (mirror_of (medium_of new.disk)) ≡ sent (mirror_of (medium_of old.disk)) ++ given plays.follows.since

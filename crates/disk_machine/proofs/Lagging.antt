@@ -9,9 +9,10 @@ use Rattle.window.specs.Window.{Window}
 use Rattle.spec.specs.declared.event.Event.{Event}
 use Rattle.spec.specs.declared.event.Answer.{Answer}
 use Rattle.device_calls.specs.declared.ask.DeviceRead.{DeviceRead}
-use Rattle.disk_calls.specs.Plays.{Disk, medium_of, Plays}
+use Rattle.scsi_unit.specs.Background.{Work, Settle, Ahead}
+use Rattle.disk_calls.specs.Plays.{Disk, medium_of, PlaysBy}
 use Rattle.disk_machine.specs.Asking.{AsksFor, HandsOut, IsDone, HasRead, HasEnded, waits_behind}
-use Rattle.disk_machine.specs.Idling.{StepsOn, HasStepped}
+use Rattle.disk_machine.specs.Idling.{StepsOn, HasGoneAhead, HasStepped}
 use Rattle.disk_machine.specs.Machine.{Machine}
 use Rattle.disk_machine.specs.Moves.{WaitsForDevice, is_behind, waiting_for, begun}
 use Rattle.disk_machine.specs.Packets.{PlaysOut, waits_for}
@@ -110,7 +111,7 @@ more_behind (asked.Read home) [] more is = cc
 more_behind (asked.Read home) (call ∷ calls) more is = refl
 more_behind (asked.Refused count left) calls more is = is
 
-module _ (old new : Machine) (event : Event) (answer : Answer) (plays : Plays old.disk event answer new.disk)
+module _ {work : Work} (old new : Machine) (event : Event) (answer : Answer) (plays : PlaysBy work old.disk event answer new.disk)
     (same : new.asked ≡ old.asked) where
   still_behind : is_behind old.asked (medium_of old.disk).outbox ≡ true → is_behind new.asked (medium_of new.disk).outbox ≡ true
   still_behind is = (λ i. is_behind (same i) (plays.follows.outbox i))
@@ -136,13 +137,19 @@ out_waits old new packet code plays waits some =
 
 -- ---- steps
 
-steps_wait : (old : Machine) (most count : ℕ) (new : Disk) → StepsOn most count old.disk new → WaitStays old (record old { disk = new })
-steps_wait old most zero new same = subst (λ (d : Disk). WaitStays old (record old { disk = d })) (sym same) (λ waits. waits)
-steps_wait old most (suc count) new steps = λ waits.
+steps_wait : (work : Work) (old : Machine) (most count : ℕ) (new : Disk) → StepsOn work most count old.disk new
+    → WaitStays old (record old { disk = new })
+steps_wait work old most zero new same = subst (λ (d : Disk). WaitStays old (record old { disk = d })) (sym same) (λ waits. waits)
+steps_wait work old most (suc count) new steps = λ waits.
     event_waits (record old { disk = steps.0 }) (record old { disk = new }) _ _ steps.3 refl refl
-    (steps_wait old most count steps.0 steps.1 waits)
+    (steps_wait work old most count steps.0 steps.1 waits)
 
 pub idle_waits : (old new : Machine) → HasStepped old new → WaitStays old new
 idle_waits old new (inl held) = same_wait old new held.1
 idle_waits old new (inr made) = subst (λ (s : Machine). WaitStays old s) (sym made.2)
-    (steps_wait old old.most made.1.count new.disk made.1.steps)
+    (steps_wait Settle old old.most made.1.count new.disk made.1.steps)
+
+pub ahead_waits : (old new : Machine) → HasGoneAhead old new → WaitStays old new
+ahead_waits old new (inl busy) = same_wait old new busy.1
+ahead_waits old new (inr made) = subst (λ (s : Machine). WaitStays old s) (sym made.2)
+    (steps_wait Ahead old old.most made.1.count new.disk made.1.steps)

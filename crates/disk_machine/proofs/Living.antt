@@ -15,16 +15,18 @@ use Rattle.scsi_unit.specs.Laws.{IsSameLife}
 use Rattle.bot_machine.specs.BookLaws.{GrowsBy}
 use Rattle.bot_machine.specs.Disk.{over}
 use Rattle.disk_machine.specs.Ahead.{LooksAhead}
-use Rattle.disk_machine.specs.Idling.{HasStepped}
-use Rattle.disk_machine.specs.Lives.{Call, next, done, bulk_out, bulk_in, take_transfer, send_transfer, setup, idle, look_ahead}
+use Rattle.disk_machine.specs.Idling.{HasGoneAhead, HasStepped}
+use Rattle.disk_machine.specs.Lives.{Call, next, done, bulk_out, bulk_in, take_transfer, send_transfer, setup, idle, work_ahead}
+use Rattle.disk_machine.specs.Lives.{look_ahead}
 use Rattle.disk_machine.specs.Lives.{IsMade, turns_of, ServesLater, ServesThroughout, turns_in_all}
 use Rattle.disk_machine.specs.Machine.{Machine, Serves, has_refused}
 use Rattle.disk_machine.specs.Moves.{ServesOn, ServesEvent, ServesToken}
 use Rattle.disk_machine.specs.Packets.{TakesOne, SendsIn}
 use Rattle.disk_machine.specs.Transfers.{packet_at, TakesFirst, EndsTaking, TakesTransfer, SendsAt, SendsFirst}
 use Rattle.disk_machine.specs.Transfers.{EndsSending, SendsTransfer, SendsInto}
-use Rattle.disk_machine.specs.Turns.{Turn, played, TurnsRun, turns_one, turns_in, turns_idle, turns_taken, turns_not_taken}
+use Rattle.disk_machine.specs.Turns.{Turn, played, TurnsRun, turns_one, turns_in, turns_ahead, turns_idle, turns_taken, turns_not_taken}
 use Rattle.disk_machine.specs.Turns.{turns_of_taking, turns_at, turns_sent, turns_last, turns_of_sending, turns_into}
+use Rattle.scsi_unit.specs.Background.{Settle, Ahead}
 use Rattle.disk_machine.proofs.StepLaws.{opening_stays, writes_grow}
 use Rattle.disk_machine.proofs.Turning.{runs_through, same_over, asks_say, done_says, steps_run}
 
@@ -141,7 +143,13 @@ idled : (old new : Machine) (stepped : HasStepped old new) → ServesOn old new 
 idled old new (inl held) on = nothing_changes old new held.1
 idled old new (inr (free, makes, others)) on = λ told book serves.
     with_book old new (turns_idle old new (inr (free, makes, others))) told told book (omega arith) (on told book serves)
-    (steps_run old.most makes.count old new.disk makes.steps told book serves)
+    (steps_run Settle old.most makes.count old new.disk makes.steps told book serves)
+
+gone_ahead : (old new : Machine) (gone : HasGoneAhead old new) → ServesOn old new → LivesOn old (turns_ahead old new gone) new
+gone_ahead old new (inl busy) on = nothing_changes old new busy.1
+gone_ahead old new (inr (rests, makes, others)) on = λ told book serves.
+    with_book old new (turns_ahead old new (inr (rests, makes, others))) told told book (omega arith) (on told book serves)
+    (steps_run Ahead old.most makes.count old new.disk makes.steps told book serves)
 
 looked : (old new : Machine) (first count : ℕ) (reads : Bool) → LooksAhead old first count new reads → LivesOn old [] new
 looked old new first count true looks =
@@ -225,6 +233,7 @@ one (send_transfer room) old new (was, filled, given, code, sends) = sent_into o
 one (setup packet room) old new (filled, size, code, answers) =
     served_event old new (event.Setup packet) answers.0 answers.4
 one idle old new (left, idles) = idled old new idles.stepped idles.serves
+one work_ahead old new works = gone_ahead old new works.gone works.serves
 one (look_ahead first count) old new (reads, looks) = looked old new first count reads looks
 
 pub serves_throughout : ServesThroughout

@@ -13,9 +13,10 @@ use Rattle.spec.specs.declared.event.Answer.{Answer}
 use Rattle.spec.specs.declared.event.Answer.TheVariants as answer
 use Rattle.bot_machine.specs.Acts.{Acts, EventCarriesOut}
 use Rattle.bot_machine.specs.Disk.{FitsDisk, over}
-use Rattle.disk_calls.specs.Plays.{Disk, medium_of, Plays, AnswersRequest}
+use Rattle.scsi_unit.specs.Background.{Work, Settle, Ahead}
+use Rattle.disk_calls.specs.Plays.{Disk, medium_of, PlaysBy, Plays, AnswersRequest}
 use Rattle.disk_machine.specs.Machine.{Machine, Serves, has_refused, under_way}
-use Rattle.disk_machine.specs.Idling.{StepsOn, HasStepped}
+use Rattle.disk_machine.specs.Idling.{StepsOn, HasGoneAhead, HasStepped}
 use Rattle.disk_machine.specs.Moves.{is_behind, ServesAtRest, LeavesNoMore, ServesOn, ServesEvent, ServesToken}
 use Rattle.disk_machine.specs.Packets.{AnswersSetup, HoldsBack, PlaysOut, ServesOut, waits_for}
 use Rattle.disk_machine.specs.declared.asked.Asked.{Asked}
@@ -67,7 +68,7 @@ out_serves old new packet code free plays rest =
 
 -- ---- an event in which no command is carried out
 
-module _ (old new : Machine) (event : Event) (answer : Answer) (plays : Plays old.disk event answer new.disk)
+module _ {work : Work} (old new : Machine) (event : Event) (answer : Answer) (plays : PlaysBy work old.disk event answer new.disk)
     (others : new ≡ record old { disk = new.disk })
     (none : (book : Book) (block taken : List ℕ) → EventCarriesOut (over old.disk book) event block taken → ⊥) where
   pub quiet_serves : ServesEvent old event answer new
@@ -135,7 +136,7 @@ module _ (old new : Machine) (answer : Answer) (plays : Plays old.disk event.In 
 
 -- ---- a step in the background
 
-module _ (old new : Machine) (plays : Plays old.disk event.Tick answer.Ticked new.disk)
+module _ {work : Work} (old new : Machine) (plays : PlaysBy work old.disk event.Tick answer.Ticked new.disk)
     (others : new ≡ record old { disk = new.disk }) where
   same_book : (refused : Bool) (was now : UnitState) → Ticks refused was now → now.book ≡ was.book
   same_book refused was now (inl same) = ap (λ (u : UnitState). u.book) same
@@ -162,14 +163,20 @@ abbrev pub with_disk : Machine → Disk → Machine
 with_disk s disk = record s { disk = disk }
 
 -- steps, one by one
-pub steps_serve : (most count : ℕ) (old : Machine) (new : Disk) → StepsOn most count old.disk new → ServesOn old (with_disk old new)
-steps_serve most zero old new same =
+pub steps_serve : (work : Work) (most count : ℕ) (old : Machine) (new : Disk) → StepsOn work most count old.disk new
+    → ServesOn old (with_disk old new)
+steps_serve work most zero old new same =
     subst (λ (d : Disk). ServesOn old (with_disk old d)) (sym same) (λ told book serves. serves)
-steps_serve most (suc count) old new steps = λ told book serves.
+steps_serve work most (suc count) old new steps = λ told book serves.
     tick_serves (with_disk old steps.0) (with_disk old new) steps.3 refl told book
-    (steps_serve most count old steps.0 steps.1 told book serves)
+    (steps_serve work most count old steps.0 steps.1 told book serves)
 
 pub idle_serves : (old new : Machine) → HasStepped old new → ServesOn old new
 idle_serves old new (inl held) = subst (λ (s : Machine). ServesOn old s) (sym held.1) (λ told book serves. serves)
 idle_serves old new (inr made) =
-    subst (λ (s : Machine). ServesOn old s) (sym made.2) (steps_serve old.most made.1.count old new.disk made.1.steps)
+    subst (λ (s : Machine). ServesOn old s) (sym made.2) (steps_serve Settle old.most made.1.count old new.disk made.1.steps)
+
+pub ahead_serves : (old new : Machine) → HasGoneAhead old new → ServesOn old new
+ahead_serves old new (inl busy) = subst (λ (s : Machine). ServesOn old s) (sym busy.1) (λ told book serves. serves)
+ahead_serves old new (inr made) =
+    subst (λ (s : Machine). ServesOn old s) (sym made.2) (steps_serve Ahead old.most made.1.count old new.disk made.1.steps)

@@ -9,11 +9,12 @@ use Rattle.spec.specs.declared.event.Event.{Event}
 use Rattle.spec.specs.declared.event.Answer.{Answer}
 use Rattle.device_calls.specs.declared.ask.DeviceRead.{DeviceRead}
 use Rattle.store_calls.specs.Outbox.{without}
-use Rattle.disk_calls.specs.Plays.{Disk, medium_of, layout_on, Plays}
+use Rattle.scsi_unit.specs.Background.{Work, Settle, Ahead}
+use Rattle.disk_calls.specs.Plays.{Disk, medium_of, layout_on, PlaysBy}
 use Rattle.disk_calls.specs.Refusals.{HasRoom}
 use Rattle.disk_calls.specs.Room.{room_for}
 use Rattle.disk_machine.specs.Asking.{AsksFor, HandsOut, IsDone, HasRead, HasEnded, IsGivenUp, IsShownTo, IsHonest}
-use Rattle.disk_machine.specs.Idling.{StepsOn, HasStepped}
+use Rattle.disk_machine.specs.Idling.{StepsOn, HasGoneAhead, HasStepped}
 use Rattle.disk_machine.specs.Machine.{Machine}
 use Rattle.disk_machine.specs.Moves.{ServesAtRest, StaysSafe, KeepsGoing, HasRoomBeside}
 use Rattle.disk_machine.specs.Packets.{HoldsBack, PlaysOut}
@@ -24,8 +25,8 @@ use Rattle.disk_machine.specs.declared.asked.Asked.TheVariants as asked
 use Rattle.disk_machine.specs.declared.lack.Lack.{Lack}
 use Rattle.device_calls.specs.declared.done_fault.DoneFault.{DoneFault}
 use Rattle.disk_machine.proofs.Handing.{asks_serves, asks_leave}
-use Rattle.disk_machine.proofs.Dying.{asks_dead, done_dead, event_dead, idle_dead}
-use Rattle.disk_machine.proofs.Lagging.{asks_wait, done_wait, event_waits, out_waits, idle_waits}
+use Rattle.disk_machine.proofs.Dying.{asks_dead, done_dead, event_dead, idle_dead, ahead_dead}
+use Rattle.disk_machine.proofs.Lagging.{asks_wait, done_wait, event_waits, out_waits, idle_waits, ahead_waits}
 use Rattle.disk_machine.proofs.Hearing.{done_serves, done_leaves}
 
 abbrev RoomStays : Machine → Machine → Type 0
@@ -121,7 +122,8 @@ done_safe a ok old new bytes result was done rest honest = record {
 
 -- ---- events
 
-event_room : (old new : Machine) (event : Event) (answer : Answer) → Plays old.disk event answer new.disk → new.most ≡ old.most
+event_room : {work : Work} → (old new : Machine) (event : Event) (answer : Answer) → PlaysBy work old.disk event answer new.disk
+    → new.most ≡ old.most
     → RoomStays old new
 event_room old new event answer plays most = keeps_room old new most plays.step.few.layout_stays plays.follows.room_stays
 
@@ -132,18 +134,24 @@ has_room s free fits = elim (cases_lt s.most (length (medium_of s.disk).outbox))
   | inr few ↦ omega (arith, few, fits)
 ]
 
-step_room : (old : Machine) (most count : ℕ) (new : Disk) → StepsOn most count old.disk new → RoomStays old (record old { disk = new })
-step_room old most zero new same = disk_stays old (record old { disk = new }) refl same
-step_room old most (suc count) new steps = λ fits.
+step_room : (work : Work) (old : Machine) (most count : ℕ) (new : Disk) → StepsOn work most count old.disk new
+    → RoomStays old (record old { disk = new })
+step_room work old most zero new same = disk_stays old (record old { disk = new }) refl same
+step_room work old most (suc count) new steps = λ fits.
     event_room (record old { disk = steps.0 }) (record old { disk = new }) _ _ steps.3 refl
-    (step_room old most count steps.0 steps.1 fits)
+    (step_room work old most count steps.0 steps.1 fits)
 
 idle_room : (old new : Machine) → HasStepped old new → RoomStays old new
 idle_room old new (inl held) = same_room old new held.1
 idle_room old new (inr made) = subst (λ (s : Machine). RoomStays old s) (sym made.2)
-    (step_room old old.most made.1.count new.disk made.1.steps)
+    (step_room Settle old old.most made.1.count new.disk made.1.steps)
 
-pub event_goes_on : (old new : Machine) (event : Event) (answer : Answer) → Plays old.disk event answer new.disk
+ahead_room : (old new : Machine) → HasGoneAhead old new → RoomStays old new
+ahead_room old new (inl busy) = same_room old new busy.1
+ahead_room old new (inr made) = subst (λ (s : Machine). RoomStays old s) (sym made.2)
+    (step_room Ahead old old.most made.1.count new.disk made.1.steps)
+
+pub event_goes_on : {work : Work} → (old new : Machine) (event : Event) (answer : Answer) → PlaysBy work old.disk event answer new.disk
     → new ≡ record old { disk = new.disk } → KeepsGoing old new
 event_goes_on old new event answer plays others = record {
   room = event_room old new event answer plays (ap (λ (s : Machine). s.most) others);
@@ -163,6 +171,13 @@ idle_goes_on old new stepped = record {
   room = idle_room old new stepped;
   waits = idle_waits old new stepped;
   dead = idle_dead old new stepped;
+}
+
+pub ahead_goes_on : (old new : Machine) → HasGoneAhead old new → KeepsGoing old new
+ahead_goes_on old new gone = record {
+  room = ahead_room old new gone;
+  waits = ahead_waits old new gone;
+  dead = ahead_dead old new gone;
 }
 
 -- what is to be read changes nothing else

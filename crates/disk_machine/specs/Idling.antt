@@ -1,12 +1,14 @@
 -- What a machine does in the background.
-use Rattle.std.specs.Prelude.{◌≡◌, ◌⊎◌, ◌↔◌, ℕ, zero, suc, ◌<◌, ◌≤◌, Bool, true, false, length}
+use Rattle.std.specs.Prelude.{◌≡◌, ◌⊎◌, ◌↔◌, ℕ, zero, suc, ◌<◌, ◌≤◌, Bool, true, false, [], length}
 use Rattle.spec.specs.declared.event.Event.TheVariants as event
 use Rattle.spec.specs.declared.event.Answer.TheVariants as answer
-use Rattle.scsi_unit.specs.Background.{is_dead, steps_left}
-use Rattle.disk_calls.specs.Plays.{Disk, medium_of, Plays}
+use Rattle.scsi_unit.specs.Background.{Work, Settle, Ahead, is_dead, steps_left}
+use Rattle.bot_machine.specs.Turns.{owes_status}
+use Rattle.disk_calls.specs.Plays.{Disk, medium_of, PlaysBy}
 use Rattle.disk_machine.specs.Machine.{Machine}
 use Rattle.disk_machine.specs.Moves.{ServesOn, KeepsGoing}
 use Rattle.disk_machine.specs.Packets.{is_reading}
+use Rattle.disk_machine.specs.declared.asked.Asked.TheVariants as asked
 use Rattle.disk_machine.specs.declared.lack.Lack.{Lack}
 use Rattle.disk_machine.specs.declared.lack.Lack.TheVariants as lack
 use Rattle.disk_machine.specs.declared.waiting.Waiting.{Waiting}
@@ -31,15 +33,18 @@ abbrev pub IsHeld : Machine → Type 0
 IsHeld s = (is_waiting s.waiting ≡ true)
     ⊎ ((is_reading s.asked ≡ true) ⊎ (is_wanted s.lack ≡ true))
 
--- so few calls wait that a step is made
-abbrev pub IsShort : ℕ → Disk → Type 0
-IsShort most disk = (length (medium_of disk).outbox ≤ most) × (length (medium_of disk).outbox < 64)
+-- So few calls wait that a step is made which works towards this: as many as may wait when a packet
+-- is taken, and towards rest fewer than 64.
+abbrev pub IsShort : Work → ℕ → Disk → Type 0
+IsShort Settle most disk =
+    (length (medium_of disk).outbox ≤ most) × (length (medium_of disk).outbox < 64)
+IsShort Ahead most disk = length (medium_of disk).outbox ≤ most
 
--- so many steps in the background, one by one, each while few calls wait
-abbrev pub StepsOn : ℕ → ℕ → Disk → Disk → Type 0
-StepsOn most zero old new = new ≡ old
-StepsOn most (suc count) old new = (mid : Disk) × StepsOn most count old mid × IsShort most mid
-    × Plays mid event.Tick answer.Ticked new
+-- so many steps in the background that work towards this, one by one, each while few calls wait
+abbrev pub StepsOn : Work → ℕ → ℕ → Disk → Disk → Type 0
+StepsOn work most zero old new = new ≡ old
+StepsOn work most (suc count) old new = (mid : Disk) × StepsOn work most count old mid
+    × IsShort work most mid × PlaysBy work mid event.Tick answer.Ticked new
 
 -- no step is left, as `Disk::is_settled` tells
 abbrev pub IsAllDone : Disk → Type 0
@@ -49,8 +54,8 @@ IsAllDone disk = (is_dead disk.unit.store.cached ≡ false) × (steps_left disk.
 pub record MakesSteps (most : ℕ) (old new : Disk) : Type 0 where
   pub count : ℕ
   pub few : count ≤ 32
-  pub steps : StepsOn most count old new
-  pub ends : (count ≡ 32) ⊎ (IsAllDone new ⊎ (¬ IsShort most new))
+  pub steps : StepsOn Settle most count old new
+  pub ends : (count ≡ 32) ⊎ (IsAllDone new ⊎ (¬ IsShort Settle most new))
 
 -- steps are made where none is held back
 abbrev pub HasStepped : Machine → Machine → Type 0
@@ -62,5 +67,42 @@ HasStepped old new = (IsHeld old × (new ≡ old))
 pub record Idles (old new : Machine) (left : Bool) : Type 0 where
   pub stepped : HasStepped old new
   pub none_left : (left ≡ false) ↔ IsAllDone new.disk
+  pub serves : ServesOn old new
+  pub goes_on : KeepsGoing old new
+
+-- ---- ahead of the next record
+
+-- the last of so many steps ahead asked the device for nothing: none was to be made
+abbrev pub LastAsksNothing : (most count : ℕ) (old new : Disk) → StepsOn Ahead most count old new
+    → Type 0
+LastAsksNothing most zero old new same = ⊥
+LastAsksNothing most (suc count) old new (mid, first, short, plays) =
+    length (medium_of new).outbox ≡ length (medium_of mid).outbox
+
+-- At most 241 steps ahead, and fewer only where many calls wait or the last asked for nothing: the
+-- head goes past a record, and all blocks of the next, of which a record has at most 240, go home.
+pub record MakesAhead (most : ℕ) (old new : Disk) : Type 0 where
+  pub count : ℕ
+  pub few : count ≤ 241
+  pub steps : StepsOn Ahead most count old new
+  pub ends : (count ≡ 241) ⊎ (LastAsksNothing most count old new steps ⊎ (¬ IsShort Ahead most new))
+
+-- The device rests: it is at no call, and none waits for it, nor are sectors to be read. Nothing
+-- waits until it has carried out all, and each command has its status.
+pub record IsResting (s : Machine) : Type 0 where
+  pub at_none : s.asked ≡ asked.Nothing
+  pub none_waits : (medium_of s.disk).outbox ≡ []
+  pub none_wanted : is_wanted s.lack ≡ false
+  pub nothing : is_waiting s.waiting ≡ false
+  pub none_owed : owes_status s.disk.line.left ≡ false
+
+-- steps ahead are made where the device rests
+abbrev pub HasGoneAhead : Machine → Machine → Type 0
+HasGoneAhead old new = ((¬ IsResting old) × (new ≡ old))
+    ⊎ (IsResting old × MakesAhead old.most old.disk new.disk
+    × (new ≡ record old { disk = new.disk }))
+
+pub record WorksAhead (old new : Machine) : Type 0 where
+  pub gone : HasGoneAhead old new
   pub serves : ServesOn old new
   pub goes_on : KeepsGoing old new

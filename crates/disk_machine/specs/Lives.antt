@@ -9,13 +9,13 @@ use Rattle.scsi_unit.specs.Laws.{IsSameLife}
 use Rattle.bot_machine.specs.Disk.{over}
 use Rattle.disk_machine.specs.Ahead.{LooksAhead}
 use Rattle.disk_machine.specs.Asking.{AsksFor, Hears, IsHonest}
-use Rattle.disk_machine.specs.Idling.{Idles}
+use Rattle.disk_machine.specs.Idling.{Idles, WorksAhead}
 use Rattle.disk_machine.specs.Machine.{Machine, Serves}
 use Rattle.disk_machine.specs.Moves.{StaysSafe}
 use Rattle.disk_machine.specs.Packets.{TakesOut, SendsIn, AnswersSetup}
 use Rattle.disk_machine.specs.Transfers.{TakesTransfer, SendsInto}
 use Rattle.disk_machine.specs.Turns.{Turn, played, TurnsRun, turns_out, turns_in, turns_done}
-use Rattle.disk_machine.specs.Turns.{turns_idle, turns_of_taking, turns_into}
+use Rattle.disk_machine.specs.Turns.{turns_ahead, turns_idle, turns_of_taking, turns_into}
 
 -- a call, with what it is given
 pub data Call : Type 0 where
@@ -27,6 +27,7 @@ pub data Call : Type 0 where
   send_transfer : List ℕ → Call
   setup : List ℕ → List ℕ → Call
   idle : Call
+  work_ahead : Call
   look_ahead : ℕ → ℕ → Call
 
 -- the call is made, as its contract says; what the device read is told as it is
@@ -46,6 +47,7 @@ IsMade (send_transfer room) old new = (was : ℕ) × (filled : List ℕ) × (giv
 IsMade (setup packet room) old new = (filled : List ℕ) × (size : ℕ) × (code : ℕ)
     × AnswersSetup old packet room new filled size code
 IsMade idle old new = (left : Bool) × Idles old new left
+IsMade work_ahead old new = WorksAhead old new
 IsMade (look_ahead first count) old new = (reads : Bool) × LooksAhead old first count new reads
 
 abbrev pub AreMade : List Call → Machine → Machine → Type 0
@@ -66,6 +68,7 @@ turns_of (send_transfer room) old new (was, filled, given, code, sends) =
 turns_of (setup packet room) old new (filled, size, code, answers) =
     played (event.Setup packet) answers.0 ∷ []
 turns_of idle old new (left, idles) = turns_idle old new idles.stepped
+turns_of work_ahead old new works = turns_ahead old new works.gone
 turns_of (look_ahead first count) old new made = []
 
 abbrev pub turns_in_all : (calls : List Call) (old new : Machine) → AreMade calls old new

@@ -10,7 +10,7 @@ use Rattle.spec.specs.declared.event.Event.TheVariants as event
 use Rattle.spec.specs.declared.event.Answer.{Answer}
 use Rattle.spec.specs.declared.event.Answer.TheVariants as answer
 use Rattle.bot_machine.specs.Faulting.{faulted_over}
-use Rattle.disk_machine.specs.Idling.{HasStepped}
+use Rattle.disk_machine.specs.Idling.{HasGoneAhead, HasStepped}
 use Rattle.disk_machine.specs.Machine.{Machine}
 use Rattle.disk_machine.specs.Packets.{TakesOne, TakesOut, SendsIn}
 use Rattle.disk_machine.specs.Transfers.{packet_at, TakesFirst, EndsTaking, TakesTransfer}
@@ -92,6 +92,10 @@ ticks (suc count) = ticks count ++ played event.Tick answer.Ticked ∷ []
 abbrev pub turns_idle : (old new : Machine) → HasStepped old new → List Turn
 turns_idle old new (inl held) = []
 turns_idle old new (inr (free, makes, others)) = ticks makes.count
+
+abbrev pub turns_ahead : (old new : Machine) → HasGoneAhead old new → List Turn
+turns_ahead old new (inl busy) = []
+turns_ahead old new (inr (rests, makes, others)) = ticks makes.count
 
 -- ---- the turns of a transfer
 

@@ -1,12 +1,13 @@
 //! What a machine does in the background.
 ghost use Rattle.std.specs.Prelude.{◌≡◌, ◌↔◌, IsTrue};
+ghost use Rattle.scsi_unit.specs.Background.{Settle};
 ghost use Rattle.disk_machine.specs.Idling.{Idles, HasStepped, IsHeld, IsShort, MakesSteps};
 ghost use Rattle.disk_machine.specs.Idling.{is_waiting, is_wanted};
 
 use crate::lack::Lack;
 use crate::machine::DiskMachine;
 use crate::waiting::Waiting;
-use bot_machine::Disk;
+use bot_machine::{Disk, Work};
 use disk_calls::make_step;
 use window::WindowMedium;
 
@@ -45,7 +46,7 @@ impl DiskMachine {
     }
 
     // Whether something waits until the device has carried out all.
-    fn is_waiting(&self) -> bool
+    pub(crate) fn is_waiting(&self) -> bool
         ensures { result ≡ is_waiting self.now.waiting }
     {
         match self.waiting {
@@ -55,7 +56,7 @@ impl DiskMachine {
     }
 
     // Whether the device is to read sectors.
-    fn is_wanted(&self) -> bool
+    pub(crate) fn is_wanted(&self) -> bool
         ensures { result ≡ is_wanted self.now.lack }
     {
         match self.lack {
@@ -73,13 +74,13 @@ fn make_steps(disk: &mut Disk<WindowMedium>, most: usize)
         if disk.is_settled() || !is_short(disk, most) {
             return;
         }
-        let _left = make_step(disk);
+        let _left = make_step(disk, Work::Settle);
     }
 }
 
 // Whether so few calls wait that a step is made.
 fn is_short(disk: &Disk<WindowMedium>, most: usize) -> bool
-    ensures { IsTrue result ↔ IsShort most disk.now }
+    ensures { IsTrue result ↔ IsShort Settle most disk.now }
 {
     let waiting = disk.medium().waiting();
     waiting <= most && waiting <= MOST_WAITING
