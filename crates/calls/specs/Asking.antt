@@ -7,6 +7,7 @@ use Rattle.opening.specs.Reading.{Reading, AsksToRead}
 use Rattle.disk_calls.specs.Codes.{BAD_LENGTH}
 use Rattle.disk_machine.specs.Machine.{Machine}
 use Rattle.disk_machine.specs.Asking.{AsksFor}
+use Rattle.disk_machine.specs.Idling.{WorksAhead}
 use Rattle.disk_machine.specs.Moves.{StaysSafe}
 use Rattle.store_calls.specs.Asking as stores
 use Rattle.store_calls.specs.StoreMachine as store
@@ -19,14 +20,14 @@ use Rattle.calls.specs.declared.held.Stage.TheVariants as stage
 
 -- What the device is asked for: the next of the first sectors, or what the disk, the store or the
 -- work asks for, whose bytes of writes lie at the front of the room. Where there is nothing, it is
--- asked for nothing.
+-- asked for nothing. Before a disk is asked it works ahead, where its device has nothing to do.
 abbrev pub Asks : Stage → List ℕ → DeviceAsk → Held → Held → List ℕ → Type 0
 Asks (stage.Opening o) room what old new filled = (o' : Reading)
     × (new ≡ record old { stage = stage.Opening o' }) × (filled ≡ room)
     × AsksToRead o (length room / 512) what o'
-Asks (stage.Disk s) room what old new filled = (s' : Machine)
-    × (new ≡ record old { stage = stage.Disk s' }) × AsksFor s room what s' filled
-    × StaysSafe s s'
+Asks (stage.Disk s) room what old new filled = (mid : Machine) × (s' : Machine)
+    × (new ≡ record old { stage = stage.Disk s' }) × WorksAhead s mid
+    × AsksFor mid room what s' filled × StaysSafe mid s'
 Asks (stage.Store s) room what old new filled = (s' : store.Machine)
     × (new ≡ record old { stage = stage.Store s' }) × stores.TellsNext s room what s' filled
 Asks (stage.Image s) room what old new filled = (s' : images.Machine)

@@ -39,14 +39,17 @@ impl Held {
         ACK
     }
 
-    // What the device is to do next.
+    // What the device is to do next. A disk works ahead before it is asked.
     fn ask(&mut self, buffer: &mut [u8]) -> DeviceAsk
         requires { ¬ IsNoRoom (length buffer.old) }
         ensures { Asks self.old.stage buffer.old result self.old self.new buffer.new }
     {
         match &mut self.stage {
             Stage::Opening(opening) => opening.next((buffer.len() / SECTOR) as u64),
-            Stage::Disk(disk) => disk.next(buffer),
+            Stage::Disk(disk) => {
+                disk.work_ahead();
+                disk.next(buffer)
+            }
             Stage::Store(store) => store.next(buffer),
             Stage::Image(image) => image.next(buffer),
             Stage::Failed(_) => DeviceAsk::Nothing,
