@@ -1,5 +1,6 @@
 pub mod Roomy
 pub mod Served
+pub mod Stepping
 pub mod StartedStore
 pub mod OutboxTaken
 pub mod Untouched

@@ -44,7 +44,7 @@ sync_on (Err why) old new (inr live) = elim live.1 [
 idle_on : (old new : Machine) → IsMade idle old new → ServesOn old new
 idle_on old new made = elim made.1 [
   | inl busy ↦ same old new busy.2
-  | inr step ↦ step.2
+  | inr made ↦ made.3
 ]
 
 one : (call : Call) (old new : Machine) → IsMade call old new → (book : Book) → Serves old book → Serves new (book_after call book)

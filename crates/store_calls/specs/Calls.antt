@@ -1,16 +1,14 @@
 -- What each call does to a store.
-use Rattle.std.specs.Prelude.{◌≡◌, ◌≢◌, ◌⊎◌, ◌↔◌, ℕ, ◌+◌, ◌*◌, ◌/◌, ◌%◌, ◌<◌, Bool, true, false}
+use Rattle.std.specs.Prelude.{◌≡◌, ◌≢◌, ◌⊎◌, ℕ, ◌+◌, ◌*◌, ◌/◌, ◌%◌, ◌<◌, Bool, true, false}
 use Rattle.std.specs.Prelude.{not, List, length, Result, Ok, Err}
 use Rattle.inlet.specs.Inlet.{AreHeld}
 use Rattle.spec.specs.Blocks.{Write}
 use Rattle.journal.specs.Places.{first_home}
 use Rattle.window.specs.Window.{state_of, ComesAfter, IsShown}
-use Rattle.blocks.specs.Background.{IsBackgroundStep, CountsDown}
 use Rattle.spec.specs.Book.{Book, array_of, blocks_at, promised}
 use Rattle.blocks.specs.Book.{IsTransfer}
 use Rattle.blocks.specs.Passing.{KeepsStore, PassesOn, PassesPaid, IsUntouched}
 use Rattle.blocks.specs.Sent.{batch_sends}
-use Rattle.blocks.specs.Settled.{IsSettled}
 use Rattle.blocks.specs.StoreValue.{Cached, layout_of, blocks_of, transfer_limit, is_dead}
 use Rattle.blocks.specs.StoreValue.{steps_left, active_of, wants, FitsBeside, FitsBook}
 use Rattle.blocks.specs.Flushing.{finish_flushes, both_flushes}
@@ -19,6 +17,8 @@ use Rattle.blocks.specs.Retiring.{finish_calls, both_calls}
 use Rattle.medium.specs.Sent.{SendsUpTo}
 use Rattle.medium.specs.declared.fault.MediumFault.TheVariants.{Flush}
 use Rattle.blocks.specs.Turns.{IsTurn, IsWriteTurn}
+use Rattle.blocks.specs.Work.{IsWork, CountsBy}
+use Rattle.blocks.specs.declared.work.Work.{Work}
 use Rattle.store_calls.specs.Stores.{Store}
 use Rattle.store_calls.specs.Rooms.{Appends, HoldsLog}
 use Rattle.store_calls.specs.declared.call_fault.CallFault.{CallFault}
@@ -124,20 +124,14 @@ SyncsStore old new (Ok done) = IsSynced old new × (is_dead new.cached ≡ false
 SyncsStore old new (Err why) = (why ≡ fault.Dead) × IsSynced old new
     × (is_dead new.cached ≡ true) × (is_dead old.cached ≡ true → new ≡ old)
 
--- a step in the background
-pub record IsStep (old new : Store) : Type 0 where
+-- a step in the background that works towards this
+pub record IsStep (work : Work) (old new : Store) : Type 0 where
   pub passes : PassesOn state_of ComesAfter IsTurn 2 2 old new
-  pub order : IsBackgroundStep old.goes_ahead (state_of old.medium) (state_of new.medium)
+  pub order : IsWork work old.goes_ahead (state_of old.medium) (state_of new.medium)
       old.cached new.cached
   pub headroom : KeepsHeadroom old new
-  pub counts : CountsDown old new
+  pub counts : CountsBy work old new
   pub appends : Appends old new
-
--- a step, and whether one is left
-pub record MakesStep (old new : Store) (more : Bool) : Type 0 where
-  pub step : IsStep old new
-  pub none_left : (more ≡ false) ↔ ((is_dead new.cached ≡ false) × (steps_left new.cached ≡ 0))
-  pub at_home : more ≡ false → IsSettled (state_of new.medium) new.cached
 
 -- ---- the device
 

@@ -4,6 +4,7 @@ pub mod Rooms
 pub mod Outbox
 pub mod Starts
 pub mod Calls
+pub mod Idling
 pub mod Refused
 pub mod StoreMachine
 pub mod Serving

@@ -1,6 +1,6 @@
 -- What reads, writes and syncs do to a machine, and the work in the background.
 use Rattle.std.specs.Prelude.{◌≡◌, ◌≢◌, ◌⊎◌, ℕ, ◌+◌, ◌/◌, ◌<◌, Bool, true, false, List, [], length}
-use Rattle.std.specs.Prelude.{Result, Ok, Err, if◌then◌else◌}
+use Rattle.std.specs.Prelude.{None, Result, Ok, Err, if◌then◌else◌}
 use Rattle.spec.specs.Blocks.{Write}
 use Rattle.spec.specs.Book.{Book, with_write, write_of, promised}
 use Rattle.blocks.specs.Book.{IsTransfer}
@@ -8,7 +8,9 @@ use Rattle.blocks.specs.StoreValue.{Cached, blocks_of, transfer_limit, is_dead}
 use Rattle.blocks.specs.StoreValue.{steps_left}
 use Rattle.device_calls.specs.declared.ask.DeviceRead.{DeviceRead}
 use Rattle.store_calls.specs.Calls.{MayMove, IsNoSize, home_of, IsRead, IsUnread}
-use Rattle.store_calls.specs.Calls.{IsWritten, CostsWrite, SyncsStore, MakesStep}
+use Rattle.store_calls.specs.Calls.{IsWritten, CostsWrite, SyncsStore}
+use Rattle.store_calls.specs.Asking.{to_read}
+use Rattle.store_calls.specs.Idling.{TellsLeft}
 use Rattle.store_calls.specs.Rooms.{AreInSight, AreMissing}
 use Rattle.store_calls.specs.Serving.{LeavesSince, ServesOn, KeepsGoing, StaysSafe}
 use Rattle.store_calls.specs.StoreMachine.{Machine, IsCaughtUp, Serves}
@@ -143,8 +145,13 @@ Syncs old new (Err why) = ((why ≡ fault.Dead) × (is_dead old.store.cached ≡
 
 -- ---- the work in the background
 
--- One step is made where the device has carried out all, and whether one is left is told; else
--- nothing changes, and some may be left.
-abbrev pub IdlesOnce : Machine → Machine → Bool → Type 0
-IdlesOnce old new left = ((¬ IsCaughtUp old) × (left ≡ true) × (new ≡ old))
-    ⊎ (IsDoneFree old new × MakesStep old.store new.store left × ServesOn old new)
+-- the device has carried out all, and no read waits for it
+pub record IsResting (s : Machine) : Type 0 where
+  pub caught_up : IsCaughtUp s
+  pub none_wanted : to_read s.lack ≡ None
+
+-- Steps are made where the device rests, and whether some are left is told; else nothing changes,
+-- and some may be left.
+abbrev pub Idles : Machine → Machine → Bool → Type 0
+Idles old new left = ((¬ IsResting old) × (left ≡ true) × (new ≡ old))
+    ⊎ (IsResting old × IsDoneFree old new × TellsLeft old.store new.store left × ServesOn old new)

@@ -1,21 +1,51 @@
 //! The work in the background.
-ghost use Rattle.store_calls.specs.Calls.{MakesStep, IsStep};
+ghost use Rattle.std.specs.Prelude.{◌↔◌, IsTrue};
+ghost use Rattle.store_calls.specs.Calls.{IsStep};
+ghost use Rattle.store_calls.specs.Idling.{IsShort, MakesSteps, TellsLeft};
 
 use crate::reading::foresee;
-use blocks::Store;
+use blocks::{Store, Work};
+use medium::Medium;
 use window::WindowMedium;
 
-/// Makes one step, and answers whether one is left.
-pub(crate) fn make_step(store: &mut Store<WindowMedium>) -> bool
-    ensures { MakesStep store.old store.new result }
+// How many steps are made at most, so that their writes come in long runs.
+const MOST_STEPS: u32 = 32;
+
+// How many calls wait at most when a step is made.
+const MOST_WAITING: usize = 63;
+
+/// Makes steps towards rest, and answers whether some are left.
+pub(crate) fn make_steps(store: &mut Store<WindowMedium>) -> bool
+    ensures { TellsLeft store.old store.new result }
 {
-    tick(store);
+    settle(store);
     if store.is_settled() { false } else { true }
 }
 
-fn tick(store: &mut Store<WindowMedium>)
-    ensures { IsStep store.old store.new }
+// Makes steps towards rest, as long as some are left and few calls wait.
+fn settle(store: &mut Store<WindowMedium>)
+    ensures { MakesSteps store.old store.new }
 {
     foresee(store);
-    store.tick();
+    for _made in 0..MOST_STEPS {
+        if store.is_settled() || !is_short(store) {
+            return;
+        }
+        step(store, Work::Settle);
+    }
+}
+
+// Makes a step that works towards this.
+fn step(store: &mut Store<WindowMedium>, work: Work)
+    ensures { IsStep work store.old store.new }
+{
+    foresee(store);
+    store.work(work);
+}
+
+// Whether so few calls wait that a step is made.
+fn is_short(store: &Store<WindowMedium>) -> bool
+    ensures { IsTrue result ↔ IsShort store.now }
+{
+    store.medium().waiting() <= MOST_WAITING
 }

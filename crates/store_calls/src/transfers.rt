@@ -8,12 +8,12 @@ ghost use Rattle.store_calls.specs.Rooms.{AreInSight};
 ghost use Rattle.store_calls.specs.Serving.{Rests};
 ghost use Rattle.store_calls.specs.StoreMachine.{IsCaughtUp};
 ghost use Rattle.store_calls.specs.Transfers.{MayNot, Reads, ReadsOn, ReadsNone, Waits};
-ghost use Rattle.store_calls.specs.Transfers.{Writes, Accepts, Syncs, IdlesOnce};
+ghost use Rattle.store_calls.specs.Transfers.{Writes, Accepts, Syncs, Idles, IsResting};
 ghost use Rattle.store_calls.specs.declared.lack.Lack.TheVariants as lack;
 
 use crate::CallFault;
 use crate::asked::Asked;
-use crate::background::make_step;
+use crate::background::make_steps;
 use crate::lack::Lack;
 use crate::machine::StoreMachine;
 use crate::reading::{BLOCK, may_move, read_seen, unseen};
@@ -85,14 +85,25 @@ impl StoreMachine {
         }
     }
 
-    /// A step in the background, where the device has carried out all. Whether one may be left.
+    /// Steps in the background, where the device has carried out all and no read waits for it: at
+    /// most 32, and fewer where many calls wait or none is left. Whether some may be left.
     pub fn idle(&mut self) -> bool
-        ensures { IdlesOnce self.old self.new result }
+        ensures { Idles self.old self.new result }
     {
-        if !self.is_caught_up() {
+        if !self.is_resting() {
             return true;
         }
-        make_step(&mut self.store)
+        make_steps(&mut self.store)
+    }
+
+    // Whether the device has carried out all, and no read waits for it.
+    fn is_resting(&self) -> bool
+        ensures { IsTrue result ↔ IsResting self.now }
+    {
+        match self.lack {
+            Lack::Wanted(_) => false,
+            Lack::Nothing | Lack::Unread(_) => self.is_caught_up(),
+        }
     }
 
     // Where nothing waits for the device, each promise stands.

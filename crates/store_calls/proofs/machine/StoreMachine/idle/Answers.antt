@@ -1,14 +1,17 @@
 use Rattle.std.proofs.Common.{inr, refl, rules}
-use Rattle.store_calls.specs.StoreMachine.{IsCaughtUp, Machine}
+use Rattle.store_calls.specs.StoreMachine.{Machine}
+use Rattle.store_calls.specs.Transfers.{IsResting}
 use Rattle.store_calls.proofs.Doing.{done_free, turn_serves}
 use Rattle.store_calls.proofs.machine.StoreMachine.idle.Goals as goal
 
 pub returns : goal.returns
 returns c =
-    let free : IsCaughtUp c.args.self.now = search rules in
-    let step = c.make_step.ensures.step in
-    let new : Machine = record c.args.self.now { store = c.make_step.new.store } in inr (
-      done_free c.args.self.now new free refl step.appends step.passes.turn.goes_on.layout_stays,
-      c.make_step.ensures,
-      turn_serves c.args.self.now new free refl step.appends step.passes.turn,
+    let rests : IsResting c.args.self.now = search rules in
+    let makes = c.make_steps.ensures.makes in
+    let turn = makes.made.passes.turn in
+    let new : Machine = record c.args.self.now { store = c.make_steps.new.store } in inr (
+      rests,
+      done_free c.args.self.now new rests.caught_up refl makes.appends turn.goes_on.layout_stays,
+      c.make_steps.ensures,
+      turn_serves c.args.self.now new rests.caught_up refl makes.appends turn,
     )
