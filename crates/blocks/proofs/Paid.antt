@@ -1,11 +1,11 @@
 -- What the calls of a store pass on, one after another.
-use Rattle.std.proofs.Common.{◌≡◌, ◌≤◌, ◌+◌, ◌*◌, ℕ, ◌∙◌, ap, sym, refl, subst, arith, false}
+use Rattle.std.proofs.Common.{◌≡◌, ◌≤◌, ◌<◌, ◌+◌, ℕ, ◌∙◌, ap, sym, refl, subst, arith, false}
 use Rattle.medium.specs.Medium.{State, IsSound}
 use Rattle.medium.specs.Sent.{sent, SendsUpTo}
 use Rattle.blocks.specs.Passing.{PassesOn, PassesPaid, KeepsMedium}
 use Rattle.blocks.specs.StoreValue.{Cached, StoreValue, is_dead, steps_left, batch_steps, steps_for, waiting}
 use Rattle.blocks.specs.Turns.{IsTurn}
-use Rattle.blocks.proofs.BackgroundCalls.{pays_both}
+use Rattle.blocks.proofs.BackgroundCalls.{pays_both, pays_step}
 use Rattle.blocks.proofs.SectorsRead.{none, looks_on}
 use Rattle.blocks.proofs.TurnsJoined.{stays, turns}
 
@@ -68,6 +68,21 @@ module _ {M : Type 0} {state : M → State} {Follows : M → M → Type 0} where
     looks = looks_on (state old.medium) (state mid.medium) (state new.medium) old.cached mid.cached one.turn.goes_on.layout_stays
         one.looks two.looks;
     policy = two.policy ∙ one.policy;
+  }
+
+  -- a step of at most two calls, where one was left
+  pub on_paid : {most sends : ℕ} {old new : StoreValue M} → 0 < steps_left old.cached
+      → (is_dead new.cached ≡ false → steps_left new.cached < steps_left old.cached)
+      → (state new.medium).calls ≤ (state old.medium).calls + 2 → PassesOn state Follows IsTurn most sends old new
+      → PassesPaid state Follows sends old new
+  on_paid {old = old} {new = new} some falls calls on = record {
+    turn = on.turn;
+    paid = pays_step (state old.medium) (state new.medium) old.cached new.cached some calls falls;
+    sent = on.sent;
+    none_refused = on.none_refused;
+    follows = on.follows;
+    looks = on.looks;
+    policy = on.policy;
   }
 
   -- more writes and flushes are allowed

@@ -1,4 +1,4 @@
-use Rattle.std.proofs.Common.{◌≡◌, ◌<◌, ◌≤◌, ◌∙◌, ℕ, [], List, length, ap, sym, subst, arith, Bool, false, rules}
+use Rattle.std.proofs.Common.{◌≡◌, ◌<◌, ◌≤◌, ◌∙◌, ℕ, [], List, length, ap, sym, subst, arith, Bool, rules}
 use Rattle.std.specs.Prelude.{OnOk}
 use Rattle.std.proofs.lemmas.Bool.{false≢true}
 use Rattle.std.proofs.lemmas.Result.{on_ok_weaker}
@@ -18,53 +18,61 @@ use Rattle.blocks.specs.StoreValue.{is_dead, firsts_in}
 use Rattle.blocks.specs.Steady.{IsSteady, IsFuller}
 use Rattle.blocks.proofs.RoomCalls.{finish_under_way, finish_none, finish_begun}
 use Rattle.blocks.proofs.Paid.{rested, kept_paid, paid_then, paid_more}
-use Rattle.blocks.proofs.TurnsJoined.{turns, stays}
-use Rattle.blocks.proofs.SectorsRead.{none, looks_on}
+use Rattle.blocks.proofs.store.Store.finish.Given.{Over}
 use Rattle.blocks.proofs.store.Store.finish.Goals as goal
+use Rattle.blocks.proofs.store.Store.finish.Goals.{Then-self, Else-self, Then-is_empty, Else-is_empty, In_ok-begin}
+
+-- a record is under way, which is that of the frozen batch
+under_way : (g : Over) (c : Then-self g) → (0 < c.args.self.now.cached.log.steps_left) × (0 < length c.args.self.now.cached.frozen.numbers)
+under_way g c =
+    let live = ap (λ v. is_dead v.cached) c.self.view_is ∙ sym c.is_dead.ensures ∙ c.if-is_dead.false in
+    let some = c.self.invariant.writes live c.if-self.true in
+    let steps = ap (λ v. v.cached.log.steps_left) c.self.view_is in
+    let long = ap (λ v. length v.cached.frozen.numbers) c.self.view_is in
+    (omega (arith, some, steps), omega (arith, c.self.invariant.some some, long))
+
+-- none is
+idle : (g : Over) (c : Else-self g) → c.args.self.now.cached.log.steps_left ≡ 0
+idle g c =
+    let live = ap (λ v. is_dead v.cached) c.self.view_is ∙ sym c.is_dead.ensures ∙ c.if-is_dead.false in
+    sym (ap (λ v. v.cached.log.steps_left) c.self.view_is) ∙ c.self.invariant.rests live c.if-self.false
+
+empty : (g : Over) (c : Then-is_empty g) → c.args.self.now.cached.frozen.numbers ≡ []
+empty g c = sym (ap (λ v. v.cached.frozen.numbers) c.self.view_is) ∙ c.is_empty.ensures.0 c.if-is_empty.true
+
+filled : (g : Over) (c : Else-is_empty g) → 0 < length c.args.self.now.cached.frozen.numbers
+filled g c =
+    let some = some_listed c.self.inside.frozen.numbers (λ none. false≢true (sym c.if-is_empty.false ∙ c.is_empty.ensures.1 none)) in
+    let long = ap (λ v. length v.cached.frozen.numbers) c.self.view_is in
+    omega (arith, some, long)
+
+-- the record of the frozen batch was begun
+begun_is : (g : Over) (c : In_ok-begin g) → c.begin.new.self.cached.log
+    ≡ begun c.args.self.now.cached.frozen.numbers (firsts_in c.args.self.now.cached.frozen) c.make_ready.new.self.cached.log
+begun_is g c =
+    (c.begin.ensures.begins.live c.in_ok-begin.ensures.answer).1
+    ∙ ap (λ (batch : Entries). begun batch.numbers (firsts_in batch) c.make_ready.new.self.cached.log) c.make_ready.ensures.ready.room.frozen
 
 pub returns-then-is_dead-clause-passes : goal.returns-then-is_dead-clause-passes
 returns-then-is_dead-clause-passes g c = kept_paid g.met.M.Medium.follows_itself (rested (g.met.M.Medium.sound c.args.self.now.medium)) (λ live. omega arith)
 
 pub returns-then-self-clause-batch : goal.returns-then-self-clause-batch
-returns-then-self-clause-batch g c = record {
-  answers = search rules;
-  done = search rules;
-  rests = λ none.
-      let live : is_dead c.args.self.now.cached ≡ false = sym c.is_dead.ensures ∙ c.if-is_dead.false in
-      let under_way = c.self.invariant.writes (rw (← c.self.view_is) at live) c.if-self.true in
-      absurd (omega (arith, c.self.invariant.some under_way, ap (λ (l : List ℕ). length l) (rw (← c.self.view_is) at none)));
-  waits = search rules;
-  finishes =
-      let live : is_dead c.args.self.now.cached ≡ false = sym c.is_dead.ensures ∙ c.if-is_dead.false in
-      let some = c.self.invariant.writes (rw (← c.self.view_is) at live) c.if-self.true in
-      let log_is : c.self.inside.log ≡ c.args.self.now.cached.log = ap (λ v. v.cached.log) c.self.view_is in
-      let old = c.args.self.now.cached in
-      let ahead = c.args.self.now.goes_ahead in
-      let finishing = finishes_under_way ahead old.frozen.numbers (firsts_in old.frozen) old.log
-      (subst (λ (log : LogValue). 0 < log.steps_left) log_is some) in
-      on_ok_weaker c.write_out.result (λ written. written ∙ finishing) c.write_out.ensures.batch.written;
-  retires = search rules;
-  active = search rules;
-  fills = λ on filling listed.
-      let live : is_dead c.args.self.now.cached ≡ false = sym c.is_dead.ensures ∙ c.if-is_dead.false in
-      let some = c.self.invariant.writes (rw (← c.self.view_is) at live) c.if-self.true in
-      let log_is : c.self.inside.log ≡ c.args.self.now.cached.log = ap (λ v. v.cached.log) c.self.view_is in
-      let steps = ap (λ (log : LogValue). log.steps_left) log_is in
-      absurd (omega (arith, some, steps, filling.idle));
-  stays = λ on steady.
-      let live : is_dead c.args.self.now.cached ≡ false = sym c.is_dead.ensures ∙ c.if-is_dead.false in
-      let some = c.self.invariant.writes (rw (← c.self.view_is) at live) c.if-self.true in
-      let log_is : c.self.inside.log ≡ c.args.self.now.cached.log = ap (λ v. v.cached.log) c.self.view_is in
-      let steps = ap (λ (log : LogValue). log.steps_left) log_is in
-      absurd (omega (arith, some, steps, steady.idle));
-  some =
-      let live : is_dead c.args.self.now.cached ≡ false = sym c.is_dead.ensures ∙ c.if-is_dead.false in
-      let frozen_is : c.self.inside.frozen ≡ c.args.self.now.cached.frozen = ap (λ v. v.cached.frozen) c.self.view_is in
-      let under_way = c.self.invariant.writes (rw (← c.self.view_is) at live) c.if-self.true in
-      let listed : 0 < length c.args.self.now.cached.frozen.numbers =
-      subst (λ (batch : Entries). 0 < length batch.numbers) frozen_is (c.self.invariant.some under_way) in
-      on_ok_weaker c.write_out.result (λ done begun. listed) c.write_out.ensures.batch.done;
-}
+returns-then-self-clause-batch g c =
+    let old = c.args.self.now.cached in
+    let begun = under_way g (goal.at.returns-then-self-clause-batch g c).Then-self in
+    let finishing = finishes_under_way c.args.self.now.goes_ahead old.frozen.numbers (firsts_in old.frozen) old.log begun.0 in
+    record {
+      answers = search rules;
+      done = search rules;
+      rests = λ none. let empty = ap (λ (l : List ℕ). length l) none in absurd (omega (arith, begun.1, empty));
+      waits = search rules;
+      finishes = on_ok_weaker c.write_out.result (λ written. written ∙ finishing) c.write_out.ensures.batch.written;
+      retires = search rules;
+      active = search rules;
+      fills = λ on filling listed. absurd (omega (arith, begun.0, filling.idle));
+      stays = λ on steady. absurd (omega (arith, begun.0, steady.idle));
+      some = on_ok_weaker c.write_out.result (λ done steps. begun.1) c.write_out.ensures.batch.done;
+    }
 
 pub returns-then-is_empty-clause-passes : goal.returns-then-is_empty-clause-passes
 returns-then-is_empty-clause-passes g c = kept_paid g.met.M.Medium.follows_itself (rested (g.met.M.Medium.sound c.args.self.now.medium)) (λ live. omega arith)
@@ -78,9 +86,8 @@ returns-clause-passes g c =
     let written = c.write_out-2.ensures.passes in
     let frozen_is : c.self.inside.frozen ≡ old.frozen = ap (λ v. v.cached.frozen) c.self.view_is in
     let log_is : c.self.inside.log ≡ old.log = ap (λ v. v.cached.log) c.self.view_is in
-    let begun_is = (begins.begins.live c.in_ok-begin.ensures.answer).1
-    ∙ ap (λ (batch : Entries). begun batch.numbers (firsts_in batch) mid.log) ready.room.frozen in
-    let steps = ap (λ (log : LogValue). log.steps_left) begun_is
+    let first = begun_is g (goal.at.returns-clause-passes g c).In_ok-begin in
+    let steps = ap (λ (log : LogValue). log.steps_left) first
     ∙ ap (λ (shape : Shape). steps_of shape.format old.frozen.numbers) ready.passes.turn.goes_on.layout_stays in
     let long = ap (λ (batch : Entries). length batch.numbers) frozen_is in
     let format = ap (λ (log : LogValue). limit_of log.shape.format) log_is in
@@ -101,32 +108,22 @@ returns-then-is_empty-clause-batch g c = record {
   rests = search rules;
   waits = search rules;
   finishes =
-      let live : is_dead c.args.self.now.cached ≡ false = sym c.is_dead.ensures ∙ c.if-is_dead.false in
       let ahead = c.args.self.now.goes_ahead in
       let old = c.args.self.now.cached in
-      let log_is : c.self.inside.log ≡ old.log = ap (λ v. v.cached.log) c.self.view_is in
-      let frozen_is : c.self.inside.frozen ≡ old.frozen = ap (λ v. v.cached.frozen) c.self.view_is in
-      let idle : old.log.steps_left ≡ 0 = subst (λ (log : LogValue). log.steps_left ≡ 0) log_is
-      (c.self.invariant.rests (rw (← c.self.view_is) at live) c.if-self.false) in
-      let empty : old.frozen.numbers ≡ [] = subst (λ (batch : Entries). batch.numbers ≡ []) frozen_is
-      (c.is_empty.ensures.0 c.if-is_empty.true) in
-      finishes_none ahead old.frozen.numbers (firsts_in old.frozen) old.log idle empty;
+      let none_under_way = idle g (goal.at.returns-then-is_empty-clause-batch g c).Else-self in
+      let none_listed = empty g (goal.at.returns-then-is_empty-clause-batch g c).Then-is_empty in
+      finishes_none ahead old.frozen.numbers (firsts_in old.frozen) old.log none_under_way none_listed;
   retires = search rules;
   active = search rules;
   fills = λ on filling listed.
       let old = c.args.self.now.cached in
-      let frozen_is : c.self.inside.frozen ≡ old.frozen = ap (λ v. v.cached.frozen) c.self.view_is in
-      let empty : old.frozen.numbers ≡ [] = subst (λ (batch : Entries). batch.numbers ≡ []) frozen_is
-      (c.is_empty.ensures.0 c.if-is_empty.true) in
-      let none = ap (λ (numbers : List ℕ). length numbers) empty in
+      let none_listed = empty g (goal.at.returns-then-is_empty-clause-batch g c).Then-is_empty in
+      let none = ap (λ (numbers : List ℕ). length numbers) none_listed in
       absurd (omega (arith, none, listed));
   stays = λ on steady. steady;
   some = λ begun.
-      let live : is_dead c.args.self.now.cached ≡ false = sym c.is_dead.ensures ∙ c.if-is_dead.false in
-      let log_is : c.self.inside.log ≡ c.args.self.now.cached.log = ap (λ v. v.cached.log) c.self.view_is in
-      let idle : c.args.self.now.cached.log.steps_left ≡ 0 = subst (λ (log : LogValue). log.steps_left ≡ 0) log_is
-      (c.self.invariant.rests (rw (← c.self.view_is) at live) c.if-self.false) in
-      absurd (omega (arith, begun, idle));
+      let none_under_way = idle g (goal.at.returns-then-is_empty-clause-batch g c).Else-self in
+      absurd (omega (arith, begun, none_under_way));
 }
 
 pub returns-clause-batch : goal.returns-clause-batch
@@ -135,19 +132,13 @@ returns-clause-batch g c =
     let ahead = c.args.self.now.goes_ahead in
     let mid = c.make_ready.new.self.cached in
     let new = c.write_out-2.new.self.cached in
-    let live : is_dead old ≡ false = sym c.is_dead.ensures ∙ c.if-is_dead.false in
-    let log_is : c.self.inside.log ≡ old.log = ap (λ v. v.cached.log) c.self.view_is in
-    let frozen_is : c.self.inside.frozen ≡ old.frozen = ap (λ v. v.cached.frozen) c.self.view_is in
-    let idle : old.log.steps_left ≡ 0 = subst (λ (log : LogValue). log.steps_left ≡ 0) log_is
-    (c.self.invariant.rests (rw (← c.self.view_is) at live) c.if-self.false) in
-    let some : 0 < length old.frozen.numbers = subst (λ (batch : Entries). 0 < length batch.numbers) frozen_is
-    (some_listed c.self.inside.frozen.numbers (λ none. false≢true (sym c.if-is_empty.false ∙ c.is_empty.ensures.1 none))) in
-    let begun_is = (c.begin.ensures.begins.live c.in_ok-begin.ensures.answer).1
-    ∙ ap (λ (batch : Entries). begun batch.numbers (firsts_in batch) mid.log) c.make_ready.ensures.ready.room.frozen in
+    let none_under_way = idle g (goal.at.returns-clause-batch g c).Else-self in
+    let some = filled g (goal.at.returns-clause-batch g c).Else-is_empty in
+    let first = begun_is g (goal.at.returns-clause-batch g c).In_ok-begin in
     let finishes : OnOk c.write_out-2.result (new.log ≡ finished ahead old.frozen old.log) =
     on_ok_weaker c.write_out-2.result
-    (λ written. made_finished ahead old.frozen.numbers (firsts_in old.frozen) old.log mid.log new.log idle some
-    c.in_ok-make_ready.ensures.ready.room.made (written ∙ ap (λ (log : LogValue). written_out log) begun_is))
+    (λ written. made_finished ahead old.frozen.numbers (firsts_in old.frozen) old.log mid.log new.log none_under_way some
+    c.in_ok-make_ready.ensures.ready.room.made (written ∙ ap (λ (log : LogValue). written_out log) first))
     c.write_out-2.ensures.batch.written in
     record {
       answers = search rules;
@@ -182,42 +173,28 @@ returns-in_err-begin-clause-passes g c =
 pub returns-then-self-clause-cost : goal.returns-then-self-clause-cost
 returns-then-self-clause-cost g c =
     let old = c.args.self.now.cached in
-    let live : is_dead old ≡ false = sym c.is_dead.ensures ∙ c.if-is_dead.false in
-    let log_is : c.self.inside.log ≡ old.log = ap (λ v. v.cached.log) c.self.view_is in
-    let some =
-    subst (λ (log : LogValue). 0 < log.steps_left) log_is (c.self.invariant.writes (rw (← c.self.view_is) at live) c.if-self.true) in
+    let some = (under_way g (goal.at.returns-then-self-clause-cost g c).Then-self).0 in
     let calls = finish_under_way c.args.self.now.goes_ahead old.frozen.numbers old.log some in
     on_ok_weaker c.write_out.result (λ all. omega (arith, all, calls)) c.write_out.ensures.exactly
 
 pub returns-then-is_empty-clause-cost : goal.returns-then-is_empty-clause-cost
 returns-then-is_empty-clause-cost g c =
     let old = c.args.self.now.cached in
-    let live : is_dead old ≡ false = sym c.is_dead.ensures ∙ c.if-is_dead.false in
-    let log_is : c.self.inside.log ≡ old.log = ap (λ v. v.cached.log) c.self.view_is in
-    let frozen_is : c.self.inside.frozen ≡ old.frozen = ap (λ v. v.cached.frozen) c.self.view_is in
-    let idle : old.log.steps_left ≡ 0 =
-    subst (λ (log : LogValue). log.steps_left ≡ 0) log_is (c.self.invariant.rests (rw (← c.self.view_is) at live) c.if-self.false) in
-    let empty : old.frozen.numbers ≡ [] =
-    subst (λ (batch : Entries). batch.numbers ≡ []) frozen_is (c.is_empty.ensures.0 c.if-is_empty.true) in
-    let none = finish_none c.args.self.now.goes_ahead old.frozen.numbers old.log idle empty in
+    let none_under_way = idle g (goal.at.returns-then-is_empty-clause-cost g c).Else-self in
+    let none_listed = empty g (goal.at.returns-then-is_empty-clause-cost g c).Then-is_empty in
+    let none = finish_none c.args.self.now.goes_ahead old.frozen.numbers old.log none_under_way none_listed in
     omega (arith, none)
 
 pub returns-clause-cost : goal.returns-clause-cost
 returns-clause-cost g c =
     let old = c.args.self.now.cached in
     let mid = c.make_ready.new.self.cached in
-    let live : is_dead old ≡ false = sym c.is_dead.ensures ∙ c.if-is_dead.false in
-    let log_is : c.self.inside.log ≡ old.log = ap (λ v. v.cached.log) c.self.view_is in
-    let frozen_is : c.self.inside.frozen ≡ old.frozen = ap (λ v. v.cached.frozen) c.self.view_is in
-    let idle : old.log.steps_left ≡ 0 =
-    subst (λ (log : LogValue). log.steps_left ≡ 0) log_is (c.self.invariant.rests (rw (← c.self.view_is) at live) c.if-self.false) in
-    let some : 0 < length old.frozen.numbers = subst (λ (batch : Entries). 0 < length batch.numbers) frozen_is
-    (some_listed c.self.inside.frozen.numbers (λ none. false≢true (sym c.if-is_empty.false ∙ c.is_empty.ensures.1 none))) in
-    let begun_is = (c.begin.ensures.begins.live c.in_ok-begin.ensures.answer).1
-    ∙ ap (λ (batch : Entries). begun batch.numbers (firsts_in batch) mid.log) c.make_ready.ensures.ready.room.frozen in
-    let steps = ap (λ (log : LogValue). log.steps_left) begun_is
+    let none_under_way = idle g (goal.at.returns-clause-cost g c).Else-self in
+    let some = filled g (goal.at.returns-clause-cost g c).Else-is_empty in
+    let first = begun_is g (goal.at.returns-clause-cost g c).In_ok-begin in
+    let steps = ap (λ (log : LogValue). log.steps_left) first
     ∙ ap (λ (shape : Shape). steps_of shape.format old.frozen.numbers) c.make_ready.ensures.ready.passes.turn.goes_on.layout_stays in
-    let calls = finish_begun c.args.self.now.goes_ahead old.frozen.numbers old.log idle some in
+    let calls = finish_begun c.args.self.now.goes_ahead old.frozen.numbers old.log none_under_way some in
     let quiet = ap (λ m. (g.M.Medium.state m).calls) c.begin.ensures.keeps.medium in
     let room = c.in_ok-make_ready.ensures.ready.cost in
     on_ok_weaker c.write_out-2.result (λ all. omega (arith, all, steps, calls, quiet, room)) c.write_out-2.ensures.exactly
@@ -240,7 +217,7 @@ returns-in_err-begin-clause-batch g c = record {
 }
 
 pub returns-then-self-clause-passes : goal.returns-then-self-clause-passes
-returns-then-self-clause-passes g c = 
+returns-then-self-clause-passes g c =
     let log_is = ap (λ v. v.cached.log) c.self.view_is in
     let few = subst (λ (log : LogValue). log.steps_left ≤ most_steps log.shape.format) log_is c.self.invariant.few_steps in
     paid_more c.write_out.ensures.passes (omega (arith, c.write_out.ensures.passes.sent, few))
@@ -251,43 +228,29 @@ returns-in_err-make_ready-clause-passes g c = paid_more c.make_ready.ensures.rea
 pub returns-then-self-clause-flushes : goal.returns-then-self-clause-flushes
 returns-then-self-clause-flushes g c =
     let old = c.args.self.now.cached in
-    let live : is_dead old ≡ false = sym c.is_dead.ensures ∙ c.if-is_dead.false in
-    let log_is : c.self.inside.log ≡ old.log = ap (λ v. v.cached.log) c.self.view_is in
-    let some =
-    subst (λ (log : LogValue). 0 < log.steps_left) log_is (c.self.invariant.writes (rw (← c.self.view_is) at live) c.if-self.true) in
+    let some = (under_way g (goal.at.returns-then-self-clause-flushes g c).Then-self).0 in
     let flushes = flushes_under_way old.frozen.numbers old.log some in
     on_ok_weaker c.write_out.result (λ all. omega (arith, all, flushes)) c.write_out.ensures.flushes
 
 pub returns-then-is_empty-clause-flushes : goal.returns-then-is_empty-clause-flushes
 returns-then-is_empty-clause-flushes g c =
     let old = c.args.self.now.cached in
-    let live : is_dead old ≡ false = sym c.is_dead.ensures ∙ c.if-is_dead.false in
-    let log_is : c.self.inside.log ≡ old.log = ap (λ v. v.cached.log) c.self.view_is in
-    let frozen_is : c.self.inside.frozen ≡ old.frozen = ap (λ v. v.cached.frozen) c.self.view_is in
-    let idle : old.log.steps_left ≡ 0 =
-    subst (λ (log : LogValue). log.steps_left ≡ 0) log_is (c.self.invariant.rests (rw (← c.self.view_is) at live) c.if-self.false) in
-    let empty : old.frozen.numbers ≡ [] =
-    subst (λ (batch : Entries). batch.numbers ≡ []) frozen_is (c.is_empty.ensures.0 c.if-is_empty.true) in
-    let none = flushes_none old.frozen.numbers old.log idle empty in
+    let none_under_way = idle g (goal.at.returns-then-is_empty-clause-flushes g c).Else-self in
+    let none_listed = empty g (goal.at.returns-then-is_empty-clause-flushes g c).Then-is_empty in
+    let none = flushes_none old.frozen.numbers old.log none_under_way none_listed in
     omega (arith, none)
 
 pub returns-clause-flushes : goal.returns-clause-flushes
 returns-clause-flushes g c =
     let old = c.args.self.now.cached in
     let mid = c.make_ready.new.self.cached in
-    let live : is_dead old ≡ false = sym c.is_dead.ensures ∙ c.if-is_dead.false in
-    let log_is : c.self.inside.log ≡ old.log = ap (λ v. v.cached.log) c.self.view_is in
-    let frozen_is : c.self.inside.frozen ≡ old.frozen = ap (λ v. v.cached.frozen) c.self.view_is in
-    let idle : old.log.steps_left ≡ 0 =
-    subst (λ (log : LogValue). log.steps_left ≡ 0) log_is (c.self.invariant.rests (rw (← c.self.view_is) at live) c.if-self.false) in
-    let some : 0 < length old.frozen.numbers = subst (λ (batch : Entries). 0 < length batch.numbers) frozen_is
-    (some_listed c.self.inside.frozen.numbers (λ none. false≢true (sym c.if-is_empty.false ∙ c.is_empty.ensures.1 none))) in
-    let begun_is = (c.begin.ensures.begins.live c.in_ok-begin.ensures.answer).1
-    ∙ ap (λ (batch : Entries). begun batch.numbers (firsts_in batch) mid.log) c.make_ready.ensures.ready.room.frozen in
-    let steps = ap (λ (log : LogValue). left_flushes log) begun_is
+    let none_under_way = idle g (goal.at.returns-clause-flushes g c).Else-self in
+    let some = filled g (goal.at.returns-clause-flushes g c).Else-is_empty in
+    let first = begun_is g (goal.at.returns-clause-flushes g c).In_ok-begin in
+    let steps = ap (λ (log : LogValue). left_flushes log) first
     ∙ ap (λ (shape : Shape). steps_flushes shape.format (steps_of shape.format old.frozen.numbers))
     c.make_ready.ensures.ready.passes.turn.goes_on.layout_stays in
-    let flushes = flushes_begun old.frozen.numbers old.log idle some in
+    let flushes = flushes_begun old.frozen.numbers old.log none_under_way some in
     let quiet = ap (λ m. (g.M.Medium.state m).made Flush) c.begin.ensures.keeps.medium in
     let room = c.in_ok-make_ready.ensures.ready.flushed in
     on_ok_weaker c.write_out-2.result (λ all. omega (arith, all, steps, flushes, quiet, room)) c.write_out-2.ensures.flushes

@@ -1,22 +1,17 @@
-use Rattle.std.proofs.Common.{◌≡◌, ◌≤◌, ◌+◌, ◌∙◌, ℕ, false, ap, sym, refl, subst, arith, rules}
+use Rattle.std.proofs.Common.{◌≡◌, ◌+◌, ◌∙◌, ap, sym, refl, subst, arith, rules}
 use Rattle.std.proofs.lemmas.Bool.{false≢true}
 use Rattle.journal.specs.Places.{Shape, limit_of}
-use Rattle.medium.specs.Medium.{State}
 use Rattle.medium.specs.Sent.{sent}
 use Rattle.medium.specs.declared.fault.MediumFault.TheVariants.{Flush}
 use Rattle.redo_log.specs.Value.{LogValue, pass_calls}
 use Rattle.blocks.specs.Ahead.{past, passed, sent_home, sent_calls}
 use Rattle.blocks.specs.Going.{StaysIdle, CountsFlush}
-use Rattle.blocks.specs.Passing.{PassesPaid, KeepsMedium}
 use Rattle.blocks.specs.Retiring.{HasSlots}
-use Rattle.blocks.specs.StoreValue.{Cached, StoreValue, layout_of, is_dead}
-use Rattle.blocks.specs.Turns.{IsTurn}
+use Rattle.blocks.specs.StoreValue.{Cached, layout_of}
 use Rattle.blocks.proofs.OldestHome.{rests_passed, rests_calls, rests_home, rests_home_calls, passes_short, calls_short}
 use Rattle.blocks.proofs.OldestHome.{goes_short, going_short}
 use Rattle.blocks.proofs.Paid.{rested, kept_paid, paid_then}
-use Rattle.blocks.proofs.TurnsJoined.{turns, stays}
-use Rattle.blocks.proofs.BackgroundCalls.{pays_both}
-use Rattle.blocks.proofs.SectorsRead.{none, looks_on}
+use Rattle.blocks.proofs.TurnsJoined.{stays}
 use Rattle.blocks.proofs.store.Store.go_ahead.Goals as goal
 
 pub returns-then-has_slots-clause-passes : goal.returns-then-has_slots-clause-passes

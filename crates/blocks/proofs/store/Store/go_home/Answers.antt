@@ -4,28 +4,20 @@ use Rattle.medium.specs.Sent.{sent}
 use Rattle.redo_log.specs.Value.{LogValue, IsAway, sends_of_oldest, most_retire_sends}
 use Rattle.blocks.proofs.OldestHome.{begins_home, goes_on_home, costs_home, sends_home, all_home, all_costs, all_sends, few_home}
 use Rattle.blocks.proofs.OldestHome.{home_stays_head}
-use Rattle.blocks.proofs.TurnsJoined.{turns, stays}
-use Rattle.blocks.proofs.BackgroundCalls.{pays, pays_both}
-use Rattle.blocks.proofs.SectorsRead.{none, looks_on}
+use Rattle.blocks.proofs.Paid.{rested, kept_paid, paid_then}
 use Rattle.blocks.proofs.store.Store.go_home.Goals as goal
 
 pub loop-self-init : goal.loop-self-init
 loop-self-init g c = record {
-  policy = refl;
-  turn = stays _ _ (g.met.M.Medium.sound c.args.self.now.medium);
-  paid = pays _ _;
+  passes = λ sends few. kept_paid g.met.M.Medium.follows_itself (rested (g.met.M.Medium.sound c.args.self.now.medium)) (λ live. omega arith);
   live = c.requires.live;
   home = begins_home c.args.self.now.cached.log;
   costs = refl;
   sends = omega arith;
   flushed = refl;
-  none_refused = refl;
   idle = c.requires.idle;
   active = refl;
   frozen = refl;
-  follows = g.met.M.Medium.follows_itself c.args.self.now.medium;
-  looks = none (g.M.Medium.state c.args.self.now.medium) (g.M.Medium.state c.args.self.now.medium) c.args.self.now.cached
-      (λ i. (g.M.Medium.state c.args.self.now.medium).looked);
 }
 
 pub loop-self-preserved : goal.loop-self-preserved
@@ -38,9 +30,9 @@ loop-self-preserved g c =
     let brings = c.bring_home.ensures.brings in
     let sent_home = brings.log c.in_ok-bring_home.ensures.answer in
     record {
-      policy = c.bring_home.ensures.passes.policy ∙ c.loop-self.invariant.policy;
-      turn = turns _ _ _ _ _ _ c.loop-self.invariant.turn c.bring_home.ensures.passes.turn;
-      paid = pays_both _ _ _ _ _ _ c.loop-self.invariant.paid c.loop-self.invariant.live c.bring_home.ensures.passes.paid;
+      passes = λ sends few.
+          let first = c.loop-self.invariant.passes (sent (g.M.Medium.state c.loop-self.self.medium)) (omega arith) in
+          paid_then g.met.M.Medium.follows_through first c.loop-self.invariant.live c.bring_home.ensures.passes few;
       live = c.in_ok-bring_home.ensures.answer;
       home = goes_on_home old mid new away sent_home c.loop-self.invariant.home;
       costs = costs_home old mid new (g.M.Medium.state c.args.self.now.medium).calls (g.M.Medium.state c.loop-self.self.medium).calls
@@ -50,54 +42,32 @@ loop-self-preserved g c =
           (sent (g.M.Medium.state c.bring_home.new.self.medium)) away sent_home c.loop-self.invariant.home brings.sent
           c.loop-self.invariant.sends;
       flushed = brings.flushed ∙ c.loop-self.invariant.flushed;
-      none_refused =
-          let none = c.bring_home.ensures.passes.none_refused c.in_ok-bring_home.ensures.answer in
-          omega (arith, none, c.loop-self.invariant.none_refused);
       idle = brings.stays.idle;
       active = brings.stays.active ∙ c.loop-self.invariant.active;
       frozen = brings.stays.frozen ∙ c.loop-self.invariant.frozen;
-      follows = g.met.M.Medium.follows_through _ _ _ c.loop-self.invariant.follows c.bring_home.ensures.passes.follows;
-      looks = looks_on (g.M.Medium.state c.args.self.now.medium) (g.M.Medium.state c.loop-self.self.medium)
-          (g.M.Medium.state c.bring_home.new.self.medium) c.args.self.now.cached c.loop-self.self.cached
-          c.loop-self.invariant.turn.goes_on.layout_stays c.loop-self.invariant.looks c.bring_home.ensures.passes.looks;
     }
 
 pub returns-in_err-bring_home-clause-passes : goal.returns-in_err-bring_home-clause-passes
-returns-in_err-bring_home-clause-passes g c = record {
-  policy = search rules;
-  turn = turns _ _ _ _ _ _ c.loop-self.invariant.turn c.bring_home.ensures.passes.turn;
-  paid = pays_both _ _ _ _ _ _ c.loop-self.invariant.paid c.loop-self.invariant.live c.bring_home.ensures.passes.paid;
-  sent =
-      let old = c.args.self.now.cached.log in
-      let mid = c.loop-self.self.cached.log in
-      let log_is = ap (λ v. v.cached.log) c.self-in-loop-self.view_is in
-      let away : IsAway mid = subst (λ (l : LogValue). IsAway l) log_is (c.is_away.ensures.0 c.loop-self-test.true) in
-      let few = subst (λ (log : LogValue). sends_of_oldest log ≤ most_retire_sends log.shape.format) (ap (λ v. v.cached.log) c.self.view_is)
-      c.has_room-few.ensures.few in
-      few_home old mid (sent (g.M.Medium.state c.args.self.now.medium)) (sent (g.M.Medium.state c.loop-self.self.medium))
-      (sent (g.M.Medium.state c.bring_home.new.self.medium)) away c.loop-self.invariant.home c.bring_home.ensures.brings.sent few
-      c.loop-self.invariant.sends;
-  none_refused = search rules;
-  follows = g.met.M.Medium.follows_through _ _ _ c.loop-self.invariant.follows c.bring_home.ensures.passes.follows;
-  looks = looks_on (g.M.Medium.state c.args.self.now.medium) (g.M.Medium.state c.loop-self.self.medium)
-      (g.M.Medium.state c.bring_home.new.self.medium) c.args.self.now.cached c.loop-self.self.cached
-      c.loop-self.invariant.turn.goes_on.layout_stays c.loop-self.invariant.looks c.bring_home.ensures.passes.looks;
-}
+returns-in_err-bring_home-clause-passes g c =
+    let old = c.args.self.now.cached.log in
+    let mid = c.loop-self.self.cached.log in
+    let log_is = ap (λ v. v.cached.log) c.self-in-loop-self.view_is in
+    let away : IsAway mid = subst (λ (l : LogValue). IsAway l) log_is (c.is_away.ensures.0 c.loop-self-test.true) in
+    let few = subst (λ (log : LogValue). sends_of_oldest log ≤ most_retire_sends log.shape.format) (ap (λ v. v.cached.log) c.self.view_is)
+    c.has_room-few.ensures.few in
+    let first = c.loop-self.invariant.passes (sent (g.M.Medium.state c.loop-self.self.medium)) (omega arith) in
+    paid_then g.met.M.Medium.follows_through first c.loop-self.invariant.live c.bring_home.ensures.passes
+    (few_home old mid (sent (g.M.Medium.state c.args.self.now.medium)) (sent (g.M.Medium.state c.loop-self.self.medium))
+    (sent (g.M.Medium.state c.bring_home.new.self.medium)) away c.loop-self.invariant.home c.bring_home.ensures.brings.sent few
+    c.loop-self.invariant.sends)
 
 pub returns-clause-passes : goal.returns-clause-passes
-returns-clause-passes g c = record {
-  policy = c.loop-self.invariant.policy;
-  turn = c.loop-self.invariant.turn;
-  paid = c.loop-self.invariant.paid;
-  sent =
-      let few = subst (λ (log : LogValue). sends_of_oldest log ≤ most_retire_sends log.shape.format) (ap (λ v. v.cached.log) c.self.view_is)
-      c.has_room-few.ensures.few in
-      all_sends c.args.self.now.cached.log c.loop-self.self.cached.log (sent (g.M.Medium.state c.args.self.now.medium))
-      (sent (g.M.Medium.state c.loop-self.self.medium)) c.loop-self.invariant.home few c.loop-self.invariant.sends;
-  none_refused = λ live. c.loop-self.invariant.none_refused;
-  follows = c.loop-self.invariant.follows;
-  looks = c.loop-self.invariant.looks;
-}
+returns-clause-passes g c =
+    let few = subst (λ (log : LogValue). sends_of_oldest log ≤ most_retire_sends log.shape.format) (ap (λ v. v.cached.log) c.self.view_is)
+    c.has_room-few.ensures.few in
+    c.loop-self.invariant.passes _ (all_sends c.args.self.now.cached.log c.loop-self.self.cached.log
+    (sent (g.M.Medium.state c.args.self.now.medium)) (sent (g.M.Medium.state c.loop-self.self.medium)) c.loop-self.invariant.home few
+    c.loop-self.invariant.sends)
 
 pub returns-in_err-bring_home-clause-going : goal.returns-in_err-bring_home-clause-going
 returns-in_err-bring_home-clause-going g c =

@@ -1,17 +1,15 @@
-use Rattle.std.proofs.Common.{◌≡◌, false}
-use Rattle.medium.specs.Sent.{sent}
+use Rattle.std.proofs.Common.{◌≡◌, ℕ, false}
+use Rattle.medium.specs.Sent.{sent, SendsUpTo}
 use Rattle.medium.specs.declared.fault.MediumFault.TheVariants.{Flush}
-use Rattle.blocks.specs.Looks.{LooksAtLog}
+use Rattle.blocks.specs.Passing.{PassesPaid}
 use Rattle.blocks.specs.StoreValue.{is_dead, steps_left}
-use Rattle.blocks.specs.Turns.{IsTurn, IsPaid}
 use Rattle.blocks.proofs.OldestHome.{GoesHome, CostsHome, SendsHome}
 use Rattle.blocks.proofs.store.Store.go_home.Given as goal
 
 abbrev pub invariant-loop-self : goal.invariant-loop-self
 invariant-loop-self g l = record {
-  policy : l.self.goes_ahead ≡ l.fn.self.goes_ahead;
-  turn : IsTurn (g.M.Medium.state l.fn.self.medium) (g.M.Medium.state l.self.medium) l.fn.self.cached l.self.cached;
-  paid : IsPaid (g.M.Medium.state l.fn.self.medium) (g.M.Medium.state l.self.medium) l.fn.self.cached l.self.cached;
+  passes : (sends : ℕ) → SendsUpTo sends (g.M.Medium.state l.fn.self.medium) (g.M.Medium.state l.self.medium)
+      → PassesPaid g.M.Medium.state g.M.Medium.follows sends l.fn.self l.self;
   live : is_dead l.self.cached ≡ false;
   home : GoesHome l.fn.self.cached.log l.self.cached.log;
   costs : CostsHome l.fn.self.cached.log l.self.cached.log (g.M.Medium.state l.fn.self.medium).calls
@@ -19,12 +17,9 @@ invariant-loop-self g l = record {
   sends : SendsHome l.fn.self.cached.log l.self.cached.log (sent (g.M.Medium.state l.fn.self.medium))
       (sent (g.M.Medium.state l.self.medium));
   flushed : (g.M.Medium.state l.self.medium).made Flush ≡ (g.M.Medium.state l.fn.self.medium).made Flush;
-  none_refused : (g.M.Medium.state l.self.medium).failures ≡ (g.M.Medium.state l.fn.self.medium).failures;
   idle : l.self.cached.log.steps_left ≡ 0;
   active : l.self.cached.active ≡ l.fn.self.cached.active;
   frozen : l.self.cached.frozen ≡ l.fn.self.cached.frozen;
-  follows : g.M.Medium.follows l.fn.self.medium l.self.medium;
-  looks : LooksAtLog (g.M.Medium.state l.fn.self.medium) (g.M.Medium.state l.self.medium) l.fn.self.cached;
 }
 
 abbrev pub decreases-loop-self : goal.decreases-loop-self

@@ -3,8 +3,6 @@ use Rattle.std.proofs.lemmas.Bool.{false≢true}
 use Rattle.medium.proofs.Moments.{unchanged}
 use Rattle.redo_log.specs.Value.{LogValue, CanPass, IsAway}
 use Rattle.blocks.proofs.Paid.{rested, kept_on}
-use Rattle.blocks.proofs.TurnsJoined.{stays}
-use Rattle.blocks.proofs.SectorsRead.{none}
 use Rattle.blocks.proofs.store.Store.step_ahead.Goals as goal
 
 pub returns : goal.returns

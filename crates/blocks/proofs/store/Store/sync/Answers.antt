@@ -19,8 +19,6 @@ use Rattle.blocks.proofs.AllHome.{none_of}
 use Rattle.blocks.proofs.RoomFlushes.{flushes_of, once}
 use Rattle.blocks.proofs.Steady.{steady_sync, steady_roomy}
 use Rattle.blocks.proofs.Paid.{swapped_steps, kept_paid, paid_then, paid_more}
-use Rattle.blocks.proofs.TurnsJoined.{turns}
-use Rattle.blocks.proofs.SectorsRead.{none, looks_on}
 use Rattle.blocks.proofs.FlushesOnce.{both_durable}
 use Rattle.blocks.proofs.store.Store.sync.Given.{Over}
 use Rattle.blocks.proofs.store.Store.sync.Goals as goal

@@ -1,9 +1,7 @@
-use Rattle.std.proofs.Common.{Bool, subst, rules}
+use Rattle.std.proofs.Common.{Bool, subst}
 use Rattle.blocks.specs.Background.{IsBackgroundStep}
 use Rattle.blocks.proofs.Headroom.{headroom_stepped}
 use Rattle.blocks.proofs.Paid.{rested, kept_on}
-use Rattle.blocks.proofs.TurnsJoined.{stays}
-use Rattle.blocks.proofs.SectorsRead.{none}
 use Rattle.blocks.proofs.store.Store.tick.Goals as goal
 
 pub returns-then-is_dead-clause-passes : goal.returns-then-is_dead-clause-passes

@@ -8,7 +8,7 @@ use Rattle.blocks.specs.Work.{GoesOnAhead, with_counted}
 use Rattle.blocks.proofs.AheadSteps.{cached_is, none_counted, store_is}
 use Rattle.blocks.proofs.SectorsRead.{none, looks_on}
 use Rattle.blocks.proofs.Paid.{rested, kept_on}
-use Rattle.blocks.proofs.TurnsJoined.{stays, turns}
+use Rattle.blocks.proofs.TurnsJoined.{turns}
 use Rattle.blocks.proofs.store.Store.work_ahead.Goals as goal
 use Rattle.blocks.proofs.store.Store.work_ahead.Goals.{then-not-self-via-then-not-self, then-not-self-via-else-not-self+then-self}
 use Rattle.blocks.proofs.store.Store.work_ahead.Goals.{then-not-self-via-else-not-self+else-self+then-is_dead}

@@ -1,45 +1,42 @@
-use Rattle.std.proofs.Common.{refl, ◌∙◌, arith, ap, rules}
+use Rattle.std.proofs.Common.{ℕ, refl, ◌∙◌, arith, ap, rules}
 use Rattle.std.specs.Prelude.{Ok}
 use Rattle.blocks.proofs.Room.{writes_more, writes_last}
 use Rattle.blocks.proofs.RoomFlushes.{flushes_step, flushes_done}
 use Rattle.blocks.proofs.RecordWrites.{one_less}
-use Rattle.blocks.proofs.TurnsJoined.{turns, stays}
-use Rattle.blocks.proofs.BackgroundCalls.{pays, pays_both, pays_step}
-use Rattle.blocks.proofs.SectorsRead.{none, looks_on}
+use Rattle.medium.specs.Sent.{sent, SendsUpTo}
+use Rattle.blocks.specs.Passing.{PassesPaid}
+use Rattle.blocks.proofs.Paid.{rested, kept_paid, paid_then, on_paid}
+use Rattle.blocks.proofs.store.Store.write_out.Given.{Over}
 use Rattle.blocks.proofs.store.Store.write_out.Goals as goal
+use Rattle.blocks.proofs.store.Store.write_out.Goals.{After-step}
+
+-- a step is made
+step_passes : (g : Over) (c : After-step g) → {sends : ℕ}
+    → SendsUpTo sends (g.M.Medium.state c.args.self.now.medium) (g.M.Medium.state c.step.new.self.medium)
+    → PassesPaid g.M.Medium.state g.M.Medium.follows sends c.args.self.now c.step.new.self
+step_passes g c few =
+    let first = c.loop.invariant.passes (sent (g.M.Medium.state c.loop.self.medium)) (omega arith) in
+    let passes = c.step.ensures.passes in
+    paid_then g.met.M.Medium.follows_through first c.loop.invariant.live
+    (on_paid (omega (arith, c.loop.invariant.under_way)) c.step.ensures.writes.falls (omega (arith, passes.calls)) passes) few
 
 pub loop-init : goal.loop-init
 loop-init g c = record {
-  policy = refl;
-  turn = stays _ _ (g.met.M.Medium.sound c.args.self.now.medium);
-  paid = pays _ _;
+  passes = λ sends few. kept_paid g.met.M.Medium.follows_itself (rested (g.met.M.Medium.sound c.args.self.now.medium)) (λ live. omega arith);
   live = c.requires.live;
   under_way = c.requires.under_way;
   so_far = refl;
   exactly = refl;
   sends = omega arith;
   flushes = refl;
-  none_refused = refl;
   head = refl;
   active = refl;
-  follows = g.met.M.Medium.follows_itself c.args.self.now.medium;
-  looks = none (g.M.Medium.state c.args.self.now.medium) (g.M.Medium.state c.args.self.now.medium) c.args.self.now.cached
-      (λ i. (g.M.Medium.state c.args.self.now.medium).looked);
 }
 
 pub returns-in_err-step : goal.returns-in_err-step
 returns-in_err-step g c = record {
-  passes = record {
-    policy = search rules;
-    turn = turns _ _ _ _ _ _ c.loop.invariant.turn c.step.ensures.passes.turn;
-    paid = search rules;
-    sent = omega (arith, c.loop.invariant.sends, c.step.ensures.passes.sent, c.loop.invariant.under_way);
-    none_refused = search rules;
-    follows = search rules;
-    looks = looks_on (g.M.Medium.state c.args.self.now.medium) (g.M.Medium.state c.loop.self.medium)
-        (g.M.Medium.state c.step.new.self.medium) c.args.self.now.cached c.loop.self.cached
-        c.loop.invariant.turn.goes_on.layout_stays c.loop.invariant.looks c.step.ensures.passes.looks;
-  };
+  passes = step_passes g (goal.at.returns-in_err-step g c).After-step
+      (omega (arith, c.loop.invariant.sends, c.step.ensures.passes.sent, c.loop.invariant.under_way));
   answer = search rules;
   batch = search rules;
   exactly = search rules;
@@ -48,11 +45,7 @@ returns-in_err-step g c = record {
 
 pub loop-preserved : goal.loop-preserved
 loop-preserved g c = record {
-  policy = c.step.ensures.passes.policy ∙ c.loop.invariant.policy;
-  turn = turns _ _ _ _ _ _ c.loop.invariant.turn c.step.ensures.passes.turn;
-  paid = pays_both _ _ _ _ _ _ c.loop.invariant.paid c.loop.invariant.live
-      (pays_step (g.M.Medium.state c.loop.self.medium) (g.M.Medium.state c.step.new.self.medium) c.loop.self.cached c.step.new.self.cached
-      (omega (arith, c.loop.invariant.under_way)) (omega (arith, c.step.ensures.passes.calls)) c.step.ensures.writes.falls);
+  passes = λ sends few. step_passes g (goal.at.loop-preserved g c).After-step few;
   live = c.in_ok-step.ensures.answer;
   under_way = c.step.ensures.tells.more (c.in_ok-step.was ∙ ap Ok c.in-More.is);
   so_far =
@@ -71,30 +64,14 @@ loop-preserved g c = record {
       let gone = c.step.ensures.record_step.live c.in_ok-step.ensures.answer in
       let less = flushes_step gone.1 c.loop.self.cached.log c.step.new.self.cached.log c.loop.invariant.under_way gone.2.log in
       omega (arith, less, c.step.ensures.record_step.flushed, c.loop.invariant.flushes);
-  none_refused =
-      let none = c.step.ensures.passes.none_refused c.in_ok-step.ensures.answer in
-      omega (arith, none, c.loop.invariant.none_refused);
   head = c.step.ensures.writes.head ∙ c.loop.invariant.head;
   active = c.step.ensures.writes.active ∙ c.loop.invariant.active;
-  follows = g.met.M.Medium.follows_through _ _ _ c.loop.invariant.follows c.step.ensures.passes.follows;
-  looks = looks_on (g.M.Medium.state c.args.self.now.medium) (g.M.Medium.state c.loop.self.medium) (g.M.Medium.state c.step.new.self.medium)
-      c.args.self.now.cached c.loop.self.cached c.loop.invariant.turn.goes_on.layout_stays c.loop.invariant.looks
-      c.step.ensures.passes.looks;
 }
 
 pub returns : goal.returns
 returns g c = record {
-  passes = record {
-    policy = search rules;
-    turn = turns _ _ _ _ _ _ c.loop.invariant.turn c.step.ensures.passes.turn;
-    paid = search rules;
-    sent = omega (arith, c.loop.invariant.sends, c.step.ensures.passes.sent, c.loop.invariant.under_way);
-    none_refused = search rules;
-    follows = search rules;
-    looks = looks_on (g.M.Medium.state c.args.self.now.medium) (g.M.Medium.state c.loop.self.medium)
-        (g.M.Medium.state c.step.new.self.medium) c.args.self.now.cached c.loop.self.cached
-        c.loop.invariant.turn.goes_on.layout_stays c.loop.invariant.looks c.step.ensures.passes.looks;
-  };
+  passes = step_passes g (goal.at.returns g c).After-step
+      (omega (arith, c.loop.invariant.sends, c.step.ensures.passes.sent, c.loop.invariant.under_way));
   answer = search rules;
   batch = record {
     done = search rules;

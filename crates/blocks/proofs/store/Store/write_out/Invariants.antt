@@ -1,17 +1,15 @@
-use Rattle.std.proofs.Common.{◌≡◌, ◌<◌, ◌≤◌, ◌+◌, false}
-use Rattle.medium.specs.Sent.{sent}
+use Rattle.std.proofs.Common.{◌≡◌, ◌<◌, ◌≤◌, ◌+◌, ℕ, false}
+use Rattle.medium.specs.Sent.{sent, SendsUpTo}
 use Rattle.medium.specs.declared.fault.MediumFault.TheVariants.{Flush}
 use Rattle.blocks.specs.Flushing.{left_flushes}
-use Rattle.blocks.specs.Looks.{LooksAtLog}
+use Rattle.blocks.specs.Passing.{PassesPaid}
 use Rattle.blocks.specs.StoreValue.{is_dead, steps_left}
-use Rattle.blocks.specs.Turns.{IsTurn, IsPaid}
 use Rattle.blocks.proofs.store.Store.write_out.Given as goal
 
 abbrev pub invariant-loop : goal.invariant-loop
 invariant-loop g l = record {
-  policy : l.self.goes_ahead ≡ l.fn.self.goes_ahead;
-  turn : IsTurn (g.M.Medium.state l.fn.self.medium) (g.M.Medium.state l.self.medium) l.fn.self.cached l.self.cached;
-  paid : IsPaid (g.M.Medium.state l.fn.self.medium) (g.M.Medium.state l.self.medium) l.fn.self.cached l.self.cached;
+  passes : (sends : ℕ) → SendsUpTo sends (g.M.Medium.state l.fn.self.medium) (g.M.Medium.state l.self.medium)
+      → PassesPaid g.M.Medium.state g.M.Medium.follows sends l.fn.self l.self;
   live : is_dead l.self.cached ≡ false;
   under_way : 0 < l.self.cached.log.steps_left;
   so_far : l.self.cached.log ≡ record l.fn.self.cached.log { steps_left = l.self.cached.log.steps_left };
@@ -21,11 +19,8 @@ invariant-loop g l = record {
       ≤ sent (g.M.Medium.state l.fn.self.medium) + l.fn.self.cached.log.steps_left;
   flushes : (g.M.Medium.state l.self.medium).made Flush + left_flushes l.self.cached.log
       ≡ (g.M.Medium.state l.fn.self.medium).made Flush + left_flushes l.fn.self.cached.log;
-  none_refused : (g.M.Medium.state l.self.medium).failures ≡ (g.M.Medium.state l.fn.self.medium).failures;
   head : l.self.cached.log.head ≡ l.fn.self.cached.log.head;
   active : l.self.cached.active ≡ l.fn.self.cached.active;
-  follows : g.M.Medium.follows l.fn.self.medium l.self.medium;
-  looks : LooksAtLog (g.M.Medium.state l.fn.self.medium) (g.M.Medium.state l.self.medium) l.fn.self.cached;
 }
 
 abbrev pub decreases-loop : goal.decreases-loop
