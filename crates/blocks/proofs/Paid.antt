@@ -55,6 +55,15 @@ module _ {M : Type 0} {state : M → State} {Follows : M → M → Type 0} where
         policy = on.policy;
       }
 
+  -- nothing was done, as a record of each kind tells it
+  pub rested_on : {most sends : ℕ} {old : StoreValue M} → ((m : M) → Follows m m) → ((m : M) → IsSound (state m))
+      → PassesOn state Follows IsTurn most sends old old
+  rested_on {old = old} itself sound = kept_on itself (rested (sound old.medium))
+
+  pub rested_paid : {sends : ℕ} {old : StoreValue M} → ((m : M) → Follows m m) → ((m : M) → IsSound (state m))
+      → PassesPaid state Follows sends old old
+  rested_paid {old = old} itself sound = kept_paid itself (rested (sound old.medium)) (λ live. omega arith)
+
   -- one call after another, with so many writes and flushes in all
   pub paid_then : {first last all : ℕ} {old mid new : StoreValue M} → ((m n k : M) → Follows m n → Follows n k → Follows m k)
       → PassesPaid state Follows first old mid → is_dead mid.cached ≡ false → PassesPaid state Follows last mid new

@@ -17,7 +17,7 @@ use Rattle.blocks.proofs.Ready.{made_finished}
 use Rattle.blocks.specs.StoreValue.{is_dead, firsts_in}
 use Rattle.blocks.specs.Steady.{IsSteady, IsFuller}
 use Rattle.blocks.proofs.RoomCalls.{finish_under_way, finish_none, finish_begun}
-use Rattle.blocks.proofs.Paid.{rested, kept_paid, paid_then, paid_more}
+use Rattle.blocks.proofs.Paid.{kept_paid, paid_then, paid_more, rested_paid}
 use Rattle.blocks.proofs.store.Store.finish.Given.{Over}
 use Rattle.blocks.proofs.store.Store.finish.Goals as goal
 use Rattle.blocks.proofs.store.Store.finish.Goals.{Then-self, Else-self, Then-is_empty, Else-is_empty, In_ok-begin}
@@ -50,11 +50,12 @@ filled g c =
 begun_is : (g : Over) (c : In_ok-begin g) → c.begin.new.self.cached.log
     ≡ begun c.args.self.now.cached.frozen.numbers (firsts_in c.args.self.now.cached.frozen) c.make_ready.new.self.cached.log
 begun_is g c =
+    let mid = c.make_ready.new.self.cached.log in
     (c.begin.ensures.begins.live c.in_ok-begin.ensures.answer).1
-    ∙ ap (λ (batch : Entries). begun batch.numbers (firsts_in batch) c.make_ready.new.self.cached.log) c.make_ready.ensures.ready.room.frozen
+    ∙ ap (λ (batch : Entries). begun batch.numbers (firsts_in batch) mid) c.make_ready.ensures.ready.room.frozen
 
 pub returns-then-is_dead-clause-passes : goal.returns-then-is_dead-clause-passes
-returns-then-is_dead-clause-passes g c = kept_paid g.met.M.Medium.follows_itself (rested (g.met.M.Medium.sound c.args.self.now.medium)) (λ live. omega arith)
+returns-then-is_dead-clause-passes g c = rested_paid g.met.M.Medium.follows_itself g.met.M.Medium.sound
 
 pub returns-then-self-clause-batch : goal.returns-then-self-clause-batch
 returns-then-self-clause-batch g c =
@@ -75,7 +76,7 @@ returns-then-self-clause-batch g c =
     }
 
 pub returns-then-is_empty-clause-passes : goal.returns-then-is_empty-clause-passes
-returns-then-is_empty-clause-passes g c = kept_paid g.met.M.Medium.follows_itself (rested (g.met.M.Medium.sound c.args.self.now.medium)) (λ live. omega arith)
+returns-then-is_empty-clause-passes g c = rested_paid g.met.M.Medium.follows_itself g.met.M.Medium.sound
 
 pub returns-clause-passes : goal.returns-clause-passes
 returns-clause-passes g c =
@@ -223,7 +224,8 @@ returns-then-self-clause-passes g c =
     paid_more c.write_out.ensures.passes (omega (arith, c.write_out.ensures.passes.sent, few))
 
 pub returns-in_err-make_ready-clause-passes : goal.returns-in_err-make_ready-clause-passes
-returns-in_err-make_ready-clause-passes g c = paid_more c.make_ready.ensures.ready.passes (omega (arith, c.make_ready.ensures.ready.passes.sent))
+returns-in_err-make_ready-clause-passes g c =
+    let passes = c.make_ready.ensures.ready.passes in paid_more passes (omega (arith, passes.sent))
 
 pub returns-then-self-clause-flushes : goal.returns-then-self-clause-flushes
 returns-then-self-clause-flushes g c =

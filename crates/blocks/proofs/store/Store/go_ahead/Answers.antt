@@ -10,12 +10,12 @@ use Rattle.blocks.specs.Retiring.{HasSlots}
 use Rattle.blocks.specs.StoreValue.{Cached, layout_of}
 use Rattle.blocks.proofs.OldestHome.{rests_passed, rests_calls, rests_home, rests_home_calls, passes_short, calls_short}
 use Rattle.blocks.proofs.OldestHome.{goes_short, going_short}
-use Rattle.blocks.proofs.Paid.{rested, kept_paid, paid_then}
+use Rattle.blocks.proofs.Paid.{kept_paid, paid_then, rested_paid}
 use Rattle.blocks.proofs.TurnsJoined.{stays}
 use Rattle.blocks.proofs.store.Store.go_ahead.Goals as goal
 
 pub returns-then-has_slots-clause-passes : goal.returns-then-has_slots-clause-passes
-returns-then-has_slots-clause-passes g c = kept_paid g.met.M.Medium.follows_itself (rested (g.met.M.Medium.sound c.args.self.now.medium)) (λ live. omega arith)
+returns-then-has_slots-clause-passes g c = rested_paid g.met.M.Medium.follows_itself g.met.M.Medium.sound
 
 pub returns-then-has_slots-clause-going : goal.returns-then-has_slots-clause-going
 returns-then-has_slots-clause-going g c =

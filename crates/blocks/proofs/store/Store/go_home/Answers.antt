@@ -4,12 +4,12 @@ use Rattle.medium.specs.Sent.{sent}
 use Rattle.redo_log.specs.Value.{LogValue, IsAway, sends_of_oldest, most_retire_sends}
 use Rattle.blocks.proofs.OldestHome.{begins_home, goes_on_home, costs_home, sends_home, all_home, all_costs, all_sends, few_home}
 use Rattle.blocks.proofs.OldestHome.{home_stays_head}
-use Rattle.blocks.proofs.Paid.{rested, kept_paid, paid_then}
+use Rattle.blocks.proofs.Paid.{paid_then, rested_paid}
 use Rattle.blocks.proofs.store.Store.go_home.Goals as goal
 
 pub loop-self-init : goal.loop-self-init
 loop-self-init g c = record {
-  passes = λ sends few. kept_paid g.met.M.Medium.follows_itself (rested (g.met.M.Medium.sound c.args.self.now.medium)) (λ live. omega arith);
+  passes = λ sends few. rested_paid g.met.M.Medium.follows_itself g.met.M.Medium.sound;
   live = c.requires.live;
   home = begins_home c.args.self.now.cached.log;
   costs = refl;

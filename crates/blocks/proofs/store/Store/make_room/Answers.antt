@@ -12,7 +12,7 @@ use Rattle.blocks.proofs.RoomFlushes.{FlushesOldest, flushes_more, flushes_room}
 use Rattle.blocks.proofs.RoomSent.{SendsOldest, sends_more, sends_refused, sends_room}
 use Rattle.blocks.specs.Passing.{PassesPaid}
 use Rattle.blocks.proofs.BackgroundCalls.{must_retire}
-use Rattle.blocks.proofs.Paid.{rested, kept_paid, paid_then, on_paid}
+use Rattle.blocks.proofs.Paid.{paid_then, on_paid, rested_paid}
 use Rattle.blocks.proofs.store.Store.make_room.Given.{Over}
 use Rattle.blocks.proofs.store.Store.make_room.Goals as goal
 use Rattle.blocks.proofs.store.Store.make_room.Goals.{After-retire}
@@ -36,7 +36,7 @@ step_passes g c few =
 
 pub loop-self-init : goal.loop-self-init
 loop-self-init g c = record {
-  passes = λ sends few. kept_paid g.met.M.Medium.follows_itself (rested (g.met.M.Medium.sound c.args.self.now.medium)) (λ live. omega arith);
+  passes = λ sends few. rested_paid g.met.M.Medium.follows_itself g.met.M.Medium.sound;
   live = c.requires.live;
   stays = λ room. refl;
   quiet = λ room. refl;
@@ -64,7 +64,8 @@ loop-self-preserved g c =
     let under_way = kept.none_under_way live idle in
     let slots : 1 ≤ c.self-in-loop-self.inside.log.shape.slots =
     omega (arith, ap (λ (s : Shape). s.slots) kept.shape, c.self-in-loop-self.inside.sizes.some_slots) in
-    let stepped = (c.retire.ensures.retiring.live (must_step g (goal.at.loop-self-preserved g c).After-retire).0 c.in_ok-retire.ensures.answer).1 in
+    let waits = (must_step g (goal.at.loop-self-preserved g c).After-retire).0 in
+    let stepped = (c.retire.ensures.retiring.live waits c.in_ok-retire.ensures.answer).1 in
     let log_is = ap (λ v. v.cached.log) c.self-in-loop-self.view_is in
     record {
       passes = λ sends few. step_passes g (goal.at.loop-self-preserved g c).After-retire few;

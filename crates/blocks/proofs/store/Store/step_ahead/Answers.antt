@@ -2,7 +2,7 @@ use Rattle.std.proofs.Common.{ap, sym, subst, ◌∙◌, refl, arith}
 use Rattle.std.proofs.lemmas.Bool.{false≢true}
 use Rattle.medium.proofs.Moments.{unchanged}
 use Rattle.redo_log.specs.Value.{LogValue, CanPass, IsAway}
-use Rattle.blocks.proofs.Paid.{rested, kept_on}
+use Rattle.blocks.proofs.Paid.{rested_on}
 use Rattle.blocks.proofs.store.Store.step_ahead.Goals as goal
 
 pub returns : goal.returns
@@ -11,7 +11,7 @@ returns g c =
     let m = g.M.Medium.state c.args.self.now.medium in
     let s = c.args.self.now.cached in
     record {
-      passes = kept_on g.met.M.Medium.follows_itself (rested (g.met.M.Medium.sound c.args.self.now.medium));
+      passes = rested_on g.met.M.Medium.follows_itself g.met.M.Medium.sound;
       goes = record {
         passes = λ can. absurd (false≢true (sym c.if-can_pass.false
             ∙ c.can_pass.ensures.1 (subst (λ (l : LogValue). CanPass l) (sym log_is) can)));

@@ -1,11 +1,11 @@
 use Rattle.std.proofs.Common.{Bool, subst}
 use Rattle.blocks.specs.Background.{IsBackgroundStep}
 use Rattle.blocks.proofs.Headroom.{headroom_stepped}
-use Rattle.blocks.proofs.Paid.{rested, kept_on}
+use Rattle.blocks.proofs.Paid.{rested_on}
 use Rattle.blocks.proofs.store.Store.tick.Goals as goal
 
 pub returns-then-is_dead-clause-passes : goal.returns-then-is_dead-clause-passes
-returns-then-is_dead-clause-passes g c = kept_on g.met.M.Medium.follows_itself (rested (g.met.M.Medium.sound c.args.self.now.medium))
+returns-then-is_dead-clause-passes g c = rested_on g.met.M.Medium.follows_itself g.met.M.Medium.sound
 
 pub returns-clause-headroom : goal.returns-clause-headroom
 returns-clause-headroom g c on head live =

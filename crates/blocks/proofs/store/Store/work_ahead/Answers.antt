@@ -7,7 +7,7 @@ use Rattle.blocks.specs.StoreValue.{Cached, is_dead}
 use Rattle.blocks.specs.Work.{GoesOnAhead, with_counted}
 use Rattle.blocks.proofs.AheadSteps.{cached_is, none_counted, store_is}
 use Rattle.blocks.proofs.SectorsRead.{none, looks_on}
-use Rattle.blocks.proofs.Paid.{rested, kept_on}
+use Rattle.blocks.proofs.Paid.{rested_on}
 use Rattle.blocks.proofs.TurnsJoined.{turns}
 use Rattle.blocks.proofs.store.Store.work_ahead.Goals as goal
 use Rattle.blocks.proofs.store.Store.work_ahead.Goals.{then-not-self-via-then-not-self, then-not-self-via-else-not-self+then-self}
@@ -18,7 +18,7 @@ returns-then-not-self g c =
     let old = c.args.self.now in
     let m = g.M.Medium.state old.medium in
     record {
-      passes = kept_on g.met.M.Medium.follows_itself (rested (g.met.M.Medium.sound old.medium));
+      passes = rested_on g.met.M.Medium.follows_itself g.met.M.Medium.sound;
       order = record {
         dead = λ dead. (refl, unchanged m);
         plain = λ plain. (refl, unchanged m);

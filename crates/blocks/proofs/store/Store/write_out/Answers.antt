@@ -5,7 +5,7 @@ use Rattle.blocks.proofs.RoomFlushes.{flushes_step, flushes_done}
 use Rattle.blocks.proofs.RecordWrites.{one_less}
 use Rattle.medium.specs.Sent.{sent, SendsUpTo}
 use Rattle.blocks.specs.Passing.{PassesPaid}
-use Rattle.blocks.proofs.Paid.{rested, kept_paid, paid_then, on_paid}
+use Rattle.blocks.proofs.Paid.{paid_then, on_paid, rested_paid}
 use Rattle.blocks.proofs.store.Store.write_out.Given.{Over}
 use Rattle.blocks.proofs.store.Store.write_out.Goals as goal
 use Rattle.blocks.proofs.store.Store.write_out.Goals.{After-step}
@@ -22,7 +22,7 @@ step_passes g c few =
 
 pub loop-init : goal.loop-init
 loop-init g c = record {
-  passes = λ sends few. kept_paid g.met.M.Medium.follows_itself (rested (g.met.M.Medium.sound c.args.self.now.medium)) (λ live. omega arith);
+  passes = λ sends few. rested_paid g.met.M.Medium.follows_itself g.met.M.Medium.sound;
   live = c.requires.live;
   under_way = c.requires.under_way;
   so_far = refl;
