@@ -138,7 +138,11 @@ fn ready_to_copy<S: DeviceFile>(
         refusal ⊎ WithFirst (S.holds image.now) (S.size image.now)
         (λ first. IsNotRecoveredIn first device.now.bytes refusal)) }
 {
-    let (window, sizes) = match recover_file(alloc, image, device) {
+    let first = match first_of(alloc, image) {
+        Ok(first) => first,
+        Err(refusal) => return Err(refusal),
+    };
+    let (window, sizes) = match recover_in_window(alloc, first, device) {
         Ok(recovered) => recovered,
         Err(refusal) => return Err(refusal),
     };
@@ -148,24 +152,6 @@ fn ready_to_copy<S: DeviceFile>(
             sizes,
             room,
         }),
-        Err(refusal) => Err(refusal),
-    }
-}
-
-// Recovers the image of a file in a window over its first sectors, which are read.
-fn recover_file<S: DeviceFile>(
-    alloc: Global,
-    image: &S,
-    device: &DeviceHolds,
-) -> Result<(WindowMedium, Super), Refusal>
-    ensures ok { IfOk result (λ found. WithFirst (S.holds image.now) (S.size image.now)
-        (λ first. IsRecoveredIn first device.now.bytes found.1 found.0)) }
-    ensures err { IfErr result (λ refusal. HasNoFirst (S.refuses image.now) (S.size image.now)
-        refusal ⊎ WithFirst (S.holds image.now) (S.size image.now)
-        (λ first. IsNotRecoveredIn first device.now.bytes refusal)) }
-{
-    match first_of(alloc, image) {
-        Ok(first) => recover_in_window(alloc, first, device),
         Err(refusal) => Err(refusal),
     }
 }

@@ -187,17 +187,10 @@ fn refuse<E: Write>(refusal: Refusal, err: &mut E) -> Ended
 // Writes why the words or the image were refused, where that can be written.
 fn report<E: Write>(refusal: Refusal, words: &[&str], err: &mut E) {
     let text = refusal.text();
-    let _ = match (refusal, name_of(refusal, words)) {
+    let _ = match (refusal, words) {
         (Refusal::Line(number), _) => writeln!(err, "line {number}: {text}"),
-        (_, Some(image)) => writeln!(err, "{image}: {text}"),
-        (_, None) => writeln!(err, "{text}"),
+        (Refusal::Words, _) => writeln!(err, "{text}"),
+        (_, [image, ..]) => writeln!(err, "{image}: {text}"),
+        _ => writeln!(err, "{text}"),
     };
-}
-
-// The image that a refusal names.
-fn name_of<'a>(refusal: Refusal, words: &[&'a str]) -> Option<&'a str> {
-    match refusal {
-        Refusal::Words => None,
-        _ => words.get(0).copied(),
-    }
 }

@@ -1,5 +1,21 @@
-use Rattle.std.proofs.Common.{inr, refl}
+use Rattle.std.proofs.Common.{inl, inr, refl}
+use Rattle.std.proofs.KnownBytes.{Keeps-refl}
 use Rattle.images.proofs.importing.import.Goals as goal
+
+pub returns-in-Err-clause-refused : goal.returns-in-Err-clause-refused
+returns-in-Err-clause-refused g c = rw c.refused_with.ensures (inr (record {
+  plain = c.in_ok-plain.plain;
+  opened = record { given = refl; opened = c.in_ok-plain.ensures.ok };
+  not_imported =
+      inl (record { none = refl; refused_is = c.in-Err.ensures.err; kept = Keeps-refl (g.O.Write.contents c.args.out.now) });
+}))
+
+pub returns-in-Ok-import_from-clause-done : goal.returns-in-Ok-import_from-clause-done
+returns-in-Ok-import_from-clause-done g c = record {
+  plain = c.in_ok-plain.plain;
+  opened = record { given = refl; opened = c.in_ok-plain.ensures.ok };
+  imported = c.in-Ok-import_from.ensures.ok;
+}
 
 pub returns-clause-refused : goal.returns-clause-refused
 returns-clause-refused g c = rw c.refused_with-in-Err-import_from.ensures (inr (record {

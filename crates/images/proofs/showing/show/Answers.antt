@@ -7,3 +7,10 @@ returns-in-Err-clause-refused g c = inr (record {
   opened = record { given = refl; opened = c.in_ok-file.ensures.ok };
   not_shown = c.in-Err.ensures.err;
 })
+
+pub returns-in-Ok-clause-done : goal.returns-in-Ok-clause-done
+returns-in-Ok-clause-done g c = record {
+  file = c.in_ok-file.file;
+  opened = record { given = refl; opened = c.in_ok-file.ensures.ok };
+  shown = c.in-Ok.ensures.ok;
+}
