@@ -90,10 +90,12 @@ pub idle_dead : (old new : Machine) → HasStepped old new → IsDead old → Le
 idle_dead old new (inl held) dead =
     subst (λ (s : Machine). LeavesNoMore old s × IsDead s) (sym held.1) (λ image left. left, dead)
 idle_dead old new (inr made) dead =
-    subst (λ (s : Machine). LeavesNoMore old s × IsDead s) (sym made.2) (steps_dead Settle old old.most made.1.count new.disk made.1.steps dead)
+    subst (λ (s : Machine). LeavesNoMore old s × IsDead s) (sym made.2)
+    (steps_dead Settle old old.most made.1.count new.disk made.1.steps dead)
 
 pub ahead_dead : (old new : Machine) → HasGoneAhead old new → IsDead old → LeavesNoMore old new × IsDead new
 ahead_dead old new (inl busy) dead =
     subst (λ (s : Machine). LeavesNoMore old s × IsDead s) (sym busy.1) (λ image left. left, dead)
 ahead_dead old new (inr made) dead =
-    subst (λ (s : Machine). LeavesNoMore old s × IsDead s) (sym made.2) (steps_dead Ahead old old.most made.1.count new.disk made.1.steps dead)
+    subst (λ (s : Machine). LeavesNoMore old s × IsDead s) (sym made.2)
+    (steps_dead Ahead old old.most made.1.count new.disk made.1.steps dead)
