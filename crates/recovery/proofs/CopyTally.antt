@@ -22,7 +22,7 @@ use Rattle.recovery.specs.Copying.{HasRead, IsBlockStep}
 use Rattle.recovery.specs.declared.copy_step.CopyStep.{CopyStep}
 
 -- some, and at least those of one record
-enough : (left each : ℕ) → 0 < left → each ≤ each * left
+pub enough : (left each : ℕ) → 0 < left → each ≤ each * left
 enough left each some = omega (arith, mul-le-mul_left {m = 1} {n = left} each (omega (arith, some)))
 
 module _ (format : LogFormat) (left reads writes : ℕ) where
@@ -78,7 +78,7 @@ is_named stage.Named not there = refl
 is_named stage.Missing not there = absurd (there refl)
 
 -- a record is named, or sectors of it are read
-named_or_not : (at : NamingStage) → at ≢ stage.Missing → (at ≡ stage.Named) ⊎ IsReading at
+pub named_or_not : (at : NamingStage) → at ≢ stage.Missing → (at ≡ stage.Named) ⊎ IsReading at
 named_or_not stage.Descriptor there = inr tt
 named_or_not stage.Commit there = inr tt
 named_or_not stage.Commit2 there = inr tt
@@ -106,7 +106,7 @@ spent_least format stage.Named n i has_bytes = omega arith
 spent_least format stage.Missing n i has_bytes = omega arith
 
 -- how many of these are left
-names_few : (shape : Shape) (at : NamingStage) (read : Record) → IsReader shape at read → IsReading at
+pub names_few : (shape : Shape) (at : NamingStage) (read : Record) → IsReader shape at read → IsReading at
     → (1 ≤ names_left at) × (names_left at ≤ record_reads_of shape.format)
 names_few shape stage.Descriptor read reads is = rw (reads.one refl) (omega arith, omega arith)
 names_few shape stage.Commit read reads is = rw (reads.behind_one refl).one (omega arith, omega arith)

@@ -1,13 +1,13 @@
 -- Calls, and then others: what they are together, and what is left at each moment of them; and records that are copied home.
 use Rattle.std.proofs.Common.{◌≡◌, inl, inr, ℕ, ◌+◌, ◌*◌, ◌<◌, ◌≤◌, List, [], length, get_or, refl, ◌∙◌, ap, subst, ◌⊎◌}
-use Rattle.std.proofs.Common.{⊎_elim, replicate, sym, arith, rules, Result, Ok, mul-le-mul_left, ◌≢◌, ◌-◌, IfErr, OnOk}
+use Rattle.std.proofs.Common.{⊎_elim, replicate, sym, arith, rules, Result, mul-le-mul_left, ◌≢◌, ◌-◌, IfErr, OnOk}
 use Rattle.std.proofs.Math.ListN.{get_or-map}
 use Rattle.std.proofs.lemmas.Bool.{cases_eq}
 use Rattle.std.proofs.lemmas.List.{length-map}
 use Rattle.medium.specs.Medium.{State, Image, Sets, CutLeaves, Within, IsSound, LooksOnly, Holds, Stays, Passes}
 use Rattle.medium.specs.Moments.{LeavesOnly, StaysWithin, SparesFrom, IsQuiet, EachCut}
 use Rattle.medium.proofs.Moments.{at_exit, updated, updated_here, updated_elsewhere, quiet_joined, quiet_leaves}
-use Rattle.medium.proofs.Moments.{started_within, joined_same, weaker, quiet_call}
+use Rattle.medium.proofs.Moments.{joined_same, weaker, quiet_call}
 use Rattle.medium.proofs.SparedSectors.{HasSpared, spared_joined, spared_behind, spared_quiet}
 use Rattle.spec.specs.Blocks.{Array}
 use Rattle.journal.specs.Places.{Shape, first_home, sectors_of, IsFirstHome}
@@ -21,13 +21,12 @@ use Rattle.journal.proofs.Wholeness.{in_log}
 use Rattle.journal.specs.Staged.{View, Resting}
 use Rattle.journal.proofs.Engine.{rests_found}
 use Rattle.journal.proofs.Wholeness.{with_records-same, records-hide}
-use Rattle.recovery.specs.Calls.{IsHomeOf, IsHomeInRecords, Copies, freed_at, most_reads_of, LooksAtLog, WritesAllPass}
+use Rattle.recovery.specs.Calls.{IsHomeOf, IsHomeInRecords, most_reads_of, LooksAtLog, WritesAllPass}
 use Rattle.recovery.specs.Calls.{FollowsBy, Writes, cleared_at, WithOrWithout, IsBetween, IsNoneOrNew, ImageLeaves}
 use Rattle.recovery.specs.Calls.{IsMade, IsWritten, IsNoneOrWritten, WritesImage}
 use Rattle.recovery.specs.Recovered.{IsFresh}
 use Rattle.medium.specs.declared.fault.MediumFault.{MediumFault}
-use Rattle.medium.proofs.CallsSent.{none_sent}
-use Rattle.medium.proofs.SectorsRead.{no_looks, looks_joined, looks_wider, looks_below, look_below}
+use Rattle.medium.proofs.SectorsRead.{looks_joined, looks_below, look_below}
 use Rattle.journal.specs.declared.super_sector.Super.{Super}
 use Rattle.journal.specs.declared.log_format.LogFormat.{LogFormat}
 use Rattle.journal.specs.Standing.{HasShape}

@@ -5,3 +5,6 @@ pub mod DrivenCalls
 pub mod ClearedSectors
 pub mod JoinedCalls
 pub mod WholeRecovery
+pub mod Tries
+pub mod SurveyedRecords
+pub mod SurveyTally

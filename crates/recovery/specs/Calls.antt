@@ -1,5 +1,5 @@
 -- What the calls of a recovery, a migration or a format do, cost and make, and what a cut leaves.
-use Rattle.std.specs.Prelude.{◌≡◌, ◌≢◌, ◌⊎◌, ℕ, ◌+◌, ◌*◌, ◌<◌, ◌≤◌, List, [], ◌∷◌, length, All}
+use Rattle.std.specs.Prelude.{◌≡◌, ◌≢◌, ◌⊎◌, ℕ, ◌+◌, ◌*◌, ◌<◌, ◌≤◌, List, [], ◌∷◌, length}
 use Rattle.std.specs.Prelude.{slice_index, replicate, Result, OnOk, IfErr, ◌^◌}
 use Rattle.medium.specs.Medium.{State, Image, Sets, CutLeaves, LooksOnly, Holds}
 use Rattle.medium.specs.Moments.{LeavesOnly, SparesFrom, IsFlushed}
@@ -10,7 +10,7 @@ use Rattle.journal.specs.declared.log_format.LogFormat.{LogFormat}
 use Rattle.journal.specs.declared.log_format.LogFormat.TheVariants.{One, Two}
 use Rattle.journal.specs.Places.{limit_of, slot_sectors_of}
 use Rattle.journal.specs.Standing.{HasShape}
-use Rattle.journal.specs.Sectors.{IsHead, IsRising, IsSuper}
+use Rattle.journal.specs.Sectors.{IsHead, IsSuper}
 use Rattle.journal.specs.Format2.{descriptors_of}
 use Rattle.journal.specs.Record.{Entry, numbers_of, with_records, home_of}
 use Rattle.journal.specs.Formats.{IsWhole}

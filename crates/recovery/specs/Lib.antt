@@ -4,3 +4,4 @@ pub mod Copying
 pub mod Driven
 pub mod NewImage
 pub mod Recovered
+pub mod Surveying

@@ -59,16 +59,16 @@ impl Copying {
     }
 }
 
-// A reader of the record behind this one.
-fn reader_behind(reader: &RecordReader) -> RecordReader
-    requires { reader.now.stamp + 1 < 2 ^ 63 }
+/// A reader of the record behind this one.
+pub(crate) fn reader_behind(reader: &RecordReader) -> RecordReader
+    requires { reader.now.stamp + 1 < 2 ^ 64 }
     ensures of { (result.sizes ≡ reader.now.sizes) × (result.stamp ≡ reader.now.stamp + 1) }
     ensures unread { IsUnread (shape_of reader.now.sizes) result.stamp result.stage result.read }
 {
     RecordReader::new(&reader.sizes, reader.stamp + 1)
 }
 
-// The first block of a record, of which so many are left.
+/// The first block of a record, of which so many are left.
 pub(crate) fn first_step(left: u64) -> CopyStep
     ensures { (result.left ≡ left) × (result.i ≡ 0) × (result.has_bytes ≡ false) }
 {

@@ -20,6 +20,7 @@ mod recovery;
 mod sectors;
 mod start_fault;
 mod survey;
+mod surveying;
 
 pub use format_fault::FormatFault;
 pub use formatting::{format, format2, make, sizes_of};

@@ -1,105 +1,70 @@
-use Rattle.std.proofs.Common.{◌≡◌, ◌+◌, ◌<◌, ◌≤◌, ℕ, inl, inr, List, ◌∷◌, ◌++◌, [], length, refl, arith, rules, min}
-use Rattle.std.proofs.Common.{slice_index}
-use Rattle.std.proofs.lemmas.Bool.{cases_lt}
-use Rattle.std.proofs.lemmas.List.{length-append, get_or_append_left, get_or_push}
-use Rattle.std.proofs.lemmas.List.Sums.{sum_by_push}
-use Rattle.medium.specs.Medium.{Image}
-use Rattle.medium.proofs.Moments.{quiet_start}
-use Rattle.medium.proofs.SectorsRead.{no_looks}
-use Rattle.journal.specs.declared.log_format.LogFormat.{LogFormat}
-use Rattle.journal.specs.declared.log_format.LogFormat.TheVariants.{One, Two}
-use Rattle.journal.specs.Formats.{HasWhole, shape_of}
-use Rattle.journal.specs.Places.{Shape}
-use Rattle.journal.specs.Layout.{slot_at}
-use Rattle.journal.specs.Format2.{format2}
-use Rattle.recovery.specs.Calls.{most_reads_of}
-use Rattle.recovery.specs.Causes.{IsTryTwo, IsTryOf, AreTriesOf, HasCount, AreCounts}
-use Rattle.journal.proofs.SectorsRead.{looks_on}
-use Rattle.recovery.proofs.JoinedCalls.{one_more}
+use Rattle.std.proofs.Common.{◌≡◌, ℕ, length, sym, refl, arith, rules, Ok, Result}
+use Rattle.medium.specs.Medium.{State}
+use Rattle.medium.specs.Machine.{Tallied}
+use Rattle.medium.specs.declared.fault.MediumFault.{MediumFault}
+use Rattle.medium.specs.declared.fault.MediumFault.TheVariants as fault
+use Rattle.medium.specs.Tally.{Tally}
+use Rattle.medium.proofs.Tallies.{calls_most, none_made}
+use Rattle.journal.specs.Formats.{shape_of}
+use Rattle.journal.specs.Reading.{MakesReadsAlone}
+use Rattle.recovery.specs.Surveying.{HoldsSurveyed}
+use Rattle.recovery.proofs.Tries.{counts_made}
+use Rattle.recovery.proofs.SurveyedRecords.{not_tried}
+use Rattle.recovery.proofs.SurveyTally.{no_tries_left, most_tries}
+use Rattle.recovery.proofs.DrivenCalls.{refused_call}
 use Rattle.recovery.proofs.record.count_waiting.Goals as goal
+use Rattle.recovery.proofs.record.count_waiting.Goals.{After-drive}
 
--- what holds of each place of a list, and of one more, holds of each of the list with one more
-each_pushed : (P : ℕ → ℕ → Type 0) (xs : List ℕ) (x j : ℕ) → length xs ≡ j → ((k : ℕ) → k < j → P k (slice_index xs k)) → P j x
-    → (k : ℕ) → k < j + 1 → P k (slice_index (xs ++ x ∷ []) k)
-each_pushed P xs x j long each last k below = elim (cases_lt k j) [
-  | inl less ↦ rw (get_or_append_left xs (x ∷ []) 0 k (omega (arith, less, long))) (each k less)
-  | inr more ↦ let at : k ≡ j = omega (arith, below, more) in rw (at, get_or_push xs x 0 j long) last
-]
+-- none of its calls is a write or a flush
+reads_alone : {Exact : Type 0} {rest : Tally} {reads : ℕ} {result : Result (Unit {0}) MediumFault} {old new : State}
+    → Tallied Exact (record { reads = reads; writes = 0; flushes = 0 }) rest result old new → MakesReadsAlone old new
+reads_alone t fault.Read other = absurd (other refl)
+reads_alone t fault.Write other = none_made t fault.Write refl
+reads_alone t fault.Flush other = none_made t fault.Flush refl
 
--- none so far
-no_tries : (format : LogFormat) (shape : Shape) (image : Image) (first at : ℕ) → AreTriesOf format shape image first 0 at at
-no_tries One shape image first at = omega arith
-no_tries Two shape image first at = ([], refl, λ j below. absurd (omega arith), omega arith)
+-- where it ended well none was refused
+none_failed : {Exact : Type 0} {left rest : Tally} {old new : State} {result : Result (Unit {0}) MediumFault} → result ≡ Ok tt
+    → Tallied Exact left rest result old new → new.failures ≡ old.failures
+none_failed is t = let good = rw is at t in omega (arith, good.failures)
 
--- one more
-tries_more : (format : LogFormat) (shape : Shape) (image : Image) (first j old mid new : ℕ)
-    → AreTriesOf format shape image first j old mid → IsTryOf format shape image (first + j) mid new
-    → AreTriesOf format shape image first (j + 1) old new
-tries_more One shape image first j old mid new before last = omega (arith, before, last)
-tries_more Two shape image first j old mid new before last = (
-  before.0 ++ last.0 ∷ [],
-  omega (arith, before.1, length-append before.0 (last.0 ∷ [])),
-  each_pushed (λ k n. IsTryTwo image (slot_at format2 shape (first + k))
-      (first + k) shape.blocks n) before.0 last.0 j before.1 before.2
-      last.1,
-  omega (arith, before.3, last.2, sum_by_push (λ x. x) before.0 last.0),
-)
+-- it began with none tried
+ran : (g : _) (c : After-drive g) → HoldsSurveyed g.M.Medium.state c.drive.new.machine.reader c.drive.new.machine.left
+    c.drive.new.machine.place c.drive.new.machine.waiting.items
+    (record { start = c.args.m.now; sizes = c.args.sizes.now; head = c.args.head }) c.drive.new.m
+ran g c = (c.drive.ensures.driven.runs (record { start = c.args.m.now; sizes = c.args.sizes.now; head = c.args.head })
+    (not_tried c.new.result c.args.sizes.now.slots 0 c.new-2.result.items _ (sym c.new.ensures.of.0) c.new.ensures.of.1 refl refl
+    c.new-2.ensures c.args.sizes.now.some_slots (rw c.new.ensures.of.1 c.new.ensures.unread.knows))).1
 
--- all that were counted
-counts_made : (shape : Shape) (image : Image) (head j : ℕ) (counts : List ℕ) → length counts ≡ j → j ≤ shape.slots
-    → ((k : ℕ) → k < j → HasCount shape image (head + k) (slice_index counts k))
-    → (j < shape.slots → ¬ HasWhole shape image (head + j)) → AreCounts shape image head counts
-counts_made shape image head j counts long few each ends = record {
-  is = rw long (record { few = few; whole = λ k below. let e = each k below in (e.0, e.1); ends = ends });
-  each = rw long each;
-}
-
-pub loop-j-init : goal.loop-j-init
-loop-j-init g c =
-    let old = g.M.Medium.state c.args.m.now in
-    let tries = no_tries c.args.sizes.now.format (shape_of c.args.sizes.now) old.content c.args.head old.calls in
-    search (rules, quiet_start old, tries, g.met.M.Medium.follows_itself, no_looks)
-
-pub loop-j-preserved : goal.loop-j-preserved
-loop-j-preserved g c =
-    let shape = shape_of c.args.sizes.now in
-    let old = g.M.Medium.state c.args.m.now in
-    let inv = c.loop-j.invariant in
-    let j = c.loop-j.j in
-    let n = c.in-Some.count in
-    let same : (g.M.Medium.state c.loop-j.m).content ≡ old.content = λ i s. inv.passes.quiet.content_stays s i in
-    let finds = rw (same, c.in-Some.is) at c.in_ok-count.ensures.finds in
-    looks_on g.met.M.Medium.follows_through inv c.count_blocks.ensures (omega arith) tt (
-      tries_more shape.format shape _ c.args.head j _ _ _ inv.finds.0 finds.0,
-      rw c.push.ensures.items (omega (arith, length-append c.loop-j.waiting.items (n ∷ []), inv.finds.1)),
-      rw c.push.ensures.items
-          (each_pushed (λ k n. HasCount shape old.content
-          (c.args.head + k) n) c.loop-j.waiting.items n j inv.finds.1 inv.finds.2 finds.1),
-    )
-
-pub returns-in-None : goal.returns-in-None
-returns-in-None g c =
-    let shape = shape_of c.args.sizes.now in
-    let old = g.M.Medium.state c.args.m.now in
-    let inv = c.loop-j.invariant in
-    let below = c.loop-j-test.true in
-    let same : (g.M.Medium.state c.loop-j.m).content ≡ old.content = λ i s. inv.passes.quiet.content_stays s i in
-    let finds = rw (same, c.in-None.is) at c.in_ok-count.ensures.finds in
-    let more = tries_more shape.format shape _ c.args.head c.loop-j.j _ _ _ inv.finds.0 finds.0 in
-    let many : c.loop-j.j + 1 ≡ min (length c.loop-j.waiting.items + 1) c.args.sizes.now.slots = omega (arith, below, inv.finds.1) in
-    let are = counts_made shape old.content c.args.head c.loop-j.j c.loop-j.waiting.items inv.finds.1
-    (omega (arith, below)) inv.finds.2
-    (λ less. finds.1) in
-    looks_on g.met.M.Medium.follows_through inv c.count_blocks.ensures
-    (one_more (most_reads_of c.args.sizes.now.format) c.loop-j.j c.args.sizes.now.slots below) tt
-    (search (rules, are, rw many at more))
+pub returns-in_err-drive : goal.returns-in_err-drive
+returns-in_err-drive g c =
+    let held = ran g (goal.at.returns-in_err-drive g c).After-drive in
+    let driven = c.drive.ensures.driven in
+    let most = most_tries c.new.result c.args.sizes.now.slots 0 c.new.ensures.of.0 refl in
+    let looks = rw c.new.ensures.of.0 at driven.looks in
+    let cause = rw c.in_err-drive.was at (refused_call c.drive.result driven.tallied) in
+    search (rules, held.quiet, reads_alone driven.tallied, calls_most driven.tallied, most, looks, cause)
 
 pub returns : goal.returns
 returns g c =
-    let inv = c.loop-j.invariant in
-    let slots = c.args.sizes.now.slots in
-    let all : c.loop-j.j ≡ slots = omega (arith, c.loop-j.auto.j-end, c.loop-j-test.false) in
-    let many : c.loop-j.j ≡ min (length c.loop-j.waiting.items + 1) slots = omega (arith, all, inv.finds.1) in
-    let are = counts_made (shape_of c.args.sizes.now) (g.M.Medium.state c.args.m.now).content c.args.head c.loop-j.j
-    c.loop-j.waiting.items inv.finds.1 c.loop-j.auto.j-end inv.finds.2 (λ less. absurd (omega (arith, less, all))) in
-    search (rules, are, inv.passes.reads, rw all at inv.passes.calls, rw many at inv.finds.0)
+    let held = ran g (goal.at.returns g c).After-drive in
+    let machine = c.drive.new.machine in
+    let driven = c.drive.ensures.driven in
+    let done = rw c.in_ok-drive.was at c.drive.ensures.done in
+    let none = no_tries_left machine.reader machine.left machine.place machine.goes done.0 in
+    let end = held.ended none in
+    let good = none_failed c.in_ok-drive.was driven.tallied in
+    let most = most_tries c.new.result c.args.sizes.now.slots 0 c.new.ensures.of.0 refl in
+    record {
+      passes = record {
+        quiet = held.quiet;
+        reads = reads_alone driven.tallied;
+        calls = omega (arith, calls_most driven.tallied, most);
+        cause = tt;
+      };
+      finds = (
+        end.calls good,
+        counts_made (shape_of c.args.sizes.now) _ c.args.head (length machine.waiting.items) machine.waiting.items refl
+            (omega (arith, held.few)) held.each end.ends,
+      );
+      follows = (c.drive.ensures.follows, rw c.new.ensures.of.0 at driven.looks);
+    }

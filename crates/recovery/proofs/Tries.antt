@@ -1,22 +1,21 @@
-use Rattle.std.proofs.Common.{◌≡◌, ◌⊎◌, ◌∙◌, inl, inr, ◌+◌, ◌<◌, ◌≤◌, length, refl, sym, arith, rules, ⊎_elim, ℕ}
-use Rattle.std.proofs.Common.{Option, None, Some, MatchOption}
+-- How many reads it takes to try a record.
+use Rattle.std.proofs.Common.{◌≡◌, ◌⊎◌, ◌∙◌, inl, inr, ◌+◌, ◌<◌, ◌≤◌, ℕ, List, [], ◌∷◌, ◌++◌, length, refl, sym, arith, ⊎_elim}
+use Rattle.std.proofs.Common.{None, Some, slice_index}
+use Rattle.std.proofs.lemmas.Bool.{cases_lt}
+use Rattle.std.proofs.lemmas.List.{length-append, get_or_append_left, get_or_push}
+use Rattle.std.proofs.lemmas.List.Sums.{sum_by_push}
 use Rattle.medium.specs.Medium.{Image}
 use Rattle.journal.specs.declared.log_format.LogFormat.{LogFormat}
 use Rattle.journal.specs.declared.log_format.LogFormat.TheVariants.{One, Two}
 use Rattle.journal.specs.declared.record.Record.{Record}
 use Rattle.journal.specs.Places.{Shape}
-use Rattle.journal.specs.Format2.{descriptors_of}
+use Rattle.journal.specs.Layout.{slot_at}
+use Rattle.journal.specs.Format2.{descriptors_of, format2}
 use Rattle.journal.specs.Reading.{StopsAtBad, ReadsUpToBad, HasDescriptor, HasPlace, NamesBlocks, IsReadFor}
 use Rattle.journal.specs.Reading.{IsReadForStamps}
-use Rattle.journal.specs.Formats.{shape_of, HasWhole}
-use Rattle.journal.proofs.SectorsRead.{stamped_whole}
-use Rattle.journal.proofs.SlotTwo.{each_there}
-use Rattle.journal.proofs.SlotTwo.{commit_count}
-use Rattle.journal.proofs.SlotTwo.{untrue}
-use Rattle.recovery.specs.Causes.{IsReadInSlot, IsTryTwo, IsTryOf}
-use Rattle.recovery.proofs.JoinedCalls.{long_as, most_tried}
-use Rattle.journal.proofs.SectorsRead.{looks_on}
-use Rattle.recovery.proofs.record.count_blocks.Goals as goal
+use Rattle.journal.specs.Formats.{HasWhole}
+use Rattle.journal.proofs.SlotTwo.{each_there, commit_count}
+use Rattle.recovery.specs.Causes.{IsReadInSlot, IsTryTwo, IsTryOf, AreTriesOf, HasCount, AreCounts}
 
 -- there is one first bad one
 stops_once : (good : ℕ → Type 0) (many a b : ℕ) → StopsAtBad good many a → StopsAtBad good many b → a ≡ b
@@ -47,14 +46,14 @@ module _ (image : Image) (at stamp blocks : ℕ) where
   try_made reads is = record { is = is; only = λ other that. in_slot_once other reads that is }
 
 -- a record that is not there was tried
-try_missed : (format : LogFormat) (shape : Shape) (image : Image) (stamp reads before after : ℕ)
+pub try_missed : (format : LogFormat) (shape : Shape) (image : Image) (stamp reads before after : ℕ)
     → IsReadFor format shape image stamp None reads → after ≡ before + reads → IsTryOf format shape image stamp before after
 try_missed One shape image stamp reads before after is made = omega (arith, is, made)
 try_missed Two shape image stamp reads before after is made =
     (reads, try_made image _ stamp _ reads (⊎_elim inl (λ bad. inr (bad.0, bad.1, bad.2, inl bad.3, bad.4)) is), made)
 
 -- and one that is there, once its data places were asked for the stamp
-try_read : (format : LogFormat) (shape : Shape) (image : Image) (stamp : ℕ) (read : Record) (reads places before mid after : ℕ)
+pub try_read : (format : LogFormat) (shape : Shape) (image : Image) (stamp : ℕ) (read : Record) (reads places before mid after : ℕ)
     → IsReadFor format shape image stamp (Some read) reads → mid ≡ before + reads
     → IsReadForStamps format shape image stamp (length read.numbers.items) places → after ≡ mid + places
     → IsTryOf format shape image stamp before after
@@ -65,45 +64,38 @@ try_read Two shape image stamp read reads places before mid after is made asked 
     inr (n, is.0, descriptors_of n + places, inr (is.1, places, asked, refl), omega (arith, is.2)) in
     (reads + places, try_made image _ stamp _ (reads + places) slot, omega (arith, made, more))
 
--- what is so of an option, where this is
-option_weaker : {P Q : Type 0} {R S : ℕ → Type 0} (o : Option ℕ) → (P → Q) → ((n : ℕ) → R n → S n) → MatchOption o P R
-    → MatchOption o Q S
-option_weaker None none some is = none is
-option_weaker (Some n) none some is = some n is
+-- what holds of each place of a list, and of one more, holds of each of the list with one more
+pub each_pushed : (P : ℕ → ℕ → Type 0) (xs : List ℕ) (x j : ℕ) → length xs ≡ j → ((k : ℕ) → k < j → P k (slice_index xs k)) → P j x
+    → (k : ℕ) → k < j + 1 → P k (slice_index (xs ++ x ∷ []) k)
+each_pushed P xs x j long each last k below = elim (cases_lt k j) [
+  | inl less ↦ rw (get_or_append_left xs (x ∷ []) 0 k (omega (arith, less, long))) (each k less)
+  | inr more ↦ let at : k ≡ j = omega (arith, below, more) in rw (at, get_or_push xs x 0 j long) last
+]
 
-pub returns-then-not-branch : goal.returns-then-not-branch
-returns-then-not-branch g c =
-    let shape = shape_of c.args.sizes.now in
-    let finds = rw c.if-not-branch.true at c.in_ok-read_record.ensures.finds in
-    search (rules, try_missed shape.format shape _ c.args.stamp finds.exact.0 _ _ finds.exact.1 finds.exact.2, finds.all)
+-- none so far
+pub no_tries : (format : LogFormat) (shape : Shape) (image : Image) (first at : ℕ) → AreTriesOf format shape image first 0 at at
+no_tries One shape image first at = omega arith
+no_tries Two shape image first at = ([], refl, λ j below. absurd (omega arith), omega arith)
 
-pub returns-in_err-are_stamped : goal.returns-in_err-are_stamped
-returns-in_err-are_stamped g c =
-    let few : length c.read_record.new.to.numbers.items ≤ 240 = search rules in
-    looks_on g.met.M.Medium.follows_through c.read_record.ensures c.are_stamped.ensures
-    (most_tried c.args.sizes.now.format c.len-count.result (omega (arith, few, c.len-count.ensures.value)))
-    (search rules) (search rules)
+-- one more
+pub tries_more : (format : LogFormat) (shape : Shape) (image : Image) (first j old mid new : ℕ)
+    → AreTriesOf format shape image first j old mid → IsTryOf format shape image (first + j) mid new
+    → AreTriesOf format shape image first (j + 1) old new
+tries_more One shape image first j old mid new before last = omega (arith, before, last)
+tries_more Two shape image first j old mid new before last = (
+  before.0 ++ last.0 ∷ [],
+  omega (arith, before.1, length-append before.0 (last.0 ∷ [])),
+  each_pushed (λ k n. IsTryTwo image (slot_at format2 shape (first + k))
+      (first + k) shape.blocks n) before.0 last.0 j before.1 before.2
+      last.1,
+  omega (arith, before.3, last.2, sum_by_push (λ x. x) before.0 last.0),
+)
 
-pub returns : goal.returns
-returns g c =
-    let shape = shape_of c.args.sizes.now in
-    let stamp = c.args.stamp in
-    let old = g.M.Medium.state c.args.m.now in
-    let mid = g.M.Medium.state c.read_record.new.m in
-    let same : mid.content ≡ old.content = λ i s. c.read_record.ensures.passes.quiet.content_stays s i in
-    let read = c.read_record.new.to in
-    let few : length c.read_record.new.to.numbers.items ≤ 240 = search rules in
-    let finds = rw c.if-not-branch.false at c.in_ok-read_record.ensures.finds in
-    let asked = c.in_ok-are_stamped.ensures.finds in
-    let count : c.len-count.result ≡ length c.read_record.new.to.numbers.items = c.len-count.ensures.value in
-    let is = rw (same, count) at asked.is in
-    let long = λ (whole : HasWhole shape old.content stamp). long_as whole.0 read.numbers.items
-    (finds.all whole.0 whole.1).numbers_are in
-    looks_on g.met.M.Medium.follows_through c.read_record.ensures c.are_stamped.ensures
-    (most_tried c.args.sizes.now.format c.len-count.result (omega (arith, few, count))) tt (
-      try_read shape.format shape old.content stamp read finds.exact.0 asked.exact.0 old.calls mid.calls _
-          finds.exact.1 finds.exact.2 (rw (same, count) at asked.exact.1) asked.exact.2,
-      option_weaker c.counted.result
-          (λ not whole. untrue (sym not ∙ is.1 (rw (← long whole) at (stamped_whole shape old.content stamp whole.0 whole.1))))
-          (λ blocks yes. let whole = finds.some (is.0 yes.0) in (whole.0, whole.1, yes.1 ∙ count ∙ long whole)) c.counted.ensures,
-    )
+-- all that were counted
+pub counts_made : (shape : Shape) (image : Image) (head j : ℕ) (counts : List ℕ) → length counts ≡ j → j ≤ shape.slots
+    → ((k : ℕ) → k < j → HasCount shape image (head + k) (slice_index counts k))
+    → (j < shape.slots → ¬ HasWhole shape image (head + j)) → AreCounts shape image head counts
+counts_made shape image head j counts long few each ends = record {
+  is = rw long (record { few = few; whole = λ k below. let e = each k below in (e.0, e.1); ends = ends });
+  each = rw long each;
+}

@@ -1,0 +1,77 @@
+use Rattle.std.proofs.Common.{◌≡◌, ◌<◌, ◌≤◌, ◌+◌, ◌*◌, ◌%◌, ℕ, length, ap, ◌∙◌, arith}
+use Rattle.std.proofs.lemmas.Nat.{mod_below}
+use Rattle.medium.specs.Medium.{State, IsSound}
+use Rattle.journal.specs.declared.naming_stage.NamingStage.TheVariants.{Named}
+use Rattle.journal.specs.Places.{first_home, first_data_of, sectors_of}
+use Rattle.journal.specs.Layout.{slot_at}
+use Rattle.journal.specs.Format2.{format2}
+use Rattle.journal.specs.Formats.{layout_of, shape_of}
+use Rattle.journal.specs.Reading.{data_at}
+use Rattle.journal.proofs.SectorsRead.{place_before}
+use Rattle.recovery.specs.Surveying.{HoldsSurveyed, SurveyView}
+use Rattle.recovery.proofs.SurveyedRecords.{untried, named_taken, place_taken}
+use Rattle.recovery.proofs.SurveyTally.{name_pays, name_left, place_pays, place_left}
+use Rattle.recovery.proofs.CopyTally.{is_named}
+use Rattle.journal.specs.declared.reader.RecordReader.{RecordReader}
+use Rattle.recovery.proofs.surveying.SurveyingMachine.next.Goals as goal
+
+-- each sector of the log has its bytes
+all_sized : {M : Type 0} {state : M → State} {reader : RecordReader} {left place : ℕ} {waiting : _} {view : SurveyView M} {m : M}
+    → HoldsSurveyed state reader left place waiting view m → IsSound (state m) → sectors_of (shape_of reader.sizes) ≤ (state m).size
+    → (x : ℕ) → x < first_home (shape_of view.sizes) → length ((state view.start).content x) ≡ 512
+all_sized {state = state} {view = view} {m = m} held sound fits x below =
+    let inside : x < first_home (shape_of view.sizes) + view.sizes.blocks = omega (arith, below) in
+    let less : x < (state m).size = omega (arith, fits, rw held.sizes_are at inside) in
+    rw (held.quiet.content_stays x) at (sound.sized x ((state m).content x) less (sound.holds_content x))
+
+pub returns-in-Some : goal.returns-in-Some
+returns-in-Some g c =
+    let s = c.args.self.now in
+    let asked = c.in-Some.ensures in
+    let due : 0 < s.left = omega (arith, c.if-self-eq0.false) in
+    let first = s.goes.unnamed due (λ is. rw is at asked.0) in
+    record {
+      due = due;
+      within = omega (arith, asked.1);
+      looks = asked.1;
+      made = λ m n got view next fits held performed after.
+          named_taken held due (all_sized held (g.met.M.Medium.sound m) fits) performed asked.2 first after.sizes_stay
+          (after.reading asked.0);
+      refused = λ m n got view next e fits held performed gone. untried held performed gone due;
+      rest = _;
+      pays = name_pays s.reader s.left s.place due asked.0;
+      rests = λ got next after.
+          name_left s.reader s.left s.place due asked.0 (λ e. e) after.sizes_stay (λ some is.
+          let two = next.goes.two some is in (rw after.sizes_stay at two, rw two at (next.reader.reads.named is).few)) (after.reading asked.0);
+    }
+
+pub returns : goal.returns
+returns g c =
+    let s = c.args.self.now in
+    let r = s.reader in
+    let due : 0 < s.left = omega (arith, c.if-self-eq0.false) in
+    let named : s.reader.stage ≡ Named = is_named s.reader.stage c.in_default.ensures (s.goes.there due) in
+    let two = s.goes.two due named in
+    let below = s.goes.named due named in
+    let few = (s.reader.reads.named named).few in
+    let many : length s.reader.read.numbers.items ≤ 240 = rw two at few in
+    let is : c.copy_place.result ≡ data_at (shape_of r.sizes) r.stamp s.place = c.copy_place.ensures
+    ∙ ap (λ (k : ℕ). 2 + (layout_of r.sizes.format).slot_sectors * k + first_data_of r.sizes.format + s.place)
+    c.slot_of-slot.ensures in
+    let low = place_before r.sizes.format r.sizes.slots r.sizes.home (r.stamp % r.sizes.slots) s.place r.sizes.home_is
+    (mod_below r.stamp r.sizes.slots r.sizes.some_slots) (omega (arith, below, few)) in
+    let lies : c.copy_place.result < first_home (shape_of r.sizes) = omega (arith, is, low) in
+    let here : c.copy_place.result ≡ slot_at format2 (shape_of r.sizes) r.stamp + (8 + s.place) = omega (arith, rw two at is) in
+    record {
+      due = due;
+      within = omega (arith, lies);
+      looks = lies;
+      made = λ m n got view next fits held performed after.
+          place_taken held due (all_sized held (g.met.M.Medium.sound m) fits) performed named two below here after.sizes_stay
+          (after.placed named);
+      refused = λ m n got view next e fits held performed gone. untried held performed gone due;
+      rest = _;
+      pays = place_pays s.reader s.left s.place due named below two many;
+      rests = λ got next after.
+          place_left s.reader s.left s.place due named below two many (λ e. e) after.sizes_stay (after.placed named);
+    }

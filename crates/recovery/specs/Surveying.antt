@@ -1,0 +1,180 @@
+-- What the survey of the whole records and a medium hold between two calls.
+use Rattle.std.specs.Prelude.{◌≡◌, ◌≢◌, ◌⊎◌, ℕ, ◌+◌, ◌*◌, ◌-◌, ◌≤◌, ◌<◌, ◌^◌, List, [], ◌∷◌, ◌++◌, length, min}
+use Rattle.std.specs.Prelude.{slice_index}
+use Rattle.medium.specs.Medium.{State}
+use Rattle.medium.specs.Moments.{IsQuiet}
+use Rattle.medium.specs.Tally.{Tally}
+use Rattle.journal.specs.declared.log_format.LogFormat.{LogFormat}
+use Rattle.journal.specs.declared.log_format.LogFormat.TheVariants.{One, Two}
+use Rattle.journal.specs.declared.record.Record.{Record}
+use Rattle.journal.specs.declared.reader.RecordReader.{RecordReader}
+use Rattle.journal.specs.declared.super_sector.Super.{Super}
+use Rattle.journal.specs.declared.naming_stage.NamingStage.{NamingStage}
+use Rattle.journal.specs.declared.naming_stage.NamingStage.TheVariants as stage
+use Rattle.journal.specs.Naming.{IsReading, IsUnread, Learns, IsKnown, names_left}
+use Rattle.journal.specs.Format2.{place_bytes, format2}
+use Rattle.journal.specs.Layout.{slot_at}
+use Rattle.journal.specs.Places.{Shape}
+use Rattle.journal.specs.Formats.{shape_of, HasWhole}
+use Rattle.journal.specs.Reading.{HasPlaces, record_reads_of}
+use Rattle.recovery.specs.Calls.{most_reads_of}
+use Rattle.recovery.specs.Causes.{AreTries, HasCount}
+
+-- what a survey holds, whatever it read: while slots are left it reads a record of one
+pub record CanSurvey (reader : RecordReader) (left place counted : ℕ) : Type 0 where
+  pub stamps : reader.stamp + left < 2 ^ 63 + 65
+  pub room : counted + left ≤ 64
+  pub there : 0 < left → reader.stage ≢ stage.Missing
+  pub two : 0 < left → reader.stage ≡ stage.Named → reader.sizes.format ≡ Two
+  pub named : 0 < left → reader.stage ≡ stage.Named → place < length reader.read.numbers.items
+  pub unnamed : 0 < left → reader.stage ≢ stage.Named → place ≡ 0
+
+-- of the reads that a record may take at most, so many are made, or spared it
+abbrev pub tries_spent : LogFormat → NamingStage → ℕ → ℕ → ℕ
+tries_spent format stage.Named n place = most_reads_of format - (n - place)
+tries_spent format at n place = record_reads_of format - names_left at
+
+abbrev pub tries_left : LogFormat → ℕ → ℕ → Tally
+tries_left format left spent =
+    record { reads = most_reads_of format * left - spent; writes = 0; flushes = 0 }
+
+abbrev pub surveys_left : RecordReader → ℕ → ℕ → Tally
+surveys_left reader left place = tries_left reader.sizes.format left
+    (tries_spent reader.sizes.format reader.stage (length reader.read.numbers.items) place)
+
+-- the record is whole and counted, and that of the next stamp is to be tried
+pub record IsCounted (reader : RecordReader) (left : ℕ) (next : RecordReader) (less place : ℕ)
+    : Type 0 where
+  pub stamp_is : next.stamp ≡ reader.stamp + 1
+  pub unread : IsUnread (shape_of reader.sizes) next.stamp next.stage next.read
+  pub left_is : less + 1 ≡ left
+  pub from_first : place ≡ 0
+
+-- the reader took a sector, and goes on or has named the record
+pub record IsNamedOn (reader : RecordReader) (left place : ℕ) (waiting got : List ℕ)
+    (next : RecordReader) (less after : ℕ) (counts : List ℕ) : Type 0 where
+  pub stamp_stays : next.stamp ≡ reader.stamp
+  pub learns : Learns (shape_of reader.sizes) reader.stamp reader.stage reader.read got next.stage
+      next.read
+  pub left_stays : less ≡ left
+  pub place_stays : after ≡ place
+  pub counts_stay : counts ≡ waiting
+
+-- the record is not whole: the survey ends
+pub record IsMissing (reader : RecordReader) (waiting got : List ℕ) (less : ℕ) (counts : List ℕ)
+    : Type 0 where
+  pub read : Record
+  pub learns : Learns (shape_of reader.sizes) reader.stamp reader.stage reader.read got
+      stage.Missing read
+  pub none_left : less ≡ 0
+  pub counts_stay : counts ≡ waiting
+
+-- the record of format 1 is whole
+pub record IsWholeOne (reader : RecordReader) (left : ℕ) (waiting got : List ℕ)
+    (next : RecordReader) (less after : ℕ) (counts : List ℕ) : Type 0 where
+  pub read : Record
+  pub one : reader.sizes.format ≡ One
+  pub learns : Learns (shape_of reader.sizes) reader.stamp reader.stage reader.read got
+      stage.Named read
+  pub counts_are : counts ≡ waiting ++ length read.numbers.items ∷ []
+  pub counted : IsCounted reader left next less after
+
+-- one of these, once a sector was read that names blocks
+abbrev pub TakesName : RecordReader → ℕ → ℕ → List ℕ → List ℕ → RecordReader → ℕ → ℕ → List ℕ
+    → Type 0
+TakesName reader left place waiting got next less after counts =
+    IsNamedOn reader left place waiting got next less after counts
+    ⊎ IsMissing reader waiting got less counts
+    ⊎ IsWholeOne reader left waiting got next less after counts
+
+-- a data place carries the stamp, and one more is to be read
+pub record IsPlaced (reader : RecordReader) (left place : ℕ) (waiting got : List ℕ)
+    (next : RecordReader) (less after : ℕ) (counts : List ℕ) : Type 0 where
+  pub stamped : got ≡ place_bytes reader.stamp got
+  pub more : place + 1 < length reader.read.numbers.items
+  pub reader_stays : next ≡ reader
+  pub left_stays : less ≡ left
+  pub place_on : after ≡ place + 1
+  pub counts_stay : counts ≡ waiting
+
+-- it was the last one
+pub record IsWholeTwo (reader : RecordReader) (left place : ℕ) (waiting got : List ℕ)
+    (next : RecordReader) (less after : ℕ) (counts : List ℕ) : Type 0 where
+  pub stamped : got ≡ place_bytes reader.stamp got
+  pub last : length reader.read.numbers.items ≤ place + 1
+  pub counts_are : counts ≡ waiting ++ length reader.read.numbers.items ∷ []
+  pub counted : IsCounted reader left next less after
+
+-- it does not: the survey ends
+pub record IsUnstamped (reader : RecordReader) (waiting got : List ℕ) (less : ℕ)
+    (counts : List ℕ) : Type 0 where
+  pub bad : ¬ (got ≡ place_bytes reader.stamp got)
+  pub none_left : less ≡ 0
+  pub counts_stay : counts ≡ waiting
+
+-- one of these, once a data place was read
+abbrev pub TakesPlace : RecordReader → ℕ → ℕ → List ℕ → List ℕ → RecordReader → ℕ → ℕ → List ℕ
+    → Type 0
+TakesPlace reader left place waiting got next less after counts =
+    IsPlaced reader left place waiting got next less after counts
+    ⊎ IsUnstamped reader waiting got less counts
+    ⊎ IsWholeTwo reader left place waiting got next less after counts
+
+-- the next call was made
+pub record IsSurveyStep (reader : RecordReader) (left place : ℕ) (waiting got : List ℕ)
+    (next : RecordReader) (less after : ℕ) (counts : List ℕ) : Type 0 where
+  pub sizes_stay : next.sizes ≡ reader.sizes
+  pub reading : IsReading reader.stage
+      → TakesName reader left place waiting got next less after counts
+  pub placed : reader.stage ≡ stage.Named
+      → TakesPlace reader left place waiting got next less after counts
+
+-- it was refused, which changes nothing
+pub record IsRefusedSurvey (reader : RecordReader) (left place : ℕ) (waiting : List ℕ)
+    (next : RecordReader) (less after : ℕ) (counts : List ℕ) : Type 0 where
+  pub reader_stays : next ≡ reader
+  pub left_stays : less ≡ left
+  pub place_stays : after ≡ place
+  pub counts_stay : counts ≡ waiting
+
+-- the medium when the records from this stamp on began to be tried
+pub record SurveyView (M : Type 0) : Type 0 where
+  pub start : M
+  pub sizes : Super
+  pub head : ℕ
+
+-- the record of the next stamp is tried: so many sectors that name its blocks were read, and data
+-- places that carry its stamp
+pub record IsTrying (shape : Shape) (start now : State) (head : ℕ) (reader : RecordReader)
+    (left place : ℕ) (waiting : List ℕ) : Type 0 where
+  pub stamp_is : reader.stamp ≡ head + length waiting
+  pub left_is : length waiting + left ≡ shape.slots
+  pub reads : ℕ
+  pub known : IsKnown shape start.content reader.stamp reads reader.stage reader.read
+  pub places : HasPlaces start.content (slot_at format2 shape reader.stamp) reader.stamp place
+  pub before : ℕ
+  -- where no call was refused
+  pub calls : now.failures ≡ start.failures
+      → AreTries shape start.content head (length waiting) start.calls before
+      × (now.calls ≡ before + reads + place)
+
+-- the record of the next stamp is not whole, or all slots were tried
+pub record HasTried (shape : Shape) (start now : State) (head : ℕ) (waiting : List ℕ)
+    : Type 0 where
+  pub ends : length waiting < shape.slots → ¬ HasWhole shape start.content (head + length waiting)
+  pub calls : now.failures ≡ start.failures → AreTries shape start.content head
+      (min (length waiting + 1) shape.slots) start.calls now.calls
+
+-- Each record that was counted is whole, and has as many blocks as its count says; and nothing was
+-- written.
+pub record HoldsSurveyed {M : Type 0} (state : M → State) (reader : RecordReader)
+    (left place : ℕ) (waiting : List ℕ) (view : SurveyView M) (m : M) : Type 0 where
+  pub sizes_are : view.sizes ≡ reader.sizes
+  pub quiet : IsQuiet (state view.start) (state m)
+  pub few : length waiting + left ≤ view.sizes.slots
+  pub each : (k : ℕ) → k < length waiting → HasCount (shape_of view.sizes)
+      (state view.start).content (view.head + k) (slice_index waiting k)
+  pub going : 0 < left → IsTrying (shape_of view.sizes) (state view.start) (state m) view.head
+      reader left place waiting
+  pub ended : left ≡ 0
+      → HasTried (shape_of view.sizes) (state view.start) (state m) view.head waiting

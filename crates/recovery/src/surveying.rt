@@ -1,0 +1,132 @@
+//! The survey of the records that are whole, call by call.
+ghost use Rattle.std.specs.Prelude.{◌≡◌, ◌<◌, ◌≤◌, ◌+◌, ◌^◌, List, ℕ, length};
+ghost use Rattle.medium.specs.Medium.{CutLeaves};
+ghost use Rattle.journal.specs.Formats.{shape_of};
+ghost use Rattle.journal.specs.Places.{first_home, sectors_of};
+ghost use Rattle.journal.specs.Naming.{IsReading, IsUnread};
+ghost use Rattle.journal.specs.declared.naming_stage.NamingStage.TheVariants.{Named};
+ghost use Rattle.recovery.specs.Surveying.{CanSurvey, SurveyView, HoldsSurveyed, surveys_left};
+ghost use Rattle.recovery.specs.Surveying.{IsSurveyStep, IsRefusedSurvey, TakesName, TakesPlace};
+
+use crate::copying::reader_behind;
+use arrayvec::ArrayVec;
+use journal::{NamingStage, RecordReader, copy_place, is_data2, slot_of};
+use medium::{Call, Machine, Medium};
+
+/// The records from the head on are to be tried: what names the blocks of each is read, and where
+/// its data places carry the stamp, these, up to the first record that is not whole.
+#[derive(Drop)]
+pub(crate) struct Surveying {
+    pub reader: RecordReader,
+    /// How many slots are left to be tried; none behind the first that has no whole record.
+    pub left: u64,
+    /// How many data places of this record carry its stamp.
+    pub place: usize,
+    /// How many blocks each whole record has.
+    pub waiting: ArrayVec<u8, 64>,
+    ghost goes: { CanSurvey reader left place (length waiting.items) },
+}
+
+impl Surveying {
+    // A sector was read that names blocks.
+    fn take(&mut self, sector: &[u8; 512])
+        requires reading { IsReading self.old.reader.stage }
+        requires left { 0 < self.old.left }
+        ensures sizes { self.new.reader.sizes ≡ self.old.reader.sizes }
+        ensures takes { TakesName self.old.reader self.old.left self.old.place self.old.waiting.items
+            sector.now self.new.reader self.new.left self.new.place self.new.waiting.items }
+    {
+        self.reader.take(sector);
+        match self.reader.stage {
+            NamingStage::Missing => self.left = 0,
+            NamingStage::Named => {
+                if self.reader.sizes.format.migrates() {
+                    self.waiting.push(self.reader.read.numbers.len() as u8);
+                    self.reader = reader_behind(&self.reader);
+                    self.left -= 1;
+                }
+            }
+            _ => {}
+        }
+    }
+
+    // A data place was read.
+    fn place_on(&mut self, sector: &[u8; 512])
+        requires named { self.old.reader.stage ≡ Named }
+        requires left { 0 < self.old.left }
+        ensures sizes { self.new.reader.sizes ≡ self.old.reader.sizes }
+        ensures takes { TakesPlace self.old.reader self.old.left self.old.place self.old.waiting.items
+            sector.now self.new.reader self.new.left self.new.place self.new.waiting.items }
+    {
+        let count = self.reader.read.numbers.len();
+        if !is_data2(self.reader.stamp, sector) {
+            self.left = 0;
+        } else if self.place + 1 < count {
+            self.place += 1;
+        } else {
+            self.waiting.push(count as u8);
+            self.reader = reader_behind(&self.reader);
+            self.left -= 1;
+            self.place = 0;
+        }
+    }
+}
+
+impl<M: Medium> Machine<M> for Surveying {
+    ghost View = { SurveyView M };
+
+    ghost fits = { λ s size. sectors_of (shape_of s.reader.sizes) ≤ size };
+
+    ghost holds = { λ s had m view. HoldsSurveyed M.state s.reader s.left s.place s.waiting.items
+        view m };
+
+    ghost may = { λ view image. CutLeaves (M.state view.start).may_leave image };
+
+    ghost reads = { λ s. first_home (shape_of s.reader.sizes) };
+
+    ghost ends = { λ s. sectors_of (shape_of s.reader.sizes) };
+
+    ghost cost = { λ s. surveys_left s.reader s.left s.place };
+
+    ghost exact = { ⊥ };
+
+    ghost due = { λ s. 0 < s.left };
+
+    ghost after = { λ s got t. IsSurveyStep s.reader s.left s.place s.waiting.items got t.reader
+        t.left t.place t.waiting.items };
+
+    ghost gone = { λ s t. IsRefusedSurvey s.reader s.left s.place s.waiting.items t.reader t.left
+        t.place t.waiting.items };
+
+    fn next(&self, sector: &mut [u8; 512]) -> Option<Call> {
+        if self.left == 0 {
+            return None;
+        }
+        if let Some(place) = self.reader.next() {
+            return Some(Call::Read(place));
+        }
+        let sizes = &self.reader.sizes;
+        let slot = slot_of(self.reader.stamp, sizes.slots);
+        Some(Call::Read(copy_place(sizes.format, slot, self.place)))
+    }
+
+    fn made(&mut self, sector: &[u8; 512]) {
+        match self.reader.next() {
+            Some(_) => self.take(sector),
+            None => self.place_on(sector),
+        }
+    }
+
+    fn refused(&mut self) {}
+
+    ghost leaves = { λ s had m view holds image cut. λ x. holds.quiet.sets_shrink x (image x)
+        (cut x) };
+
+    ghost room = { λ s size fits. fits };
+
+    ghost goes_on = { λ s t got due after. record {
+      reads_stay = rw after.sizes_stay (λ i. first_home (shape_of s.reader.sizes));
+      ends_stay = rw after.sizes_stay (λ i. sectors_of (shape_of s.reader.sizes));
+      fits_still = λ size fits. rw after.sizes_stay fits;
+    } };
+}
