@@ -82,8 +82,8 @@ reads-preserved g c =
           record {
             fits = rw items (omega (arith, length-append c.reads.bytes.items more, sized, within, counted, fits));
             taken = rw items
-                (Consumes-trans (remaining c.args.reader.now) (remaining c.reads.reader) (remaining c.read.new.self) c.reads.bytes.items more
-                c.reads.invariant.taken w.in-Ok.ensures.bytes.0);
+                (Consumes-trans (remaining c.args.reader.now) (remaining c.reads.reader) (remaining c.read.new.self)
+                c.reads.bytes.items more c.reads.invariant.taken w.in-Ok.ensures.bytes.0);
           })
       | in-Err w ↦ record {
         fits = rw w.bytes-is c.reads.invariant.fits;
