@@ -310,7 +310,7 @@ static void open_book(void)
     book.is_cached = true;
     book.is_settled = false;
     book.is_plain = random_below(4) == 0;
-    book.keeps_power = random_below(4) == 0;
+    book.keeps_power = random_below(3) == 0;
     book.key = 6; /* the first command is told that the power was off */
     book.code = 0x29;
 }
@@ -346,7 +346,7 @@ static bool has_seen(long lives)
         return true;
     if (!counts.behind)
         return fails("no write is accepted while a call is under way");
-    return counts.unflushed || fails("no start finds unflushed sectors");
+    return lives < 3 * SEEN || counts.unflushed || fails("no start finds unflushed sectors");
 }
 
 static bool play_lives(uint32_t format, long lives)

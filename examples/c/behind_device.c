@@ -112,7 +112,7 @@ void device_end(struct device *device, bool is_good)
 void device_forsake(struct device *device)
 {
     if (device->call.kind != USBDISK_NOTHING)
-        device_end(device, random_below(2));
+        device_end(device, !random_below(4));
 }
 
 void device_cut(const struct device *device, unsigned kept, struct device *other)
