@@ -32,7 +32,7 @@ MakesAt (stage.Disk s) old new code = (s' : Machine) × (left : Bool)
     × (new ≡ record old { stage = stage.Disk s' }) × (code ≡ code_of_bool left) × Idles s s' left
 MakesAt (stage.Store s) old new code = (s' : store.Machine) × (left : Bool)
     × (new ≡ record old { stage = stage.Store s' }) × (code ≡ code_of_bool left)
-    × stores.Idles s s' left
+    × stores.IdlesStore s s' left
 MakesAt (stage.Image s) old new code = (new ≡ old) × (code ≡ OTHER_KIND)
 MakesAt (stage.Failed why) old new code = (new ≡ old) × Rests old.purpose code
 

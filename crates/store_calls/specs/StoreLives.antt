@@ -5,7 +5,7 @@ use Rattle.device_calls.specs.declared.ask.DeviceAsk.{DeviceAsk}
 use Rattle.device_calls.specs.declared.done_fault.DoneFault.{DoneFault}
 use Rattle.store_calls.specs.Asking.{TellsNext, Ends, IsHonest}
 use Rattle.store_calls.specs.StoreMachine.{Machine, Serves}
-use Rattle.store_calls.specs.Transfers.{Reads, Writes, Syncs, Idles}
+use Rattle.store_calls.specs.Transfers.{Reads, Writes, Syncs, IdlesStore}
 use Rattle.store_calls.specs.declared.store_fault.StoreFault.{StoreFault}
 
 -- a call, with what it is given, and how a write and a sync are answered
@@ -27,7 +27,7 @@ IsMade (read address room) old new = (filled : List ℕ)
     × (result : Result (Unit {0}) StoreFault) × Reads address old room new filled result
 IsMade (write address bytes result) old new = Writes address bytes old new result
 IsMade (sync result) old new = Syncs old new result
-IsMade idle old new = (left : Bool) × Idles old new left
+IsMade idle old new = (left : Bool) × IdlesStore old new left
 
 abbrev pub AreMade : List Call → Machine → Machine → Type 0
 AreMade [] old new = new ≡ old

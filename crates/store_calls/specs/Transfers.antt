@@ -146,12 +146,12 @@ Syncs old new (Err why) = ((why ≡ fault.Dead) × (is_dead old.store.cached ≡
 -- ---- the work in the background
 
 -- the device has carried out all, and no read waits for it
-pub record IsResting (s : Machine) : Type 0 where
+pub record IsIdle (s : Machine) : Type 0 where
   pub caught_up : IsCaughtUp s
   pub none_wanted : to_read s.lack ≡ None
 
 -- Steps are made where the device rests, and whether some are left is told; else nothing changes,
 -- and some may be left.
-abbrev pub Idles : Machine → Machine → Bool → Type 0
-Idles old new left = ((¬ IsResting old) × (left ≡ true) × (new ≡ old))
-    ⊎ (IsResting old × IsDoneFree old new × TellsLeft old.store new.store left × ServesOn old new)
+abbrev pub IdlesStore : Machine → Machine → Bool → Type 0
+IdlesStore old new left = ((¬ IsIdle old) × (left ≡ true) × (new ≡ old))
+    ⊎ (IsIdle old × IsDoneFree old new × TellsLeft old.store new.store left × ServesOn old new)

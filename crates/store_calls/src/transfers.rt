@@ -8,7 +8,7 @@ ghost use Rattle.store_calls.specs.Rooms.{AreInSight};
 ghost use Rattle.store_calls.specs.Serving.{Rests};
 ghost use Rattle.store_calls.specs.StoreMachine.{IsCaughtUp};
 ghost use Rattle.store_calls.specs.Transfers.{MayNot, Reads, ReadsOn, ReadsNone, Waits};
-ghost use Rattle.store_calls.specs.Transfers.{Writes, Accepts, Syncs, Idles, IsResting};
+ghost use Rattle.store_calls.specs.Transfers.{Writes, Accepts, Syncs, IdlesStore, IsIdle};
 ghost use Rattle.store_calls.specs.declared.lack.Lack.TheVariants as lack;
 
 use crate::CallFault;
@@ -88,17 +88,17 @@ impl StoreMachine {
     /// Steps in the background, where the device has carried out all and no read waits for it: at
     /// most 32, and fewer where many calls wait or none is left. Whether some may be left.
     pub fn idle(&mut self) -> bool
-        ensures { Idles self.old self.new result }
+        ensures { IdlesStore self.old self.new result }
     {
-        if !self.is_resting() {
+        if !self.is_idle() {
             return true;
         }
         make_steps(&mut self.store)
     }
 
     // Whether the device has carried out all, and no read waits for it.
-    fn is_resting(&self) -> bool
-        ensures { IsTrue result ↔ IsResting self.now }
+    fn is_idle(&self) -> bool
+        ensures { IsTrue result ↔ IsIdle self.now }
     {
         match self.lack {
             Lack::Wanted(_) => false,

@@ -1,12 +1,12 @@
 use Rattle.std.proofs.Common.{inr, refl, rules}
 use Rattle.store_calls.specs.StoreMachine.{Machine}
-use Rattle.store_calls.specs.Transfers.{IsResting}
+use Rattle.store_calls.specs.Transfers.{IsIdle}
 use Rattle.store_calls.proofs.Doing.{done_free, turn_serves}
 use Rattle.store_calls.proofs.machine.StoreMachine.idle.Goals as goal
 
 pub returns : goal.returns
 returns c =
-    let rests : IsResting c.args.self.now = search rules in
+    let rests : IsIdle c.args.self.now = search rules in
     let makes = c.make_steps.ensures.makes in
     let turn = makes.made.passes.turn in
     let new : Machine = record c.args.self.now { store = c.make_steps.new.store } in inr (
