@@ -1,4 +1,5 @@
 pub mod Batches
+pub mod RoomCounts
 pub mod RoomCalls
 pub mod ReadCalls
 pub mod SteadyRing

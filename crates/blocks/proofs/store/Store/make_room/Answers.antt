@@ -1,15 +1,17 @@
-use Rattle.std.proofs.Common.{◌≡◌, ◌≤◌, ◌<◌, ℕ, length, refl, ◌∙◌, ap, sym, subst, inl, arith, false, rules}
+use Rattle.std.proofs.Common.{◌+◌, ◌≤◌, ◌<◌, ℕ, length, refl, ◌∙◌, ap, sym, subst, inl, arith, rules}
 use Rattle.std.proofs.lemmas.Bool.{false≢true}
 use Rattle.journal.specs.Places.{Shape}
 use Rattle.medium.specs.Sent.{sent, SendsUpTo}
 use Rattle.medium.specs.declared.fault.MediumFault.TheVariants.{Flush}
-use Rattle.redo_log.specs.Value.{next_turn_flushes, LogValue, HasRoom, next_calls, next_sends, sends_of_oldest}
-use Rattle.redo_log.specs.Value.{most_retire_sends}
-use Rattle.blocks.specs.StoreValue.{Cached, steps_left}
-use Rattle.blocks.proofs.Room.{one_at_most, most_one, retires_more, room_is_made}
-use Rattle.blocks.proofs.RoomCalls.{CostsOldest, costs_more, costs_room}
-use Rattle.blocks.proofs.RoomFlushes.{FlushesOldest, flushes_more, flushes_room}
-use Rattle.blocks.proofs.RoomSent.{SendsOldest, sends_more, sends_refused, sends_room}
+use Rattle.redo_log.specs.Value.{LogValue, HasRoom, of_oldest, sends_of_oldest, most_retire_sends}
+use Rattle.redo_log.specs.Value.{turn_calls, turn_sends, turn_flushes}
+use Rattle.blocks.specs.StoreValue.{Cached, is_dead, steps_left}
+use Rattle.blocks.proofs.Room.{most_one}
+use Rattle.blocks.proofs.RoomCounts.{IsFull, none_counted, one_at_most, counts_more, counts_room, room_is_made}
+use Rattle.blocks.proofs.RoomCounts.{at_most_refused, at_most_all}
+use Rattle.blocks.proofs.RoomCalls as calls
+use Rattle.blocks.proofs.RoomFlushes as flushes
+use Rattle.blocks.proofs.RoomSent as sends
 use Rattle.blocks.specs.Passing.{PassesPaid}
 use Rattle.blocks.proofs.BackgroundCalls.{must_retire}
 use Rattle.blocks.proofs.Paid.{paid_then, on_paid, rested_paid}
@@ -34,6 +36,19 @@ step_passes g c few =
     paid_then g.met.M.Medium.follows_through first c.loop-self.invariant.live
     (on_paid left.1 (c.retire.ensures.counts.falls left.0) c.retire.ensures.passes.calls c.retire.ensures.passes) few
 
+is_full : (g : Over) (c : After-retire g) → IsFull c.args.self.now.cached.log c.loop-self.self.cached.log
+is_full g c =
+    let log_is = ap (λ v. v.cached.log) c.self-in-loop-self.view_is in
+    let live = ap (λ v. is_dead v.cached) c.self-in-loop-self.view_is ∙ c.loop-self.invariant.live in
+    let idle = ap (λ v. v.cached.log.steps_left) c.self-in-loop-self.view_is ∙ c.loop-self.invariant.idle in
+    record {
+      full = λ room. false≢true (sym c.loop-self-test.true
+          ∙ c.has_room.ensures.room.1 (subst (λ (l : LogValue). HasRoom l) (sym log_is) room));
+      under_way = sym (ap (λ (l : LogValue). l.under_way) log_is) ∙ c.self-in-loop-self.invariant.none_under_way live idle;
+      idle = c.loop-self.invariant.idle;
+      one = c.loop-self.invariant.one;
+    }
+
 pub loop-self-init : goal.loop-self-init
 loop-self-init g c = record {
   passes = λ sends few. rested_paid g.met.M.Medium.follows_itself g.met.M.Medium.sound;
@@ -41,10 +56,9 @@ loop-self-init g c = record {
   stays = λ room. refl;
   quiet = λ room. refl;
   one = inl refl;
-  retires = inl refl;
-  costs = inl (refl, refl);
-  sends = inl (refl, omega arith);
-  flushes = inl (refl, refl);
+  costs = none_counted;
+  sends = record { made = 0; counts = none_counted; few = omega arith };
+  flushes = none_counted;
   idle = c.requires.idle;
   active = refl;
   frozen = refl;
@@ -56,52 +70,34 @@ loop-self-smaller g c =
 
 pub loop-self-preserved : goal.loop-self-preserved
 loop-self-preserved g c =
-    let refused : c.has_room.result ≡ false = c.loop-self-test.true in
-    let full : HasRoom c.self-in-loop-self.inside.log → ⊥ = λ room. false≢true (sym refused ∙ c.has_room.ensures.room.1 room) in
-    let kept = c.self-in-loop-self.invariant in
-    let live = rw (← c.self-in-loop-self.view_is) at c.loop-self.invariant.live in
-    let idle = rw (← c.self-in-loop-self.view_is) at c.loop-self.invariant.idle in
-    let under_way = kept.none_under_way live idle in
-    let slots : 1 ≤ c.self-in-loop-self.inside.log.shape.slots =
-    omega (arith, ap (λ (s : Shape). s.slots) kept.shape, c.self-in-loop-self.inside.sizes.some_slots) in
-    let waits = (must_step g (goal.at.loop-self-preserved g c).After-retire).0 in
-    let stepped = (c.retire.ensures.retiring.live waits c.in_ok-retire.ensures.answer).1 in
+    let at = (goal.at.loop-self-preserved g c).After-retire in
+    let old = c.args.self.now.cached.log in
+    let here = c.self-in-loop-self.inside in
+    let full = is_full g at in
+    let live = c.in_ok-retire.ensures.answer in
+    let retiring = c.retire.ensures.retiring in
+    let stepped = (retiring.live (must_step g at).0 live).1 in
     let log_is = ap (λ v. v.cached.log) c.self-in-loop-self.view_is in
+    let kept = subst (λ (l : LogValue). (l.next ≤ l.head + l.shape.slots) × (1 ≤ l.shape.slots)) log_is (
+      c.self-in-loop-self.invariant.ring,
+      omega (arith, ap (λ (s : Shape). s.slots) c.self-in-loop-self.invariant.shape, here.sizes.some_slots),
+    ) in
     record {
-      passes = λ sends few. step_passes g (goal.at.loop-self-preserved g c).After-retire few;
-      stays = λ room. absurd (full (subst (λ (log : LogValue). HasRoom log) (sym (c.loop-self.invariant.stays room) ∙ sym log_is) room));
-      quiet = λ room. absurd (full (subst (λ (log : LogValue). HasRoom log) (sym (c.loop-self.invariant.stays room) ∙ sym log_is) room));
-      one = one_at_most c.args.self.now.cached.log c.self-in-loop-self.inside.log c.retire.new.self.cached.log full under_way idle
-          kept.ring slots (rw (← c.self-in-loop-self.view_is) at stepped) (rw (← c.self-in-loop-self.view_is) at c.loop-self.invariant.one);
-      retires = retires_more c.args.self.now.cached.log c.self-in-loop-self.inside.log c.retire.new.self.cached.log full under_way idle
-          (rw (← c.self-in-loop-self.view_is) at stepped) (rw (← c.self-in-loop-self.view_is) at c.loop-self.invariant.one)
-          (rw (← c.self-in-loop-self.view_is) at c.loop-self.invariant.retires);
-      costs =
-          let counted = c.retire.ensures.retiring.counted c.in_ok-retire.ensures.answer in
-          let next = ap (λ (l : LogValue). next_calls l) log_is in
-          costs_more c.args.self.now.cached.log c.self-in-loop-self.inside.log c.retire.new.self.cached.log
-          (g.M.Medium.state c.args.self.now.medium).calls (g.M.Medium.state c.loop-self.self.medium).calls
-          (g.M.Medium.state c.retire.new.self.medium).calls full under_way idle (rw (← c.self-in-loop-self.view_is) at stepped)
-          (rw (← c.self-in-loop-self.view_is) at c.loop-self.invariant.one) (omega (arith, counted, next))
-          (subst (λ (l : LogValue). CostsOldest c.args.self.now.cached.log l (g.M.Medium.state c.args.self.now.medium).calls
-          (g.M.Medium.state c.loop-self.self.medium).calls) (sym log_is) c.loop-self.invariant.costs);
+      passes = λ sends few. step_passes g at few;
+      stays = λ room. absurd (full.full (subst (λ (l : LogValue). HasRoom l) (sym (c.loop-self.invariant.stays room)) room));
+      quiet = λ room. absurd (full.full (subst (λ (l : LogValue). HasRoom l) (sym (c.loop-self.invariant.stays room)) room));
+      one = one_at_most full kept.0 kept.1 stepped;
+      costs = counts_more turn_calls refl calls.turns_more full stepped (retiring.counted live) c.loop-self.invariant.costs;
       sends =
-          let next = ap (λ (l : LogValue). next_sends l) log_is in
-          sends_more c.args.self.now.cached.log c.self-in-loop-self.inside.log c.retire.new.self.cached.log
-          (sent (g.M.Medium.state c.args.self.now.medium)) (sent (g.M.Medium.state c.loop-self.self.medium))
-          (sent (g.M.Medium.state c.retire.new.self.medium)) full under_way idle (rw (← c.self-in-loop-self.view_is) at stepped)
-          (rw (← c.self-in-loop-self.view_is) at c.loop-self.invariant.one) (omega (arith, c.retire.ensures.retiring.sent, next))
-          (subst (λ (l : LogValue). SendsOldest c.args.self.now.cached.log l (sent (g.M.Medium.state c.args.self.now.medium))
-          (sent (g.M.Medium.state c.loop-self.self.medium))) (sym log_is) c.loop-self.invariant.sends);
-      flushes =
-          let counted = c.retire.ensures.retiring.flushed c.in_ok-retire.ensures.answer in
-          let next = ap (λ (l : LogValue). next_turn_flushes l) log_is in
-          flushes_more c.args.self.now.cached.log c.self-in-loop-self.inside.log c.retire.new.self.cached.log
-          ((g.M.Medium.state c.args.self.now.medium).made Flush) ((g.M.Medium.state c.loop-self.self.medium).made Flush)
-          ((g.M.Medium.state c.retire.new.self.medium).made Flush) full under_way idle (rw (← c.self-in-loop-self.view_is) at stepped)
-          (rw (← c.self-in-loop-self.view_is) at c.loop-self.invariant.one) (omega (arith, counted, next))
-          (subst (λ (l : LogValue). FlushesOldest c.args.self.now.cached.log l ((g.M.Medium.state c.args.self.now.medium).made Flush)
-          ((g.M.Medium.state c.loop-self.self.medium).made Flush)) (sym log_is) c.loop-self.invariant.flushes);
+          let so_far = c.loop-self.invariant.sends in
+          let each = turn_sends (of_oldest c.loop-self.self.cached.log) in
+          record {
+            made = so_far.made + each;
+            counts = counts_more turn_sends refl sends.turns_more full stepped refl so_far.counts;
+            few = omega (arith, retiring.sent, so_far.few);
+          };
+      flushes = counts_more turn_flushes refl flushes.turns_more full stepped (retiring.flushed live)
+          c.loop-self.invariant.flushes;
       live = c.in_ok-retire.ensures.answer;
       idle = c.retire.ensures.counts.idle;
       active = c.retire.ensures.retiring.active ∙ c.loop-self.invariant.active;
@@ -111,23 +107,11 @@ loop-self-preserved g c =
 pub returns-in_err-retire : goal.returns-in_err-retire
 returns-in_err-retire g c = record {
   passes =
-      let refused : c.has_room.result ≡ false = c.loop-self-test.true in
-      let full : HasRoom c.self-in-loop-self.inside.log → ⊥ = λ room. false≢true (sym refused ∙ c.has_room.ensures.room.1 room) in
-      let kept = c.self-in-loop-self.invariant in
-      let live = rw (← c.self-in-loop-self.view_is) at c.loop-self.invariant.live in
-      let idle = rw (← c.self-in-loop-self.view_is) at c.loop-self.invariant.idle in
-      let under_way = kept.none_under_way live idle in
-      let log_is = ap (λ v. v.cached.log) c.self-in-loop-self.view_is in
-      let next = ap (λ (l : LogValue). next_sends l) log_is in
-      let all = sends_refused c.args.self.now.cached.log c.self-in-loop-self.inside.log (sent (g.M.Medium.state c.args.self.now.medium))
-      (sent (g.M.Medium.state c.loop-self.self.medium)) (sent (g.M.Medium.state c.retire.new.self.medium)) full under_way idle
-      (rw (← c.self-in-loop-self.view_is) at c.loop-self.invariant.one) (omega (arith, c.retire.ensures.retiring.sent, next))
-      (subst (λ (l : LogValue). SendsOldest c.args.self.now.cached.log l (sent (g.M.Medium.state c.args.self.now.medium))
-      (sent (g.M.Medium.state c.loop-self.self.medium))) (sym log_is) c.loop-self.invariant.sends) in
-      let entry_is = ap (λ v. v.cached.log) c.self.view_is in
-      let most = c.has_room-few.ensures.few in
-      let few = subst (λ (log : LogValue). sends_of_oldest log ≤ most_retire_sends log.shape.format) entry_is most in
-      step_passes g (goal.at.returns-in_err-retire g c).After-retire (omega (arith, all, few));
+      let at = (goal.at.returns-in_err-retire g c).After-retire in
+      let all = at_most_refused turn_sends sends.next_few (is_full g at) c.retire.ensures.retiring.sent c.loop-self.invariant.sends in
+      let few = subst (λ (log : LogValue). sends_of_oldest log ≤ most_retire_sends log.shape.format) (ap (λ v. v.cached.log) c.self.view_is)
+      c.has_room-few.ensures.few in
+      step_passes g at (omega (arith, all, few));
   answer = search rules;
   room = record {
     retires =
@@ -141,10 +125,8 @@ returns-in_err-retire g c = record {
     room = search rules;
     made = search rules;
     quiet = λ room.
-        let refused : c.has_room.result ≡ false = c.loop-self-test.true in
-        let full : HasRoom c.self-in-loop-self.inside.log → ⊥ = λ still. false≢true (sym refused ∙ c.has_room.ensures.room.1 still) in
-        let log_is = sym (c.loop-self.invariant.stays room) ∙ sym (ap (λ v. v.cached.log) c.self-in-loop-self.view_is) in
-        absurd (full (subst (λ (log : LogValue). HasRoom log) log_is room));
+        let full = is_full g (goal.at.returns-in_err-retire g c).After-retire in
+        absurd (full.full (subst (λ (l : LogValue). HasRoom l) (sym (c.loop-self.invariant.stays room)) room));
     active = search rules;
     frozen = search rules;
   };
@@ -153,42 +135,29 @@ returns-in_err-retire g c = record {
 }
 
 pub returns : goal.returns
-returns g c = record {
-  passes =
-      let all = sends_room c.args.self.now.cached.log c.loop-self.self.cached.log (sent (g.M.Medium.state c.args.self.now.medium))
-      (sent (g.M.Medium.state c.loop-self.self.medium)) c.loop-self.invariant.sends in
-      let entry_is = ap (λ v. v.cached.log) c.self.view_is in
-      let most = c.has_room-few.ensures.few in
-      let few = subst (λ (log : LogValue). sends_of_oldest log ≤ most_retire_sends log.shape.format) entry_is most in
-      c.loop-self.invariant.passes _ (omega (arith, all, few));
-  answer = search rules;
-  room = record {
-    retires = record {
-      one = most_one c.args.self.now.cached.log c.loop-self.self.cached.log c.loop-self.invariant.one;
-      roomy = λ room. ap (λ (l : LogValue). l.head) (c.loop-self.invariant.stays room);
-    };
-    room = search rules;
-    made =
-        let log_is = ap (λ v. v.cached.log) c.self-in-loop-self.view_is in
-        let room : HasRoom c.loop-self.self.cached.log =
-        subst (λ (log : LogValue). HasRoom log) log_is (c.has_room.ensures.room.0 c.loop-self-test.false) in
-        room_is_made c.args.self.now.cached.log c.loop-self.self.cached.log c.loop-self.invariant.stays room c.loop-self.invariant.retires;
-    quiet = search rules;
-    active = search rules;
-    frozen = search rules;
-  };
-  cost =
-      let log_is = ap (λ v. v.cached.log) c.self-in-loop-self.view_is in
-      let room : HasRoom c.loop-self.self.cached.log =
-      subst (λ (log : LogValue). HasRoom log) log_is (c.has_room.ensures.room.0 c.loop-self-test.false) in
-      costs_room c.args.self.now.cached.log c.loop-self.self.cached.log (g.M.Medium.state c.args.self.now.medium).calls
-      (g.M.Medium.state c.loop-self.self.medium).calls c.loop-self.invariant.stays
-      (λ had. ap (λ m. (g.M.Medium.state m).calls) (c.loop-self.invariant.quiet had)) room c.loop-self.invariant.costs;
-  flushes =
-      let log_is = ap (λ v. v.cached.log) c.self-in-loop-self.view_is in
-      let room : HasRoom c.loop-self.self.cached.log =
-      subst (λ (log : LogValue). HasRoom log) log_is (c.has_room.ensures.room.0 c.loop-self-test.false) in
-      flushes_room c.args.self.now.cached.log c.loop-self.self.cached.log ((g.M.Medium.state c.args.self.now.medium).made Flush)
-      ((g.M.Medium.state c.loop-self.self.medium).made Flush) c.loop-self.invariant.stays
-      (λ had. ap (λ m. (g.M.Medium.state m).made Flush) (c.loop-self.invariant.quiet had)) room c.loop-self.invariant.flushes;
-}
+returns g c =
+    let log_is = ap (λ v. v.cached.log) c.self-in-loop-self.view_is in
+    let room = subst (λ (log : LogValue). HasRoom log) log_is (c.has_room.ensures.room.0 c.loop-self-test.false) in
+    let so_far = c.loop-self.invariant in
+    record {
+      passes =
+          let all = at_most_all so_far.sends in
+          let few = subst (λ (log : LogValue). sends_of_oldest log ≤ most_retire_sends log.shape.format)
+          (ap (λ v. v.cached.log) c.self.view_is) c.has_room-few.ensures.few in
+          so_far.passes _ (omega (arith, all, few));
+      answer = search rules;
+      room = record {
+        retires = record {
+          one = most_one c.args.self.now.cached.log c.loop-self.self.cached.log so_far.one;
+          roomy = λ room. ap (λ (l : LogValue). l.head) (so_far.stays room);
+        };
+        room = search rules;
+        made = room_is_made so_far.stays room so_far.costs;
+        quiet = search rules;
+        active = search rules;
+        frozen = search rules;
+      };
+      cost = counts_room so_far.stays (λ had. ap (λ m. (g.M.Medium.state m).calls) (so_far.quiet had)) room so_far.costs;
+      flushes = counts_room so_far.stays (λ had. ap (λ m. (g.M.Medium.state m).made Flush) (so_far.quiet had)) room
+          so_far.flushes;
+    }

@@ -3,11 +3,9 @@ use Rattle.medium.specs.Sent.{sent, SendsUpTo}
 use Rattle.medium.specs.declared.fault.MediumFault.TheVariants.{Flush}
 use Rattle.blocks.specs.Passing.{PassesPaid}
 use Rattle.blocks.specs.StoreValue.{is_dead, steps_left}
-use Rattle.redo_log.specs.Value.{HasRoom}
-use Rattle.blocks.proofs.Room.{OneAtMost, RetiresOldest}
-use Rattle.blocks.proofs.RoomCalls.{CostsOldest}
-use Rattle.blocks.proofs.RoomFlushes.{FlushesOldest}
-use Rattle.blocks.proofs.RoomSent.{SendsOldest}
+use Rattle.redo_log.specs.Value.{HasRoom, turns_calls, turns_sends, turns_flushes}
+use Rattle.blocks.proofs.Room.{OneAtMost}
+use Rattle.blocks.proofs.RoomCounts.{CountsOldest, AtMostOldest}
 use Rattle.blocks.proofs.store.Store.make_room.Given as goal
 
 abbrev pub invariant-loop-self : goal.invariant-loop-self
@@ -18,12 +16,11 @@ invariant-loop-self g l = record {
   stays : HasRoom l.fn.self.cached.log → l.self.cached.log ≡ l.fn.self.cached.log;
   quiet : HasRoom l.fn.self.cached.log → l.self.medium ≡ l.fn.self.medium;
   one : OneAtMost l.fn.self.cached.log l.self.cached.log;
-  retires : RetiresOldest l.fn.self.cached.log l.self.cached.log;
-  costs : CostsOldest l.fn.self.cached.log l.self.cached.log (g.M.Medium.state l.fn.self.medium).calls
+  costs : CountsOldest turns_calls l.fn.self.cached.log l.self.cached.log (g.M.Medium.state l.fn.self.medium).calls
       (g.M.Medium.state l.self.medium).calls;
-  sends : SendsOldest l.fn.self.cached.log l.self.cached.log (sent (g.M.Medium.state l.fn.self.medium))
+  sends : AtMostOldest turns_sends l.fn.self.cached.log l.self.cached.log (sent (g.M.Medium.state l.fn.self.medium))
       (sent (g.M.Medium.state l.self.medium));
-  flushes : FlushesOldest l.fn.self.cached.log l.self.cached.log ((g.M.Medium.state l.fn.self.medium).made Flush)
+  flushes : CountsOldest turns_flushes l.fn.self.cached.log l.self.cached.log ((g.M.Medium.state l.fn.self.medium).made Flush)
       ((g.M.Medium.state l.self.medium).made Flush);
   idle : l.self.cached.log.steps_left ≡ 0;
   active : l.self.cached.active ≡ l.fn.self.cached.active;
