@@ -1,9 +1,8 @@
 -- Calls that read sectors of the log, and blocks of a whole record that were read back.
-use Rattle.std.proofs.Common.{◌≡◌, ℕ, ◌+◌, ◌*◌, ◌%◌, ◌<◌, ◌≤◌, ◌∙◌, Result, arith, rules, IfOk, IfErr, List, [], ◌++◌, length}
+use Rattle.std.proofs.Common.{◌≡◌, ℕ, ◌+◌, ◌*◌, ◌%◌, ◌<◌, ◌≤◌, arith, List, [], ◌++◌, length}
 use Rattle.std.proofs.Common.{drop, get_or, refl, Option}
-use Rattle.medium.specs.Medium.{State, Image}
-use Rattle.medium.specs.declared.fault.MediumFault.{MediumFault}
-use Rattle.journal.specs.Reading.{IsRefusedCall, MakesReadsAlone, LooksUp, AreStamped, IsRead}
+use Rattle.medium.specs.Medium.{Image}
+use Rattle.journal.specs.Reading.{AreStamped, IsRead}
 use Rattle.std.proofs.lemmas.Nat.{mod_below}
 use Rattle.journal.specs.declared.log_format.LogFormat.{LogFormat}
 use Rattle.journal.specs.declared.log_format.LogFormat.TheVariants.{One, Two}
@@ -31,26 +30,6 @@ place_before format slots home slot i first low inside = grind (arith, first)
 pub within : (sizes : Super) (stamp slot : ℕ) {format : LogFormat} → slot ≡ stamp % sizes.slots → sizes.format ≡ format
     → 2 + (layout_of format).slot_sectors * slot + (layout_of format).slot_sectors ≤ sizes.home
 within sizes stamp slot is same = grind (arith, sizes.home_is, mod_below stamp sizes.slots sizes.some_slots)
-
--- reads, and then others
-pub looks_on : {M X Y Z : Type 0} {state : M → State} {Follows : M → M → Type 0} {few many most : ℕ} {places : ℕ → Type 0}
-    {F : State → State → X → Type 0} {G : State → State → Y → Type 0} {H : State → State → Z → Type 0} {old mid new : M}
-    {one : Result X MediumFault} {two : Result Y MediumFault} {result : Result Z MediumFault}
-    → ((a b c : M) → Follows a b → Follows b c → Follows a c) → LooksUp state Follows few places F old mid one
-    → LooksUp state Follows many places G mid new two → few + many ≤ most → IfErr result (IsRefusedCall (state old) (state new))
-    → IfOk result (H (state old) (state new)) → LooksUp state Follows most places H old new result
-looks_on {state = state} {most = most} {old = old} {new = new} through first second fit cause finds =
-    let reads : MakesReadsAlone (state old) (state new) = λ kind other. second.passes.reads kind other
-    ∙ first.passes.reads kind other in
-    let calls : (state new).calls ≤ (state old).calls + most = omega (arith, first.passes.calls, second.passes.calls, fit) in
-    search (rules, quiet_joined, looks_joined, through)
-
--- sectors before a sector that stands before this one
-pub looks_within : {M X : Type 0} {state : M → State} {Follows : M → M → Type 0} {most few end : ℕ} {F : State → State → X → Type 0}
-    {old new : M} {result : Result X MediumFault} → few ≤ end → LooksUp state Follows most (λ s. s < few) F old new result
-    → LooksUp state Follows most (λ s. s < end) F old new result
-looks_within fit looked =
-    record { passes = looked.passes; finds = looked.finds; follows = (looked.follows.0, looks_below _ _ _ _ fit looked.follows.1) }
 
 pub ruleset copies = (quiet_call, look_below, place_before)
 

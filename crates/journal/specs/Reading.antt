@@ -1,7 +1,6 @@
 -- What is read of a record, and by how many reads.
 use Rattle.std.specs.Prelude.{◌≡◌, ◌≢◌, ℕ, ◌+◌, ◌<◌, ◌≤◌, Result, IfOk, IfErr, ◌⊎◌, ◌*◌, List}
-use Rattle.std.specs.Prelude.{length, take, drop, All, ◌↔◌, [], ◌++◌, get_or, Option, Some, None}
-use Rattle.std.specs.Prelude.{IfSome, IsSomeAnd, Bool, IsTrue, if◌then◌else◌}
+use Rattle.std.specs.Prelude.{length, take, drop, All, [], ◌++◌, get_or, Option, Some, None}
 use Rattle.medium.specs.Medium.{State, LooksOnly, Image}
 use Rattle.medium.specs.Moments.{IsQuiet}
 use Rattle.medium.specs.declared.fault.MediumFault.{MediumFault}
@@ -9,13 +8,13 @@ use Rattle.medium.specs.declared.fault.MediumFault.TheVariants as medium
 use Rattle.journal.specs.declared.record.Record.{Record}
 use Rattle.journal.specs.Record.{numbers_of, Entry, block_of}
 use Rattle.journal.specs.Sectors.{IsRising}
-use Rattle.journal.specs.Format2.{descriptors_of, place_bytes, firsts_of, IsDescriptorTwo}
-use Rattle.journal.specs.Format2.{IsCommitTwo, entries_at, format2}
+use Rattle.journal.specs.Format2.{descriptors_of, place_bytes, IsDescriptorTwo}
+use Rattle.journal.specs.Format2.{IsCommitTwo, format2}
 use Rattle.journal.specs.declared.log_format.LogFormat.{LogFormat}
 use Rattle.journal.specs.declared.log_format.LogFormat.TheVariants.{One, Two}
 use Rattle.journal.specs.Places.{Shape, first_data_of}
 use Rattle.journal.specs.Layout.{slot_at}
-use Rattle.journal.specs.Formats.{layout_of, IsWhole, HasWhole}
+use Rattle.journal.specs.Formats.{layout_of}
 
 -- a call of this kind was refused, and counted as one and as one of its kind
 pub record IsRefusedCall (old new : State) (kind : MediumFault) : Type 0 where
@@ -75,12 +74,6 @@ module _ (image : Image) (at stamp : ℕ) where
       × IsDescriptorTwo stamp (length numbers) j (take 30 (drop (30 * j) numbers)) firsts
       (image (at + j))
 
-  -- all descriptors are there, if it has count blocks, and this was read of them
-  pub record AreNamed (count : ℕ) (read : Record) : Type 0 where
-    pub there : (j : ℕ) → j < descriptors_of count → HasDescriptor count j
-    pub numbers_are : read.numbers.items ≡ numbers_of (entries_at image at count)
-    pub firsts_are : read.firsts.items ≡ firsts_of (entries_at image at count)
-
   -- the i-th data place begins with the stamp
   abbrev pub HasPlace : ℕ → Type 0
   HasPlace i = image (at + (8 + i)) ≡ place_bytes stamp (image (at + (8 + i)))
@@ -109,11 +102,6 @@ module _ (image : Image) (at stamp : ℕ) where
 abbrev pub record_reads_of : LogFormat → ℕ
 record_reads_of One = 2
 record_reads_of Two = 9
-
--- and how many for the stamps of count data places, which have none in format 1
-abbrev pub stamp_reads_of : LogFormat → ℕ → ℕ
-stamp_reads_of One count = 0
-stamp_reads_of Two count = count
 
 -- the data places of count blocks of the record of this stamp carry it, in format 2
 abbrev pub AreStamped : LogFormat → Shape → Image → ℕ → ℕ → Type 0
@@ -149,32 +137,9 @@ IsReadFor Two shape image stamp (Some read) reads =
     (length read.numbers.items)
     × (reads ≡ 1 + descriptors_of (length read.numbers.items))
 
--- what a reader found that fills a record: the record, where it answers that it is there
-abbrev pub found_in : Bool → Record → Option Record
-found_in answer read = if answer then Some read else None
-
--- What is found of the record of a stamp, by as many reads as show it. Where it is whole, that is
--- what the record says before its data places; and where these carry the stamp too, it is whole.
-pub record FindsRecord (shape : Shape) (stamp : ℕ) (old new : State) (found : Option Record)
-    : Type 0 where
-  pub some : IfSome found (λ read.
-      AreStamped shape.format shape old.content stamp (length read.numbers.items)
-      → HasWhole shape old.content stamp)
-  pub all : (entries : List Entry) → IsWhole shape old.content stamp entries
-      → IsSomeAnd found (IsRead shape old.content stamp entries)
-  pub exact : (reads : ℕ) × IsReadFor shape.format shape old.content stamp found reads
-      × (new.calls ≡ old.calls + reads)
-
 -- How many data places are read to find whether count carry the stamp: those up to the first that
 -- does not; none in format 1.
 abbrev pub IsReadForStamps : LogFormat → Shape → Image → ℕ → ℕ → ℕ → Type 0
 IsReadForStamps One shape image stamp count reads = reads ≡ 0
 IsReadForStamps Two shape image stamp count reads =
     ReadsUpToBad (HasPlace image (slot_at format2 shape stamp) stamp) count reads
-
--- the answer tells whether count data places carry the stamp, by as many reads as show it
-pub record FindsStamps (shape : Shape) (stamp count : ℕ) (old new : State) (good : Bool)
-    : Type 0 where
-  pub is : IsTrue good ↔ AreStamped shape.format shape old.content stamp count
-  pub exact : (reads : ℕ) × IsReadForStamps shape.format shape old.content stamp count reads
-      × (new.calls ≡ old.calls + reads)

@@ -3,7 +3,6 @@ mod commit;
 mod descriptor;
 mod naming;
 mod places;
-mod read;
 mod record;
 mod whole;
 
@@ -12,6 +11,5 @@ pub use descriptor::Descriptor;
 pub(crate) use naming::{describe, is_ended};
 pub(crate) use places::{COMMIT, FIRST_DATA, GAP, LIMIT, SLOT_SECTORS};
 pub use places::{commit_place, data_place, place_of};
-pub(crate) use read::read_record;
 pub(crate) use record::{early, part, parts};
 pub use whole::whole_record;

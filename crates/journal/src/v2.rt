@@ -2,16 +2,16 @@
 mod commit;
 mod data;
 mod descriptor;
+mod naming;
 mod places;
-mod read;
 mod record;
 
 pub use commit::Commit;
 pub use data::{data_sector, is_data};
 pub use descriptor::Descriptor;
 pub(crate) use descriptor::firsts_in;
+pub(crate) use naming::{are_blocks, count_of, descriptor_of};
 pub(crate) use places::{COMMIT, ENTRIES, FIRST_DATA, GAP, LIMIT, SLOT_SECTORS};
 pub use places::{commit_place, data_place, descriptor_place, place_of};
-pub(crate) use read::{are_blocks, are_stamped, count_of, descriptor_of, read_record};
 pub use record::descriptors;
 pub(crate) use record::{early, part, parts};

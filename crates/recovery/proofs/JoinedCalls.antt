@@ -30,7 +30,7 @@ use Rattle.medium.proofs.SectorsRead.{looks_joined, looks_below, look_below}
 use Rattle.journal.specs.declared.super_sector.Super.{Super}
 use Rattle.journal.specs.declared.log_format.LogFormat.{LogFormat}
 use Rattle.journal.specs.Standing.{HasShape}
-use Rattle.journal.specs.Reading.{IsRefusedCall, LooksUp, record_reads_of, stamp_reads_of}
+use Rattle.journal.specs.Reading.{IsRefusedCall, LooksUp}
 use Rattle.recovery.specs.Causes.{SurveysAtMost, LooksAtFirst}
 use Rattle.journal.proofs.SectorNumbers.{IsSuper-one}
 use Rattle.std.proofs.lemmas.Result.{on_ok_weaker}
@@ -178,11 +178,6 @@ pub looked_on : (shape : Shape) (old mid new : State) → HasShape old.size shap
 looked_on shape old mid new has first last near holds =
     looks_joined (λ s. s < near) old mid new (first near holds)
     (looks_below (first_home shape) near mid new (holds.log shape has) last)
-
--- the reads of a record and those of its data places
-pub most_tried : (format : LogFormat) (count : ℕ) → count ≤ 240
-    → record_reads_of format + stamp_reads_of format count ≤ most_reads_of format
-most_tried format count few = grind arith
 
 -- the super is read
 pub super_looked : (old new : State) → LooksOnly (λ s. s ≡ 0) old new → LooksAtLog old new

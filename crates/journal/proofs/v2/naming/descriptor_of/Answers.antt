@@ -1,5 +1,5 @@
 use Rattle.std.proofs.Common.{rules, arith}
-use Rattle.journal.proofs.v2.read.descriptor_of.Goals as goal
+use Rattle.journal.proofs.v2.naming.descriptor_of.Goals as goal
 
 pub returns-else-found-stamp : goal.returns-else-found-stamp
 returns-else-found-stamp c numbers firsts is =
