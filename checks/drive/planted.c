@@ -26,7 +26,8 @@
  * 23 a wish to read ahead is forgotten
  * 24 of a transfer that is taken in part nothing is told to be taken
  * 25 a byte of the room behind the packets changes
- * 26 a start flushes nothing before its first write */
+ * 26 a start flushes nothing before its first write
+ * 27 in format 2 a block that goes home while no promise waits is told done, and stays away */
 #include "planted.h"
 #include <stdlib.h>
 #include <string.h>
@@ -89,6 +90,12 @@ static bool meets_ahead(const struct spy *it, const struct usbdisk_call *call)
            ahead->sector < call->sector + call->count;
 }
 
+/* Whether a block goes home on a disk of format 2, which works ahead where its device rests. */
+static bool is_home(const struct spy *it, const struct usbdisk_call *call)
+{
+    return it->layout.format == 2 && call->kind == USBDISK_WRITE && call->sector >= it->layout.home;
+}
+
 /* Whether a call is left out, and how it is told to have ended. */
 static bool is_left_out(struct spy *it, const struct usbdisk_call *call, bool *ok)
 {
@@ -99,7 +106,9 @@ static bool is_left_out(struct spy *it, const struct usbdisk_call *call, bool *o
     *ok = !is_read;
     it->is_ahead_lost &= !is_lost;
     return (PLANTED == 12 && is_flush && it->call.kind == USBDISK_WRITE) ||
-           (PLANTED == 26 && is_flush && !it->is_open) || (PLANTED == 18 && is_read) || is_lost;
+           (PLANTED == 26 && is_flush && !it->is_open) ||
+           (PLANTED == 27 && is_home(it, call) && it->has_served && !it->waits) ||
+           (PLANTED == 18 && is_read) || is_lost;
 }
 
 /* The next call of the library, but for those that are left out. */
@@ -184,6 +193,8 @@ uint32_t WRAP(done)(struct usbdisk *disk, bool ok, const uint8_t *bytes, size_t 
     }
     bool is_taken = PLANTED == 2 && !is_read, is_filled = PLANTED == 19 && is_read && !it->is_open;
     bool is_given_up = PLANTED == 3 && is_host && it->is_idled;
+    if (is_read && ok && !it->is_open && !it->call.sector)
+        usbdisk_look(bytes, &it->layout);
     it->is_refused |= !ok && !is_read;
     uint32_t code = REAL(done)(disk, (ok && !is_given_up) || is_taken || is_filled,
                                is_host ? told_bytes(it, bytes, size) : bytes, size);
@@ -236,6 +247,7 @@ uint32_t WRAP(out)(struct usbdisk *disk, const uint8_t *bytes, size_t size, size
         return code;
     if (*taken || code == USBDISK_ACK)
         spy_notes(it, bytes, *taken);
+    it->has_served |= *taken > 0;
     if (PLANTED == 24 && code == USBDISK_NAK)
         *taken = 0;
     if (PLANTED != 10 || !is_data || ++it->packets % 64)

@@ -40,6 +40,8 @@ struct taken {
 struct spy {
     const struct usbdisk *disk;
     struct usbdisk_call call; /* under way at the device, or none */
+    struct usbdisk_layout layout;
+    bool has_served;          /* bytes of a host were taken */
     bool is_open;             /* something else than a READ was told */
     bool is_refused;          /* the device refused a WRITE or a FLUSH */
     bool is_idled;            /* steps were made since the call began */
