@@ -80,7 +80,8 @@ pub enum State {
 pub trait Calls: Holds {
     /// The next call of the device, which is under way from then on, until [`Calls::done`]. Of a write
     /// the bytes are in the buffer, as many sectors as wait in a row and as it has room for: they are
-    /// the device's until then. [`crate::BUFFER`] bytes are enough for each run and each read.
+    /// the device's until then. [`crate::BUFFER`] bytes are enough for each run and each read. Where
+    /// nothing else is to be done a disk also tells writes that bring blocks home, and no flush.
     ///
     /// [`Misuse::BadLength`]: the buffer has no whole sectors, or none.
     fn next(&mut self, buffer: &mut [u8]) -> Result<Call, Misuse> {
