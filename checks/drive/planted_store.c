@@ -7,7 +7,8 @@
  * 4 a write that was not accepted is told to be
  * 5 the read behind one that was refused is refused too
  * 6 a read tells old bytes, which the device gave before
- * 7 a call is answered BUSY once more than it has to be, and then for good */
+ * 7 a call is answered BUSY once more than it has to be, and then for good
+ * 8 a start flushes nothing before its first write */
 #include "planted.h"
 #include <string.h>
 
@@ -19,10 +20,25 @@ uint32_t REAL(store_sync)(struct usbdisk *);
 static uint32_t kind;
 static size_t reads;
 
+/* Whether a store starts that was told no WRITE yet. The judge has one that it cuts, and others,
+ * one behind the other, that start on what is left. */
+static bool is_unwritten(struct usbdisk *store, const struct usbdisk_call *call)
+{
+    static const struct usbdisk *first;
+    static bool has_written[2];
+    uint32_t fault;
+    first = first ? first : store;
+    bool *it = &has_written[store != first];
+    *it &= call->kind != USBDISK_READ || call->sector != 0;
+    *it |= call->kind == USBDISK_WRITE;
+    return !*it && usbdisk_state(store, &fault) == USBDISK_STARTING;
+}
+
 uint32_t WRAP(next)(struct usbdisk *store, struct usbdisk_call *call, uint8_t *buffer, size_t size)
 {
     uint32_t code = REAL(next)(store, call, buffer, size);
-    while (PLANTED == 3 && !code && call->kind == USBDISK_FLUSH) {
+    bool is_early = PLANTED == 8 && !code && is_unwritten(store, call);
+    while ((PLANTED == 3 || is_early) && !code && call->kind == USBDISK_FLUSH) {
         REAL(done)(store, true, buffer, 0);
         code = REAL(next)(store, call, buffer, size);
     }

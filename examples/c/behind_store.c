@@ -1,8 +1,9 @@
 /* Judges the store by the calls of the library, as behind.c does a disk: lives over a device that
  * carries out one call at a time, and takes as long as it likes, while a stack reads, writes and
  * synchronises, and makes the same call again where it was answered BUSY. Between any two calls the
- * power may go. A store that starts on what is left must find the blocks after the first k of the
- * accepted writes, in order, none in part: all that a good sync promised.
+ * power may go, and in some lives the store stops and the device keeps its power. A store that
+ * starts on what is left must find the blocks after the first k of the accepted writes, in order,
+ * none in part: all that a good sync promised.
  *
  * behind_store [LIVES [FIRST SEED]] */
 #include "behind.h"
@@ -28,11 +29,14 @@ static struct {
     enum asked asked;
     unsigned address, count, goes_on;
     bool is_faulted, has_failed, rests, waited;
-    unsigned refused; /* READs that the device refused, and no read was told of */
+    bool is_unflushed; /* the device had unflushed sectors when the store started */
+    bool keeps_power;  /* the device does, when the store stops */
+    size_t found;      /* of the accepted writes, by the start; it makes them durable */
+    unsigned refused;  /* READs that the device refused, and no read was told of */
 } book;
 
 static struct {
-    uint64_t cuts, starting, writes, reads, syncs, busy, refused;
+    uint64_t cuts, starting, stops, unflushed, writes, reads, syncs, busy, refused;
 } counts;
 
 /* ---- the device */
@@ -63,18 +67,6 @@ static bool note_refusal(const struct usbdisk_call *call)
     book.refused += is_read;
     counts.refused++;
     return (state == USBDISK_FAULTED) == book.is_faulted || fails("a refusal is not told");
-}
-
-static bool play_device(void)
-{
-    if (device.call.kind == USBDISK_NOTHING) {
-        bool good = begin(&store, &device);
-        book.rests = good && device.call.kind == USBDISK_NOTHING;
-        return good;
-    }
-    struct usbdisk_call call = device.call;
-    bool is_good = !book.goes_on || random_below(book.goes_on);
-    return end(&store, &device, is_good) && (is_good || note_refusal(&call));
 }
 
 /* ---- what a start finds */
@@ -112,14 +104,47 @@ static bool find(uint32_t found[BLOCKS])
     return good;
 }
 
-static bool cut(uint32_t found[BLOCKS])
+/* A cut that keeps these of the unflushed writes. `*writes` are those that a start finds. */
+static bool cut(unsigned kept, uint32_t found[BLOCKS], size_t *writes)
 {
     uint32_t fault;
-    size_t writes;
     counts.cuts++;
     counts.starting += usbdisk_state(&store, &fault) == USBDISK_STARTING;
-    device_cut(&device, ANY, &other);
-    return find(found) && is_allowed(&history, found, &writes);
+    device_cut(&device, kept, &other);
+    return find(found) && is_allowed(&history, found, writes);
+}
+
+static bool cut_here(void)
+{
+    uint32_t found[BLOCKS];
+    size_t writes;
+    return cut(ANY, found, &writes);
+}
+
+/* A start on unflushed sectors: a cut is made behind each call by which it writes and flushes. */
+static bool cut_start(void)
+{
+    uint32_t fault;
+    if (!book.is_unflushed)
+        return true;
+    book.is_unflushed = usbdisk_state(&store, &fault) == USBDISK_STARTING;
+    return cut_here();
+}
+
+static bool play_device(void)
+{
+    if (device.call.kind == USBDISK_NOTHING) {
+        bool good = begin(&store, &device);
+        book.rests = good && device.call.kind == USBDISK_NOTHING;
+        return good;
+    }
+    struct usbdisk_call call = device.call;
+    bool is_good = !book.goes_on || random_below(book.goes_on);
+    if (!end(&store, &device, is_good) || (!is_good && !note_refusal(&call)))
+        return false;
+    if (!device.count && history.promised < book.found)
+        history.promised = book.found;
+    return call.kind == USBDISK_READ || cut_start();
 }
 
 /* ---- what a stack does */
@@ -229,30 +254,57 @@ static bool play_one(unsigned speed)
     return turn < speed + 4 ? play_idle() : play_stack();
 }
 
-static bool play_life(void)
+/* What is known when a life begins, on what the last one left. */
+static void open_book(void)
 {
-    uint32_t found[BLOCKS];
-    size_t writes;
-    unsigned speed = 8 + random_below(48), steps = random_below(STEPS);
     book.goes_on = random_below(3) ? 0 : 40;
     book.asked = NONE;
     book.is_faulted = book.has_failed = book.rests = false;
     book.refused = 0;
-    history.accepted = history.promised = 0;
     memcpy(book.blocks, history.opening, sizeof book.blocks);
-    bool good = open_store(&store);
-    for (unsigned i = 0; good && i < steps && history.accepted < WRITES; i++)
-        good = play_one(speed) && (random_below(64) || cut(found));
-    good = good && cut(found);
-    usbdisk_stop(&store);
-    if (!good)
+    for (size_t i = 0; i < history.accepted; i++)
+        put(book.blocks, &history.writes[i]);
+    book.found = history.accepted;
+    book.is_unflushed = device.count > 0;
+    book.keeps_power = random_below(3) == 0;
+}
+
+/* The power goes, or it stays with what was not flushed: the next life begins with what a start
+ * finds then. */
+static bool end_life(bool keeps_power)
+{
+    uint32_t found[BLOCKS];
+    size_t writes;
+    if (keeps_power)
+        device_forsake(&device);
+    else
+        device_cut(&device, ANY, &device);
+    counts.stops += keeps_power;
+    counts.unflushed += device.count > 0;
+    if (!cut(EACH, found, &writes))
         return false;
-    device_cut(&device, ANY, &device);
-    memcpy(other.durable, device.durable, (size_t)SECTORS * 512);
-    memcpy(other.now, device.now, (size_t)SECTORS * 512);
-    good = find(found) && is_allowed(&history, found, &writes);
-    memcpy(history.opening, found, sizeof found);
-    return good;
+    history.accepted = writes;
+    if (!keeps_power)
+        history.promised = writes;
+    settle(&history);
+    return true;
+}
+
+static bool play_life(void)
+{
+    unsigned speed = 8 + random_below(48), steps = random_below(STEPS);
+    open_book();
+    size_t most = book.found + WRITES_OF_A_LIFE;
+    bool good = open_store(&store);
+    for (unsigned i = 0; good && i < steps && history.accepted < most; i++) {
+        good = play_one(speed) && (random_below(64) || cut_here());
+        if (book.keeps_power && device.call.kind == USBDISK_FLUSH && !random_below(16))
+            steps = i;
+    }
+    good = good && cut_here();
+    usbdisk_stop(&store);
+    bool has_room = history.accepted - history.promised <= WRITES_OF_A_LIFE;
+    return good && end_life(book.keeps_power && has_room);
 }
 
 static bool make_image(uint32_t format)
@@ -275,10 +327,11 @@ static bool play_lives(uint32_t format, uint64_t lives)
             return false;
         }
     printf("format %u: %lu lives of a store, each start finds what it may\n", format, lives);
-    printf("  %lu cuts, %lu of a start; %lu writes, %lu reads, %lu syncs, %lu answers BUSY, %lu "
-           "refusals\n",
-           counts.cuts, counts.starting, counts.writes, counts.reads, counts.syncs, counts.busy,
-           counts.refused);
+    printf(
+        "  %lu cuts, %lu of a start; %lu stops with no cut, %lu of them with unflushed sectors\n",
+        counts.cuts, counts.starting, counts.stops, counts.unflushed);
+    printf("  %lu writes, %lu reads, %lu syncs, %lu answers BUSY, %lu refusals\n", counts.writes,
+           counts.reads, counts.syncs, counts.busy, counts.refused);
     return true;
 }
 
