@@ -1,5 +1,6 @@
 -- What is known of a record while the sectors that name its blocks are read, one by one.
-use Rattle.std.specs.Prelude.{◌≡◌, ◌⊎◌, ℕ, ◌+◌, ◌*◌, ◌-◌, ◌%◌, ◌<◌, ◌≤◌, List, [], length, All, take}
+use Rattle.std.specs.Prelude.{◌≡◌, ◌⊎◌, ℕ, ◌+◌, ◌*◌, ◌-◌, ◌%◌, ◌<◌, ◌≤◌, List, [], length}
+use Rattle.std.specs.Prelude.{All, take}
 use Rattle.std.specs.Prelude.{Option, Some, None, IfSome, IsSomeAnd}
 use Rattle.medium.specs.Medium.{Image}
 use Rattle.journal.specs.declared.log_format.LogFormat.{LogFormat}
@@ -48,6 +49,13 @@ pub record IsFound (shape : Shape) (image : Image) (stamp reads : ℕ) (found : 
   pub all : (entries : List Entry) → IsWhole shape image stamp entries
       → IsSomeAnd found (IsRead shape image stamp entries)
   pub exact : IsReadFor shape.format shape image stamp found reads
+
+-- the data places of a log of this format carry the stamps of their records, or none
+abbrev pub HasStamps : LogFormat → Type 0
+HasStamps format = format ≡ Two
+
+abbrev pub HasNoStamps : LogFormat → Type 0
+HasNoStamps format = format ≡ One
 
 -- the reading of a record begins with this
 abbrev pub IsFirstStage : LogFormat → NamingStage → Type 0

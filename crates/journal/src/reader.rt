@@ -1,9 +1,11 @@
 //! The reading of what names the blocks of a record, sector by sector.
-ghost use Rattle.std.specs.Prelude.{◌≡◌, ◌<◌, ◌⊎◌, MatchOption, IsTrue};
+ghost use Rattle.std.specs.Prelude.{◌≡◌, ◌<◌, ◌⊎◌, ◌↔◌, MatchOption, IsTrue};
 ghost use Rattle.journal.specs.Formats.{shape_of};
 ghost use Rattle.journal.specs.Places.{first_home};
-ghost use Rattle.journal.specs.Naming.{IsReader, IsReading, IsUnread, Learns, naming_place, IsFirstStage};
-ghost use Rattle.journal.specs.declared.naming_stage.NamingStage.TheVariants.{Descriptor2, Named, Missing};
+ghost use Rattle.journal.specs.Naming.{IsReader, IsReading, IsUnread, Learns};
+ghost use Rattle.journal.specs.Naming.{naming_place, IsFirstStage, HasNoStamps};
+ghost use Rattle.journal.specs.declared.naming_stage.NamingStage.TheVariants.{Descriptor2, Named};
+ghost use Rattle.journal.specs.declared.naming_stage.NamingStage.TheVariants.{Missing};
 
 use crate::naming_stage::NamingStage;
 use crate::{LogFormat, Record, Super, slot_of, v1, v2};
@@ -49,6 +51,14 @@ impl RecordReader {
             NamingStage::Named => None,
             NamingStage::Missing => None,
         }
+    }
+
+    /// Whether the data places of its record carry no stamp, so that the record is whole once its
+    /// blocks are named.
+    pub fn lacks_stamps(&self) -> bool
+        ensures { IsTrue result ↔ HasNoStamps self.now.sizes.format }
+    {
+        self.sizes.format.migrates()
     }
 
     /// Takes the bytes of the sector that `next` asked for.

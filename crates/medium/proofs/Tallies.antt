@@ -10,7 +10,8 @@ use Rattle.medium.specs.declared.fault.MediumFault.{MediumFault}
 use Rattle.medium.specs.declared.fault.MediumFault.TheVariants.{Read, Write, Flush}
 use Rattle.medium.specs.Machine.{Tallied}
 
-module _ {Exact : Type 0} {left rest : Tally} {result : Result (Unit {0}) MediumFault} {old new : State} (t : Tallied Exact left rest result old new) where
+module _ {Exact : Type 0} {left rest : Tally} {result : Result (Unit {0}) MediumFault} {old new : State}
+    (t : Tallied Exact left rest result old new) where
   -- no more calls than were left
   pub calls_most : new.calls ≤ old.calls + of_all left
   calls_most = omega (arith, t.calls, t.sums Read, t.sums Write, t.sums Flush)
@@ -38,8 +39,8 @@ one_is Write = (omega arith, omega arith)
 one_is Flush = (omega arith, omega arith)
 
 -- the call that ended it was refused
-pub refusal_counts : {Exact : Type 0} {left rest : Tally} {old new : State} (result : Result (Unit {0}) MediumFault) → Tallied Exact left rest result old new
-    → IfErr result (λ e. (old.failures < new.failures) × (old.refused e < new.refused e))
+pub refusal_counts : {Exact : Type 0} {left rest : Tally} {old new : State} (result : Result (Unit {0}) MediumFault)
+    → Tallied Exact left rest result old new → IfErr result (λ e. (old.failures < new.failures) × (old.refused e < new.refused e))
 refusal_counts (Ok done) t = tt
 refusal_counts (Err e) t = (omega (arith, t.failures, (one_is e).1), omega (arith, t.refused e, (one_is e).0))
 

@@ -52,8 +52,8 @@ refused_by (Err fault) = one_more none fault
 -- One tally of the calls that were made: those that were left, but for the rest and for those that
 -- a machine was spared which knows no exact number. How many calls there were, and how many reads,
 -- writes and flushes, are its readings.
-pub record Tallied (Exact : Type 0) (left rest : Tally) (result : Result (Unit {0}) MediumFault) (old new : State)
-    : Type 0 where
+pub record Tallied (Exact : Type 0) (left rest : Tally)
+    (result : Result (Unit {0}) MediumFault) (old new : State) : Type 0 where
   pub tally : Tally
   pub sums : (kind : MediumFault) → of_kind tally kind + of_kind rest kind ≤ of_kind left kind
   pub exact : Exact

@@ -73,7 +73,8 @@ module _ {M : Type 0} {state : M → State} {reader : RecordReader} {step : Copy
           let before : k < step.i = omega (arith, below, i) in
           performed.changes _ ∙ rw (numbers k before) (held.copied k before);
       others = λ none b not. performed.changes _
-          ∙ held.others (omega (arith, none, grow, held.failures_grow)) b (λ k below e. not k (omega (arith, below, i)) (numbers k below ∙ e));
+          ∙ held.others (omega (arith, none, grow, held.failures_grow)) b
+          (λ k below e. not k (omega (arith, below, i)) (numbers k below ∙ e));
       elsewhere = λ x not. performed.changes x ∙ held.elsewhere x not;
       within = λ x c left. held.within x c (performed.adds x c left);
       half = half;
@@ -95,7 +96,8 @@ module _ {M : Type 0} {state : M → State} {reader : RecordReader} {step : Copy
       (λ none. absurd (omega (arith, none, failed, held.failures_grow)))
 
   -- the sector that names blocks was read
-  module _ {bytes got : List ℕ} {n : M} {place : ℕ} (performed : Performed (Read place) bytes got (Ok tt) (state m) (state n)) (due : 0 < step.left)
+  module _ {bytes got : List ℕ} {n : M} {place : ℕ}
+      (performed : Performed (Read place) bytes got (Ok tt) (state m) (state n)) (due : 0 < step.left)
       (low : place < first_home (shape_of reader.sizes)) where
     read_of_log : got ≡ (state view.start).content place
     read_of_log = performed.done ∙ same_log place (rw held.sizes_are low)

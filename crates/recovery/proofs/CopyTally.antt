@@ -168,10 +168,12 @@ module _ (reader : RecordReader) (step : CopyStep) where
           let spent = spent_reading format reader.stage n step.i step.has_bytes is in
           let some = names_few _ reader.stage reader.read reader.reads is in
           let least = spent_least format next.stage (length next.read.numbers.items) after.i after.has_bytes in
-          rw sizes (same_left format step.left (reads + 1) (writes + 0) after.left (reads_of next after) (writes_of next after) not (ap (λ (s : CopyStep). s.left) taken.step_stays)
+          rw sizes (same_left format step.left (reads + 1) (writes + 0) after.left (reads_of next after)
+          (writes_of next after) not (ap (λ (s : CopyStep). s.left) taken.step_stays)
           (omega (arith, spent.0, some.0, some.1, least, taken.learns.nearer)) (omega (arith, spent.1)))
       naming_left {next = next} {after = after} not sizes (inr passed) =
-          rw sizes (fewer_left format step.left (reads + 1) (writes + 0) after.left (reads_of next after) (writes_of next after) not passed.2.left_is (omega (arith, few.0)) (omega (arith, few.1)))
+          rw sizes (fewer_left format step.left (reads + 1) (writes + 0) after.left (reads_of next after)
+          (writes_of next after) not passed.2.left_is (omega (arith, few.0)) (omega (arith, few.1)))
 
     -- ---- a block
     module _ (is : reader.stage ≡ stage.Named) (below : step.i < length reader.read.numbers.items)
@@ -195,7 +197,8 @@ module _ (reader : RecordReader) (step : CopyStep) where
       pub block_left : {Exact : Type 0} {next : RecordReader} {after : CopyStep} → ¬ Exact → step.has_bytes ≡ false
           → HasRead reader step next after → IsLeft Exact (copies_left next after) (spent_more 1 0)
       block_left {next = next} {after = after} not no_bytes has =
-          rw (has.reader_stays, has.i_stays, has.bytes, no_bytes, is) (same_left format step.left (reads_spent format stage.Named n step.i false + 1)
+          rw (has.reader_stays, has.i_stays, has.bytes, no_bytes, is) (same_left format step.left
+          (reads_spent format stage.Named n step.i false + 1)
           (writes_spent format stage.Named n step.i + 0) after.left (reads_spent format stage.Named n step.i true)
           (writes_spent format stage.Named n step.i) not has.left_stays (omega arith) (omega arith))
 
@@ -208,14 +211,16 @@ module _ (reader : RecordReader) (step : CopyStep) where
           → next.sizes ≡ reader.sizes → IsBlockStep true reader step next after
           → IsLeft Exact (copies_left next after) (spent_more 0 1)
       home_left {next = next} {after = after} not full sizes (inl has) =
-          rw (has.reader_stays, has.i_on, has.no_bytes, full, is) (same_left format step.left (reads_spent format stage.Named n step.i true + 0)
+          rw (has.reader_stays, has.i_on, has.no_bytes, full, is) (same_left format step.left
+          (reads_spent format stage.Named n step.i true + 0)
           (writes_spent format stage.Named n step.i + 1) after.left (reads_spent format stage.Named n (step.i + 1) false)
           (writes_spent format stage.Named n (step.i + 1)) not has.left_stays
           (omega (arith, below, inside)) (omega (arith, below, inside)))
       home_left {next = next} {after = after} not full sizes (inr last) =
           let spent = subst (λ (b : Bool). reads_spent format reader.stage n step.i step.has_bytes
           ≡ record_reads_of format + (limit_of format - (n - step.i)) + one_if b) full named_reads in
-          rw sizes (fewer_left format step.left (reads + 0) (writes + 1) after.left (reads_of next after) (writes_of next after) not last.1.left_is (omega (arith, spent, below, inside))
+          rw sizes (fewer_left format step.left (reads + 0) (writes + 1) after.left (reads_of next after)
+          (writes_of next after) not last.1.left_is (omega (arith, spent, below, inside))
           (omega (arith, named_writes, below, inside)))
 
   -- where no call is left no record is

@@ -107,7 +107,8 @@ module _ (reader : RecordReader) (left place : ℕ) where
           | inl gone ↦ rw gone (omega (arith, now, some.0, some.1))
           | inr there ↦ elim (named_or_not next.stage there) [
             | inl is_named ↦
-                let two = named (omega (arith, on.left_stays, due)) is_named in rw is_named (grind (arith, now, some.0, some.1, two.0, two.1))
+                let two = named (omega (arith, on.left_stays, due)) is_named in
+                rw is_named (grind (arith, now, some.0, some.1, two.0, two.1))
             | inr reads ↦
                 let then = spent_reading format next.stage (length next.read.numbers.items) after reads in
                 omega (arith, now, then, on.learns.nearer, some.0, some.1)

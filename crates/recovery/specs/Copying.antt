@@ -1,5 +1,6 @@
 -- What the copying of records home and a medium hold between two calls.
-use Rattle.std.specs.Prelude.{◌≡◌, ◌≢◌, ◌⊎◌, ℕ, ◌+◌, ◌*◌, ◌-◌, ◌≤◌, ◌<◌, ◌^◌, List, [], length, get_or, take}
+use Rattle.std.specs.Prelude.{◌≡◌, ◌≢◌, ◌⊎◌, ℕ, ◌+◌, ◌*◌, ◌-◌, ◌≤◌, ◌<◌, ◌^◌, List, [], length}
+use Rattle.std.specs.Prelude.{get_or, take}
 use Rattle.std.specs.Prelude.{slice_index, Bool, true, false}
 use Rattle.medium.specs.Medium.{State, Within}
 use Rattle.medium.specs.Tally.{Tally}
@@ -145,7 +146,8 @@ pub record HoldsCopied {M : Type 0} (state : M → State) (reader : RecordReader
       + slice_index reader.read.numbers.items k) ≡ block_of (get_or view.records home []) k
   -- where no call was refused, the others are those of the records before
   pub others : (state m).failures ≡ (state view.start).failures → (b : ℕ)
-      → ((k : ℕ) → k < step.i → slice_index reader.read.numbers.items k ≢ b) → (state m).content (first_home (shape_of view.sizes) + b)
+      → ((k : ℕ) → k < step.i → slice_index reader.read.numbers.items k ≢ b)
+      → (state m).content (first_home (shape_of view.sizes) + b)
       ≡ with_records (take home view.records)
       (home_of (shape_of view.sizes) (state view.start).content) b
   pub elsewhere : (x : ℕ) → ¬ IsHomeInRecords (shape_of view.sizes) (state view.start).content

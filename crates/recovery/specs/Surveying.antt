@@ -1,17 +1,17 @@
 -- What the survey of the whole records and a medium hold between two calls.
-use Rattle.std.specs.Prelude.{◌≡◌, ◌≢◌, ◌⊎◌, ℕ, ◌+◌, ◌*◌, ◌-◌, ◌≤◌, ◌<◌, ◌^◌, List, [], ◌∷◌, ◌++◌, length, min}
-use Rattle.std.specs.Prelude.{slice_index}
+use Rattle.std.specs.Prelude.{◌≡◌, ◌≢◌, ◌⊎◌, ℕ, ◌+◌, ◌*◌, ◌-◌, ◌≤◌, ◌<◌, ◌^◌, List, []}
+use Rattle.std.specs.Prelude.{◌∷◌, ◌++◌, length, min, slice_index}
 use Rattle.medium.specs.Medium.{State}
 use Rattle.medium.specs.Moments.{IsQuiet}
 use Rattle.medium.specs.Tally.{Tally}
 use Rattle.journal.specs.declared.log_format.LogFormat.{LogFormat}
-use Rattle.journal.specs.declared.log_format.LogFormat.TheVariants.{One, Two}
 use Rattle.journal.specs.declared.record.Record.{Record}
 use Rattle.journal.specs.declared.reader.RecordReader.{RecordReader}
 use Rattle.journal.specs.declared.super_sector.Super.{Super}
 use Rattle.journal.specs.declared.naming_stage.NamingStage.{NamingStage}
 use Rattle.journal.specs.declared.naming_stage.NamingStage.TheVariants as stage
 use Rattle.journal.specs.Naming.{IsReading, IsUnread, Learns, IsKnown, names_left}
+use Rattle.journal.specs.Naming.{HasStamps, HasNoStamps}
 use Rattle.journal.specs.Format2.{place_bytes, format2}
 use Rattle.journal.specs.Layout.{slot_at}
 use Rattle.journal.specs.Places.{Shape}
@@ -25,7 +25,7 @@ pub record CanSurvey (reader : RecordReader) (left place counted : ℕ) : Type 0
   pub stamps : reader.stamp + left < 2 ^ 63 + 65
   pub room : counted + left ≤ 64
   pub there : 0 < left → reader.stage ≢ stage.Missing
-  pub two : 0 < left → reader.stage ≡ stage.Named → reader.sizes.format ≡ Two
+  pub two : 0 < left → reader.stage ≡ stage.Named → HasStamps reader.sizes.format
   pub named : 0 < left → reader.stage ≡ stage.Named → place < length reader.read.numbers.items
   pub unnamed : 0 < left → reader.stage ≢ stage.Named → place ≡ 0
 
@@ -73,7 +73,7 @@ pub record IsMissing (reader : RecordReader) (waiting got : List ℕ) (less : �
 pub record IsWholeOne (reader : RecordReader) (left : ℕ) (waiting got : List ℕ)
     (next : RecordReader) (less after : ℕ) (counts : List ℕ) : Type 0 where
   pub read : Record
-  pub one : reader.sizes.format ≡ One
+  pub one : HasNoStamps reader.sizes.format
   pub learns : Learns (shape_of reader.sizes) reader.stamp reader.stage reader.read got
       stage.Named read
   pub counts_are : counts ≡ waiting ++ length read.numbers.items ∷ []

@@ -33,14 +33,15 @@ impl Surveying {
         requires reading { IsReading self.old.reader.stage }
         requires left { 0 < self.old.left }
         ensures sizes { self.new.reader.sizes ≡ self.old.reader.sizes }
-        ensures takes { TakesName self.old.reader self.old.left self.old.place self.old.waiting.items
-            sector.now self.new.reader self.new.left self.new.place self.new.waiting.items }
+        ensures takes { TakesName self.old.reader self.old.left self.old.place
+            self.old.waiting.items sector.now self.new.reader self.new.left self.new.place
+            self.new.waiting.items }
     {
         self.reader.take(sector);
         match self.reader.stage {
             NamingStage::Missing => self.left = 0,
             NamingStage::Named => {
-                if self.reader.sizes.format.migrates() {
+                if self.reader.lacks_stamps() {
                     self.waiting.push(self.reader.read.numbers.len() as u8);
                     self.reader = reader_behind(&self.reader);
                     self.left -= 1;
@@ -55,8 +56,9 @@ impl Surveying {
         requires named { self.old.reader.stage ≡ Named }
         requires left { 0 < self.old.left }
         ensures sizes { self.new.reader.sizes ≡ self.old.reader.sizes }
-        ensures takes { TakesPlace self.old.reader self.old.left self.old.place self.old.waiting.items
-            sector.now self.new.reader self.new.left self.new.place self.new.waiting.items }
+        ensures takes { TakesPlace self.old.reader self.old.left self.old.place
+            self.old.waiting.items sector.now self.new.reader self.new.left self.new.place
+            self.new.waiting.items }
     {
         let count = self.reader.read.numbers.len();
         if !is_data2(self.reader.stamp, sector) {

@@ -49,14 +49,16 @@ returns-then-not-self g c =
       within = omega (arith, lies);
       looks = lies;
       made = λ m n got view next fits held performed after.
-          let has : HasRead s.reader s.step next.reader next.step = subst (λ (b : Bool). IsBlockStep b s.reader s.step next.reader next.step)
+          let has : HasRead s.reader s.step next.reader next.step =
+          subst (λ (b : Bool). IsBlockStep b s.reader s.step next.reader next.step)
           no_bytes (after.copying named) in
           block_read held performed due lies is no_bytes has;
       refused = λ m n got view next e fits held performed gone. unread held performed gone;
       rest = _;
       pays = block_pays s.reader s.step due named below inside no_bytes;
       rests = λ got next after.
-          let has : HasRead s.reader s.step next.reader next.step = subst (λ (b : Bool). IsBlockStep b s.reader s.step next.reader next.step)
+          let has : HasRead s.reader s.step next.reader next.step =
+          subst (λ (b : Bool). IsBlockStep b s.reader s.step next.reader next.step)
           no_bytes (after.copying named) in
           block_left s.reader s.step due named below inside (λ e. e) no_bytes has;
     }
@@ -81,7 +83,8 @@ returns g c =
       within = omega (arith, is, inside);
       looks = tt;
       made = λ m n got view next fits held performed after.
-          let went : IsBlockStep true s.reader s.step next.reader next.step = subst (λ (b : Bool). IsBlockStep b s.reader s.step next.reader next.step)
+          let went : IsBlockStep true s.reader s.step next.reader next.step =
+          subst (λ (b : Bool). IsBlockStep b s.reader s.step next.reader next.step)
           full (after.copying named) in
           ⊎_elim (λ has. block_written held due named below is full bytes_are performed has)
           (λ last. record_written held due named below is full bytes_are performed last.0 last.1) went;
@@ -89,7 +92,8 @@ returns g c =
       rest = _;
       pays = home_pays s.reader s.step due named below names.few;
       rests = λ got next after.
-          let went : IsBlockStep true s.reader s.step next.reader next.step = subst (λ (b : Bool). IsBlockStep b s.reader s.step next.reader next.step)
+          let went : IsBlockStep true s.reader s.step next.reader next.step =
+          subst (λ (b : Bool). IsBlockStep b s.reader s.step next.reader next.step)
           full (after.copying named) in
           home_left s.reader s.step due named below names.few (λ e. e) full after.sizes_stay went;
     }

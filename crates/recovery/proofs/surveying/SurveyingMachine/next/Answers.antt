@@ -42,7 +42,8 @@ returns-in-Some g c =
       pays = name_pays s.reader s.left s.place due asked.0;
       rests = λ got next after.
           name_left s.reader s.left s.place due asked.0 (λ e. e) after.sizes_stay (λ some is.
-          let two = next.goes.two some is in (rw after.sizes_stay at two, rw two at (next.reader.reads.named is).few)) (after.reading asked.0);
+          let two = next.goes.two some is in
+          (rw after.sizes_stay at two, rw two at (next.reader.reads.named is).few)) (after.reading asked.0);
     }
 
 pub returns : goal.returns
