@@ -1,6 +1,6 @@
 -- A turn of the oldest record is made call by call: what a log and its medium hold after its first
 -- one, and what each of them leaves.
-use Rattle.std.specs.Prelude.{◌≡◌, ◌≢◌, ℕ, ◌+◌, ◌-◌, ◌<◌, List, [], get_or, true, Result, OnOk}
+use Rattle.std.specs.Prelude.{◌≡◌, ◌≢◌, ℕ, ◌+◌, ◌-◌, ◌<◌, List, true, Result, OnOk}
 use Rattle.medium.specs.Medium.{State, LooksOnly}
 use Rattle.medium.specs.Moments.{LeavesOnly, SparesFrom}
 use Rattle.medium.specs.declared.fault.MediumFault.{MediumFault}
@@ -12,10 +12,6 @@ use Rattle.medium.specs.Performed.{IsWithin, Performed, sends_of, flushes_of}
 use Rattle.redo_log.specs.Value.{LogValue, died, of_oldest, IsRetireStepped, IsSentHome, IsAway}
 use Rattle.redo_log.specs.Held.{View, HoldsView, MayLeave, turned_of, view_retired}
 use Rattle.redo_log.specs.Steps.{LeavesLog, IsOn}
-use Rattle.redo_log.specs.Shown.{shown, Invariant}
-use Rattle.redo_log.specs.Turns.{IsNextTurn, StaysInImage}
-use Rattle.redo_log.specs.declared.turn.Turn.{Turn}
-use Rattle.redo_log.specs.declared.log.Log.TheInside.{Inside}
 
 -- this medium, if all that it holds were durable
 abbrev pub flushed : State → State
@@ -85,9 +81,3 @@ pub record TellsSecond {M : Type 0} (state : M → State) (log : LogValue) (had 
   pub law : (m n : M) (after : List ℕ) (result : Result (Unit {0}) MediumFault)
       → IsOn log (state m) → Performed call bytes after result (state m) (state n)
       → TurnEnded log had result (state m) (state n)
-
--- this is the next turn of the oldest record
-pub record IsTurnOf (log : LogValue) (turn : Turn) : Type 0 where
-  pub turn_is : StaysInImage (IsNextTurn log.shape log.head (get_or log.waiting 0 []) log.firsts
-      (turned_of log) turn) log.shape turn
-  pub fields : (inside : Inside) × (shown inside ≡ log) × Invariant inside

@@ -7,7 +7,7 @@ ghost use Rattle.redo_log.specs.Shown.{shown, Invariant};
 ghost use Rattle.redo_log.specs.declared.log.Log.TheInside.{Inside};
 ghost use Rattle.redo_log.specs.Steps.{CountsStep, IsOn, BringsOn, StaysSent};
 ghost use Rattle.redo_log.specs.Turns.{StaysInImage, IsNextTurn};
-ghost use Rattle.redo_log.specs.Halfway.{IsTurnOf, TellsFirst, TellsSecond};
+ghost use Rattle.redo_log.specs.Halfway.{TellsFirst, TellsSecond};
 
 use crate::Log;
 use crate::index::drop_record;
@@ -37,8 +37,7 @@ impl Log {
         requires { 0 < of_oldest self.now }
         ensures { TellsFirst M.state self.now result sector.new }
     {
-        let turn = self.oldest_turn();
-        self.first_of::<M>(&turn, sector)
+        self.oldest_turn().first(sector)
     }
 
     /// The second one, if there is one: else the turn is made. The sector is as the first one left
@@ -48,27 +47,7 @@ impl Log {
         ensures { MatchOption result (of_oldest self.now ≡ 2)
             (λ call. TellsSecond M.state self.now sector.old call sector.new) }
     {
-        let turn = self.oldest_turn();
-        self.second_of::<M>(&turn, sector)
-    }
-
-    // The first call of this turn, which is the next one.
-    fn first_of<M: Medium>(&self, turn: &Turn, sector: &mut [u8; 512]) -> Call
-        requires owed { 0 < of_oldest self.now }
-        requires turn { IsTurnOf self.now turn.now }
-        ensures { TellsFirst M.state self.now result sector.new }
-    {
-        turn.first(sector)
-    }
-
-    // The second one.
-    fn second_of<M: Medium>(&self, turn: &Turn, sector: &mut [u8; 512]) -> Option<Call>
-        requires owed { 0 < of_oldest self.now }
-        requires turn { IsTurnOf self.now turn.now }
-        ensures { MatchOption result (of_oldest self.now ≡ 2)
-            (λ call. TellsSecond M.state self.now sector.old call sector.new) }
-    {
-        turn.second(sector)
+        self.oldest_turn().second(sector)
     }
 
     /// Makes the next turn of the oldest durable record, which is not counted yet.
@@ -81,19 +60,17 @@ impl Log {
         ensures sent { IsAway self.now
             → StaysSent result self.now (M.state m.old) (M.state m.new) }
     {
-        let turn = self.oldest_turn();
         let mut sector = [0; 512];
-        let first = self.first_of::<M>(&turn, &mut sector);
+        let first = self.turn_first::<M>(&mut sector);
         perform(m, first, &mut sector)?;
-        let Some(second) = self.second_of::<M>(&turn, &mut sector) else {
+        let Some(second) = self.turn_second::<M>(&mut sector) else {
             return Ok(());
         };
         perform(m, second, &mut sector)
     }
 
     /// Writes the head past the oldest durable record, which is not counted yet, and does not flush
-    /// it. Its bytes lie on the stack under no other call.
-    #[inline(never)]
+    /// it.
     pub(crate) fn write_head<M: Medium>(&self, m: &mut M) -> Result<(), MediumFault>
         requires on { IsOn self.now (M.state m.old) }
         requires can { CanPass self.now }

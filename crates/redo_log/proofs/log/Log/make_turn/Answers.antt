@@ -5,7 +5,7 @@ use Rattle.redo_log.proofs.log.Log.make_turn.Goals as goal
 
 pub returns-clause-brings : goal.returns-clause-brings
 returns-clause-brings g c =
-    let first = c.first_of-first.ensures in
+    let first = c.turn_first-first.ensures in
     let begun = first.law c.args.m.now c.perform.new.m c.perform.new.sector (Ok tt) c.requires.on c.in_ok-perform.ensures.performed in
     let second = c.in-Some.ensures in
     let a = c.in_ok-perform.ensures.performed.passes in
@@ -17,7 +17,7 @@ returns-clause-brings g c =
     let ended = second.law c.perform.new.m c.perform-2.new.m c.perform-2.new.sector c.perform-2.result on c.perform-2.ensures.performed in
     record {
       passes = record {
-        calls = two_counts c.args.self.now c.requires.owed c.first_of-first.result c.in-Some.second
+        calls = two_counts c.args.self.now c.requires.owed c.turn_first-first.result c.in-Some.second
             first.home first.head second.home second.flush second.head a b;
         failures = rw a.failures_are at b.failures_are;
         size = b.size_stays ∙ a.size_stays;
