@@ -70,7 +70,8 @@ impl Log {
     }
 
     /// Writes the head past the oldest durable record, which is not counted yet, and does not flush
-    /// it.
+    /// it. Its bytes lie on the stack under no other call.
+    #[inline(never)]
     pub(crate) fn write_head<M: Medium>(&self, m: &mut M) -> Result<(), MediumFault>
         requires on { IsOn self.now (M.state m.old) }
         requires can { CanPass self.now }
