@@ -91,8 +91,8 @@ impl RecordReader {
     // Takes the bytes of a descriptor of format 2.
     fn take_names(&mut self, sector: &[u8; 512], count: u64, index: u64)
         requires { self.old.stage ≡ Descriptor2 count index }
-        ensures of { (self.new.sizes ≡ self.old.sizes) × (self.new.stamp ≡ self.old.stamp) }
-        ensures learns { Learns (shape_of self.old.sizes) self.old.stamp self.old.stage
+        ensures { (self.new.sizes ≡ self.old.sizes) × (self.new.stamp ≡ self.old.stamp)
+            × Learns (shape_of self.old.sizes) self.old.stamp (Descriptor2 count index)
             self.old.read sector.now self.new.stage self.new.read }
     {
         let Some(found) = v2::descriptor_of(sector, self.stamp, count, index) else {

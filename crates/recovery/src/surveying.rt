@@ -32,10 +32,9 @@ impl Surveying {
     fn take(&mut self, sector: &[u8; 512])
         requires reading { IsReading self.old.reader.stage }
         requires left { 0 < self.old.left }
-        ensures sizes { self.new.reader.sizes ≡ self.old.reader.sizes }
-        ensures takes { TakesName self.old.reader self.old.left self.old.place
-            self.old.waiting.items sector.now self.new.reader self.new.left self.new.place
-            self.new.waiting.items }
+        ensures { (self.new.reader.sizes ≡ self.old.reader.sizes)
+            × TakesName self.old.reader self.old.left self.old.place self.old.waiting.items
+            sector.now self.new.reader self.new.left self.new.place self.new.waiting.items }
     {
         self.reader.take(sector);
         match self.reader.stage {
@@ -55,10 +54,9 @@ impl Surveying {
     fn place_on(&mut self, sector: &[u8; 512])
         requires named { self.old.reader.stage ≡ Named }
         requires left { 0 < self.old.left }
-        ensures sizes { self.new.reader.sizes ≡ self.old.reader.sizes }
-        ensures takes { TakesPlace self.old.reader self.old.left self.old.place
-            self.old.waiting.items sector.now self.new.reader self.new.left self.new.place
-            self.new.waiting.items }
+        ensures { (self.new.reader.sizes ≡ self.old.reader.sizes)
+            × TakesPlace self.old.reader self.old.left self.old.place self.old.waiting.items
+            sector.now self.new.reader self.new.left self.new.place self.new.waiting.items }
     {
         let count = self.reader.read.numbers.len();
         if !is_data2(self.reader.stamp, sector) {

@@ -33,3 +33,6 @@ returns-in-Commit2-clause-learns c =
           c.counted-self.ensures c.clear.ensures.numbers c.clear.ensures.firsts).1 in
           rw is (omega (arith, less));
     }
+
+pub returns-in-Descriptor2-clause-learns : goal.returns-in-Descriptor2-clause-learns
+returns-in-Descriptor2-clause-learns c = rw c.in-Descriptor2.is c.take_names.ensures.2

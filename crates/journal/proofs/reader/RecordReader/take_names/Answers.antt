@@ -1,4 +1,4 @@
-use Rattle.std.proofs.Common.{◌≡◌, ◌+◌, ◌*◌, ◌%◌, ◌<◌, ◌≤◌, length, ⊎_elim, arith}
+use Rattle.std.proofs.Common.{refl, ◌≡◌, ◌+◌, ◌*◌, ◌%◌, ◌<◌, ◌≤◌, length, ⊎_elim, arith}
 use Rattle.std.proofs.lemmas.List.{length-append}
 use Rattle.medium.specs.Medium.{Image}
 use Rattle.journal.specs.Format2.{descriptors_of, place_of}
@@ -8,19 +8,19 @@ use Rattle.journal.proofs.reader.RecordReader.take_names.Goals as goal
 use Rattle.journal.proofs.reader.RecordReader.take_names.Goals.{After-append}
 use Rattle.journal.specs.Formats.{shape_of}
 
-pub returns-in_default-clause-learns : goal.returns-in_default-clause-learns
-returns-in_default-clause-learns c =
+pub returns-in_default : goal.returns-in_default
+returns-in_default c =
     let s = c.args.self.now in
-    let is = c.requires in
-    let b = s.reads.behind_two _ _ is in
-    record {
-      knows = λ image reads had known.
-          let k = rw is at known in
-          let here = rw is at had in
-          rw k.0 (unnamed s.sizes image s.stamp s.read b.two c.args.count c.args.index k.1 b.more
-          (λ has. c.in_default.ensures has.0 has.1 (rw here has.2)));
-      nearer = rw is (omega (arith, b.more, b.few));
-    }
+    let b = s.reads.behind_two _ _ c.requires in (
+      refl,
+      refl,
+      record {
+        knows = λ image reads had known.
+            rw known.0 (unnamed s.sizes image s.stamp s.read b.two c.args.count c.args.index known.1 b.more
+            (λ has. c.in_default.ensures has.0 has.1 (rw had has.2)));
+        nearer = omega (arith, b.more, b.few);
+      },
+    )
 
 pub append-requires-clause-numbers_fit : goal.append-requires-clause-numbers_fit
 append-requires-clause-numbers_fit c =
@@ -121,35 +121,38 @@ invariant_of-self-else-index-descriptors c =
           })) c.named_if-self.ensures;
     }
 
-pub returns-then-index-descriptors-clause-learns : goal.returns-then-index-descriptors-clause-learns
-returns-then-index-descriptors-clause-learns c =
+pub returns-then-index-descriptors : goal.returns-then-index-descriptors
+returns-then-index-descriptors c =
     let b = c.args.self.now.reads.behind_two _ _ c.requires in
-    let after = (goal.at.returns-then-index-descriptors-clause-learns c).After-append in
-    record {
-      knows = λ image reads had known.
-          let k = rw c.requires at known in
-          (omega (arith, k.0), named_to after image (rw c.requires at had) k.1);
-      nearer = rw c.requires (omega (arith, b.more, b.few));
-    }
+    let after = (goal.at.returns-then-index-descriptors c).After-append in (
+      refl,
+      refl,
+      record {
+        knows = λ image reads had known. (omega (arith, known.0), named_to after image had known.1);
+        nearer = omega (arith, b.more, b.few);
+      },
+    )
 
-pub returns-else-index-descriptors-clause-learns : goal.returns-else-index-descriptors-clause-learns
-returns-else-index-descriptors-clause-learns c =
+pub returns-else-index-descriptors : goal.returns-else-index-descriptors
+returns-else-index-descriptors c =
     let s = c.args.self.now in
     let b = s.reads.behind_two _ _ c.requires in
-    let after = (goal.at.returns-else-index-descriptors-clause-learns c).After-append in
+    let after = (goal.at.returns-else-index-descriptors c).After-append in
     let last : c.args.index + 1 ≡ descriptors_of c.args.count =
     omega (arith, c.if-index-descriptors.false, c.descriptors.ensures, b.more) in
-    let blocks = rw c.deref-else-index-descriptors.ensures.0 at c.are_blocks.ensures in
-    record {
-      knows = λ image reads had known.
-          let k = rw c.requires at known in
-          let is = named_to after image (rw c.requires at had) k.1 in
-          let all : reads + 1 ≡ 1 + descriptors_of c.args.count = omega (arith, k.0, last) in
-          ⊎_elim (λ yes. let both = blocks.0 yes.1 in
-          rw (yes.0, all) (named_good s.sizes image s.stamp c.append.new.self b.two c.args.count (c.args.index + 1) is last both.0
-          both.1)) (λ no.
-          rw (no.0, all) (named_bad s.sizes image s.stamp c.append.new.self b.two c.args.count (c.args.index + 1) is last
-          (λ both. no.1 (blocks.1 both)))) c.named_if-self.ensures;
-      nearer = ⊎_elim (λ yes. rw (c.requires, yes.0) (omega (arith, b.more, b.few)))
-          (λ no. rw (c.requires, no.0) (omega (arith, b.more, b.few))) c.named_if-self.ensures;
-    }
+    let blocks = rw c.deref-else-index-descriptors.ensures.0 at c.are_blocks.ensures in (
+      refl,
+      refl,
+      record {
+        knows = λ image reads had known.
+            let is = named_to after image had known.1 in
+            let all : reads + 1 ≡ 1 + descriptors_of c.args.count = omega (arith, known.0, last) in
+            ⊎_elim (λ yes. let both = blocks.0 yes.1 in
+            rw (yes.0, all) (named_good s.sizes image s.stamp c.append.new.self b.two c.args.count (c.args.index + 1) is last both.0
+            both.1)) (λ no.
+            rw (no.0, all) (named_bad s.sizes image s.stamp c.append.new.self b.two c.args.count (c.args.index + 1) is last
+            (λ both. no.1 (blocks.1 both)))) c.named_if-self.ensures;
+        nearer = ⊎_elim (λ yes. rw yes.0 (omega (arith, b.more, b.few))) (λ no. rw no.0 (omega (arith, b.more, b.few)))
+            c.named_if-self.ensures;
+      },
+    )
