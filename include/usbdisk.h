@@ -191,9 +191,9 @@ uint32_t usbdisk_stop(struct usbdisk *disk);
  * program's, who may have the device read it until usbdisk_done: the library writes it in this call
  * alone, and never keeps its address.
  *
- * Where nothing else is to be done, and the host has the status of each command, it also tells
- * WRITEs that bring blocks of a disk home, 241 sectors at a time at most, so that the next forced
- * WRITE finds that done. None is a FLUSH.
+ * Where nothing else is to be done, and no status is still to be told, it also tells WRITEs that
+ * bring blocks of a disk home, 241 sectors at a time at most, so that the next forced WRITE finds
+ * that done. None is a FLUSH.
  *
  * size: 512 for each sector that there is room for; 122,880 is enough for each run and each READ.
  *
