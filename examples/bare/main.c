@@ -146,7 +146,7 @@ int main(void)
     for (;;) {
         next_event(&event);
         code = play(&event, packet, &size);
+        tell_host(code, packet, size); /* a status does not wait for what the disk does ahead */
         carry_out(&disk, &fault);
-        tell_host(code, packet, size);
     }
 }
