@@ -255,8 +255,8 @@ uint32_t usbdisk_in(struct usbdisk *disk, uint8_t *room, size_t size, size_t *gi
 uint32_t usbdisk_setup(struct usbdisk *disk, const uint8_t setup[8], uint8_t data[2],
                        uint32_t *size);
 
-/* Background work of a disk, up to 32 steps, or of a store, up to one, while few calls wait for the
- * device and no promise does. Call it while the bus is idle; it may be called at any time. Answers
+/* Background work, up to 32 steps, while few calls wait for the device and no promise does; of a
+ * store where no call waits. Call it while the bus is idle; it may be called at any time. Answers
  * 1 while steps are left, or EMPTY or OTHER_KIND; 0 where every accepted write is durable and at
  * its home place once the device has carried out what waits. While the first sectors are read, and
  * of what failed or faulted, it answers 1. */

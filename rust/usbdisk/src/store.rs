@@ -58,7 +58,7 @@ impl Store {
         Refusal::check(unsafe { sys::usbdisk_store_sync(self.handle()) })
     }
 
-    /// A step in the background, for when nothing else is to be done, as [`Disk::idle`](crate::Disk::idle).
+    /// Steps in the background, for when nothing else is to be done, as [`Disk::idle`](crate::Disk::idle).
     pub fn idle(&mut self) -> bool {
         // SAFETY: the handle is lent to this call alone.
         unsafe { sys::usbdisk_idle(self.handle()) == 1 }
