@@ -164,7 +164,9 @@ impl Batch {
     }
 
     /// The batch and a frozen one change their blocks and their room. Those of the batch are put
-    /// into the order of their numbers first, where each block moves at most once.
+    /// into the order of their numbers first, where each block moves at most once: the one that
+    /// waits aside lies on the stack under no other call.
+    #[inline(never)]
     pub fn freeze(&mut self, frozen: &mut Frozen)
         ensures froze { frozen.new ≡ self.old }
         ensures thawed { self.new ≡ frozen.old }
