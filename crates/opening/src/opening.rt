@@ -95,11 +95,13 @@ impl Opening {
         })
     }
 
-    /// The read that was asked for has ended, good or not: these are its bytes.
+    /// The read that was asked for has ended, good or not: these are its bytes. It stands apart, so
+    /// that sector 0 does not lie on the stack under what begins then.
     ///
     /// # Errors
     /// `NothingAsked` where none is under way, and `BadLength` where the bytes are not as many as
     /// those of its sectors. Nothing changes then.
+    #[inline(never)]
     pub fn done(&mut self, ok: bool, bytes: &[u8]) -> Result<ReadEnd, DoneFault>
         ensures { HasRead self.old ok bytes.now result self.new }
     {
