@@ -70,14 +70,13 @@ pub(crate) fn put_all(sector: &mut [u8], i: usize, numbers: &[u64])
     }
 }
 
-/// A sector of these numbers.
-pub(crate) fn sector_of(numbers: &[u64]) -> [u8; 512]
+/// Writes these numbers to the sector, and zeros behind them.
+pub(crate) fn spell(sector: &mut [u8; 512], numbers: &[u64])
     requires { length numbers.now ≤ 64 }
-    ensures { result ≡ spelling numbers.now }
+    ensures { sector.new ≡ spelling numbers.now }
 {
-    let mut sector = [0; 512];
-    put_all(&mut sector, 0, numbers);
-    sector
+    *sector = [0; 512];
+    put_all(sector, 0, numbers);
 }
 
 /// The i-th number of a sector.

@@ -2,7 +2,7 @@
 ghost use Rattle.std.specs.Prelude.{◌≡◌, ◌≤◌, ◌<◌, ◌^◌, ℕ, IfSome, IsSomeAnd};
 ghost use Rattle.journal.specs.Sectors.{IsHead};
 
-use crate::fields::{mark_number, number_at, sector_of};
+use crate::fields::{mark_number, number_at, spell};
 
 /// What sector 1 holds.
 #[derive(Clone, Copy, Debug, PartialEq, Eq)]
@@ -27,7 +27,9 @@ impl Head {
     pub fn encode(&self) -> [u8; 512]
         ensures { IsHead self.now.stamp result }
     {
-        sector_of(&[mark_number(b"RDHEAD01"), self.stamp])
+        let mut sector = [0; 512];
+        spell(&mut sector, &[mark_number(b"RDHEAD01"), self.stamp]);
+        sector
     }
 
     /// The head that these bytes spell, if they spell one.

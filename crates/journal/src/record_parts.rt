@@ -6,10 +6,18 @@ ghost use Rattle.journal.specs.Record.{entries_of};
 ghost use Rattle.journal.specs.Formats.{layout_of};
 
 use crate::places::FIRST_SLOT;
-use crate::{LogFormat, Part, v1, v2};
+use crate::{LogFormat, v1, v2};
 
-/// Part p of the record with this stamp and these blocks, whose bytes stand one after the other.
-pub fn part(format: LogFormat, stamp: u64, numbers: &[u64], bytes: &[u8], p: usize) -> Part
+/// Writes part p of the record with this stamp and these blocks, whose bytes stand one after the
+/// other, to the sector, and tells where it stands in the slot of the record.
+pub fn write_part(
+    format: LogFormat,
+    stamp: u64,
+    numbers: &[u64],
+    bytes: &[u8],
+    p: usize,
+    sector: &mut [u8; 512],
+) -> u64
     requires least { 1 ≤ stamp }
     requires most { stamp < 2 ^ 63 - 1 }
     requires some { 1 ≤ length numbers.now }
@@ -18,13 +26,13 @@ pub fn part(format: LogFormat, stamp: u64, numbers: &[u64], bytes: &[u8], p: usi
     requires small { All (λ b. b < 2 ^ 31) numbers.now }
     requires size { length bytes.now ≡ 512 * length numbers.now }
     requires inside { p < (layout_of format).parts (length numbers.now) }
-    ensures offset { result.offset ≡ (layout_of format).offset (length numbers.now) p }
-    ensures sector { result.sector
+    ensures offset { result ≡ (layout_of format).offset (length numbers.now) p }
+    ensures sector { sector.new
         ≡ (layout_of format).part stamp (entries_of numbers.now bytes.now) p }
 {
     match format {
-        LogFormat::One => v1::part(stamp, numbers, bytes, p),
-        LogFormat::Two => v2::part(stamp, numbers, bytes, p),
+        LogFormat::One => v1::write_part(stamp, numbers, bytes, p, sector),
+        LogFormat::Two => v2::write_part(stamp, numbers, bytes, p, sector),
     }
 }
 

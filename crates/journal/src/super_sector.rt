@@ -4,7 +4,7 @@ ghost use Rattle.std.specs.Prelude.{IsTrue, IfOk, IsOkAnd, IfErr, IfSome, IsSome
 ghost use Rattle.journal.specs.Places.{IsFirstHome, slot_sectors_of};
 ghost use Rattle.journal.specs.Sectors.{version_of};
 
-use crate::fields::{has_zero_rest, mark_number, number_at, sector_of};
+use crate::fields::{has_zero_rest, mark_number, number_at, spell};
 use crate::places::FIRST_SLOT;
 use crate::{LogFormat, SuperFault};
 
@@ -82,14 +82,17 @@ impl Super {
     pub fn encode(&self) -> [u8; 512]
         ensures { IsSuper (shape_of self.now) result }
     {
-        sector_of(&[
+        let numbers = [
             mark_number(b"RDSUPER1"),
             self.format.version(),
             self.blocks,
             self.slots,
             FIRST_SLOT,
             self.home,
-        ])
+        ];
+        let mut sector = [0; 512];
+        spell(&mut sector, &numbers);
+        sector
     }
 
     /// The super that these bytes spell, or the first of their faults.

@@ -7,6 +7,7 @@ mod places;
 mod record;
 
 pub use commit::Commit;
+pub(crate) use data::write_data;
 pub use data::{data_sector, is_data};
 pub use descriptor::Descriptor;
 pub(crate) use descriptor::firsts_in;
@@ -14,4 +15,4 @@ pub(crate) use naming::{are_blocks, count_of, descriptor_of};
 pub(crate) use places::{COMMIT, ENTRIES, FIRST_DATA, GAP, LIMIT, SLOT_SECTORS};
 pub use places::{commit_place, data_place, descriptor_place, place_of};
 pub use record::descriptors;
-pub(crate) use record::{early, part, parts};
+pub(crate) use record::{early, parts, write_part};

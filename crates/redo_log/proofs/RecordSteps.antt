@@ -4,25 +4,24 @@ use Rattle.std.proofs.Common.{zero, suc, refl, sym, ◌∙◌, Result}
 use Rattle.std.proofs.lemmas.Bool.Decides.{nat_tests}
 use Rattle.journal.specs.declared.log_format.LogFormat.{LogFormat}
 use Rattle.journal.specs.declared.log_format.LogFormat.TheVariants.{One, Two}
-use Rattle.journal.specs.Places.{limit_of, first_data_of, first_home, sectors_of}
+use Rattle.journal.specs.Places.{limit_of, first_home, sectors_of}
 use Rattle.journal.specs.Layout.{Layout}
 use Rattle.journal.specs.Formats.{layout_of}
 use Rattle.redo_log.specs.Value.{steps_for, most_steps, LogValue, of_oldest, next_sends, turns_sends}
 use Rattle.redo_log.specs.Value.{sends_of_oldest, most_retire_sends, step_flushes, next_step_flushes}
 use Rattle.redo_log.specs.declared.log.Log.TheInside.{Inside}
 use Rattle.redo_log.specs.Shown.{shown, Invariant, flush_of, written_at, flushed_at}
-use Rattle.redo_log.specs.Calls.{IsFlushDue, placed, IsNextCall}
+use Rattle.redo_log.specs.Calls.{IsFlushDue, IsNextCall}
 use Rattle.medium.specs.declared.medium_call.Call.{Call}
 use Rattle.medium.specs.Performed.{fault_of}
-use Rattle.std.specs.Prelude.{slice_range, true}
+use Rattle.std.specs.Prelude.{true}
 use Rattle.medium.specs.Medium.{State, Passes, LooksOnly}
 use Rattle.medium.specs.Moments.{LeavesOnly, SparesFrom}
 use Rattle.medium.proofs.Moments.{weaker}
 use Rattle.medium.specs.declared.fault.MediumFault.{MediumFault}
 use Rattle.medium.specs.declared.fault.MediumFault.TheVariants as fault
 use Rattle.journal.specs.Record.{entries_of}
-use Rattle.journal.proofs.BatchEntries.{length_of_batch, entry_of_batch}
-use Rattle.journal.proofs.Format1Laws as layout
+use Rattle.journal.proofs.BatchEntries.{length_of_batch}
 use Rattle.journal.specs.declared.head.Head.{Head as HeadOf}
 use Rattle.redo_log.specs.declared.turn.Turn.{Turn}
 use Rattle.redo_log.specs.declared.turn.Turn.TheVariants.{Copy, Flush, Head}
@@ -37,21 +36,6 @@ pub leaves_log : {log : LogValue} {old new : State} → ((view : View) → Holds
     → LeavesOnly (MayLeave old.size log view) old new) → SparesFrom (sectors_of log.shape) old new
     → LooksOnly (λ s. s < first_home log.shape) old new → LeavesLog log old new
 leaves_log cuts spares looks = let moments = weaker _ (λ _. Unit {0}) _ _ (λ image left. tt) spares.moments in search rules
-
--- the data places stand behind the descriptors, and before the commit
-module _ (numbers bytes : List ℕ) (i p : ℕ) (below : i < length numbers) where
-  pub data_offset : (format : LogFormat) → p + 1 + length numbers ≡ (layout_of format).parts (length numbers) + i
-      → (layout_of format).offset (length numbers) p ≡ first_data_of format + i
-  data_offset One is = grind (arith, layout.parts)
-  data_offset Two is = grind (arith, layout.parts)
-
-  pub data_part : (format : LogFormat) (stamp : ℕ) → p + 1 + length numbers ≡ (layout_of format).parts (length numbers) + i
-      → placed format stamp (slice_range bytes (512 * i) (512 * i + 512)) ≡ (layout_of format).part stamp
-      (entries_of numbers bytes) p
-  data_part One stamp is = let i_is : p - 1 ≡ i = omega (arith, is) in grind (arith, layout.parts, entry_of_batch, length_of_batch)
-  data_part Two stamp is =
-      let i_is : p - (length numbers + 29) / 30 ≡ i = omega (arith, is) in
-      grind (arith, layout.parts, entry_of_batch, length_of_batch)
 
 -- the early parts have a flush, where there are any
 pub flush_of_is : (e : ℕ) → ((e ≡ 0) × (flush_of e ≡ 0)) ⊎ ((0 < e) × (flush_of e ≡ 1))

@@ -6,10 +6,7 @@ use Rattle.medium.specs.declared.fault.MediumFault.{MediumFault}
 use Rattle.medium.specs.declared.medium_call.Call.{Call}
 use Rattle.medium.specs.declared.medium_call.Call.TheVariants.{Write, Flush}
 use Rattle.medium.specs.Performed.{IsWithin, Performed}
-use Rattle.journal.specs.declared.log_format.LogFormat.{LogFormat}
-use Rattle.journal.specs.declared.log_format.LogFormat.TheVariants.{One, Two}
 use Rattle.journal.specs.Places.{Shape, first_home}
-use Rattle.journal.specs.Format2.{place_bytes}
 use Rattle.journal.specs.Record.{Entry}
 use Rattle.journal.specs.Layout.{Layout, part_at}
 use Rattle.journal.specs.Formats.{layout_of}
@@ -39,11 +36,6 @@ pub record MakesNext (shape : Shape) (stamp : ℕ) (entries : List Entry) (made 
   pub next : IsNextCall (layout_of shape.format) shape stamp entries made call bytes
   pub inside : IsWithin (first_home shape) call
   pub makes : Performed call bytes after result old new
-
--- a block as its data place holds it: in format 2 the stamp stands in place of its first 8 bytes
-abbrev pub placed : LogFormat → ℕ → List ℕ → List ℕ
-placed One stamp block = block
-placed Two stamp block = place_bytes stamp block
 
 -- what a cut may leave, with these bytes in one sector too
 abbrev pub gaining : ℕ → List ℕ → Sets → Sets

@@ -6,11 +6,9 @@ ghost use Rattle.journal.specs.Layout.{part_at};
 ghost use Rattle.journal.specs.Record.{entries_of};
 ghost use Rattle.redo_log.specs.Shown.{IsRecord, written_at};
 ghost use Rattle.medium.specs.Performed.{IsWithin};
-ghost use Rattle.redo_log.specs.Calls.{placed, IsNextCall};
+ghost use Rattle.redo_log.specs.Calls.{IsNextCall};
 
-use journal::{
-    LogFormat, Super, copy_place, data_sector2, early, part, parts, slot_of, slot_place,
-};
+use journal::{Super, early, parts, slot_of, slot_place, write_part};
 use medium::Call;
 
 // How many parts of a record are written after `made` calls. One of them may be the early flush.
@@ -82,25 +80,6 @@ fn put_part(
         (entries_of numbers.now bytes.now) p }
 {
     let slot = slot_of(stamp, sizes.slots);
-    let first = parts(sizes.format, numbers.len()) - 1 - numbers.len();
-    if first <= p && p - first < numbers.len() {
-        let i = p - first;
-        put_block(sizes.format, stamp, &bytes[512 * i..512 * i + 512], sector);
-        return copy_place(sizes.format, slot, i);
-    }
-    let part = part(sizes.format, stamp, numbers, bytes, p);
-    let bytes = part.sector;
-    *sector = bytes;
-    slot_place(sizes.format, slot) + part.offset
-}
-
-// Puts a block into the sector as its data place has it.
-fn put_block(format: LogFormat, stamp: u64, block: &[u8], sector: &mut [u8; 512])
-    requires { length block.now ≡ 512 }
-    ensures { sector.new ≡ placed format stamp block.now }
-{
-    match format {
-        LogFormat::One => sector.copy_from_slice(block),
-        LogFormat::Two => *sector = data_sector2(stamp, block),
-    }
+    let offset = write_part(sizes.format, stamp, numbers, bytes, p, sector);
+    slot_place(sizes.format, slot) + offset
 }

@@ -3,7 +3,7 @@ ghost use Rattle.std.specs.Prelude.{◌≡◌, ◌≤◌, ◌<◌, ◌-◌, ◌^
 ghost use Rattle.std.specs.Prelude.{ℕ, List, IfSome, IsSomeAnd, IsTrue};
 ghost use Rattle.journal.specs.Sectors.{AreBlockNumbers, IsDescriptor};
 
-use crate::fields::{are_rising, list_of, mark_number, number_at, numbers_at, put_all, sector_of};
+use crate::fields::{are_rising, list_of, mark_number, number_at, numbers_at, put_all, spell};
 use arrayvec::ArrayVec;
 
 /// What the first sector of a slot holds.
@@ -37,10 +37,18 @@ impl Descriptor {
     pub fn encode(&self) -> [u8; 512]
         ensures { IsDescriptor self.now.stamp self.now.numbers.items result }
     {
-        let count = self.numbers.len() as u64;
-        let mut sector = sector_of(&[mark_number(b"RDDESCR1"), self.stamp, count]);
-        put_all(&mut sector, 3, &self.numbers);
+        let mut sector = [0; 512];
+        self.write_to(&mut sector);
         sector
+    }
+
+    /// Writes the bytes of the descriptor to the sector.
+    pub(crate) fn write_to(&self, sector: &mut [u8; 512])
+        ensures { IsDescriptor self.now.stamp self.now.numbers.items sector.new }
+    {
+        let count = self.numbers.len() as u64;
+        spell(sector, &[mark_number(b"RDDESCR1"), self.stamp, count]);
+        put_all(sector, 3, &self.numbers);
     }
 
     /// The descriptor that these bytes spell, if they spell one.

@@ -3,7 +3,6 @@ ghost use Rattle.std.specs.Prelude.{◌≡◌, ◌≤◌, ◌<◌, ◌-◌, ◌^
 ghost use Rattle.journal.specs.Record.{entries_of, CanWrite};
 ghost use Rattle.journal.specs.Formats.{format1};
 
-use crate::Part;
 use crate::v1::{COMMIT, Commit, Descriptor, FIRST_DATA};
 
 /// How many sectors a record of `count` blocks writes.
@@ -22,38 +21,37 @@ pub(crate) fn early(count: usize) -> usize
     count + 1
 }
 
-/// Part p of a record: its descriptor, then its data places, then its commit.
+/// Writes part p of a record to the sector, its descriptor, then its data places, then its commit,
+/// and tells where it stands in the slot.
 #[tactic(auto, using(crate::proofs::Format1Laws::parts, crate::proofs::BatchEntries::batch))]
-pub(crate) fn part(stamp: u64, numbers: &[u64], bytes: &[u8], p: usize) -> Part
+pub(crate) fn write_part(
+    stamp: u64,
+    numbers: &[u64],
+    bytes: &[u8],
+    p: usize,
+    sector: &mut [u8; 512],
+) -> u64
     requires { CanWrite format1.parts 48 stamp numbers.now bytes.now p }
-    ensures offset { result.offset ≡ format1.offset (length numbers.now) p }
-    ensures sector { result.sector ≡ format1.part stamp (entries_of numbers.now bytes.now) p }
+    ensures offset { result ≡ format1.offset (length numbers.now) p }
+    ensures sector { sector.new ≡ format1.part stamp (entries_of numbers.now bytes.now) p }
 {
     let count = numbers.len();
     if p < 1 {
-        Part {
-            offset: 0,
-            sector: Descriptor::new(stamp, numbers).encode(),
-        }
+        Descriptor::new(stamp, numbers).write_to(sector);
+        0
     } else if p < count + 1 {
-        Part {
-            offset: FIRST_DATA + (p - 1) as u64,
-            sector: block(bytes, p - 1),
-        }
+        write_block(bytes, p - 1, sector);
+        FIRST_DATA + (p - 1) as u64
     } else {
-        Part {
-            offset: COMMIT,
-            sector: Commit::new(stamp, count as u64).encode(),
-        }
+        Commit::new(stamp, count as u64).write_to(sector);
+        COMMIT
     }
 }
 
-// The i-th block of these bytes.
-fn block(bytes: &[u8], i: usize) -> [u8; 512]
+// Writes the i-th block of these bytes to the sector.
+fn write_block(bytes: &[u8], i: usize, sector: &mut [u8; 512])
     requires { 512 * i + 512 ≤ length bytes.now }
-    ensures { result ≡ slice_range bytes.now (512 * i) (512 * i + 512) }
+    ensures { sector.new ≡ slice_range bytes.now (512 * i) (512 * i + 512) }
 {
-    let mut sector = [0; 512];
     sector.copy_from_slice(&bytes[512 * i..512 * i + 512]);
-    sector
 }

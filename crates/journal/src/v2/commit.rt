@@ -2,7 +2,7 @@
 ghost use Rattle.std.specs.Prelude.{◌≡◌, ◌≤◌, ◌<◌, ◌-◌, ◌^◌, ℕ, IfSome, IsSomeAnd};
 ghost use Rattle.journal.specs.Format2.{IsCommitTwo};
 
-use crate::fields::{mark_number, number_at, sector_of};
+use crate::fields::{mark_number, number_at, spell};
 
 /// What the last sector of a slot of format 2 holds.
 #[derive(Clone, Copy, Debug, PartialEq, Eq)]
@@ -34,7 +34,16 @@ impl Commit {
     pub fn encode(&self) -> [u8; 512]
         ensures { IsCommitTwo self.now.stamp self.now.count result }
     {
-        sector_of(&[mark_number(b"RDCOMMT2"), self.stamp, self.count])
+        let mut sector = [0; 512];
+        self.write_to(&mut sector);
+        sector
+    }
+
+    /// Writes the bytes of the commit to the sector.
+    pub(crate) fn write_to(&self, sector: &mut [u8; 512])
+        ensures { IsCommitTwo self.now.stamp self.now.count sector.new }
+    {
+        spell(sector, &[mark_number(b"RDCOMMT2"), self.stamp, self.count]);
     }
 
     /// The commit that these bytes spell, if they spell one.

@@ -5,15 +5,23 @@ ghost use Rattle.journal.specs.Format2.{place_bytes};
 use byteorder::{ByteOrder, LittleEndian};
 
 /// The bytes of a data place for this block.
-#[tactic(auto, unfolding(crate::specs::Format2::place_bytes))]
 pub fn data_sector(stamp: u64, block: &[u8]) -> [u8; 512]
     requires { length block.now ≡ 512 }
     ensures { result ≡ place_bytes stamp block.now }
 {
     let mut sector = [0; 512];
-    sector.copy_from_slice(block);
-    LittleEndian::write_u64(&mut sector, stamp);
+    write_data(stamp, block, &mut sector);
     sector
+}
+
+/// Writes the bytes of a data place for this block to the sector.
+#[tactic(auto, unfolding(crate::specs::Format2::place_bytes))]
+pub(crate) fn write_data(stamp: u64, block: &[u8], sector: &mut [u8; 512])
+    requires { length block.now ≡ 512 }
+    ensures { sector.new ≡ place_bytes stamp block.now }
+{
+    sector.copy_from_slice(block);
+    LittleEndian::write_u64(sector, stamp);
 }
 
 /// Whether these are the bytes of a data place with this stamp, for whatever block.

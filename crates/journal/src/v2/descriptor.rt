@@ -8,7 +8,7 @@ ghost use Rattle.journal.specs.Format2.{AreEntriesTwo, IsDescriptorTwo, entries_
 ghost use Rattle.journal.specs.Record.{CanDescribe, Describes};
 
 use crate::fields::{
-    append, append_number, are_rising, eight_at, list_of, mark_number, number_at, sector_of,
+    append, append_number, are_rising, eight_at, list_of, mark_number, number_at, spell,
 };
 use crate::v2::places::ENTRIES;
 use arrayvec::ArrayVec;
@@ -56,10 +56,19 @@ impl Descriptor {
         ensures { IsDescriptorTwo self.now.stamp self.now.count self.now.index
             self.now.numbers.items self.now.firsts.items result }
     {
-        let mark = mark_number(b"RDDESCR2");
-        let mut sector = sector_of(&[mark, self.stamp, self.count, self.index]);
-        append_entries(&mut sector, &self.numbers, &self.firsts);
+        let mut sector = [0; 512];
+        self.write_to(&mut sector);
         sector
+    }
+
+    /// Writes the bytes of the descriptor to the sector.
+    pub(crate) fn write_to(&self, sector: &mut [u8; 512])
+        ensures { IsDescriptorTwo self.now.stamp self.now.count self.now.index
+            self.now.numbers.items self.now.firsts.items sector.new }
+    {
+        let mark = mark_number(b"RDDESCR2");
+        spell(sector, &[mark, self.stamp, self.count, self.index]);
+        append_entries(sector, &self.numbers, &self.firsts);
     }
 
     /// The descriptor that these bytes spell, if they spell one.

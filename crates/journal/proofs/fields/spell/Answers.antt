@@ -1,6 +1,6 @@
 use Rattle.std.proofs.Common.{[], refl}
 use Rattle.journal.specs.Sectors.{padded, spelling}
-use Rattle.journal.proofs.fields.sector_of.Goals as goal
+use Rattle.journal.proofs.fields.spell.Goals as goal
 
 pub returns : goal.returns
 unfolding padded spelling
