@@ -62,7 +62,9 @@ impl Held {
         }
     }
 
-    // Where the first sectors are read, what was started begins.
+    // Where the first sectors are read, what was started begins. It stands apart, so that an event
+    // does not take the stack of a start.
+    #[inline(never)]
     fn begin(&mut self, alloc: Global)
         ghost content: { List ℕ }
         ensures { BeginsAt content self.old.stage self.old self.new }
