@@ -51,6 +51,15 @@ impl Descriptor {
         put_all(sector, 3, &self.numbers);
     }
 
+    // Whether these bytes are those of the descriptor.
+    fn spells(&self, sector: &[u8; 512]) -> bool
+        ensures { IsTrue result ↔ IsDescriptor self.now.stamp self.now.numbers.items sector.now }
+    {
+        let mut spelled = [0; 512];
+        self.write_to(&mut spelled);
+        if spelled == *sector { true } else { false }
+    }
+
     /// The descriptor that these bytes spell, if they spell one.
     #[tactic(auto, using(crate::proofs::SectorNumbers::descriptor_says))]
     pub fn decode(sector: &[u8; 512]) -> Option<Descriptor>
@@ -68,7 +77,7 @@ impl Descriptor {
             return None;
         }
         let descriptor = Descriptor { stamp, numbers };
-        if descriptor.encode() == *sector {
+        if descriptor.spells(sector) {
             Some(descriptor)
         } else {
             None

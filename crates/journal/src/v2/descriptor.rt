@@ -71,6 +71,16 @@ impl Descriptor {
         append_entries(sector, &self.numbers, &self.firsts);
     }
 
+    // Whether these bytes are those of the descriptor.
+    fn spells(&self, sector: &[u8; 512]) -> bool
+        ensures { IsTrue result ↔ IsDescriptorTwo self.now.stamp self.now.count self.now.index
+            self.now.numbers.items self.now.firsts.items sector.now }
+    {
+        let mut spelled = [0; 512];
+        self.write_to(&mut spelled);
+        if spelled == *sector { true } else { false }
+    }
+
     /// The descriptor that these bytes spell, if they spell one.
     #[tactic(auto, using(crate::proofs::SlotTwo::header_says))]
     pub fn decode(sector: &[u8; 512]) -> Option<Descriptor>
@@ -100,7 +110,7 @@ impl Descriptor {
             numbers,
             firsts,
         };
-        if descriptor.encode() == *sector {
+        if descriptor.spells(sector) {
             Some(descriptor)
         } else {
             None

@@ -6,12 +6,12 @@ pub returns-then-not-are_block_numbers-clause-all : goal.returns-then-not-are_bl
 returns-then-not-are_block_numbers-clause-all c stamp numbers d =
     grind (arith, descriptor_numbers d c.number_at-count.ensures.is c.numbers_at-numbers.ensures, d.block_numbers)
 
-pub returns-then-eq-clause-all : goal.returns-then-eq-clause-all
-returns-then-eq-clause-all c stamp numbers d =
+pub returns-then-spells-clause-all : goal.returns-then-spells-clause-all
+returns-then-spells-clause-all c stamp numbers d =
     grind (arith, descriptor_says d, descriptor_numbers d c.number_at-count.ensures.is c.numbers_at-numbers.ensures)
 
-pub returns-else-eq-clause-all : goal.returns-else-eq-clause-all
-returns-else-eq-clause-all c stamp numbers d =
+pub returns-else-spells-clause-all : goal.returns-else-spells-clause-all
+returns-else-spells-clause-all c stamp numbers d =
     let same = descriptor_numbers d c.number_at-count.ensures.is c.numbers_at-numbers.ensures in
-    let e : c.encode.result ≡ c.args.sector.now = cc (c.encode.ensures.spelled, (descriptor_says d).0, same, d.spelled) in
-    search rules
+    let its_stamp : c.number_at-stamp.result ≡ stamp = cc ((descriptor_says d).0) in
+    let is = c.spells.ensures.1 (rw (its_stamp, same) d) in search rules

@@ -16,16 +16,17 @@ invariant_of-descriptor c =
     let sized = sized_from c.args.sector.now (λ i. 40 + 16 * i) (λ i below. omega (arith, below)) c.firsts_at-firsts.ensures in
     search rules
 
-pub returns-then-eq-clause-all : goal.returns-then-eq-clause-all
-returns-then-eq-clause-all c stamp count j numbers firsts d =
-    let e : c.encode.result ≡ c.args.sector.now = search rules in
-    IsDescriptorTwo-one c.args.sector.now _ _ _ _ _ _ _ _ _ _ (rw e at c.encode.ensures) d
+pub returns-then-spells-clause-all : goal.returns-then-spells-clause-all
+returns-then-spells-clause-all c stamp count j numbers firsts d =
+    IsDescriptorTwo-one c.args.sector.now _ _ _ _ _ _ _ _ _ _ (c.spells.ensures.0 (search rules)) d
 
-pub returns-else-eq-clause-all : goal.returns-else-eq-clause-all
-returns-else-eq-clause-all c stamp count j numbers firsts d =
+pub returns-else-spells-clause-all : goal.returns-else-spells-clause-all
+returns-else-spells-clause-all c stamp count j numbers firsts d =
     let says = header_says d in
     let here : c.count_here-here.result ≡ min 30 (count - 30 * j) = cc (says.1, says.2) in
     let same = numbers_are d here c.numbers_at-numbers.ensures in
     let first = firsts_are d here c.firsts_at-firsts.ensures in
-    let e : c.encode.result ≡ c.args.sector.now = cc (c.encode.ensures.spelled, says.0, says.1, says.2, same, first, d.spelled) in
-    search rules
+    let its_stamp : c.number_at-stamp.result ≡ stamp = cc (says.0) in
+    let its_count : c.number_at-count.result ≡ count = cc (says.1) in
+    let its_index : c.number_at-index.result ≡ j = cc (says.2) in
+    let is = c.spells.ensures.1 (rw (its_stamp, its_count, its_index, same, first) d) in search rules
