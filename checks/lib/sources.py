@@ -147,8 +147,10 @@ class Function:
 
 
 def body_at(lines, number, indent):
-    """The lines before and behind the body of the function at this line; where it has none, they are the same."""
-    following = (n for n in range(number + 1, len(lines)) if (it := FUNCTION.match(lines[n])) and it[1] == indent)
+    """The lines before and behind the body of the function at this line; where it has none, they are the same. It ends before the next function of
+    its indent, and before the end of what it stands in, behind which a loop's end has the indent of a method's."""
+    ends = {indent[:n] + "}" for n in range(len(indent))}
+    following = (n for n in range(number + 1, len(lines)) if lines[n] in ends or (it := FUNCTION.match(lines[n])) and it[1] == indent)
     inside = range(number, next(following, len(lines)))
     end = next((n for n in inside if lines[n].rstrip() in (indent + "}", indent + "{}")), number)
     opens = (n for n in range(number, end) if lines[n] == indent + "{" or OPENS.search(lines[n]))

@@ -36,6 +36,17 @@ impl Disk<u8> {
     }
 }
 """
+LOOP = """pub trait Machine {
+    /// It was refused.
+    fn refused(&mut self);
+}
+
+pub fn drive<T: Machine>(machine: &mut T) {
+    while true {
+        machine.refused();
+    }
+}
+"""
 
 
 class Functions(unittest.TestCase):
@@ -54,6 +65,11 @@ class Functions(unittest.TestCase):
         self.assertEqual([it.is_declared_alone for it in (self.stop, self.name, self.given, self.size)], [True, True, False, False])
         self.assertEqual(sources.function_around(TRAIT, TRAIT.index("        1\n")).name, "name")
         self.assertIsNone(sources.function_around(TRAIT, TRAIT.index("self.old.is_open")))
+
+    def test_a_loop_behind_a_trait_is_no_body_of_its_last_method(self):
+        refused, drive = sources.functions_in(LOOP)
+        self.assertEqual((refused.size, drive.size), (0, 3))
+        self.assertEqual(sources.function_around(LOOP, LOOP.index("machine.refused();")), drive)
 
     def test_clauses(self):
         self.assertEqual(self.name.clauses, [sources.Clause("ensures", "named", " result ≡ 1 }")])
