@@ -131,7 +131,7 @@ class Report:
     """What a check said, function by function. `edited` are the files whose text an edit changed."""
 
     def __init__(self, output, edited=()):
-        self.lines = output.said.rstrip("\n").split("\n")
+        self.lines, self.has_found_none = output.said.rstrip("\n").split("\n"), output.has_found_none
         ends = self.lines[-1].startswith(("logic=", "only="))
         self.has_verdict = output.status in (0, 1) and ends and not output.is_stale
         self.verdicts = {it.name: it for it in map(verdict_of, self.lines) if it}
@@ -140,6 +140,11 @@ class Report:
         # those that are not proved for a reason of their own, and those among them that the prover refuses
         self.open = {name for name, it in self.verdicts.items() if not it.is_proved and not it.follows}
         self.failed = {it for it in self.open if self.verdicts[it].is_refused}
+
+    @property
+    def trouble(self):
+        """What a check without a verdict says of why."""
+        return next((it for it in self.lines if "error" in it), self.lines[0])
 
     def name_of(self, function):
         """The name by which a line tells of the function, or None: a method stands in the module of its type, wherever its `impl` does."""

@@ -41,11 +41,12 @@ class Checked:
         return self.report.name_of(self.copy.functions[edit])
 
     @property
-    def is_settled(self):
-        """Whether the check says of each function what the edits did to it: it has a verdict, and nothing fails that no edit touches."""
+    def unsettled(self):
+        """Why the check does not say of each function what the edits did to it, or nothing: it has no verdict, or what no edit touches fails."""
         names = [*map(self.name_of, self.batch), *map(self.report.name_of, self.copy.unedited.values())]
         strange = [it for it in self.report.open if None not in names and not any(is_part(it, name) for name in names)]
-        return self.report.has_verdict and not self.report.unread and not strange
+        said = "" if self.report.has_verdict else self.report.trouble
+        return said or self.report.unread or next((f"{it}: {self.report.verdicts[it].said}" for it in strange), "")
 
     def is_refused(self, edit):
         # (where no line tells of the function by its name, only a check of the edit alone can be judged, by all that fails)
@@ -59,21 +60,28 @@ class Checked:
             is_well = report.is_proved(self.name_of(edit))
             return "" if is_well else "this control keeps the meaning, and its function is not reported as proved"
         if report.unread or not report.has_verdict:
-            said = next((it for it in report.lines if "error" in it), report.lines[0])
-            return f"it does not reach the prover: {(report.unread or said)[:200]}"
+            return f"it does not reach the prover: {(report.unread or report.trouble)[:200]}"
         return "" if self.is_refused(edit) else "NOT REFUSED: what it changes is still proved"
 
     def is_weak(self, edit):
         return self.report.is_weak(self.name_of(edit), self.copy.spans[edit])
 
     def leaves_too_much(self, edit, found):
-        """Whether what its lines leave open keeps the edit from being judged."""
-        narrowed = self.copy.narrowed.get(self.copy.functions[edit])
+        """Why what its lines leave open keeps the edit from being judged, or nothing."""
+        narrowed, report = self.copy.narrowed.get(self.copy.functions[edit]), self.report
         if not narrowed:
-            return False
-        report, is_open = self.report, bool(found.why) or found.is_weak
-        is_open = is_open or not report.has_searched(narrowed, edit.tried) or report.misses(narrowed)
-        return is_open or report.may_have_lost(self.name_of(edit), edit.tried)
+            return ""
+        if found.why or found.is_weak:
+            return found.why or "only what the edit took away is refused"
+        if not report.has_searched(narrowed, edit.tried):
+            return f"no search for `{edit.tried[0]}` failed"
+        if report.misses(narrowed):
+            return "a goal that is left open is not there"
+        return "all that is refused is an answer to a goal that is not there" if report.may_have_lost(self.name_of(edit), edit.tried) else ""
+
+
+def tell(line):
+    print(line, flush=True)
 
 
 class Trial:
@@ -83,25 +91,29 @@ class Trial:
         self.crate, self.kept, self.ask, self.options = crate, kept, ask, options
 
     def report(self, copy, shuts):
-        """What the check of a copy says: of the edited functions alone, or of all where one is not one function's or is not found by its name.
-        Those that they call are shut, where that is asked for."""
+        """What the check of a copy says: of the edited functions alone, or of all where one is not one function's, or is by itself and not found by
+        its name. Those that they call are shut, where that is asked for."""
         if all(copy.named):
             words = [word for it in copy.named for word in ("--only", it)]
             holes = ["--allow-holes"] if shuts or copy.narrowed else []
             texts = shut_texts(self.crate, copy.text, copy.named) if shuts else {}
-            output = self.ask(copy, [*holes, *words], self.kept, texts, self.options.tells_times)
-            if not output.has_found_none:
-                return Report(output, copy.edited)
+            found = Report(self.ask(copy, [*holes, *words], self.kept, texts, self.options.tells_times), copy.edited)
+            if not found.has_found_none or len(copy.functions) > 1:
+                return found
+            tell(f"{self.crate.name}: all is checked: {found.trouble}")
         return Report(self.ask(copy, [], self.kept, {}, self.options.tells_times), copy.edited)
 
     def judged(self, batch, shuts, narrows=True):
-        """What is found of each edit of a batch. What its check does not settle is tried again: whole, with nothing shut, then in halves."""
+        """What is found of each edit of a batch. What its check does not settle is tried again: whole, with nothing shut, then in halves. Where it
+        knows no function of a name, halves find which."""
         copy = Copy(self.crate, batch, narrows, self.options.has_all_twins)
-        checked = Checked(batch, copy, self.report(copy, shuts), shuts, narrows)
-        if not checked.is_settled:
-            if copy.narrowed:
+        report = self.report(copy, shuts)
+        checked = Checked(batch, copy, report, shuts, narrows)
+        if checked.unsettled:
+            tell(f"{self.crate.name}: a copy with {len(batch)} does not settle them: {checked.unsettled[:300]}")
+            if copy.narrowed and not report.has_found_none:
                 return self.judged(batch, shuts, False)
-            if shuts and all(copy.named):
+            if shuts and all(copy.named) and not report.has_found_none:
                 return self.judged(batch, False, narrows)
             if len(batch) > 1:
                 half = len(batch) // 2
@@ -117,8 +129,9 @@ class Trial:
         found = Found(edit, why, not edit.is_control and not why and checked.is_weak(edit))
         if edit.is_control:
             return [found]
-        if checked.leaves_too_much(edit, found):
-            print(f"{edit.name}: its lines 'untried:' or 'tried:' leave too much or name what is not there, so it is tried whole", flush=True)
+        left = checked.leaves_too_much(edit, found)
+        if left:
+            tell(f"{edit.name}: its lines 'untried:' or 'tried:' leave too much or name what is not there, so it is tried whole: {left}")
             return self.judged([edit], shuts, False)
         if why and len(checked.batch) > 1:
             return self.judged([edit], shuts, narrows)
@@ -131,7 +144,7 @@ class Trial:
         bare = checked.copy.unedited.get(edit.function)
         if not bare or checked.report.proves(checked.report.name_of(bare)):
             return False
-        print(f"{edit.name}: a twin of its function without an edit is not proved", flush=True)
+        tell(f"{edit.name}: a twin of its function without an edit is not proved")
         return checked.copy.functions[edit] != edit.function
 
     def note(self, checked, found):

@@ -6,6 +6,8 @@ import tempfile
 import unittest
 
 from lib.edits.edit import read
+from lib.edits.report import Output
+from lib.edits.trial import Trial
 from lib.test import recorded, toy
 
 
@@ -30,6 +32,24 @@ class Trials(unittest.TestCase):
                     wanted = question.wrong.get(name, "")
                     self.assertTrue(why.startswith(wanted) if wanted else not why, f"{name}: {why}")
                     self.assertEqual(is_weak, name in question.weak, name)
+
+    def test_a_name_that_the_prover_does_not_know_costs_one_check_of_all(self):
+        asked = []
+
+        def ask(copy, words, kept, texts, tells_times):
+            asked.append(words[2::2] or "all")
+            if "toy::is_full" in words:
+                return Output(2, "rattle: error: `toy` has no function `toy::is_full`")
+            return Output(1, "\n".join([*(f"fn {it}: not proved" for it in words[2::2] or ["toy::is_full"]), "only=1"]))
+
+        names = ("empty_is_one_byte.edit", "full_is_empty.edit", "sets_nothing.edit")
+        edits = [read(self.crate, f"{self.crate.folder}/edits/{it}") for it in names]
+        with contextlib.redirect_stdout(io.StringIO()) as told:
+            found = Trial(self.crate, "", ask).judged(edits, True)
+        self.assertEqual([it.why for it in found], ["", "", ""])
+        one, full, sets = "toy::is_empty", "toy::is_full", "toy::Mark::set"
+        self.assertEqual(asked, [[one, full, sets], [one], [full, sets], [full], "all", [sets]])
+        self.assertEqual(told.getvalue().count("`toy` has no function `toy::is_full`"), 3)
 
     def test_an_edit_that_does_not_apply_says_why(self):
         edit = read(self.crate, f"{self.crate.folder}/edits/stands_nowhere.edit")
