@@ -8,3 +8,8 @@ pub mod WholeRecovery
 pub mod Tries
 pub mod SurveyedRecords
 pub mod SurveyTally
+pub mod StartBegins
+pub mod StartTally
+pub mod StartSurvey
+pub mod StartCopy
+pub mod StartHead

@@ -298,9 +298,10 @@ module _ (least : ℕ) {old mid seen : State} {result : Result (Unit {0}) Medium
           }
 
       -- the copies, and perhaps the new head
-      pub moves_leave : {new : State} {moves : Result (Unit {0}) MediumFault} → Writes (λ image. CutLeaves copied.may_leave image
-          ⊎ HasNewHead (found.head + found.count + 1) copied.content image) 2 3 copied new moves → LeavesAtLeast least old new
-      moves_leave {new = new} moves =
+      pub moves_leave : {new : State} {count : ℕ} {moves : Result (Unit {0}) MediumFault} → count ≤ 3
+          → Writes (λ image. CutLeaves copied.may_leave image
+          ⊎ HasNewHead (found.head + found.count + 1) copied.content image) 2 count copied new moves → LeavesAtLeast least old new
+      moves_leave {new = new} {count = count} some moves =
           let most = most_of found.sizes.format found.sizes.slots found.sizes.most_slots in
           start_on {shape = shape} known.sound (search (rules, stood.stands, at_old.stamp_left, at_old.room)) copies_leave
           (omega (arith, begun, copying.moments.later))
@@ -308,8 +309,8 @@ module _ (least : ℕ) {old mid seen : State} {result : Result (Unit {0}) Medium
           (λ image either. ⊎_elim (λ cut. inl (at_exit _ seen copied sound (copied_ours ours) image cut))
           (λ moved. inr (fresh_ours at_old.shape.fits (moved_fresh ours moved))) either) moves.moments)
           (spared_behind 2 (sectors_of shape) copied new (omega arith) moves.spares)
-          (no_looks _ copied new moves.reads.looked_stays) (few new.calls 3 (omega arith) moves.calls) most.0
-          (omega (arith, sent_few, moves.sent)) most.1
+          (no_looks _ copied new moves.reads.looked_stays) (few new.calls count some moves.calls) most.0
+          (omega (arith, sent_few, moves.sent, some)) most.1
 
       module _ (new : State) (head : HasNewHead (found.head + found.count + 1) copied.content new.content)
           (durable : IsFlushed new) where

@@ -2,6 +2,8 @@ pub mod Calls
 pub mod Causes
 pub mod Copying
 pub mod Driven
+pub mod HoldsStart
 pub mod NewImage
 pub mod Recovered
+pub mod Starting
 pub mod Surveying

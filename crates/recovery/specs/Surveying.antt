@@ -23,7 +23,7 @@ use Rattle.recovery.specs.Causes.{AreTries, HasCount}
 -- what a survey holds, whatever it read: while slots are left it reads a record of one
 pub record CanSurvey (reader : RecordReader) (left place counted : ℕ) : Type 0 where
   pub stamps : reader.stamp + left < 2 ^ 63 + 65
-  pub room : counted + left ≤ 64
+  pub room : counted + left ≤ reader.sizes.slots
   pub there : 0 < left → reader.stage ≢ stage.Missing
   pub two : 0 < left → reader.stage ≡ stage.Named → HasStamps reader.sizes.format
   pub named : 0 < left → reader.stage ≡ stage.Named → place < length reader.read.numbers.items

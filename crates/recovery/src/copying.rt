@@ -11,7 +11,7 @@ ghost use Rattle.recovery.specs.Copying.{IsRefusedStep, IsTakenOrPassed, IsBlock
 
 use crate::copy_step::CopyStep;
 use journal::{NamingStage, RecordReader, copy_place, slot_of};
-use medium::{Call, Machine, Medium};
+use medium::{Call, Machine, Medium, MediumFault};
 
 /// Whole records are to be copied home from this one on: what names the blocks of each is read, and
 /// then each block is read and written.
@@ -59,6 +59,32 @@ impl Copying {
     }
 }
 
+impl Copying {
+    ghost use Rattle.recovery.specs.Starting.{copy_kind};
+
+    /// The next call was made, which left these bytes in the lent sector.
+    pub(crate) fn go_on(&mut self, sector: &[u8; 512])
+        requires { 0 < self.old.step.left }
+        ensures { IsCopyStep self.old.reader self.old.step sector.now self.new.reader
+            self.new.step }
+    {
+        match self.reader.next() {
+            Some(_) => self.take(sector),
+            None => self.block_on(),
+        }
+    }
+
+    /// The kind of the next call.
+    pub(crate) fn kind(&self) -> MediumFault
+        ensures { result ≡ copy_kind self.now }
+    {
+        match self.reader.next() {
+            None if self.step.has_bytes => MediumFault::Write,
+            _ => MediumFault::Read,
+        }
+    }
+}
+
 /// A reader of the record behind this one.
 pub(crate) fn reader_behind(reader: &RecordReader) -> RecordReader
     requires { reader.now.stamp + 1 < 2 ^ 64 }
@@ -80,6 +106,12 @@ pub(crate) fn first_step(left: u64) -> CopyStep
 }
 
 impl<M: Medium> Machine<M> for Copying {
+    ghost use Rattle.std.specs.Prelude.{MatchOption, IfSome};
+    ghost use Rattle.medium.specs.Tally.{none};
+    ghost use Rattle.medium.specs.Performed.{fault_of};
+    ghost use Rattle.recovery.specs.Starting.{copy_kind};
+    ghost use Rattle.recovery.specs.HoldsStart.{TellsCopy};
+
     ghost View = { CopyView M };
 
     ghost fits = { λ s size. sectors_of (shape_of s.reader.sizes) ≤ size };
@@ -104,7 +136,12 @@ impl<M: Medium> Machine<M> for Copying {
 
     ghost gone = { λ s t. IsRefusedStep s.reader s.step t.reader t.step };
 
-    fn next(&self, sector: &mut [u8; 512]) -> Option<Call> {
+    fn next(&self, sector: &mut [u8; 512]) -> Option<Call>
+        ensures told { MatchOption result
+            ((copies_left self.now.reader self.now.step ≡ none) × (sector.new ≡ sector.old))
+            (λ call. TellsCopy M.state self.now sector.old call sector.new) }
+        ensures kind { IfSome result (λ call. fault_of call ≡ copy_kind self.now) }
+    {
         if self.step.left == 0 {
             return None;
         }
@@ -123,10 +160,7 @@ impl<M: Medium> Machine<M> for Copying {
     }
 
     fn made(&mut self, sector: &[u8; 512]) {
-        match self.reader.next() {
-            Some(_) => self.take(sector),
-            None => self.block_on(),
-        }
+        self.go_on(sector);
     }
 
     fn refused(&mut self) {

@@ -19,6 +19,9 @@ mod recovered;
 mod recovery;
 mod sectors;
 mod start_fault;
+mod start_stage;
+mod start_steps;
+mod starting;
 mod survey;
 mod surveying;
 
@@ -31,3 +34,4 @@ pub use recovered::Recovered;
 pub use recovery::recover;
 pub use sectors::{clear, write_through};
 pub use start_fault::StartFault;
+pub use starting::Starting;

@@ -45,7 +45,7 @@ fn read_super<M: Medium>(m: &mut M) -> Result<Super, StartFault>
 }
 
 // The sizes in a super on a medium of `sectors` sectors, or what is wrong with it.
-fn sizes_in(sector: &[u8; 512], sectors: u64) -> Result<Super, StartFault>
+pub(crate) fn sizes_in(sector: &[u8; 512], sectors: u64) -> Result<Super, StartFault>
     ensures ok { IfOk result (λ sizes. IsSuper (shape_of sizes) sector.now
         × (sectors_of (shape_of sizes) ≤ sectors)) }
     ensures err { IfErr result (IsSuperCause sectors sector.now) }
@@ -66,7 +66,7 @@ fn sizes_in(sector: &[u8; 512], sectors: u64) -> Result<Super, StartFault>
 }
 
 // Whether the log is of format 1 and has fewer slots than these.
-fn has_few_slots(sizes: &Super, least: u64) -> bool
+pub(crate) fn has_few_slots(sizes: &Super, least: u64) -> bool
     ensures { IsTrue result ↔ ((sizes.now.format ≡ One) × (sizes.now.slots < least)) }
 {
     sizes.format.migrates() && sizes.slots < least

@@ -72,6 +72,20 @@ impl Surveying {
     }
 }
 
+impl Surveying {
+    /// The next sector was read.
+    pub(crate) fn take_sector(&mut self, sector: &[u8; 512])
+        requires { 0 < self.old.left }
+        ensures { IsSurveyStep self.old.reader self.old.left self.old.place self.old.waiting.items
+            sector.now self.new.reader self.new.left self.new.place self.new.waiting.items }
+    {
+        match self.reader.next() {
+            Some(_) => self.take(sector),
+            None => self.place_on(sector),
+        }
+    }
+}
+
 impl<M: Medium> Machine<M> for Surveying {
     ghost View = { SurveyView M };
 
@@ -111,10 +125,7 @@ impl<M: Medium> Machine<M> for Surveying {
     }
 
     fn made(&mut self, sector: &[u8; 512]) {
-        match self.reader.next() {
-            Some(_) => self.take(sector),
-            None => self.place_on(sector),
-        }
+        self.take_sector(sector);
     }
 
     fn refused(&mut self) {}

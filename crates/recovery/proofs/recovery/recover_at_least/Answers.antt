@@ -18,7 +18,7 @@ survey g c = search (rules, g.met.M.Medium.sound)
 moved : (g : _) (c : After-move_head g)
     → LeavesAtLeast c.args.least (g.M.Medium.state c.args.m.now) (g.M.Medium.state c.move_head.new.m)
 moved g c = moves_leave c.args.least (survey g (goal.at.After-move_head g c).After-inspect) c.in_ok-found.ensures.ok
-    (g.met.M.Medium.sound c.copy_records.new.m) c.copy_records.ensures.copies c.in_ok-copy_records.ensures.done c.move_head.ensures.writes
+    (g.met.M.Medium.sound c.copy_records.new.m) c.copy_records.ensures.copies c.in_ok-copy_records.ensures.done (omega arith) c.move_head.ensures.writes
 
 pub copy_records-requires-clause-whole : goal.copy_records-requires-clause-whole
 copy_records-requires-clause-whole g c j below =

@@ -11,8 +11,8 @@ use Rattle.recovery.proofs.CopyTally.{naming_pays, naming_left, block_pays, bloc
 use Rattle.std.proofs.Common.{⊎_elim, Bool, subst}
 use Rattle.recovery.proofs.copying.CopyingMachine.next.Goals as goal
 
-pub returns-in-Some : goal.returns-in-Some
-returns-in-Some g c =
+pub returns-in-Some-clause-told : goal.returns-in-Some-clause-told
+returns-in-Some-clause-told g c =
     let s = c.args.self.now in
     let asked = c.in-Some.ensures in
     let due : 0 < s.step.left = omega (arith, c.if-self-eq0.false) in
@@ -29,8 +29,8 @@ returns-in-Some g c =
       rests = λ got next after. naming_left s.reader s.step due asked.0 (λ e. e) after.sizes_stay (after.reading asked.0);
     }
 
-pub returns-then-not-self : goal.returns-then-not-self
-returns-then-not-self g c =
+pub returns-then-not-self-clause-told : goal.returns-then-not-self-clause-told
+returns-then-not-self-clause-told g c =
     let s = c.args.self.now in
     let r = s.reader in
     let due : 0 < s.step.left = omega (arith, c.if-self-eq0.false) in
@@ -63,8 +63,8 @@ returns-then-not-self g c =
           block_left s.reader s.step due named below inside (λ e. e) no_bytes has;
     }
 
-pub returns : goal.returns
-returns g c =
+pub returns-clause-told : goal.returns-clause-told
+returns-clause-told g c =
     let s = c.args.self.now in
     let r = s.reader in
     let due : 0 < s.step.left = omega (arith, c.if-self-eq0.false) in

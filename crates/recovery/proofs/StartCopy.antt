@@ -1,0 +1,151 @@
+-- The copies of a start, call by call, and what is home at their end.
+use Rattle.std.proofs.Common.{◌≡◌, ◌⊎◌, inl, inr, ◌∙◌, sym, refl, ⊎_elim, ℕ, ◌+◌, ◌*◌, ◌<◌, ◌≤◌, ◌^◌, List, [], length, get_or, arith, rules}
+use Rattle.std.proofs.Common.{Result, Ok, Err, false}
+use Rattle.medium.specs.Medium.{State, CutLeaves, IsSound}
+use Rattle.medium.specs.Moments.{LeavesOnly, EachCut}
+use Rattle.medium.specs.Performed.{Performed, fault_of}
+use Rattle.medium.specs.declared.medium_call.Call.{Call}
+use Rattle.medium.specs.declared.fault.MediumFault.{MediumFault}
+use Rattle.medium.proofs.Driving.{not_driven, driven_call, driven_refused}
+use Rattle.medium.proofs.Tallies.{calls_most, sends_most}
+use Rattle.journal.specs.Places.{sectors_of, first_home, limit_of}
+use Rattle.journal.specs.Formats.{shape_of, IsWhole, HasWhole}
+use Rattle.journal.specs.Record.{Entry}
+use Rattle.recovery.specs.Calls.{Copies, AreCopied, IsHomeInRecords, freed_at, most_calls_of}
+use Rattle.recovery.specs.Copying.{HoldsCopied, IsCopyStep}
+use Rattle.recovery.specs.Recovered.{LeavesAtLeast}
+use Rattle.recovery.specs.Starting.{IsNewCopying, IsCopiedOn}
+use Rattle.recovery.specs.HoldsStart.{HoldsStart, IsCopiedSoFar, TellsCopy, IsCopying, HasSurveyed, HasCopied}
+use Rattle.recovery.specs.declared.copying.Copying.{Copying}
+use Rattle.recovery.specs.declared.found.Found.{Found}
+use Rattle.recovery.specs.declared.start_stage.StartStage.{StartStage}
+use Rattle.recovery.specs.declared.start_stage.StartStage.TheVariants as stage
+use Rattle.recovery.proofs.JoinedCalls.{quiet_after}
+use Rattle.recovery.proofs.CopiedBlocks.{gathered, not_copied, all_copied}
+use Rattle.recovery.proofs.CopyTally.{most_copies, most_writes}
+use Rattle.recovery.proofs.DrivenCalls.{refused_call}
+use Rattle.recovery.proofs.StartBegins.{surveyed_by}
+use Rattle.recovery.proofs.WholeRecovery.{copies_leave}
+
+module _ {M : Type 0} (state : M → State) (sound : (m : M) → IsSound (state m)) (least : ℕ) {start : M} {found : Found} where
+  module _ {seen : M} (surveyed : HasSurveyed state least found start seen) where
+    whole_seen : (j : ℕ) → j < found.count → HasWhole (shape_of found.sizes) (state seen).content (found.head + j)
+    whole_seen j below = quiet_after (λ n i. HasWhole (shape_of found.sizes) i (found.head + j)) (state surveyed.mid) (state seen)
+        surveyed.reads.only.quiet (surveyed.is.count.whole j below)
+
+    fits_seen : sectors_of (shape_of found.sizes) ≤ (state seen).size
+    fits_seen = omega (arith, surveyed.is.shape.fits, surveyed.reads.only.quiet.size_stays)
+
+    module _ {first now : Copying} {had now_had : List ℕ} {n : M} {result : Result (Unit {0}) MediumFault} (new : IsNewCopying found first)
+        (so_far : IsCopiedSoFar state first had seen result now now_had n) where
+      -- it began with none copied
+      ran : (records : List (List Entry)) → found.count ≡ length records
+          → ((k : ℕ) → k < length records → IsWhole (shape_of found.sizes) (state seen).content (found.head + k) (get_or records k []))
+          → LeavesOnly (CutLeaves (freed_at (IsHomeInRecords (shape_of found.sizes) (state seen).content found.head (length records))
+          (state seen).may_leave)) (state seen) (state n)
+          × HoldsCopied state now.reader now.step now_had
+          (record { start = seen; sizes = found.sizes; head = found.head; records = records }) n
+      ran records count whole =
+          so_far.runs (record { start = seen; sizes = found.sizes; head = found.head; records = records })
+          (not_copied first.reader first.step _ _ (sym new.sizes_are) new.stamp_is (omega (arith, new.left_is, count)) new.i_is new.no_bytes
+          (rw new.stamp_is (new.unread.knows)) whole)
+
+      pub copies_so_far : Copies {X = Unit {0}} (IsHomeInRecords (shape_of found.sizes) (state seen).content found.head found.count)
+          (λ s. s < first_home (shape_of found.sizes)) (most_calls_of found.sizes.format * found.count)
+          (limit_of found.sizes.format * found.count) (state seen) (state n) result
+      copies_so_far =
+          let all = gathered (λ j entries. IsWhole (shape_of found.sizes) (state seen).content (found.head + j) entries) found.count
+          whole_seen in
+          let run = rw all.1 at (ran all.0 (sym all.1) (λ k below. all.2 k (omega (arith, below, all.1)))) in
+          let most = most_copies first.reader first.step new.sizes_are new.left_is in
+          let writes = most_writes first.reader first.step new.sizes_are new.left_is in
+          record {
+            elsewhere = rw all.1 at run.1.elsewhere;
+            moments = run.0;
+            calls = omega (arith, calls_most so_far.tallied, most);
+            sent = omega (arith, sends_most so_far.tallied, writes);
+            looks = rw new.sizes_are at so_far.looks;
+            cause = refused_call result so_far.tallied;
+          }
+
+      pub copies_leave_so_far : LeavesAtLeast least (state start) (state n)
+      copies_leave_so_far =
+          copies_leave least (surveyed_by surveyed.flushed surveyed.reads) surveyed.is (sound n) copies_so_far
+
+    -- the records that are to be copied, and none is left
+    all_home : {first now : Copying} {had now_had : List ℕ} {n : M} → IsNewCopying found first
+        → IsCopiedSoFar state first had seen (Ok tt) now now_had n → now.step.left ≡ 0 → HasCopied state least found start n
+    all_home {n = n} new so_far none = record {
+      seen = seen;
+      surveyed = surveyed;
+      copies = copies_so_far new so_far;
+      done = λ records count whole.
+          all_copied (ran new so_far records count whole).1 none (omega (arith, so_far.tallied.failures));
+      sound = sound n;
+    }
+
+  -- records are copied, or all are home
+  pub copied_on : {copying : Copying} {had : List ℕ} {n : M} {next : StartStage} → IsCopying state least found copying had start n
+      → (state n).failures ≡ (state start).failures → IsCopiedOn found copying next → HoldsStart state least next had start n
+  copied_on at well goes =
+      let leaves = copies_leave_so_far at.surveyed at.new at.so_far in
+      ⊎_elim (λ some. rw some.1 (record { leaves = leaves; well = λ live. well; midway = at }))
+      (λ none. rw none.1 (record { leaves = leaves; well = λ live. well; midway = all_home at.surveyed at.new at.so_far none.0 })) goes
+
+  -- the copying begins
+  pub copy_begun : {copying : Copying} {got : List ℕ} {n : M} {next : StartStage} → HasSurveyed state least found start n
+      → (state n).failures ≡ (state start).failures → IsNewCopying found copying → IsCopiedOn found copying next
+      → HoldsStart state least next got start n
+  copy_begun {copying = copying} {got = got} {n = n} surveyed well new goes =
+      copied_on (record {
+        seen = n;
+        surveyed = surveyed;
+        sound = sound n;
+        first = copying;
+        first_had = got;
+        new = new;
+        so_far = not_driven (λ s had m view holds image cut x. holds.within x (image x) (cut x)) copying got n (sound n);
+      }) well goes
+
+  module _ {copying : Copying} {had bytes : List ℕ} {m : M} {call : Call}
+      (at : IsCopying state least found copying had start m) (tells : TellsCopy state copying had call bytes) where
+    fits_first : sectors_of (shape_of at.first.reader.sizes) ≤ (state at.seen).size
+    fits_first = rw at.new.sizes_are (fits_seen at.surveyed)
+
+    -- a call of it is made
+    pub copy_made : {n : M} {got : List ℕ} {after : Copying} {next : StartStage} → (state m).failures ≡ (state start).failures
+        → Performed call bytes got (Ok tt) (state m) (state n) → IsCopyStep copying.reader copying.step got after.reader after.step
+        → IsCopiedOn found after next → HoldsStart state least next got start n
+    copy_made {after = after} well performed step goes =
+        copied_on (record {
+          seen = at.seen;
+          surveyed = at.surveyed;
+          sound = at.sound;
+          first = at.first;
+          first_had = at.first_had;
+          new = at.new;
+          so_far = driven_call (λ s had m view holds image cut x. holds.within x (image x) (cut x)) fits_first at.so_far tells performed refl
+              after step (λ a b bytes due moved. record {
+                reads_stay = rw moved.sizes_stay refl;
+                ends_stay = rw moved.sizes_stay refl;
+                fits_still = λ size fits. rw moved.sizes_stay fits;
+              });
+        }) (performed.passes.failures_are ∙ well) goes
+
+    -- or refused
+    pub copy_refused : {n : M} {got : List ℕ} {e : MediumFault} → Performed call bytes got (Err e) (state m) (state n)
+        → LeavesAtLeast least (state start) (state n)
+    copy_refused {e = e} performed =
+        let gone : Copying = record {
+          reader = copying.reader;
+          step = record copying.step { has_bytes = false };
+          goes = record {
+            stamps = copying.goes.stamps;
+            there = copying.goes.there;
+            named = copying.goes.named;
+            unnamed = λ not. ((copying.goes.unnamed not).0, refl);
+          };
+        } in
+        copies_leave_so_far at.surveyed at.new (driven_refused (λ s had m view holds image cut x. holds.within x (image x) (cut x))
+        fits_first at.so_far tells performed e refl gone
+        (record { reader_stays = refl; left_stays = refl; i_stays = refl; no_bytes = refl }))

@@ -1,0 +1,146 @@
+-- The last calls of a start: the flush of the copies, the new head and its flush.
+use Rattle.std.proofs.Common.{◌≡◌, ◌⊎◌, inl, inr, ◌∙◌, sym, refl, ⊎_elim, ℕ, ◌+◌, ◌<◌, ◌≤◌, List, arith, rules, Result, Ok}
+use Rattle.medium.specs.Medium.{State, Image, CutLeaves, IsSound}
+use Rattle.medium.specs.Moments.{EachCut}
+use Rattle.medium.specs.Performed.{Performed}
+use Rattle.medium.specs.declared.medium_call.Call.TheVariants.{Write, Flush}
+use Rattle.medium.specs.declared.fault.MediumFault.{MediumFault}
+use Rattle.medium.proofs.Moments.{at_exit, after_write, one_call}
+use Rattle.journal.specs.Sectors.{IsHead}
+use Rattle.recovery.specs.Calls.{HasNewHead, Writes}
+use Rattle.recovery.specs.Recovered.{LeavesAtLeast}
+use Rattle.recovery.specs.Starting.{answer_of}
+use Rattle.recovery.specs.HoldsStart.{HoldsStart, HasCopied, IsMovingHead, IsFlushedAgain, HasMovedHead}
+use Rattle.recovery.specs.declared.found.Found.{Found}
+use Rattle.recovery.specs.declared.start_stage.StartStage.TheVariants as stage
+use Rattle.recovery.proofs.JoinedCalls.{flush_writes, writes_on}
+use Rattle.recovery.proofs.StartBegins.{surveyed_by}
+use Rattle.recovery.proofs.WholeRecovery.{moves_leave, recovery_done}
+
+-- what a cut leaves while the head is moved
+abbrev Moved : Found → State → Image → Type 0
+Moved found copied image = CutLeaves copied.may_leave image ⊎ HasNewHead (found.head + found.count + 1) copied.content image
+
+-- a refused call is counted as one that is made
+as_made : {P : Image → Type 0} {end count : ℕ} {old new : State} {result : Result (Unit {0}) MediumFault}
+    → Writes P end count old new result → new.calls ≡ old.calls + count → Writes {X = Unit {0}} P end count old new (Ok tt)
+as_made w all = record {
+  moments = w.moments;
+  spares = w.spares;
+  calls = w.calls;
+  exact = all;
+  sent = w.sent;
+  reads = w.reads;
+  cause = tt;
+}
+
+-- the head is written over contents that are flushed
+head_writes : (found : Found) (copied : State) {old new : State} {bytes got : List ℕ} {result : Result (Unit {0}) MediumFault} → IsSound old
+    → IsFlushedAgain found copied old → EachCut (Moved found copied) old → IsHead (found.head + found.count + 1) bytes
+    → Performed (Write 1) bytes got result old new → Writes (Moved found copied) 2 1 old new result
+head_writes found copied {old = old} {new = new} {bytes = bytes} sound flushed each head performed =
+    let last : EachCut (Moved found copied) new = λ image cut. ⊎_elim (each image) (λ w. inr (record {
+      head = rw w.2.here head;
+      elsewhere = λ x not. w.2.elsewhere x not ∙ flushed.1 x (w.0 x) (w.1 x);
+    })) (after_write old sound new.may_leave 1 bytes performed.adds image cut) in
+    search (
+      rules,
+      one_call (Moved found copied) old new sound performed.passes each last,
+      performed.spares 2 (omega arith),
+      performed.passes.looked_stays (λ e. cc e),
+      performed.passes.others_made,
+      performed.passes.others_stay,
+    )
+
+-- the copies are flushed
+copies_flushed : (found : Found) {old new : State} {bytes got : List ℕ} {result : Result (Unit {0}) MediumFault} → IsSound old
+    → Performed Flush bytes got result old new → Writes {X = Unit {0}} (Moved found old) 2 1 old new (Ok tt)
+copies_flushed found sound performed =
+    as_made (flush_writes sound performed.passes performed.changes performed.adds (λ image cut. inl cut)) performed.passes.calls_are
+
+module _ {M : Type 0} (state : M → State) (sound : (m : M) → IsSound (state m)) (least : ℕ) {start : M} {found : Found} where
+  -- what so few calls behind the copies leave
+  moved_leave : {copied n : M} {count : ℕ} → count ≤ 3 → HasCopied state least found start copied
+      → Writes {X = Unit {0}} (Moved found (state copied)) 2 count (state copied) (state n) (Ok tt)
+      → LeavesAtLeast least (state start) (state n)
+  moved_leave few has moves = moves_leave least (surveyed_by has.surveyed.flushed has.surveyed.reads) has.surveyed.is has.sound has.copies
+      has.done few moves
+
+  module _ {m n : M} {bytes got : List ℕ} {result : Result (Unit {0}) MediumFault} where
+    pub copies_flush_leaves : {had : List ℕ} → HoldsStart state least (stage.FlushCopies found) had start m
+        → Performed Flush bytes got result (state m) (state n) → LeavesAtLeast least (state start) (state n)
+    copies_flush_leaves held performed = moved_leave (omega arith) held.midway (copies_flushed found (sound m) performed)
+
+    -- the head is written
+    head_written : (at : IsMovingHead state least 1 IsFlushedAgain found start m)
+        → IsHead (found.head + found.count + 1) bytes → Performed (Write 1) bytes got result (state m) (state n)
+        → Writes {X = Unit {0}} (Moved found (state at.copied)) 2 2 (state at.copied) (state n) (Ok tt)
+    head_written at head performed =
+        let each = at_exit (Moved found (state at.copied)) (state at.copied) (state m) (sound m) at.moves.moments in
+        let last = as_made (head_writes found (state at.copied) (sound m) at.now each head performed) performed.passes.calls_are in
+        writes_on {X = Unit {0}} {Y = Unit {0}} {Z = Unit {0}} {one = Ok tt} {two = Ok tt} {result = Ok tt} at.moves last (omega arith) tt
+        (omega (arith, at.moves.exact, last.exact))
+
+    pub head_write_leaves : {had : List ℕ} → HoldsStart state least (stage.WriteHead found) had start m → IsHead (found.head + found.count + 1) bytes
+        → Performed (Write 1) bytes got result (state m) (state n) → LeavesAtLeast least (state start) (state n)
+    head_write_leaves held head performed =
+        moved_leave (omega arith) held.midway.has (head_written held.midway head performed)
+
+    -- and flushed
+    head_flushed : (at : IsMovingHead state least 2 HasMovedHead found start m) → Performed Flush bytes got result (state m) (state n)
+        → Writes {X = Unit {0}} (Moved found (state at.copied)) 2 3 (state at.copied) (state n) (Ok tt)
+    head_flushed at performed =
+        let each = at_exit (Moved found (state at.copied)) (state at.copied) (state m) (sound m) at.moves.moments in
+        let last = as_made (flush_writes (sound m) performed.passes performed.changes performed.adds each) performed.passes.calls_are in
+        writes_on {X = Unit {0}} {Y = Unit {0}} {Z = Unit {0}} {one = Ok tt} {two = Ok tt} {result = Ok tt} at.moves last (omega arith) tt
+        (omega (arith, at.moves.exact, last.exact))
+
+    pub head_flush_leaves : {had : List ℕ} → HoldsStart state least (stage.FlushHead found) had start m
+        → Performed Flush bytes got result (state m) (state n) → LeavesAtLeast least (state start) (state n)
+    head_flush_leaves held performed = moved_leave (omega arith) held.midway.has (head_flushed held.midway performed)
+
+  module _ {m n : M} {had bytes got : List ℕ} where
+    pub copies_flush_made : HoldsStart state least (stage.FlushCopies found) had start m
+        → Performed Flush bytes got (Ok tt) (state m) (state n) → HoldsStart state least (stage.WriteHead found) got start n
+    copies_flush_made held performed = record {
+      leaves = copies_flush_leaves held performed;
+      well = λ live. performed.passes.failures_are ∙ held.well tt;
+      midway = record { copied = m; has = held.midway; moves = copies_flushed found (sound m) performed; now = performed.done };
+    }
+
+    pub head_write_made : HoldsStart state least (stage.WriteHead found) had start m → IsHead (found.head + found.count + 1) bytes
+        → Performed (Write 1) bytes got (Ok tt) (state m) (state n) → HoldsStart state least (stage.FlushHead found) got start n
+    head_write_made held head performed =
+        let at = held.midway in
+        record {
+          leaves = head_write_leaves held head performed;
+          well = λ live. performed.passes.failures_are ∙ held.well tt;
+          midway = record {
+            copied = at.copied;
+            has = at.has;
+            moves = head_written at head performed;
+            now = record {
+              head = rw performed.done.here head;
+              elsewhere = λ x not. performed.done.elsewhere x not ∙ at.now.0 x;
+            };
+          };
+        }
+
+    pub head_flush_made : HoldsStart state least (stage.FlushHead found) had start m
+        → Performed Flush bytes got (Ok tt) (state m) (state n)
+        → HoldsStart state least (stage.Started (answer_of found)) got start n
+    head_flush_made held performed =
+        let at = held.midway in
+        let has = at.has in
+        let stays = performed.done.0 in
+        let leaves = head_flush_leaves held performed in
+        let both = recovery_done least (surveyed_by has.surveyed.flushed has.surveyed.reads) has.surveyed.is has.sound has.copies has.done
+        (state n) (record {
+          head = rw (stays 1) at.now.head;
+          elsewhere = λ x not. stays x ∙ at.now.elsewhere x not;
+        }) (λ s c left. performed.done.1 s c left ∙ sym (stays s)) (head_flushed at performed).exact in
+        record {
+          leaves = leaves;
+          well = λ live. absurd live;
+          midway = record { ok = (both.0, both.1); fresh = both.2; err = tt; leaves = leaves };
+        }

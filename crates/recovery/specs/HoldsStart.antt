@@ -1,0 +1,186 @@
+-- What a start and a medium hold between two calls.
+use Rattle.std.specs.Prelude.{◌≡◌, ◌⊎◌, ℕ, ◌+◌, ◌*◌, ◌<◌, ◌≤◌, List, length, get_or, [], Result, Ok, Err}
+use Rattle.medium.specs.Medium.{State, Image, CutLeaves, Only, Stays, Within, Passes, IsSound}
+use Rattle.medium.specs.Moments.{EachCut}
+use Rattle.medium.specs.Machine.{Driven, TellsCall}
+use Rattle.medium.specs.declared.medium_call.Call.{Call}
+use Rattle.medium.specs.declared.fault.MediumFault.{MediumFault}
+use Rattle.medium.specs.declared.fault.MediumFault.TheVariants.{Flush}
+use Rattle.journal.specs.declared.super_sector.Super.{Super}
+use Rattle.journal.specs.Places.{first_home, sectors_of, limit_of}
+use Rattle.journal.specs.Formats.{shape_of, IsWhole}
+use Rattle.journal.specs.Record.{Entry}
+use Rattle.journal.specs.Sectors.{IsHead}
+use Rattle.journal.specs.Standing.{HasShape}
+use Rattle.recovery.specs.Calls.{IsHomeInRecords, freed_at, Copies, AreCopied, most_calls_of}
+use Rattle.recovery.specs.Calls.{HasNewHead, Writes}
+use Rattle.recovery.specs.Causes.{LooksAtFirst, SurveysAtMost, IsSurvey, HasFewSlots}
+use Rattle.recovery.specs.Copying.{CopyView, HoldsCopied, copies_left, IsCopyStep, IsRefusedStep}
+use Rattle.recovery.specs.Surveying.{SurveyView, HoldsSurveyed, surveys_left, IsSurveyStep}
+use Rattle.recovery.specs.Surveying.{IsRefusedSurvey}
+use Rattle.recovery.specs.Recovered.{LeavesAtLeast, IsOursForSome, StandsForOneOf}
+use Rattle.recovery.specs.Starting.{EndsStart, IsStarting, IsNewSurvey, IsNewCopying}
+use Rattle.recovery.specs.declared.copying.Copying.{Copying}
+use Rattle.recovery.specs.declared.surveying.Surveying.{Surveying}
+use Rattle.recovery.specs.declared.found.Found.{Found}
+use Rattle.recovery.specs.declared.start_fault.StartFault.{StartFault}
+use Rattle.recovery.specs.declared.start_stage.StartStage.{StartStage}
+use Rattle.recovery.specs.declared.start_stage.StartStage.TheVariants as stage
+
+-- A start's cuts: where every image is ours, one that is so for one of the arrays.
+abbrev pub MayStart : State → Image → Type 0
+MayStart old image = EachCut (IsOursForSome old.size) old → StandsForOneOf old image
+
+-- the first flush was good
+pub record IsFlushedFirst (old mid : State) : Type 0 where
+  pub sound : IsSound old
+  pub passes : Passes Flush (Ok tt) old mid
+  pub content : Stays old.content mid.content
+  pub sets : Within mid.may_leave old.may_leave
+  pub sound_mid : IsSound mid
+  pub only : Only old.content mid.may_leave
+
+-- so many reads have found a super of these sizes, or it and the head
+abbrev pub LooksThere : {M : Type 0} → (M → State) → Super → ℕ → M → M → Type 0
+LooksThere state sizes count mid now =
+    LooksAtFirst {X = Unit {0}} state (λ a b. Unit {0})
+    (λ s done. HasShape s.size (shape_of sizes) s.content) count mid now (Ok tt)
+
+-- the calls of a survey so far, the last of which may have been refused
+abbrev pub IsSurveyedSoFar : {M : Type 0} → (M → State) → Surveying → List ℕ → M
+    → Result (Unit {0}) MediumFault → Surveying → List ℕ → M → Type 0
+IsSurveyedSoFar {M = M} state first began m result now had n =
+    Driven {M = M} {S = Surveying} {V = SurveyView M} state
+    (λ s size. sectors_of (shape_of s.reader.sizes) ≤ size)
+    (λ s had m view. HoldsSurveyed state s.reader s.left s.place s.waiting.items view m)
+    (λ view image. CutLeaves (state view.start).may_leave image)
+    (λ s. first_home (shape_of s.reader.sizes)) (λ s. sectors_of (shape_of s.reader.sizes))
+    (λ s. surveys_left s.reader s.left s.place) ⊥ first began m result now had n
+
+-- so those of a copying
+abbrev pub IsCopiedSoFar : {M : Type 0} → (M → State) → Copying → List ℕ → M
+    → Result (Unit {0}) MediumFault → Copying → List ℕ → M → Type 0
+IsCopiedSoFar {M = M} state first began m result now had n =
+    Driven {M = M} {S = Copying} {V = CopyView M} state
+    (λ s size. sectors_of (shape_of s.reader.sizes) ≤ size)
+    (λ s had m view. HoldsCopied state s.reader s.step had view m)
+    (λ view image. CutLeaves (freed_at (IsHomeInRecords (shape_of view.sizes)
+    (state view.start).content view.head (length view.records))
+    (state view.start).may_leave) image)
+    (λ s. first_home (shape_of s.reader.sizes)) (λ s. sectors_of (shape_of s.reader.sizes))
+    (λ s. copies_left s.reader s.step) ⊥ first began m result now had n
+
+-- a survey tells this call
+abbrev pub TellsSurvey : {M : Type 0} → (M → State) → Surveying → List ℕ → Call → List ℕ → Type 0
+TellsSurvey {M = M} state survey had call bytes =
+    TellsCall {M = M} {S = Surveying} {V = SurveyView M} state
+    (λ s size. sectors_of (shape_of s.reader.sizes) ≤ size)
+    (λ s had m view. HoldsSurveyed state s.reader s.left s.place s.waiting.items view m)
+    (λ s. first_home (shape_of s.reader.sizes)) (λ s. sectors_of (shape_of s.reader.sizes))
+    (λ s. surveys_left s.reader s.left s.place) ⊥ (λ s. 0 < s.left)
+    (λ s got t. IsSurveyStep s.reader s.left s.place s.waiting.items got t.reader t.left t.place
+    t.waiting.items)
+    (λ s t. IsRefusedSurvey s.reader s.left s.place s.waiting.items t.reader t.left t.place
+    t.waiting.items) survey had call bytes
+
+-- a copying tells this call
+abbrev pub TellsCopy : {M : Type 0} → (M → State) → Copying → List ℕ → Call → List ℕ → Type 0
+TellsCopy {M = M} state copying had call bytes =
+    TellsCall {M = M} {S = Copying} {V = CopyView M} state
+    (λ s size. sectors_of (shape_of s.reader.sizes) ≤ size)
+    (λ s had m view. HoldsCopied state s.reader s.step had view m)
+    (λ s. first_home (shape_of s.reader.sizes)) (λ s. sectors_of (shape_of s.reader.sizes))
+    (λ s. copies_left s.reader s.step) ⊥ (λ s. 0 < s.step.left)
+    (λ s got t. IsCopyStep s.reader s.step got t.reader t.step)
+    (λ s t. IsRefusedStep s.reader s.step t.reader t.step) copying had call bytes
+
+-- the contents stay, and they alone are left
+abbrev pub IsFlushedAgain : Found → State → State → Type 0
+IsFlushedAgain found old new = Stays old.content new.content × Only old.content new.may_leave
+
+-- they have the new head
+abbrev pub HasMovedHead : Found → State → State → Type 0
+HasMovedHead found old new = HasNewHead (found.head + found.count + 1) old.content new.content
+
+module _ {M : Type 0} (state : M → State) (least : ℕ) where
+  -- the survey goes on
+  pub record IsSurveying (head : ℕ) (survey : Surveying) (had : List ℕ) (start m : M)
+      : Type 0 where
+    pub sizes : Super
+    pub mid : M
+    pub flushed : IsFlushedFirst (state start) (state mid)
+    pub began : M
+    pub looked : LooksThere state sizes 2 mid began
+    pub head_is : IsHead head ((state mid).content 1)
+    pub room : ¬ HasFewSlots least (state mid).size (state mid).content
+    pub first : Surveying
+    pub first_had : List ℕ
+    pub new : IsNewSurvey sizes head first
+    pub so_far : IsSurveyedSoFar state first first_had began (Ok tt) survey had m
+
+  -- it came to its end, and found this
+  pub record HasSurveyed (found : Found) (start seen : M) : Type 0 where
+    pub mid : M
+    pub flushed : IsFlushedFirst (state start) (state mid)
+    pub reads : SurveysAtMost (state mid) (state seen)
+    pub is : IsSurvey least (state mid).size (state mid).content (state mid).calls
+        (state seen).calls found
+
+  -- the copying goes on
+  pub record IsCopying (found : Found) (copying : Copying) (had : List ℕ) (start m : M)
+      : Type 0 where
+    pub seen : M
+    pub surveyed : HasSurveyed found start seen
+    pub sound : IsSound (state seen)
+    pub first : Copying
+    pub first_had : List ℕ
+    pub new : IsNewCopying found first
+    pub so_far : IsCopiedSoFar state first first_had seen (Ok tt) copying had m
+
+  -- the records are home
+  pub record HasCopied (found : Found) (start copied : M) : Type 0 where
+    pub seen : M
+    pub surveyed : HasSurveyed found start seen
+    pub copies : Copies {X = Unit {0}} (IsHomeInRecords (shape_of found.sizes)
+        (state seen).content found.head found.count)
+        (λ s. s < first_home (shape_of found.sizes))
+        (most_calls_of found.sizes.format * found.count)
+        (limit_of found.sizes.format * found.count) (state seen) (state copied) (Ok tt)
+    pub done : (records : List (List Entry)) → found.count ≡ length records
+        → ((k : ℕ) → k < length records → IsWhole (shape_of found.sizes) (state seen).content
+        (found.head + k) (get_or records k []))
+        → AreCopied (shape_of found.sizes) records (state seen) (state copied)
+    pub sound : IsSound (state copied)
+
+  -- and behind them so many calls move the head
+  pub record IsMovingHead (count : ℕ) (Now : Found → State → State → Type 0) (found : Found)
+      (start m : M) : Type 0 where
+    pub copied : M
+    pub has : HasCopied found start copied
+    pub moves : Writes {X = Unit {0}} (λ image. CutLeaves (state copied).may_leave image
+        ⊎ HasNewHead (found.head + found.count + 1) (state copied).content image) 2 count
+        (state copied) (state m) (Ok tt)
+    pub now : Now found (state copied) (state m)
+
+  -- what is so before the next call
+  abbrev pub IsMidstart : StartStage → List ℕ → M → M → Type 0
+  IsMidstart stage.FlushFirst had start m = m ≡ start
+  IsMidstart stage.ReadSuper had start m = IsFlushedFirst (state start) (state m)
+  IsMidstart (stage.ReadHead sizes) had start m =
+      (mid : M) × IsFlushedFirst (state start) (state mid) × LooksThere state sizes 1 mid m
+  IsMidstart (stage.Survey head survey) had start m = IsSurveying head survey had start m
+  IsMidstart (stage.Copy found copying) had start m = IsCopying found copying had start m
+  IsMidstart (stage.FlushCopies found) had start m = HasCopied found start m
+  IsMidstart (stage.WriteHead found) had start m = IsMovingHead 1 IsFlushedAgain found start m
+  IsMidstart (stage.FlushHead found) had start m = IsMovingHead 2 HasMovedHead found start m
+  IsMidstart (stage.Started answer) had start m =
+      EndsStart least (state start) (state m) (Ok answer)
+  IsMidstart (stage.Refused fault) had start m =
+      EndsStart least (state start) (state m) (Err fault)
+
+  -- What a start and a medium hold, which stood so when it began: at each moment so far a cut has
+  -- left what a recovery promises, and no call was refused while one is left.
+  pub record HoldsStart (at : StartStage) (had : List ℕ) (start m : M) : Type 0 where
+    pub leaves : LeavesAtLeast least (state start) (state m)
+    pub well : IsStarting at → (state m).failures ≡ (state start).failures
+    pub midway : IsMidstart at had start m

@@ -1,0 +1,246 @@
+-- What a start and a medium hold between two calls, which calls are left of it, and what is so at
+-- its end.
+use Rattle.std.specs.Prelude.{◌≡◌, ◌⊎◌, ℕ, ◌+◌, ◌*◌, ◌<◌, ◌≤◌, ◌^◌, List, [], length, get_or}
+use Rattle.std.specs.Prelude.{Result, Ok, IfOk, IfErr, OnOk, Bool, true, false}
+use Rattle.medium.specs.Medium.{State, CutLeaves, Only, Stays, Within, Passes, IsSound}
+use Rattle.medium.specs.Moments.{EachCut}
+use Rattle.medium.specs.Tally.{Tally, none}
+use Rattle.medium.specs.Machine.{Driven}
+use Rattle.medium.specs.declared.fault.MediumFault.{MediumFault}
+use Rattle.medium.specs.declared.fault.MediumFault.TheVariants as medium
+use Rattle.spec.specs.Blocks.{Array}
+use Rattle.journal.specs.declared.log_format.LogFormat.{LogFormat}
+use Rattle.journal.specs.declared.log_format.LogFormat.TheVariants.{One, Two}
+use Rattle.journal.specs.declared.super_sector.Super.{Super}
+use Rattle.journal.specs.declared.naming_stage.NamingStage.{NamingStage}
+use Rattle.journal.specs.declared.naming_stage.NamingStage.TheVariants.{Named}
+use Rattle.journal.specs.Places.{Shape, first_home, sectors_of, limit_of}
+use Rattle.journal.specs.Formats.{shape_of, IsWhole}
+use Rattle.journal.specs.Naming.{IsUnread}
+use Rattle.journal.specs.Record.{Entry}
+use Rattle.journal.specs.Reading.{record_reads_of}
+use Rattle.journal.specs.Sectors.{IsSuper, IsHead}
+use Rattle.journal.specs.Standing.{HasShape, IsOurs}
+use Rattle.recovery.specs.Calls.{most_reads_of, IsHomeInRecords, freed_at, Copies, AreCopied}
+use Rattle.recovery.specs.Calls.{most_calls_of, HasNewHead, Writes}
+use Rattle.recovery.specs.Causes.{LooksAtFirst, SurveysAtMost, IsSurvey, IsSuperCause}
+use Rattle.recovery.specs.Causes.{HasFewSlots, IsRefusalBy, WritesNothing, start_fault_of}
+use Rattle.recovery.specs.Copying.{CopyView, HoldsCopied, copies_left, IsCopyStep}
+use Rattle.recovery.specs.Surveying.{SurveyView, HoldsSurveyed, surveys_left, IsSurveyStep}
+use Rattle.recovery.specs.Recovered.{LeavesAtLeast, IsRecoveredFrom, IsFresh}
+use Rattle.recovery.specs.declared.copying.Copying.{Copying}
+use Rattle.recovery.specs.declared.surveying.Surveying.{Surveying}
+use Rattle.recovery.specs.declared.found.Found.{Found}
+use Rattle.recovery.specs.declared.recovered.Recovered.{Recovered}
+use Rattle.recovery.specs.declared.start_fault.StartFault.{StartFault}
+use Rattle.recovery.specs.declared.start_fault.StartFault.TheVariants as fault
+use Rattle.recovery.specs.declared.start_stage.StartStage.{StartStage}
+use Rattle.recovery.specs.declared.start_stage.StartStage.TheVariants as stage
+
+-- ---- what is so at the end
+
+-- A start that wants at least this many slots in a log of format 1 came to its end, good or
+-- refused: all that a recovery promises.
+pub record EndsStart (least : ℕ) (old new : State) (result : Result Recovered StartFault)
+    : Type 0 where
+  pub ok : IfOk result (λ answer. IsRecoveredFrom old new answer
+      × (¬ HasFewSlots least old.size old.content))
+  pub fresh : (shape : Shape) (array : Array) (next : ℕ)
+      → IsOurs old.size shape old.content array next
+      → OnOk result (EachCut (IsFresh shape array next) new)
+  pub err : IfErr result (IsRefusalBy least WritesNothing old new)
+  pub leaves : LeavesAtLeast least old new
+
+-- ---- which calls are left
+
+-- a call is left
+abbrev pub IsStarting : StartStage → Type 0
+IsStarting (stage.Started answer) = ⊥
+IsStarting (stage.Refused fault) = ⊥
+IsStarting at = Unit {0}
+
+-- some calls, and others
+abbrev pub both : Tally → Tally → Tally
+both some others = record {
+  reads = some.reads + others.reads;
+  writes = some.writes + others.writes;
+  flushes = some.flushes + others.flushes;
+}
+
+-- those that move the head: a flush, a write and a flush
+abbrev pub head_calls : Tally
+head_calls = record { reads = 0; writes = 1; flushes = 2 }
+
+-- those at most that copy the records of so many slots home and then move the head
+abbrev pub home_calls : LogFormat → ℕ → Tally
+home_calls format slots = record {
+  reads = (record_reads_of format + limit_of format) * slots;
+  writes = limit_of format * slots + 1;
+  flushes = 2;
+}
+
+-- so many reads, and then those at most that survey so many slots and bring their records home
+abbrev pub all_calls : ℕ → LogFormat → ℕ → Tally
+all_calls first format slots = record {
+  reads = first + (most_reads_of format + record_reads_of format + limit_of format) * slots;
+  writes = limit_of format * slots + 1;
+  flushes = 2;
+}
+
+-- The calls that are left at most: before the super is read, of any image; before the records are
+-- surveyed, by the format and the slots. None is left at the end.
+abbrev pub start_left : StartStage → Tally
+start_left stage.FlushFirst = record (all_calls 2 Two 64) { flushes = 3 }
+start_left stage.ReadSuper = all_calls 2 Two 64
+start_left (stage.ReadHead sizes) = all_calls 1 sizes.format sizes.slots
+start_left (stage.Survey head survey) =
+    both (surveys_left survey.reader survey.left survey.place)
+    (home_calls survey.reader.sizes.format survey.reader.sizes.slots)
+start_left (stage.Copy found copying) = both (copies_left copying.reader copying.step) head_calls
+start_left (stage.FlushCopies found) = head_calls
+start_left (stage.WriteHead found) = record { reads = 0; writes = 1; flushes = 1 }
+start_left (stage.FlushHead found) = record { reads = 0; writes = 0; flushes = 1 }
+start_left (stage.Started answer) = none
+start_left (stage.Refused fault) = none
+
+-- ---- what the machine holds, whatever it read, on a medium of so many sectors
+
+-- these are the sizes of an image that fits, and a stamp is left behind its records
+pub record FitsFound (sectors : ℕ) (found : Found) : Type 0 where
+  pub fits : sectors_of (shape_of found.sizes) ≤ sectors
+  pub stamp_left : found.head + found.count + 1 < 2 ^ 63
+
+-- records are left to be surveyed
+pub record FitsSurvey (sectors head : ℕ) (survey : Surveying) : Type 0 where
+  pub fits : sectors_of (shape_of survey.reader.sizes) ≤ sectors
+  pub head_most : head < 2 ^ 63
+  pub due : 0 < survey.left
+
+-- records are left to be copied
+pub record FitsCopying (sectors : ℕ) (found : Found) (copying : Copying) : Type 0 where
+  pub fits : FitsFound sectors found
+  pub sizes_are : copying.reader.sizes ≡ found.sizes
+  pub due : 0 < copying.step.left
+
+pub record CanStart (sectors : ℕ) (at : StartStage) : Type 0 where
+  pub super : at ≡ stage.ReadSuper → 0 < sectors
+  pub head : (sizes : Super) → at ≡ stage.ReadHead sizes → sectors_of (shape_of sizes) ≤ sectors
+  pub survey : (head : ℕ) (survey : Surveying) → at ≡ stage.Survey head survey
+      → FitsSurvey sectors head survey
+  pub copy : (found : Found) (copying : Copying) → at ≡ stage.Copy found copying
+      → FitsCopying sectors found copying
+  pub flush : (found : Found) → at ≡ stage.FlushCopies found → FitsFound sectors found
+  pub move : (found : Found) → at ≡ stage.WriteHead found → FitsFound sectors found
+  pub last : (found : Found) → at ≡ stage.FlushHead found → FitsFound sectors found
+
+-- ---- one call on
+
+-- the survey begins at this stamp
+pub record IsNewSurvey (sizes : Super) (head : ℕ) (survey : Surveying) : Type 0 where
+  pub sizes_are : survey.reader.sizes ≡ sizes
+  pub stamp_is : survey.reader.stamp ≡ head
+  pub unread : IsUnread (shape_of sizes) head survey.reader.stage survey.reader.read
+  pub left_is : survey.left ≡ sizes.slots
+  pub place_is : survey.place ≡ 0
+  pub none : survey.waiting.items ≡ []
+
+-- the copying begins at the first record
+pub record IsNewCopying (found : Found) (copying : Copying) : Type 0 where
+  pub sizes_are : copying.reader.sizes ≡ found.sizes
+  pub stamp_is : copying.reader.stamp ≡ found.head
+  pub unread : IsUnread (shape_of found.sizes) found.head copying.reader.stage copying.reader.read
+  pub left_is : copying.step.left ≡ found.count
+  pub i_is : copying.step.i ≡ 0
+  pub no_bytes : copying.step.has_bytes ≡ false
+
+-- there are sectors, and so the super is read, or there is none
+abbrev pub IsReadFirst : ℕ → StartStage → Type 0
+IsReadFirst sectors next =
+    ((sectors ≡ 0) × (next ≡ stage.Refused fault.BadSize))
+    ⊎ ((0 < sectors) × (next ≡ stage.ReadSuper))
+
+-- the super was read: its sizes fit, or this is wrong with it
+abbrev pub FindsSuper : ℕ → List ℕ → StartStage → Type 0
+FindsSuper sectors got next =
+    ((sizes : Super) × IsSuper (shape_of sizes) got × (sectors_of (shape_of sizes) ≤ sectors)
+    × (next ≡ stage.ReadHead sizes))
+    ⊎ ((fault : StartFault) × IsSuperCause sectors got fault × (next ≡ stage.Refused fault))
+
+-- the log is of format 1, and has fewer slots than these
+abbrev pub IsSmall : ℕ → Super → Type 0
+IsSmall least sizes = (sizes.format ≡ One) × (sizes.slots < least)
+
+-- the head was read: the survey begins, unless there is none, or the log has too few slots
+abbrev pub FindsHead : ℕ → Super → List ℕ → StartStage → Type 0
+FindsHead least sizes got next =
+    (((stamp : ℕ) → ¬ IsHead stamp got) × (next ≡ stage.Refused fault.BadHead))
+    ⊎ ((head : ℕ) × IsHead head got × ((IsSmall least sizes × (next ≡ stage.Refused fault.LogTooSmall))
+    ⊎ ((¬ IsSmall least sizes) × (survey : Surveying) × IsNewSurvey sizes head survey
+    × (next ≡ stage.Survey head survey))))
+
+-- so far the records are copied
+abbrev pub IsCopiedOn : Found → Copying → StartStage → Type 0
+IsCopiedOn found copying next =
+    ((0 < copying.step.left) × (next ≡ stage.Copy found copying))
+    ⊎ ((copying.step.left ≡ 0) × (next ≡ stage.FlushCopies found))
+
+-- this was found: it is copied, where a stamp is left and a record is there
+abbrev pub IsFoundOn : Found → StartStage → Type 0
+IsFoundOn found next =
+    ((2 ^ 63 ≤ found.head + found.count + 1) × (next ≡ stage.Refused fault.StampsUsedUp))
+    ⊎ ((found.head + found.count + 1 < 2 ^ 63) × (copying : Copying) × IsNewCopying found copying
+    × IsCopiedOn found copying next)
+
+-- what a survey has found at its end
+abbrev pub found_by : ℕ → Surveying → Found
+found_by head survey = record {
+  sizes = survey.reader.sizes;
+  head = head;
+  count = length survey.waiting.items;
+}
+
+-- so far the records are surveyed
+abbrev pub IsSurveyedOn : ℕ → Surveying → StartStage → Type 0
+IsSurveyedOn head survey next =
+    ((0 < survey.left) × (next ≡ stage.Survey head survey))
+    ⊎ ((survey.left ≡ 0) × IsFoundOn (found_by head survey) next)
+
+-- what recovery answers of what it found
+abbrev pub answer_of : Found → Recovered
+answer_of found = record { sizes = found.sizes; next = found.head + found.count + 1 }
+
+-- the next call was made, which left these bytes in the lent sector
+abbrev pub IsStartStep : ℕ → ℕ → StartStage → List ℕ → StartStage → Type 0
+IsStartStep sectors least stage.FlushFirst got next =
+    IsReadFirst sectors next
+IsStartStep sectors least stage.ReadSuper got next = FindsSuper sectors got next
+IsStartStep sectors least (stage.ReadHead sizes) got next = FindsHead least sizes got next
+IsStartStep sectors least (stage.Survey head survey) got next = (after : Surveying)
+    × IsSurveyStep survey.reader survey.left survey.place survey.waiting.items got after.reader
+    after.left after.place after.waiting.items × IsSurveyedOn head after next
+IsStartStep sectors least (stage.Copy found copying) got next = (after : Copying)
+    × IsCopyStep copying.reader copying.step got after.reader after.step
+    × IsCopiedOn found after next
+IsStartStep sectors least (stage.FlushCopies found) got next = next ≡ stage.WriteHead found
+IsStartStep sectors least (stage.WriteHead found) got next = next ≡ stage.FlushHead found
+IsStartStep sectors least (stage.FlushHead found) got next =
+    next ≡ stage.Started (answer_of found)
+IsStartStep sectors least (stage.Started answer) got next = ⊥
+IsStartStep sectors least (stage.Refused fault) got next = ⊥
+
+-- the kind of the next call of a copying: once the bytes of a block were read they are written
+abbrev pub copy_kind_by : NamingStage → Bool → MediumFault
+copy_kind_by Named true = medium.Write
+copy_kind_by at has_bytes = medium.Read
+
+abbrev pub copy_kind : Copying → MediumFault
+copy_kind copying = copy_kind_by copying.reader.stage copying.step.has_bytes
+
+-- the kind of the next call
+abbrev pub start_kind : StartStage → MediumFault
+start_kind stage.ReadSuper = medium.Read
+start_kind (stage.ReadHead sizes) = medium.Read
+start_kind (stage.Survey head survey) = medium.Read
+start_kind (stage.Copy found copying) = copy_kind copying
+start_kind (stage.WriteHead found) = medium.Write
+start_kind at = medium.Flush

@@ -1,0 +1,155 @@
+//! A start, call by call.
+ghost use Rattle.std.specs.Prelude.{◌≡◌, ◌<◌, ℕ, List, Ok, Err};
+ghost use Rattle.medium.specs.Tally.{none};
+ghost use Rattle.medium.proofs.Moments.{at_exit};
+ghost use Rattle.journal.specs.Sectors.{IsHead};
+ghost use Rattle.recovery.specs.Causes.{start_fault_of};
+ghost use Rattle.recovery.specs.Starting.{EndsStart, IsStarting, start_left, CanStart, IsStartStep};
+ghost use Rattle.recovery.specs.Starting.{start_kind};
+ghost use Rattle.recovery.specs.HoldsStart.{HoldsStart, MayStart};
+ghost use Rattle.recovery.specs.declared.start_stage.StartStage.TheVariants.{Refused};
+
+use crate::start_stage::StartStage;
+use crate::start_steps::{answer_of, behind_head, behind_super, behind_survey, first_read};
+use crate::{Recovered, StartFault};
+use journal::Head;
+use medium::{Call, Machine, Medium};
+
+/// A start, which says each of its calls: a flush, the reads of super and head, those that find the
+/// records that are whole, the copies of their blocks home, a flush, the new head and a flush.
+///
+/// Whoever makes them in order, on a medium of so many sectors, does what `recover` does. A refused
+/// call ends it. It holds no log and takes no memory: it has 4 KB, for what names the blocks of one
+/// record, and its caller lends a sector.
+#[derive(Drop)]
+pub struct Starting {
+    sectors: u64,
+    least: u64,
+    stage: StartStage,
+    ghost goes: { CanStart sectors stage },
+}
+
+impl Starting {
+    /// The start of an image on a medium of this many sectors.
+    pub fn begin<M: Medium>(sectors: u64) -> Starting
+        ensures of { (result.sectors ≡ sectors) × (result.least ≡ 0) }
+        // Before the first call it and any medium hold what they are to hold.
+        ensures held { (m : M) (had : List ℕ) → HoldsStart M.state 0 result.stage had m m }
+    {
+        Starting::begin_at_least::<M>(sectors, 0)
+    }
+
+    /// So for an image whose log, where it is of format 1, has at least `least` slots.
+    pub(crate) fn begin_at_least<M: Medium>(sectors: u64, least: u64) -> Starting
+        ensures of { (result.sectors ≡ sectors) × (result.least ≡ least) }
+        ensures held { (m : M) (had : List ℕ) → HoldsStart M.state least result.stage had m m }
+    {
+        Starting {
+            sectors,
+            least,
+            stage: StartStage::FlushFirst,
+        }
+    }
+
+    /// What came of it, once no call is left: what is known of the medium, or why it is refused.
+    ///
+    /// # Errors
+    ///
+    /// Those of `recover`.
+    pub fn end<M: Medium>(self) -> Result<Recovered, StartFault>
+        requires { start_left self.stage ≡ none }
+        ensures { (start m : M) (had : List ℕ)
+            → HoldsStart M.state self.least self.stage had start m
+            → EndsStart self.least (M.state start) (M.state m) result }
+    {
+        match self.stage {
+            StartStage::Started(answer) => Ok(answer),
+            StartStage::Refused(fault) => Err(fault),
+            _ => Err(StartFault::BadSuper),
+        }
+    }
+}
+
+impl<M: Medium> Machine<M> for Starting {
+    ghost View = { M };
+
+    ghost fits = { λ s size. s.sectors ≡ size };
+
+    ghost holds = { λ s had m start. HoldsStart M.state s.least s.stage had start m };
+
+    ghost may = { λ start image. MayStart (M.state start) image };
+
+    ghost reads = { λ s. s.sectors };
+
+    ghost ends = { λ s. s.sectors };
+
+    ghost cost = { λ s. start_left s.stage };
+
+    ghost exact = { ⊥ };
+
+    ghost due = { λ s. IsStarting s.stage };
+
+    ghost after = { λ s got t. (t.sectors ≡ s.sectors) × (t.least ≡ s.least)
+        × IsStartStep s.sectors s.least s.stage got t.stage };
+
+    ghost gone = { λ s t. (t.sectors ≡ s.sectors) × (t.least ≡ s.least)
+        × (t.stage ≡ Refused (start_fault_of (start_kind s.stage))) };
+
+    fn next(&self, sector: &mut [u8; 512]) -> Option<Call> {
+        match &self.stage {
+            StartStage::FlushFirst => Some(Call::Flush),
+            StartStage::ReadSuper => Some(Call::Read(0)),
+            StartStage::ReadHead(_) => Some(Call::Read(1)),
+            StartStage::Survey(_, survey) => Machine::<M>::next(survey, sector),
+            StartStage::Copy(_, copying) => Machine::<M>::next(copying, sector),
+            StartStage::FlushCopies(_) => Some(Call::Flush),
+            StartStage::WriteHead(found) => {
+                *sector = Head::new(found.head + found.count + 1).encode();
+                Some(Call::Write(1))
+            }
+            StartStage::FlushHead(_) => Some(Call::Flush),
+            StartStage::Started(_) => None,
+            StartStage::Refused(_) => None,
+        }
+    }
+
+    fn made(&mut self, sector: &[u8; 512]) {
+        match &mut self.stage {
+            StartStage::FlushFirst => self.stage = first_read(self.sectors),
+            StartStage::ReadSuper => self.stage = behind_super(sector, self.sectors),
+            StartStage::ReadHead(sizes) => self.stage = behind_head(sector, sizes, self.least),
+            StartStage::Survey(head, survey) => {
+                survey.take_sector(sector);
+                if survey.left == 0 {
+                    self.stage = behind_survey(*head, survey);
+                }
+            }
+            StartStage::Copy(found, copying) => {
+                copying.go_on(sector);
+                if copying.step.left == 0 {
+                    self.stage = StartStage::FlushCopies(*found);
+                }
+            }
+            StartStage::FlushCopies(found) => self.stage = StartStage::WriteHead(*found),
+            StartStage::WriteHead(found) => self.stage = StartStage::FlushHead(*found),
+            StartStage::FlushHead(found) => self.stage = StartStage::Started(answer_of(found)),
+            StartStage::Started(_) => {}
+            StartStage::Refused(_) => {}
+        }
+    }
+
+    fn refused(&mut self) {
+        self.stage = StartStage::Refused(StartFault::from(self.stage.kind()));
+    }
+
+    ghost leaves = { λ s had m start holds image cut each. at_exit _ (M.state start) (M.state m)
+        (M.sound m) (holds.leaves.cuts each) image cut };
+
+    ghost room = { λ s size fits. fits };
+
+    ghost goes_on = { λ s t got due after. record {
+      reads_stay = after.0;
+      ends_stay = after.0;
+      fits_still = λ size fits. fits;
+    } };
+}
