@@ -28,7 +28,6 @@ use Rattle.recovery.specs.Recovered.{IsFresh}
 use Rattle.medium.specs.declared.fault.MediumFault.{MediumFault}
 use Rattle.medium.proofs.SectorsRead.{looks_joined, looks_below, look_below}
 use Rattle.journal.specs.declared.super_sector.Super.{Super}
-use Rattle.journal.specs.declared.log_format.LogFormat.{LogFormat}
 use Rattle.journal.specs.Standing.{HasShape}
 use Rattle.journal.specs.Reading.{IsRefusedCall, LooksUp}
 use Rattle.recovery.specs.Causes.{SurveysAtMost, LooksAtFirst}

@@ -1,11 +1,11 @@
 -- A start begins: its first flush, and the reads of super and head; and how it ends where it is refused.
-use Rattle.std.proofs.Common.{◌≡◌, ◌⊎◌, inl, inr, ◌∙◌, sym, ℕ, ◌+◌, ◌*◌, ◌<◌, ◌≤◌, List, length, refl, arith, rules, Result, Ok, Err}
+use Rattle.std.proofs.Common.{◌≡◌, inl, inr, ◌∙◌, sym, ℕ, ◌+◌, ◌<◌, ◌≤◌, List, refl, arith, Result, Ok, Err}
 use Rattle.std.proofs.Common.{⊎_elim}
-use Rattle.medium.specs.Medium.{State, Image, CutLeaves, IsSound}
-use Rattle.medium.specs.Moments.{IsQuiet, LeavesOnly, SparesFrom}
+use Rattle.medium.specs.Medium.{State, IsSound}
+use Rattle.medium.specs.Moments.{IsQuiet, SparesFrom}
 use Rattle.medium.specs.Performed.{Performed, fault_of}
 use Rattle.medium.specs.declared.medium_call.Call.{Call}
-use Rattle.medium.specs.declared.medium_call.Call.TheVariants.{Read, Write, Flush}
+use Rattle.medium.specs.declared.medium_call.Call.TheVariants.{Read, Flush}
 use Rattle.medium.specs.declared.fault.MediumFault.{MediumFault}
 use Rattle.medium.specs.declared.fault.MediumFault.TheVariants as medium
 use Rattle.medium.proofs.Moments.{quiet_start, quiet_call, quiet_joined, started}
@@ -13,20 +13,16 @@ use Rattle.medium.proofs.SparedSectors.{spared_start}
 use Rattle.medium.proofs.SectorsRead.{no_looks, looks_joined}
 use Rattle.medium.proofs.Driving.{not_driven}
 use Rattle.journal.specs.declared.super_sector.Super.{Super}
-use Rattle.journal.specs.Places.{sectors_of, first_home}
+use Rattle.journal.specs.Places.{sectors_of}
 use Rattle.journal.specs.Formats.{shape_of}
-use Rattle.journal.specs.Sectors.{IsHead}
 use Rattle.journal.specs.Standing.{HasShape}
-use Rattle.journal.specs.Standing as image
 use Rattle.journal.specs.Reading.{IsRefusedCall, MakesReadsAlone}
 use Rattle.journal.proofs.SectorNumbers.{IsSuper-one}
 use Rattle.recovery.specs.Calls.{LooksAtLog, HoldsLog}
-use Rattle.recovery.specs.Causes.{SurveysAtMost, IsRefusalBy, WritesNothing, IsSuperCause, HasFewSlots, start_fault_of}
+use Rattle.recovery.specs.Causes.{SurveysAtMost, IsRefusalBy, WritesNothing, IsSuperCause, start_fault_of}
 use Rattle.recovery.specs.Recovered.{LeavesAtLeast, StandsForOneOf}
-use Rattle.recovery.specs.Surveying.{HoldsSurveyed}
-use Rattle.recovery.specs.Starting.{EndsStart, IsReadFirst, FindsSuper, FindsHead, IsSmall, IsNewSurvey}
-use Rattle.recovery.specs.HoldsStart.{HoldsStart, IsFlushedFirst, LooksThere, IsSurveyedSoFar}
-use Rattle.recovery.specs.declared.surveying.Surveying.{Surveying}
+use Rattle.recovery.specs.Starting.{EndsStart, IsReadFirst, FindsSuper, FindsHead}
+use Rattle.recovery.specs.HoldsStart.{HoldsStart, IsFlushedFirst, LooksThere}
 use Rattle.recovery.specs.declared.start_fault.StartFault.{StartFault}
 use Rattle.recovery.specs.declared.start_fault.StartFault.TheVariants as fault
 use Rattle.recovery.specs.declared.start_stage.StartStage.{StartStage}
@@ -144,8 +140,11 @@ super_cause least fault.Write some same quiet h = absurd h
 super_cause least fault.Flush some same quiet h = absurd h
 super_cause least fault.BadSuper some same quiet h = ((some, rw same at h), quiet)
 super_cause least fault.BadVersion some same quiet h = ((some, rw same at h), quiet)
-super_cause least fault.BadSize some same quiet h = (⊎_elim (λ sizes. inr (inl (rw same at sizes)))
-    (λ short. inr (inr (short.0, rw same at short.1, short.2))) h, quiet)
+super_cause least fault.BadSize some same quiet h = (
+  ⊎_elim (λ sizes. inr (inl (rw same at sizes)))
+      (λ short. inr (inr (short.0, rw same at short.1, short.2))) h,
+  quiet,
+)
 super_cause least fault.BadHead some same quiet h = absurd h
 super_cause least fault.StampsUsedUp some same quiet h = absurd h
 super_cause least fault.LogTooSmall some same quiet h = absurd h
@@ -240,10 +239,14 @@ module _ {M : Type 0} (state : M → State) (sound : (m : M) → IsSound (state 
       ⊎_elim (λ found. rw found.3 (record {
         leaves = leaves;
         well = λ live. performed.passes.failures_are ∙ held.well tt;
-        midway = (m, held.midway, looks_there found.0 seen (record {
-          super = rw performed.done at found.1;
-          fits = omega (arith, found.2, size);
-        }));
+        midway = (
+          m,
+          held.midway,
+          looks_there found.0 seen (record {
+            super = rw performed.done at found.1;
+            fits = omega (arith, found.2, size);
+          }),
+        );
       })) (λ bad. rw bad.2 (faulted_start least state bad.0 leaves (refusal least (surveyed_by held.midway reads) bad.0
       (super_cause least bad.0 (omega (arith, some, size)) performed.done seen.quiet (rw size at bad.1))))) finds
 
@@ -271,14 +274,17 @@ module _ {M : Type 0} (state : M → State) (sound : (m : M) → IsSound (state 
         faulted_start least state {got = got} f leaves (refusal least (surveyed_by held.midway.1 reads) f cause) in
         ⊎_elim (λ none. rw none.1 (refused fault.BadHead
         ((shape_of sizes, has, λ stamp is. none.0 stamp (rw same is)), seen.quiet)))
-        (λ found. ⊎_elim (λ small. rw small.1 (refused fault.LogTooSmall (record {
-          shape = shape_of sizes;
-          has = has;
-          head = found.0;
-          head_is = rw same at found.1;
-          one = small.0.0;
-          few = small.0.1;
-        }, seen.quiet)))
+        (λ found. ⊎_elim (λ small. rw small.1 (refused fault.LogTooSmall (
+          record {
+            shape = shape_of sizes;
+            has = has;
+            head = found.0;
+            head_is = rw same at found.1;
+            one = small.0.0;
+            few = small.0.1;
+          },
+          seen.quiet,
+        )))
         (λ goes. rw goes.3 (record {
           leaves = leaves;
           well = λ live. performed.passes.failures_are ∙ held.well tt;

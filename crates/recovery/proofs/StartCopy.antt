@@ -1,9 +1,9 @@
 -- The copies of a start, call by call, and what is home at their end.
-use Rattle.std.proofs.Common.{◌≡◌, ◌⊎◌, inl, inr, ◌∙◌, sym, refl, ⊎_elim, ℕ, ◌+◌, ◌*◌, ◌<◌, ◌≤◌, ◌^◌, List, [], length, get_or, arith, rules}
+use Rattle.std.proofs.Common.{◌≡◌, ◌∙◌, sym, refl, ⊎_elim, ℕ, ◌+◌, ◌*◌, ◌<◌, ◌≤◌, List, [], length, get_or, arith}
 use Rattle.std.proofs.Common.{Result, Ok, Err, false}
 use Rattle.medium.specs.Medium.{State, CutLeaves, IsSound}
-use Rattle.medium.specs.Moments.{LeavesOnly, EachCut}
-use Rattle.medium.specs.Performed.{Performed, fault_of}
+use Rattle.medium.specs.Moments.{LeavesOnly}
+use Rattle.medium.specs.Performed.{Performed}
 use Rattle.medium.specs.declared.medium_call.Call.{Call}
 use Rattle.medium.specs.declared.fault.MediumFault.{MediumFault}
 use Rattle.medium.proofs.Driving.{not_driven, driven_call, driven_refused}
@@ -11,7 +11,7 @@ use Rattle.medium.proofs.Tallies.{calls_most, sends_most}
 use Rattle.journal.specs.Places.{sectors_of, first_home, limit_of}
 use Rattle.journal.specs.Formats.{shape_of, IsWhole, HasWhole}
 use Rattle.journal.specs.Record.{Entry}
-use Rattle.recovery.specs.Calls.{Copies, AreCopied, IsHomeInRecords, freed_at, most_calls_of}
+use Rattle.recovery.specs.Calls.{Copies, IsHomeInRecords, freed_at, most_calls_of}
 use Rattle.recovery.specs.Copying.{HoldsCopied, IsCopyStep}
 use Rattle.recovery.specs.Recovered.{LeavesAtLeast}
 use Rattle.recovery.specs.Starting.{IsNewCopying, IsCopiedOn}
@@ -19,7 +19,6 @@ use Rattle.recovery.specs.HoldsStart.{HoldsStart, IsCopiedSoFar, TellsCopy, IsCo
 use Rattle.recovery.specs.declared.copying.Copying.{Copying}
 use Rattle.recovery.specs.declared.found.Found.{Found}
 use Rattle.recovery.specs.declared.start_stage.StartStage.{StartStage}
-use Rattle.recovery.specs.declared.start_stage.StartStage.TheVariants as stage
 use Rattle.recovery.proofs.JoinedCalls.{quiet_after}
 use Rattle.recovery.proofs.CopiedBlocks.{gathered, not_copied, all_copied}
 use Rattle.recovery.proofs.CopyTally.{most_copies, most_writes}

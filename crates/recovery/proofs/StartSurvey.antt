@@ -1,25 +1,23 @@
 -- The survey of a start, call by call, and what is found at its end.
-use Rattle.std.proofs.Common.{◌≡◌, ◌⊎◌, inl, inr, ◌∙◌, sym, refl, ⊎_elim, ℕ, ◌+◌, ◌*◌, ◌<◌, ◌≤◌, ◌^◌, List, [], length, min, arith, rules}
+use Rattle.std.proofs.Common.{◌≡◌, ◌∙◌, sym, refl, ⊎_elim, ℕ, ◌+◌, ◌<◌, ◌≤◌, ◌^◌, List, length, min, arith}
 use Rattle.std.proofs.Common.{Result, Ok, Err}
-use Rattle.medium.specs.Medium.{State, CutLeaves, IsSound}
-use Rattle.medium.specs.Moments.{IsQuiet, EachCut}
-use Rattle.medium.specs.Performed.{Performed, fault_of}
+use Rattle.medium.specs.Medium.{State, IsSound}
+use Rattle.medium.specs.Performed.{Performed}
 use Rattle.medium.specs.Machine.{Tallied}
 use Rattle.medium.specs.Tally.{Tally}
 use Rattle.medium.specs.declared.medium_call.Call.{Call}
 use Rattle.medium.specs.declared.fault.MediumFault.{MediumFault}
 use Rattle.medium.specs.declared.fault.MediumFault.TheVariants as medium
-use Rattle.medium.proofs.Driving.{not_driven, driven_call, driven_refused}
+use Rattle.medium.proofs.Driving.{driven_call, driven_refused}
 use Rattle.medium.proofs.Tallies.{calls_most, none_made}
-use Rattle.journal.specs.Places.{sectors_of, first_home}
+use Rattle.journal.specs.Places.{sectors_of}
 use Rattle.journal.specs.Formats.{shape_of}
-use Rattle.journal.specs.Standing.{IsCount}
 use Rattle.journal.specs.Reading.{MakesReadsAlone}
 use Rattle.journal.proofs.StandingLaws.{count_stands}
-use Rattle.recovery.specs.Causes.{SurveysAtMost, IsSurvey, AreCounts, AreTries, IsRefusalBy}
+use Rattle.recovery.specs.Causes.{SurveysAtMost, IsSurvey, AreCounts, AreTries}
 use Rattle.recovery.specs.Surveying.{HoldsSurveyed, IsSurveyStep}
 use Rattle.recovery.specs.Recovered.{LeavesAtLeast}
-use Rattle.recovery.specs.Starting.{IsNewSurvey, IsFoundOn, IsSurveyedOn, IsCopiedOn, found_by}
+use Rattle.recovery.specs.Starting.{IsNewSurvey, IsSurveyedOn, found_by}
 use Rattle.recovery.specs.HoldsStart.{HoldsStart, IsSurveyedSoFar, TellsSurvey, IsSurveying, HasSurveyed, LooksThere}
 use Rattle.recovery.specs.declared.surveying.Surveying.{Surveying}
 use Rattle.recovery.specs.declared.start_fault.StartFault.TheVariants as fault
@@ -103,13 +101,13 @@ module _ {M : Type 0} (state : M → State) (sound : (m : M) → IsSound (state 
           reads = survey_reads state at.so_far at.sizes head at.new at.looked;
           is = rw held_at_end.sizes_are at (let is : IsSurvey least (state at.mid).size (state at.mid).content (state at.mid).calls
               (state n).calls (record { sizes = at.sizes; head = head; count = length survey.waiting.items }) = record {
-            shape = at.looked.ok;
-            head = at.head_is;
-            count = both.0.is;
-            stamp_left = left;
-            room = at.room;
-            exact = both.1;
-          } in is);
+                shape = at.looked.ok;
+                head = at.head_is;
+                count = both.0.is;
+                stamp_left = left;
+                room = at.room;
+                exact = both.1;
+              } in is);
         }
 
     -- none is

@@ -1,6 +1,6 @@
 -- Each call of a start is one of those that are left, and leaves no more than the others.
-use Rattle.std.proofs.Common.{◌≡◌, ◌⊎◌, inl, inr, ⊎_elim, refl, ℕ, ◌+◌, ◌*◌, ◌≤◌, ◌<◌, ◌^◌, List, length, ap, arith, rules, mul-le-mul_left}
-use Rattle.medium.specs.Tally.{Tally, of_kind, of_all, one_more, none}
+use Rattle.std.proofs.Common.{◌≡◌, ⊎_elim, refl, ℕ, ◌+◌, ◌*◌, ◌≤◌, List, ap, arith, mul-le-mul_left}
+use Rattle.medium.specs.Tally.{Tally, of_kind, one_more, none}
 use Rattle.medium.specs.Machine.{IsLeft}
 use Rattle.medium.specs.declared.fault.MediumFault.{MediumFault}
 use Rattle.medium.specs.declared.fault.MediumFault.TheVariants.{Read, Write, Flush}
@@ -13,14 +13,13 @@ use Rattle.recovery.specs.Calls.{most_reads_of}
 use Rattle.recovery.specs.Surveying.{surveys_left}
 use Rattle.recovery.specs.Copying.{copies_left}
 use Rattle.recovery.specs.Starting.{both, head_calls, home_calls, all_calls, start_left, IsReadFirst, FindsSuper, FindsHead}
-use Rattle.recovery.specs.Starting.{IsCopiedOn, IsFoundOn, IsSurveyedOn, IsNewSurvey, IsNewCopying, found_by}
+use Rattle.recovery.specs.Starting.{IsCopiedOn, IsFoundOn, IsSurveyedOn}
 use Rattle.journal.specs.declared.reader.RecordReader.{RecordReader}
 use Rattle.recovery.specs.declared.copy_step.CopyStep.{CopyStep}
 use Rattle.recovery.specs.declared.copying.Copying.{Copying}
 use Rattle.recovery.specs.declared.surveying.Surveying.{Surveying}
 use Rattle.recovery.specs.declared.found.Found.{Found}
 use Rattle.recovery.specs.declared.start_stage.StartStage.{StartStage}
-use Rattle.recovery.specs.declared.start_stage.StartStage.TheVariants as stage
 
 -- no more of each kind
 pub few_left : {left rest : Tally} → left.reads ≤ rest.reads → left.writes ≤ rest.writes → left.flushes ≤ rest.flushes

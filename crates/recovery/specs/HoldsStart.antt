@@ -23,13 +23,17 @@ use Rattle.recovery.specs.Starting.{EndsStart, IsStarting, IsNewSurvey, IsNewCop
 use Rattle.recovery.specs.declared.copying.Copying.{Copying}
 use Rattle.recovery.specs.declared.surveying.Surveying.{Surveying}
 use Rattle.recovery.specs.declared.found.Found.{Found}
-use Rattle.recovery.specs.declared.start_fault.StartFault.{StartFault}
 use Rattle.recovery.specs.declared.start_stage.StartStage.{StartStage}
 use Rattle.recovery.specs.declared.start_stage.StartStage.TheVariants as stage
 
 -- A start's cuts: where every image is ours, one that is so for one of the arrays.
 abbrev pub MayStart : State → Image → Type 0
 MayStart old image = EachCut (IsOursForSome old.size) old → StandsForOneOf old image
+
+-- the medium when a start began that wants at least this many slots in a log of format 1
+pub record StartView (M : Type 0) : Type 0 where
+  pub start : M
+  pub least : ℕ
 
 -- the first flush was good
 pub record IsFlushedFirst (old mid : State) : Type 0 where

@@ -1,11 +1,10 @@
 -- What a start and a medium hold between two calls, which calls are left of it, and what is so at
 -- its end.
-use Rattle.std.specs.Prelude.{◌≡◌, ◌⊎◌, ℕ, ◌+◌, ◌*◌, ◌<◌, ◌≤◌, ◌^◌, List, [], length, get_or}
-use Rattle.std.specs.Prelude.{Result, Ok, IfOk, IfErr, OnOk, Bool, true, false}
-use Rattle.medium.specs.Medium.{State, CutLeaves, Only, Stays, Within, Passes, IsSound}
+use Rattle.std.specs.Prelude.{◌≡◌, ◌⊎◌, ℕ, ◌+◌, ◌*◌, ◌<◌, ◌≤◌, ◌^◌, List, [], length}
+use Rattle.std.specs.Prelude.{Result, IfOk, IfErr, OnOk, Bool, true, false}
+use Rattle.medium.specs.Medium.{State}
 use Rattle.medium.specs.Moments.{EachCut}
 use Rattle.medium.specs.Tally.{Tally, none}
-use Rattle.medium.specs.Machine.{Driven}
 use Rattle.medium.specs.declared.fault.MediumFault.{MediumFault}
 use Rattle.medium.specs.declared.fault.MediumFault.TheVariants as medium
 use Rattle.spec.specs.Blocks.{Array}
@@ -14,19 +13,17 @@ use Rattle.journal.specs.declared.log_format.LogFormat.TheVariants.{One, Two}
 use Rattle.journal.specs.declared.super_sector.Super.{Super}
 use Rattle.journal.specs.declared.naming_stage.NamingStage.{NamingStage}
 use Rattle.journal.specs.declared.naming_stage.NamingStage.TheVariants.{Named}
-use Rattle.journal.specs.Places.{Shape, first_home, sectors_of, limit_of}
-use Rattle.journal.specs.Formats.{shape_of, IsWhole}
+use Rattle.journal.specs.Places.{Shape, sectors_of, limit_of}
+use Rattle.journal.specs.Formats.{shape_of}
 use Rattle.journal.specs.Naming.{IsUnread}
-use Rattle.journal.specs.Record.{Entry}
 use Rattle.journal.specs.Reading.{record_reads_of}
 use Rattle.journal.specs.Sectors.{IsSuper, IsHead}
-use Rattle.journal.specs.Standing.{HasShape, IsOurs}
-use Rattle.recovery.specs.Calls.{most_reads_of, IsHomeInRecords, freed_at, Copies, AreCopied}
-use Rattle.recovery.specs.Calls.{most_calls_of, HasNewHead, Writes}
-use Rattle.recovery.specs.Causes.{LooksAtFirst, SurveysAtMost, IsSurvey, IsSuperCause}
-use Rattle.recovery.specs.Causes.{HasFewSlots, IsRefusalBy, WritesNothing, start_fault_of}
-use Rattle.recovery.specs.Copying.{CopyView, HoldsCopied, copies_left, IsCopyStep}
-use Rattle.recovery.specs.Surveying.{SurveyView, HoldsSurveyed, surveys_left, IsSurveyStep}
+use Rattle.journal.specs.Standing.{IsOurs}
+use Rattle.recovery.specs.Calls.{most_reads_of}
+use Rattle.recovery.specs.Causes.{IsSuperCause}
+use Rattle.recovery.specs.Causes.{HasFewSlots, IsRefusalBy, WritesNothing}
+use Rattle.recovery.specs.Copying.{copies_left, IsCopyStep}
+use Rattle.recovery.specs.Surveying.{surveys_left, IsSurveyStep}
 use Rattle.recovery.specs.Recovered.{LeavesAtLeast, IsRecoveredFrom, IsFresh}
 use Rattle.recovery.specs.declared.copying.Copying.{Copying}
 use Rattle.recovery.specs.declared.surveying.Surveying.{Surveying}

@@ -2,7 +2,6 @@
 #![tactic(auto)]
 
 mod clearing;
-mod copies;
 mod copy_step;
 mod copying;
 mod format_fault;

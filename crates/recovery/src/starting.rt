@@ -1,12 +1,13 @@
 //! A start, call by call.
 ghost use Rattle.std.specs.Prelude.{◌≡◌, ◌<◌, ℕ, List, Ok, Err};
+ghost use Rattle.std.proofs.Math.Nat.{le_refl};
 ghost use Rattle.medium.specs.Tally.{none};
 ghost use Rattle.medium.proofs.Moments.{at_exit};
 ghost use Rattle.journal.specs.Sectors.{IsHead};
 ghost use Rattle.recovery.specs.Causes.{start_fault_of};
 ghost use Rattle.recovery.specs.Starting.{EndsStart, IsStarting, start_left, CanStart, IsStartStep};
 ghost use Rattle.recovery.specs.Starting.{start_kind};
-ghost use Rattle.recovery.specs.HoldsStart.{HoldsStart, MayStart};
+ghost use Rattle.recovery.specs.HoldsStart.{HoldsStart, StartView, MayStart};
 ghost use Rattle.recovery.specs.declared.start_stage.StartStage.TheVariants.{Refused};
 
 use crate::start_stage::StartStage;
@@ -58,9 +59,9 @@ impl Starting {
     /// Those of `recover`.
     pub fn end<M: Medium>(self) -> Result<Recovered, StartFault>
         requires { start_left self.stage ≡ none }
-        ensures { (start m : M) (had : List ℕ)
-            → HoldsStart M.state self.least self.stage had start m
-            → EndsStart self.least (M.state start) (M.state m) result }
+        ensures { (least : ℕ) (start m : M) (had : List ℕ)
+            → HoldsStart M.state least self.stage had start m
+            → EndsStart least (M.state start) (M.state m) result }
     {
         match self.stage {
             StartStage::Started(answer) => Ok(answer),
@@ -71,13 +72,14 @@ impl Starting {
 }
 
 impl<M: Medium> Machine<M> for Starting {
-    ghost View = { M };
+    ghost View = { StartView M };
 
     ghost fits = { λ s size. s.sectors ≡ size };
 
-    ghost holds = { λ s had m start. HoldsStart M.state s.least s.stage had start m };
+    ghost holds = { λ s had m view. (s.least ≡ view.least)
+        × HoldsStart M.state view.least s.stage had view.start m };
 
-    ghost may = { λ start image. MayStart (M.state start) image };
+    ghost may = { λ view image. MayStart (M.state view.start) image };
 
     ghost reads = { λ s. s.sectors };
 
@@ -142,14 +144,14 @@ impl<M: Medium> Machine<M> for Starting {
         self.stage = StartStage::Refused(StartFault::from(self.stage.kind()));
     }
 
-    ghost leaves = { λ s had m start holds image cut each. at_exit _ (M.state start) (M.state m)
-        (M.sound m) (holds.leaves.cuts each) image cut };
+    ghost leaves = { λ s had m view holds image cut each. at_exit _ (M.state view.start)
+        (M.state m) (M.sound m) (holds.1.leaves.cuts each) image cut };
 
-    ghost room = { λ s size fits. fits };
+    ghost room = { λ s size fits. rw fits (le_refl size) };
 
     ghost goes_on = { λ s t got due after. record {
       reads_stay = after.0;
       ends_stay = after.0;
-      fits_still = λ size fits. fits;
+      fits_still = λ size fits. rw after.0 fits;
     } };
 }

@@ -1,4 +1,4 @@
-use Rattle.std.proofs.Common.{◌≡◌, ◌≤◌, inl, inr, ⊎_elim, refl, arith, rules, ℕ}
+use Rattle.std.proofs.Common.{◌≤◌, inl, inr, ⊎_elim, refl, arith, rules, ℕ}
 use Rattle.journal.specs.Places.{sectors_of}
 use Rattle.journal.specs.Formats.{shape_of}
 use Rattle.recovery.specs.Starting.{CanStart, IsFoundOn}

@@ -1,4 +1,4 @@
-use Rattle.std.proofs.Common.{◌≡◌, ◌<◌, ◌≤◌, ◌+◌, ◌∙◌, ℕ, ap, refl, arith, rules, Option, Some, None, MatchOption, IfSome}
+use Rattle.std.proofs.Common.{◌<◌, ◌≤◌, ◌+◌, ◌∙◌, ℕ, ap, refl, arith, Option, Some, None, MatchOption, IfSome}
 use Rattle.medium.specs.Tally.{Tally, none}
 use Rattle.medium.specs.Performed.{IsWithin, ReadsBefore, fault_of}
 use Rattle.medium.specs.declared.medium_call.Call.{Call}
@@ -27,12 +27,14 @@ returns-in-FlushFirst g c =
       due = rw is tt;
       within = tt;
       looks = tt;
-      made = λ m n got start next fits held performed after.
-          rw (after.1) (first_made g.M.Medium.state sound c.args.self.now.least (fits) (rw is at held) performed (rw is at after.2));
-      refused = λ m n got start next e fits held performed gone.
-          let h = rw is at held in
-          rw (gone.1, gone.2, is) (refused_start c.args.self.now.least g.M.Medium.state h performed
-          (flushed_first g.M.Medium.state sound c.args.self.now.least h performed));
+      made = λ m n got view next fits held performed after.
+          (after.1 ∙ held.0, first_made g.M.Medium.state sound view.least fits (rw is at held.1) performed (rw is at after.2));
+      refused = λ m n got view next e fits held performed gone.
+          let h = rw is at held.1 in (
+            gone.1 ∙ held.0,
+            rw (gone.2, is) (refused_start view.least g.M.Medium.state h performed
+                (flushed_first g.M.Medium.state sound view.least h performed)),
+          );
       rest = all_calls 2 Two 64;
       pays = rw is refl;
       rests = λ got next after. first_left (rw is at after.2);
@@ -47,12 +49,14 @@ returns-in-ReadSuper g c =
       due = rw is tt;
       within = some;
       looks = some;
-      made = λ m n got start next fits held performed after.
-          rw (after.1) (super_made g.M.Medium.state g.met.M.Medium.sound s.least fits some (rw is at held) performed (rw is at after.2));
-      refused = λ m n got start next e fits held performed gone.
-          let h = rw is at held in
-          rw (gone.1, gone.2, is) (refused_start s.least g.M.Medium.state h performed
-          (super_leaves g.M.Medium.state g.met.M.Medium.sound s.least h performed));
+      made = λ m n got view next fits held performed after.
+          (after.1 ∙ held.0, super_made g.M.Medium.state g.met.M.Medium.sound view.least fits some (rw is at held.1) performed (rw is at after.2));
+      refused = λ m n got view next e fits held performed gone.
+          let h = rw is at held.1 in (
+            gone.1 ∙ held.0,
+            rw (gone.2, is) (refused_start view.least g.M.Medium.state h performed
+                (super_leaves g.M.Medium.state g.met.M.Medium.sound view.least h performed)),
+          );
       rest = all_calls 1 Two 64;
       pays = rw is refl;
       rests = λ got next after. super_left (rw is at after.2);
@@ -69,12 +73,14 @@ returns-in-ReadHead g c =
       due = rw is tt;
       within = some;
       looks = some;
-      made = λ m n got start next fits held performed after.
-          rw (after.1) (head_made g.M.Medium.state g.met.M.Medium.sound s.least (rw is at held) performed (rw is at after.2));
-      refused = λ m n got start next e fits held performed gone.
-          let h = rw is at held in
-          rw (gone.1, gone.2, is) (refused_start s.least g.M.Medium.state h performed
-          (head_leaves g.M.Medium.state g.met.M.Medium.sound s.least h performed));
+      made = λ m n got view next fits held performed after.
+          (after.1 ∙ held.0, head_made g.M.Medium.state g.met.M.Medium.sound view.least (rw is at held.1) performed (rw (is, held.0) at after.2));
+      refused = λ m n got view next e fits held performed gone.
+          let h = rw is at held.1 in (
+            gone.1 ∙ held.0,
+            rw (gone.2, is) (refused_start view.least g.M.Medium.state h performed
+                (head_leaves g.M.Medium.state g.met.M.Medium.sound view.least h performed)),
+          );
       rest = all_calls 0 sizes.format sizes.slots;
       pays = rw is (all_more 0 sizes.format sizes.slots);
       rests = λ got next after. head_left (rw is at after.2);
@@ -117,15 +123,17 @@ returns-in-Survey g c =
       due = rw is tt;
       within = within_more (sectors_of (shape_of survey.reader.sizes)) s.sectors can.fits call tells.within;
       looks = reads_more (first_home (shape_of survey.reader.sizes)) s.sectors (omega (arith, can.fits)) call tells.looks;
-      made = λ m n got start next fits held performed after.
+      made = λ m n got view next fits held performed after.
           let step = rw is at after.2 in
-          let h = rw is at held in
-          rw after.1 (survey_made g.M.Medium.state g.met.M.Medium.sound s.least h.midway tells (h.well tt) performed step.1 step.2);
-      refused = λ m n got start next e fits held performed gone.
-          let h = rw is at held in
-          let kind = reads_only tells.rest (fault_of call) tells.pays in
-          rw (gone.1, gone.2, is) (rw kind at (refused_start s.least g.M.Medium.state h performed
-          (survey_refused g.M.Medium.state g.met.M.Medium.sound s.least h.midway tells performed)));
+          let h = rw is at held.1 in
+          (after.1 ∙ held.0, survey_made g.M.Medium.state g.met.M.Medium.sound view.least h.midway tells (h.well tt) performed step.1 step.2);
+      refused = λ m n got view next e fits held performed gone.
+          let h = rw is at held.1 in
+          let kind = reads_only tells.rest (fault_of call) tells.pays in (
+            gone.1 ∙ held.0,
+            rw (gone.2, is) (rw kind at (refused_start view.least g.M.Medium.state h performed
+                (survey_refused g.M.Medium.state g.met.M.Medium.sound view.least h.midway tells performed))),
+          );
       rest = both tells.rest others;
       pays = rw is (ap (λ (t : Tally). both t others) tells.pays ∙ both_more tells.rest others (fault_of call));
       rests = λ got next after.
@@ -146,14 +154,16 @@ returns-in-Copy g c =
       due = rw is tt;
       within = within_more (sectors_of (shape_of copying.reader.sizes)) s.sectors fits_here call tells.0.within;
       looks = reads_more (first_home (shape_of copying.reader.sizes)) s.sectors (omega (arith, fits_here)) call tells.0.looks;
-      made = λ m n got start next fits held performed after.
+      made = λ m n got view next fits held performed after.
           let step = rw is at after.2 in
-          let h = rw is at held in
-          rw after.1 (copy_made g.M.Medium.state g.met.M.Medium.sound s.least h.midway tells.0 (h.well tt) performed step.1 step.2);
-      refused = λ m n got start next e fits held performed gone.
-          let h = rw is at held in
-          rw (gone.1, gone.2, is) (rw tells.1 at (refused_start s.least g.M.Medium.state h performed
-          (copy_refused g.M.Medium.state g.met.M.Medium.sound s.least h.midway tells.0 performed)));
+          let h = rw is at held.1 in
+          (after.1 ∙ held.0, copy_made g.M.Medium.state g.met.M.Medium.sound view.least h.midway tells.0 (h.well tt) performed step.1 step.2);
+      refused = λ m n got view next e fits held performed gone.
+          let h = rw is at held.1 in (
+            gone.1 ∙ held.0,
+            rw (gone.2, is) (rw tells.1 at (refused_start view.least g.M.Medium.state h performed
+                (copy_refused g.M.Medium.state g.met.M.Medium.sound view.least h.midway tells.0 performed))),
+          );
       rest = both tells.0.rest head_calls;
       pays = rw is (ap (λ (t : Tally). both t head_calls) tells.0.pays ∙ both_more tells.0.rest head_calls (fault_of call));
       rests = λ got next after.
@@ -170,13 +180,14 @@ returns-in-FlushCopies g c =
       due = rw is tt;
       within = tt;
       looks = tt;
-      made = λ m n got start next fits held performed after.
-          rw (after.1, rw is at after.2)
-          (copies_flush_made g.M.Medium.state g.met.M.Medium.sound s.least (rw is at held) performed);
-      refused = λ m n got start next e fits held performed gone.
-          let h = rw is at held in
-          rw (gone.1, gone.2, is) (refused_start s.least g.M.Medium.state h performed
-          (copies_flush_leaves g.M.Medium.state g.met.M.Medium.sound s.least h performed));
+      made = λ m n got view next fits held performed after.
+          (after.1 ∙ held.0, rw (rw is at after.2) (copies_flush_made g.M.Medium.state g.met.M.Medium.sound view.least (rw is at held.1) performed));
+      refused = λ m n got view next e fits held performed gone.
+          let h = rw is at held.1 in (
+            gone.1 ∙ held.0,
+            rw (gone.2, is) (refused_start view.least g.M.Medium.state h performed
+                (copies_flush_leaves g.M.Medium.state g.met.M.Medium.sound view.least h performed)),
+          );
       rest = record { reads = 0; writes = 1; flushes = 1 };
       pays = rw is refl;
       rests = λ got next after. few_left (rw (rw is at after.2) (omega arith)) (rw (rw is at after.2) (omega arith))
@@ -196,13 +207,14 @@ returns-in-WriteHead g c =
       due = rw is tt;
       within = some;
       looks = tt;
-      made = λ m n got start next fits held performed after.
-          rw (after.1, rw is at after.2)
-          (head_write_made g.M.Medium.state g.met.M.Medium.sound s.least (rw is at held) head performed);
-      refused = λ m n got start next e fits held performed gone.
-          let h = rw is at held in
-          rw (gone.1, gone.2, is) (refused_start s.least g.M.Medium.state h performed
-          (head_write_leaves g.M.Medium.state g.met.M.Medium.sound s.least h head performed));
+      made = λ m n got view next fits held performed after.
+          (after.1 ∙ held.0, rw (rw is at after.2) (head_write_made g.M.Medium.state g.met.M.Medium.sound view.least (rw is at held.1) head performed));
+      refused = λ m n got view next e fits held performed gone.
+          let h = rw is at held.1 in (
+            gone.1 ∙ held.0,
+            rw (gone.2, is) (refused_start view.least g.M.Medium.state h performed
+                (head_write_leaves g.M.Medium.state g.met.M.Medium.sound view.least h head performed)),
+          );
       rest = record { reads = 0; writes = 0; flushes = 1 };
       pays = rw is refl;
       rests = λ got next after. few_left (rw (rw is at after.2) (omega arith)) (rw (rw is at after.2) (omega arith))
@@ -218,13 +230,14 @@ returns-in-FlushHead g c =
       due = rw is tt;
       within = tt;
       looks = tt;
-      made = λ m n got start next fits held performed after.
-          rw (after.1, rw is at after.2)
-          (head_flush_made g.M.Medium.state g.met.M.Medium.sound s.least (rw is at held) performed);
-      refused = λ m n got start next e fits held performed gone.
-          let h = rw is at held in
-          rw (gone.1, gone.2, is) (refused_start s.least g.M.Medium.state h performed
-          (head_flush_leaves g.M.Medium.state g.met.M.Medium.sound s.least h performed));
+      made = λ m n got view next fits held performed after.
+          (after.1 ∙ held.0, rw (rw is at after.2) (head_flush_made g.M.Medium.state g.met.M.Medium.sound view.least (rw is at held.1) performed));
+      refused = λ m n got view next e fits held performed gone.
+          let h = rw is at held.1 in (
+            gone.1 ∙ held.0,
+            rw (gone.2, is) (refused_start view.least g.M.Medium.state h performed
+                (head_flush_leaves g.M.Medium.state g.met.M.Medium.sound view.least h performed)),
+          );
       rest = none;
       pays = rw is refl;
       rests = λ got next after. rw (rw is at after.2) none_left_of;
