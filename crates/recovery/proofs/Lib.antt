@@ -10,6 +10,7 @@ pub mod SurveyedRecords
 pub mod SurveyTally
 pub mod StartBegins
 pub mod StartTally
+pub mod StartTold
 pub mod StartSurvey
 pub mod StartCopy
 pub mod StartHead

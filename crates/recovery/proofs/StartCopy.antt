@@ -123,8 +123,8 @@ module _ {M : Type 0} (state : M → State) (sound : (m : M) → IsSound (state 
           first = at.first;
           first_had = at.first_had;
           new = at.new;
-          so_far = driven_call (λ s had m view holds image cut x. holds.within x (image x) (cut x)) fits_first at.so_far tells performed refl
-              after step (λ a b bytes due moved. record {
+          so_far = driven_call (λ s had m view holds image cut x. holds.within x (image x) (cut x)) fits_first at.so_far tells performed
+              refl after step (λ a b bytes due moved. record {
                 reads_stay = rw moved.sizes_stay refl;
                 ends_stay = rw moved.sizes_stay refl;
                 fits_still = λ size fits. rw moved.sizes_stay fits;

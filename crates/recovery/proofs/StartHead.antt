@@ -81,8 +81,9 @@ module _ {M : Type 0} (state : M → State) (sound : (m : M) → IsSound (state 
         writes_on {X = Unit {0}} {Y = Unit {0}} {Z = Unit {0}} {one = Ok tt} {two = Ok tt} {result = Ok tt} at.moves last (omega arith) tt
         (omega (arith, at.moves.exact, last.exact))
 
-    pub head_write_leaves : {had : List ℕ} → HoldsStart state least (stage.WriteHead found) had start m → IsHead (found.head + found.count + 1) bytes
-        → Performed (Write 1) bytes got result (state m) (state n) → LeavesAtLeast least (state start) (state n)
+    pub head_write_leaves : {had : List ℕ} → HoldsStart state least (stage.WriteHead found) had start m
+        → IsHead (found.head + found.count + 1) bytes → Performed (Write 1) bytes got result (state m) (state n)
+        → LeavesAtLeast least (state start) (state n)
     head_write_leaves held head performed =
         moved_leave (omega arith) held.midway.has (head_written held.midway head performed)
 

@@ -130,7 +130,8 @@ module _ {M : Type 0} (state : M → State) (sound : (m : M) → IsSound (state 
     -- a call of it is made
     pub survey_made : {n : M} {got : List ℕ} {after : Surveying} {next : StartStage} → (state m).failures ≡ (state start).failures
         → Performed call bytes got (Ok tt) (state m) (state n)
-        → IsSurveyStep survey.reader survey.left survey.place survey.waiting.items got after.reader after.left after.place after.waiting.items
+        → IsSurveyStep survey.reader survey.left survey.place survey.waiting.items got after.reader after.left after.place
+        after.waiting.items
         → IsSurveyedOn head after next → HoldsStart state least next got start n
     survey_made {n = n} {got = got} {after = after} well performed step goes =
         let now : IsSurveying state least head after got start n = record {

@@ -60,7 +60,8 @@ all_most One slots first few = (omega (arith, few), omega (arith, few))
 all_most Two slots first few = (omega (arith, few), omega (arith, few))
 
 -- one read of those
-pub all_more : (first : ℕ) (format : LogFormat) (slots : ℕ) → all_calls (first + 1) format slots ≡ one_more (all_calls first format slots) Read
+pub all_more : (first : ℕ) (format : LogFormat) (slots : ℕ)
+    → all_calls (first + 1) format slots ≡ one_more (all_calls first format slots) Read
 all_more first format slots = ap (λ (n : ℕ). record (all_calls first format slots) { reads = n }) (omega arith)
 
 -- a survey reads alone
@@ -111,7 +112,8 @@ found_left {found = found} {slots = slots} few goes = ⊎_elim (λ past. rw past
     (omega (arith, more.most Write, most.1, mul-le-mul_left (limit_of found.sizes.format) few)) (omega (arith, more.most Flush))) goes
 
 -- the survey goes on, or the records are found
-pub surveyed_left : {head : ℕ} {survey : Surveying} {next : StartStage} → IsSurveyedOn head survey next → IsLeft ⊥ (start_left next) (both (surveys_left survey.reader survey.left survey.place)
+pub surveyed_left : {head : ℕ} {survey : Surveying} {next : StartStage} → IsSurveyedOn head survey next
+    → IsLeft ⊥ (start_left next) (both (surveys_left survey.reader survey.left survey.place)
     (home_calls survey.reader.sizes.format survey.reader.sizes.slots))
 surveyed_left {survey = survey} goes = ⊎_elim (λ some. rw some.1 (few_left (omega arith) (omega arith) (omega arith)))
     (λ none. let more = found_left {slots = survey.reader.sizes.slots} (omega (arith, survey.goes.room)) none.1 in

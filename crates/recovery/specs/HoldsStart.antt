@@ -1,5 +1,6 @@
 -- What a start and a medium hold between two calls.
-use Rattle.std.specs.Prelude.{◌≡◌, ◌⊎◌, ℕ, ◌+◌, ◌*◌, ◌<◌, ◌≤◌, List, length, get_or, [], Result, Ok, Err}
+use Rattle.std.specs.Prelude.{◌≡◌, ◌⊎◌, ℕ, ◌+◌, ◌*◌, ◌<◌, ◌≤◌, List, length, get_or, []}
+use Rattle.std.specs.Prelude.{Result, Ok, Err}
 use Rattle.medium.specs.Medium.{State, Image, CutLeaves, Only, Stays, Within, Passes, IsSound}
 use Rattle.medium.specs.Moments.{EachCut}
 use Rattle.medium.specs.Machine.{Driven, TellsCall}

@@ -171,7 +171,8 @@ IsSmall least sizes = (sizes.format ≡ One) × (sizes.slots < least)
 abbrev pub FindsHead : ℕ → Super → List ℕ → StartStage → Type 0
 FindsHead least sizes got next =
     (((stamp : ℕ) → ¬ IsHead stamp got) × (next ≡ stage.Refused fault.BadHead))
-    ⊎ ((head : ℕ) × IsHead head got × ((IsSmall least sizes × (next ≡ stage.Refused fault.LogTooSmall))
+    ⊎ ((head : ℕ) × IsHead head got
+    × ((IsSmall least sizes × (next ≡ stage.Refused fault.LogTooSmall))
     ⊎ ((¬ IsSmall least sizes) × (survey : Surveying) × IsNewSurvey sizes head survey
     × (next ≡ stage.Survey head survey))))
 

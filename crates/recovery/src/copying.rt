@@ -62,18 +62,6 @@ impl Copying {
 impl Copying {
     ghost use Rattle.recovery.specs.Starting.{copy_kind};
 
-    /// The next call was made, which left these bytes in the lent sector.
-    pub(crate) fn go_on(&mut self, sector: &[u8; 512])
-        requires { 0 < self.old.step.left }
-        ensures { IsCopyStep self.old.reader self.old.step sector.now self.new.reader
-            self.new.step }
-    {
-        match self.reader.next() {
-            Some(_) => self.take(sector),
-            None => self.block_on(),
-        }
-    }
-
     /// The kind of the next call.
     pub(crate) fn kind(&self) -> MediumFault
         ensures { result ≡ copy_kind self.now }
@@ -160,7 +148,10 @@ impl<M: Medium> Machine<M> for Copying {
     }
 
     fn made(&mut self, sector: &[u8; 512]) {
-        self.go_on(sector);
+        match self.reader.next() {
+            Some(_) => self.take(sector),
+            None => self.block_on(),
+        }
     }
 
     fn refused(&mut self) {

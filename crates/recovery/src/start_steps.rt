@@ -1,8 +1,7 @@
 //! What a start does behind each of its calls.
 ghost use Rattle.std.specs.Prelude.{◌≡◌, ◌<◌, ◌+◌, ◌^◌, ◌⊎◌};
-ghost use Rattle.journal.specs.Formats.{shape_of};
-ghost use Rattle.recovery.specs.Starting.{FindsSuper, FindsHead, IsFoundOn, IsNewSurvey};
-ghost use Rattle.recovery.specs.Starting.{IsNewCopying, found_by, start_kind, IsReadFirst};
+ghost use Rattle.recovery.specs.Starting.{IsReadFirst, FindsSuper, FindsHead, IsFoundOn, found_by};
+ghost use Rattle.recovery.specs.Starting.{IsNewCopying};
 
 use crate::copying::{Copying, first_step};
 use crate::found::Found;
@@ -44,24 +43,17 @@ pub(crate) fn behind_head(sector: &[u8; 512], sizes: &Super, least: u64) -> Star
     if has_few_slots(sizes, least) {
         return StartStage::Refused(StartFault::LogTooSmall);
     }
-    StartStage::Survey(head.stamp, new_survey(sizes, head.stamp))
-}
-
-/// A survey of the records from this stamp on.
-pub(crate) fn new_survey(sizes: &Super, head: u64) -> Surveying
-    requires { head < 2 ^ 63 }
-    ensures { IsNewSurvey sizes.now head result }
-{
-    Surveying {
-        reader: RecordReader::new(sizes, head),
+    let survey = Surveying {
+        reader: RecordReader::new(sizes, head.stamp),
         left: sizes.slots,
         place: 0,
         waiting: ArrayVec::new(),
-    }
+    };
+    StartStage::Survey(head.stamp, survey)
 }
 
-/// A copying of these records.
-pub(crate) fn new_copying(found: &Found) -> Copying
+// A copying of these records.
+fn new_copying(found: &Found) -> Copying
     requires { found.now.head + found.now.count < 2 ^ 63 }
     ensures { IsNewCopying found.now result }
 {

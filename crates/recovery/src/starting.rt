@@ -121,13 +121,13 @@ impl<M: Medium> Machine<M> for Starting {
             StartStage::ReadSuper => self.stage = behind_super(sector, self.sectors),
             StartStage::ReadHead(sizes) => self.stage = behind_head(sector, sizes, self.least),
             StartStage::Survey(head, survey) => {
-                survey.take_sector(sector);
+                Machine::<M>::made(survey, sector);
                 if survey.left == 0 {
                     self.stage = behind_survey(*head, survey);
                 }
             }
             StartStage::Copy(found, copying) => {
-                copying.go_on(sector);
+                Machine::<M>::made(copying, sector);
                 if copying.step.left == 0 {
                     self.stage = StartStage::FlushCopies(*found);
                 }

@@ -1,11 +1,11 @@
 //! What recovery reads before its first write.
-ghost use Rattle.std.specs.Prelude.{◌≡◌, ◌<◌, ◌≤◌, ◌↔◌, IfOk, IfErr, IsTrue};
-ghost use Rattle.journal.specs.declared.log_format.LogFormat.TheVariants.{One};
+ghost use Rattle.std.specs.Prelude.{◌≡◌, ◌≤◌, ◌↔◌, IfOk, IfErr, IsTrue};
 ghost use Rattle.journal.specs.Places.{sectors_of};
 ghost use Rattle.journal.specs.Formats.{shape_of};
 ghost use Rattle.journal.specs.Standing.{HasShape};
 ghost use Rattle.journal.specs.Sectors.{IsSuper, IsHead};
 ghost use Rattle.recovery.specs.Causes.{IsSuperCause, LooksAtFirst};
+ghost use Rattle.recovery.specs.Starting.{IsSmall};
 
 use crate::StartFault;
 use journal::{Head, Super, SuperFault};
@@ -63,7 +63,7 @@ pub(crate) fn sizes_in(sector: &[u8; 512], sectors: u64) -> Result<Super, StartF
 
 // Whether the log is of format 1 and has fewer slots than these.
 pub(crate) fn has_few_slots(sizes: &Super, least: u64) -> bool
-    ensures { IsTrue result ↔ ((sizes.now.format ≡ One) × (sizes.now.slots < least)) }
+    ensures { IsTrue result ↔ IsSmall least sizes.now }
 {
     sizes.format.migrates() && sizes.slots < least
 }

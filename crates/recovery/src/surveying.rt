@@ -72,20 +72,6 @@ impl Surveying {
     }
 }
 
-impl Surveying {
-    /// The next sector was read.
-    pub(crate) fn take_sector(&mut self, sector: &[u8; 512])
-        requires { 0 < self.old.left }
-        ensures { IsSurveyStep self.old.reader self.old.left self.old.place self.old.waiting.items
-            sector.now self.new.reader self.new.left self.new.place self.new.waiting.items }
-    {
-        match self.reader.next() {
-            Some(_) => self.take(sector),
-            None => self.place_on(sector),
-        }
-    }
-}
-
 impl<M: Medium> Machine<M> for Surveying {
     ghost View = { SurveyView M };
 
@@ -125,7 +111,10 @@ impl<M: Medium> Machine<M> for Surveying {
     }
 
     fn made(&mut self, sector: &[u8; 512]) {
-        self.take_sector(sector);
+        match self.reader.next() {
+            Some(_) => self.take(sector),
+            None => self.place_on(sector),
+        }
     }
 
     fn refused(&mut self) {}

@@ -45,14 +45,7 @@ pub end-requires : goal.end-requires
 end-requires g c = at_end _ c.drive.new.machine.stage c.drive.result c.drive.ensures.driven.tallied c.drive.ensures.done
     (held g (goal.at.end-requires g c).After-drive).well
 
-pub returns-clause-ok : goal.returns-clause-ok
-returns-clause-ok g c = (c.end.ensures c.args.least c.args.m.now c.drive.new.m _ (held g (goal.at.returns-clause-ok g c).After-drive)).ok
-
-pub returns-clause-fresh : goal.returns-clause-fresh
-returns-clause-fresh g c = (c.end.ensures c.args.least c.args.m.now c.drive.new.m _ (held g (goal.at.returns-clause-fresh g c).After-drive)).fresh
-
-pub returns-clause-err : goal.returns-clause-err
-returns-clause-err g c = (c.end.ensures c.args.least c.args.m.now c.drive.new.m _ (held g (goal.at.returns-clause-err g c).After-drive)).err
-
-pub returns-clause-leaves : goal.returns-clause-leaves
-returns-clause-leaves g c = (c.end.ensures c.args.least c.args.m.now c.drive.new.m _ (held g (goal.at.returns-clause-leaves g c).After-drive)).leaves
+pub returns : goal.returns
+returns g c =
+    let ends = c.end.ensures c.args.least c.args.m.now c.drive.new.m _ (held g (goal.at.returns g c).After-drive) in
+    record { ok = ends.ok; fresh = ends.fresh; err = ends.err; leaves = ends.leaves; follows = c.drive.ensures.follows }

@@ -18,7 +18,7 @@ invariant_of-self-then-survey-eq0 g c =
     let s = c.args.self.now in
     let can = s.goes.survey c.in-Survey.head c.in-Survey.survey c.in-Survey.is in
     record {
-      goes = found_fits s.sectors _ c.behind_survey-self.result (rw c.take_sector.ensures.sizes_stay can.fits) c.behind_survey-self.ensures;
+      goes = found_fits s.sectors _ c.behind_survey-self.result (rw c.made.ensures.sizes_stay can.fits) c.behind_survey-self.ensures;
     }
 
 pub returns-then-survey-eq0 : goal.returns-then-survey-eq0
@@ -26,26 +26,26 @@ returns-then-survey-eq0 g c = (
   refl,
   refl,
   rw c.in-Survey.is
-      (c.take_sector.new.self, c.take_sector.ensures, inr (c.if-survey-eq0.true, c.behind_survey-self.ensures)),
+      (c.made.new.self, c.made.ensures, inr (c.if-survey-eq0.true, c.behind_survey-self.ensures)),
 )
 
 pub returns-else-survey-eq0 : goal.returns-else-survey-eq0
 returns-else-survey-eq0 g c = (
   refl,
   refl,
-  rw c.in-Survey.is (c.take_sector.new.self, c.take_sector.ensures, inl (omega (arith, c.if-survey-eq0.false), refl)),
+  rw c.in-Survey.is (c.made.new.self, c.made.ensures, inl (omega (arith, c.if-survey-eq0.false), refl)),
 )
 
 pub returns-then-copying-eq0 : goal.returns-then-copying-eq0
 returns-then-copying-eq0 g c = (
   refl,
   refl,
-  rw c.in-Copy.is (c.go_on.new.self, c.go_on.ensures, inr (c.if-copying-eq0.true, refl)),
+  rw c.in-Copy.is (c.made-in-Copy.new.self, c.made-in-Copy.ensures, inr (c.if-copying-eq0.true, refl)),
 )
 
 pub returns-else-copying-eq0 : goal.returns-else-copying-eq0
 returns-else-copying-eq0 g c = (
   refl,
   refl,
-  rw c.in-Copy.is (c.go_on.new.self, c.go_on.ensures, inl (omega (arith, c.if-copying-eq0.false), refl)),
+  rw c.in-Copy.is (c.made-in-Copy.new.self, c.made-in-Copy.ensures, inl (omega (arith, c.if-copying-eq0.false), refl)),
 )

@@ -1,0 +1,63 @@
+-- What a start tells at a stage, from what a call does there.
+use Rattle.std.proofs.Common.{◌≡◌, ◌∙◌, ℕ, List, Ok, Err, Option, Some, None, MatchOption, IfSome}
+use Rattle.medium.specs.Medium.{State}
+use Rattle.medium.specs.Tally.{Tally, one_more}
+use Rattle.medium.specs.Machine.{TellsCall, IsLeft}
+use Rattle.medium.specs.Performed.{IsWithin, ReadsBefore, Performed, fault_of}
+use Rattle.medium.specs.declared.fault.MediumFault.{MediumFault}
+use Rattle.medium.specs.declared.medium_call.Call.{Call}
+use Rattle.recovery.specs.Causes.{start_fault_of}
+use Rattle.recovery.specs.Recovered.{LeavesAtLeast}
+use Rattle.recovery.specs.Starting.{IsStarting, IsStartStep, start_left, start_kind}
+use Rattle.recovery.specs.HoldsStart.{HoldsStart, StartView}
+use Rattle.recovery.specs.declared.starting.Starting.{Starting}
+use Rattle.recovery.specs.declared.start_stage.StartStage.{StartStage}
+use Rattle.recovery.specs.declared.start_stage.StartStage.TheVariants as stage
+use Rattle.recovery.proofs.StartBegins.{refused_start}
+
+module _ {M : Type 0} (state : M → State) (machine : Starting) {at : StartStage} {call : Call} {had bytes : List ℕ} where
+  -- a start tells this call at this stage
+  pub told : machine.stage ≡ at → IsStarting at → IsWithin machine.sectors call → ReadsBefore machine.sectors call
+      → fault_of call ≡ start_kind at
+      → ((m n start : M) (got : List ℕ) (least : ℕ) (next : StartStage) → machine.sectors ≡ (state m).size
+      → HoldsStart state least at had start m → Performed call bytes got (Ok tt) (state m) (state n)
+      → IsStartStep machine.sectors least at got next → HoldsStart state least next got start n)
+      → ((m n start : M) (got : List ℕ) (least : ℕ) (e : MediumFault) → HoldsStart state least at had start m
+      → Performed call bytes got (Err e) (state m) (state n) → LeavesAtLeast least (state start) (state n))
+      → (rest : Tally) → start_left at ≡ one_more rest (fault_of call)
+      → ((got : List ℕ) (next : StartStage) → IsStartStep machine.sectors machine.least at got next → IsLeft ⊥ (start_left next) rest)
+      → TellsCall {M = M} {S = Starting} {V = StartView M} state (λ s size. s.sectors ≡ size)
+      (λ s had m view. (s.least ≡ view.least) × HoldsStart state view.least s.stage had view.start m)
+      (λ s. s.sectors) (λ s. s.sectors) (λ s. start_left s.stage) ⊥ (λ s. IsStarting s.stage)
+      (λ s got t. (t.sectors ≡ s.sectors) × (t.least ≡ s.least) × IsStartStep s.sectors s.least s.stage got t.stage)
+      (λ s t. (t.sectors ≡ s.sectors) × (t.least ≡ s.least) × (t.stage ≡ stage.Refused (start_fault_of (start_kind s.stage))))
+      machine had call bytes
+  told is live within looks kind made leaves rest pays rests = record {
+    due = rw is live;
+    within = within;
+    looks = looks;
+    made = λ m n got view next fits held performed after. (
+      after.1 ∙ held.0,
+      made m n view.start got view.least next.stage fits (rw is at held.1) performed (rw (is, held.0) at after.2),
+    );
+    refused = λ m n got view next e fits held performed gone.
+        let h = rw is at held.1 in (
+          gone.1 ∙ held.0,
+          rw (gone.2, is, ← kind)
+              (refused_start view.least state h performed (leaves m n view.start got view.least e h performed)),
+        );
+    rest = rest;
+    pays = rw is pays;
+    rests = λ got next after. rests got next.stage (rw is at after.2);
+  }
+
+-- what is told, where something else was, and of what kind the call is
+pub told_by : {X A C : Type 0} {B D : X → Type 0} (found : Option X) → (A → C) → ((x : X) → B x → D x) → MatchOption found A B
+    → MatchOption found C D
+told_by None none some is = none is
+told_by (Some x) none some is = some x is
+
+pub both_told : {X : Type 0} (A : Type 0) (B D : X → Type 0) (found : Option X) → MatchOption found A B → IfSome found D
+    → MatchOption found A (λ x. B x × D x)
+both_told A B D None is kind = is
+both_told A B D (Some x) is kind = (is, kind)
