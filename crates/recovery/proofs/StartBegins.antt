@@ -172,31 +172,6 @@ super_seen : {old new : State} {bytes got : List ℕ} {result : Result (Unit {0}
     → HasReadFirst 1 old new
 super_seen {old = old} performed = read_one (read_none old) (λ near holds. holds.some) performed
 
-module _ {M : Type 0} (state : M → State) (sound : (m : M) → IsSound (state m)) (least : ℕ) where
-  -- before the first call
-  pub not_begun : (start : M) (had : List ℕ) → HoldsStart state least stage.FlushFirst had start start
-  not_begun start had =
-      let old = state start in
-      let here = sound start in
-      let same : (first : ℕ) → SparesFrom first old old = λ first. spared_start first old here in
-      record {
-        leaves = record {
-          cuts = λ each. started (StandsForOneOf old) old here (λ image cut.
-              let e = each image cut in
-              record { before = image; allowed = cut; shape = e.0; array = e.1; next = e.2; was = e.3; is = inl e.3 });
-          after_flush = λ shape array next ours more image since. absurd (omega (arith, more));
-          spares = record { behind = λ shape has. same (sectors_of shape); unserved = λ none. same 0 };
-          small = λ few. same 0;
-          moments = started (λ image. Unit {0}) old here (λ image cut. tt);
-          calls = omega arith;
-          most = λ shape has. omega arith;
-          sends = record { most = λ shape has. omega arith; none = λ no. omega arith; any = omega arith };
-          looks = λ near holds. no_looks (λ s. s < near) old old refl;
-        };
-        well = λ live. refl;
-        midway = refl;
-      }
-
 module _ {M : Type 0} (state : M → State) (sound : (m : M) → IsSound (state m)) (least : ℕ) {start m n : M} {had bytes got : List ℕ} where
   -- the first flush
   pub flushed_first : {result : Result (Unit {0}) MediumFault} (held : HoldsStart state least stage.FlushFirst had start m)
