@@ -17,6 +17,7 @@ pub mod ReadBlocks
 pub mod Headroom
 pub mod FlushesOnce
 pub mod RingRoom
+pub mod OneBatchSent
 pub mod Paid
 pub mod Ready
 pub mod Retired

@@ -11,6 +11,7 @@ use Rattle.blocks.specs.Headroom.{HasHeadroom, FlushesOnce}
 use Rattle.blocks.specs.Steady.{IsSteady}
 use Rattle.spec.specs.Blocks.{Write}
 use Rattle.blocks.specs.declared.fault.StoreFault.{StoreFault}
+use Rattle.blocks.specs.OneBatch.{SendsOneBatch}
 use Rattle.blocks.specs.Passing.{PassesOn, KeepsMedium, Answers}
 use Rattle.blocks.specs.Sent.{batch_sends}
 use Rattle.blocks.specs.Turns.{IsWriteTurn}
@@ -66,6 +67,8 @@ pub record CostsWrite {A E : Type 0} (ahead : Bool) (result : Result A E) (addre
       → OnOk result (after.made Flush ≡ before.made Flush + wants old.frozen.numbers)
   -- one for each record that became durable, whether or not the range fits
   pub as_many : FlushesOnce ahead before after old new
+  -- no more writes and flushes than one batch takes, whatever becomes of it
+  pub one_batch : SendsOneBatch ahead before after old.log
 
 -- where a write of count blocks from this address on is good: the batch that takes it, and the
 -- batches before that
@@ -102,6 +105,7 @@ pub record CostsAlone {A E : Type 0} (ahead : Bool) (result : Result A E) (befor
   pub once : ahead ≡ true → HasHeadroom old.log
       → OnOk result (after.made Flush ≡ before.made Flush + wants old.frozen.numbers)
   pub as_many : FlushesOnce ahead before after old new
+  pub one_batch : SendsOneBatch ahead before after old.log
 
 -- The active batch takes the range, for which one more is to become a record at most. The log and
 -- the frozen batch stay.

@@ -8,6 +8,7 @@ use Rattle.redo_log.specs.Value.{HasRoom, most_retire_sends}
 use Rattle.blocks.specs.declared.fault.StoreFault.{StoreFault}
 use Rattle.blocks.specs.StoreValue.{Cached, StoreValue, layout_of, active_of, unwritten, wants}
 use Rattle.blocks.specs.StoreValue.{steps_left}
+use Rattle.blocks.specs.OneBatch.{SendsOneBatch}
 use Rattle.blocks.specs.Passing.{MayEmpty, PassesPaid, TellsLife, Answers}
 use Rattle.blocks.specs.Retiring.{RetiresForRoom, finished, made_ready, written_out, IsRoomy}
 use Rattle.blocks.specs.Retiring.{HasSlots, with_spare, to_begin, record_calls, calls_from}
@@ -127,6 +128,8 @@ pub record CostsSync (ahead : Bool) (result : Answer) (before after : State) (ol
   -- So it does in such a ring.
   pub steady_once : old.log.shape.format ≡ Two → IsSteady old.log → old.frozen.numbers ≡ []
       → 0 < length old.active.numbers → OnOk result (after.made Flush ≡ before.made Flush + 1)
+  -- Where the frozen batch is empty one batch at most is made durable, whatever becomes of it.
+  pub one_batch : old.frozen.numbers ≡ [] → SendsOneBatch ahead before after old.log
 
 -- what both batches and the log become where each accepted write is made durable
 pub record FinishesBoth {M : Type 0} (result : Answer) (old new : StoreValue M) : Type 0 where

@@ -10,6 +10,7 @@ pub mod Headroom
 pub mod Kept
 pub mod Limit
 pub mod Looks
+pub mod OneBatch
 pub mod Opening
 pub mod Passing
 pub mod Reads
@@ -23,3 +24,4 @@ pub mod Stopping
 pub mod StoreValue
 pub mod Turns
 pub mod Work
+pub mod Written

@@ -9,6 +9,7 @@ ghost use Rattle.blocks.specs.StoreValue.{blocks_of, layout_of, transfer_limit, 
 ghost use Rattle.blocks.specs.StoreValue.{steps_left, HasLimits, FitsBook};
 ghost use Rattle.blocks.specs.Settled.{IsSettled};
 ghost use Rattle.blocks.specs.Passing.{IsUntouched};
+ghost use Rattle.blocks.specs.Written.{IsWritten};
 
 use cache::{Batch, Frozen};
 use inlet::Inlet;
@@ -96,6 +97,14 @@ impl<M: Medium> Store<M> {
             return false;
         }
         self.frozen.is_empty() && self.active.is_empty()
+    }
+
+    /// Whether no record is left to write: both batches are empty, or the store is dead. Then a call
+    /// makes one batch durable at most.
+    pub fn is_written(&self) -> bool
+        ensures { IsTrue result ↔ IsWritten self.now.cached }
+    {
+        self.is_dead() || (self.active.is_empty() && self.frozen.is_empty())
     }
 
     /// The medium that the store stands on.

@@ -3,6 +3,7 @@ ghost use Rattle.std.specs.Prelude.{◌≡◌, ◌<◌, ◌+◌, ◌*◌, false,
 ghost use Rattle.medium.specs.declared.fault.MediumFault.TheVariants.{Flush};
 ghost use Rattle.spec.specs.Book.{Book, promised};
 ghost use Rattle.blocks.specs.StoreValue.{is_dead, FitsBook};
+ghost use Rattle.blocks.specs.OneBatch.{SendsOneBatch};
 ghost use Rattle.blocks.specs.Sent.{batch_sends};
 ghost use Rattle.blocks.specs.Passing.{PassesPaid, Answers};
 ghost use Rattle.blocks.specs.Finishing.{WritesRecord, RetiresRoom, MakesReady, FinishesFrozen};
@@ -50,6 +51,8 @@ impl<M: Medium> Store<M> {
         ensures flushes { OnOk result ((M.state self.new.medium).made Flush
             ≡ (M.state self.old.medium).made Flush
             + finish_flushes self.old.cached.frozen.numbers self.old.cached.log) }
+        ensures one_batch { SendsOneBatch self.old.goes_ahead (M.state self.old.medium)
+            (M.state self.new.medium) self.old.cached.log }
     {
         if self.is_dead() {
             return Err(StoreFault::Dead);

@@ -1,8 +1,9 @@
-use Rattle.std.proofs.Common.{◌≡◌, ◌<◌, ◌≤◌, ◌∙◌, ℕ, [], List, length, ap, sym, subst, arith, Bool, rules}
+use Rattle.std.proofs.Common.{◌≡◌, ◌<◌, ◌≤◌, ◌+◌, ◌∙◌, ℕ, [], List, length, ap, sym, subst, arith, Bool, rules}
 use Rattle.std.specs.Prelude.{OnOk}
 use Rattle.std.proofs.lemmas.Bool.{false≢true}
 use Rattle.std.proofs.lemmas.Result.{on_ok_weaker}
 use Rattle.cache.specs.Entries.{Entries}
+use Rattle.medium.specs.Medium.{State}
 use Rattle.medium.specs.Sent.{sent}
 use Rattle.redo_log.specs.Value.{LogValue, begun, steps_of, most_steps, steps_flushes}
 use Rattle.redo_log.proofs.RecordSteps.{few_steps_for}
@@ -15,12 +16,14 @@ use Rattle.blocks.proofs.RoomFlushes.{flushes_under_way, flushes_none, flushes_b
 use Rattle.blocks.proofs.Room.{some_listed, finishes_under_way, finishes_none}
 use Rattle.blocks.proofs.Ready.{made_finished}
 use Rattle.blocks.specs.StoreValue.{is_dead, firsts_in}
+use Rattle.blocks.specs.OneBatch.{SendsOneBatch}
 use Rattle.blocks.specs.Steady.{IsSteady, IsFuller}
 use Rattle.blocks.proofs.RoomCalls.{finish_under_way, finish_none, finish_begun}
+use Rattle.blocks.proofs.OneBatchSent.{record_sent, room_sent}
 use Rattle.blocks.proofs.Paid.{kept_paid, paid_then, paid_more, rested_paid}
 use Rattle.blocks.proofs.store.Store.finish.Given.{Over}
 use Rattle.blocks.proofs.store.Store.finish.Goals as goal
-use Rattle.blocks.proofs.store.Store.finish.Goals.{Then-self, Else-self, Then-is_empty, Else-is_empty, In_ok-begin}
+use Rattle.blocks.proofs.store.Store.finish.Goals.{Then-self, Else-self, Then-is_empty, Else-is_empty, After-make_ready, In_ok-begin}
 
 -- a record is under way, which is that of the frozen batch
 under_way : (g : Over) (c : Then-self g) → (0 < c.args.self.now.cached.log.steps_left) × (0 < length c.args.self.now.cached.frozen.numbers)
@@ -57,6 +60,20 @@ begun_is g c =
 pub returns-then-is_dead-clause-passes : goal.returns-then-is_dead-clause-passes
 returns-then-is_dead-clause-passes g c = rested_paid g.met.M.Medium.follows_itself g.met.M.Medium.sound
 
+-- its record has few steps
+few_steps : (g : Over) (c : In_ok-begin g) → c.begin.new.self.cached.log.steps_left ≤ most_steps c.args.self.now.cached.log.shape.format
+few_steps g c =
+    let old = c.args.self.now.cached in
+    let frozen_is : c.self.inside.frozen ≡ old.frozen = ap (λ v. v.cached.frozen) c.self.view_is in
+    let log_is : c.self.inside.log ≡ old.log = ap (λ v. v.cached.log) c.self.view_is in
+    let steps = ap (λ (log : LogValue). log.steps_left) (begun_is g c)
+    ∙ ap (λ (shape : Shape). steps_of shape.format old.frozen.numbers) c.make_ready.ensures.ready.passes.turn.goes_on.layout_stays in
+    let long = ap (λ (batch : Entries). length batch.numbers) frozen_is in
+    let format = ap (λ (log : LogValue). limit_of log.shape.format) log_is in
+    let few = few_steps_for old.log.shape.format (length old.frozen.numbers)
+    (omega (arith, c.self.invariant.frozen.well_formed.within, c.self.invariant.frozen.room, long, format)) in
+    omega (arith, steps, few)
+
 pub returns-then-self-clause-batch : goal.returns-then-self-clause-batch
 returns-then-self-clause-batch g c =
     let old = c.args.self.now.cached in
@@ -80,27 +97,17 @@ returns-then-is_empty-clause-passes g c = rested_paid g.met.M.Medium.follows_its
 
 pub returns-clause-passes : goal.returns-clause-passes
 returns-clause-passes g c =
-    let old = c.args.self.now.cached in
-    let mid = c.make_ready.new.self.cached in
     let ready = c.make_ready.ensures.ready in
     let begins = c.begin.ensures in
     let written = c.write_out-2.ensures.passes in
-    let frozen_is : c.self.inside.frozen ≡ old.frozen = ap (λ v. v.cached.frozen) c.self.view_is in
-    let log_is : c.self.inside.log ≡ old.log = ap (λ v. v.cached.log) c.self.view_is in
-    let first = begun_is g (goal.at.returns-clause-passes g c).In_ok-begin in
-    let steps = ap (λ (log : LogValue). log.steps_left) first
-    ∙ ap (λ (shape : Shape). steps_of shape.format old.frozen.numbers) ready.passes.turn.goes_on.layout_stays in
-    let long = ap (λ (batch : Entries). length batch.numbers) frozen_is in
-    let format = ap (λ (log : LogValue). limit_of log.shape.format) log_is in
-    let few = few_steps_for old.log.shape.format (length old.frozen.numbers)
-    (omega (arith, c.self.invariant.frozen.well_formed.within, c.self.invariant.frozen.room, long, format)) in
+    let few = few_steps g (goal.at.returns-clause-passes g c).In_ok-begin in
     let quiet = ap (λ m. sent (g.M.Medium.state m)) begins.keeps.medium in
     paid_then {last = c.begin.new.self.cached.log.steps_left} g.met.M.Medium.follows_through ready.passes
     c.in_ok-make_ready.ensures.ready.answer
     (paid_then {first = 0} g.met.M.Medium.follows_through
     (kept_paid g.met.M.Medium.follows_itself begins.keeps (λ live. omega (arith, begins.begins.falls live)))
     c.in_ok-begin.ensures.answer written (omega (arith, quiet, written.sent)))
-    (omega (arith, ready.passes.sent, written.sent, steps, few, quiet))
+    (omega (arith, ready.passes.sent, written.sent, few, quiet))
 
 pub returns-then-is_empty-clause-batch : goal.returns-then-is_empty-clause-batch
 returns-then-is_empty-clause-batch g c = record {
@@ -256,3 +263,36 @@ returns-clause-flushes g c =
     let quiet = ap (λ m. (g.M.Medium.state m).made Flush) c.begin.ensures.keeps.medium in
     let room = c.in_ok-make_ready.ensures.ready.flushed in
     on_ok_weaker c.write_out-2.result (λ all. omega (arith, all, steps, flushes, quiet, room)) c.write_out-2.ensures.flushes
+
+pub returns-then-self-clause-one_batch : goal.returns-then-self-clause-one_batch
+returns-then-self-clause-one_batch g c =
+    let old = c.args.self.now in
+    let steps = ap (λ v. v.cached.log.steps_left) c.self.view_is in
+    let format = ap (λ v. most_steps v.cached.log.shape.format) c.self.view_is in
+    record_sent old.goes_ahead (g.M.Medium.state old.medium) old.cached.log (g.M.Medium.state c.write_out.new.self.medium)
+    (omega (arith, c.write_out.ensures.passes.sent, c.self.invariant.few_steps, steps, format))
+
+-- room was made, for which nothing is sent where there is some
+made_room : (g : Over) (c : After-make_ready g) → {after : State}
+    → sent after ≤ sent (g.M.Medium.state c.make_ready.new.self.medium) + most_steps c.args.self.now.cached.log.shape.format
+    → SendsOneBatch c.args.self.now.goes_ahead (g.M.Medium.state c.args.self.now.medium) after c.args.self.now.cached.log
+made_room g c {after = after} few =
+    let old = c.args.self.now in
+    let ready = c.make_ready.ensures.ready in
+    room_sent old.goes_ahead (g.M.Medium.state old.medium) old.cached.log (g.M.Medium.state c.make_ready.new.self.medium) after
+    ready.passes.sent (λ roomy. ap (λ m. sent (g.M.Medium.state m)) (ready.room.quiet roomy)) few
+
+pub returns-in_err-make_ready-clause-one_batch : goal.returns-in_err-make_ready-clause-one_batch
+returns-in_err-make_ready-clause-one_batch g c =
+    made_room g (goal.at.returns-in_err-make_ready-clause-one_batch g c).After-make_ready (omega arith)
+
+pub returns-in_err-begin-clause-one_batch : goal.returns-in_err-begin-clause-one_batch
+returns-in_err-begin-clause-one_batch g c =
+    let quiet = ap (λ m. sent (g.M.Medium.state m)) c.begin.ensures.keeps.medium in
+    made_room g (goal.at.returns-in_err-begin-clause-one_batch g c).After-make_ready (omega (arith, quiet))
+
+pub returns-clause-one_batch : goal.returns-clause-one_batch
+returns-clause-one_batch g c =
+    let quiet = ap (λ m. sent (g.M.Medium.state m)) c.begin.ensures.keeps.medium in
+    let few = few_steps g (goal.at.returns-clause-one_batch g c).In_ok-begin in
+    made_room g (goal.at.returns-clause-one_batch g c).After-make_ready (omega (arith, quiet, few, c.write_out-2.ensures.passes.sent))

@@ -18,6 +18,7 @@ use Rattle.blocks.proofs.BookTurns.{settles}
 use Rattle.blocks.proofs.AllHome.{none_of}
 use Rattle.blocks.proofs.RoomFlushes.{flushes_of, once}
 use Rattle.blocks.proofs.Steady.{steady_sync, steady_roomy}
+use Rattle.blocks.proofs.OneBatchSent.{one_batch_as}
 use Rattle.blocks.proofs.Paid.{swapped_steps, kept_paid, paid_then, paid_more}
 use Rattle.blocks.proofs.FlushesOnce.{both_durable}
 use Rattle.blocks.proofs.store.Store.sync.Given.{Over}
@@ -120,6 +121,7 @@ returns-in_err-finish-clause-cost g c = record {
   each_once = λ on head. search rules;
   as_many = λ on head live. search rules;
   steady_once = λ two still none some. search rules;
+  one_batch = λ none. c.finish.ensures.one_batch;
 }
 
 pub returns-clause-cost : goal.returns-clause-cost
@@ -171,6 +173,13 @@ returns-clause-cost g c =
       steady_once = λ two still none some.
           let one = once ahead old.frozen.numbers old.active.numbers old.log two (steady_roomy old.log still) none some in
           on_ok_weaker c.finish-2.result (λ all. omega (arith, all, flushes, silent, flushed, one)) c.finish-2.ensures.flushes;
+      one_batch = λ none.
+          let first = c.finish.ensures.batch.rests none in
+          let swapped = c.freeze.ensures.swapped in
+          one_batch_as ahead c.freeze.new.self.goes_ahead (g.M.Medium.state c.args.self.now.medium)
+          (g.M.Medium.state c.freeze.new.self.medium) (g.M.Medium.state c.finish-2.new.self.medium) old.log c.freeze.new.self.cached.log
+          policy (ap (λ m. g.M.Medium.state m) (c.freeze.ensures.keeps.medium ∙ ap (λ v. v.medium) first))
+          (ap (λ (cached : Cached). cached.log) swapped ∙ ap (λ v. v.cached.log) first) c.finish-2.ensures.one_batch;
     }
 
 pub returns-in_err-finish-clause-passes : goal.returns-in_err-finish-clause-passes

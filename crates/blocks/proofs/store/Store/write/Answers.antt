@@ -3,6 +3,8 @@ use Rattle.medium.specs.declared.fault.MediumFault.TheVariants.{Flush}
 use Rattle.redo_log.specs.Value.{LogValue}
 use Rattle.blocks.specs.Headroom.{next_durable}
 use Rattle.blocks.proofs.TurnsJoined.{stays, not_written}
+use Rattle.medium.specs.Sent.{sent}
+use Rattle.blocks.proofs.OneBatchSent.{none_sent}
 use Rattle.blocks.proofs.Paid.{kept_on}
 use Rattle.blocks.proofs.store.Store.write.Goals as goal
 
@@ -26,4 +28,8 @@ returns-then-fits-clause-cost g c = record {
       let quiet = ap (λ m. (g.M.Medium.state m).made Flush) c.append.ensures.keeps.medium in
       let same = ap (λ (l : LogValue). next_durable l) c.append.ensures.batch.log in
       omega (arith, quiet, same);
+  one_batch =
+      let old = c.args.self.now in
+      none_sent old.goes_ahead (g.M.Medium.state old.medium) old.cached.log (g.M.Medium.state c.append.new.self.medium)
+      (ap (λ m. sent (g.M.Medium.state m)) c.append.ensures.keeps.medium);
 }

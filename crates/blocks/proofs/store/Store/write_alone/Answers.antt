@@ -4,6 +4,7 @@ use Rattle.medium.specs.Sent.{sent}
 use Rattle.redo_log.specs.Value.{LogValue}
 use Rattle.medium.specs.declared.fault.MediumFault.TheVariants.{Flush}
 use Rattle.blocks.specs.Headroom.{HasHeadroom, next_durable}
+use Rattle.blocks.specs.OneBatch.{SendsOneBatch}
 use Rattle.blocks.specs.Retiring.{finished}
 use Rattle.blocks.specs.Steady.{IsSteady}
 use Rattle.blocks.specs.StoreValue.{firsts_in}
@@ -81,4 +82,7 @@ returns-clause-cost g c = record {
       let records = ap (λ (l : LogValue). next_durable l) is
       ∙ one_durable old.frozen.numbers (firsts_in old.frozen) old.log head under_way in
       omega (arith, quiet, one, c.in_ok-finish.ensures.flushes, records);
+  one_batch = subst
+      (λ m. SendsOneBatch c.args.self.now.goes_ahead (g.M.Medium.state c.args.self.now.medium) (g.M.Medium.state m) c.args.self.now.cached.log)
+      (sym c.begin_batch.ensures.keeps.medium) c.finish.ensures.one_batch;
 }
