@@ -18,6 +18,7 @@ pub mod Headroom
 pub mod FlushesOnce
 pub mod RingRoom
 pub mod OneBatchSent
+pub mod EmptyBatches
 pub mod Paid
 pub mod Ready
 pub mod Retired

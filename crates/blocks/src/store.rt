@@ -99,8 +99,8 @@ impl<M: Medium> Store<M> {
         self.frozen.is_empty() && self.active.is_empty()
     }
 
-    /// Whether no record is left to write: both batches are empty, or the store is dead. Then a call
-    /// makes one batch durable at most.
+    /// Whether no record is left to write: both batches are empty, or the store is dead. Then a
+    /// call makes one batch durable at most.
     pub fn is_written(&self) -> bool
         ensures { IsTrue result ↔ IsWritten self.now.cached }
     {

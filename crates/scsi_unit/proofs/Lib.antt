@@ -1,5 +1,6 @@
 pub mod Directions
 pub mod PassedChecks
+pub mod PromisedFew
 pub mod UnitTurns
 pub mod PerformedCommands
 pub mod WriteLines

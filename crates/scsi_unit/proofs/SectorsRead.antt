@@ -18,13 +18,16 @@ use Rattle.scsi_unit.specs.Reading.{IsLogOr, LooksToRead, first_home_of, home_se
 use Rattle.scsi_unit.specs.Serving.{command_for}
 use Rattle.scsi_unit.specs.UnitValue.{UnitValue, unit_limit, intention_of}
 use Rattle.scsi_unit.proofs.PassedChecks.{intention_is}
+use Rattle.scsi_unit.proofs.PromisedFew.{none_promised}
 use Rattle.scsi_unit.proofs.DataSizes.{sends_nothing}
 
 -- no call was made
-pub no_calls : {M : Type 0} (count : ℕ) (read : Option Transfer) (m : State) (unit : UnitValue M) → MakesAtMost count read m m unit
-no_calls count read m unit = record {
+pub no_calls : {M : Type 0} (count : ℕ) (read : Option Transfer) (promising : Bool) (m : State) (unit : UnitValue M)
+    → MakesAtMost count read promising m m unit
+no_calls count read promising m unit = record {
   calls = omega arith;
   sent = omega arith;
+  one_batch = none_promised promising m m unit refl;
   looks = no_looks (IsLogOr (first_home_of unit) (home_sectors_of (first_home_of unit) read)) m m refl;
 }
 

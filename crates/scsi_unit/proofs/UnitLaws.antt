@@ -5,3 +5,5 @@ pub use Rattle.scsi_unit.proofs.AppendedWrite.{writes_are_writes}
 pub use Rattle.scsi_unit.proofs.Outcomes.{is_function, keeps_writes, stays_faulted, ticks_only, keeps_limit}
 pub use Rattle.scsi_unit.proofs.Books.{knows_images, between_calls, limit_between_calls, start_keeps_limit, intends_by_book}
 pub use Rattle.scsi_unit.proofs.Bounds.{few_ticks}
+pub use Rattle.scsi_unit.proofs.PromisedFew.{none_made, step_made}
+pub use Rattle.blocks.proofs.EmptyBatches.{steps_to_write, written_live}

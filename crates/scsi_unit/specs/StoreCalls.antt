@@ -1,5 +1,5 @@
 -- What the unit's calls of the store do to its batches, its log and its medium.
-use Rattle.std.specs.Prelude.{◌≡◌, ℕ, ◌+◌, ◌*◌, ◌<◌, ◌≤◌, Bool, true, false, List, take}
+use Rattle.std.specs.Prelude.{◌≡◌, ℕ, ◌+◌, ◌*◌, ◌<◌, ◌≤◌, Bool, true, false, List, [], take}
 use Rattle.std.specs.Prelude.{Result, OnOk, IfOk, IfErr, MatchResult, is_ok, if◌then◌else◌}
 use Rattle.medium.specs.Medium.{State}
 use Rattle.spec.specs.Book.{Book, array_of, blocks_at, promised, write_of}
@@ -11,6 +11,7 @@ use Rattle.medium.specs.declared.fault.MediumFault.TheVariants.{Flush}
 use Rattle.blocks.specs.Looks.{LooksAtLog, LooksAtBlocks}
 use Rattle.medium.specs.Sent.{SendsUpTo}
 use Rattle.blocks.specs.Passing.{MayEmpty}
+use Rattle.blocks.specs.OneBatch.{SendsOneBatch}
 use Rattle.blocks.specs.Sent.{batch_sends}
 use Rattle.blocks.specs.StoreValue.{Cached, StoreValue, transfer_limit, is_dead, active_of}
 use Rattle.blocks.specs.StoreValue.{batch_steps, FitsBook, FitsBeside, TakesRange}
@@ -48,6 +49,8 @@ pub record MakesDurable (ahead wanted : Bool) (before after : State) (old new : 
   pub cost : OnOk result (CostsFinishing ahead wanted before after old)
   pub calls : after.calls ≤ before.calls + (if wanted then calls_of_sync old else 0)
   pub sent : SendsUpTo (2 * batch_sends old) before after
+  -- those of one batch where the frozen one is empty
+  pub one_batch : old.frozen.numbers ≡ [] → SendsOneBatch ahead before after old.log
   pub looks : LooksAtLog before after old
 
 -- The blocks of a transfer are at the front of a buffer, where the answer is good. The batches and
@@ -75,6 +78,7 @@ pub record WritesBlocks (ahead : Bool) (transfer : Transfer) (taken : List ℕ)
   pub batches : OnOk result (TurnsBatches ahead old new transfer.address transfer.count)
   pub calls : after.calls ≤ before.calls + calls_of_sync old
   pub sent : SendsUpTo (batch_sends old) before after
+  pub one_batch : SendsOneBatch ahead before after old.log
   pub looks : LooksAtLog before after old
   pub paid : OnOk result (after.calls + calls_of_sync new
       ≤ before.calls + calls_of_sync old + 2 * batch_steps old)

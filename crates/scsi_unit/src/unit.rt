@@ -12,6 +12,7 @@ ghost use Rattle.scsi_unit.specs.UnitValue.{unit_limit, state_of, intention_of, 
 ghost use Rattle.scsi_unit.specs.UnitValue.{FitsUnit, TellsLimit, ArmsUnit};
 ghost use Rattle.spec.specs.declared.intent.Intent.TheVariants as intent;
 ghost use Rattle.blocks.specs.Limit.{HasLimit};
+ghost use Rattle.blocks.specs.Written.{IsWritten};
 ghost use Rattle.blocks.specs.declared.work.Work.TheVariants.{Settle};
 ghost use Rattle.scsi_unit.specs.Asking.{CanCarryOut};
 ghost use Rattle.scsi_unit.specs.Serving.{Serves, IsSparing, TicksOver, WorksUnit};
@@ -145,6 +146,14 @@ impl<M: Medium> Unit<M> {
             → IsSettled (M.state self.now.store.medium) self.now.store.cached }
     {
         self.store.is_settled()
+    }
+
+    /// Whether no record is left to write: both batches are empty, or the unit is faulted. Then a
+    /// command makes one batch durable at most.
+    pub fn is_written(&self) -> bool
+        ensures { IsTrue result ↔ IsWritten self.now.store.cached }
+    {
+        self.store.is_written()
     }
 
     /// The medium that the unit stands on.

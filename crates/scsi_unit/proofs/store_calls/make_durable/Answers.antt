@@ -2,6 +2,7 @@ use Rattle.std.proofs.Common.{◌≡◌, ◌≤◌, ◌+◌, ℕ, Bool, false, O
 use Rattle.medium.specs.Medium.{State}
 use Rattle.blocks.specs.StoreValue.{Cached, is_dead}
 use Rattle.blocks.specs.Turns.{IsTurn}
+use Rattle.blocks.proofs.OneBatchSent.{none_sent}
 use Rattle.blocks.proofs.TurnsJoined.{stays}
 use Rattle.blocks.proofs.SectorsRead.{none}
 use Rattle.scsi_unit.specs.StoreCalls.{MakesDurable}
@@ -21,6 +22,7 @@ not_wanted ahead m s turn live = record {
   cost = (refl, refl);
   calls = no_more m.calls;
   sent = omega arith;
+  one_batch = λ none. none_sent ahead m s.log m refl;
   looks = none m m s refl;
 }
 

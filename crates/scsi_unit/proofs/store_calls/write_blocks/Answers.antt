@@ -25,6 +25,7 @@ returns-in-Ok-clause-writes g c =
       batches = search rules;
       calls = search rules;
       sent = search rules;
+      one_batch = search rules;
       looks = search rules;
       paid = search rules;
       alone_calls = λ not. c.in-Ok.ensures.cost.alone (λ fits. not (fits_as s t.address t.count c.args.taken.now c.requires.taken fits));

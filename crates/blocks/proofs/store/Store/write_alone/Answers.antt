@@ -82,7 +82,8 @@ returns-clause-cost g c = record {
       let records = ap (λ (l : LogValue). next_durable l) is
       ∙ one_durable old.frozen.numbers (firsts_in old.frozen) old.log head under_way in
       omega (arith, quiet, one, c.in_ok-finish.ensures.flushes, records);
-  one_batch = subst
-      (λ m. SendsOneBatch c.args.self.now.goes_ahead (g.M.Medium.state c.args.self.now.medium) (g.M.Medium.state m) c.args.self.now.cached.log)
+  one_batch =
+      let old = c.args.self.now in
+      subst (λ m. SendsOneBatch old.goes_ahead (g.M.Medium.state old.medium) (g.M.Medium.state m) old.cached.log)
       (sym c.begin_batch.ensures.keeps.medium) c.finish.ensures.one_batch;
 }

@@ -51,7 +51,10 @@ pub returns-clause-calls : goal.returns-clause-calls
 returns-clause-calls g c =
     let unit = c.args.self.now in
     record {
-      bounded = record { most = rw (sym c.command.ensures.value ∙ c.in_ok-command.was) c.perform.ensures.bounded.calls };
+      bounded = record {
+        most = rw (sym c.command.ensures.value ∙ c.in_ok-command.was) c.perform.ensures.bounded.calls;
+        one_batch = rw (sym c.command.ensures.value ∙ c.in_ok-command.was) c.perform.ensures.bounded.one_batch;
+      };
       few = told_few c.command.result c.in_ok-command.command c.args.taken.now unit.write_cache unit.store.cached _ _ (most_calls unit)
           c.in_ok-command.was (c.command.ensures.few c.args.taken.now) c.perform.ensures.bounded.calls;
       sent = c.perform.ensures.bounded.sent;

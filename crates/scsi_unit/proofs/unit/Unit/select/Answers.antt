@@ -1,13 +1,15 @@
 use Rattle.std.proofs.Common.{◌≡◌, Bool, ℕ, false, [], None, Ok, Err, refl, subst, sym, ◌∙◌, ap, arith}
-use Rattle.std.specs.Prelude.{if◌then◌else◌, OnOk}
+use Rattle.std.specs.Prelude.{◌&&◌, not, if◌then◌else◌, OnOk}
 use Rattle.std.proofs.lemmas.Result.{err_from_is_err_and}
 use Rattle.spec.specs.declared.command.Command.TheVariants as command
 use Rattle.spec.specs.Book.{Book, promised}
-use Rattle.blocks.specs.StoreValue.{is_dead, FitsBook}
+use Rattle.blocks.specs.StoreValue.{StoreValue, is_dead, FitsBook}
+use Rattle.medium.specs.Sent.{sent}
 use Rattle.spec.specs.Rules.{selected_by}
 use Rattle.scsi_unit.specs.UnitValue.{UnitValue}
 use Rattle.scsi_unit.specs.Performing.{Performs, silent}
 use Rattle.scsi_unit.specs.Calls.{calls_of, MakesAtMost}
+use Rattle.scsi_unit.proofs.PromisedFew.{synced_few}
 use Rattle.scsi_unit.proofs.SectorsRead.{log_looked}
 use Rattle.scsi_unit.proofs.CommandCalls.{select_calls}
 use Rattle.scsi_unit.proofs.PerformedCommands.{durable_error}
@@ -81,9 +83,10 @@ returns-in_err-make_durable-clause-bounded g c =
     ap (λ (n : ℕ). selected_by n c.args.taken.now i.write_cache) (sym c.from.ensures)
     ∙ sym c.mode_select.ensures.answer
     ∙ c.in_ok-enabled.was in
+    let live = subst (λ (u : UnitValue g.row.M.Denot). is_dead u.store.cached ≡ false) (sym c.self.view_is) c.requires.live in
     let P = λ (u : UnitValue g.row.M.Denot).
-    MakesAtMost (calls_of (command.ModeSelect c.args.list_len) c.args.taken.now u.write_cache u.store.cached) None (state u.store.medium)
-    (state last.medium) u in
+    MakesAtMost (calls_of (command.ModeSelect c.args.list_len) c.args.taken.now u.write_cache u.store.cached) None u.write_cache
+    (state u.store.medium) (state last.medium) u in
     subst P c.self.view_is
     (record {
       calls = select_calls c.args.list_len c.args.taken.now i.write_cache i.store.cached (state i.store.medium).calls
@@ -91,6 +94,11 @@ returns-in_err-make_durable-clause-bounded g c =
           (clears_as c.args.list_len c.args.taken.now i.write_cache c.in_ok-enabled.enabled chosen ∙ sym c.is_disabled-clears.ensures)
           c.make_durable.ensures.makes.calls;
       sent = omega (arith, c.make_durable.ensures.makes.sent);
+      one_batch = synced_few i.write_cache (state i.store.medium) (state last.medium) (state last.medium) seen live
+          (λ plain. ap (λ (s : StoreValue g.row.M.Denot). sent (state s.medium))
+          (c.make_durable.ensures.passes.unwanted
+          (c.is_disabled-clears.ensures ∙ ap (λ (b : Bool). b && not c.in_ok-enabled.enabled) plain)).0)
+          c.make_durable.ensures.makes.one_batch (omega arith);
       looks = log_looked (state i.store.medium) (state last.medium) seen None c.make_durable.ensures.makes.looks;
     })
 
@@ -104,9 +112,10 @@ returns-clause-bounded g c =
     ap (λ (n : ℕ). selected_by n c.args.taken.now i.write_cache) (sym c.from.ensures)
     ∙ sym c.mode_select.ensures.answer
     ∙ c.in_ok-enabled.was in
+    let live = subst (λ (u : UnitValue g.row.M.Denot). is_dead u.store.cached ≡ false) (sym c.self.view_is) c.requires.live in
     let P = λ (u : UnitValue g.row.M.Denot).
-    MakesAtMost (calls_of (command.ModeSelect c.args.list_len) c.args.taken.now u.write_cache u.store.cached) None (state u.store.medium)
-    (state last.medium) u in
+    MakesAtMost (calls_of (command.ModeSelect c.args.list_len) c.args.taken.now u.write_cache u.store.cached) None u.write_cache
+    (state u.store.medium) (state last.medium) u in
     subst P c.self.view_is
     (record {
       calls = select_calls c.args.list_len c.args.taken.now i.write_cache i.store.cached (state i.store.medium).calls
@@ -114,5 +123,10 @@ returns-clause-bounded g c =
           (clears_as c.args.list_len c.args.taken.now i.write_cache c.in_ok-enabled.enabled chosen ∙ sym c.is_disabled-clears.ensures)
           c.make_durable.ensures.makes.calls;
       sent = omega (arith, c.make_durable.ensures.makes.sent);
+      one_batch = synced_few i.write_cache (state i.store.medium) (state last.medium) (state last.medium) seen live
+          (λ plain. ap (λ (s : StoreValue g.row.M.Denot). sent (state s.medium))
+          (c.make_durable.ensures.passes.unwanted
+          (c.is_disabled-clears.ensures ∙ ap (λ (b : Bool). b && not c.in_ok-enabled.enabled) plain)).0)
+          c.make_durable.ensures.makes.one_batch (omega arith);
       looks = log_looked (state i.store.medium) (state last.medium) seen None c.make_durable.ensures.makes.looks;
     })

@@ -4,12 +4,15 @@ use Rattle.spec.specs.Book.{Book, promised}
 use Rattle.std.proofs.lemmas.Result.{err_from_is_err_and}
 use Rattle.spec.specs.declared.command.Command.TheVariants as command
 use Rattle.blocks.specs.StoreValue.{is_dead, FitsBook}
-use Rattle.scsi_unit.specs.UnitValue.{UnitValue}
+use Rattle.scsi_unit.specs.Promising.{forces_writing}
+use Rattle.scsi_unit.specs.UnitValue.{UnitValue, unit_limit}
+use Rattle.spec.specs.Rules.{moves_blocks}
 use Rattle.scsi_unit.specs.Performing.{Performs, silent}
 use Rattle.blocks.specs.Limit.{Shape}
 use Rattle.blocks.specs.Sent.{most_sent}
 use Rattle.scsi_unit.specs.Calls.{calls_of_sync, calls_of_write, MakesAtMost}
 use Rattle.blocks.proofs.SectorsRead.{looks_on}
+use Rattle.scsi_unit.proofs.PromisedFew.{written_few}
 use Rattle.scsi_unit.proofs.SectorsRead.{log_looked}
 use Rattle.scsi_unit.proofs.CommandCalls.{write_stops, write_ends, OnOk-at}
 use Rattle.scsi_unit.proofs.PerformedCommands.{moves_some}
@@ -71,12 +74,17 @@ returns-in_err-write_blocks-clause-bounded g c =
     let seen : UnitValue g.row.M.Denot = record { store = i.store; identity = i.identity; kept = i.kept; write_cache = i.write_cache } in
     let last = c.write_blocks.new.store in
     let P = λ (u : UnitValue g.row.M.Denot).
-    MakesAtMost (calls_of_write c.args.transfer u.write_cache u.store.cached) None (state u.store.medium) (state last.medium) u in
+    MakesAtMost (calls_of_write c.args.transfer u.write_cache u.store.cached) None (forces_writing c.args.transfer u.write_cache)
+    (state u.store.medium) (state last.medium) u in
     subst P c.self.view_is
     (record {
       calls = write_stops c.args.transfer i.write_cache i.store.cached (state i.store.medium).calls (state last.medium).calls
           (moves_some c.args.transfer c.if-transfer-eq0.false) c.write_blocks.ensures.writes.calls;
       sent = omega (arith, c.write_blocks.ensures.writes.sent);
+      one_batch = record {
+        plain = λ nothing. c.write_blocks.ensures.writes.one_batch;
+        written = λ all. c.write_blocks.ensures.writes.one_batch;
+      };
       looks = log_looked (state i.store.medium) (state last.medium) seen None c.write_blocks.ensures.writes.looks;
     })
 
@@ -90,8 +98,10 @@ returns-clause-bounded g c =
     let paid = OnOk-at c.write_blocks.result c.in_ok-write_blocks.field-0 c.in_ok-write_blocks.was c.write_blocks.ensures.writes.paid in
     let more = subst (λ (b : Bool). (state last.medium).calls ≤ (state half.medium).calls + (if b then calls_of_sync half.cached else 0))
     c.goes_through-through.ensures c.make_durable.ensures.makes.calls in
+    let live = subst (λ (u : UnitValue g.row.M.Denot). is_dead u.store.cached ≡ false) (sym c.self.view_is) c.requires.live in
     let P = λ (u : UnitValue g.row.M.Denot).
-    MakesAtMost (calls_of_write c.args.transfer u.write_cache u.store.cached) None (state u.store.medium) (state last.medium) u in
+    MakesAtMost (calls_of_write c.args.transfer u.write_cache u.store.cached) None (forces_writing c.args.transfer u.write_cache)
+    (state u.store.medium) (state last.medium) u in
     subst P c.self.view_is
     (record {
       calls = write_ends c.args.transfer i.write_cache i.store.cached half.cached (state i.store.medium).calls (state half.medium).calls
@@ -99,6 +109,17 @@ returns-clause-bounded g c =
       sent =
           let same = ap (λ (s : Shape). most_sent s.format) c.write_blocks.ensures.writes.turn.goes_on.layout_stays in
           omega (arith, c.write_blocks.ensures.writes.sent, c.make_durable.ensures.makes.sent, same);
+      one_batch =
+          let few = subst (λ (u : UnitValue g.row.M.Denot). c.args.transfer.count ≤ unit_limit u) (sym c.self.view_is)
+          c.requires.within.few in
+          let turned = OnOk-at c.write_blocks.result c.in_ok-write_blocks.field-0 c.in_ok-write_blocks.was
+          c.write_blocks.ensures.writes.batches in
+          written_few state (moves_blocks c.args.transfer) (c.args.transfer.fua || not i.write_cache) c.args.transfer.address
+          c.args.transfer.count seen half last live (moves_some c.args.transfer c.if-transfer-eq0.false) few
+          c.write_blocks.ensures.writes.one_batch (λ fits. (c.write_blocks.ensures.passes.quiet fits).0) turned
+          c.write_blocks.ensures.passes.follows.policy
+          (λ plain. (c.make_durable.ensures.passes.unwanted (c.goes_through-through.ensures ∙ plain)).0)
+          c.make_durable.ensures.makes.one_batch;
       looks = log_looked (state i.store.medium) (state last.medium) seen None
           (looks_on (state i.store.medium) (state half.medium) (state last.medium) i.store.cached half.cached
           c.write_blocks.ensures.writes.turn.goes_on.layout_stays c.write_blocks.ensures.writes.looks c.make_durable.ensures.makes.looks);
