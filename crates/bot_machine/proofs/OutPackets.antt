@@ -33,7 +33,7 @@ use Rattle.bot_machine.specs.Refinement.{taking_of, left_of, halt_of, IsInPhase,
 use Rattle.spec.specs.Packets.{packets_of}
 use Rattle.bot_machine.specs.Reading.{LooksBesides, LooksIn, ReadsAt, WrapperReadsAt}
 use Rattle.bot_machine.specs.Serving.{BeginsOn, TakesOn, RestsOn, SparesOn}
-use Rattle.bot_machine.proofs.UnitLaws.{few_ticks}
+use Rattle.bot_machine.proofs.UnitLaws.{few_ticks, none_made, step_made}
 use Rattle.bot_machine.proofs.ReadAtOnce.{besides}
 use Rattle.bot_machine.proofs.UnitMoments.{staying, proceeding, proceeding_so}
 
@@ -46,6 +46,7 @@ no_calls m unit =
     record {
       calls = omega arith;
       sent = omega arith;
+      one_batch = λ all. none_made m unit;
       layout_stays = refl;
       policy_stays = refl;
       headroom = λ on head live. head;
@@ -189,6 +190,7 @@ ticked work before after old new ticks line = record {
   few = record {
     calls = few_ticks before.calls after.calls old.unit ticks.few;
     sent = omega (arith, ticks.sent);
+    one_batch = λ all. step_made before after old.unit ticks.sent;
     layout_stays = ticks.layout_stays;
     policy_stays = ticks.policy_stays;
     headroom = ticks.headroom;

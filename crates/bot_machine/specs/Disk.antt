@@ -15,7 +15,7 @@ use Rattle.scsi_unit.specs.Background.{Work, Settle, is_dead}
 use Rattle.spec.specs.Book.{Book}
 use Rattle.scsi_unit.specs.Books.{MayFind, FoundWith}
 use Rattle.spec.specs.Rules.{UnitState, CarriesOut, Ticks}
-use Rattle.scsi_unit.specs.Calls.{IsBounded, most_calls, most_sends}
+use Rattle.scsi_unit.specs.Calls.{IsBounded, IsWritten, SendsOneBatch, most_calls, most_sends}
 use Rattle.scsi_unit.specs.Costs.{KeepsHeadroom}
 use Rattle.scsi_unit.specs.Serving.{has_refused, IsSparing, TicksOver}
 use Rattle.scsi_unit.specs.Starting.{layout_of}
@@ -47,9 +47,12 @@ pub record Elapses (before after : State) : Type 0 where
 -- No more calls of the medium were made than the most of a command, and no more writes and flushes.
 -- The layout, which tells these numbers, stays, and so does the policy. A ring that was not full at
 -- the start never is, where the unit goes ahead. A faulted unit makes no call, and stays faulted.
+-- Where no record is left to write before, one batch at most is made durable.
 pub record TakesFew {M : Type 0} (before after : State) (old new : UnitValue M) : Type 0 where
   pub calls : after.calls ≤ before.calls + most_calls old
   pub sent : SendsUpTo (most_sends old) before after
+  pub one_batch : IsWritten old.store.cached
+      → SendsOneBatch old.store.goes_ahead before after old.store.cached.log
   pub layout_stays : layout_of new.store.cached ≡ layout_of old.store.cached
   pub policy_stays : new.store.goes_ahead ≡ old.store.goes_ahead
   pub headroom : KeepsHeadroom old.store new.store

@@ -7,7 +7,8 @@ ghost use mathlib.Core.Option.{none};
 ghost use Rattle.medium.specs.Moments.{EachCut, IsUnchanged};
 ghost use Rattle.spec.specs.Book.{Book};
 ghost use Rattle.scsi_unit.specs.Books.{MayFind};
-ghost use Rattle.scsi_unit.specs.Background.{IsSettled, HasLimits, Settle, is_dead, steps_left};
+ghost use Rattle.scsi_unit.specs.Background.{IsSettled, IsWritten, HasLimits, Settle};
+ghost use Rattle.scsi_unit.specs.Background.{is_dead, steps_left};
 ghost use Rattle.scsi_unit.specs.Serving.{TicksOver};
 ghost use Rattle.scsi_unit.specs.Starting.{HasLimit};
 ghost use Rattle.scsi_unit.specs.UnitValue.{unit_limit, TellsLimit};
@@ -86,6 +87,14 @@ impl<M: Medium> Disk<M> {
             self.now.unit.store.cached }
     {
         self.unit.is_settled()
+    }
+
+    /// Whether no record is left to write: both batches are empty, or the disk is faulted. Then an
+    /// event makes one batch durable at most.
+    pub fn is_written(&self) -> bool
+        ensures { IsTrue result ↔ IsWritten self.now.unit.store.cached }
+    {
+        self.unit.is_written()
     }
 
     /// Whether the host is still to take a status wrapper, with or without data before it
