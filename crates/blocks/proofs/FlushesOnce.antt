@@ -12,16 +12,18 @@ use Rattle.redo_log.specs.Value.{next_step_flushes}
 use Rattle.redo_log.specs.declared.progress.Progress.{Progress}
 use Rattle.redo_log.specs.declared.progress.Progress.TheVariants.{More, Durable}
 use Rattle.blocks.specs.declared.work.Work.{Work}
-use Rattle.blocks.specs.declared.work.Work.TheVariants.{Settle, Ahead}
+use Rattle.blocks.specs.declared.work.Work.TheVariants.{Settle, Ahead, WriteBack}
 use Rattle.blocks.specs.Ahead.{is_covered, is_short, counted, past, passed, gone_home, sent_home, ahead_room, oldest_retired}
 use Rattle.blocks.specs.Background.{IsBackgroundStep, IsRecordStep, MayBegin}
 use Rattle.blocks.specs.Headroom.{HasHeadroom, next_durable, FlushesOnce}
 use Rattle.blocks.specs.Retiring.{written_out, finished_from, finished_with, finished}
 use Rattle.blocks.specs.Sparing.{IsSparing, AreSparing}
 use Rattle.blocks.specs.StoreValue.{Cached, StoreValue, firsts_in, is_dead, wants}
-use Rattle.blocks.specs.Work.{RetiresNone, GoesOnAhead, IsAheadStep, IsWork, with_counted}
+use Rattle.blocks.specs.Work.{RetiresNone, GoesOnAhead, IsAheadStep, IsWork, IsWriteBackStep, MayWrite, with_counted}
+use Rattle.blocks.specs.Written.{IsWritten}
 use Rattle.blocks.proofs.AheadTurns.{can_or_not, home_stays}
 use Rattle.blocks.proofs.AheadSteps.{headroom_ahead}
+use Rattle.blocks.proofs.WrittenBack.{may_or_not, way_ahead, written_or_not}
 use Rattle.blocks.proofs.AllHome.{none_of}
 use Rattle.blocks.proofs.Headroom.{headroom_idle, headroom_finished, wants_one, two_with_headroom}
 use Rattle.blocks.proofs.Room.{finishes_under_way, finishes_none}
@@ -211,11 +213,37 @@ goes_ahead_once before after old new step head live = ⊎_elim
         (cases_lt 2 (of_oldest old.log)))
         (can_or_not old.log)
 
+writes_back_once : (before after : State) (old new : Cached) → IsWriteBackStep true before after old new → HasHeadroom old.log
+    → is_dead new ≡ false → after.made Flush + next_durable old.log ≡ before.made Flush + next_durable new.log
+writes_back_once before after old new step head live = ⊎_elim
+    (λ (done : IsWritten old).
+    let same = ap (λ (s : Cached). next_durable s.log) (step.written done).0 in
+    let quiet = (step.written done).1.made_stays Flush in
+    omega (arith, same, quiet))
+    (λ (left : IsWritten old → ⊥). ⊎_elim
+    (λ (some : 0 < old.log.steps_left). record_once before after old new (step.goes_on left some) some head live)
+    (λ (few : old.log.steps_left ≤ 0).
+    let idle : old.log.steps_left ≡ 0 = omega (arith, few) in
+    let r = headroom_idle old.log idle head in
+    ⊎_elim
+    (λ (may : MayWrite true old.log).
+    let begins = step.begins left may in
+    let same = ap (λ (l : LogValue). next_durable l) (begins.live live).1 in
+    let quiet = begins.unchanged.made_stays Flush in
+    omega (arith, same, quiet))
+    (λ (not : MayWrite true old.log → ⊥).
+    goes_ahead_once before after old new (way_ahead before after old new step left idle r not) head live)
+    (may_or_not old.log r))
+    (cases_lt 0 old.log.steps_left))
+    (written_or_not old)
+
 pub work_once : (work : Work) (ahead : Bool) (before after : State) (old new : Cached) → IsWork work ahead before after old new
     → RetiresNone work ahead old → FlushesOnce ahead before after old new
 work_once Settle ahead before after old new is kind on head live = settles_once ahead before after old new is kind head live
 work_once Ahead ahead before after old new is kind on head live =
     goes_ahead_once before after old new (subst (λ (b : Bool). IsAheadStep b before after old new) on is) head live
+work_once WriteBack ahead before after old new is kind on head live =
+    writes_back_once before after old new (subst (λ (b : Bool). IsWriteBackStep b before after old new) on is) head live
 
 -- ---- one call after another
 

@@ -56,7 +56,7 @@ spare_or_waits ahead log owes idle enough few = ⊎_elim
 landed_idle : (log : LogValue) → log.steps_left ≡ 0 → landed log ≡ log
 landed_idle log idle = ap (λ (steps : ℕ). landed_from steps log) idle
 
-landed_some : (log : LogValue) → 0 < log.steps_left → landed log ≡ written_out log
+pub landed_some : (log : LogValue) → 0 < log.steps_left → landed log ≡ written_out log
 landed_some log some = from log.steps_left some
   where
     from : (steps : ℕ) → 0 < steps → landed_from steps log ≡ written_out log
@@ -64,7 +64,7 @@ landed_some log some = from log.steps_left some
     from (suc steps) none = refl
 
 -- a step of it changes nothing of what it leaves
-landed_stepped : (progress : Progress) (old new : LogValue) → 0 < old.steps_left → IsStepped progress old new → landed new ≡ landed old
+pub landed_stepped : (progress : Progress) (old new : LogValue) → 0 < old.steps_left → IsStepped progress old new → landed new ≡ landed old
 landed_stepped More old new some stepped =
     let left = ap (λ (l : LogValue). l.steps_left) stepped.1 in
     landed_some new (omega (arith, left, stepped.0))
@@ -162,7 +162,7 @@ both_each frozen active log head under_way =
 -- ---- a background step
 
 -- the next batch holds blocks
-next_some : (old new : Cached) → FreezesNext old new → 0 < unwritten old → 0 < length new.frozen.numbers
+pub next_some : (old new : Cached) → FreezesNext old new → 0 < unwritten old → 0 < length new.frozen.numbers
 next_some old new next some = ⊎_elim
     (λ (first : 0 < length old.frozen.numbers).
     let same = ap (λ (batch : Entries). length batch.numbers) (next.frozen_first first).1 in omega (arith, same, first))

@@ -15,6 +15,7 @@ pub mod KnownImages
 pub mod BackgroundCalls
 pub mod ReadBlocks
 pub mod Headroom
+pub mod WrittenBack
 pub mod FlushesOnce
 pub mod RingRoom
 pub mod OneBatchSent

@@ -1,19 +1,22 @@
 -- What one step of the background work does, by what it works towards.
-use Rattle.std.specs.Prelude.{◌≡◌, ◌⊎◌, ◌<◌, ◌≤◌, Bool, true, false, Result}
+use Rattle.std.specs.Prelude.{◌≡◌, ◌⊎◌, ◌<◌, ◌≤◌, Bool, true, false, Result, length}
 use Rattle.medium.specs.Medium.{State}
 use Rattle.medium.specs.Moments.{IsUnchanged}
 use Rattle.medium.specs.declared.fault.MediumFault.TheVariants.{Flush}
-use Rattle.redo_log.specs.Value.{CanPass, IsAway}
+use Rattle.redo_log.specs.Value.{LogValue, HasRoom, CanPass, IsAway}
 use Rattle.blocks.specs.declared.work.Work.{Work}
-use Rattle.blocks.specs.declared.work.Work.TheVariants.{Settle, Ahead}
+use Rattle.blocks.specs.declared.work.Work.TheVariants.{Settle, Ahead, WriteBack}
 use Rattle.blocks.specs.declared.fault.StoreFault.{StoreFault}
 use Rattle.blocks.specs.Ahead.{counted}
-use Rattle.blocks.specs.Background.{IsBackgroundStep, HasDied, LeavesFewer, MayBegin}
+use Rattle.blocks.specs.Background.{IsBackgroundStep, HasDied, LeavesFewer, MayBegin, IsBeginning}
+use Rattle.blocks.specs.Background.{IsRecordStep, IsRetiring}
 use Rattle.blocks.specs.Going.{PassesHead, BringsHome}
 use Rattle.blocks.specs.Headroom.{KeepsHeadroom, FlushesOnce}
 use Rattle.blocks.specs.Passing.{PassesOn, TellsLife, MayEmpty}
 use Rattle.blocks.specs.Turns.{IsTurn}
+use Rattle.blocks.specs.Retiring.{HasSlots}
 use Rattle.blocks.specs.StoreValue.{Cached, StoreValue, is_dead, active_of, steps_left}
+use Rattle.blocks.specs.Written.{IsWritten}
 
 -- The flush of a record that became durable counts for the oldest one, where it covers that.
 abbrev pub with_counted : Cached → Cached
@@ -40,22 +43,60 @@ pub record IsAheadStep (ahead : Bool) (before after : State) (old new : Cached) 
   pub goes : ahead ≡ true → is_dead old ≡ false → old.log.steps_left ≡ 0
       → GoesOnAhead before after (with_counted old) new
 
+-- Three slots are free, one for the next record and two besides; or two are, and no block of the
+-- oldest record is away: the flush of the next one covers it.
+abbrev pub SparesSlots : LogValue → Type 0
+SparesSlots log = HasSlots 3 log ⊎ (HasSlots 2 log × (¬ IsAway log))
+
+-- A record is begun by a step that writes back where the log has room, and where the store goes
+-- ahead slots are spared.
+pub record MayWrite (ahead : Bool) (log : LogValue) : Type 0 where
+  pub room : HasRoom log
+  pub spares : ahead ≡ true → SparesSlots log
+
+-- Room is made for it, once a flush is counted: by a step ahead where that does something, and else
+-- the oldest record is retired by one step.
+pub record MakesWay (before after : State) (old new : Cached) : Type 0 where
+  pub goes : (CanPass old.log ⊎ IsAway old.log) → GoesOnAhead before after old new
+  pub retires : ¬ (CanPass old.log ⊎ IsAway old.log) → IsRetiring before after old new
+
+-- where the store does not go ahead, it is retired by one step
+abbrev pub MakesWayBy : Bool → State → State → Cached → Cached → Type 0
+MakesWayBy true before after old new = MakesWay before after (with_counted old) new
+MakesWayBy false before after old new = IsRetiring before after old new
+
+-- One step that writes back. Where no record is left to write none is made. With a record under way
+-- that one goes on; else the next batch is begun where it may be, and where it may not, room is
+-- made for it.
+pub record IsWriteBackStep (ahead : Bool) (before after : State) (old new : Cached)
+    : Type 0 where
+  pub written : IsWritten old → (new ≡ old) × IsUnchanged before after
+  pub goes_on : ¬ IsWritten old → 0 < old.log.steps_left → IsRecordStep before after old new
+  pub begins : ¬ IsWritten old → MayWrite ahead old.log → IsBeginning before after old new
+  pub makes_way : ¬ IsWritten old → old.log.steps_left ≡ 0 → ¬ MayWrite ahead old.log
+      → MakesWayBy ahead before after old new
+
 -- one step of the background work, by what it works towards
 abbrev pub IsWork : Work → Bool → State → State → Cached → Cached → Type 0
 IsWork Settle ahead before after old new = IsBackgroundStep ahead before after old new
 IsWork Ahead ahead before after old new = IsAheadStep ahead before after old new
+IsWork WriteBack ahead before after old new = IsWriteBackStep ahead before after old new
 
 -- A step towards rest leaves fewer steps, where there was one and the store lives. One ahead never
--- leaves more.
+-- leaves more. One that writes back leaves fewer as long as a record is left to write: so none is
+-- in the end.
 abbrev pub LeavesBy : Work → Cached → Cached → Type 0
 LeavesBy Settle old new = LeavesFewer old new
 LeavesBy Ahead old new = steps_left new ≤ steps_left old
+LeavesBy WriteBack old new = is_dead new ≡ false
+    → IsWritten old ⊎ (steps_left new < steps_left old)
 
 -- A step towards rest retires where no record is under way and none may be begun. One ahead does so
--- by no flush.
+-- by no flush, and so does one that writes back, where there is headroom.
 abbrev pub RetiresNone : Work → Bool → Cached → Type 0
 RetiresNone Settle ahead old = (0 < old.log.steps_left) ⊎ MayBegin ahead old
 RetiresNone Ahead ahead old = Unit {0}
+RetiresNone WriteBack ahead old = Unit {0}
 
 -- Each step leaves fewer of them, or no more, and where none is left, or the store is dead, nothing
 -- happens.
@@ -98,4 +139,26 @@ pub record WorksAhead {M : Type 0} (state : M → State) (Follows : M → M → 
   pub order : IsAheadStep old.goes_ahead (state old.medium) (state new.medium)
       old.cached new.cached
   pub steps : CountsBy Ahead old new
+  pub active : new.cached.active ≡ old.cached.active
+
+-- one step that writes back is made, or none
+pub record WritesBack {M : Type 0} (state : M → State) (Follows : M → M → Type 0)
+    (old new : StoreValue M) : Type 0 where
+  pub passes : PassesOn state Follows IsTurn 2 2 old new
+  pub order : IsWriteBackStep old.goes_ahead (state old.medium) (state new.medium)
+      old.cached new.cached
+  pub steps : CountsBy WriteBack old new
+  pub active : MayEmpty (active_of old.cached) (active_of new.cached)
+
+-- A record waits to be retired, and none is under way.
+pub record HasToRetire (s : Cached) : Type 0 where
+  pub idle : IsIdle s
+  pub waits : 0 < length s.log.waiting
+
+-- room is made by one step, which leaves fewer, and both batches stay
+pub record GoesTowardsRoom {M : Type 0} (state : M → State) (Follows : M → M → Type 0)
+    (old new : StoreValue M) : Type 0 where
+  pub passes : PassesOn state Follows IsTurn 2 2 old new
+  pub way : MakesWayBy old.goes_ahead (state old.medium) (state new.medium) old.cached new.cached
+  pub falls : is_dead new.cached ≡ false → steps_left new.cached < steps_left old.cached
   pub active : new.cached.active ≡ old.cached.active

@@ -72,8 +72,8 @@ impl<M: Medium> Store<M> {
         !self.goes_ahead || self.log.has_slots(3)
     }
 
-    // Begins the frozen batch, or the active one in its place.
-    fn begin_next(&mut self) -> Result<(), StoreFault>
+    /// Begins the frozen batch, or the active one in its place.
+    pub(crate) fn begin_next(&mut self) -> Result<(), StoreFault>
         requires live { is_dead self.old.cached ≡ false }
         requires room { HasRoom self.old.cached.log }
         requires some { 0 < unwritten self.old.cached }

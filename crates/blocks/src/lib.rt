@@ -18,6 +18,7 @@ mod store;
 mod sync;
 mod work;
 mod write;
+mod write_back;
 
 pub use fault::StoreFault;
 pub use laws::flush_laws;

@@ -12,6 +12,10 @@ pub enum Work {
     /// That the ring has room for the next records: the head goes past a record that is flushed at
     /// home, and blocks go home, by calls that are no flush.
     Ahead,
+    /// That each accepted write is durable: the record under way goes on, and the next one is begun
+    /// where slots are spared, or room is made for it. Where the store goes ahead that is done as
+    /// `Ahead` does it, so that no flush is made but those of the records.
+    WriteBack,
 }
 
 impl<M: Medium> Store<M> {
@@ -25,6 +29,7 @@ impl<M: Medium> Store<M> {
         match work {
             Work::Settle => self.tick(),
             Work::Ahead => self.work_ahead(),
+            Work::WriteBack => self.write_back(),
         }
     }
 
@@ -39,9 +44,9 @@ impl<M: Medium> Store<M> {
         let _ = self.step_ahead();
     }
 
-    // The head goes past the oldest record where it may, and else one block of that goes home that
-    // is away.
-    fn step_ahead(&mut self) -> Result<(), StoreFault>
+    /// The head goes past the oldest record where it may, and else one block of that goes home that
+    /// is away.
+    pub(crate) fn step_ahead(&mut self) -> Result<(), StoreFault>
         requires { IsIdle self.old.cached }
         ensures { StepsAhead M.state M.follows result self.old self.new }
     {

@@ -9,7 +9,7 @@ use Rattle.blocks.specs.Headroom.{KeepsHeadroom}
 use Rattle.blocks.specs.Looks.{LooksAtLog}
 use Rattle.blocks.specs.Work.{IsWork, LeavesBy}
 use Rattle.blocks.specs.declared.work.Work.{Work}
-use Rattle.blocks.specs.declared.work.Work.TheVariants.{Settle, Ahead}
+use Rattle.blocks.specs.declared.work.Work.TheVariants.{Settle, Ahead, WriteBack}
 use Rattle.spec.specs.Book.{Book}
 use Rattle.blocks.specs.StoreValue.{Cached, StoreValue, FitsBook, layout_of, blocks_of, transfer_limit, is_dead, active_of}
 use Rattle.blocks.specs.Turns.{GoesOn, HasCause, IsTurn}
@@ -79,6 +79,7 @@ dead_stays : (work : Work) (ahead : Bool) (before after : State) (old new : Cach
     → is_dead old ≡ true → (new ≡ old) × IsUnchanged before after
 dead_stays Settle ahead before after old new step dead = step.dead dead
 dead_stays Ahead ahead before after old new step dead = step.dead dead
+dead_stays WriteBack ahead before after old new step dead = step.written (inl dead)
 
 -- a unit over a store that made a step in the background
 pub ticks_over : {M : Type 0} (work : Work) (before after : State) (old : UnitValue M) (store : StoreValue M)
