@@ -1,0 +1,193 @@
+//! A machine whose calls a device carries out, one at a time.
+ghost use Rattle.std.specs.Prelude.{◌≡◌, ◌≤◌, ◌++◌, length, drop, replicate};
+ghost use Rattle.machine_calls.specs.Carried.{IsAsked, AsksFor, Hears, HearsRead, StaysCarried};
+ghost use Rattle.machine_calls.specs.Carried.{EndsAs, EndsWith};
+ghost use Rattle.machine_calls.specs.Carried.{LeavesWhatItMay, told, IsCarriedOn, rests_at};
+ghost use Rattle.machine_calls.specs.declared.asked.Asked.TheVariants as asked;
+
+use crate::asked::Asked;
+use device_calls::{DeviceAsk, DeviceRead, DoneFault};
+use medium::{Call, Machine, MediumFault};
+use window::WindowMedium;
+
+const SECTOR: usize = 512;
+
+/// A machine, and the device that carries out its calls: what its next call is, and how that ended.
+#[derive(Drop)]
+pub struct Carried<T> {
+    machine: T,
+    // The sector that is lent to its calls.
+    sector: [u8; 512],
+    asked: Asked,
+}
+
+impl<T: Machine<WindowMedium>> Carried<T> {
+    /// A machine of which the device was asked nothing.
+    pub fn new(machine: T) -> Carried<T>
+        ensures machine { result.machine ≡ machine }
+        ensures sector { result.sector ≡ replicate 512 0 }
+        ensures asked { result.asked ≡ asked.Nothing }
+    {
+        Carried {
+            machine,
+            sector: [0; SECTOR],
+            asked: Asked::Nothing,
+        }
+    }
+
+    /// What the device is to do next: nothing while it is at a call, or refused one, or where the
+    /// machine is at its end. The bytes of a write go to the front of the buffer.
+    pub fn next(&mut self, buffer: &mut [u8]) -> DeviceAsk
+        requires { 512 ≤ length buffer.old }
+        ensures asks { IsAsked T.fits T.holds T.may T.reads T.ends T.cost T.exact T.due T.after
+            T.gone self.old.asked self.old buffer.old result self.new buffer.new }
+        ensures carried { StaysCarried T.fits T.holds T.may T.reads T.ends T.cost T.exact T.due
+            T.after T.gone self.old self.new (told result self.new.sector) }
+    {
+        match self.asked {
+            Asked::Nothing => self.ask(buffer),
+            _ => DeviceAsk::Nothing,
+        }
+    }
+
+    // What a device that is at no call is to do next.
+    fn ask(&mut self, buffer: &mut [u8]) -> DeviceAsk
+        requires idle { self.old.asked ≡ asked.Nothing }
+        requires room { 512 ≤ length buffer.old }
+        ensures asks { AsksFor T.fits T.holds T.may T.reads T.ends T.cost T.exact T.due T.after
+            T.gone self.old buffer.old result self.new buffer.new }
+        ensures carried { StaysCarried T.fits T.holds T.may T.reads T.ends T.cost T.exact T.due
+            T.after T.gone self.old self.new (told result self.new.sector) }
+    {
+        let Some(call) = self.machine.next(&mut self.sector) else {
+            return DeviceAsk::Nothing;
+        };
+        self.asked = Asked::At(call);
+        match call {
+            Call::Read(place) => DeviceAsk::Read(DeviceRead {
+                first: place,
+                count: 1,
+            }),
+            Call::Write(place) => {
+                put(buffer, &self.sector);
+                self.machine.made(&self.sector);
+                DeviceAsk::Write {
+                    first: place,
+                    count: 1,
+                }
+            }
+            Call::Flush => {
+                self.machine.made(&self.sector);
+                DeviceAsk::Flush
+            }
+        }
+    }
+
+    /// What the device was asked for last has ended, good or not; of a read these are the bytes of
+    /// the sector, and of other calls no bytes are looked at. A call that it refused is its last.
+    ///
+    /// # Errors
+    /// `NothingAsked` where the device is at no call, and `BadLength` where the bytes are not those
+    /// of a sector. Nothing changes then.
+    pub fn done(&mut self, ok: bool, bytes: &[u8]) -> Result<(), DoneFault>
+        ensures hears { Hears T.fits T.holds T.may T.reads T.ends T.cost T.exact T.due T.after
+            T.gone self.old.asked self.old ok bytes.now result self.new }
+        ensures carried { IsCarriedOn T.fits T.holds T.may T.reads T.ends T.cost T.exact T.due
+            T.after T.gone self.old ok bytes.now result self.new }
+    {
+        match self.asked {
+            Asked::Nothing | Asked::Refused(_) => Err(DoneFault::NothingAsked),
+            Asked::At(call) => match call {
+                Call::Read(_) => self.take(ok, bytes),
+                Call::Write(_) => {
+                    self.asked = at_rest(ok, MediumFault::Write);
+                    Ok(())
+                }
+                Call::Flush => {
+                    self.asked = at_rest(ok, MediumFault::Flush);
+                    Ok(())
+                }
+            },
+        }
+    }
+
+    // A read has ended, good or not. The machine has a call left, and goes on.
+    fn take(&mut self, ok: bool, bytes: &[u8]) -> Result<(), DoneFault>
+        ensures hears { HearsRead T.fits T.holds T.may T.reads T.ends T.cost T.exact T.due T.after
+            T.gone self.old ok bytes.now result self.new }
+    {
+        if ok && bytes.len() != SECTOR {
+            return Err(DoneFault::BadLength);
+        }
+        self.asked = Asked::Nothing;
+        if self.machine.next(&mut self.sector).is_none() {
+            return Ok(());
+        }
+        if ok {
+            self.sector.copy_from_slice(bytes);
+            self.machine.made(&self.sector);
+        } else {
+            self.machine.refused();
+            self.asked = Asked::Refused(MediumFault::Read);
+        }
+        Ok(())
+    }
+
+    /// How its calls ended, if none is left: all were made, or the device refused one of this kind.
+    pub fn end(&self) -> Option<Result<(), MediumFault>>
+        ensures { EndsAs T.fits T.holds T.may T.reads T.ends T.cost T.exact T.due T.after T.gone
+            self.now.asked self.now result }
+    {
+        match self.asked {
+            Asked::Nothing => self.end_of_calls(),
+            Asked::At(_) => None,
+            Asked::Refused(kind) => Some(Err(kind)),
+        }
+    }
+
+    // So of a machine whose device is at no call, and refused none.
+    fn end_of_calls(&self) -> Option<Result<(), MediumFault>>
+        ensures { EndsWith T.fits T.holds T.may T.reads T.ends T.cost T.exact T.due T.after T.gone
+            self.now result }
+    {
+        let mut sector = self.sector;
+        match self.machine.next(&mut sector) {
+            Some(_) => None,
+            None => Some(Ok(())),
+        }
+    }
+
+    /// The machine, as far as it has come.
+    pub fn into_machine(self) -> T
+        ensures { result ≡ self.machine }
+    {
+        self.machine
+    }
+
+    /// Does nothing. Wherever in what it was told the device is, what a loss of power leaves of it
+    /// is what the machine may leave.
+    pub fn rest(&self)
+        ensures { LeavesWhatItMay T.fits T.holds T.may T.reads T.ends T.cost T.exact T.due T.after
+            T.gone self.now }
+    {}
+}
+
+// The sector goes to the front of the buffer.
+fn put(buffer: &mut [u8], sector: &[u8; 512])
+    requires { 512 ≤ length buffer.old }
+    ensures bytes { buffer.new ≡ sector.now ++ drop 512 buffer.old }
+    ensures sized { length sector.now ≡ 512 }
+{
+    buffer[..SECTOR].copy_from_slice(sector);
+}
+
+// What a device is at that has ended a call of this kind, good or not.
+fn at_rest(ok: bool, kind: MediumFault) -> Asked
+    ensures { result ≡ rests_at ok kind }
+{
+    if ok {
+        Asked::Nothing
+    } else {
+        Asked::Refused(kind)
+    }
+}
