@@ -1,6 +1,9 @@
 -- A machine whose calls a device carries out is carried on, call by call.
-use Rattle.std.proofs.Common.{◌≡◌, ◌≢◌, ◌⊎◌, ◌≤◌, ◌+◌, ℕ, Bool, true, false, List, [], ◌∷◌, ◌++◌, length, inl, inr, refl, sym, ◌∙◌, ap, subst, arith, Ok, Err, Result}
+use Rattle.std.proofs.Common.{◌≡◌, ℕ, Bool, true, false, List, [], ◌∷◌, ◌++◌, length, inl, inr, refl, sym, ◌∙◌, ap, subst, arith}
+use Rattle.std.proofs.Common.{Ok, Err, Result}
 use Rattle.std.proofs.Common.{Option, Some, None, append_assoc}
+use Rattle.std.proofs.lemmas.List.{append-nil}
+use Rattle.window.specs.WindowLaws.{is_sound}
 use Rattle.medium.specs.Medium.{Image}
 use Rattle.medium.specs.Moments.{EachCut, LeavesOnly}
 use Rattle.medium.specs.Tally.{Tally, none, one_more, of_kind}
@@ -8,7 +11,7 @@ use Rattle.medium.specs.Machine.{GoesOn, Driven, TellsCall}
 use Rattle.medium.specs.declared.medium_call.Call.{Call}
 use Rattle.medium.specs.declared.medium_call.Call.TheVariants as call
 use Rattle.medium.specs.declared.fault.MediumFault.TheVariants as kind
-use Rattle.medium.proofs.Driving.{driven_call, driven_refused}
+use Rattle.medium.proofs.Driving.{driven_call, driven_refused, not_driven}
 use Rattle.mirror.specs.Story.{given, are_whole, is_whole}
 use Rattle.mirror.specs.OutboxMedium as mirror
 use Rattle.mirror.specs.OutboxMedium.{OutboxMedium, sent, DeviceLeaves, ComesAfter}
@@ -22,7 +25,7 @@ use Rattle.device_calls.specs.declared.done_fault.DoneFault.{DoneFault}
 use Rattle.machine_calls.specs.declared.asked.Asked.{Asked}
 use Rattle.machine_calls.specs.declared.asked.Asked.TheVariants as asked
 use Rattle.machine_calls.specs.declared.carried.Carried.{Carried}
-use Rattle.machine_calls.specs.Carried.{IsCarried, Tells, HearsRead, IsCarriedOn, Reaches, Runs, LeavesWhatItMay}
+use Rattle.machine_calls.specs.Carried.{IsCarried, Tells, HearsRead, IsCarriedOn, Reaches, Runs, LeavesWhatItMay, HoldsOn, BeginsCarried}
 use Rattle.machine_calls.proofs.Performing.{read_performed, read_refused, write_performed, flush_performed}
 
 -- a call more that gives the device nothing
@@ -164,19 +167,38 @@ module _ {S V : Type 0} (fits : S → ℕ → Type 0) (holds : S → List ℕ �
       rw good (rw at (at_read new first began m (misses n place) new.sector (asked.Refused kind.Read) refl failed.1
       (read_failed is place at new.sector new.machine failed.0)))
 
-  module _ (view : V) (first : S) (began : List ℕ) (m n : Window) (held : holds first began m view) (machine : S) (sector : List ℕ) where
-    -- wherever the device is, a cut has left what it may
-    left_so_far : (at : Asked) → Reaches fits holds may reads_to ends cost Exact Due After Gone first began m machine sector at n
-        → LeavesOnly (may view) (state_of m) (state_of n)
-    left_so_far asked.Nothing run = (run.runs view held).0
-    left_so_far (asked.At (call.Read place)) run = (run.1.runs view held).0
-    left_so_far (asked.At (call.Write place)) run = (run.runs view held).0
-    left_so_far (asked.At call.Flush) run = (run.runs view held).0
-    left_so_far (asked.Refused kind) run = (run.runs view held).0
+  module _ (view : V) (first : S) (began : List ℕ) (m n : Window) (held : holds first began m view) (machine : S)
+      (sector : List ℕ) where
+    -- wherever the device is, a cut has left what it may, and they hold what they are to hold
+    held_so_far : (at : Asked) → Reaches fits holds may reads_to ends cost Exact Due After Gone first began m machine sector at n
+        → LeavesOnly (may view) (state_of m) (state_of n) × (had : List ℕ) × holds machine had n view
+    held_so_far asked.Nothing run = let all = run.runs view held in (all.0, sector, all.1)
+    held_so_far (asked.At (call.Read place)) run = let all = run.1.runs view held in (all.0, run.0, all.1)
+    held_so_far (asked.At (call.Write place)) run = let all = run.runs view held in (all.0, sector, all.1)
+    held_so_far (asked.At call.Flush) run = let all = run.runs view held in (all.0, sector, all.1)
+    held_so_far (asked.Refused kind) run = let all = run.runs view held in (all.0, sector, all.1)
+
+  pub holds_on : (s : Carried S) → HoldsOn fits holds may reads_to ends cost Exact Due After Gone s
+  holds_on s first began m n view is held = held_so_far view first began m n held s.machine s.sector s.asked is.reaches
+
+  -- before the first call
+  pub begun : (s : Carried S) → s.asked ≡ asked.Nothing → BeginsCarried fits holds may reads_to ends cost Exact Due After Gone s.machine s
+  begun s idle m fit whole = record {
+    fit = fit;
+    reaches = subst (λ (a : Asked). At s.machine s.sector m s a m) (sym idle) (not_driven leaves s.machine s.sector m (is_sound m));
+    follows = record {
+      since = [];
+      asked = sym (append-nil m.seen.told.asked);
+      outbox = sym (append-nil m.outbox);
+      taken_stays = refl;
+    };
+    opening_stays = refl;
+    whole = whole;
+  }
 
   pub leaves_what_it_may : (s : Carried S) → LeavesWhatItMay fits holds may reads_to ends cost Exact Due After Gone s
   leaves_what_it_may s first began m n count image is all le left =
       let moment = covers (mirror_of m) (mirror_of n) all is.follows count image le left in (
         moment,
-        λ view held. (left_so_far view first began m n held s.machine s.sector s.asked is.reaches).each image moment,
+        λ view held. (held_so_far view first began m n held s.machine s.sector s.asked is.reaches).0.each image moment,
       )

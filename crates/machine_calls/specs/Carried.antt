@@ -2,6 +2,7 @@
 use Rattle.std.specs.Prelude.{◌≡◌, ◌≢◌, ◌⊎◌, ◌≤◌, ℕ, Bool, true, false, List, ◌++◌, length, drop}
 use Rattle.std.specs.Prelude.{Result, Ok, Err, Option, Some, None}
 use Rattle.medium.specs.Medium.{Image}
+use Rattle.medium.specs.Moments.{LeavesOnly}
 use Rattle.medium.specs.Tally.{Tally, none}
 use Rattle.medium.specs.Machine.{TellsCall, Driven}
 use Rattle.medium.specs.declared.medium_call.Call.{Call}
@@ -97,6 +98,12 @@ module _ {S V : Type 0} (fits : S → ℕ → Type 0) (holds : S → List ℕ �
     pub opening_stays : n.seen.told.opening ≡ m.seen.told.opening
     pub whole : are_whole (given n.seen.told.asked) ≡ true
 
+  -- so it is of a machine of which the device was asked nothing, on a medium that was given whole
+  -- sectors alone
+  abbrev pub BeginsCarried : S → Carried S → Type 0
+  BeginsCarried machine s = (m : Window) → fits machine (state_of m).size
+      → are_whole (given m.seen.told.asked) ≡ true → IsCarried machine s.sector m s m
+
   -- so it is again, once the device has come on
   abbrev pub StaysCarried : Carried S → Carried S → (Window → Window) → Type 0
   StaysCarried old new on = (first : S) (began : List ℕ) (m n : Window)
@@ -118,6 +125,14 @@ module _ {S V : Type 0} (fits : S → ℕ → Type 0) (holds : S → List ℕ �
       → length (sent (mirror_of m)) ≤ count → DeviceLeaves (mirror_of n) count image
       → (state_of n).left_since (state_of m).calls image
       × ((view : V) → holds first began m view → may view image)
+
+  -- The machine and that medium hold what they are to hold between two calls, and at each moment of
+  -- them a cut left what it may.
+  abbrev pub HoldsOn : Carried S → Type 0
+  HoldsOn s = (first : S) (began : List ℕ) (m n : Window) (view : V) → IsCarried first began m s n
+      → holds first began m view
+      → LeavesOnly (may view) (state_of m) (state_of n)
+      × (had : List ℕ) × holds s.machine had n view
 
   -- ---- what the device is asked for, and what it tells
 
@@ -144,12 +159,16 @@ module _ {S V : Type 0} (fits : S → ℕ → Type 0) (holds : S → List ℕ �
   IsAsked (asked.Refused kind) old buffer what new filled =
       (what ≡ ask.Nothing) × (new ≡ old) × (filled ≡ buffer)
 
+  -- of a machine that has no call left nothing but what the device is at changes
+  abbrev pub IsIdle : Carried S → Carried S → Type 0
+  IsIdle old new = new ≡ record old { sector = new.sector; asked = asked.Nothing }
+
   -- a read has ended, good or not: the machine goes on, if it has a call left
   abbrev pub EndsRead : Carried S → Bool → List ℕ → Carried S → Type 0
-  EndsRead old true bytes new = ((cost old.machine ≡ none) × (new.asked ≡ asked.Nothing))
+  EndsRead old true bytes new = ((cost old.machine ≡ none) × IsIdle old new)
       ⊎ (After old.machine bytes new.machine × (new.sector ≡ bytes)
       × (new.asked ≡ asked.Nothing))
-  EndsRead old false bytes new = ((cost old.machine ≡ none) × (new.asked ≡ asked.Nothing))
+  EndsRead old false bytes new = ((cost old.machine ≡ none) × IsIdle old new)
       ⊎ (Gone old.machine new.machine × (new.asked ≡ asked.Refused kind.Read))
 
   -- a good one with bytes that are no sector changes nothing

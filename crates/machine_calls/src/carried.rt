@@ -1,7 +1,7 @@
 //! A machine whose calls a device carries out, one at a time.
 ghost use Rattle.std.specs.Prelude.{◌≡◌, ◌≤◌, ◌++◌, length, drop, replicate};
 ghost use Rattle.machine_calls.specs.Carried.{IsAsked, AsksFor, Hears, HearsRead, StaysCarried};
-ghost use Rattle.machine_calls.specs.Carried.{EndsAs, EndsWith};
+ghost use Rattle.machine_calls.specs.Carried.{EndsAs, EndsWith, BeginsCarried, HoldsOn};
 ghost use Rattle.machine_calls.specs.Carried.{LeavesWhatItMay, told, IsCarriedOn, rests_at};
 ghost use Rattle.machine_calls.specs.declared.asked.Asked.TheVariants as asked;
 
@@ -27,6 +27,8 @@ impl<T: Machine<WindowMedium>> Carried<T> {
         ensures machine { result.machine ≡ machine }
         ensures sector { result.sector ≡ replicate 512 0 }
         ensures asked { result.asked ≡ asked.Nothing }
+        ensures begins { BeginsCarried T.fits T.holds T.may T.reads T.ends T.cost T.exact T.due
+            T.after T.gone machine result }
     {
         Carried {
             machine,
@@ -167,7 +169,9 @@ impl<T: Machine<WindowMedium>> Carried<T> {
     /// Does nothing. Wherever in what it was told the device is, what a loss of power leaves of it
     /// is what the machine may leave.
     pub fn rest(&self)
-        ensures { LeavesWhatItMay T.fits T.holds T.may T.reads T.ends T.cost T.exact T.due T.after
+        ensures leaves { LeavesWhatItMay T.fits T.holds T.may T.reads T.ends T.cost T.exact T.due
+            T.after T.gone self.now }
+        ensures holds { HoldsOn T.fits T.holds T.may T.reads T.ends T.cost T.exact T.due T.after
             T.gone self.now }
     {}
 }
