@@ -52,6 +52,12 @@ abbrev pub rests_at : Bool → MediumFault → Asked
 rests_at true kind = asked.Nothing
 rests_at false kind = asked.Refused kind
 
+-- the kind of the call that it refused
+abbrev pub refusal_of : Asked → Option MediumFault
+refusal_of asked.Nothing = None
+refusal_of (asked.At next) = None
+refusal_of (asked.Refused kind) = Some kind
+
 -- how the last call of a machine ended that is not told any more
 abbrev pub end_of : MediumFault → Result (Unit {0}) MediumFault
 end_of kind.Read = Err kind.Read

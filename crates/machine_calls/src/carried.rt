@@ -1,7 +1,7 @@
 //! A machine whose calls a device carries out, one at a time.
 ghost use Rattle.std.specs.Prelude.{◌≡◌, ◌≤◌, ◌++◌, length, drop, replicate};
 ghost use Rattle.machine_calls.specs.Carried.{IsAsked, AsksFor, Hears, HearsRead, StaysCarried};
-ghost use Rattle.machine_calls.specs.Carried.{EndsAs, EndsWith, BeginsCarried, HoldsOn};
+ghost use Rattle.machine_calls.specs.Carried.{EndsAs, EndsWith, BeginsCarried, HoldsOn, refusal_of};
 ghost use Rattle.machine_calls.specs.Carried.{LeavesWhatItMay, told, IsCarriedOn, rests_at};
 ghost use Rattle.machine_calls.specs.declared.asked.Asked.TheVariants as asked;
 
@@ -156,6 +156,16 @@ impl<T: Machine<WindowMedium>> Carried<T> {
         match self.machine.next(&mut sector) {
             Some(_) => None,
             None => Some(Ok(())),
+        }
+    }
+
+    /// The kind of the call that the device refused, if it refused one.
+    pub fn refusal(&self) -> Option<MediumFault>
+        ensures { result ≡ refusal_of self.now.asked }
+    {
+        match self.asked {
+            Asked::Nothing | Asked::At(_) => None,
+            Asked::Refused(kind) => Some(kind),
         }
     }
 

@@ -1,2 +1,3 @@
 pub mod Until
 pub mod Kept
+pub mod Recoveries

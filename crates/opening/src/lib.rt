@@ -5,8 +5,10 @@ mod near;
 mod opening;
 mod reach;
 mod read_end;
+mod recovering;
 
 pub use near::near_of;
 pub use opening::Opening;
 pub use reach::Reach;
 pub use read_end::ReadEnd;
+pub use recovering::Recovering;

@@ -1,0 +1,133 @@
+-- The recovery of an image, which a device carries out call by call.
+use Rattle.std.specs.Prelude.{◌≡◌, ℕ, ◌≤◌, Bool, true, false, List, length, Result, Err}
+use Rattle.medium.specs.Medium.{Image}
+use Rattle.medium.specs.Tally.{Tally, none}
+use Rattle.mirror.specs.Story.{given, are_whole}
+use Rattle.mirror.specs.OutboxMedium.{sent, DeviceLeaves}
+use Rattle.window.specs.Window.{Window, state_of, mirror_of}
+use Rattle.device_calls.specs.declared.ask.DeviceAsk.{DeviceAsk}
+use Rattle.device_calls.specs.declared.done_fault.DoneFault.{DoneFault}
+use Rattle.machine_calls.specs.Carried.{IsCarried, IsAsked, Hears, told, ended_by, IsHonest}
+use Rattle.machine_calls.specs.declared.asked.Asked.{Asked}
+use Rattle.machine_calls.specs.declared.asked.Asked.TheVariants as asked
+use Rattle.recovery.specs.Causes.{start_fault_of}
+use Rattle.recovery.specs.HoldsStart.{HoldsStart, StartView, MayStart}
+use Rattle.recovery.specs.Recovered.{RecoveryLeaves}
+use Rattle.recovery.specs.Starting.{EndsStart, IsStarting, IsStartStep, start_left, start_kind}
+use Rattle.recovery.specs.declared.recovered.Recovered.{Recovered}
+use Rattle.recovery.specs.declared.start_fault.StartFault.{StartFault}
+use Rattle.recovery.specs.declared.start_stage.StartStage.TheVariants as stage
+use Rattle.recovery.specs.declared.starting.Starting.{Starting}
+use Rattle.opening.specs.declared.recovering.Recovering.{Recovering}
+
+-- ---- a start, as a machine whose calls a device carries out
+
+abbrev fits : Starting → ℕ → Type 0
+fits s size = s.sectors ≡ size
+
+abbrev holds : Starting → List ℕ → Window → StartView Window → Type 0
+holds s had m view =
+    (s.least ≡ view.least) × HoldsStart state_of view.least s.stage had view.start m
+
+abbrev may : StartView Window → Image → Type 0
+may view image = MayStart (state_of view.start) image
+
+abbrev left : Starting → Tally
+left s = start_left s.stage
+
+abbrev Due : Starting → Type 0
+Due s = IsStarting s.stage
+
+abbrev sectors_of : Starting → ℕ
+sectors_of s = s.sectors
+
+abbrev After : Starting → List ℕ → Starting → Type 0
+After s got t = (t.sectors ≡ s.sectors) × (t.least ≡ s.least)
+    × IsStartStep s.sectors s.least s.stage got t.stage
+
+abbrev Gone : Starting → Starting → Type 0
+Gone s t = (t.sectors ≡ s.sectors) × (t.least ≡ s.least)
+    × (t.stage ≡ stage.Refused (start_fault_of (start_kind s.stage)))
+
+-- A recovery was begun when the device was this medium, and it has come to that one, whose calls
+-- are those that the device was told. Of a device that tells what it holds.
+pub record IsRecovering (m : Window) (s : Recovering) (n : Window) : Type 0 where
+  pub first : Starting
+  pub began : List ℕ
+  pub carried : IsCarried fits holds may sectors_of sectors_of left ⊥ Due After Gone first began m
+      s.carried n
+  pub held : holds first began m (record { start = m; least = 0 })
+
+-- Whatever the device was when it was begun, of so many sectors, which was given whole ones alone.
+abbrev pub BeginsRecovery : ℕ → Recovering → Type 0
+BeginsRecovery sectors s = (m : Window) → (state_of m).size ≡ sectors
+    → are_whole (given m.seen.told.asked) ≡ true → IsRecovering m s m
+
+-- ---- what its calls are
+
+-- the next call of the start, if the device is at none and has refused none
+abbrev pub AsksToRecover : Recovering → List ℕ → DeviceAsk → Recovering → List ℕ → Type 0
+AsksToRecover old buffer what new filled =
+    IsAsked fits holds may sectors_of sectors_of left ⊥ Due After Gone old.carried.asked
+    old.carried buffer what new.carried filled
+
+-- it is told that
+abbrev pub HearsOfRecovery : Recovering → Bool → List ℕ → Result (Unit {0}) DoneFault
+    → Recovering → Type 0
+HearsOfRecovery old ok bytes result new =
+    Hears fits holds may sectors_of sectors_of left ⊥ Due After Gone old.carried.asked old.carried
+    ok bytes result new.carried
+
+-- So the recovery goes on, on the medium that the device has come to.
+abbrev pub GoesOnAsked : Recovering → DeviceAsk → Recovering → Type 0
+GoesOnAsked old what new = (m n : Window) → IsRecovering m old n
+    → IsRecovering m new (told what new.carried.sector n)
+
+abbrev pub GoesOnHeard : Recovering → Bool → List ℕ → Result (Unit {0}) DoneFault → Recovering
+    → Type 0
+GoesOnHeard old ok bytes result new = (m n : Window) → IsHonest old.carried.asked ok bytes n
+    → IsRecovering m old n → IsRecovering m new (ended_by result old.carried.asked ok n)
+
+-- ---- what is so at each moment of it
+
+-- What is left at each moment is what a recovery leaves: a later start finds the array of before.
+-- What a loss of power leaves of the device, wherever in what it was told it is, is left at such a
+-- moment.
+pub record LeavesAsRecovery (m n : Window) : Type 0 where
+  pub leaves : RecoveryLeaves (state_of m) (state_of n)
+  pub device : given m.seen.told.asked ≡ sent (mirror_of m) → (count : ℕ) (image : Image)
+      → length (sent (mirror_of m)) ≤ count → DeviceLeaves (mirror_of n) count image
+      → (state_of n).left_since (state_of m).calls image
+
+abbrev pub IsSafe : Recovering → Type 0
+IsSafe s = (m n : Window) → IsRecovering m s n → LeavesAsRecovery m n
+
+-- ---- its end
+
+-- none is at its end that is at a call, or has one left
+abbrev pub IsOverAt : Asked → Recovering → Type 0
+IsOverAt asked.Nothing s = start_left s.carried.machine.stage ≡ none
+IsOverAt (asked.At next) s = ⊥
+IsOverAt (asked.Refused kind) s = Unit {0}
+
+abbrev pub IsOver : Recovering → Type 0
+IsOver s = IsOverAt s.carried.asked s
+
+-- the device is at a call, or one is left
+abbrev pub IsUnderWayAt : Asked → Recovering → Type 0
+IsUnderWayAt asked.Nothing s = IsStarting s.carried.machine.stage
+IsUnderWayAt (asked.At next) s = Unit {0}
+IsUnderWayAt (asked.Refused kind) s = ⊥
+
+abbrev pub TellsOver : Recovering → Bool → Type 0
+TellsOver s true = IsOver s
+TellsOver s false = IsUnderWayAt s.carried.asked s
+
+-- where the device refused a call, for that; else as `recover` that made these calls
+abbrev pub EndsAt : Asked → Window → Window → Result Recovered StartFault → Type 0
+EndsAt asked.Nothing m n result = EndsStart 0 (state_of m) (state_of n) result
+EndsAt (asked.At next) m n result = ⊥
+EndsAt (asked.Refused kind) m n result = result ≡ Err (start_fault_of kind)
+
+abbrev pub Ends : Recovering → Result Recovered StartFault → Type 0
+Ends s result = (m n : Window) → IsRecovering m s n → EndsAt s.carried.asked m n result
