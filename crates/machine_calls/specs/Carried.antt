@@ -1,7 +1,8 @@
 -- A machine whose calls a device carries out, one at a time, and the device behind it.
-use Rattle.std.specs.Prelude.{◌≡◌, ◌≢◌, ◌⊎◌, ◌≤◌, ℕ, Bool, true, false, List, ◌++◌, length, drop}
+use Rattle.std.specs.Prelude.{◌≡◌, ◌≢◌, ◌⊎◌, ◌≤◌, ℕ, Bool, true, false, List, length}
 use Rattle.std.specs.Prelude.{Result, Ok, Err, Option, Some, None}
-use Rattle.medium.specs.Medium.{Image}
+use Rattle.medium.specs.Medium.{Image, Holds}
+use Rattle.medium.specs.Writes.{sector_of}
 use Rattle.medium.specs.Moments.{LeavesOnly}
 use Rattle.medium.specs.Tally.{Tally, none}
 use Rattle.medium.specs.Machine.{TellsCall, Driven}
@@ -30,6 +31,14 @@ told (ask.Write first count) bytes n =
     gives n (device.Write (record { sector = first; block = bytes }))
 told ask.Flush bytes n = gives n device.Flush
 told (ask.Read read) bytes n = n
+
+-- the bytes of a write are the first sector of the buffer, and of no other call it changes
+abbrev pub IsFilled : DeviceAsk → List ℕ → List ℕ → List ℕ → Type 0
+IsFilled ask.Nothing bytes buffer filled = filled ≡ buffer
+IsFilled (ask.Write first count) bytes buffer filled =
+    Holds 0 bytes (sector_of buffer) (sector_of filled)
+IsFilled ask.Flush bytes buffer filled = filled ≡ buffer
+IsFilled (ask.Read read) bytes buffer filled = filled ≡ buffer
 
 -- what it was at has ended, good or not: of a write and a flush it says nothing new
 abbrev pub ended : Asked → Bool → Window → Window
@@ -143,23 +152,24 @@ module _ {S V : Type 0} (fits : S → ℕ → Type 0) (holds : S → List ℕ �
   -- ---- what the device is asked for, and what it tells
 
   -- this is the next call of the machine, if it has one
-  abbrev pub AsksFor : Carried S → List ℕ → DeviceAsk → Carried S → List ℕ → Type 0
-  AsksFor old buffer ask.Nothing new filled =
-      (cost old.machine ≡ none) × (new ≡ old) × (filled ≡ buffer)
-  AsksFor old buffer (ask.Write first count) new filled = (count ≡ 1)
+  abbrev pub AsksFor : Carried S → DeviceAsk → Carried S → Type 0
+  AsksFor old ask.Nothing new = (cost old.machine ≡ none) × (new ≡ old)
+  AsksFor old (ask.Write first count) new = (count ≡ 1)
       × (new.asked ≡ asked.At (call.Write first))
       × Tells old.machine old.sector (call.Write first) new.sector
-      × After old.machine new.sector new.machine × (filled ≡ new.sector ++ drop 512 buffer)
-  AsksFor old buffer ask.Flush new filled = (new.asked ≡ asked.At call.Flush)
+      × After old.machine new.sector new.machine
+  AsksFor old ask.Flush new = (new.asked ≡ asked.At call.Flush)
       × Tells old.machine old.sector call.Flush new.sector
-      × After old.machine new.sector new.machine × (filled ≡ buffer)
-  AsksFor old buffer (ask.Read read) new filled = (read.count ≡ 1)
+      × After old.machine new.sector new.machine
+  AsksFor old (ask.Read read) new = (read.count ≡ 1)
       × (new ≡ record old { sector = new.sector; asked = asked.At (call.Read read.first) })
-      × Tells old.machine old.sector (call.Read read.first) new.sector × (filled ≡ buffer)
+      × Tells old.machine old.sector (call.Read read.first) new.sector
 
-  -- nothing is, as long as it is at a call, or where it refused one
+  -- Nothing is, as long as it is at a call, or where it refused one. The bytes of a write lie at
+  -- the front of the buffer.
   abbrev pub IsAsked : Asked → Carried S → List ℕ → DeviceAsk → Carried S → List ℕ → Type 0
-  IsAsked asked.Nothing old buffer what new filled = AsksFor old buffer what new filled
+  IsAsked asked.Nothing old buffer what new filled =
+      AsksFor old what new × IsFilled what new.sector buffer filled
   IsAsked (asked.At next) old buffer what new filled =
       (what ≡ ask.Nothing) × (new ≡ old) × (filled ≡ buffer)
   IsAsked (asked.Refused kind) old buffer what new filled =

@@ -1,5 +1,5 @@
 //! A machine whose calls a device carries out, one at a time.
-ghost use Rattle.std.specs.Prelude.{◌≡◌, ◌≤◌, ◌++◌, length, drop, replicate};
+ghost use Rattle.std.specs.Prelude.{◌≡◌, ◌≤◌, length, replicate};
 ghost use Rattle.machine_calls.specs.Carried.{IsAsked, AsksFor, Hears, HearsRead, StaysCarried};
 ghost use Rattle.machine_calls.specs.Carried.{EndsAs, EndsWith, BeginsCarried, HoldsOn, refusal_of};
 ghost use Rattle.machine_calls.specs.Carried.{LeavesWhatItMay, told, IsCarriedOn, rests_at};
@@ -8,6 +8,7 @@ ghost use Rattle.machine_calls.specs.declared.asked.Asked.TheVariants as asked;
 use crate::asked::Asked;
 use device_calls::{DeviceAsk, DeviceRead, DoneFault};
 use medium::{Call, Machine, MediumFault};
+use mirror::put_sector;
 use window::WindowMedium;
 
 const SECTOR: usize = 512;
@@ -46,18 +47,25 @@ impl<T: Machine<WindowMedium>> Carried<T> {
         ensures carried { StaysCarried T.fits T.holds T.may T.reads T.ends T.cost T.exact T.due
             T.after T.gone self.old self.new (told result self.new.sector) }
     {
-        match self.asked {
-            Asked::Nothing => self.ask(buffer),
-            _ => DeviceAsk::Nothing,
+        let Asked::Nothing = self.asked else {
+            return DeviceAsk::Nothing;
+        };
+        match self.ask() {
+            DeviceAsk::Nothing => DeviceAsk::Nothing,
+            DeviceAsk::Write { first, count } => {
+                put_sector(buffer, 0, &self.sector);
+                DeviceAsk::Write { first, count }
+            }
+            DeviceAsk::Flush => DeviceAsk::Flush,
+            DeviceAsk::Read(read) => DeviceAsk::Read(read),
         }
     }
 
-    // What a device that is at no call is to do next.
-    fn ask(&mut self, buffer: &mut [u8]) -> DeviceAsk
-        requires idle { self.old.asked ≡ asked.Nothing }
-        requires room { 512 ≤ length buffer.old }
+    // What a device that is at no call is to do next: a write of the lent sector.
+    fn ask(&mut self) -> DeviceAsk
+        requires { self.old.asked ≡ asked.Nothing }
         ensures asks { AsksFor T.fits T.holds T.may T.reads T.ends T.cost T.exact T.due T.after
-            T.gone self.old buffer.old result self.new buffer.new }
+            T.gone self.old result self.new }
         ensures carried { StaysCarried T.fits T.holds T.may T.reads T.ends T.cost T.exact T.due
             T.after T.gone self.old self.new (told result self.new.sector) }
     {
@@ -66,17 +74,11 @@ impl<T: Machine<WindowMedium>> Carried<T> {
         };
         self.asked = Asked::At(call);
         match call {
-            Call::Read(place) => DeviceAsk::Read(DeviceRead {
-                first: place,
-                count: 1,
-            }),
-            Call::Write(place) => {
-                put(buffer, &self.sector);
+            Call::Read(first) => DeviceAsk::Read(DeviceRead { first, count: 1 }),
+            Call::Write(first) => {
+                is_sector(&self.sector);
                 self.machine.made(&self.sector);
-                DeviceAsk::Write {
-                    first: place,
-                    count: 1,
-                }
+                DeviceAsk::Write { first, count: 1 }
             }
             Call::Flush => {
                 self.machine.made(&self.sector);
@@ -186,14 +188,10 @@ impl<T: Machine<WindowMedium>> Carried<T> {
     {}
 }
 
-// The sector goes to the front of the buffer.
-fn put(buffer: &mut [u8], sector: &[u8; 512])
-    requires { 512 ≤ length buffer.old }
-    ensures bytes { buffer.new ≡ sector.now ++ drop 512 buffer.old }
-    ensures sized { length sector.now ≡ 512 }
-{
-    buffer[..SECTOR].copy_from_slice(sector);
-}
+// Does nothing: a sector has 512 bytes.
+fn is_sector(sector: &[u8; 512])
+    ensures { length sector.now ≡ 512 }
+{}
 
 // What a device is at that has ended a call of this kind, good or not.
 fn at_rest(ok: bool, kind: MediumFault) -> Asked

@@ -1,5 +1,5 @@
 //! The recovery of an image, which a device carries out call by call.
-ghost use Rattle.std.specs.Prelude.{◌≡◌, ◌≤◌, length};
+ghost use Rattle.std.specs.Prelude.{◌≡◌, ◌≤◌, ◌/◌, length};
 ghost use Rattle.opening.specs.Recovering.{BeginsRecovery, AsksToRecover, GoesOnAsked};
 ghost use Rattle.opening.specs.Recovering.{HearsOfRecovery, GoesOnHeard, IsSafe};
 ghost use Rattle.opening.specs.Recovering.{IsOver, TellsOver, Ends};
@@ -29,7 +29,7 @@ impl Recovering {
     /// What the device is to do next: nothing while it is at a call, or refused one, or where the
     /// recovery is at its end. The bytes of a write go to the front of the buffer.
     pub fn next(&mut self, buffer: &mut [u8]) -> DeviceAsk
-        requires { 512 ≤ length buffer.old }
+        requires { 1 ≤ length buffer.old / 512 }
         ensures asks { AsksToRecover self.old buffer.old result self.new buffer.new }
         ensures goes_on { GoesOnAsked self.old result self.new }
     {
