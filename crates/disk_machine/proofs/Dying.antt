@@ -8,7 +8,8 @@ use Rattle.scsi_unit.specs.Background.{Work, Settle, Ahead, is_dead}
 use Rattle.device_calls.specs.declared.ask.DeviceRead.{DeviceRead}
 use Rattle.disk_calls.specs.Plays.{Disk, medium_of, PlaysBy}
 use Rattle.disk_machine.specs.Asking.{AsksFor, IsDone, HasRead, HasEnded}
-use Rattle.disk_machine.specs.Idling.{StepsOn, HasGoneAhead, HasStepped}
+use Rattle.disk_machine.specs.Idling.{IsShort, HasGoneAhead, HasStepped}
+use Rattle.disk_machine.specs.Steps.{StepsWhile}
 use Rattle.disk_machine.specs.Machine.{Machine, under_way}
 use Rattle.disk_machine.specs.Moves.{LeavesNoMore, IsDead}
 use Rattle.device_calls.specs.declared.ask.DeviceAsk.{DeviceAsk}
@@ -76,13 +77,14 @@ event_dead old new event answer plays same dead =
       (plays.faulted dead).1,
     )
 
-steps_dead : (work : Work) (old : Machine) (most count : ℕ) (new : Disk) → StepsOn work most count old.disk new → IsDead old
+pub steps_dead : (Holds : Disk → Type 0) (work : Work) (old : Machine) (count : ℕ) (new : Disk)
+    → StepsWhile Holds work count old.disk new → IsDead old
     → LeavesNoMore old (record old { disk = new }) × IsDead (record old { disk = new })
-steps_dead work old most zero new same dead =
+steps_dead Holds work old zero new same dead =
     subst (λ (d : Disk). LeavesNoMore old (record old { disk = d }) × IsDead (record old { disk = d })) (sym same)
     (λ image left. left, dead)
-steps_dead work old most (suc count) new steps dead =
-    let before = steps_dead work old most count steps.0 steps.1 dead in
+steps_dead Holds work old (suc count) new steps dead =
+    let before = steps_dead Holds work old count steps.0 steps.1 dead in
     let last = event_dead (record old { disk = steps.0 }) (record old { disk = new }) _ _ steps.3 refl before.1 in
     (λ image left. before.0 image (last.0 image left), last.1)
 
@@ -91,11 +93,11 @@ idle_dead old new (inl held) dead =
     subst (λ (s : Machine). LeavesNoMore old s × IsDead s) (sym held.1) (λ image left. left, dead)
 idle_dead old new (inr made) dead =
     subst (λ (s : Machine). LeavesNoMore old s × IsDead s) (sym made.2)
-    (steps_dead Settle old old.most made.1.count new.disk made.1.steps dead)
+    (steps_dead (IsShort Settle old.most) Settle old made.1.count new.disk made.1.steps dead)
 
 pub ahead_dead : (old new : Machine) → HasGoneAhead old new → IsDead old → LeavesNoMore old new × IsDead new
 ahead_dead old new (inl busy) dead =
     subst (λ (s : Machine). LeavesNoMore old s × IsDead s) (sym busy.1) (λ image left. left, dead)
 ahead_dead old new (inr made) dead =
     subst (λ (s : Machine). LeavesNoMore old s × IsDead s) (sym made.2)
-    (steps_dead Ahead old old.most made.1.count new.disk made.1.steps dead)
+    (steps_dead (IsShort Ahead old.most) Ahead old made.1.count new.disk made.1.steps dead)

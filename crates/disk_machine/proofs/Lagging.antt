@@ -12,7 +12,8 @@ use Rattle.device_calls.specs.declared.ask.DeviceRead.{DeviceRead}
 use Rattle.scsi_unit.specs.Background.{Work, Settle, Ahead}
 use Rattle.disk_calls.specs.Plays.{Disk, medium_of, PlaysBy}
 use Rattle.disk_machine.specs.Asking.{AsksFor, HandsOut, IsDone, HasRead, HasEnded, waits_behind}
-use Rattle.disk_machine.specs.Idling.{StepsOn, HasGoneAhead, HasStepped}
+use Rattle.disk_machine.specs.Idling.{IsShort, HasGoneAhead, HasStepped}
+use Rattle.disk_machine.specs.Steps.{StepsWhile}
 use Rattle.disk_machine.specs.Machine.{Machine}
 use Rattle.disk_machine.specs.Moves.{WaitsForDevice, is_behind, waiting_for, begun}
 use Rattle.disk_machine.specs.Packets.{PlaysOut, waits_for}
@@ -137,19 +138,19 @@ out_waits old new packet code plays waits some =
 
 -- ---- steps
 
-steps_wait : (work : Work) (old : Machine) (most count : ℕ) (new : Disk) → StepsOn work most count old.disk new
-    → WaitStays old (record old { disk = new })
-steps_wait work old most zero new same = subst (λ (d : Disk). WaitStays old (record old { disk = d })) (sym same) (λ waits. waits)
-steps_wait work old most (suc count) new steps = λ waits.
+pub steps_wait : (Holds : Disk → Type 0) (work : Work) (old : Machine) (count : ℕ) (new : Disk)
+    → StepsWhile Holds work count old.disk new → WaitStays old (record old { disk = new })
+steps_wait Holds work old zero new same = subst (λ (d : Disk). WaitStays old (record old { disk = d })) (sym same) (λ waits. waits)
+steps_wait Holds work old (suc count) new steps = λ waits.
     event_waits (record old { disk = steps.0 }) (record old { disk = new }) _ _ steps.3 refl refl
-    (steps_wait work old most count steps.0 steps.1 waits)
+    (steps_wait Holds work old count steps.0 steps.1 waits)
 
 pub idle_waits : (old new : Machine) → HasStepped old new → WaitStays old new
 idle_waits old new (inl held) = same_wait old new held.1
 idle_waits old new (inr made) = subst (λ (s : Machine). WaitStays old s) (sym made.2)
-    (steps_wait Settle old old.most made.1.count new.disk made.1.steps)
+    (steps_wait (IsShort Settle old.most) Settle old made.1.count new.disk made.1.steps)
 
 pub ahead_waits : (old new : Machine) → HasGoneAhead old new → WaitStays old new
 ahead_waits old new (inl busy) = same_wait old new busy.1
 ahead_waits old new (inr made) = subst (λ (s : Machine). WaitStays old s) (sym made.2)
-    (steps_wait Ahead old old.most made.1.count new.disk made.1.steps)
+    (steps_wait (IsShort Ahead old.most) Ahead old made.1.count new.disk made.1.steps)

@@ -5,6 +5,7 @@ pub mod Hearing
 pub mod Events
 pub mod StepLaws
 pub mod Playing
+pub mod PutOff
 pub mod Staying
 pub mod Lagging
 pub mod Dying

@@ -15,18 +15,20 @@ use Rattle.scsi_unit.specs.Laws.{IsSameLife}
 use Rattle.bot_machine.specs.BookLaws.{GrowsBy}
 use Rattle.bot_machine.specs.Disk.{over}
 use Rattle.disk_machine.specs.Ahead.{LooksAhead}
-use Rattle.disk_machine.specs.Idling.{HasGoneAhead, HasStepped}
+use Rattle.disk_machine.specs.Idling.{IsShort, HasGoneAhead, HasStepped}
 use Rattle.disk_machine.specs.Lives.{Call, next, done, bulk_out, bulk_in, take_transfer, send_transfer, setup, idle, work_ahead}
 use Rattle.disk_machine.specs.Lives.{look_ahead}
 use Rattle.disk_machine.specs.Lives.{IsMade, turns_of, ServesLater, ServesThroughout, turns_in_all}
 use Rattle.disk_machine.specs.Machine.{Machine, Serves, has_refused}
 use Rattle.disk_machine.specs.Moves.{ServesOn, ServesEvent, ServesToken}
 use Rattle.disk_machine.specs.Packets.{TakesOne, SendsIn}
+use Rattle.disk_machine.specs.PuttingOff.{MayWriteOn}
 use Rattle.disk_machine.specs.Transfers.{packet_at, TakesFirst, EndsTaking, TakesTransfer, SendsAt, SendsFirst}
 use Rattle.disk_machine.specs.Transfers.{EndsSending, SendsTransfer, SendsInto}
-use Rattle.disk_machine.specs.Turns.{Turn, played, TurnsRun, turns_one, turns_in, turns_ahead, turns_idle, turns_taken, turns_not_taken}
+use Rattle.disk_machine.specs.Turns.{Turn, played, ticks, TurnsRun, turns_one, turns_in, turns_ahead, turns_idle, turns_taken}
+use Rattle.disk_machine.specs.Turns.{turns_not_taken}
 use Rattle.disk_machine.specs.Turns.{turns_of_taking, turns_at, turns_sent, turns_last, turns_of_sending, turns_into}
-use Rattle.scsi_unit.specs.Background.{Settle, Ahead}
+use Rattle.scsi_unit.specs.Background.{Settle, Ahead, WriteBack}
 use Rattle.disk_machine.proofs.StepLaws.{opening_stays, writes_grow}
 use Rattle.disk_machine.proofs.Turning.{runs_through, same_over, asks_say, done_says, steps_run}
 
@@ -131,8 +133,12 @@ taken_one old new packet code (inl long) = nothing_changes old new long.2
 taken_one old new packet code (inr (few, inl held)) = nothing_changes old new held.2
 taken_one old new packet code (inr (few, inr (free, inl lacks))) =
     served_on old new [] lacks.4.serves (same_over old new (ap (λ (s : Machine). s.disk) lacks.3))
-taken_one old new packet code (inr (few, inr (free, inr (none, serves)))) =
+taken_one old new packet code (inr (few, inr (free, inr (inl (none, serves))))) =
     served_event old new (event.Out (record { items = packet })) serves.played.answer serves.serves
+taken_one old new packet code (inr (few, inr (free, inr (inr puts)))) = λ told book serves.
+    let writes = puts.goes.writes in
+    with_book old new (ticks writes.count) told told book (omega arith) (puts.serves told book serves)
+    (steps_run (MayWriteOn old.most) WriteBack writes.count old new.disk writes.steps told book serves)
 
 sent_in : (old new : Machine) (room filled : List ℕ) (size code : ℕ) (sends : SendsIn old room new filled size code)
     → LivesOn old (turns_in old room new filled size code sends) new
@@ -143,13 +149,13 @@ idled : (old new : Machine) (stepped : HasStepped old new) → ServesOn old new 
 idled old new (inl held) on = nothing_changes old new held.1
 idled old new (inr (free, makes, others)) on = λ told book serves.
     with_book old new (turns_idle old new (inr (free, makes, others))) told told book (omega arith) (on told book serves)
-    (steps_run Settle old.most makes.count old new.disk makes.steps told book serves)
+    (steps_run (IsShort Settle old.most) Settle makes.count old new.disk makes.steps told book serves)
 
 gone_ahead : (old new : Machine) (gone : HasGoneAhead old new) → ServesOn old new → LivesOn old (turns_ahead old new gone) new
 gone_ahead old new (inl busy) on = nothing_changes old new busy.1
 gone_ahead old new (inr (rests, makes, others)) on = λ told book serves.
     with_book old new (turns_ahead old new (inr (rests, makes, others))) told told book (omega arith) (on told book serves)
-    (steps_run Ahead old.most makes.count old new.disk makes.steps told book serves)
+    (steps_run (IsShort Ahead old.most) Ahead makes.count old new.disk makes.steps told book serves)
 
 looked : (old new : Machine) (first count : ℕ) (reads : Bool) → LooksAhead old first count new reads → LivesOn old [] new
 looked old new first count true looks =

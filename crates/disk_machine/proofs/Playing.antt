@@ -16,9 +16,11 @@ use Rattle.bot_machine.specs.Disk.{FitsDisk, over}
 use Rattle.scsi_unit.specs.Background.{Work, Settle, Ahead}
 use Rattle.disk_calls.specs.Plays.{Disk, medium_of, PlaysBy, Plays, AnswersRequest}
 use Rattle.disk_machine.specs.Machine.{Machine, Serves, has_refused, under_way}
-use Rattle.disk_machine.specs.Idling.{StepsOn, HasGoneAhead, HasStepped}
+use Rattle.disk_machine.specs.Idling.{IsShort, HasGoneAhead, HasStepped}
 use Rattle.disk_machine.specs.Moves.{is_behind, ServesAtRest, LeavesNoMore, ServesOn, ServesEvent, ServesToken}
 use Rattle.disk_machine.specs.Packets.{AnswersSetup, HoldsBack, PlaysOut, ServesOut, waits_for}
+use Rattle.disk_machine.specs.PuttingOff.{IsReady}
+use Rattle.disk_machine.specs.Steps.{StepsWhile}
 use Rattle.disk_machine.specs.declared.asked.Asked.{Asked}
 use Rattle.disk_machine.specs.declared.asked.Asked.TheVariants as asked
 use Rattle.disk_machine.specs.declared.waiting.Waiting.{Waiting}
@@ -45,13 +47,15 @@ not_behind (asked.Read home) [] is fine = (refl, refl)
 not_behind (asked.Read home) (call ∷ calls) is fine = cc
 not_behind (asked.Refused count left) calls is fine = cc
 
-pub out_serves : (old new : Machine) (packet : List ℕ) (code : ℕ) → ¬ HoldsBack old → PlaysOut old packet new code → ServesAtRest new
-    → ServesOut old packet new code
-out_serves old new packet code free plays rest =
+pub out_serves : (old new : Machine) (packet : List ℕ) (code : ℕ) → ¬ HoldsBack old → IsReady old packet → PlaysOut old packet new code
+    → ServesAtRest new → ServesOut old packet new code
+out_serves old new packet code free ready plays rest =
     let same : new.asked ≡ old.asked = ap (λ (s : Machine). s.asked) plays.others in record {
       played = plays;
       has_room = has_room old free;
       goes_on = out_goes_on old new packet code plays;
+      ready = ready;
+      one_batch = plays.plays.step.few.one_batch;
       serves = serves_event old new (event.Out (record { items = packet })) plays.answer plays.plays same (λ none fine. elim
           (not_waiting plays.promises (is_behind old.asked (medium_of new.disk).outbox) old.waiting
           (sym (ap (λ (s : Machine). s.waiting) plays.others) ∙ none)) [
@@ -163,20 +167,22 @@ abbrev pub with_disk : Machine → Disk → Machine
 with_disk s disk = record s { disk = disk }
 
 -- steps, one by one
-pub steps_serve : (work : Work) (most count : ℕ) (old : Machine) (new : Disk) → StepsOn work most count old.disk new
-    → ServesOn old (with_disk old new)
-steps_serve work most zero old new same =
+pub steps_serve : (Holds : Disk → Type 0) (work : Work) (count : ℕ) (old : Machine) (new : Disk)
+    → StepsWhile Holds work count old.disk new → ServesOn old (with_disk old new)
+steps_serve Holds work zero old new same =
     subst (λ (d : Disk). ServesOn old (with_disk old d)) (sym same) (λ told book serves. serves)
-steps_serve work most (suc count) old new steps = λ told book serves.
+steps_serve Holds work (suc count) old new steps = λ told book serves.
     tick_serves (with_disk old steps.0) (with_disk old new) steps.3 refl told book
-    (steps_serve work most count old steps.0 steps.1 told book serves)
+    (steps_serve Holds work count old steps.0 steps.1 told book serves)
 
 pub idle_serves : (old new : Machine) → HasStepped old new → ServesOn old new
 idle_serves old new (inl held) = subst (λ (s : Machine). ServesOn old s) (sym held.1) (λ told book serves. serves)
 idle_serves old new (inr made) =
-    subst (λ (s : Machine). ServesOn old s) (sym made.2) (steps_serve Settle old.most made.1.count old new.disk made.1.steps)
+    subst (λ (s : Machine). ServesOn old s) (sym made.2)
+    (steps_serve (IsShort Settle old.most) Settle made.1.count old new.disk made.1.steps)
 
 pub ahead_serves : (old new : Machine) → HasGoneAhead old new → ServesOn old new
 ahead_serves old new (inl busy) = subst (λ (s : Machine). ServesOn old s) (sym busy.1) (λ told book serves. serves)
 ahead_serves old new (inr made) =
-    subst (λ (s : Machine). ServesOn old s) (sym made.2) (steps_serve Ahead old.most made.1.count old new.disk made.1.steps)
+    subst (λ (s : Machine). ServesOn old s) (sym made.2)
+    (steps_serve (IsShort Ahead old.most) Ahead made.1.count old new.disk made.1.steps)

@@ -1,5 +1,5 @@
 -- A call that is no event of the disk, and the room that each call keeps.
-use Rattle.std.proofs.Common.{◌≡◌, inl, inr, [], ◌∷◌, List, ℕ, zero, suc, Bool, true, false, length, refl, sym, ◌∙◌, ap, subst, arith}
+use Rattle.std.proofs.Common.{◌≤◌, ◌≡◌, inl, inr, [], ◌∷◌, List, ℕ, zero, suc, Bool, true, false, length, refl, sym, ◌∙◌, ap, subst, arith}
 use Rattle.std.specs.Prelude.{Result}
 use Rattle.std.proofs.lemmas.Bool.{cases_lt}
 use Rattle.journal.specs.Places.{Shape}
@@ -9,12 +9,14 @@ use Rattle.spec.specs.declared.event.Event.{Event}
 use Rattle.spec.specs.declared.event.Answer.{Answer}
 use Rattle.device_calls.specs.declared.ask.DeviceRead.{DeviceRead}
 use Rattle.store_calls.specs.Outbox.{without}
-use Rattle.scsi_unit.specs.Background.{Work, Settle, Ahead}
+use Rattle.scsi_unit.specs.Background.{Work, Settle, Ahead, WriteBack}
 use Rattle.disk_calls.specs.Plays.{Disk, medium_of, layout_on, PlaysBy}
 use Rattle.disk_calls.specs.Refusals.{HasRoom}
 use Rattle.disk_calls.specs.Room.{room_for}
 use Rattle.disk_machine.specs.Asking.{AsksFor, HandsOut, IsDone, HasRead, HasEnded, IsGivenUp, IsShownTo, IsHonest}
-use Rattle.disk_machine.specs.Idling.{StepsOn, HasGoneAhead, HasStepped}
+use Rattle.disk_machine.specs.Idling.{IsShort, HasGoneAhead, HasStepped}
+use Rattle.disk_machine.specs.PuttingOff.{HasWrittenOn, MayWriteOn}
+use Rattle.disk_machine.specs.Steps.{StepsWhile}
 use Rattle.disk_machine.specs.Machine.{Machine}
 use Rattle.disk_machine.specs.Moves.{ServesAtRest, StaysSafe, KeepsGoing, HasRoomBeside}
 use Rattle.disk_machine.specs.Packets.{HoldsBack, PlaysOut}
@@ -25,8 +27,8 @@ use Rattle.disk_machine.specs.declared.asked.Asked.TheVariants as asked
 use Rattle.disk_machine.specs.declared.lack.Lack.{Lack}
 use Rattle.device_calls.specs.declared.done_fault.DoneFault.{DoneFault}
 use Rattle.disk_machine.proofs.Handing.{asks_serves, asks_leave}
-use Rattle.disk_machine.proofs.Dying.{asks_dead, done_dead, event_dead, idle_dead, ahead_dead}
-use Rattle.disk_machine.proofs.Lagging.{asks_wait, done_wait, event_waits, out_waits, idle_waits, ahead_waits}
+use Rattle.disk_machine.proofs.Dying.{asks_dead, done_dead, event_dead, idle_dead, ahead_dead, steps_dead}
+use Rattle.disk_machine.proofs.Lagging.{asks_wait, done_wait, event_waits, out_waits, idle_waits, ahead_waits, steps_wait}
 use Rattle.disk_machine.proofs.Hearing.{done_serves, done_leaves}
 
 abbrev RoomStays : Machine → Machine → Type 0
@@ -128,28 +130,31 @@ event_room : {work : Work} → (old new : Machine) (event : Event) (answer : Ans
 event_room old new event answer plays most = keeps_room old new most plays.step.few.layout_stays plays.follows.room_stays
 
 -- a packet is taken where it has room
-pub has_room : (s : Machine) → ¬ HoldsBack s → HasRoomBeside s → HasRoom s.disk
-has_room s free fits = elim (cases_lt s.most (length (medium_of s.disk).outbox)) [
+pub is_short : (s : Machine) → ¬ HoldsBack s → length (medium_of s.disk).outbox ≤ s.most
+is_short s free = elim (cases_lt s.most (length (medium_of s.disk).outbox)) [
   | inl many ↦ absurd (free (inr (inr many)))
-  | inr few ↦ omega (arith, few, fits)
+  | inr few ↦ few
 ]
 
-step_room : (work : Work) (old : Machine) (most count : ℕ) (new : Disk) → StepsOn work most count old.disk new
-    → RoomStays old (record old { disk = new })
-step_room work old most zero new same = disk_stays old (record old { disk = new }) refl same
-step_room work old most (suc count) new steps = λ fits.
+pub has_room : (s : Machine) → ¬ HoldsBack s → HasRoomBeside s → HasRoom s.disk
+has_room s free fits = omega (arith, is_short s free, fits)
+
+step_room : (Holds : Disk → Type 0) (work : Work) (old : Machine) (count : ℕ) (new : Disk)
+    → StepsWhile Holds work count old.disk new → RoomStays old (record old { disk = new })
+step_room Holds work old zero new same = disk_stays old (record old { disk = new }) refl same
+step_room Holds work old (suc count) new steps = λ fits.
     event_room (record old { disk = steps.0 }) (record old { disk = new }) _ _ steps.3 refl
-    (step_room work old most count steps.0 steps.1 fits)
+    (step_room Holds work old count steps.0 steps.1 fits)
 
 idle_room : (old new : Machine) → HasStepped old new → RoomStays old new
 idle_room old new (inl held) = same_room old new held.1
 idle_room old new (inr made) = subst (λ (s : Machine). RoomStays old s) (sym made.2)
-    (step_room Settle old old.most made.1.count new.disk made.1.steps)
+    (step_room (IsShort Settle old.most) Settle old made.1.count new.disk made.1.steps)
 
 ahead_room : (old new : Machine) → HasGoneAhead old new → RoomStays old new
 ahead_room old new (inl busy) = same_room old new busy.1
 ahead_room old new (inr made) = subst (λ (s : Machine). RoomStays old s) (sym made.2)
-    (step_room Ahead old old.most made.1.count new.disk made.1.steps)
+    (step_room (IsShort Ahead old.most) Ahead old made.1.count new.disk made.1.steps)
 
 pub event_goes_on : {work : Work} → (old new : Machine) (event : Event) (answer : Answer) → PlaysBy work old.disk event answer new.disk
     → new ≡ record old { disk = new.disk } → KeepsGoing old new
@@ -179,6 +184,16 @@ ahead_goes_on old new gone = record {
   waits = ahead_waits old new gone;
   dead = ahead_dead old new gone;
 }
+
+pub writing_goes_on : (old new : Machine) → HasWrittenOn old new → KeepsGoing old new
+writing_goes_on old new goes =
+    let writes = goes.writes in
+    subst (λ (s : Machine). KeepsGoing old s) (sym goes.others)
+    (record {
+      room = step_room (MayWriteOn old.most) WriteBack old writes.count new.disk writes.steps;
+      waits = steps_wait (MayWriteOn old.most) WriteBack old writes.count new.disk writes.steps;
+      dead = steps_dead (MayWriteOn old.most) WriteBack old writes.count new.disk writes.steps;
+    })
 
 -- what is to be read changes nothing else
 pub reading_safe : (s : Machine) (lacks : Lack) → StaysSafe s (record s { lack = lacks })

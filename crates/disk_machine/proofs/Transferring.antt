@@ -7,9 +7,12 @@ use Rattle.std.proofs.Math.Nat.{mul-le-mul_right, div-mul-le_self}
 use borrow.Rule.Slice.PartMut.{put_mid}
 use Rattle.spec.specs.declared.event.Answer.{Answer}
 use Rattle.spec.specs.declared.event.Answer.TheVariants as answer
+use Rattle.scsi_unit.specs.Background.{WriteBack}
 use Rattle.disk_calls.specs.Codes.{code_of}
 use Rattle.disk_machine.specs.Machine.{Machine}
 use Rattle.disk_machine.specs.Packets.{TakesOne, TakesOut, SendsIn}
+use Rattle.disk_machine.specs.PuttingOff.{MayWriteOn}
+use Rattle.disk_machine.proofs.PutOff.{steps_size}
 use Rattle.disk_machine.specs.Transfers.{HasPacket, packet_at, TakesFirst, SendsFirst}
 
 -- ---- to Bulk-Out
@@ -20,7 +23,9 @@ size_stays old new packet code (inl long) = ap (λ (s : Machine). s.disk.line.pa
 size_stays old new packet code (inr (few, inl held)) = ap (λ (s : Machine). s.disk.line.packet_size) held.2
 size_stays old new packet code (inr (few, inr (free, inl lacks))) =
     ap (λ (s : Machine). s.disk.line.packet_size) lacks.3
-size_stays old new packet code (inr (few, inr (free, inr (none, serves)))) = serves.played.plays.step.packets_stay
+size_stays old new packet code (inr (few, inr (free, inr (inl (none, serves))))) = serves.played.plays.step.packets_stay
+size_stays old new packet code (inr (few, inr (free, inr (inr puts)))) =
+    let writes = puts.goes.writes in steps_size (MayWriteOn old.most) WriteBack writes.count old.disk new.disk writes.steps
 
 few_codes : (told : Answer) → code_of told ≤ 2
 few_codes answer.Ack = omega arith
@@ -38,8 +43,9 @@ pub answers : (old new : Machine) (packet : List ℕ) (code : ℕ) → length pa
 answers old new packet code few (inl long) = absurd (omega (arith, few, long.0))
 answers old new packet code few (inr (fits, inl held)) = omega (arith, held.1)
 answers old new packet code few (inr (fits, inr (free, inl lacks))) = omega (arith, lacks.2)
-answers old new packet code few (inr (fits, inr (free, inr (none, serves)))) =
+answers old new packet code few (inr (fits, inr (free, inr (inl (none, serves))))) =
     omega (arith, serves.played.code_is, few_codes serves.played.answer)
+answers old new packet code few (inr (fits, inr (free, inr (inr puts)))) = omega (arith, puts.code_is)
 
 -- the bytes of the next packet
 pub packet_is : (most at size : ℕ) (bytes : List ℕ) → size ≡ min most (length bytes - at)

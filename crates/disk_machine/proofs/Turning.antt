@@ -14,7 +14,7 @@ use Rattle.bot_machine.specs.Faulting.{faulted_over}
 use Rattle.scsi_unit.specs.Background.{Work}
 use Rattle.disk_calls.specs.Plays.{Disk}
 use Rattle.disk_machine.specs.Asking.{AsksFor, IsDone}
-use Rattle.disk_machine.specs.Idling.{StepsOn}
+use Rattle.disk_machine.specs.Steps.{StepsWhile}
 use Rattle.disk_machine.specs.Machine.{Machine, Serves}
 use Rattle.disk_machine.specs.Turns.{Turn, played, refusal, TurnsRun, TurnsAreRun, turns_done, ticks}
 use Rattle.disk_machine.specs.declared.asked.Asked.{Asked}
@@ -62,11 +62,12 @@ module _ (old new : Machine) (bytes : List ℕ) (result : Result (Unit {0}) Done
 
 -- ---- steps in the background
 
-pub steps_run : (work : Work) (most count : ℕ) (old : Machine) (new : Disk) → StepsOn work most count old.disk new
+pub steps_run : (Holds : Disk → Type 0) (work : Work) (count : ℕ) (old : Machine) (new : Disk)
+    → StepsWhile Holds work count old.disk new
     → (told : ℕ) (book : Book) → Serves old told book → TurnsRun (over old.disk book) (ticks count) (over new book)
-steps_run work most zero old new same told book serves = ap (λ (d : Disk). over d book) same
-steps_run work most (suc count) old new (mid, steps, short, plays) told book serves =
+steps_run Holds work zero old new same told book serves = ap (λ (d : Disk). over d book) same
+steps_run Holds work (suc count) old new (mid, steps, holds, plays) told book serves =
     let tick = tick_step (with_disk old mid) (with_disk old new) plays refl told book
-    (steps_serve work most count old mid steps told book serves) in
+    (steps_serve Holds work count old mid steps told book serves) in
     runs_through (over old.disk book) (over mid book) (over new book) (ticks count) (played event.Tick answer.Ticked ∷ [])
-    (steps_run work most count old mid steps told book serves) (tick.0, over new book, tick.1, refl)
+    (steps_run Holds work count old mid steps told book serves) (tick.0, over new book, tick.1, refl)

@@ -1,13 +1,12 @@
 -- What a machine does in the background.
 use Rattle.std.specs.Prelude.{◌≡◌, ◌⊎◌, ◌↔◌, ℕ, zero, suc, ◌<◌, ◌≤◌, Bool, true, false, [], length}
-use Rattle.spec.specs.declared.event.Event.TheVariants as event
-use Rattle.spec.specs.declared.event.Answer.TheVariants as answer
-use Rattle.scsi_unit.specs.Background.{Work, Settle, Ahead, is_dead, steps_left}
+use Rattle.scsi_unit.specs.Background.{Work, Settle, Ahead, WriteBack, is_dead, steps_left}
 use Rattle.bot_machine.specs.Turns.{owes_status}
-use Rattle.disk_calls.specs.Plays.{Disk, medium_of, PlaysBy}
+use Rattle.disk_calls.specs.Plays.{Disk, medium_of}
 use Rattle.disk_machine.specs.Machine.{Machine}
 use Rattle.disk_machine.specs.Moves.{ServesOn, KeepsGoing}
 use Rattle.disk_machine.specs.Packets.{is_reading}
+use Rattle.disk_machine.specs.Steps.{StepsWhile}
 use Rattle.disk_machine.specs.declared.asked.Asked.TheVariants as asked
 use Rattle.disk_machine.specs.declared.lack.Lack.{Lack}
 use Rattle.disk_machine.specs.declared.lack.Lack.TheVariants as lack
@@ -39,12 +38,11 @@ abbrev pub IsShort : Work → ℕ → Disk → Type 0
 IsShort Settle most disk =
     (length (medium_of disk).outbox ≤ most) × (length (medium_of disk).outbox < 64)
 IsShort Ahead most disk = length (medium_of disk).outbox ≤ most
+IsShort WriteBack most disk = length (medium_of disk).outbox ≤ most
 
 -- so many steps in the background that work towards this, one by one, each while few calls wait
 abbrev pub StepsOn : Work → ℕ → ℕ → Disk → Disk → Type 0
-StepsOn work most zero old new = new ≡ old
-StepsOn work most (suc count) old new = (mid : Disk) × StepsOn work most count old mid
-    × IsShort work most mid × PlaysBy work mid event.Tick answer.Ticked new
+StepsOn work most count old new = StepsWhile (IsShort work most) work count old new
 
 -- no step is left, as `Disk::is_settled` tells
 abbrev pub IsAllDone : Disk → Type 0

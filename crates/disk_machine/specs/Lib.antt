@@ -5,5 +5,7 @@ pub mod Lives
 pub mod Machine
 pub mod Moves
 pub mod Packets
+pub mod PuttingOff
+pub mod Steps
 pub mod Transfers
 pub mod Turns

@@ -8,6 +8,7 @@ use Rattle.spec.specs.declared.event.Answer.{Answer}
 use Rattle.device_calls.specs.declared.ask.DeviceRead.{DeviceRead}
 use Rattle.bot_machine.specs.Disk.{FitsDisk, over}
 use Rattle.bot_machine.specs.Promising.{PromisesIn, PromisesNone}
+use Rattle.scsi_unit.specs.Calls.{SendsOneBatch}
 use Rattle.disk_calls.specs.Codes.{TOO_LONG, code_of}
 use Rattle.disk_calls.specs.Plays.{medium_of, Plays, Tells}
 use Rattle.disk_calls.specs.Refusals.{HasRoom}
@@ -15,6 +16,7 @@ use Rattle.disk_calls.specs.Wanted.{Wants, WantsNone}
 use Rattle.disk_machine.specs.Machine.{Machine}
 use Rattle.disk_machine.specs.Moves.{ServesEvent, ServesToken, StaysSafe, LeavesNoMore}
 use Rattle.disk_machine.specs.Moves.{KeepsGoing, HasRoomBeside, is_behind}
+use Rattle.disk_machine.specs.PuttingOff.{HasWritten, IsReady, PutsOff}
 use Rattle.disk_machine.specs.declared.asked.Asked.{Asked}
 use Rattle.disk_machine.specs.declared.asked.Asked.TheVariants as asked
 use Rattle.disk_machine.specs.declared.lack.Lack.TheVariants as lack
@@ -85,10 +87,14 @@ pub record ServesOut (old : Machine) (packet : List ℕ) (new : Machine) (code :
   pub serves : ServesEvent old (event.Out (record { items = packet })) played.answer new
   pub has_room : HasRoomBeside old → HasRoom old.disk
   pub goes_on : KeepsGoing old new
+  -- it is not put off, and where no record is left to write it makes one batch durable at most
+  pub ready : IsReady old packet
+  pub one_batch : HasWritten old.disk → SendsOneBatch old.disk.unit.store.goes_ahead
+      (state_of (medium_of old.disk)) (state_of (medium_of new.disk)) old.disk.unit.store.cached.log
 
 -- A packet to Bulk-Out that is too long changes nothing. One that is not taken now is told to come
--- again, and the disk does not see it: the sectors that it lacks are to be read. Each other is
--- played.
+-- again, and the disk does not see it: the sectors that it lacks are to be read, or it promises,
+-- and what is left to write is written. Each other is played.
 abbrev pub TakesOne : Machine → List ℕ → Machine → ℕ → Type 0
 TakesOne old packet new code =
     ((old.disk.line.packet_size < length packet) × (code ≡ TOO_LONG) × (new ≡ old))
@@ -96,7 +102,7 @@ TakesOne old packet new code =
     × ((HoldsBack old × (code ≡ 1) × (new ≡ old))
     ⊎ ((¬ HoldsBack old) × (((home : DeviceRead) × Lacks old packet home × (code ≡ 1)
     × (new ≡ record old { lack = lack.Wanted home }) × StaysSafe old new)
-    ⊎ (LacksNone old packet × ServesOut old packet new code)))))
+    ⊎ ((LacksNone old packet × ServesOut old packet new code) ⊎ PutsOff old packet new code)))))
 
 pub record TakesOut (old : Machine) (packet : List ℕ) (new : Machine) (code : ℕ) : Type 0 where
   pub one : TakesOne old packet new code

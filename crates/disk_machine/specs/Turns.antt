@@ -57,14 +57,21 @@ TurnsAreRun = (old : Conversation UnitState) (turns : List Turn) (new : Conversa
 
 -- ---- the turns of each call, as its contract has them
 
--- a packet that is too long, or put off, is none
+-- so many steps in the background
+abbrev pub ticks : ℕ → List Turn
+ticks zero = []
+ticks (suc count) = ticks count ++ played event.Tick answer.Ticked ∷ []
+
+-- a packet that is too long, or told to come again, is none; where it is put off steps are made
 abbrev pub turns_one : (old : Machine) (packet : List ℕ) (new : Machine) (code : ℕ)
     → TakesOne old packet new code → List Turn
 turns_one old packet new code (inl long) = []
 turns_one old packet new code (inr (few, inl held)) = []
 turns_one old packet new code (inr (few, inr (free, inl lacks))) = []
-turns_one old packet new code (inr (few, inr (free, inr (none, serves)))) =
+turns_one old packet new code (inr (few, inr (free, inr (inl (none, serves))))) =
     played (event.Out (record { items = packet })) serves.played.answer ∷ []
+turns_one old packet new code (inr (few, inr (free, inr (inr puts)))) =
+    ticks puts.goes.writes.count
 
 abbrev pub turns_out : (old : Machine) (packet : List ℕ) (new : Machine) (code : ℕ)
     → TakesOut old packet new code → List Turn
@@ -83,11 +90,6 @@ turns_done (asked.Calls count) true = []
 turns_done (asked.Calls count) false = refusal ∷ []
 turns_done (asked.Read home) ok = []
 turns_done (asked.Refused count behind) ok = []
-
--- so many steps in the background
-abbrev pub ticks : ℕ → List Turn
-ticks zero = []
-ticks (suc count) = ticks count ++ played event.Tick answer.Ticked ∷ []
 
 abbrev pub turns_idle : (old new : Machine) → HasStepped old new → List Turn
 turns_idle old new (inl held) = []

@@ -9,6 +9,7 @@ mod lack;
 mod laws;
 mod machine;
 mod packets;
+mod putting_off;
 mod resting;
 mod tokens;
 mod told;

@@ -16,7 +16,8 @@ use disk_calls::{NAK, TOO_LONG, play_packet, unseen};
 impl DiskMachine {
     /// A packet to Bulk-Out, and the number of its answer. It is told to come again while the
     /// device carries out the calls of the start, reads, or is so far behind that those of a packet
-    /// might have no room; and before a READ whose sectors the device is to read first.
+    /// might have no room; before a READ whose sectors the device is to read first; and where it
+    /// promises, until the records of the writes before it are written, by steps that it makes.
     pub fn bulk_out(&mut self, packet: &[u8]) -> u32
         ensures { TakesOut self.old packet.now self.new result }
     {
@@ -24,6 +25,10 @@ impl DiskMachine {
             return TOO_LONG;
         }
         if self.holds_back() {
+            return NAK;
+        }
+        if self.puts_off(packet) {
+            self.write_on();
             return NAK;
         }
         match self.lacks(packet) {
