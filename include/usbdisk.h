@@ -227,11 +227,11 @@ uint32_t usbdisk_state(struct usbdisk *disk, uint32_t *fault);
  * fewer; no bytes are one empty packet. `*taken` tells how many were taken.
  *
  * Answers ACK: all of them. NAK: the disk waits for its device (it starts, it reads, so much waits
- * that a packet may have no room, or the packet is a READ that lacks sectors, which usbdisk_next
- * tells from now on), or the host has not taken the status of the command before. Nothing happened
- * to the packet behind those that were taken: hand it in again, behind the next done, idle or
- * status; where a bus reset comes first, let go of it. STALL: the endpoint is halted. Errors:
- * EMPTY, OTHER_KIND. */
+ * that a packet may have no room, the packet is a READ that lacks sectors, or it promises while
+ * writes before it are not yet in the log: usbdisk_next tells these calls from now on), or the host
+ * has not taken the status of the command before. Nothing happened to the packet behind those that
+ * were taken: hand it in again, behind the next done, idle or status; where a bus reset comes
+ * first, let go of it. STALL: the endpoint is halted. Errors: EMPTY, OTHER_KIND. */
 uint32_t usbdisk_out(struct usbdisk *disk, const uint8_t *bytes, size_t size, size_t *taken);
 
 /* The host asks the Bulk-In endpoint for packets. They lie one behind the other in the room, and
