@@ -1,7 +1,6 @@
 -- A store at rest has everything at home.
-use Rattle.std.proofs.Common.{◌≡◌, ◌+◌, ◌<◌, ◌≤◌, ℕ, ◌∙◌, sym, ap, refl, inl, inr, arith, true, false, List, [], ◌∷◌, length}
-use Rattle.std.proofs.lemmas.Bool.{cases_lt}
-use Rattle.std.proofs.lemmas.List.{length-map}
+use Rattle.std.proofs.Common.{◌≡◌, ◌+◌, ◌<◌, ◌≤◌, ℕ, ◌∙◌, sym, ap, refl, arith, true, false, List, [], ◌∷◌, length}
+use Rattle.std.proofs.lemmas.List.{length-map, nil_from_length}
 use Rattle.medium.specs.Medium.{State, Image, IsSound}
 use Rattle.medium.specs.Moments.{EachCut}
 use Rattle.spec.specs.Blocks.{Array}
@@ -12,10 +11,10 @@ use Rattle.redo_log.proofs.StoreFacts.{home_is, blocks_guarded, put_head}
 use Rattle.cache.specs.Blocks.{over}
 use Rattle.cache.specs.Entries.{map_of}
 use Rattle.spec.specs.Book.{Book, array_of}
-use Rattle.blocks.specs.StoreValue.{Cached, layout_of, is_dead, steps_for, batch_steps, steps_left, FitsBook}
+use Rattle.blocks.specs.StoreValue.{Cached, layout_of, is_dead, steps_left, FitsBook}
 use Rattle.blocks.specs.Settled.{IsAtHome, IsSettled}
-use Rattle.blocks.proofs.BookTurns.{over_none, steps_for_none}
-use Rattle.blocks.proofs.LogTurns.{waiting_idle, nothing_left, settles_all}
+use Rattle.blocks.proofs.BookTurns.{over_none}
+use Rattle.blocks.proofs.LogTurns.{nothing_left, settles_all}
 
 -- a list without elements is empty
 pub none_of : {A : Type 0} (l : List A) → length l ≤ 0 → l ≡ []
@@ -84,10 +83,7 @@ pub settled : (m : State) → IsSound m → (s : Cached) → Owes s.log → s.lo
     → IsSettled m s
 settled m sound s owes under_way live none =
     at_rest m sound s live none
-    (none_of s.log.waiting (elim (cases_lt 0 (length s.log.waiting)) [
-      | inl some ↦ absurd (omega (arith, owes.some_wait some, none))
-      | inr few ↦ few
-    ]))
+    (grind (arith, nil_from_length s.log.waiting, owes.some_wait, none))
     under_way
 
 -- no retire step is owed where no record waits and none is under way
@@ -97,12 +93,4 @@ owes_none log owes under_way empty = owes.none_waits empty ∙ ap (λ (l : List 
 -- no step is left where no record is under way, none is owed, and both batches are empty
 pub none_left : (s : Cached) → s.log.steps_left ≡ 0 → s.log.retire_steps_left ≡ 0 → s.frozen.numbers ≡ [] → s.active.numbers ≡ []
     → steps_left s ≡ 0
-none_left s idle owed frozen active =
-    omega (
-      arith,
-      waiting_idle s.log.steps_left (steps_for (batch_steps s) s.frozen.numbers) idle,
-      steps_for_none (batch_steps s) s.frozen.numbers frozen,
-      steps_for_none (batch_steps s) s.active.numbers active,
-      idle,
-      owed,
-    )
+none_left s idle owed frozen active = grind arith

@@ -77,50 +77,28 @@ over_none (n ∷ numbers) bytes e a b = absurd (cc e)
 
 -- a batch wants a stamp or none
 pub wants_some : (numbers : List ℕ) → 0 < length numbers → wants numbers ≡ 1
-wants_some [] some = absurd (omega (arith, some))
-wants_some (n ∷ numbers) some = refl
+wants_some numbers some = grind arith
 
 pub wants_none : (numbers : List ℕ) → numbers ≡ [] → wants numbers ≡ 0
-wants_none [] e = refl
-wants_none (n ∷ numbers) e = absurd (cc e)
+wants_none numbers e = grind arith
 
 pub wants_most : (numbers : List ℕ) → wants numbers ≤ 1
-wants_most [] = omega arith
-wants_most (n ∷ numbers) = omega arith
+wants_most numbers = grind arith
 
 -- an empty batch takes no steps, and another takes some
 pub steps_for_none : (most : ℕ) (numbers : List ℕ) → numbers ≡ [] → steps_for most numbers ≡ 0
-steps_for_none most [] e = refl
-steps_for_none most (n ∷ numbers) e = absurd (cc e)
+steps_for_none most numbers e = grind arith
 
 pub steps_for_most : (most : ℕ) (numbers : List ℕ) → steps_for most numbers ≤ most
-steps_for_most most [] = omega arith
-steps_for_most most (n ∷ numbers) = omega arith
+steps_for_most most numbers = grind arith
 
 pub no_steps_for : (most : ℕ) (numbers : List ℕ) → 0 < most → steps_for most numbers ≡ 0 → numbers ≡ []
-no_steps_for most [] some e = refl
-no_steps_for most (n ∷ numbers) some e = absurd (omega (arith, some, e))
+no_steps_for most numbers some e = grind arith
 
 -- an image that is ours for an array is ours for one with the same blocks
 pub ours_same : (size : ℕ) (shape : Shape) (image : Image) (a c : Array) (next : ℕ) → Same shape.blocks a c → IsOurs size shape image a next
     → IsOurs size shape image c next
-ours_same size shape image a c next same ours = record {
-  stands = record {
-    fits = ours.stands.fits;
-    head = ours.stands.head;
-    records = ours.stands.records;
-    keeps = record {
-      super = ours.stands.keeps.super;
-      head_is = ours.stands.keeps.head_is;
-      whole = ours.stands.keeps.whole;
-      blocks = λ b below. ours.stands.keeps.blocks b below ∙ same b below;
-    };
-    few = ours.stands.few;
-    ends = ours.stands.ends;
-    next_is = ours.stands.next_is;
-  };
-  carries = ours.carries;
-}
+ours_same size shape image a c next same ours = grind (arith, ours, same)
 
 -- it stands so for that array
 pub stands_as : (size blocks : ℕ) (shape : Shape) (image : Image) (a c : Array) (next : ℕ) → shape.blocks ≡ blocks → Same blocks a c

@@ -1,5 +1,5 @@
 -- A store whose batches are empty: what fits, what is sent, and how many steps are left else.
-use Rattle.std.proofs.Common.{◌≡◌, ◌⊎◌, ◌<◌, ◌≤◌, ◌+◌, ◌∙◌, ℕ, Bool, [], List, inl, inr, sym, subst, ap, arith, length}
+use Rattle.std.proofs.Common.{◌≡◌, ◌⊎◌, ◌<◌, ◌≤◌, ◌∙◌, ℕ, Bool, [], List, inl, inr, sym, subst, ap, arith, length}
 use Rattle.std.proofs.lemmas.Bool.{false≢true, cases_lt}
 use Rattle.std.specs.Prelude.{false}
 use Rattle.medium.specs.Medium.{State}

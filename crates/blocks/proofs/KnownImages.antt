@@ -10,11 +10,8 @@ use Rattle.journal.specs.Places.{Shape}
 use Rattle.journal.specs.Standing.{StandsFor, Stands, IsOurs}
 use Rattle.journal.specs.Standing as image
 use Rattle.journal.proofs.StandingLaws.{StandsFor-one, HasFault-stands}
-use Rattle.recovery.specs.Causes.{IsCause}
 use Rattle.recovery.specs.Recovered.{IsOursForSome, StandsForOneOf}
 use Rattle.recovery.specs.declared.start_fault.StartFault.{StartFault}
-use Rattle.recovery.specs.declared.start_fault.StartFault.TheVariants.{NoMemory, Read, Write as WriteFault, Flush, BadSuper, BadVersion}
-use Rattle.recovery.specs.declared.start_fault.StartFault.TheVariants.{BadSize, BadHead, StampsUsedUp, LogTooSmall}
 use Rattle.spec.specs.Book.{Book, after_first, opened, with_write}
 use Rattle.blocks.specs.Book.{Same}
 use Rattle.blocks.specs.Finding.{StandsAs, MayFind, FoundWith}
@@ -157,20 +154,8 @@ module _ (before after : State) (book : Book) (on : OpensOn before book) where
       let stamps : next ≡ book.stamp = same.1 in
       omega (arith, stamps, past)
 
-  -- what is not want of memory is a cause of the recovery
-  cause_of : {A : Type 0} (fault : StartFault) → (IsCause before after fault → A) → (fault ≡ NoMemory → A) → IsStartCause before after fault
-      → A
-  cause_of fault recovery memory cause = ⊎_elim recovery (λ e. memory e.0) cause
-
   -- contents that stand for a book have no fault but that their stamps may be used up
   pub is_cause_for : (fault : StartFault) → IsStartCause before after fault → IsCauseFor book before after fault
-  is_cause_for NoMemory h = tt
-  is_cause_for Read h = cause_of Read (λ c. c) (λ e. absurd (cc e)) h
-  is_cause_for WriteFault h = cause_of WriteFault (λ c. c) (λ e. absurd (cc e)) h
-  is_cause_for Flush h = cause_of Flush (λ c. c) (λ e. absurd (cc e)) h
-  is_cause_for BadSuper h = cause_of BadSuper (λ c. no_fault image.BadSuper c.0) (λ e. absurd (cc e)) h
-  is_cause_for BadVersion h = cause_of BadVersion (λ c. no_fault image.BadVersion c.0) (λ e. absurd (cc e)) h
-  is_cause_for BadSize h = cause_of BadSize (λ c. no_fault image.BadSize c.0) (λ e. absurd (cc e)) h
-  is_cause_for BadHead h = cause_of BadHead (λ c. no_fault image.BadHead c.0) (λ e. absurd (cc e)) h
-  is_cause_for StampsUsedUp h = cause_of StampsUsedUp (λ c. used_up c.0) (λ e. absurd (cc e)) h
-  is_cause_for LogTooSmall h = cause_of LogTooSmall (λ c. c) (λ e. absurd (cc e)) h
+  is_cause_for fault h =
+      let none = no_fault image.BadSuper in
+      grind (arith, h, none, no_fault image.BadVersion, no_fault image.BadSize, no_fault image.BadHead, used_up)

@@ -1,5 +1,5 @@
 -- How many blocks a transfer has at most, and how many steps are left at most.
-use Rattle.std.proofs.Common.{◌≡◌, ◌≤◌, ℕ, ◌+◌, ◌*◌, ap, arith, Bool, zero, suc}
+use Rattle.std.proofs.Common.{◌≡◌, ◌≤◌, ℕ, ◌+◌, ◌*◌, ap, arith, Bool}
 use Rattle.journal.specs.Places.{Shape, limit_of}
 use Rattle.journal.specs.declared.log_format.LogFormat.{LogFormat}
 use Rattle.journal.specs.declared.log_format.LogFormat.TheVariants.{One, Two}
@@ -11,16 +11,13 @@ use Rattle.blocks.proofs.BookTurns.{steps_for_most}
 
 -- no format has a lower limit, or a higher one
 pub limit_least : (format : LogFormat) → 48 ≤ limit_of format
-limit_least One = omega arith
-limit_least Two = omega arith
+limit_least format = grind arith
 
 pub limit_most : (format : LogFormat) → limit_of format ≤ 240
-limit_most One = omega arith
-limit_most Two = omega arith
+limit_most format = grind arith
 
 waiting_most : (begun steps : ℕ) → waiting begun steps ≤ steps
-waiting_most zero steps = omega arith
-waiting_most (suc begun) steps = omega arith
+waiting_most begun steps = grind arith
 
 -- what the records and the batches take together
 few : (format : LogFormat) (slots steps left frozen active : ℕ) → steps ≤ most_steps format → left ≤ most_retire_steps format * slots
@@ -52,8 +49,7 @@ has_limits size sizes s writing ahead kept =
     }
 
 few_batch : (format : LogFormat) → most_steps format + most_retire_steps format + 10 ≤ 3 * limit_of format + 16
-few_batch One = omega arith
-few_batch Two = omega arith
+few_batch format = grind arith
 
 -- how many steps a batch takes, for the layers above, which know no format
 pub few_batch_steps : (s : Cached) → batch_steps s ≤ 3 * transfer_limit s + 16

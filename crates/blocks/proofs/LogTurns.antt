@@ -1,164 +1,236 @@
 -- The turns of the store's own functions, from what the log's calls do.
-use Rattle.std.proofs.Common.{◌≡◌, ◌≤◌, ◌<◌, ℕ, ◌+◌, ◌-◌, ◌^◌, zero, suc, inl, inr, ⊎_elim, arith, ◌∙◌, sym, refl, ap, true, List, [], ◌∷◌}
-use Rattle.std.proofs.Common.{length, drop, length-append}
-use Rattle.std.proofs.lemmas.Bool.{false≢true, cases_lt}
-use Rattle.std.proofs.lemmas.List.{length-map}
+use Rattle.std.proofs.Common.{◌≡◌, ◌≤◌, ◌<◌, ℕ, ◌+◌, ◌-◌, ◌*◌, ◌^◌, inl, inr, arith, ◌∙◌, sym, refl, ap, true, false, Bool, List, [], ◌∷◌}
+use Rattle.std.proofs.Common.{length, length-append}
+use Rattle.std.specs.Prelude.{Result, Ok, Err}
+use Rattle.std.proofs.lemmas.Bool.{false≢true, cases_lt, cases_Bool}
+use Rattle.std.proofs.lemmas.Bool.Decides.{nat_tests}
+use Rattle.std.proofs.lemmas.List.{length-map, nil_from_length}
 use Rattle.medium.specs.Medium.{State, IsSound}
-use Rattle.medium.specs.Moments.{LeavesOnly, SparesFrom}
+use Rattle.medium.specs.Moments.{LeavesOnly}
 use Rattle.medium.proofs.Moments.{started, weaker}
 use Rattle.medium.proofs.SparedSectors.{spared_start}
 use Rattle.journal.specs.Places.{sectors_of}
+use Rattle.journal.specs.declared.super_sector.Super.{Super}
 use Rattle.journal.specs.Record.{Entry, numbers_of}
-use Rattle.redo_log.specs.Value.{LogValue, HasRoom, begun, died, IsStepped, IsRetireStepped, behind_oldest, IsBatch}
-use Rattle.redo_log.specs.Held.{View, HoldsView, MayLeave, with_record, view_retired, stamps_of}
+use Rattle.redo_log.specs.Value.{LogValue, Owes, CanPass, IsAway, IsSentHome, HasRoom, begun, died, IsCovered, IsRetireStepped, IsBatch}
+use Rattle.redo_log.specs.Value.{settled, entries_of}
+use Rattle.redo_log.specs.Held.{View, HoldsView, stamps_of}
+use Rattle.redo_log.specs.Steps.{MakesTurns, MakesStep, CountsStep, LeavesLog}
+use Rattle.redo_log.specs.declared.fault.LogFault.{LogFault}
+use Rattle.redo_log.specs.declared.progress.Progress.{Progress}
 use Rattle.redo_log.specs.declared.progress.Progress.TheVariants.{More, Durable}
-use Rattle.redo_log.proofs.StoreFacts.{died_holds}
+use Rattle.redo_log.proofs.StoreFacts.{died_holds, settled_holds}
 use Rattle.spec.specs.Blocks.{chunks, Write}
 use Rattle.cache.specs.Blocks.{with_range}
 use Rattle.cache.specs.Entries.{Entries, map_of}
 use Rattle.spec.specs.Book.{Book, promised}
-use Rattle.blocks.proofs.Room.{one_less}
+use Rattle.blocks.specs.Ahead.{counted, is_covered}
 use Rattle.blocks.specs.Finding.{MayFind, Found}
-use Rattle.blocks.specs.StoreValue.{firsts_in, Cached, layout_of, steps_for, batch_steps, waiting, steps_left, FitsBook}
+use Rattle.blocks.specs.Kept.{Invariant}
+use Rattle.blocks.specs.Passing.{PassesOn, PassesPaid}
+use Rattle.blocks.specs.Stopping.{stopped}
+use Rattle.blocks.specs.StoreValue.{firsts_in, Cached, layout_of, steps_left, FitsBook}
 use Rattle.blocks.specs.Turns.{GoesOn, IsTurn, IsWriteTurn}
-use Rattle.blocks.proofs.BookTurns.{moves, begins, becomes_durable, freezes, appends, settles, finds, no_steps_for}
+use Rattle.blocks.proofs.BookTurns.{moves, begins, becomes_durable, freezes, appends, settles, finds}
 use Rattle.blocks.proofs.TurnsJoined.{exits}
 
--- no count has fallen, and the store lives as it did
-pub lives : (before after : State) (old new : Cached) → before.failures ≤ after.failures → after.size ≡ before.size
-    → new.log.shape ≡ old.log.shape → new.log.dead ≡ old.log.dead → SparesFrom (sectors_of (layout_of old)) before after
-    → GoesOn before after old new
-lives before after old new failures size shape dead spares = record {
+-- ---- what stays of a log of which a record goes home, is flushed there, or is retired
+
+pub record Stays (old new : LogValue) : Type 0 where
+  pub shape : new.shape ≡ old.shape
+  pub head : old.head ≤ new.head
+  pub stamp : new.head + length new.waiting ≡ old.head + length old.waiting
+  pub next : new.next ≡ old.next
+  pub under_way : new.under_way ≡ old.under_way
+  pub steps : new.steps_left ≡ old.steps_left
+  pub retire : new.retire_steps_left ≤ old.retire_steps_left
+  pub dead : new.dead ≡ old.dead
+
+-- a retire step, or none where no record waits
+pub retire_stays : (old new : LogValue) → (old.waiting ≡ [] → new ≡ old) → (0 < length old.waiting → IsRetireStepped old new)
+    → Stays old new
+retire_stays old new none some = grind (arith, cases_lt 0 (length old.waiting), nil_from_length old.waiting, none, some)
+
+-- the head goes past the oldest record, or stays; or a block of that goes home
+pub past_stays : (old new : LogValue) → Owes old → ((CanPass old → ⊥) → new ≡ old) → (CanPass old → IsRetireStepped old new) → Stays old new
+past_stays old new owes none some = grind (arith, owes, none, some)
+
+pub home_stays : (old new : LogValue) → IsAway old → IsSentHome old new → Stays old new
+home_stays old new away sent = grind (arith, sent)
+
+-- ---- a call of the log
+
+-- what a cut may leave at any moment of it may be found
+cuts_found : (before after : State) (s : Cached) → LeavesLog s.log before after
+    → (book : Book) → FitsBook before s book → book.ours ≡ true → LeavesOnly (MayFind before.size book) before after
+cuts_found before after s leaves book f ours =
+    weaker _ (MayFind before.size book) before after (λ image left. finds before s book f image left)
+    (leaves.cuts f.view f.holds (f.ours ∙ ours))
+
+-- no count has fallen, and the store lives as it did, or a call was refused
+goes_on : (before after : State) (old new : Cached) → LeavesLog old.log before after → before.failures ≤ after.failures
+    → after.size ≡ before.size → new.log.shape ≡ old.log.shape → (old.log.dead ≡ true → new.log.dead ≡ true)
+    → (old.log.dead ≡ false → new.log.dead ≡ true → before.failures < after.failures) → GoesOn before after old new
+goes_on before after old new leaves failures size shape stays died = record {
   failures_stay = failures;
   size_stays = size;
   layout_stays = shape;
-  spares = spares;
+  spares = leaves.spares;
   blocks_stay = ap (λ x. x.blocks) shape;
-  dead_stays = λ is. dead ∙ is;
-  cause = λ live died. absurd (false≢true (sym (dead ∙ live) ∙ died));
+  dead_stays = stays;
+  cause = λ live dead. inl (died live dead);
 }
 
--- nothing has happened to the medium
-pub here : (m : State) → IsSound m → (old new : Cached) → new.log.shape ≡ old.log.shape → new.log.dead ≡ old.log.dead → GoesOn m m old new
-here m sound old new shape dead = lives m m old new (omega arith) refl shape dead (spared_start (sectors_of (layout_of old)) m sound)
-
--- what a cut may leave at any moment of a call of the log may be found
-pub cuts_found : (before after : State) (s : Cached)
-    → ((view : View) → HoldsView s.log before view → view.ours ≡ true → LeavesOnly (MayLeave before.size s.log view) before after)
-    → (book : Book) → FitsBook before s book → book.ours ≡ true → LeavesOnly (MayFind before.size book) before after
-cuts_found before after s cuts book f ours =
-    weaker (MayLeave before.size s.log f.view) (MayFind before.size book) before after (λ image left. finds before s book f image left)
-    (cuts f.view f.holds (f.ours ∙ ours))
-
--- the medium is refused a call, and the log is dead
-pub dies : (before after : State) (s : Cached) (log' : LogValue) → log' ≡ died s.log → before.failures < after.failures
-    → after.size ≡ before.size → ((book : Book) (f : FitsBook before s book) → HoldsView log' after f.view)
-    → ((view : View) → HoldsView s.log before view → view.ours ≡ true → LeavesOnly (MayLeave before.size s.log view) before after)
-    → SparesFrom (sectors_of (layout_of s)) before after → IsTurn before after s (record s { log = log' })
-dies before after s log' is grew size holds cuts spares = record {
-  fits = λ book f. moves before after s book log' f.view f (holds book f) refl refl refl (ap (λ (l : LogValue). l.shape) is)
-      (ap (λ (l : LogValue). l.head + length l.waiting) is) (omega (arith, ap (λ (l : LogValue). l.steps_left) is));
-  cuts = cuts_found before after s cuts;
-  goes_on = record {
-    failures_stay = omega (arith, grew);
-    size_stays = size;
-    layout_stays = ap (λ (l : LogValue). l.shape) is;
-    spares = spares;
-    blocks_stay = ap (λ (l : LogValue). l.shape.blocks) is;
-    dead_stays = λ dead. ap (λ (l : LogValue). l.dead) is;
-    cause = λ live died. inl grew;
-  };
+-- the medium is refused it, and the log is dead
+dies : (before after : State) (s : Cached) (log' : LogValue) → log' ≡ died s.log → after.failures ≡ before.failures + 1
+    → after.size ≡ before.size → ((book : Book) (f : FitsBook before s book) → HoldsView log' after f.view) → LeavesLog s.log before after
+    → IsTurn before after s (record s { log = log' })
+dies before after s log' is grew size holds leaves = record {
+  fits = λ book f. moves before after s book log' f.view f (holds book f) refl refl refl (rw is refl) (rw is refl) (rw is (omega arith));
+  cuts = cuts_found before after s leaves;
+  goes_on = goes_on before after s _ leaves (omega (arith, grew)) size (rw is refl) (λ dead. rw is refl) (λ live dead. omega (arith, grew));
 }
 
--- a step of the record under way, which is not its last
-pub steps_on : (before after : State) (s : Cached) (log' : LogValue) → IsStepped More s.log log' → before.failures ≤ after.failures
-    → after.size ≡ before.size → ((book : Book) (f : FitsBook before s book) → HoldsView log' after f.view)
-    → ((view : View) → HoldsView s.log before view → view.ours ≡ true → LeavesOnly (MayLeave before.size s.log view) before after)
-    → SparesFrom (sectors_of (layout_of s)) before after → IsTurn before after s (record s { log = log' })
-steps_on before after s log' stepped failures size holds cuts spares =
-    let is = stepped.1 in record {
-      fits = λ book f. moves before after s book log' f.view f (holds book f) refl refl refl (ap (λ (l : LogValue). l.shape) is)
-          (ap (λ (l : LogValue). l.head + length l.waiting) is) (omega (arith, ap (λ (l : LogValue). l.steps_left) is));
-      cuts = cuts_found before after s cuts;
-      goes_on = lives before after s (record s { log = log' }) failures size (ap (λ (l : LogValue). l.shape) is)
-          (ap (λ (l : LogValue). l.dead) is) spares;
+-- what was true of the store's fields is so where the log came further, or died
+still_kept : {before after : ℕ} {sizes : Super} {s : Cached} {log' : LogValue} {writing ahead : Bool} → after ≡ before
+    → s.log.steps_left ≡ 0 → Stays s.log log' → Invariant before sizes s writing ahead
+    → Invariant after sizes (record s { log = log' }) writing ahead
+still_kept same idle r k = grind (arith, same, idle, r, k)
+
+pub died_kept : {before after : ℕ} {sizes : Super} {s : Cached} {log' : LogValue} {writing ahead : Bool} → after ≡ before
+    → log' ≡ died s.log → Invariant before sizes s writing ahead → Invariant after sizes (record s { log = log' }) writing ahead
+died_kept same is k = rw is (grind (arith, same, k))
+
+-- a call that brings the oldest record on, with a count of its calls, its writes and flushes, and its flushes
+abbrev pub Made : {M : Type 0} → (M → State) → (M → M → Type 0) → (None Done : Type 0) → (count sends flushes : ℕ) → (View → View)
+    → Result (Unit {0}) LogFault → (log log' : LogValue) → (m n : M) → Type 0
+Made state Follows None Done count sends flushes after result log log' m n =
+    MakesTurns state Follows None Done (CountsStep count sends flushes result (state m) (state n)) after result log log' m n
+
+-- a view that differs in its records at most
+abbrev pub KeepsArray : (View → View) → Type 0
+KeepsArray after = (v : View) → ((after v).array ≡ v.array) × ((after v).under_way ≡ v.under_way) × ((after v).ours ≡ v.ours)
+
+module _ {M : Type 0} {state : M → State} {Follows : M → M → Type 0} {None Done : Type 0} {count sends flushes : ℕ} {after : View → View}
+    {m n : M} {s : Cached} {log' : LogValue} where
+  -- it is a turn
+  turn_made : (result : Result (Unit {0}) LogFault) → Made state Follows None Done count sends flushes after result s.log log' m n
+      → KeepsArray after → (Done → Stays s.log log') → IsTurn (state m) (state n) s (record s { log = log' })
+  turn_made (Ok x) called same stays =
+      let stay = stays called.answers.ok in
+      record {
+        fits = λ book f. moves (state m) (state n) s book log' (after f.view) f (called.holds f.view f.holds)
+            (same f.view).0 (same f.view).1 (same f.view).2 stay.shape stay.stamp (omega (arith, stay.steps));
+        cuts = cuts_found (state m) (state n) s called.leaves;
+        goes_on = goes_on (state m) (state n) s _ called.leaves (omega (arith, called.passes.failures)) called.passes.size stay.shape
+            (λ dead. stay.dead ∙ dead) (λ live dead. absurd (false≢true (sym (stay.dead ∙ live) ∙ dead)));
+      }
+  turn_made (Err e) called same stays = dies (state m) (state n) s log' called.answers.err called.passes.failures called.passes.size
+      (λ book f. called.holds f.view f.holds) called.leaves
+
+  -- what was true of the store's fields is so still
+  pub turn_kept : (result : Result (Unit {0}) LogFault) → Made state Follows None Done count sends flushes after result s.log log' m n
+      → (Done → Stays s.log log') → {sizes : Super} {writing ahead : Bool} → s.log.steps_left ≡ 0
+      → Invariant (state m).size sizes s writing ahead → Invariant (state n).size sizes (record s { log = log' }) writing ahead
+  turn_kept (Ok x) called stays idle k = still_kept called.passes.size idle (stays called.answers.ok) k
+  turn_kept (Err e) called stays idle k = died_kept called.passes.size called.answers.err k
+
+  module _ (ahead : Bool) (result : Result (Unit {0}) LogFault)
+      (called : Made state Follows None Done count sends flushes after result s.log log' m n) (same : KeepsArray after)
+      (stays : Done → Stays s.log log') where
+    pub passes_turn : {most : ℕ} → sends ≤ most
+        → PassesOn state Follows IsTurn 2 most (record { medium = m; cached = s; goes_ahead = ahead })
+        (record { medium = n; cached = record s { log = log' }; goes_ahead = ahead })
+    passes_turn few = record {
+      turn = turn_made result called same stays;
+      calls = called.passes.calls.two;
+      sent = omega (arith, called.passes.calls.sent, few);
+      none_refused = λ live. grind (arith, called.answers, called.passes.failures);
+      follows = called.passes.follows;
+      looks = called.leaves.looks;
+      policy = refl;
     }
 
--- its last step, after which the frozen batch is emptied
-pub steps_last : (before after : State) (s : Cached) (log' : LogValue) (none : Entries) → IsStepped Durable s.log log' → none.numbers ≡ []
-    → before.failures ≤ after.failures → after.size ≡ before.size
-    → ((book : Book) (f : FitsBook before s book) → HoldsView log' after (with_record f.view))
-    → ((view : View) → HoldsView s.log before view → view.ours ≡ true → LeavesOnly (MayLeave before.size s.log view) before after)
-    → SparesFrom (sectors_of (layout_of s)) before after → IsTurn before after s (record { log = log'; active = s.active; frozen = none })
-steps_last before after s log' none stepped empty failures size holds cuts spares =
-    let is = stepped.1 in record {
-      fits = λ book f. becomes_durable before after s book log' none f (omega (arith, stepped.0)) empty (holds book f)
-          (ap (λ (l : LogValue). l.shape) is) (ap (λ (l : LogValue). l.head) is)
-          (ap (λ (l : LogValue). length l.waiting) is ∙ length-append s.log.waiting (s.log.under_way ∷ []))
-          (ap (λ (l : LogValue). l.steps_left) is);
-      cuts = cuts_found before after s cuts;
-      goes_on = lives before after s (record { log = log'; active = s.active; frozen = none }) failures size
-          (ap (λ (l : LogValue). l.shape) is) (ap (λ (l : LogValue). l.dead) is) spares;
+    pub paid_turn : {most : ℕ} → sends ≤ most → count ≤ 2 * steps_left s
+        → (Done → count + 2 * steps_left (record s { log = log' }) ≤ 2 * steps_left s)
+        → PassesPaid state Follows most (record { medium = m; cached = s; goes_ahead = ahead })
+        (record { medium = n; cached = record s { log = log' }; goes_ahead = ahead })
+    paid_turn {most} few some fewer =
+        let on = passes_turn {most = most} few in
+        record {
+          turn = on.turn;
+          paid = record {
+            most = omega (arith, called.passes.calls.most, some);
+            rest = λ live. grind (arith, called.answers, called.passes.calls.most, fewer);
+          };
+          sent = on.sent;
+          none_refused = on.none_refused;
+          follows = on.follows;
+          looks = on.looks;
+          policy = refl;
+        }
+
+-- a step of the record under way, which is the frozen batch; after its last one that batch is emptied
+abbrev stepped : Result Progress LogFault → Cached → LogValue → Entries → Cached
+stepped (Ok More) s log' none = record s { log = log' }
+stepped (Ok Durable) s log' none = record { log = log'; active = s.active; frozen = none }
+stepped (Err e) s log' none = record s { log = log' }
+
+pub step_turn : {M : Type 0} {state : M → State} {Follows : M → M → Type 0} {m n : M} (result : Result Progress LogFault) (s : Cached)
+    (log' : LogValue) (none : Entries) → none.numbers ≡ [] → 0 < s.log.steps_left
+    → MakesStep state Follows (entries_of s.frozen.numbers s.frozen.bytes) result s.log log' m n
+    → IsTurn (state m) (state n) s (stepped result s log' none)
+step_turn {state = state} {m = m} {n = n} (Ok More) s log' none empty some called =
+    let is = called.answers.ok.1 in record {
+      fits = λ book f. moves (state m) (state n) s book log' f.view f (called.holds f.view f.holds (f.under_way some)) refl refl refl
+          (rw is refl) (rw is refl) (rw is (omega arith));
+      cuts = cuts_found (state m) (state n) s called.leaves;
+      goes_on = goes_on (state m) (state n) s _ called.leaves (omega (arith, called.passes.failures)) called.passes.size (rw is refl)
+          (λ dead. rw is dead) (λ live dead. absurd (false≢true (sym live ∙ rw is at dead)));
     }
-
--- what a retire step leaves as it was
-pub record StaysRetired (old new : LogValue) : Type 0 where
-  pub shape : new.shape ≡ old.shape
-  pub stamp : new.head + length new.waiting ≡ old.head + length old.waiting
-  pub steps : new.steps_left ≡ old.steps_left
-  pub dead : new.dead ≡ old.dead
-
-length-drop_one : {A : Type 0} (l : List A) → 0 < length l → 1 + length (drop 1 l) ≡ length l
-length-drop_one [] some = absurd (omega (arith, some))
-length-drop_one (x ∷ l) some = omega arith
-
-pub retired : (old new : LogValue) → 0 < length old.waiting → IsRetireStepped old new → StaysRetired old new
-retired old new some stepped = ⊎_elim
-    (λ more. let is = one_less old new stepped more in record {
-      shape = ap (λ (l : LogValue). l.shape) is;
-      stamp = ap (λ (l : LogValue). l.head + length l.waiting) is;
-      steps = ap (λ (l : LogValue). l.steps_left) is;
-      dead = ap (λ (l : LogValue). l.dead) is;
-    })
-    (λ last. let is = stepped.last (omega (arith, last, stepped.some)) in record {
-      shape = ap (λ (l : LogValue). l.shape) is;
-      stamp = ap (λ (l : LogValue). l.head + length l.waiting) is ∙ omega (arith, length-drop_one old.waiting some);
-      steps = ap (λ (l : LogValue). l.steps_left) is;
-      dead = ap (λ (l : LogValue). l.dead) is;
-    })
-    (cases_lt (behind_oldest old + 1) old.retire_steps_left)
-
-stays_retired : (old new : LogValue) → (old.waiting ≡ [] → new ≡ old) → (0 < length old.waiting → IsRetireStepped old new)
-    → StaysRetired old new
-stays_retired old new none some = go old.waiting refl
-  where
-    go : (l : List (List ℕ)) → old.waiting ≡ l → StaysRetired old new
-    go [] is = let e = none is in record {
-      shape = ap (λ (l : LogValue). l.shape) e;
-      stamp = ap (λ (l : LogValue). l.head + length l.waiting) e;
-      steps = ap (λ (l : LogValue). l.steps_left) e;
-      dead = ap (λ (l : LogValue). l.dead) e;
+step_turn {state = state} {m = m} {n = n} (Ok Durable) s log' none empty some called =
+    let is = called.answers.ok.1 in record {
+      fits = λ book f. becomes_durable (state m) (state n) s book log' none f some empty (called.holds f.view f.holds (f.under_way some))
+          (rw is refl) (rw is refl) (rw is (length-append s.log.waiting (s.log.under_way ∷ []))) (rw is refl);
+      cuts = cuts_found (state m) (state n) s called.leaves;
+      goes_on = goes_on (state m) (state n) s _ called.leaves (omega (arith, called.passes.failures)) called.passes.size (rw is refl)
+          (λ dead. rw is dead) (λ live dead. absurd (false≢true (sym live ∙ rw is at dead)));
     }
-    go (r ∷ l) is =
-        let waits : 0 < length old.waiting = omega (arith, ap (λ (w : List (List ℕ)). length w) is) in retired old new waits (some waits)
+step_turn {state = state} {m = m} {n = n} (Err e) s log' none empty some called =
+    dies (state m) (state n) s log' called.answers.err called.passes.failures called.passes.size
+    (λ book f. called.holds f.view f.holds (f.under_way some)) called.leaves
 
--- a step of retiring
-pub retires : (before after : State) (s : Cached) (log' : LogValue) → (s.log.waiting ≡ [] → log' ≡ s.log)
-    → (0 < length s.log.waiting → IsRetireStepped s.log log') → before.failures ≤ after.failures → after.size ≡ before.size
-    → ((view : View) → HoldsView s.log before view → HoldsView log' after (view_retired (log'.head - s.log.head) view))
-    → ((view : View) → HoldsView s.log before view → view.ours ≡ true → LeavesOnly (MayLeave before.size s.log view) before after)
-    → SparesFrom (sectors_of (layout_of s)) before after → IsTurn before after s (record s { log = log' })
-retires before after s log' none some failures size holds cuts spares =
-    let stay = stays_retired s.log log' none some in record {
-      fits = λ book f. moves before after s book log' (view_retired (log'.head - s.log.head) f.view) f (holds f.view f.holds) refl refl refl
-          stay.shape stay.stamp (omega (arith, stay.steps));
-      cuts = cuts_found before after s cuts;
-      goes_on = lives before after s (record s { log = log' }) failures size stay.shape stay.dead spares;
-    }
+-- ---- where no call is made
 
 module _ (m : State) (sound : IsSound m) (s : Cached) where
+  -- nothing has happened to the medium
+  here : (new : Cached) → new.log.shape ≡ s.log.shape → new.log.dead ≡ s.log.dead → GoesOn m m s new
+  here new shape dead = record {
+    failures_stay = omega arith;
+    size_stays = refl;
+    layout_stays = shape;
+    spares = spared_start (sectors_of (layout_of s)) m sound;
+    blocks_stay = ap (λ x. x.blocks) shape;
+    dead_stays = λ is. dead ∙ is;
+    cause = λ live died. absurd (false≢true (sym (dead ∙ live) ∙ died));
+  }
+
   still_found : (book : Book) → FitsBook m s book → book.ours ≡ true → LeavesOnly (MayFind m.size book) m m
   still_found book f ours = started (MayFind m.size book) m sound (exits m s book f ours)
+
+  -- a flush is counted, or none is
+  pub counts_turn : (log' : LogValue) → log' ≡ counted s.log → IsTurn m m s (record s { log = log' })
+  counts_turn log' is = elim (cases_Bool (is_covered s.log)) [
+    | inl covers ↦
+        let covered : IsCovered s.log = grind (arith, nat_tests, covers) in
+        rw (is, covers) (record {
+          fits = λ book f. moves m m s book (settled s.log) f.view f (settled_holds s.log m f.view f.holds covered) refl refl refl refl refl
+              (omega arith);
+          cuts = still_found;
+          goes_on = here (record s { log = settled s.log }) refl refl;
+        })
+    | inr uncovered ↦ rw (is, uncovered) (record { fits = λ book f. f; cuts = still_found; goes_on = here s refl refl })
+  ]
 
   -- the record of the frozen batch is begun
   pub begins_record : HasRoom s.log → IsBatch s.log.shape s.frozen.numbers s.frozen.bytes → IsTurn m m s
@@ -166,7 +238,7 @@ module _ (m : State) (sound : IsSound m) (s : Cached) where
   begins_record room batch = record {
     fits = λ book f. begins m s book f room batch;
     cuts = still_found;
-    goes_on = here m sound s (record s { log = begun s.frozen.numbers (firsts_in s.frozen) s.log }) refl refl;
+    goes_on = here (record s { log = begun s.frozen.numbers (firsts_in s.frozen) s.log }) refl refl;
   }
 
   -- no stamp is left for it, and the log is dead
@@ -194,7 +266,7 @@ module _ (m : State) (sound : IsSound m) (s : Cached) where
   freezes_active idle empty = record {
     fits = λ book f. freezes m s book idle empty f;
     cuts = still_found;
-    goes_on = here m sound s (record s { active = s.frozen; frozen = s.active }) refl refl;
+    goes_on = here (record s { active = s.frozen; frozen = s.active }) refl refl;
   }
 
   -- the active batch takes a write
@@ -204,23 +276,17 @@ module _ (m : State) (sound : IsSound m) (s : Cached) where
   appends_write more address bytes count put = let w : Write = record { address = address; blocks = chunks count bytes } in record {
     fits = λ book f. appends m s book more address bytes count put f;
     cuts = λ book f ours. weaker (MayFind m.size book) (Found m.size book w) m m (λ image found. inl found) (still_found book f ours);
-    goes_on = here m sound s (record s { active = more }) refl refl;
+    goes_on = here (record s { active = more }) refl refl;
   }
 
-pub waiting_idle : (begun steps : ℕ) → begun ≡ 0 → waiting begun steps ≡ steps
-waiting_idle zero steps e = refl
-waiting_idle (suc begun) steps e = absurd (omega (arith, e))
-
--- where no step is left both batches are empty
+-- where no step is left both batches are empty, and every write is durable
 pub nothing_left : (s : Cached) → steps_left s ≡ 0 → (s.frozen.numbers ≡ []) × (s.active.numbers ≡ [])
-nothing_left s none =
-    let idle : s.log.steps_left ≡ 0 = omega (arith, none) in
-    let counted = waiting_idle s.log.steps_left (steps_for (batch_steps s) s.frozen.numbers) idle in
-    let some : 0 < batch_steps s = omega arith in (
-      no_steps_for (batch_steps s) s.frozen.numbers some (omega (arith, none, counted)),
-      no_steps_for (batch_steps s) s.active.numbers some (omega (arith, none)),
-    )
+nothing_left s none = grind (arith, nil_from_length s.frozen.numbers, nil_from_length s.active.numbers)
 
--- and every write is durable
 pub settles_all : (m : State) (s : Cached) (book : Book) → steps_left s ≡ 0 → FitsBook m s book → FitsBook m s (promised book)
 settles_all m s book none f = let empty = nothing_left s none in settles m s book empty.0 empty.1 f
+
+-- a store that is given up from outside fits the books that it fitted
+pub stopped_fits : (m : State) (s : Cached) (book : Book) → FitsBook m s book → FitsBook m (stopped s) book
+stopped_fits m s book f =
+    moves m m s book (died s.log) f.view f (died_holds s.log m f.view f.holds) refl refl refl refl refl (omega arith)

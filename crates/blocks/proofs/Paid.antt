@@ -1,11 +1,11 @@
 -- What the calls of a store pass on, one after another.
-use Rattle.std.proofs.Common.{◌≡◌, ◌≤◌, ◌<◌, ◌+◌, ℕ, ◌∙◌, ap, sym, refl, subst, arith, false}
+use Rattle.std.proofs.Common.{◌≡◌, ◌≤◌, ◌<◌, ◌+◌, ℕ, ◌∙◌, ap, refl, arith, false}
 use Rattle.medium.specs.Medium.{State, IsSound}
 use Rattle.medium.specs.Sent.{sent, SendsUpTo}
 use Rattle.blocks.specs.Passing.{PassesOn, PassesPaid, KeepsMedium}
 use Rattle.blocks.specs.StoreValue.{Cached, StoreValue, is_dead, steps_left, batch_steps, steps_for, waiting}
 use Rattle.blocks.specs.Turns.{IsTurn}
-use Rattle.blocks.proofs.BackgroundCalls.{pays_both, pays_step}
+use Rattle.blocks.proofs.BackgroundCalls.{pays_both}
 use Rattle.blocks.proofs.SectorsRead.{none, looks_on}
 use Rattle.blocks.proofs.TurnsJoined.{stays, turns}
 
@@ -28,32 +28,14 @@ module _ {M : Type 0} {state : M → State} {Follows : M → M → Type 0} where
   pub kept_on : {Turn : State → State → Cached → Cached → Type 0} {most sends : ℕ} {old new : StoreValue M} → ((m : M) → Follows m m)
       → KeepsMedium state Turn old new → PassesOn state Follows Turn most sends old new
   kept_on {old = old} {new = new} itself keeps =
-      let calls = ap (λ m. (state m).calls) keeps.medium in
-      let quiet = ap (λ m. sent (state m)) keeps.medium in
-      record {
-        turn = keeps.turn;
-        calls = omega (arith, calls);
-        sent = omega (arith, quiet);
-        none_refused = λ live. ap (λ m. (state m).failures) keeps.medium;
-        follows = subst (λ m. Follows old.medium m) (sym keeps.medium) (itself old.medium);
-        looks = none (state old.medium) (state new.medium) old.cached (ap (λ m. (state m).looked) keeps.medium);
-        policy = keeps.policy;
-      }
+      let looks = none (state old.medium) (state new.medium) old.cached (ap (λ m. (state m).looked) keeps.medium) in
+      grind (arith, keeps, itself old.medium, looks)
 
   -- and no step more is left
   pub kept_paid : {sends : ℕ} {old new : StoreValue M} → ((m : M) → Follows m m) → KeepsMedium state IsTurn old new
       → (is_dead new.cached ≡ false → steps_left new.cached ≤ steps_left old.cached) → PassesPaid state Follows sends old new
   kept_paid {sends = sends} {old = old} {new = new} itself keeps fewer =
-      let on : PassesOn state Follows IsTurn 0 sends old new = kept_on itself keeps in
-      record {
-        turn = on.turn;
-        paid = record { most = omega (arith, on.calls); rest = λ live. omega (arith, on.calls, fewer live) };
-        sent = on.sent;
-        none_refused = on.none_refused;
-        follows = on.follows;
-        looks = on.looks;
-        policy = on.policy;
-      }
+      let on : PassesOn state Follows IsTurn 0 sends old new = kept_on itself keeps in grind (arith, on, fewer)
 
   -- nothing was done, as a record of each kind tells it
   pub rested_on : {most sends : ℕ} {old : StoreValue M} → ((m : M) → Follows m m) → ((m : M) → IsSound (state m))
@@ -84,25 +66,9 @@ module _ {M : Type 0} {state : M → State} {Follows : M → M → Type 0} where
       → (is_dead new.cached ≡ false → steps_left new.cached < steps_left old.cached)
       → (state new.medium).calls ≤ (state old.medium).calls + 2 → PassesOn state Follows IsTurn most sends old new
       → PassesPaid state Follows sends old new
-  on_paid {old = old} {new = new} some falls calls on = record {
-    turn = on.turn;
-    paid = pays_step (state old.medium) (state new.medium) old.cached new.cached some calls falls;
-    sent = on.sent;
-    none_refused = on.none_refused;
-    follows = on.follows;
-    looks = on.looks;
-    policy = on.policy;
-  }
+  on_paid {old = old} {new = new} some falls calls on = grind (arith, on, some, falls, calls)
 
   -- more writes and flushes are allowed
   pub paid_more : {few many : ℕ} {old new : StoreValue M} → PassesPaid state Follows few old new
       → SendsUpTo many (state old.medium) (state new.medium) → PassesPaid state Follows many old new
-  paid_more paid sent = record {
-    turn = paid.turn;
-    paid = paid.paid;
-    sent = sent;
-    none_refused = paid.none_refused;
-    follows = paid.follows;
-    looks = paid.looks;
-    policy = paid.policy;
-  }
+  paid_more paid sent = grind (arith, paid, sent)

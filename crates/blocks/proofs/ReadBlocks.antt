@@ -1,7 +1,6 @@
 -- What a read gives.
-use Rattle.std.proofs.Common.{◌≡◌, ℕ, zero, suc, ◌+◌, ◌*◌, ◌≤◌, ◌<◌, List, ◌++◌, length, take, drop, Option, None}
-use Rattle.std.proofs.Common.{⊎_elim, sym, ◌∙◌, ap, arith}
-use Rattle.std.proofs.Common.{append_assoc, append-nil, add-zero, add-one}
+use Rattle.std.proofs.Common.{◌≡◌, ℕ, zero, suc, ◌+◌, ◌*◌, ◌≤◌, ◌<◌, List, ◌++◌, length, take, drop, Option, None, ⊎_elim, sym, ◌∙◌, ap}
+use Rattle.std.proofs.Common.{arith, append_assoc, append-nil, add-zero, add-one}
 use Rattle.std.proofs.lemmas.List.{length-drop, length-take-le}
 use Rattle.std.proofs.lemmas.Slice.{take-put_mid}
 use borrow.Rule.Slice.PartMut.{put_mid}

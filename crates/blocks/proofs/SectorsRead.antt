@@ -1,5 +1,5 @@
 -- Each sector that a call of a store reads is one of the log, or for a READ the home of one of its blocks.
-use Rattle.std.proofs.Common.{◌≡◌, ◌<◌, ◌≤◌, ◌+◌, ℕ, ⊎_elim, inl, inr, arith, subst}
+use Rattle.std.proofs.Common.{◌≡◌, ◌<◌, ◌≤◌, ◌+◌, ℕ, inl, inr, arith, subst}
 use Rattle.medium.specs.Medium.{State, LooksOnly}
 use Rattle.medium.proofs.SectorsRead.{no_looks, one_look, looks_joined, looks_wider}
 use Rattle.journal.specs.Places.{Shape, first_home}
@@ -42,14 +42,14 @@ one_more before mid after old half address i same first last =
     let here = subst (λ (s : Cached). LooksAtBlocks mid after s (address + i) 1) same last in
     looks_joined (IsLogOrHome (first_home (layout_of old)) address (i + 1)) before mid after
     (looks_wider (IsLogOrHome (first_home (layout_of old)) address i) (IsLogOrHome (first_home (layout_of old)) address (i + 1)) before mid
-    (λ x named. ⊎_elim inl (λ range. inr (range.0, omega (arith, range.1))) named) first)
+    (λ x named. grind (arith, named)) first)
     (looks_wider (IsLogOrHome (first_home (layout_of old)) (address + i) 1)
     (IsLogOrHome (first_home (layout_of old)) address (i + 1)) mid after
-    (λ x named. ⊎_elim inl (λ range. inr (omega (arith, range.0), omega (arith, range.1))) named) here)
+    (λ x named. grind (arith, named)) here)
 
 -- what looks at few blocks at most looks at many at most
 pub fewer_read : (before after : State) (s : Cached) (address few many : ℕ) → few ≤ many → LooksAtBlocks before after s address few
     → LooksAtBlocks before after s address many
 fewer_read before after s address few many le looks =
     looks_wider (IsLogOrHome (first_home (layout_of s)) address few) (IsLogOrHome (first_home (layout_of s)) address many) before after
-    (λ x named. ⊎_elim inl (λ range. inr (range.0, omega (arith, range.1, le))) named) looks
+    (λ x named. grind (arith, named, le)) looks

@@ -4,7 +4,6 @@ use Rattle.std.specs.Prelude.{Bool, true}
 use Rattle.medium.specs.Medium.{State, Image, IsSound}
 use Rattle.medium.specs.Moments.{EachCut}
 use Rattle.spec.specs.Blocks.{Array}
-use Rattle.std.proofs.lemmas.Bool.{false≢true}
 use Rattle.journal.specs.Places.{Shape, limit_of, sectors_of}
 use Rattle.journal.specs.declared.super_sector.Super.{Super}
 use Rattle.journal.specs.declared.log_format.LogFormat.{LogFormat}
@@ -21,7 +20,7 @@ use Rattle.redo_log.proofs.StoreFacts.{idle_holds}
 use Rattle.cache.specs.Entries.{Entries}
 use Rattle.spec.specs.Book.{opened}
 use Rattle.blocks.specs.Ahead.{may_go_ahead}
-use Rattle.blocks.specs.Kept.{IsBatchOf, Invariant}
+use Rattle.blocks.specs.Kept.{Invariant}
 use Rattle.blocks.specs.StoreValue.{Cached, FitsBook}
 use Rattle.blocks.specs.Started.{IsStarted}
 use Rattle.blocks.proofs.KnownImages.{serves, opens_on}
@@ -56,49 +55,12 @@ started shape next = record { log = idle_from shape next; active = empty_batch s
 -- it is kept as every store is
 pub started_kept : (size : ℕ) (sizes : Super) (next : ℕ) → sectors_of (shape_of sizes) ≤ size
     → Invariant size sizes (started (shape_of sizes) next) false false
-started_kept size sizes next fits = record {
-  shape = refl;
-  fits = fits;
-  active = empty_kept;
-  frozen = empty_kept;
-  writes = λ live w. absurd (false≢true w);
-  rests = λ live w. refl;
-  under_way = λ live some. absurd (omega arith);
-  none_under_way = λ live none. refl;
-  ring = omega arith;
-  some = λ some. absurd (omega arith);
-  few_steps = omega arith;
-  few_retire_steps = omega arith;
-  owes = λ some. absurd (omega arith);
-  policy = λ goes. absurd (false≢true goes);
-}
-  where
-    empty_kept : IsBatchOf (shape_of sizes) (empty_batch sizes.format)
-    empty_kept = record {
-      well_formed = record { rising = λ i j less below. absurd (omega arith); sized = refl; within = omega arith };
-      room = refl;
-      inside = λ n listed. absurd (false≢true listed);
-    }
+started_kept size sizes next fits = grind (arith, fits)
 
 -- so it is where it goes ahead, if its log allows that
 pub with_policy : (size : ℕ) (sizes : Super) (s : Cached) (writing ahead b : Bool) → Invariant size sizes s writing ahead
     → (b ≡ true → may_go_ahead s.log.shape ≡ true) → Invariant size sizes s writing b
-with_policy size sizes s writing ahead b k may = record {
-  shape = k.shape;
-  fits = k.fits;
-  active = k.active;
-  frozen = k.frozen;
-  writes = k.writes;
-  rests = k.rests;
-  under_way = k.under_way;
-  none_under_way = k.none_under_way;
-  ring = k.ring;
-  some = k.some;
-  few_steps = k.few_steps;
-  few_retire_steps = k.few_retire_steps;
-  owes = k.owes;
-  policy = may;
-}
+with_policy size sizes s writing ahead b k may = grind (arith, k, may)
 
 -- it fits a life that opens with the array that is at home
 opens : (shape : Shape) (array : Array) (next : ℕ) (ours : Bool) (m : State) → HoldsView (idle_from shape next) m (resting_view array ours)

@@ -1,107 +1,179 @@
--- What a record costs a store that goes ahead, once records alone have filled the ring.
-use Rattle.std.proofs.Common.{◌≡◌, ◌<◌, ◌+◌, ◌-◌, ◌*◌, ◌∙◌, ap, sym, refl, arith}
-use Rattle.std.specs.Prelude.{ℕ, zero, suc, List, [], ◌∷◌, length, get_or, drop, sum_by, nat_lt, Bool, true, if◌then◌else◌, ◌==◌, ◌&&◌}
-use Rattle.std.proofs.lemmas.Bool.{eq-eqb, lt-ltb}
-use Rattle.std.proofs.lemmas.List.Sums.{sum_by-cons}
-use Rattle.redo_log.specs.Value.{LogValue, HasRoom, IsCovered, settled, of_oldest, turns_calls}
-use Rattle.redo_log.specs.Value.{retire_steps_of, pass_calls}
-use Rattle.blocks.specs.Ahead.{oldest_retired, is_covered, counted, past, passed, going_calls, sent_calls, ahead_room_calls, retiring_calls}
-use Rattle.blocks.specs.Retiring.{HasSlots, finish_calls, both_calls}
-use Rattle.blocks.specs.Steady.{IsSteady, second_of, steady_calls}
-use Rattle.blocks.proofs.RoomCalls.{finish_none, finish_begun}
-use Rattle.blocks.proofs.AheadTurns.{one_pass}
-use Rattle.blocks.proofs.OldestHome.{calls_short, going_short, passes_short}
-use Rattle.blocks.proofs.Ready.{ahead_free_calls}
-use Rattle.blocks.proofs.Room.{finishes_none}
+-- How records alone fill the ring of a store that goes ahead, how it stays steady, and what a record costs then.
+use Rattle.std.proofs.Common.{◌≡◌, ◌⊎◌, ◌<◌, ◌≤◌, ◌+◌, ◌-◌, ◌*◌, arith, length-append, refl}
+use Rattle.std.specs.Prelude.{ℕ, zero, suc, List, [], ◌∷◌, ◌++◌, length, get_or, drop, sum_by, All, true}
+use Rattle.std.proofs.lemmas.Bool.Decides.{nat_tests}
+use Rattle.std.proofs.lemmas.List.Sums.{sum_by-cons, sum_by_push}
+use Rattle.std.proofs.lemmas.List.Elements.{All-append, All-cons}
+use Rattle.medium.specs.Medium.{State}
+use Rattle.cache.specs.Entries.{Entries}
+use Rattle.journal.specs.Places.{Shape}
+use Rattle.redo_log.specs.Value.{LogValue, HasRoom, behind_oldest, of_oldest, ahead_of, retire_steps_of, settled, begun, idle_from}
+use Rattle.redo_log.specs.Value.{turns_calls}
+use Rattle.blocks.specs.Ahead.{oldest_retired, ahead_room, ahead_room_calls, may_go_ahead}
+use Rattle.blocks.specs.Retiring.{written_out, finished_with, finished, both_calls}
+use Rattle.blocks.specs.Started.{IsStarted}
+use Rattle.blocks.specs.Steady.{IsSteady, IsFilling, IsFuller, finished_each, ReachesSteady, second_of, steady_calls}
+use Rattle.blocks.specs.StoreValue.{Cached, layout_of, firsts_in}
+use Rattle.blocks.proofs.Room.{finish_begun}
+
+-- ---- the records
+
+-- each of these records has blocks
+abbrev pub HaveBlocks : List (List ℕ) → Type 0
+HaveBlocks records = All (λ numbers. 0 < length numbers) records
+
+-- a record behind the others has blocks too
+pub blocks_more : (records : List (List ℕ)) (numbers : List ℕ) → HaveBlocks records → 0 < length numbers
+    → HaveBlocks (records ++ numbers ∷ [])
+blocks_more records numbers each some = All-append (λ r. 0 < length r) records (numbers ∷ []) each
+    (All-cons (λ r. 0 < length r) numbers [] some (λ j d below. absurd (omega arith)))
+
+pub blocks_behind : (records : List (List ℕ)) → HaveBlocks records → HaveBlocks (drop 1 records)
+blocks_behind [] each = each
+blocks_behind (r ∷ records) each = λ j d below. each (suc j) d (omega arith)
+
+-- the steps of a ring are those of its oldest record, which are three at least, and of those behind it
+pub first_owed : (w : List (List ℕ)) → 0 < length w → HaveBlocks w
+    → 3 + sum_by retire_steps_of (drop 1 w) ≤ sum_by retire_steps_of w
+first_owed [] some each = absurd (omega (arith, some))
+first_owed (a ∷ rest) some each = grind (arith, sum_by-cons retire_steps_of a rest, each 0 [])
+
+-- those behind the oldest, and one more
+pub behind_more : (w : List (List ℕ)) (numbers : List ℕ) → 0 < length w
+    → sum_by retire_steps_of (drop 1 (w ++ numbers ∷ [])) ≡ sum_by retire_steps_of (drop 1 w) + retire_steps_of numbers
+behind_more [] numbers some = absurd (omega (arith, some))
+behind_more (a ∷ rest) numbers some = sum_by_push retire_steps_of rest numbers
+
+-- those of the next one, and those behind that
+second_owed : (w : List (List ℕ)) → 0 < length (get_or w 1 [])
+    → sum_by retire_steps_of (drop 1 w) ≡ (length (get_or w 1 []) + 2) + sum_by retire_steps_of (drop 1 (drop 1 w))
+second_owed w some = grind (arith, sum_by-cons retire_steps_of)
+
+-- ---- one record more
+
+-- the log with one record more, and the same log whose oldest record is home
+abbrev pub with_more : List ℕ → List (List ℕ) → LogValue → LogValue
+with_more numbers firsts log = written_out (begun numbers firsts log)
+
+abbrev pub home_of : LogValue → LogValue
+home_of log = record log { retire_steps_left = behind_oldest log + 2; ahead = ahead_of log }
+
+pub finished_is : (numbers : List ℕ) (firsts : List (List ℕ)) (log : LogValue) → log.steps_left ≡ 0 → 0 < length numbers
+    → finished_with true numbers firsts log ≡ with_more numbers firsts (ahead_room log)
+finished_is numbers firsts log idle some = grind (arith, nat_tests)
+
+-- Where its oldest record is home, and one slot is free once the next one is written, the ring is steady then.
+then_steady : (numbers : List ℕ) (firsts : List (List ℕ)) (log : LogValue) → log.under_way ≡ [] → 0 < length log.waiting
+    → HaveBlocks log.waiting → 0 < length numbers → ((log.next + 1) - log.head) + 1 ≡ log.shape.slots
+    → IsSteady (with_more numbers firsts (home_of log))
+then_steady numbers firsts log under_way waits each some one_free =
+    let second = blocks_more log.waiting numbers each some 1 [] in
+    grind (arith, nat_tests, length-append log.waiting (numbers ∷ []), behind_more log.waiting numbers waits, second)
+
+-- ---- a ring that fills
+
+-- what one record more makes of a ring
+pub record Filled (old new : LogValue) : Type 0 where
+  pub fuller : IsFuller old new
+  pub blocks : HaveBlocks new.waiting
+  pub shape : new.shape ≡ old.shape
+
+-- three slots are free, and nothing is done for room; or two are, and the oldest record goes home
+fills_room : (log : LogValue) → IsFilling log → HaveBlocks log.waiting
+    → ((ahead_room log ≡ log) × (length log.waiting + 3 ≤ log.shape.slots))
+    ⊎ ((ahead_room log ≡ home_of log) × (length log.waiting + 2 ≡ log.shape.slots))
+fills_room log f each = grind (arith, nat_tests, first_owed log.waiting)
+
+-- a ring that fills comes by one record more, and is steady where only one slot is left then
+pub fills : (numbers : List ℕ) (firsts : List (List ℕ)) (log : LogValue) → IsFilling log → HaveBlocks log.waiting → 0 < length numbers
+    → Filled log (finished_with true numbers firsts log)
+fills numbers firsts log f each some =
+    let is = finished_is numbers firsts log f.idle some in
+    let blocks = blocks_more log.waiting numbers each some in
+    let sum = sum_by_push retire_steps_of log.waiting numbers in
+    let steady = then_steady numbers firsts log f.none_under_way in
+    grind (arith, f, length-append log.waiting (numbers ∷ []), fills_room log f each, steady)
+
+-- ---- a steady ring
+
+-- how many steps the next record still needs, once the oldest one is passed
+steady_left : (log : LogValue) → IsSteady log → of_oldest (oldest_retired (settled log)) ≡ length (second_of log) + 2
+steady_left log s = grind (arith, second_owed log.waiting)
+
+pub keeps_on : (numbers : List ℕ) (firsts : List (List ℕ)) (log : LogValue) → IsSteady log → HaveBlocks log.waiting → 0 < length numbers
+    → IsSteady (finished_with true numbers firsts log) × HaveBlocks (finished_with true numbers firsts log).waiting
+keeps_on numbers firsts log s each some =
+    let rest = blocks_behind log.waiting each in
+    let left = steady_left log s in
+    let is : ahead_room log ≡ home_of (oldest_retired (settled log)) = grind (arith, nat_tests, left) in
+    let blocks = blocks_more (drop 1 log.waiting) numbers rest some in
+    let steady = then_steady numbers firsts (oldest_retired (settled log)) s.none_under_way (grind (arith, s)) rest some
+    (omega (arith, s.one_free)) in
+    rw (finished_is numbers firsts log s.idle some, is) (steady, blocks)
+
+-- whatever a batch is, it stays steady
+pub stays_on : (numbers : List ℕ) (firsts : List (List ℕ)) (log : LogValue) → IsSteady log → HaveBlocks log.waiting
+    → IsSteady (finished_with true numbers firsts log)
+stays_on numbers firsts log s each = grind (arith, keeps_on numbers firsts log s each)
 
 -- all steps of a record of count blocks
-calls_from : (count : ℕ) → turns_calls (suc (suc count)) ≡ 2 * count + 3
-calls_from zero = refl
-calls_from (suc count) = let rest = calls_from count in omega (arith, rest)
-
 all_calls : (count : ℕ) → turns_calls (count + 2) ≡ 2 * count + 3
-all_calls count = let two : count + 2 ≡ suc (suc count) = omega arith in ap (λ (n : ℕ). turns_calls n) two ∙ calls_from count
-
--- the steps behind the oldest record are those of the next one, and those behind that
-second_owed : (w : List (List ℕ)) → 0 < length (get_or w 1 [])
-    → sum_by retire_steps_of (drop 1 w)
-    ≡ (length (get_or w 1 []) + 2) + sum_by retire_steps_of (drop 1 (drop 1 w))
-second_owed [] some = absurd (omega (arith, some))
-second_owed (a ∷ []) some = absurd (omega (arith, some))
-second_owed (a ∷ [] ∷ rest) some = absurd (omega (arith, some))
-second_owed (a ∷ (n ∷ ns) ∷ rest) some = sum_by-cons retire_steps_of (n ∷ ns) rest
-
-second_is : (w : List (List ℕ)) → get_or (drop 1 w) 0 [] ≡ get_or w 1 []
-second_is [] = refl
-second_is (a ∷ []) = refl
-second_is (a ∷ b ∷ rest) = refl
-
--- what is covered counts so
-pub covered_true : (log : LogValue) → IsCovered log → is_covered log ≡ true
-covered_true log c =
-    let home = eq-eqb log.ahead.home log.head c.oldest in
-    let flushes = eq-eqb (of_oldest log) 2 c.flushes in
-    let since = lt-ltb log.ahead.before (log.head + length log.waiting) c.since in
-    ap (λ (b : Bool). b && (of_oldest log == 2) && nat_lt log.ahead.before (log.head + length log.waiting)) home
-    ∙ ap (λ (b : Bool). true && b && nat_lt log.ahead.before (log.head + length log.waiting)) flushes
-    ∙ ap (λ (b : Bool). true && true && b) since
-
-pub counted_is : (log : LogValue) → IsCovered log → counted log ≡ settled log
-counted_is log c = ap (λ (b : Bool). if b then settled log else log) (covered_true log c)
-
--- the oldest record is passed
-pub steady_passed : (log : LogValue) → IsSteady log → passed log ≡ oldest_retired (settled log)
-steady_passed log s =
-    let free : log.next - log.head < log.shape.slots = omega (arith, s.one_free) in
-    let few : HasSlots 3 log → ⊥ = λ slots. omega (arith, slots, s.one_free) in
-    let one : of_oldest (settled log) ≡ 1 = omega (arith, s.covered.flushes) in
-    let passes = one_pass (settled log) (record { flushed = one; besides = free }) in
-    sym (passes_short log few)
-    ∙ ap (λ (l : LogValue). past l) (counted_is log s.covered)
-    ∙ ap (λ (n : ℕ). if n == 1 then oldest_retired (settled log) else settled log) passes
-
--- how many steps the next one still needs
-steady_left : (log : LogValue) → IsSteady log
-    → of_oldest (oldest_retired (settled log)) ≡ length (second_of log) + 2
-steady_left log s = let owed = second_owed log.waiting s.some in omega (arith, owed)
-
--- fewer slots are free than three still, and the next one is away
-pub steady_still : (log : LogValue) → IsSteady log
-    → (HasSlots 3 (oldest_retired (settled log)) → ⊥) × (2 < of_oldest (oldest_retired (settled log)))
-steady_still log s =
-    let left = steady_left log s in
-    (λ slots. omega (arith, slots, s.one_free), omega (arith, left, s.some))
+all_calls zero = omega arith
+all_calls (suc count) = grind (arith, all_calls count)
 
 -- room for the next record: the head, and one record's way home
-pub steady_room : (log : LogValue) → IsSteady log
-    → ahead_room_calls log ≡ 1 + 2 * length (second_of log)
-steady_room log s =
-    let free : log.next - log.head < log.shape.slots = omega (arith, s.one_free) in
-    let few : HasSlots 3 log → ⊥ = λ slots. omega (arith, slots, s.one_free) in
-    let one : of_oldest (settled log) ≡ 1 = omega (arith, s.covered.flushes) in
-    let passes = one_pass (settled log) (record { flushed = one; besides = free }) in
-    let first = calls_short log few ∙ ap (λ (l : LogValue). pass_calls l) (counted_is log s.covered) ∙ passes in
-    let next : LogValue = oldest_retired (settled log) in
-    let still = steady_still log s in
-    let left = steady_left log s in
-    let goes : going_calls next ≡ retiring_calls next - 3 =
-    ap (λ (b : Bool). if b then retiring_calls next - 3 else 0) (lt-ltb 2 (of_oldest next) still.1) in
-    let calls : retiring_calls next ≡ 2 * length (second_of log) + 3 =
-    ap (λ (n : ℕ). turns_calls n) left ∙ all_calls (length (second_of log)) in
-    let last = ap (λ (l : LogValue). sent_calls l) (steady_passed log s) ∙ going_short next still.0 in
-    let all = ahead_free_calls log free in
-    omega (arith, all, first, last, goes, calls)
+steady_room : (log : LogValue) → IsSteady log → ahead_room_calls log ≡ 1 + 2 * length (second_of log)
+steady_room log s = let left = steady_left log s in grind (arith, nat_tests, left, all_calls (length (second_of log)))
 
--- a slot is free
 pub steady_roomy : (log : LogValue) → IsSteady log → HasRoom log
-steady_roomy log s = record { none_under_way = s.none_under_way; no_steps = s.idle; free = omega (arith, s.one_free) }
+steady_roomy log s = grind arith
 
 -- a sync of one batch
 pub steady_sync : (numbers active : List ℕ) (log : LogValue) → IsSteady log → numbers ≡ [] → 0 < length active
     → both_calls true numbers active log ≡ steady_calls active log
-steady_sync numbers active log s none some =
-    let first = finish_none true numbers log s.idle none in
-    let same = finishes_none true numbers [] log s.idle none in
-    let last = ap (λ (l : LogValue). finish_calls true active l) (sym same) ∙ finish_begun true active log s.idle some in
-    let room = steady_room log s in
-    omega (arith, first, last, room)
+steady_sync numbers active log s none some = grind (arith, nat_tests, finish_begun true active log, steady_room log)
+
+-- ---- many records
+
+-- each of these batches has blocks
+abbrev pub ListBlocks : List Entries → Type 0
+ListBlocks batches = All (λ batch. 0 < length batch.numbers) batches
+
+keeps_each : (batches : List Entries) (log : LogValue) → IsSteady log → HaveBlocks log.waiting → ListBlocks batches
+    → IsSteady (finished_each batches log)
+keeps_each [] log s each blocks = s
+keeps_each (batch ∷ batches) log s each blocks =
+    let one = keeps_on batch.numbers (firsts_in batch) log s each (blocks 0 batch (omega arith)) in
+    keeps_each batches (finished true batch log) one.0 one.1 (λ j d below. blocks (suc j) d (omega arith))
+
+fills_each : (batches : List Entries) (log : LogValue) → IsFilling log → HaveBlocks log.waiting → ListBlocks batches
+    → log.shape.slots ≤ length log.waiting + length batches + 1 → IsSteady (finished_each batches log)
+fills_each [] log f each blocks enough = absurd (omega (arith, f.two_free, enough))
+fills_each (batch ∷ batches) log f each blocks enough =
+    let one = fills batch.numbers (firsts_in batch) log f each (blocks 0 batch (omega arith)) in
+    let rest : ListBlocks batches = λ j d below. blocks (suc j) d (omega arith) in
+    let fill = λ (three : length log.waiting + 3 ≤ log.shape.slots).
+    fills_each batches (finished true batch log) (one.fuller.on three) one.blocks rest in
+    let keep = λ (two : length log.waiting + 2 ≡ log.shape.slots).
+    keeps_each batches (finished true batch log) (one.fuller.full two) one.blocks rest in
+    grind (arith, f.two_free, fill, keep, one.fuller.one_more, one.shape)
+
+-- a ring that fills becomes steady, and stays so
+pub reaches : (log : LogValue) → IsFilling log → HaveBlocks log.waiting → log.waiting ≡ [] → ReachesSteady log
+reaches log f each empty batches blocks enough = grind (arith, fills_each batches log f each blocks)
+
+-- ---- a store that starts
+
+-- a log without records fills
+pub idle_fills : (shape : Shape) (next : ℕ) → may_go_ahead shape ≡ true → 0 < next → IsFilling (idle_from shape next)
+idle_fills shape next may some = grind (arith, nat_tests)
+
+pub starts_filling : (before after : State) (s : Cached) → IsStarted before after s → may_go_ahead (layout_of s) ≡ true → IsFilling s.log
+starts_filling before after s started may =
+    rw started.log (idle_fills (layout_of s) started.next may (omega (arith, started.stood.next_is)))
+
+pub starts_reaching : (before after : State) (s : Cached) → IsStarted before after s → may_go_ahead (layout_of s) ≡ true
+    → ReachesSteady s.log
+starts_reaching before after s started may =
+    let empty : s.log.waiting ≡ [] = rw started.log refl in
+    reaches s.log (starts_filling before after s started may) (rw empty (λ j d below. absurd (omega arith))) empty

@@ -1,6 +1,6 @@
 -- Turns of a store follow one another.
-use Rattle.std.proofs.Common.{◌≡◌, ◌⊎◌, ℕ, inl, inr, ⊎_elim, arith, ◌∙◌, sym, refl, subst, Bool, true, false}
-use Rattle.std.proofs.lemmas.Bool.{false≢true}
+use Rattle.std.proofs.Common.{◌≡◌, ℕ, inl, arith, ◌∙◌, sym, refl, subst, true, false}
+use Rattle.std.proofs.lemmas.Bool.{cases_Bool, false≢true}
 use Rattle.medium.specs.Medium.{State, IsSound}
 use Rattle.medium.specs.Moments.{EachCut, LeavesOnly, IsQuiet, SparesFrom}
 use Rattle.spec.specs.Blocks.{Write}
@@ -18,27 +18,13 @@ use Rattle.blocks.proofs.BookTurns.{moves, finds}
 pub exits : (m : State) (s : Cached) (book : Book) → FitsBook m s book → book.ours ≡ true → EachCut (MayFind m.size book) m
 exits m s book f ours image cut = finds m s book f image (f.holds.leaves (f.ours ∙ ours) image cut)
 
--- after a turn of a live store it is dead, or it goes on
-dead_or_alive : (b : Bool) → (b ≡ true) ⊎ (b ≡ false)
-dead_or_alive true = inl refl
-dead_or_alive false = inr refl
-
 -- what goes on twice goes on
 pub went_on : (before mid after : State) (old then new : Cached) → ((book : Book) → FitsBook before old book → FitsBook mid then book)
     → GoesOn before mid old then → GoesOn mid after then new → GoesOn before after old new
-went_on before mid after old then new fits first second = record {
-  failures_stay = omega (arith, first.failures_stay, second.failures_stay);
-  size_stays = second.size_stays ∙ first.size_stays;
-  layout_stays = second.layout_stays ∙ first.layout_stays;
-  spares = spared_joined (sectors_of (layout_of old)) before mid after first.spares
-      (subst (λ (shape : Shape). SparesFrom (sectors_of shape) mid after) first.layout_stays second.spares);
-  blocks_stay = second.blocks_stay ∙ first.blocks_stay;
-  dead_stays = λ dead. second.dead_stays (first.dead_stays dead);
-  cause = λ live died. ⊎_elim (λ dead. ⊎_elim (λ grew. inl (omega (arith, grew, second.failures_stay))) inr (first.cause live dead))
-      (λ alive. ⊎_elim (λ grew. inl (omega (arith, grew, first.failures_stay))) (λ out. inr (λ book f. out book (fits book f)))
-      (second.cause alive died))
-      (dead_or_alive (is_dead then));
-}
+went_on before mid after old then new fits first second =
+    let spares = spared_joined (sectors_of (layout_of old)) before mid after first.spares
+    (subst (λ (shape : Shape). SparesFrom (sectors_of shape) mid after) first.layout_stays second.spares) in
+    grind (arith, first, second, spares, fits, cases_Bool (is_dead then))
 
 -- one turn after another
 pub turns : (before mid after : State) (old then new : Cached) → IsTurn before mid old then → IsTurn mid after then new

@@ -1,6 +1,7 @@
 use Rattle.std.proofs.Common.{◌≡◌, ◌<◌, ◌≤◌, ◌+◌, ◌∙◌, ℕ, [], List, length, ap, sym, subst, arith, Bool, rules}
 use Rattle.std.specs.Prelude.{OnOk}
-use Rattle.std.proofs.lemmas.Bool.{false≢true}
+use Rattle.std.proofs.lemmas.Bool.{cases_lt}
+use Rattle.std.proofs.lemmas.List.{nil_from_length}
 use Rattle.std.proofs.lemmas.Result.{on_ok_weaker}
 use Rattle.cache.specs.Entries.{Entries}
 use Rattle.medium.specs.Medium.{State}
@@ -11,14 +12,12 @@ use Rattle.journal.specs.Places.{Shape, limit_of}
 use Rattle.blocks.specs.Retiring.{written_out, finished}
 use Rattle.blocks.specs.Flushing.{left_flushes}
 use Rattle.medium.specs.declared.fault.MediumFault.TheVariants.{Flush}
-use Rattle.blocks.proofs.SteadyRing.{fills, stays_on}
-use Rattle.blocks.proofs.RoomFlushes.{flushes_under_way, flushes_none, flushes_begun}
-use Rattle.blocks.proofs.Room.{some_listed, finishes_under_way, finishes_none}
+use Rattle.blocks.proofs.Steady.{fills, stays_on}
+use Rattle.blocks.proofs.Room.{finishes_under_way, finish_begun, flushes_begun}
 use Rattle.blocks.proofs.Ready.{made_finished}
 use Rattle.blocks.specs.StoreValue.{is_dead, firsts_in}
 use Rattle.blocks.specs.OneBatch.{SendsOneBatch}
 use Rattle.blocks.specs.Steady.{IsSteady, IsFuller}
-use Rattle.blocks.proofs.RoomCalls.{finish_under_way, finish_none, finish_begun}
 use Rattle.blocks.proofs.OneBatchSent.{record_sent, room_sent}
 use Rattle.blocks.proofs.Paid.{kept_paid, paid_then, paid_more, rested_paid}
 use Rattle.blocks.proofs.store.Store.finish.Given.{Over}
@@ -45,9 +44,10 @@ empty g c = sym (ap (λ v. v.cached.frozen.numbers) c.self.view_is) ∙ c.is_emp
 
 filled : (g : Over) (c : Else-is_empty g) → 0 < length c.args.self.now.cached.frozen.numbers
 filled g c =
-    let some = some_listed c.self.inside.frozen.numbers (λ none. false≢true (sym c.if-is_empty.false ∙ c.is_empty.ensures.1 none)) in
-    let long = ap (λ v. length v.cached.frozen.numbers) c.self.view_is in
-    omega (arith, some, long)
+    let numbers = c.self.inside.frozen.numbers in
+    let empty = nil_from_length numbers in
+    let some : 0 < length numbers = grind (arith, cases_lt 0 (length numbers), empty, c.if-is_empty.false, c.is_empty.ensures) in
+    rw (← c.self.view_is) some
 
 -- the record of the frozen batch was begun
 begun_is : (g : Over) (c : In_ok-begin g) → c.begin.new.self.cached.log
@@ -116,11 +116,9 @@ returns-then-is_empty-clause-batch g c = record {
   rests = search rules;
   waits = search rules;
   finishes =
-      let ahead = c.args.self.now.goes_ahead in
-      let old = c.args.self.now.cached in
       let none_under_way = idle g (goal.at.returns-then-is_empty-clause-batch g c).Else-self in
       let none_listed = empty g (goal.at.returns-then-is_empty-clause-batch g c).Then-is_empty in
-      finishes_none ahead old.frozen.numbers (firsts_in old.frozen) old.log none_under_way none_listed;
+      grind (arith, none_under_way, none_listed);
   retires = search rules;
   active = search rules;
   fills = λ on filling listed.
@@ -180,18 +178,13 @@ returns-in_err-begin-clause-passes g c =
 
 pub returns-then-self-clause-cost : goal.returns-then-self-clause-cost
 returns-then-self-clause-cost g c =
-    let old = c.args.self.now.cached in
-    let some = (under_way g (goal.at.returns-then-self-clause-cost g c).Then-self).0 in
-    let calls = finish_under_way c.args.self.now.goes_ahead old.frozen.numbers old.log some in
-    on_ok_weaker c.write_out.result (λ all. omega (arith, all, calls)) c.write_out.ensures.exactly
+    let some = (under_way g (goal.at.returns-then-self-clause-cost g c).Then-self).0 in grind (arith, some, c.write_out.ensures.exactly)
 
 pub returns-then-is_empty-clause-cost : goal.returns-then-is_empty-clause-cost
 returns-then-is_empty-clause-cost g c =
-    let old = c.args.self.now.cached in
     let none_under_way = idle g (goal.at.returns-then-is_empty-clause-cost g c).Else-self in
     let none_listed = empty g (goal.at.returns-then-is_empty-clause-cost g c).Then-is_empty in
-    let none = finish_none c.args.self.now.goes_ahead old.frozen.numbers old.log none_under_way none_listed in
-    omega (arith, none)
+    grind (arith, none_under_way, none_listed)
 
 pub returns-clause-cost : goal.returns-clause-cost
 returns-clause-cost g c =
@@ -236,18 +229,14 @@ returns-in_err-make_ready-clause-passes g c =
 
 pub returns-then-self-clause-flushes : goal.returns-then-self-clause-flushes
 returns-then-self-clause-flushes g c =
-    let old = c.args.self.now.cached in
     let some = (under_way g (goal.at.returns-then-self-clause-flushes g c).Then-self).0 in
-    let flushes = flushes_under_way old.frozen.numbers old.log some in
-    on_ok_weaker c.write_out.result (λ all. omega (arith, all, flushes)) c.write_out.ensures.flushes
+    grind (arith, some, c.write_out.ensures.flushes)
 
 pub returns-then-is_empty-clause-flushes : goal.returns-then-is_empty-clause-flushes
 returns-then-is_empty-clause-flushes g c =
-    let old = c.args.self.now.cached in
     let none_under_way = idle g (goal.at.returns-then-is_empty-clause-flushes g c).Else-self in
     let none_listed = empty g (goal.at.returns-then-is_empty-clause-flushes g c).Then-is_empty in
-    let none = flushes_none old.frozen.numbers old.log none_under_way none_listed in
-    omega (arith, none)
+    grind (arith, none_under_way, none_listed)
 
 pub returns-clause-flushes : goal.returns-clause-flushes
 returns-clause-flushes g c =

@@ -3,7 +3,7 @@ use Rattle.medium.specs.Sent.{sent, SendsUpTo}
 use Rattle.medium.specs.declared.fault.MediumFault.TheVariants.{Flush}
 use Rattle.blocks.specs.Passing.{PassesPaid}
 use Rattle.blocks.specs.StoreValue.{is_dead, steps_left}
-use Rattle.blocks.proofs.OldestHome.{GoesHome, CostsHome, SendsHome}
+use Rattle.blocks.proofs.OldestHome.{GoesHome}
 use Rattle.blocks.proofs.store.Store.go_home.Given as goal
 
 abbrev pub invariant-loop-self : goal.invariant-loop-self
@@ -11,11 +11,8 @@ invariant-loop-self g l = record {
   passes : (sends : ℕ) → SendsUpTo sends (g.M.Medium.state l.fn.self.medium) (g.M.Medium.state l.self.medium)
       → PassesPaid g.M.Medium.state g.M.Medium.follows sends l.fn.self l.self;
   live : is_dead l.self.cached ≡ false;
-  home : GoesHome l.fn.self.cached.log l.self.cached.log;
-  costs : CostsHome l.fn.self.cached.log l.self.cached.log (g.M.Medium.state l.fn.self.medium).calls
-      (g.M.Medium.state l.self.medium).calls;
-  sends : SendsHome l.fn.self.cached.log l.self.cached.log (sent (g.M.Medium.state l.fn.self.medium))
-      (sent (g.M.Medium.state l.self.medium));
+  home : GoesHome l.fn.self.cached.log l.self.cached.log (g.M.Medium.state l.fn.self.medium).calls (g.M.Medium.state l.self.medium).calls
+      (sent (g.M.Medium.state l.fn.self.medium)) (sent (g.M.Medium.state l.self.medium));
   flushed : (g.M.Medium.state l.self.medium).made Flush ≡ (g.M.Medium.state l.fn.self.medium).made Flush;
   idle : l.self.cached.log.steps_left ≡ 0;
   active : l.self.cached.active ≡ l.fn.self.cached.active;

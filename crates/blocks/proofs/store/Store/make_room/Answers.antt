@@ -1,17 +1,12 @@
-use Rattle.std.proofs.Common.{◌+◌, ◌≤◌, ◌<◌, ℕ, length, refl, ◌∙◌, ap, sym, subst, inl, arith, rules}
+use Rattle.std.proofs.Common.{◌+◌, ◌≤◌, ◌<◌, ℕ, length, refl, ◌∙◌, ap, sym, inl, arith, rules}
 use Rattle.std.proofs.lemmas.Bool.{false≢true}
 use Rattle.journal.specs.Places.{Shape}
 use Rattle.medium.specs.Sent.{sent, SendsUpTo}
 use Rattle.medium.specs.declared.fault.MediumFault.TheVariants.{Flush}
-use Rattle.redo_log.specs.Value.{LogValue, HasRoom, of_oldest, sends_of_oldest, most_retire_sends}
-use Rattle.redo_log.specs.Value.{turn_calls, turn_sends, turn_flushes}
-use Rattle.blocks.specs.StoreValue.{Cached, is_dead, steps_left}
-use Rattle.blocks.proofs.Room.{most_one}
-use Rattle.blocks.proofs.RoomCounts.{IsFull, none_counted, one_at_most, counts_more, counts_room, room_is_made}
-use Rattle.blocks.proofs.RoomCounts.{at_most_refused, at_most_all}
-use Rattle.blocks.proofs.RoomCalls as calls
-use Rattle.blocks.proofs.RoomFlushes as flushes
-use Rattle.blocks.proofs.RoomSent as sends
+use Rattle.redo_log.specs.Value.{HasRoom, of_oldest, sends_of_oldest, most_retire_sends, turn_calls, turn_sends, turn_flushes}
+use Rattle.blocks.specs.StoreValue.{steps_left}
+use Rattle.blocks.proofs.Room.{IsFull, none_counted, one_at_most, counts_more, counts_room, room_is_made, at_most_refused, more_calls}
+use Rattle.blocks.proofs.Room.{more_sends, more_flushes, next_few}
 use Rattle.blocks.specs.Passing.{PassesPaid}
 use Rattle.blocks.proofs.BackgroundCalls.{must_retire}
 use Rattle.blocks.proofs.Paid.{paid_then, on_paid, rested_paid}
@@ -38,13 +33,12 @@ step_passes g c few =
 
 is_full : (g : Over) (c : After-retire g) → IsFull c.args.self.now.cached.log c.loop-self.self.cached.log
 is_full g c =
-    let log_is = ap (λ v. v.cached.log) c.self-in-loop-self.view_is in
-    let live = ap (λ v. is_dead v.cached) c.self-in-loop-self.view_is ∙ c.loop-self.invariant.live in
-    let idle = ap (λ v. v.cached.log.steps_left) c.self-in-loop-self.view_is ∙ c.loop-self.invariant.idle in
+    let live = rw (← c.self-in-loop-self.view_is) at c.loop-self.invariant.live in
+    let idle = rw (← c.self-in-loop-self.view_is) at c.loop-self.invariant.idle in
+    let under_way = c.self-in-loop-self.invariant.none_under_way live idle in
     record {
-      full = λ room. false≢true (sym c.loop-self-test.true
-          ∙ c.has_room.ensures.room.1 (subst (λ (l : LogValue). HasRoom l) (sym log_is) room));
-      under_way = sym (ap (λ (l : LogValue). l.under_way) log_is) ∙ c.self-in-loop-self.invariant.none_under_way live idle;
+      full = λ room. false≢true (sym c.loop-self-test.true ∙ c.has_room.ensures.room.1 (rw (← c.self-in-loop-self.view_is) at room));
+      under_way = rw (← c.self-in-loop-self.view_is) under_way;
       idle = c.loop-self.invariant.idle;
       one = c.loop-self.invariant.one;
     }
@@ -78,25 +72,25 @@ loop-self-preserved g c =
     let retiring = c.retire.ensures.retiring in
     let stepped = (retiring.live (must_step g at).0 live).1 in
     let log_is = ap (λ v. v.cached.log) c.self-in-loop-self.view_is in
-    let kept = subst (λ (l : LogValue). (l.next ≤ l.head + l.shape.slots) × (1 ≤ l.shape.slots)) log_is (
-      c.self-in-loop-self.invariant.ring,
-      omega (arith, ap (λ (s : Shape). s.slots) c.self-in-loop-self.invariant.shape, here.sizes.some_slots),
-    ) in
+    let slots = ap (λ (s : Shape). s.slots) c.self-in-loop-self.invariant.shape in
+    let kept : (c.loop-self.self.cached.log.next ≤ c.loop-self.self.cached.log.head + c.loop-self.self.cached.log.shape.slots)
+    × (1 ≤ c.loop-self.self.cached.log.shape.slots) =
+    grind (arith, log_is, c.self-in-loop-self.invariant.ring, slots, here.sizes.some_slots) in
     record {
       passes = λ sends few. step_passes g at few;
-      stays = λ room. absurd (full.full (subst (λ (l : LogValue). HasRoom l) (sym (c.loop-self.invariant.stays room)) room));
-      quiet = λ room. absurd (full.full (subst (λ (l : LogValue). HasRoom l) (sym (c.loop-self.invariant.stays room)) room));
+      stays = λ room. absurd (full.full (rw (c.loop-self.invariant.stays room) room));
+      quiet = λ room. absurd (full.full (rw (c.loop-self.invariant.stays room) room));
       one = one_at_most full kept.0 kept.1 stepped;
-      costs = counts_more turn_calls refl calls.turns_more full stepped (retiring.counted live) c.loop-self.invariant.costs;
+      costs = counts_more turn_calls refl more_calls full stepped (retiring.counted live) c.loop-self.invariant.costs;
       sends =
           let so_far = c.loop-self.invariant.sends in
           let each = turn_sends (of_oldest c.loop-self.self.cached.log) in
           record {
             made = so_far.made + each;
-            counts = counts_more turn_sends refl sends.turns_more full stepped refl so_far.counts;
+            counts = counts_more turn_sends refl more_sends full stepped refl so_far.counts;
             few = omega (arith, retiring.sent, so_far.few);
           };
-      flushes = counts_more turn_flushes refl flushes.turns_more full stepped (retiring.flushed live)
+      flushes = counts_more turn_flushes refl more_flushes full stepped (retiring.flushed live)
           c.loop-self.invariant.flushes;
       live = c.in_ok-retire.ensures.answer;
       idle = c.retire.ensures.counts.idle;
@@ -108,25 +102,20 @@ pub returns-in_err-retire : goal.returns-in_err-retire
 returns-in_err-retire g c = record {
   passes =
       let at = (goal.at.returns-in_err-retire g c).After-retire in
-      let all = at_most_refused turn_sends sends.next_few (is_full g at) c.retire.ensures.retiring.sent c.loop-self.invariant.sends in
-      let few = subst (λ (log : LogValue). sends_of_oldest log ≤ most_retire_sends log.shape.format) (ap (λ v. v.cached.log) c.self.view_is)
-      c.has_room-few.ensures.few in
+      let old = c.args.self.now.cached.log in
+      let all = at_most_refused turn_sends next_few (is_full g at) c.retire.ensures.retiring.sent c.loop-self.invariant.sends in
+      let few : sends_of_oldest old ≤ most_retire_sends old.shape.format = rw (← c.self.view_is) c.has_room-few.ensures.few in
       step_passes g at (omega (arith, all, few));
   answer = search rules;
   room = record {
     retires =
         let died = c.retire.ensures.retiring.dies c.in_err-retire.ensures.answer.1 in
-        let head = ap (λ (s : Cached). s.log.head) died.is in
-        let one = most_one c.args.self.now.cached.log c.loop-self.self.cached.log c.loop-self.invariant.one in
-        record {
-          one = omega (arith, head, one);
-          roomy = λ room. head ∙ ap (λ (l : LogValue). l.head) (c.loop-self.invariant.stays room);
-        };
+        grind (arith, died.is, c.loop-self.invariant.one, c.loop-self.invariant.stays);
     room = search rules;
     made = search rules;
     quiet = λ room.
         let full = is_full g (goal.at.returns-in_err-retire g c).After-retire in
-        absurd (full.full (subst (λ (l : LogValue). HasRoom l) (sym (c.loop-self.invariant.stays room)) room));
+        absurd (full.full (rw (c.loop-self.invariant.stays room) room));
     active = search rules;
     frozen = search rules;
   };
@@ -136,21 +125,17 @@ returns-in_err-retire g c = record {
 
 pub returns : goal.returns
 returns g c =
-    let log_is = ap (λ v. v.cached.log) c.self-in-loop-self.view_is in
-    let room = subst (λ (log : LogValue). HasRoom log) log_is (c.has_room.ensures.room.0 c.loop-self-test.false) in
+    let room : HasRoom c.loop-self.self.cached.log =
+    rw (← c.self-in-loop-self.view_is) (c.has_room.ensures.room.0 c.loop-self-test.false) in
     let so_far = c.loop-self.invariant in
     record {
       passes =
-          let all = at_most_all so_far.sends in
-          let few = subst (λ (log : LogValue). sends_of_oldest log ≤ most_retire_sends log.shape.format)
-          (ap (λ v. v.cached.log) c.self.view_is) c.has_room-few.ensures.few in
-          so_far.passes _ (omega (arith, all, few));
+          let old = c.args.self.now.cached.log in
+          let few : sends_of_oldest old ≤ most_retire_sends old.shape.format = rw (← c.self.view_is) c.has_room-few.ensures.few in
+          so_far.passes _ (grind (arith, so_far.sends, so_far.sends.counts.so_far, few));
       answer = search rules;
       room = record {
-        retires = record {
-          one = most_one c.args.self.now.cached.log c.loop-self.self.cached.log so_far.one;
-          roomy = λ room. ap (λ (l : LogValue). l.head) (so_far.stays room);
-        };
+        retires = grind (arith, so_far.one, so_far.stays);
         room = search rules;
         made = room_is_made so_far.stays room so_far.costs;
         quiet = search rules;

@@ -4,8 +4,7 @@ use Rattle.medium.specs.declared.fault.MediumFault.TheVariants.{Flush}
 use Rattle.blocks.specs.Passing.{PassesPaid}
 use Rattle.blocks.specs.StoreValue.{is_dead, steps_left}
 use Rattle.redo_log.specs.Value.{HasRoom, turns_calls, turns_sends, turns_flushes}
-use Rattle.blocks.proofs.Room.{OneAtMost}
-use Rattle.blocks.proofs.RoomCounts.{CountsOldest, AtMostOldest}
+use Rattle.blocks.proofs.Room.{OneAtMost, CountsOldest, AtMostOldest}
 use Rattle.blocks.proofs.store.Store.make_room.Given as goal
 
 abbrev pub invariant-loop-self : goal.invariant-loop-self

@@ -6,7 +6,7 @@ use Rattle.blocks.specs.Passing.{PassesOn}
 use Rattle.blocks.specs.StoreValue.{Cached, StoreValue, is_dead}
 use Rattle.blocks.specs.Turns.{IsTurn}
 use Rattle.blocks.specs.Work.{MakesWay, MakesWayBy, with_counted}
-use Rattle.blocks.proofs.AheadSteps.{cached_is}
+use Rattle.blocks.proofs.FlushesOnce.{cached_is}
 use Rattle.blocks.proofs.SectorsRead.{none, looks_on}
 use Rattle.blocks.proofs.TurnsJoined.{turns}
 use Rattle.blocks.proofs.WrittenBack.{counted_waits, go_falls}

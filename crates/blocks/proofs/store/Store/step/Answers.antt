@@ -1,78 +1,65 @@
-use Rattle.std.proofs.Common.{ap, arith, rules}
-use Rattle.blocks.proofs.LogTurns.{steps_on, steps_last, dies}
+use Rattle.std.proofs.Common.{ap, refl, rules, []}
+use Rattle.std.specs.Prelude.{Ok, Err}
+use Rattle.redo_log.specs.declared.progress.Progress.TheVariants.{More, Durable}
+use Rattle.blocks.proofs.LogTurns.{step_turn}
 use Rattle.blocks.proofs.store.Store.step.Goals as goal
 
 pub returns-in-Ok-More : goal.returns-in-Ok-More
-returns-in-Ok-More g c = record {
-  passes = record {
-    policy = search rules;
-    turn =
-        let called = c.in-Ok-More.ensures in
-        rw (← c.self.view_is)
-        (steps_on (g.M.Medium.state c.self.inside.medium) (g.M.Medium.state c.step.new.m) _ c.step.new.self
-        (rw c.in-Ok-More.field-0-is at called.answers.ok) (omega (arith, called.passes.failures)) called.passes.size
-        (λ book f. rw c.in-Ok-More.field-0-is at
-        (called.holds f.view f.holds
-        (rw (c.numbers-numbers.ensures.value, c.bytes.ensures.value) (f.under_way (rw (← c.self.view_is) at c.requires.under_way)))))
-        called.leaves.cuts called.leaves.spares);
-    calls = search rules;
-    sent = search rules;
-    none_refused = search rules;
-    follows = search rules;
-    looks = rw (← c.self.view_is) c.in-Ok-More.ensures.leaves.looks;
-  };
-  record_step = search rules;
-  answer = search rules;
-  tells = search rules;
-  writes = search rules;
-}
+returns-in-Ok-More g c =
+    let called = rw (c.in-Ok-More.field-0-is, c.numbers-numbers.ensures.value, c.bytes.ensures.value) at c.in-Ok-More.ensures in
+    record {
+      passes = record {
+        turn = rw (← c.self.view_is) (step_turn (Ok More) _ c.step.new.self (record { room = 0; numbers = []; bytes = [] }) refl
+            (rw (← c.self.view_is) at c.requires.under_way) called);
+        calls = search rules;
+        sent = search rules;
+        none_refused = search rules;
+        follows = search rules;
+        looks = rw (← c.self.view_is) c.in-Ok-More.ensures.leaves.looks;
+        policy = search rules;
+      };
+      record_step = search rules;
+      answer = search rules;
+      tells = search rules;
+      writes = search rules;
+    }
 
 pub returns-in-Ok-Durable : goal.returns-in-Ok-Durable
-returns-in-Ok-Durable g c = record {
-  passes = record {
-    policy = search rules;
-    turn =
-        let called = c.in-Ok-Durable.ensures in
-        rw (← c.self.view_is)
-        (steps_last (g.M.Medium.state c.self.inside.medium) (g.M.Medium.state c.step.new.m) _ c.step.new.self c.clear.new.self
-        (rw c.in-Ok-Durable.field-0-is at called.answers.ok) (ap (λ batch. batch.numbers) c.clear.ensures)
-        (omega (arith, called.passes.failures)) called.passes.size
-        (λ book f. rw c.in-Ok-Durable.field-0-is at
-        (called.holds f.view f.holds
-        (rw (c.numbers-numbers.ensures.value, c.bytes.ensures.value) (f.under_way (rw (← c.self.view_is) at c.requires.under_way)))))
-        called.leaves.cuts called.leaves.spares);
-    calls = search rules;
-    sent = search rules;
-    none_refused = search rules;
-    follows = search rules;
-    looks = rw (← c.self.view_is) c.in-Ok-Durable.ensures.leaves.looks;
-  };
-  record_step = search rules;
-  answer = search rules;
-  tells = search rules;
-  writes = search rules;
-}
+returns-in-Ok-Durable g c =
+    let called = rw (c.in-Ok-Durable.field-0-is, c.numbers-numbers.ensures.value, c.bytes.ensures.value) at c.in-Ok-Durable.ensures in
+    record {
+      passes = record {
+        turn = rw (← c.self.view_is) (step_turn (Ok Durable) _ c.step.new.self c.clear.new.self
+            (ap (λ batch. batch.numbers) c.clear.ensures) (rw (← c.self.view_is) at c.requires.under_way) called);
+        calls = search rules;
+        sent = search rules;
+        none_refused = search rules;
+        follows = search rules;
+        looks = rw (← c.self.view_is) c.in-Ok-Durable.ensures.leaves.looks;
+        policy = search rules;
+      };
+      record_step = search rules;
+      answer = search rules;
+      tells = search rules;
+      writes = search rules;
+    }
 
 pub returns-in-Err : goal.returns-in-Err
-returns-in-Err g c = record {
-  passes = record {
-    policy = search rules;
-    turn =
-        let called = c.in-Err.ensures in
-        rw (← c.self.view_is)
-        (dies (g.M.Medium.state c.self.inside.medium) (g.M.Medium.state c.step.new.m) _ c.step.new.self called.answers.err
-        (omega (arith, called.passes.failures)) called.passes.size
-        (λ book f. called.holds f.view f.holds
-        (rw (c.numbers-numbers.ensures.value, c.bytes.ensures.value) (f.under_way (rw (← c.self.view_is) at c.requires.under_way))))
-        called.leaves.cuts called.leaves.spares);
-    calls = search rules;
-    sent = search rules;
-    none_refused = search rules;
-    follows = search rules;
-    looks = rw (← c.self.view_is) c.in-Err.ensures.leaves.looks;
-  };
-  record_step = search rules;
-  answer = search rules;
-  tells = search rules;
-  writes = search rules;
-}
+returns-in-Err g c =
+    let called = rw (c.numbers-numbers.ensures.value, c.bytes.ensures.value) at c.in-Err.ensures in
+    record {
+      passes = record {
+        turn = rw (← c.self.view_is) (step_turn (Err c.in-Err.field-0) _ c.step.new.self
+            (record { room = 0; numbers = []; bytes = [] }) refl (rw (← c.self.view_is) at c.requires.under_way) called);
+        calls = search rules;
+        sent = search rules;
+        none_refused = search rules;
+        follows = search rules;
+        looks = rw (← c.self.view_is) c.in-Err.ensures.leaves.looks;
+        policy = search rules;
+      };
+      record_step = search rules;
+      answer = search rules;
+      tells = search rules;
+      writes = search rules;
+    }

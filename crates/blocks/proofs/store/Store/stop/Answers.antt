@@ -1,12 +1,9 @@
 use Rattle.std.proofs.Common.{refl}
-use Rattle.blocks.proofs.Retired.{died_kept}
-use Rattle.blocks.proofs.StoppedStore.{stopped_fits}
+use Rattle.blocks.proofs.LogTurns.{died_kept, stopped_fits}
 use Rattle.blocks.proofs.store.Store.stop.Goals as goal
 
 pub invariant_of-self : goal.invariant_of-self
-invariant_of-self g c =
-    let i = c.self.inside in
-    died_kept _ _ i.sizes _ c.stop.new.self i.writing i.goes_ahead refl c.stop.ensures c.self.invariant
+invariant_of-self g c = died_kept refl c.stop.ensures c.self.invariant
 
 pub returns-clause-fits : goal.returns-clause-fits
 returns-clause-fits g c = rw (← c.self.view_is, c.stop.ensures) (λ book fits. stopped_fits _ _ book fits)

@@ -16,7 +16,7 @@ use Rattle.blocks.specs.StoreValue.{Cached, firsts_in, is_dead, steps_left}
 use Rattle.blocks.proofs.Ready.{calls_of, roomy_both}
 use Rattle.blocks.proofs.BookTurns.{settles}
 use Rattle.blocks.proofs.AllHome.{none_of}
-use Rattle.blocks.proofs.RoomFlushes.{flushes_of, once}
+use Rattle.blocks.proofs.Room.{flushes_of, once}
 use Rattle.blocks.proofs.Steady.{steady_sync, steady_roomy}
 use Rattle.blocks.proofs.OneBatchSent.{one_batch_as}
 use Rattle.blocks.proofs.Paid.{swapped_steps, kept_paid, paid_then, paid_more}

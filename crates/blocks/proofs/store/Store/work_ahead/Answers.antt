@@ -5,7 +5,7 @@ use Rattle.medium.proofs.Moments.{unchanged}
 use Rattle.redo_log.specs.Value.{LogValue}
 use Rattle.blocks.specs.StoreValue.{Cached, is_dead}
 use Rattle.blocks.specs.Work.{GoesOnAhead, with_counted}
-use Rattle.blocks.proofs.AheadSteps.{cached_is, none_counted, store_is}
+use Rattle.blocks.proofs.FlushesOnce.{cached_is, none_counted, store_is}
 use Rattle.blocks.proofs.SectorsRead.{none, looks_on}
 use Rattle.blocks.proofs.Paid.{rested_on}
 use Rattle.blocks.proofs.TurnsJoined.{turns}

@@ -1,10 +1,8 @@
 use Rattle.std.proofs.Common.{ℕ, refl, ◌∙◌, arith, ap, rules}
 use Rattle.std.specs.Prelude.{Ok}
-use Rattle.blocks.proofs.Room.{writes_more, writes_last}
-use Rattle.blocks.proofs.RoomFlushes.{flushes_step, flushes_done}
-use Rattle.blocks.proofs.RecordWrites.{one_less}
 use Rattle.medium.specs.Sent.{sent, SendsUpTo}
 use Rattle.blocks.specs.Passing.{PassesPaid}
+use Rattle.blocks.proofs.Room.{flushes_step, writes_more, writes_last}
 use Rattle.blocks.proofs.Paid.{paid_then, on_paid, rested_paid}
 use Rattle.blocks.proofs.store.Store.write_out.Given.{Over}
 use Rattle.blocks.proofs.store.Store.write_out.Goals as goal
@@ -44,53 +42,38 @@ returns-in_err-step g c = record {
 }
 
 pub loop-preserved : goal.loop-preserved
-loop-preserved g c = record {
-  passes = λ sends few. step_passes g (goal.at.loop-preserved g c).After-step few;
-  live = c.in_ok-step.ensures.answer;
-  under_way = c.step.ensures.tells.more (c.in_ok-step.was ∙ ap Ok c.in-More.is);
-  so_far =
-      let gone = c.step.ensures.record_step.live c.in_ok-step.ensures.answer in
-      writes_more c.args.self.now.cached.log c.loop.self.cached.log c.step.new.self.cached.log gone.1 gone.2.log
-      (c.step.ensures.tells.more (c.in_ok-step.was ∙ ap Ok c.in-More.is)) c.loop.invariant.so_far;
-  exactly =
-      let gone = c.step.ensures.record_step.live c.in_ok-step.ensures.answer in
-      let less = one_less gone.1 c.loop.self.cached.log c.step.new.self.cached.log gone.2.log in
-      omega (arith, less, c.step.ensures.record_step.one_call, c.loop.invariant.exactly);
-  sends =
-      let gone = c.step.ensures.record_step.live c.in_ok-step.ensures.answer in
-      let less = one_less gone.1 c.loop.self.cached.log c.step.new.self.cached.log gone.2.log in
-      omega (arith, less, c.step.ensures.passes.sent, c.loop.invariant.sends);
-  flushes =
-      let gone = c.step.ensures.record_step.live c.in_ok-step.ensures.answer in
-      let less = flushes_step gone.1 c.loop.self.cached.log c.step.new.self.cached.log c.loop.invariant.under_way gone.2.log in
-      omega (arith, less, c.step.ensures.record_step.flushed, c.loop.invariant.flushes);
-  head = c.step.ensures.writes.head ∙ c.loop.invariant.head;
-  active = c.step.ensures.writes.active ∙ c.loop.invariant.active;
-}
+loop-preserved g c =
+    let gone = c.step.ensures.record_step.live c.in_ok-step.ensures.answer in
+    let more = c.step.ensures.tells.more (c.in_ok-step.was ∙ ap Ok c.in-More.is) in
+    let so_far = c.loop.invariant in
+    let wrote =
+    writes_more c.args.self.now.cached.log c.loop.self.cached.log c.step.new.self.cached.log gone.1 gone.2.log more so_far.so_far in
+    let less = flushes_step gone.1 c.loop.self.cached.log c.step.new.self.cached.log so_far.under_way gone.2.log in
+    record {
+      passes = λ sends few. step_passes g (goal.at.loop-preserved g c).After-step few;
+      live = c.in_ok-step.ensures.answer;
+      under_way = more;
+      so_far = wrote.0;
+      exactly = omega (arith, wrote.1, c.step.ensures.record_step.one_call, so_far.exactly);
+      sends = omega (arith, wrote.1, c.step.ensures.passes.sent, so_far.sends);
+      flushes = omega (arith, less, c.step.ensures.record_step.flushed, so_far.flushes);
+      head = c.step.ensures.writes.head ∙ so_far.head;
+      active = c.step.ensures.writes.active ∙ so_far.active;
+    }
 
 pub returns : goal.returns
-returns g c = record {
-  passes = step_passes g (goal.at.returns g c).After-step
-      (omega (arith, c.loop.invariant.sends, c.step.ensures.passes.sent, c.loop.invariant.under_way));
-  answer = search rules;
-  batch = record {
-    done = search rules;
-    written =
-        let gone = c.step.ensures.record_step.live c.in_ok-step.ensures.answer in
-        writes_last c.args.self.now.cached.log c.loop.self.cached.log c.step.new.self.cached.log gone.1 gone.2.log
-        (c.step.ensures.tells.durable (c.in_ok-step.was ∙ ap Ok c.in_default.is)).0 c.loop.invariant.so_far;
-    waits = search rules;
-    head = search rules;
-    active = search rules;
-  };
-  exactly =
-      let gone = c.step.ensures.record_step.live c.in_ok-step.ensures.answer in
-      let less = one_less gone.1 c.loop.self.cached.log c.step.new.self.cached.log gone.2.log in
-      let none = (c.step.ensures.tells.durable (c.in_ok-step.was ∙ ap Ok c.in_default.is)).0 in
-      omega (arith, less, none, c.step.ensures.record_step.one_call, c.loop.invariant.exactly);
-  flushes =
-      let gone = c.step.ensures.record_step.live c.in_ok-step.ensures.answer in
-      let less = flushes_step gone.1 c.loop.self.cached.log c.step.new.self.cached.log c.loop.invariant.under_way gone.2.log in
-      let none = flushes_done c.step.new.self.cached.log (c.step.ensures.tells.durable (c.in_ok-step.was ∙ ap Ok c.in_default.is)).0 in
-      omega (arith, less, none, c.step.ensures.record_step.flushed, c.loop.invariant.flushes);
-}
+returns g c =
+    let gone = c.step.ensures.record_step.live c.in_ok-step.ensures.answer in
+    let none = (c.step.ensures.tells.durable (c.in_ok-step.was ∙ ap Ok c.in_default.is)).0 in
+    let so_far = c.loop.invariant in
+    let wrote =
+    writes_last c.args.self.now.cached.log c.loop.self.cached.log c.step.new.self.cached.log gone.1 gone.2.log none so_far.so_far in
+    let less = flushes_step gone.1 c.loop.self.cached.log c.step.new.self.cached.log so_far.under_way gone.2.log in
+    record {
+      passes = step_passes g (goal.at.returns g c).After-step
+          (omega (arith, so_far.sends, c.step.ensures.passes.sent, so_far.under_way));
+      answer = search rules;
+      batch = record { done = search rules; written = wrote.0; waits = search rules; head = search rules; active = search rules };
+      exactly = omega (arith, wrote.1, none, c.step.ensures.record_step.one_call, so_far.exactly);
+      flushes = grind (arith, less, none, c.step.ensures.record_step.flushed, so_far.flushes);
+    }
