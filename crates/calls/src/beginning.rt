@@ -19,7 +19,9 @@ use std::alloc::Global;
 use window::{WindowError, WindowMedium};
 
 impl Purpose {
-    /// What was started begins, where all is read.
+    /// What was started begins, where all is read. It stands apart, so that an event does not take
+    /// the stack of a start.
+    #[inline(never)]
     pub(crate) fn begin(&self, alloc: Global, opening: Opening) -> Stage
         ghost content: { List ℕ }
         ensures { GoesOn content self.now opening result }

@@ -34,7 +34,9 @@ pub(crate) fn reserve_for(near: &[u8]) -> Reserve
     }
 }
 
-// The super with which these first sectors begin, if they do.
+// The super with which these first sectors begin, if they do. Sector 0 lies on the stack here
+// alone.
+#[inline(never)]
 fn super_of(near: &[u8]) -> Option<Super>
     ensures { MatchOption result (¬ HasSuper near.now)
         (λ sizes. IsTheSuper near.now (shape_of sizes)) }

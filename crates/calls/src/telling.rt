@@ -62,9 +62,7 @@ impl Held {
         }
     }
 
-    // Where the first sectors are read, what was started begins. It stands apart, so that an event
-    // does not take the stack of a start.
-    #[inline(never)]
+    // Where the first sectors are read, what was started begins.
     fn begin(&mut self, alloc: Global)
         ghost content: { List ℕ }
         ensures { BeginsAt content self.old.stage self.old self.new }

@@ -7,7 +7,9 @@ use journal::Super;
 
 const SECTOR: usize = 512;
 
-/// How many calls wait at most while the image is migrated that these first sectors begin.
+/// How many calls wait at most while the image is migrated that these first sectors begin. Sector 0
+/// lies on the stack here alone.
+#[inline(never)]
 pub(crate) fn room_to_migrate(near: &[u8]) -> usize
     ensures { 512 ≤ length near.now → IsRoomToMigrate near.now result }
 {

@@ -16,7 +16,8 @@ pub fn room_for(format: LogFormat, slots: u64) -> u64
 }
 
 /// Whether these first sectors begin with the super of an image for which an outbox has too little
-/// room.
+/// room. Sector 0 lies on the stack here alone.
+#[inline(never)]
 pub(crate) fn has_little_room(near: &[u8], room: usize) -> bool
     ensures { IsTrue result ↔ WantsMore near.now room }
 {
