@@ -2,6 +2,7 @@
 #![tactic(auto)]
 
 mod clearing;
+mod copies;
 mod copy_step;
 mod copying;
 mod format_fault;
