@@ -19,11 +19,11 @@ STAYS = re.compile(r"#\[(cycle|test|cfg)|\bconst fn\b|-> impl\b|\bfn main\(")
 
 
 def functions_to_shut(crate, file, text):
-    """The functions of a file that a hole can stand for, each with the parts of its name. What a trait itself has and one with a whole proof by hand
-    stay as they are too."""
+    """The functions of a file that a hole can stand for, each with the parts of its name. A method of a trait and one with a whole proof by hand
+    stay as they are too: of some methods of traits the prover wants a measure, whatever proof stands for them."""
     for it in sources.functions_in(text) if file != "src/tests.rt" else ():
         is_method = bool(it.indent)
-        if is_method and (len(it.indent) != 4 or not it.owner or not it.owner.line.startswith("impl")):
+        if is_method and (len(it.indent) != 4 or not it.owner or not it.owner.is_inherent):
             continue
         words = " ".join(it.lines[it.first : it.begin + 1])
         path = name_of(crate, file, it).split("::")[1:]

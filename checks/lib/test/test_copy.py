@@ -58,11 +58,6 @@ class Copies(unittest.TestCase):
         self.assertIn("pub set_spec : {M : Type 1} → stated.statement M\nset_spec = shut", texts["proofs/Mark/set/Proof.antt"])
         self.assertEqual((texts["proofs/proved/Answers.antt"], "proofs/is_full/Proof.antt" in texts), (None, False))
 
-    def test_the_methods_of_an_impl_are_shut_and_what_a_trait_has_is_not(self):
-        body = "    fn rings(&self) -> bool {\n        true\n    }\n}\n"
-        text = f"pub trait Rings {{\n{body}\nimpl Rings for Mark {{\n{body}"
-        self.assertEqual([path for path, _ in shut.functions_to_shut(self.crate, "src/lib.rt", text)], [["MarkRings", "rings"]])
-
     def test_goals_are_left_open_behind_the_answers(self):
         (one,) = self.edits("one_is_three.edit")
         copy = Copy(self.crate, [one], narrows=True)
