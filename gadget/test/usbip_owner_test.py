@@ -295,10 +295,15 @@ def it_serves_while_the_device_works():
     assert host.wait_for(status)[1][12] == 0 and time.monotonic() - begun > 0.9, "what is promised does"
     begun = time.monotonic()
     assert host.write(300, pattern(2, 240)) == 0
-    host.out(host.wrapper(bytes([0x35]) + bytes(9), 0, False))
+    assert time.monotonic() - begun < 0.8, "a plain WRITE waits for no flush"
+    # (until that WRITE is in the log, what promises is put off)
+    assert host.command(bytes([0x35]) + bytes(9))[0] == 0
+    host.out(host.wrapper(struct.pack(">BBIxHx", 0x2A, 8, 0, 8), 4096, False))
+    host.out(pattern(3, 8))
+    begun = time.monotonic()
     assert host.control(0x21, 0xFF)[0] == 0, "a class reset is answered"
     assert host.control(0x02, 1, 0, 0x81)[0] == 0 and host.control(0x02, 1, 0, 0x02)[0] == 0
-    assert time.monotonic() - begun < 0.8, "neither a plain WRITE nor a reset waits for a flush"
+    assert time.monotonic() - begun < 0.8, "a reset waits for no flush"
     assert host.read_blocks(300, 240) == pattern(2, 240)
     ends_well(server)
 
