@@ -19,19 +19,19 @@ use Rattle.journal.specs.Sectors.{IsSuper, IsHead}
 use Rattle.journal.specs.Standing.{IsOurs, Keeps}
 use Rattle.journal.proofs.Wholeness.{in_log}
 use Rattle.journal.specs.Staged.{View, Resting}
-use Rattle.journal.proofs.Engine.{rests_found}
+use Rattle.journal.proofs.Engine.{rests_found, none_carried}
 use Rattle.journal.proofs.Wholeness.{with_records-same, records-hide}
 use Rattle.recovery.specs.Calls.{IsHomeOf, IsHomeInRecords, most_reads_of, LooksAtLog, WritesAllPass}
 use Rattle.recovery.specs.Calls.{FollowsBy, Writes, cleared_at, WithOrWithout, IsBetween, IsNoneOrNew, ImageLeaves}
 use Rattle.recovery.specs.Calls.{IsMade, IsWritten, IsNoneOrWritten, WritesImage}
-use Rattle.recovery.specs.Recovered.{IsFresh}
+use Rattle.recovery.specs.Recovered.{IsFresh, HasNoneWaiting}
 use Rattle.medium.specs.declared.fault.MediumFault.{MediumFault}
 use Rattle.medium.proofs.SectorsRead.{looks_joined, looks_below, look_below}
 use Rattle.journal.specs.declared.super_sector.Super.{Super}
 use Rattle.journal.specs.Standing.{HasShape}
 use Rattle.journal.specs.Reading.{IsRefusedCall, LooksUp}
 use Rattle.recovery.specs.Causes.{SurveysAtMost, LooksAtFirst}
-use Rattle.journal.proofs.SectorNumbers.{IsSuper-one}
+use Rattle.journal.proofs.SectorNumbers.{IsSuper-one, IsHead-one}
 use Rattle.std.proofs.lemmas.Result.{on_ok_weaker}
 use Rattle.medium.specs.declared.fault.MediumFault.TheVariants.{Read, Flush}
 
@@ -149,6 +149,13 @@ fresh_ours {shape = shape} {array = array} {next = next} {image = image} fits f 
     let rests : Resting (layout_of shape.format) view image = search (rules, arith, f.carries) in
     let found = rests_found (layout_of shape.format) (laws_of shape.format) view (omega arith) rests in
     search (rules, arith, found.keeps, found.carries)
+
+-- and none is whole there
+pub none_waits : {shape : Shape} {array : Array} {next : ℕ} {image : Image} → IsFresh shape array next image
+    → HasNoneWaiting shape image
+none_waits {shape = shape} {next = next} {image = image} f head is =
+    rw (IsHead-one head next (image 1) is f.head)
+    (none_carried (layout_of shape.format) (laws_of shape.format) shape f.super.some_slots image next f.carries)
 
 -- an image of zeros behind a super and a head is ours, for what it has at home
 pub zeros_ours : (size : ℕ) (shape : Shape) (array : Array) (image : Image) → sectors_of shape ≤ size → IsSuper shape (image 0)

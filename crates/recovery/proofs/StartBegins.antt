@@ -2,25 +2,23 @@
 use Rattle.std.proofs.Common.{◌≡◌, inl, inr, ◌∙◌, sym, ℕ, ◌+◌, ◌<◌, ◌≤◌, List, refl, arith, Result, Ok, Err}
 use Rattle.std.proofs.Common.{⊎_elim}
 use Rattle.medium.specs.Medium.{State, IsSound}
-use Rattle.medium.specs.Moments.{IsQuiet, SparesFrom}
+use Rattle.medium.specs.Moments.{IsQuiet}
 use Rattle.medium.specs.Performed.{Performed, fault_of}
 use Rattle.medium.specs.declared.medium_call.Call.{Call}
 use Rattle.medium.specs.declared.medium_call.Call.TheVariants.{Read, Flush}
 use Rattle.medium.specs.declared.fault.MediumFault.{MediumFault}
 use Rattle.medium.specs.declared.fault.MediumFault.TheVariants as medium
-use Rattle.medium.proofs.Moments.{quiet_start, quiet_call, quiet_joined, started}
-use Rattle.medium.proofs.SparedSectors.{spared_start}
+use Rattle.medium.proofs.Moments.{quiet_start, quiet_call, quiet_joined}
 use Rattle.medium.proofs.SectorsRead.{no_looks, looks_joined}
 use Rattle.medium.proofs.Driving.{not_driven}
 use Rattle.journal.specs.declared.super_sector.Super.{Super}
-use Rattle.journal.specs.Places.{sectors_of}
 use Rattle.journal.specs.Formats.{shape_of}
 use Rattle.journal.specs.Standing.{HasShape}
 use Rattle.journal.specs.Reading.{IsRefusedCall, MakesReadsAlone}
 use Rattle.journal.proofs.SectorNumbers.{IsSuper-one}
 use Rattle.recovery.specs.Calls.{LooksAtLog, HoldsLog}
 use Rattle.recovery.specs.Causes.{SurveysAtMost, IsRefusalBy, WritesNothing, IsSuperCause, start_fault_of}
-use Rattle.recovery.specs.Recovered.{LeavesAtLeast, StandsForOneOf}
+use Rattle.recovery.specs.Recovered.{LeavesAtLeast}
 use Rattle.recovery.specs.Starting.{EndsStart, IsReadFirst, FindsSuper, FindsHead}
 use Rattle.recovery.specs.HoldsStart.{HoldsStart, IsFlushedFirst, LooksThere}
 use Rattle.recovery.specs.declared.start_fault.StartFault.{StartFault}
@@ -97,7 +95,13 @@ module _ (least : ℕ) where
   pub ended_by : {old new : State} (fault : StartFault) → LeavesAtLeast least old new → IsRefusalBy least WritesNothing old new fault
       → EndsStart least old new (Err fault)
   ended_by fault leaves cause =
-      record { ok = tt; fresh = λ shape array next ours. tt; err = cause; leaves = leaves }
+      record {
+        ok = tt;
+        fresh = λ shape array next ours. tt;
+        clean = λ shape array next ours. tt;
+        err = cause;
+        leaves = leaves;
+      }
 
   refused_kind : {old new : State} (kind : MediumFault) → IsRefusedCall old new kind
       → IsRefusalBy least WritesNothing old new (start_fault_of kind)

@@ -13,7 +13,7 @@ use Rattle.recovery.specs.Starting.{answer_of}
 use Rattle.recovery.specs.HoldsStart.{HoldsStart, HasCopied, IsMovingHead, IsFlushedAgain, HasMovedHead}
 use Rattle.recovery.specs.declared.found.Found.{Found}
 use Rattle.recovery.specs.declared.start_stage.StartStage.TheVariants as stage
-use Rattle.recovery.proofs.JoinedCalls.{flush_writes, writes_on}
+use Rattle.recovery.proofs.JoinedCalls.{flush_writes, writes_on, none_waits}
 use Rattle.recovery.proofs.StartBegins.{surveyed_by}
 use Rattle.recovery.proofs.WholeRecovery.{moves_leave, recovery_done}
 
@@ -143,5 +143,12 @@ module _ {M : Type 0} (state : M → State) (sound : (m : M) → IsSound (state 
         record {
           leaves = leaves;
           well = λ live. absurd live;
-          midway = record { ok = (both.0, both.1); fresh = both.2; err = tt; leaves = leaves };
+          midway = record {
+            ok = (both.0, both.1);
+            fresh = both.2;
+            clean = λ shape array next ours.
+                none_waits (both.2 shape array next ours (state n).content (sound n).holds_content);
+            err = tt;
+            leaves = leaves;
+          };
         }

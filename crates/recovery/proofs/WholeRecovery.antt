@@ -1,6 +1,7 @@
 -- A whole recovery: a flush, reads, copies and the new head; what it leaves up to each of its exits, and why it is refused.
-use Rattle.std.proofs.Common.{◌≡◌, ◌⊎◌, inl, inr, ⊎_elim, ℕ, ◌+◌, ◌*◌, ◌<◌, ◌≤◌, ◌^◌, List, [], length, get_or, sym}
+use Rattle.std.proofs.Common.{◌≡◌, ◌⊎◌, inl, inr, ⊎_elim, ℕ, ◌+◌, ◌-◌, ◌*◌, ◌<◌, ◌≤◌, ◌^◌, List, [], length, get_or, sym}
 use Rattle.std.proofs.Common.{◌∙◌, ap, subst, arith, rules, mul-le-mul_left, min, Result}
+use Rattle.std.proofs.lemmas.Bool.{cases_lt}
 use Rattle.medium.specs.Medium.{State, Image, CutLeaves, Stays, Within, Only, Passes, LooksOnly, IsSound}
 use Rattle.medium.specs.Moments.{EachCut, IsFlushed, LeavesOnly, IsQuiet, SparesFrom}
 use Rattle.medium.specs.Sent.{SendsUpTo}
@@ -14,7 +15,7 @@ use Rattle.journal.specs.declared.log_format.LogFormat.{LogFormat}
 use Rattle.journal.specs.declared.log_format.LogFormat.TheVariants.{One, Two}
 use Rattle.journal.specs.Places.{Shape, first_home, sectors_of, limit_of}
 use Rattle.journal.specs.Sectors.{IsHead}
-use Rattle.journal.specs.Formats.{shape_of, layout_of, IsWhole}
+use Rattle.journal.specs.Formats.{shape_of, layout_of, IsWhole, HasWhole}
 use Rattle.journal.specs.Record.{Entry, with_records, home_of}
 use Rattle.journal.specs.Standing.{StandsFor, IsOurs, Stands}
 use Rattle.journal.specs.Standing as image
@@ -28,7 +29,7 @@ use Rattle.recovery.specs.Causes.{WritesNothing, HasFewSlots, IsRefusalBy, IsDev
 use Rattle.recovery.specs.Causes.{SurveysAtMost, IsLookCause}
 use Rattle.recovery.specs.Recovered.{IsOursInEither, MigrationLeaves, most_migration_sends, IsRecoveryRefusal}
 use Rattle.recovery.specs.Recovered.{IsRecoveredFrom, IsFresh, IsOursForSome, IsOursWithNext, StandsForOneOf}
-use Rattle.recovery.specs.Recovered.{StandsForSome, LeavesAtLeast, StartMoments}
+use Rattle.recovery.specs.Recovered.{StandsForSome, LeavesAtLeast, StartMoments, HasNoneWaiting}
 use Rattle.recovery.specs.declared.start_fault.StartFault.{StartFault}
 use Rattle.recovery.specs.declared.start_fault.StartFault.TheVariants.{NoMemory, StampsUsedUp, LogTooSmall}
 use Rattle.recovery.proofs.JoinedCalls.{log_ends, not_in_log, spared_by, AreSame, copies_ours, fresh_ours, quiet_before}
@@ -81,6 +82,11 @@ most_of : (format : LogFormat) (slots : ℕ) → slots ≤ 64
     → (most_start_of format * slots ≤ 738 * 64) × (most_start_sends format slots ≤ most_start_sends Two 64)
 most_of format slots few = (grind arith, grind arith)
 
+-- a few are no more than those that copy no block
+few_sent : (format : LogFormat) (slots : ℕ) (old new : State) (few : ℕ) → few ≤ 4 → SendsUpTo few old new
+    → SendsUpTo (most_start_sends format slots - limit_of format * slots) old new
+few_sent format slots old new few most sends = omega (arith, most, sends)
+
 -- a flush was made, and behind a good one a survey
 pub record IsSurveyed (result : Result (Unit {0}) MediumFault) (old mid seen : State) : Type 0 where
   pub sound : IsSound old
@@ -108,9 +114,10 @@ pub start_on : {Is : ℕ → Shape → Array → ℕ → Image → Type 0} {few_
     → SparesFrom (sectors_of shape) mid new → LooksOnly (λ s. s < first_home shape) mid new
     → new.calls ≤ old.calls + 6 + most_calls shape.format shape.slots → most_calls shape.format shape.slots ≤ 738 * 64
     → SendsUpTo (most_sends shape.format shape.slots) old new → most_sends shape.format shape.slots ≤ most_start_sends Two 64
+    → (HasNoneWaiting shape old.content → SendsUpTo (most_sends shape.format shape.slots - limit_of shape.format * shape.slots) old new)
     → StartMoments Is most_calls most_sends least old new
 start_on {Is} {old = old} {mid = mid} {new = new} {shape =
-    shape} sound served first begun ours spares looks calls all_calls sent all_sent =
+    shape} sound served first begun ours spares looks calls all_calls sent all_sent clean =
     let has = StandsFor-shape old.size shape old.content served.array served.next served.stands in
     let one : (other : Shape) → image.HasShape old.size other old.content → other ≡ shape =
     λ other its. IsSuper-one other shape (old.content 0) its.super has.super in
@@ -138,6 +145,7 @@ start_on {Is} {old = old} {mid = mid} {new = new} {shape =
       most = λ other its. rw (one other its) calls;
       sends = record {
         most = λ other its. rw (one other its) sent;
+        clean = λ other its. rw (one other its) clean;
         none = λ no. absurd (no shape has);
         any = omega (arith, sent, all_sent);
       };
@@ -185,11 +193,13 @@ module _ (least : ℕ) {old mid seen : State} {result : Result (Unit {0}) Medium
       let most = λ (shape : Shape) (has : image.HasShape old.size shape old.content).
       most_start shape.format shape.slots old.calls mid.calls seen.calls seen.calls 0 known.passes.calls_are
       (known.reads.most shape (quiet_after (λ n i. image.HasShape n shape i) old mid flushed has)) (omega arith) (omega arith) in
+      let clean = λ (shape : Shape) (has : image.HasShape old.size shape old.content) (none : HasNoneWaiting shape old.content).
+      few_sent shape.format shape.slots old seen 1 (omega arith) one_sent in
       let looks = λ (near : ℕ) (holds : HoldsLog near old.size old.content). looks_joined (λ s. s < near) old mid seen
       (no_looks _ old mid (known.passes.looked_stays (λ e. cc e)))
       (known.reads.only.looks near (quiet_after (λ n i. HoldsLog near n i) old mid flushed holds)) in
       search
-      (rules, cuts, seen_after, known.only, moments, known.passes.calls_are, most, one_sent, looks, spared_quiet, quiet, known.sound)
+      (rules, cuts, seen_after, known.only, moments, known.passes.calls_are, most, one_sent, clean, looks, spared_quiet, quiet, known.sound)
 
   -- a refusal by the survey is one by the flush and it
   pub refusal : (fault : StartFault) → IsRefusalBy least IsQuiet mid seen fault → IsRefusalBy least WritesNothing old seen fault
@@ -257,6 +267,17 @@ module _ (least : ℕ) {old mid seen : State} {result : Result (Unit {0}) Medium
     sent_few : SendsUpTo (limit_of found.sizes.format * found.sizes.slots + 1) old copied
     sent_few = omega (arith, mul-le-mul_left (limit_of found.sizes.format) at_old.count.few, one_sent, copying.sent)
 
+    -- where no record waits none is copied
+    sent_none : HasNoneWaiting (shape_of found.sizes) old.content → SendsUpTo 1 old copied
+    sent_none none =
+        let first : found.head + 0 ≡ found.head = omega arith in
+        let no_record : found.count ≡ 0 = elim (cases_lt 0 found.count) [
+          | inl some ↦ absurd (none found.head at_old.head
+              (subst (λ (n : ℕ). HasWhole (shape_of found.sizes) old.content n) first (at_old.count.whole 0 some)))
+          | inr none_left ↦ omega (arith, none_left)
+        ] in
+        omega (arith, one_sent, rw no_record at copying.sent)
+
     -- at any moment from the first write on each image is ours for the contents
     pub copies_leave : LeavesAtLeast least old copied
     copies_leave =
@@ -264,6 +285,7 @@ module _ (least : ℕ) {old mid seen : State} {result : Result (Unit {0}) Medium
         start_on {shape = shape} known.sound (search (rules, stood.stands, at_old.stamp_left, at_old.room)) survey_leaves begun
         (λ array next ours. weaker _ _ _ _ (λ image o. inl o) (copied_ours ours)) copied_spares copying.looks
         (few copied.calls 0 (omega arith) (omega arith)) most.0 (omega (arith, sent_few)) most.1
+        (λ none. few_sent found.sizes.format found.sizes.slots old copied 1 (omega arith) (sent_none none))
 
     -- they were good: the records are home
     module _ (done : (records : List (List Entry)) → found.count ≡ length records
@@ -311,6 +333,8 @@ module _ (least : ℕ) {old mid seen : State} {result : Result (Unit {0}) Medium
           (spared_behind 2 (sectors_of shape) copied new (omega arith) moves.spares)
           (no_looks _ copied new moves.reads.looked_stays) (few new.calls count some moves.calls) most.0
           (omega (arith, sent_few, moves.sent, some)) most.1
+          (λ none. few_sent found.sizes.format found.sizes.slots old new 4 (omega arith)
+          (omega (arith, sent_none none, moves.sent, some)))
 
       module _ (new : State) (head : HasNewHead (found.head + found.count + 1) copied.content new.content)
           (durable : IsFlushed new) where
@@ -346,10 +370,28 @@ start_migrates : (format : LogFormat) (slots old new : ℕ) → new ≤ old + mo
     → new ≤ old + most_migration_sends format slots
 start_migrates format slots old new most = grind arith
 
+-- also where no record waits
+clean_migrates : (format : LogFormat) (slots old new : ℕ)
+    → new ≤ old + (most_start_sends format slots - limit_of format * slots)
+    → new ≤ old + (most_migration_sends format slots - limit_of format * slots)
+clean_migrates One slots old new most = omega (arith, most)
+clean_migrates Two slots old new most = most
+
 -- what a recovery leaves
 pub recovery_leaves : (old new : State) → LeavesAtLeast 5 old new → MigrationLeaves old new
 recovery_leaves old new leaves =
     let cuts = λ (each : EachCut (IsOursForSome old.size) old). weaker (StandsForOneOf old)
     (StandsForSome IsOursInEither old) old new
     (λ image o. search (rules, o)) (leaves.cuts each) in
-    search (rules, cuts, leaves.after_flush, start_migrates, leaves.sends.most, leaves.sends.none, leaves.looks, leaves.small)
+    search (
+      rules,
+      cuts,
+      leaves.after_flush,
+      start_migrates,
+      clean_migrates,
+      leaves.sends.most,
+      leaves.sends.clean,
+      leaves.sends.none,
+      leaves.looks,
+      leaves.small,
+    )

@@ -1,5 +1,6 @@
 -- What recovery and a migration to format 2 answer, and what they leave.
-use Rattle.std.specs.Prelude.{◌≡◌, ◌≢◌, ◌⊎◌, ℕ, ◌+◌, ◌*◌, ◌^◌, ◌<◌, ◌≤◌, length, min, replicate}
+use Rattle.std.specs.Prelude.{◌≡◌, ◌≢◌, ◌⊎◌, ℕ, ◌+◌, ◌-◌, ◌*◌, ◌^◌, ◌<◌, ◌≤◌, length, min}
+use Rattle.std.specs.Prelude.{replicate}
 use Rattle.std.specs.Prelude.{Bool, true, false}
 use Rattle.medium.specs.Medium.{State, Image, CutLeaves}
 use Rattle.medium.specs.Moments.{EachCut, IsFlushed, LeavesOnly, SparesFrom}
@@ -8,7 +9,8 @@ use Rattle.medium.specs.Sent.{SendsUpTo}
 use Rattle.journal.specs.declared.log_format.LogFormat.{LogFormat}
 use Rattle.journal.specs.declared.log_format.LogFormat.TheVariants.{Two, One}
 use Rattle.journal.specs.Places.{Shape, first_home, sectors_of, slot_sectors_of, migrated}
-use Rattle.journal.specs.Formats.{shape_of, CarriesBelow}
+use Rattle.journal.specs.Places.{limit_of}
+use Rattle.journal.specs.Formats.{shape_of, CarriesBelow, HasWhole}
 use Rattle.journal.specs.Sectors.{IsSuper, IsHead}
 use Rattle.journal.specs.Standing.{StandsFor, IsOurs, HasShape}
 use Rattle.recovery.specs.Calls.{copy_calls, most_start_of, most_start_sends, LooksAtLog}
@@ -79,11 +81,19 @@ pub record SparesTheRest (old new : State) : Type 0 where
   pub unserved : ((shape : Shape) (array : Array) (next : ℕ)
       → StandsFor old.size shape old.content array next → 2 ^ 63 ≤ next) → SparesFrom 0 old new
 
+-- no record waits: none of the head's stamp is whole
+abbrev pub HasNoneWaiting : Shape → Image → Type 0
+HasNoneWaiting shape image = (head : ℕ) → IsHead head (image 1) → ¬ HasWhole shape image head
+
 -- How many writes and flushes a start makes at most, good or refused: where the image has a super,
--- by its format and its slots; where it has none, a flush; and whatever the image.
+-- by its format and its slots; where no record waits, as many less as blocks may wait; where it has
+-- none, a flush; and whatever the image.
 pub record StartSends (sends : LogFormat → ℕ → ℕ) (old new : State) : Type 0 where
   pub most : (shape : Shape) → HasShape old.size shape old.content
       → SendsUpTo (sends shape.format shape.slots) old new
+  pub clean : (shape : Shape) → HasShape old.size shape old.content
+      → HasNoneWaiting shape old.content → SendsUpTo
+      (sends shape.format shape.slots - limit_of shape.format * shape.slots) old new
   pub none : ((shape : Shape) → ¬ HasShape old.size shape old.content) → SendsUpTo 1 old new
   pub any : SendsUpTo (most_start_sends Two 64) old new
 

@@ -24,7 +24,7 @@ use Rattle.recovery.specs.Causes.{IsSuperCause}
 use Rattle.recovery.specs.Causes.{HasFewSlots, IsRefusalBy, WritesNothing}
 use Rattle.recovery.specs.Copying.{copies_left, IsCopyStep}
 use Rattle.recovery.specs.Surveying.{surveys_left, IsSurveyStep}
-use Rattle.recovery.specs.Recovered.{LeavesAtLeast, IsRecoveredFrom, IsFresh}
+use Rattle.recovery.specs.Recovered.{LeavesAtLeast, IsRecoveredFrom, IsFresh, HasNoneWaiting}
 use Rattle.recovery.specs.declared.copying.Copying.{Copying}
 use Rattle.recovery.specs.declared.surveying.Surveying.{Surveying}
 use Rattle.recovery.specs.declared.found.Found.{Found}
@@ -45,6 +45,10 @@ pub record EndsStart (least : ℕ) (old new : State) (result : Result Recovered 
   pub fresh : (shape : Shape) (array : Array) (next : ℕ)
       → IsOurs old.size shape old.content array next
       → OnOk result (EachCut (IsFresh shape array next) new)
+  -- and no record waits then
+  pub clean : (shape : Shape) (array : Array) (next : ℕ)
+      → IsOurs old.size shape old.content array next
+      → OnOk result (HasNoneWaiting shape new.content)
   pub err : IfErr result (IsRefusalBy least WritesNothing old new)
   pub leaves : LeavesAtLeast least old new
 

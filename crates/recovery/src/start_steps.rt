@@ -1,7 +1,11 @@
 //! What a start does behind each of its calls.
-ghost use Rattle.std.specs.Prelude.{◌≡◌, ◌<◌, ◌+◌, ◌^◌, ◌⊎◌};
+ghost use Rattle.std.specs.Prelude.{◌≡◌, ◌<◌, ◌+◌, ◌^◌, ◌⊎◌, ℕ};
 ghost use Rattle.recovery.specs.Starting.{IsReadFirst, FindsSuper, FindsHead, IsFoundOn, found_by};
 ghost use Rattle.recovery.specs.Starting.{IsNewCopying};
+ghost use Rattle.recovery.specs.declared.start_stage.StartStage.TheVariants.{Survey, FlushCopies};
+ghost use Rattle.recovery.specs.declared.start_stage.StartStage.TheVariants.{WriteHead, FlushHead};
+ghost use Rattle.recovery.specs.declared.start_stage.StartStage.TheVariants.{Copy, Started};
+ghost use Rattle.recovery.specs.declared.start_stage.StartStage.TheVariants.{ReadHead};
 
 use crate::copying::{Copying, first_step};
 use crate::found::Found;
@@ -50,6 +54,85 @@ pub(crate) fn behind_head(sector: &[u8; 512], sizes: &Super, least: u64) -> Star
         waiting: ArrayVec::new(),
     };
     StartStage::Survey(head.stamp, survey)
+}
+
+/// A start goes on behind its first flush, in its place: a stage has 4 KB, so that each of these
+/// has one on the stack, and not all of them.
+#[inline(never)]
+pub(crate) fn flush_first(stage: &mut StartStage, sectors: u64)
+    ensures { IsReadFirst sectors stage.new }
+{
+    *stage = first_read(sectors);
+}
+
+/// So behind the read of the super.
+#[inline(never)]
+pub(crate) fn read_super(stage: &mut StartStage, sector: &[u8; 512], sectors: u64)
+    ensures { FindsSuper sectors sector.now stage.new }
+{
+    *stage = behind_super(sector, sectors);
+}
+
+/// So behind the read of the head.
+#[inline(never)]
+pub(crate) fn read_head(stage: &mut StartStage, sector: &[u8; 512], least: u64)
+    ensures { (sizes : Super) → stage.old ≡ ReadHead sizes
+        → FindsHead least sizes sector.now stage.new }
+{
+    if let StartStage::ReadHead(sizes) = stage {
+        *stage = behind_head(sector, sizes, least);
+    }
+}
+
+/// So behind the last read of the survey.
+#[inline(never)]
+pub(crate) fn end_survey(stage: &mut StartStage)
+    requires { (head : ℕ) (survey : Surveying) → stage.old ≡ Survey head survey → head < 2 ^ 63 }
+    ensures { (head : ℕ) (survey : Surveying) → stage.old ≡ Survey head survey
+        → IsFoundOn (found_by head survey) stage.new }
+{
+    if let StartStage::Survey(head, survey) = stage {
+        *stage = behind_survey(*head, survey);
+    }
+}
+
+/// So behind the last copy of a block.
+#[inline(never)]
+pub(crate) fn end_copies(stage: &mut StartStage)
+    ensures { (found : Found) (copying : Copying) → stage.old ≡ Copy found copying
+        → stage.new ≡ FlushCopies found }
+{
+    if let StartStage::Copy(found, _) = stage {
+        *stage = StartStage::FlushCopies(*found);
+    }
+}
+
+/// So behind the flush of the copies.
+#[inline(never)]
+pub(crate) fn flush_copies(stage: &mut StartStage)
+    ensures { (found : Found) → stage.old ≡ FlushCopies found → stage.new ≡ WriteHead found }
+{
+    if let StartStage::FlushCopies(found) = stage {
+        *stage = StartStage::WriteHead(*found);
+    }
+}
+
+/// So behind the write of the head.
+#[inline(never)]
+pub(crate) fn write_head(stage: &mut StartStage)
+    ensures { (found : Found) → stage.old ≡ WriteHead found → stage.new ≡ FlushHead found }
+{
+    if let StartStage::WriteHead(found) = stage {
+        *stage = StartStage::FlushHead(*found);
+    }
+}
+
+/// So behind its flush, which is the last call.
+#[inline(never)]
+pub(crate) fn end_start(stage: &mut StartStage, answer: Recovered)
+    ensures { stage.new ≡ Started answer }
+{
+    *stage = StartStage::Started(answer);
 }
 
 // A copying of these records.

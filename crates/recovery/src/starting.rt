@@ -11,7 +11,10 @@ ghost use Rattle.recovery.specs.HoldsStart.{HoldsStart, StartView, MayStart};
 ghost use Rattle.recovery.specs.declared.start_stage.StartStage.TheVariants.{Refused};
 
 use crate::start_stage::StartStage;
-use crate::start_steps::{answer_of, behind_head, behind_super, behind_survey, first_read};
+use crate::start_steps::{
+    answer_of, end_copies, end_start, end_survey, flush_copies, flush_first, read_head, read_super,
+    write_head,
+};
 use crate::{Recovered, StartFault};
 use journal::Head;
 use medium::{Call, Machine, Medium};
@@ -117,24 +120,27 @@ impl<M: Medium> Machine<M> for Starting {
 
     fn made(&mut self, sector: &[u8; 512]) {
         match &mut self.stage {
-            StartStage::FlushFirst => self.stage = first_read(self.sectors),
-            StartStage::ReadSuper => self.stage = behind_super(sector, self.sectors),
-            StartStage::ReadHead(sizes) => self.stage = behind_head(sector, sizes, self.least),
-            StartStage::Survey(head, survey) => {
+            StartStage::FlushFirst => flush_first(&mut self.stage, self.sectors),
+            StartStage::ReadSuper => read_super(&mut self.stage, sector, self.sectors),
+            StartStage::ReadHead(_) => read_head(&mut self.stage, sector, self.least),
+            StartStage::Survey(_, survey) => {
                 Machine::<M>::made(survey, sector);
                 if survey.left == 0 {
-                    self.stage = behind_survey(*head, survey);
+                    end_survey(&mut self.stage);
                 }
             }
-            StartStage::Copy(found, copying) => {
+            StartStage::Copy(_, copying) => {
                 Machine::<M>::made(copying, sector);
                 if copying.step.left == 0 {
-                    self.stage = StartStage::FlushCopies(*found);
+                    end_copies(&mut self.stage);
                 }
             }
-            StartStage::FlushCopies(found) => self.stage = StartStage::WriteHead(*found),
-            StartStage::WriteHead(found) => self.stage = StartStage::FlushHead(*found),
-            StartStage::FlushHead(found) => self.stage = StartStage::Started(answer_of(found)),
+            StartStage::FlushCopies(_) => flush_copies(&mut self.stage),
+            StartStage::WriteHead(_) => write_head(&mut self.stage),
+            StartStage::FlushHead(found) => {
+                let answer = answer_of(found);
+                end_start(&mut self.stage, answer);
+            }
             StartStage::Started(_) => {}
             StartStage::Refused(_) => {}
         }

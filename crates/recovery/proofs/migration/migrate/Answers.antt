@@ -75,6 +75,7 @@ module _ {old mid : State} {found : _} (start : IsRecoveredFrom old mid found ×
           (no_looks _ mid new making.reads.looked_stays)
           (omega (arith, most, making.calls, home_is, found.sizes.most_slots)) (omega arith)
           (rw one sends) (rw one (omega (arith, found.sizes.most_slots)))
+          (λ none. let few = rw one at (before.sends.clean shape has none) in rw one (omega (arith, few, making.sent, home_is)))
 
       module _ (answer : Recovered) (is : (shape_of answer.sizes ≡ migrated shape) × (answer.next ≡ found.next)
           × IsMadeTwo shape found.next new) where
