@@ -1,15 +1,19 @@
 -- What a part of an event passes on.
-use Rattle.std.proofs.Common.{◌≡◌, ◌⊎◌, ◌<◌, ℕ, refl}
+use Rattle.std.proofs.Common.{◌≡◌, ◌∙◌, ◌⊎◌, ◌<◌, ℕ, List, false, refl}
 use Rattle.medium.specs.Medium.{State}
 use Rattle.medium.proofs.SectorsRead.{no_looks}
 use Rattle.scsi_unit.specs.Reading.{first_home_of}
-use Rattle.scsi_unit.specs.UnitValue.{UnitValue, unit_limit, intention_of}
+use Rattle.spec.specs.Book.{Book}
+use Rattle.scsi_unit.specs.Calls.{IsBounded, SendsOneBatch}
+use Rattle.scsi_unit.specs.UnitValue.{UnitValue, unit_limit, state_of, IsOfSize, intention_of}
 use Rattle.bot_machine.specs.declared.bulk_state.BulkState.{BulkState}
 use Rattle.bot_machine.specs.Refinement.{IsInPhase}
+use Rattle.bot_machine.specs.Promising.{promises_by}
 use Rattle.bot_machine.specs.Reading.{LooksBesides}
 use Rattle.bot_machine.specs.Serving.{HandsOn}
 use Rattle.bot_machine.proofs.ReadAtOnce.{waits_to_send_none}
 use Rattle.bot_machine.proofs.OutPackets.{no_time, no_calls}
+use Rattle.bot_machine.proofs.UnitLaws.{none_made, promises_by_book}
 
 -- no read was made
 pub none_besides : {M : Type 0} (At : ℕ → Type 0) (m : State) (unit : UnitValue M) → LooksBesides At m m unit
@@ -30,5 +34,12 @@ unit_stays state Follows At unit from to itself phase size = record {
   follows = itself unit.store.medium;
 }
 
--- a command that waits for its data sends none, and no read was made
-pub ruleset nothing_read = (waits_to_send_none, none_besides)
+-- a command that promises nothing, over a book of the unit's size, makes one batch durable at most
+pub plainly : {M : Type 0} (before after : State) (unit : UnitValue M) (block taken : List ℕ) (book : Book) → IsOfSize unit book
+    → IsBounded before after block taken unit → promises_by (state_of unit book) block ≡ false
+    → SendsOneBatch unit.store.goes_ahead before after unit.store.cached.log
+plainly before after unit block taken book size bounded none =
+    bounded.one_batch.plain (promises_by_book unit book block size ∙ none)
+
+-- a command that waits for its data sends none, no read was made, and no other call
+pub ruleset nothing_read = (waits_to_send_none, none_besides, none_made)

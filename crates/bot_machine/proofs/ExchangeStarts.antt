@@ -1,11 +1,10 @@
 -- A packet that spells a command wrapper begins an exchange.
 use Rattle.std.proofs.Common.{◌≡◌, ◌∙◌, ℕ, Bool, List, [], sym, ap, subst, refl}
 use Rattle.std.specs.Prelude.{None}
-use Rattle.medium.specs.Medium.{State}
 use Rattle.spec.specs.Book.{Book}
 use Rattle.spec.specs.Cases.{IsCase}
 use Rattle.spec.specs.Rules.{UnitState, CarriesOut, Ticks, intention, write_in_progress}
-use Rattle.scsi_unit.specs.UnitValue.{UnitValue, state_of, FitsUnit}
+use Rattle.scsi_unit.specs.UnitValue.{UnitValue, state_of, IsOfSize}
 use Rattle.spec.specs.Exchange.{Line, at_once, moment_of}
 use Rattle.spec.specs.Conversation.{Conversation, Begins, OpensExchange}
 use Rattle.spec.specs.UnitConversation.{way_of, Intends, on_line}
@@ -15,11 +14,11 @@ use Rattle.bot_machine.specs.Serving.{IsBegun}
 use Rattle.bot_machine.proofs.UnitLaws.{intends_by_book, writes_none}
 use Rattle.bot_machine.proofs.Cases.{at_once-takes_none}
 
--- a unit and a book that it fits, and the exchange that a packet begins
-module _ {M : Type 0} (m : State) (unit : UnitValue M) (book : Book) (fits : FitsUnit m unit book)
+-- a unit and a book of its size, and the exchange that a packet begins
+module _ {M : Type 0} (unit : UnitValue M) (book : Book) (size : IsOfSize unit book)
     (packet : List ℕ) (exchange : Exchange) (begun : IsBegun unit packet exchange) where
   intends : Intends (state_of unit book) exchange.command.block.items exchange.intended
-  intends = begun.intended ∙ ap way_of (intends_by_book m unit book exchange.command.block.items fits)
+  intends = begun.intended ∙ ap way_of (intends_by_book unit book exchange.command.block.items size)
 
   -- what the case begins, the packet opens
   pub opens : (refused : Bool) (line : Line) (new : Conversation UnitState)

@@ -1,13 +1,12 @@
 -- Whether the command that a packet has carried out promises.
 use Rattle.std.proofs.Common.{◌≡◌, ℕ, Bool, true, false, List, sym, ap, subst, ◌∙◌}
-use Rattle.medium.specs.Medium.{State}
 use Rattle.spec.specs.Book.{Book}
 use Rattle.spec.specs.declared.event.Event.TheVariants as event
 use Rattle.spec.specs.Exchange.{Script}
 use Rattle.spec.specs.Rules.{UnitState}
-use Rattle.scsi_unit.specs.UnitValue.{state_of}
+use Rattle.scsi_unit.specs.UnitValue.{state_of, IsOfSize}
 use Rattle.bot_machine.specs.Acts.{PacketCarriesOut}
-use Rattle.bot_machine.specs.Disk.{DiskValue, FitsDisk, over}
+use Rattle.bot_machine.specs.Disk.{DiskValue, over}
 use Rattle.bot_machine.specs.Promising.{promises_by, TellsPromise, PromisesNone, PromisesIn}
 
 -- the one command block that is carried out tells
@@ -20,28 +19,28 @@ told_by unit CarriedOut block taken false carried only is =
     λ other bytes carries. ap (λ (b : List ℕ). promises_by unit b) (only other bytes carries) ∙ sym is
 
 -- what a packet tells by whether Bulk-Out is halted, and by what is left of the exchange
-module _ {M : Type 0} (m : State) (disk : DiskValue M) (packet : List ℕ) (promised halted : Bool) (left : Script)
+module _ {M : Type 0} (disk : DiskValue M) (packet : List ℕ) (promised halted : Bool) (left : Script)
     (same_halt : halted ≡ disk.line.out_halted) (same_left : left ≡ disk.line.left)
-    (tells : (book : Book) → FitsDisk m disk book → TellsPromise promised (state_of disk.unit book)
+    (tells : (book : Book) → IsOfSize disk.unit book → TellsPromise promised (state_of disk.unit book)
     (PacketCarriesOut disk.line.packet_size halted left packet (state_of disk.unit book))) where
-  on_its_line : (book : Book) → FitsDisk m disk book → TellsPromise promised (state_of disk.unit book)
+  on_its_line : (book : Book) → IsOfSize disk.unit book → TellsPromise promised (state_of disk.unit book)
       (PacketCarriesOut disk.line.packet_size disk.line.out_halted disk.line.left packet (state_of disk.unit book))
-  on_its_line book fits =
+  on_its_line book size =
       let unit = state_of disk.unit book in
       subst (λ h. TellsPromise promised unit (PacketCarriesOut disk.line.packet_size h disk.line.left packet unit)) same_halt
       (subst (λ l. TellsPromise promised unit (PacketCarriesOut disk.line.packet_size halted l packet unit)) same_left
-      (tells book fits))
+      (tells book size))
 
-  pub tells_none : promised ≡ false → (book : Book) → FitsDisk m disk book
+  pub tells_none : promised ≡ false → (book : Book) → IsOfSize disk.unit book
       → PromisesNone (over disk book) (event.Out (record { items = packet }))
-  tells_none is book fits =
+  tells_none is book size =
       subst (λ (b : Bool). TellsPromise b (state_of disk.unit book)
       (PacketCarriesOut disk.line.packet_size disk.line.out_halted disk.line.left packet (state_of disk.unit book))) is
-      (on_its_line book fits)
+      (on_its_line book size)
 
-  pub tells_one : promised ≡ true → (book : Book) → FitsDisk m disk book
+  pub tells_one : promised ≡ true → (book : Book) → IsOfSize disk.unit book
       → PromisesIn (over disk book) (event.Out (record { items = packet }))
-  tells_one is book fits =
+  tells_one is book size =
       subst (λ (b : Bool). TellsPromise b (state_of disk.unit book)
       (PacketCarriesOut disk.line.packet_size disk.line.out_halted disk.line.left packet (state_of disk.unit book))) is
-      (on_its_line book fits)
+      (on_its_line book size)

@@ -19,7 +19,7 @@ use Rattle.scsi_unit.specs.Calls.{IsBounded, IsWritten, SendsOneBatch, most_call
 use Rattle.scsi_unit.specs.Costs.{KeepsHeadroom}
 use Rattle.scsi_unit.specs.Serving.{has_refused, IsSparing, TicksOver}
 use Rattle.scsi_unit.specs.Starting.{layout_of}
-use Rattle.scsi_unit.specs.UnitValue.{UnitValue, unit_limit, state_of, FitsUnit}
+use Rattle.scsi_unit.specs.UnitValue.{UnitValue, unit_limit, state_of, FitsUnit, IsOfSize}
 use Rattle.spec.specs.declared.event.Event.{Event}
 use Rattle.spec.specs.declared.event.Answer.{Answer}
 use Rattle.spec.specs.declared.event.Answer.TheVariants.{Ticked}
@@ -29,6 +29,7 @@ use Rattle.spec.specs.Conversation.{Conversation, refused_events, SetupStep}
 use Rattle.bot_machine.specs.Turns.{ByTurns, marks_in}
 use Rattle.spec.specs.UnitConversation.{Intends, write_of_event, UnitRun, UnitStep, on_line}
 use Rattle.bot_machine.specs.Acts.{EventCarriesOut, Acts}
+use Rattle.bot_machine.specs.Promising.{PromisesNone}
 use Rattle.bot_machine.specs.Reading.{LooksIn}
 
 -- the conversation of a disk, with a book of its life
@@ -110,6 +111,9 @@ pub record IsStepBy {M : Type 0} (work : Work) (before after : State) (old : Dis
       × IsBounded before after block taken old.unit × Tells told new.line
   -- whatever the book
   pub few : TakesFew before after old.unit new.unit
+  -- where no command is carried out that promises, one batch at most is made durable
+  pub plain : (book : Book) → IsOfSize old.unit book → PromisesNone (over old book) event
+      → SendsOneBatch old.unit.store.goes_ahead before after old.unit.store.cached.log
   -- each read names a sector of the log, or one that `Disk::home_sectors` tells for the packet
   pub looks : LooksIn before after old event
   pub elapses : Elapses before after

@@ -2,9 +2,9 @@
 ghost use Rattle.std.specs.Prelude.{◌≡◌, ◌<◌, ℕ, List, true, false, length};
 ghost use Rattle.spec.specs.Book.{Book};
 ghost use Rattle.spec.specs.declared.event.Event.TheVariants as event;
-ghost use Rattle.scsi_unit.specs.UnitValue.{state_of, FitsUnit};
+ghost use Rattle.scsi_unit.specs.UnitValue.{state_of, IsOfSize};
 ghost use Rattle.bot_machine.specs.Acts.{CarriesOutAtOnce, CarriesOutLast};
-ghost use Rattle.bot_machine.specs.Disk.{FitsDisk, over};
+ghost use Rattle.bot_machine.specs.Disk.{over};
 ghost use Rattle.bot_machine.specs.Promising.{PromisesIn, PromisesNone, TellsPromise};
 
 use crate::bulk_out::read_exchange;
@@ -16,7 +16,7 @@ use scsi_unit::Unit;
 
 // Whether the command of a wrapper in this packet is carried out at once, and promises.
 fn wrapper_promises<M: Medium>(unit: &Unit<M>, packet: &[u8]) -> bool
-    ensures { (book : Book) → FitsUnit (M.state unit.now.store.medium) unit.now book
+    ensures { (book : Book) → IsOfSize unit.now book
         → TellsPromise result (state_of unit.now book)
         (CarriesOutAtOnce packet.now (state_of unit.now book)) }
 {
@@ -32,8 +32,7 @@ fn wrapper_promises<M: Medium>(unit: &Unit<M>, packet: &[u8]) -> bool
 // Whether this packet, of at most `most` bytes, ends the data of a command that promises.
 fn data_promises<M: Medium>(unit: &Unit<M>, pending: &Taking, packet: &[u8], most: u32) -> bool
     requires { 0 < length pending.now.exchange.command.block.items }
-    ensures { (bytes : List ℕ) (book : Book)
-        → FitsUnit (M.state unit.now.store.medium) unit.now book
+    ensures { (bytes : List ℕ) (book : Book) → IsOfSize unit.now book
         → TellsPromise result (state_of unit.now book)
         (CarriesOutLast most pending.now.exchange.command pending.now.exchange.intended bytes
         pending.now.due packet.now) }
@@ -51,11 +50,9 @@ impl<M: Medium> Disk<M> {
     /// SYNCHRONIZE CACHE, or a MODE SELECT that may disable the write cache. A medium whose device
     /// is behind is to catch up before the status of such a command goes to the host.
     pub fn promises(&self, packet: &[u8]) -> bool
-        ensures no { result ≡ false → (book : Book)
-            → FitsDisk (M.state self.now.unit.store.medium) self.now book
+        ensures no { result ≡ false → (book : Book) → IsOfSize self.now.unit book
             → PromisesNone (over self.now book) (event.Out (record { items = packet.now })) }
-        ensures yes { result ≡ true → (book : Book)
-            → FitsDisk (M.state self.now.unit.store.medium) self.now book
+        ensures yes { result ≡ true → (book : Book) → IsOfSize self.now.unit book
             → PromisesIn (over self.now book) (event.Out (record { items = packet.now })) }
     {
         if self.bulk.out_halted {

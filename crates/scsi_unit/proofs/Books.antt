@@ -10,8 +10,10 @@ use Rattle.blocks.specs.Limit.{HasLimit}
 pub use Rattle.blocks.proofs.ImageLimit.{start_keeps_limit}
 use Rattle.blocks.proofs.ImageLimit.{some_limit, one_limit, cut_keeps_limit}
 use Rattle.blocks.proofs.KnownImages.{found_ours, ours_for_opening, stands_for_opening, stands_for_some}
-use Rattle.spec.specs.Rules.{intention, intention_by}
-use Rattle.scsi_unit.specs.UnitValue.{UnitValue, unit_limit, state_of, FitsUnit, intention_of}
+use Rattle.spec.specs.Rules.{intention, intention_by, checked, command_by}
+use Rattle.scsi_unit.specs.Promising.{promises_for}
+use Rattle.scsi_unit.specs.Serving.{command_for}
+use Rattle.scsi_unit.specs.UnitValue.{UnitValue, unit_limit, state_of, FitsUnit, IsOfSize, intention_of}
 use Rattle.scsi_unit.specs.Laws.{KnowsImages}
 
 -- ---- the laws
@@ -36,8 +38,18 @@ pub limit_between_calls : {M : Type 0} (m : State) (unit : UnitValue M) (book : 
     → book.ours ≡ true → EachCut (HasLimit m.size (unit_limit unit)) m
 limit_between_calls m unit book fits ours = cut_keeps_limit m unit.store.cached book fits ours
 
+-- a book that a unit fits has as many blocks
+pub fits_size : {M : Type 0} (m : State) (unit : UnitValue M) (book : Book) → FitsUnit m unit book → IsOfSize unit book
+fits_size m unit book fits = fits.blocks
+
 -- what a unit intends is what its state with such a book intends
-pub intends_by_book : {M : Type 0} (m : State) (unit : UnitValue M) (book : Book) (block : List ℕ)
-    → FitsUnit m unit book → intention_of unit block ≡ intention (state_of unit book) block
-intends_by_book m unit book block fits =
-    ap (λ n. intention_by n (unit_limit unit) unit.kept.attention (is_dead unit.store.cached) block) fits.blocks
+pub intends_by_book : {M : Type 0} (unit : UnitValue M) (book : Book) (block : List ℕ)
+    → IsOfSize unit book → intention_of unit block ≡ intention (state_of unit book) block
+intends_by_book unit book block size =
+    ap (λ n. intention_by n (unit_limit unit) unit.kept.attention (is_dead unit.store.cached) block) size
+
+-- whether it promises, too
+pub promises_by_book : {M : Type 0} (unit : UnitValue M) (book : Book) (block : List ℕ) → IsOfSize unit book
+    → promises_for (command_for unit block) unit.write_cache ≡ promises_for (checked (state_of unit book) block) unit.write_cache
+promises_by_book unit book block size =
+    ap (λ n. promises_for (command_by n (unit_limit unit) unit.kept.attention (is_dead unit.store.cached) block) unit.write_cache) size

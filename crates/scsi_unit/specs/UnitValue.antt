@@ -41,6 +41,11 @@ state_of unit book = record {
 abbrev pub FitsUnit : {M : Type 0} → State → UnitValue M → Book → Type 0
 FitsUnit m unit book = FitsBook m unit.store.cached book
 
+-- The book has as many blocks as the unit, as each has that it fits. What a unit intends, and
+-- whether it promises, depends on no more of a book.
+abbrev pub IsOfSize : {M : Type 0} → UnitValue M → Book → Type 0
+IsOfSize unit book = blocks_of unit.store.cached ≡ book.blocks
+
 -- what a command block is about to move; that is the intention of the unit with any book that fits
 abbrev pub intention_of : {M : Type 0} → UnitValue M → List ℕ → Intention
 intention_of unit block =

@@ -2,7 +2,7 @@
 ghost use Rattle.std.specs.Prelude.{◌≡◌, ◌<◌, length};
 ghost use Rattle.spec.specs.Book.{Book};
 ghost use Rattle.spec.specs.Rules.{checked, forces_reading};
-ghost use Rattle.scsi_unit.specs.UnitValue.{state_of, FitsUnit};
+ghost use Rattle.scsi_unit.specs.UnitValue.{state_of, IsOfSize};
 ghost use Rattle.scsi_unit.specs.Serving.{command_for};
 ghost use Rattle.scsi_unit.specs.Promising.{forces_writing, promises, promises_for};
 
@@ -18,7 +18,7 @@ impl<M: Medium> Unit<M> {
     pub fn promises(&self, block: &[u8]) -> bool
         requires { 0 < length block.now }
         ensures is { result ≡ promises_for (command_for self.now block.now) self.now.write_cache }
-        ensures by_book { (book : Book) → FitsUnit (M.state self.now.store.medium) self.now book
+        ensures by_book { (book : Book) → IsOfSize self.now book
             → result ≡ promises_for (checked (state_of self.now book) block.now)
             self.now.write_cache }
     {

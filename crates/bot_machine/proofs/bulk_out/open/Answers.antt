@@ -6,7 +6,8 @@ use Rattle.spec.specs.Packets.{bytes_of}
 use Rattle.bot_machine.proofs.Packets.{packets_of-none}
 use Rattle.bot_machine.proofs.Sizes.{some_bytes}
 use Rattle.bot_machine.proofs.UnitMoments.{staying, proceeding_so}
-use Rattle.bot_machine.proofs.EventParts.{unit_stays}
+use Rattle.bot_machine.proofs.EventParts.{unit_stays, plainly}
+use Rattle.bot_machine.proofs.UnitLaws.{fits_size}
 use Rattle.bot_machine.proofs.ExchangeStarts.{opens, no_write, carries_out, carried_at_once}
 use Rattle.spec.specs.Exchange.{finished, at_once, after_data, never}
 use Rattle.bot_machine.specs.Refinement.{left_of}
@@ -32,29 +33,37 @@ returns-in-AtOnce-clause-opens g c = λ taken book fits.
     let e = c.in-Some.exchange in
     let begun = c.in-Some.ensures in
     proceeding_so _ _ _ _ _ _ _ _ book (c.carry_out.ensures.carried_out taken finished book fits)
-    (no_write _ _ book fits _ e begun [] c.in-AtOnce.ensures)
-    (λ later moves. inl (opens _ _ book fits _ e begun _ _ _ (rw (← c.in-AtOnce.ensures) (rw c.requires.expected moves))))
+    (no_write _ book (fits_size _ c.args.unit.now book fits) _ e begun [] c.in-AtOnce.ensures)
+    (λ later moves. inl (opens _ book (fits_size _ c.args.unit.now book fits) _ e begun _ _ _
+    (rw (← c.in-AtOnce.ensures) (rw c.requires.expected moves))))
 
 pub returns-in-AtOnce-clause-rests : goal.returns-in-AtOnce-clause-rests
 returns-in-AtOnce-clause-rests g c = λ book fits none.
-    absurd (none _ _ (carries_out _ _ book fits _ c.in-Some.exchange c.in-Some.ensures c.in-AtOnce.ensures))
+    absurd (none _ _ (carries_out _ book (fits_size _ c.args.unit.now book fits) _ c.in-Some.exchange c.in-Some.ensures
+    c.in-AtOnce.ensures))
 
 pub returns-in-AtOnce-clause-spares : goal.returns-in-AtOnce-clause-spares
 returns-in-AtOnce-clause-spares g c = λ came book fits block taken carries.
     let spared = c.carry_out.ensures.spares in
-    let same = carried_at_once _ _ book fits _ c.in-Some.exchange c.in-Some.ensures block taken carries in
+    let same = carried_at_once _ book (fits_size _ c.args.unit.now book fits) _ c.in-Some.exchange c.in-Some.ensures block taken carries in
     rw (same.1, same.2) (spared.0, spared.1, spared.2, spared.3 came)
+
+pub returns-in-AtOnce-clause-plain : goal.returns-in-AtOnce-clause-plain
+returns-in-AtOnce-clause-plain g c = λ book size none.
+    let e = c.in-Some.exchange in
+    plainly _ _ c.args.unit.now e.command.block.items _ book size c.carry_out.ensures.spares.2
+    (none e.command.block.items [] (carries_out _ book size _ e c.in-Some.ensures c.in-AtOnce.ensures))
 
 pub returns-in-AfterData-clause-opens : goal.returns-in-AfterData-clause-opens
 returns-in-AfterData-clause-opens g c = λ taken book fits.
     let unit = c.args.unit.now in
     staying _ unit _ book (g.met.M.Medium.sound unit.store.medium) fits
-    (inl (opens _ _ book fits _ c.in-Some.exchange c.in-Some.ensures _ _ _
+    (inl (opens _ book (fits_size _ c.args.unit.now book fits) _ c.in-Some.exchange c.in-Some.ensures _ _ _
     (rw (← c.in-AfterData.ensures, ← c.size-due.ensures) (refl, refl))))
 
 pub returns-in-AfterData-clause-spares : goal.returns-in-AfterData-clause-spares
 returns-in-AfterData-clause-spares g c = λ came book fits block taken carries.
-    let same = carried_at_once _ _ book fits _ c.in-Some.exchange c.in-Some.ensures block taken carries in
+    let same = carried_at_once _ book (fits_size _ c.args.unit.now book fits) _ c.in-Some.exchange c.in-Some.ensures block taken carries in
     absurd (let e : after_data ≡ at_once = c.in-AfterData.ensures ∙ same.0 in cc)
 
 pub returns-in-Never-clause-opens : goal.returns-in-Never-clause-opens
@@ -62,7 +71,7 @@ returns-in-Never-clause-opens g c = λ taken book fits.
     let unit = c.args.unit.now in
     let bulk = c.args.bulk.now in
     staying _ unit _ book (g.met.M.Medium.sound unit.store.medium) fits
-    (inl (opens _ _ book fits _ c.in-Some.exchange c.in-Some.ensures _ _ _ (rw (← c.in-Never.ensures) (
+    (inl (opens _ book (fits_size _ c.args.unit.now book fits) _ c.in-Some.exchange c.in-Some.ensures _ _ _ (rw (← c.in-Never.ensures) (
       refl,
       rw (packets_of-none _ (some_bytes bulk.size)) at (c.conclude.ensures.line taken c.args.staging.now
           (left_of (bytes_of bulk.size) bulk.phase taken c.args.staging.now bulk.status) (omega arith)),
@@ -70,7 +79,7 @@ returns-in-Never-clause-opens g c = λ taken book fits.
 
 pub returns-in-Never-clause-spares : goal.returns-in-Never-clause-spares
 returns-in-Never-clause-spares g c = λ came book fits block taken carries.
-    let same = carried_at_once _ _ book fits _ c.in-Some.exchange c.in-Some.ensures block taken carries in
+    let same = carried_at_once _ book (fits_size _ c.args.unit.now book fits) _ c.in-Some.exchange c.in-Some.ensures block taken carries in
     absurd (let e : never ≡ at_once = c.in-Never.ensures ∙ same.0 in cc)
 
 pub returns-in-Never-clause-passes : goal.returns-in-Never-clause-passes

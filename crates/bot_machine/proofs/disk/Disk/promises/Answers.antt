@@ -11,7 +11,7 @@ returns-then-self-clause-no g c =
     let d = c.self.inside in
     let disk : DiskValue g.row.M.Denot = record { line = line_of d.bulk d.taken.items d.staging.items; unit = d.unit } in
     rw (← c.self.view_is)
-    (tells_none _ disk c.args.packet.now false true _ (sym c.if-self.true) refl (λ book fits block taken carries. absurd {0} carries))
+    (tells_none disk c.args.packet.now false true _ (sym c.if-self.true) refl (λ book size block taken carries. absurd {0} carries))
 
 pub returns-in-Command-clause-no : goal.returns-in-Command-clause-no
 returns-in-Command-clause-no g c =
@@ -19,7 +19,7 @@ returns-in-Command-clause-no g c =
     let disk : DiskValue g.row.M.Denot = record { line = line_of d.bulk d.taken.items d.staging.items; unit = d.unit } in
     let left = ap (λ p. left_of (bytes_of d.bulk.size) p d.taken.items d.staging.items d.bulk.status) (sym c.in-Command.is) in
     rw (← c.self.view_is)
-    (tells_none _ disk c.args.packet.now c.wrapper_promises.result _ _ (sym c.if-self.false) left c.wrapper_promises.ensures)
+    (tells_none disk c.args.packet.now c.wrapper_promises.result _ _ (sym c.if-self.false) left c.wrapper_promises.ensures)
 
 pub returns-in-Command-clause-yes : goal.returns-in-Command-clause-yes
 returns-in-Command-clause-yes g c =
@@ -27,7 +27,7 @@ returns-in-Command-clause-yes g c =
     let disk : DiskValue g.row.M.Denot = record { line = line_of d.bulk d.taken.items d.staging.items; unit = d.unit } in
     let left = ap (λ p. left_of (bytes_of d.bulk.size) p d.taken.items d.staging.items d.bulk.status) (sym c.in-Command.is) in
     rw (← c.self.view_is)
-    (tells_one _ disk c.args.packet.now c.wrapper_promises.result _ _ (sym c.if-self.false) left c.wrapper_promises.ensures)
+    (tells_one disk c.args.packet.now c.wrapper_promises.result _ _ (sym c.if-self.false) left c.wrapper_promises.ensures)
 
 pub returns-in-DataOut-clause-no : goal.returns-in-DataOut-clause-no
 returns-in-DataOut-clause-no g c =
@@ -35,7 +35,7 @@ returns-in-DataOut-clause-no g c =
     let disk : DiskValue g.row.M.Denot = record { line = line_of d.bulk d.taken.items d.staging.items; unit = d.unit } in
     let left = ap (λ p. left_of (bytes_of d.bulk.size) p d.taken.items d.staging.items d.bulk.status) (sym c.in-DataOut.is) in
     rw (← c.self.view_is)
-    (tells_none _ disk c.args.packet.now c.data_promises.result _ _ (sym c.if-self.false) left
+    (tells_none disk c.args.packet.now c.data_promises.result _ _ (sym c.if-self.false) left
     ((rw c.bytes.ensures at c.data_promises.ensures) (take c.in-DataOut.pending.filled d.taken.items)))
 
 pub returns-in-DataOut-clause-yes : goal.returns-in-DataOut-clause-yes
@@ -44,7 +44,7 @@ returns-in-DataOut-clause-yes g c =
     let disk : DiskValue g.row.M.Denot = record { line = line_of d.bulk d.taken.items d.staging.items; unit = d.unit } in
     let left = ap (λ p. left_of (bytes_of d.bulk.size) p d.taken.items d.staging.items d.bulk.status) (sym c.in-DataOut.is) in
     rw (← c.self.view_is)
-    (tells_one _ disk c.args.packet.now c.data_promises.result _ _ (sym c.if-self.false) left
+    (tells_one disk c.args.packet.now c.data_promises.result _ _ (sym c.if-self.false) left
     ((rw c.bytes.ensures at c.data_promises.ensures) (take c.in-DataOut.pending.filled d.taken.items)))
 
 pub returns-in_default-clause-no : goal.returns-in_default-clause-no
@@ -54,4 +54,4 @@ returns-in_default-clause-no g c =
     let sent = sends d.bulk.phase (λ e. c.in_default.not-Command e) (λ t e. c.in_default.not-DataOut t e)
     (bytes_of d.bulk.size) d.taken.items d.staging.items d.bulk.status in
     rw (← c.self.view_is)
-    (tells_none _ disk c.args.packet.now false false _ (sym c.if-self.false) sent.2 (λ book fits block taken carries. absurd {0} carries))
+    (tells_none disk c.args.packet.now false false _ (sym c.if-self.false) sent.2 (λ book size block taken carries. absurd {0} carries))
