@@ -14,7 +14,10 @@ use Rattle.spec.specs.declared.event.Answer.TheVariants as answer
 use Rattle.bot_machine.specs.Acts.{Acts, EventCarriesOut}
 use Rattle.bot_machine.specs.Disk.{FitsDisk, over}
 use Rattle.scsi_unit.specs.Background.{Work, Settle, Ahead}
+use Rattle.scsi_unit.specs.Calls.{SendsOneBatch}
+use Rattle.bot_machine.proofs.UnitLaws.{fits_size}
 use Rattle.disk_calls.specs.Plays.{Disk, medium_of, PlaysBy, Plays, AnswersRequest}
+use Rattle.disk_calls.proofs.Rooms.{one_if_ready}
 use Rattle.disk_machine.specs.Machine.{Machine, Serves, has_refused, under_way}
 use Rattle.disk_machine.specs.Idling.{IsShort, HasGoneAhead, HasStepped}
 use Rattle.disk_machine.specs.Moves.{is_behind, ServesAtRest, LeavesNoMore, ServesOn, ServesEvent, ServesToken}
@@ -47,19 +50,26 @@ not_behind (asked.Read home) [] is fine = (refl, refl)
 not_behind (asked.Read home) (call ∷ calls) is fine = cc
 not_behind (asked.Refused count left) calls is fine = cc
 
+-- a packet that is not put off makes one batch durable at most
+plays_few : (old new : Machine) (packet : List ℕ) (code : ℕ) → IsReady old packet → PlaysOut old packet new code
+    → SendsOneBatch old.disk.unit.store.goes_ahead (state_of (medium_of old.disk)) (state_of (medium_of new.disk))
+    old.disk.unit.store.cached.log
+plays_few old new packet code ready plays = one_if_ready old.disk _ plays.answer new.disk ready plays.plays.step
+
 pub out_serves : (old new : Machine) (packet : List ℕ) (code : ℕ) → ¬ HoldsBack old → IsReady old packet → PlaysOut old packet new code
     → ServesAtRest new → ServesOut old packet new code
 out_serves old new packet code free ready plays rest =
     let same : new.asked ≡ old.asked = ap (λ (s : Machine). s.asked) plays.others in record {
       played = plays;
       has_room = has_room old free;
+      fits = λ beside. inr (has_room old free beside, ready);
       goes_on = out_goes_on old new packet code plays;
       ready = ready;
-      one_batch = plays.plays.step.few.one_batch;
+      one_batch = plays_few old new packet code ready plays;
       serves = serves_event old new (event.Out (record { items = packet })) plays.answer plays.plays same (λ none fine. elim
           (not_waiting plays.promises (is_behind old.asked (medium_of new.disk).outbox) old.waiting
           (sym (ap (λ (s : Machine). s.waiting) plays.others) ∙ none)) [
-            | inl before ↦ inl (before.1, plays.none before.0)
+            | inl before ↦ inl (before.1, λ book fits. plays.none before.0 book (fits_size _ old.disk.unit book fits))
             | inr there ↦
                 let up = not_behind old.asked (medium_of new.disk).outbox there (sym (ap (λ (a : Asked). has_refused a) same) ∙ fine) in
                 inr (keeps_all new rest (record {

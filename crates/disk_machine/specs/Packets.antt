@@ -9,14 +9,15 @@ use Rattle.device_calls.specs.declared.ask.DeviceRead.{DeviceRead}
 use Rattle.bot_machine.specs.Disk.{FitsDisk, over}
 use Rattle.bot_machine.specs.Promising.{PromisesIn, PromisesNone}
 use Rattle.scsi_unit.specs.Calls.{SendsOneBatch}
+use Rattle.scsi_unit.specs.UnitValue.{IsOfSize}
 use Rattle.disk_calls.specs.Codes.{TOO_LONG, code_of}
 use Rattle.disk_calls.specs.Plays.{medium_of, Plays, Tells}
-use Rattle.disk_calls.specs.Refusals.{HasRoom}
+use Rattle.disk_calls.specs.Refusals.{HasRoom, HasRoomFor}
 use Rattle.disk_calls.specs.Wanted.{Wants, WantsNone}
 use Rattle.disk_machine.specs.Machine.{Machine}
 use Rattle.disk_machine.specs.Moves.{ServesEvent, ServesToken, StaysSafe, LeavesNoMore}
 use Rattle.disk_machine.specs.Moves.{KeepsGoing, HasRoomBeside, is_behind}
-use Rattle.disk_machine.specs.PuttingOff.{HasWritten, IsReady, PutsOff}
+use Rattle.disk_machine.specs.PuttingOff.{IsReady, PutsOff}
 use Rattle.disk_machine.specs.declared.asked.Asked.{Asked}
 use Rattle.disk_machine.specs.declared.asked.Asked.TheVariants as asked
 use Rattle.disk_machine.specs.declared.lack.Lack.TheVariants as lack
@@ -68,11 +69,9 @@ pub record PlaysOut (old : Machine) (packet : List ℕ) (new : Machine) (code : 
   pub plays : Plays old.disk (event.Out (record { items = packet })) answer new.disk
   pub code_is : code ≡ code_of answer
   pub promises : Bool
-  pub none : promises ≡ false → (book : Book)
-      → FitsDisk (state_of (medium_of old.disk)) old.disk book
+  pub none : promises ≡ false → (book : Book) → IsOfSize old.disk.unit book
       → PromisesNone (over old.disk book) (event.Out (record { items = packet }))
-  pub some : promises ≡ true → (book : Book)
-      → FitsDisk (state_of (medium_of old.disk)) old.disk book
+  pub some : promises ≡ true → (book : Book) → IsOfSize old.disk.unit book
       → PromisesIn (over old.disk book) (event.Out (record { items = packet }))
   pub others : new ≡ record old {
     disk = new.disk;
@@ -86,10 +85,11 @@ pub record ServesOut (old : Machine) (packet : List ℕ) (new : Machine) (code :
   pub played : PlaysOut old packet new code
   pub serves : ServesEvent old (event.Out (record { items = packet })) played.answer new
   pub has_room : HasRoomBeside old → HasRoom old.disk
+  pub fits : HasRoomBeside old → HasRoomFor old.disk (event.Out (record { items = packet }))
   pub goes_on : KeepsGoing old new
-  -- it is not put off, and where no record is left to write it makes one batch durable at most
+  -- it is not put off, and makes one batch durable at most, whatever waits
   pub ready : IsReady old packet
-  pub one_batch : HasWritten old.disk → SendsOneBatch old.disk.unit.store.goes_ahead
+  pub one_batch : SendsOneBatch old.disk.unit.store.goes_ahead
       (state_of (medium_of old.disk)) (state_of (medium_of new.disk)) old.disk.unit.store.cached.log
 
 -- A packet to Bulk-Out that is too long changes nothing. One that is not taken now is told to come

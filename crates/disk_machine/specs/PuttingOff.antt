@@ -1,12 +1,13 @@
 -- What a machine does with a packet that promises while a record is left to write.
 use Rattle.std.specs.Prelude.{◌≡◌, ◌⊎◌, ℕ, ◌+◌, ◌<◌, ◌≤◌, false, List, length}
-use Rattle.window.specs.Window.{state_of}
 use Rattle.spec.specs.Book.{Book}
 use Rattle.spec.specs.declared.event.Event.TheVariants as event
 use Rattle.scsi_unit.specs.Background.{WriteBack, IsWritten, is_dead, steps_left}
-use Rattle.bot_machine.specs.Disk.{FitsDisk, over}
-use Rattle.bot_machine.specs.Promising.{PromisesIn, PromisesNone}
+use Rattle.scsi_unit.specs.UnitValue.{IsOfSize}
+use Rattle.bot_machine.specs.Disk.{over}
+use Rattle.bot_machine.specs.Promising.{PromisesIn}
 use Rattle.disk_calls.specs.Plays.{Disk, medium_of}
+use Rattle.disk_calls.specs.Refusals as calls
 use Rattle.disk_machine.specs.Machine.{Machine}
 use Rattle.disk_machine.specs.Moves.{ServesOn, KeepsGoing}
 use Rattle.disk_machine.specs.Steps.{StepsWhile}
@@ -18,14 +19,12 @@ HasWritten disk = IsWritten disk.unit.store.cached
 -- A packet is put off: it has a command carried out that promises, and a record is left to write.
 pub record IsPutOff (s : Machine) (packet : List ℕ) : Type 0 where
   pub unwritten : ¬ HasWritten s.disk
-  pub promises : (book : Book) → FitsDisk (state_of (medium_of s.disk)) s.disk book
+  pub promises : (book : Book) → IsOfSize s.disk.unit book
       → PromisesIn (over s.disk book) (event.Out (record { items = packet }))
 
 -- It is not: none is left to write, or the packet promises nothing.
 abbrev pub IsReady : Machine → List ℕ → Type 0
-IsReady s packet = HasWritten s.disk
-    ⊎ ((book : Book) → FitsDisk (state_of (medium_of s.disk)) s.disk book
-    → PromisesNone (over s.disk book) (event.Out (record { items = packet })))
+IsReady s packet = calls.IsReady s.disk (event.Out (record { items = packet }))
 
 -- a record is left to write, and no more calls wait than may when a packet is taken
 pub record MayWriteOn (most : ℕ) (disk : Disk) : Type 0 where
