@@ -1,23 +1,22 @@
--- What `usbdisk_room` tells is enough, and what is read is in sight.
+-- The room of a disk is enough, and what is read is in sight.
 use Rattle.std.proofs.Common.{◌≡◌, ◌⊎◌, ◌<◌, ◌≤◌, ◌+◌, ◌++◌, ◌∷◌, [], ℕ, true, List, length, inl, inr, arith, refl, sym, ◌∙◌, ap, subst}
-use Rattle.std.proofs.Common.{length-append}
+use Rattle.std.proofs.Common.{false, length-append}
 use Rattle.std.specs.Prelude.{Option}
 use Rattle.std.proofs.lemmas.List.{append-nil}
-use Rattle.std.proofs.Math.Nat.{le-max_left, le-max_right}
-use Rattle.journal.specs.declared.log_format.LogFormat.{LogFormat}
-use Rattle.journal.specs.declared.log_format.LogFormat.TheVariants.{One, Two}
 use Rattle.journal.specs.Places.{Shape}
 use Rattle.journal.specs.Sectors.{IsSuper}
 use Rattle.medium.specs.Medium.{LooksOnly}
 use Rattle.medium.specs.Sent.{sent}
+use Rattle.medium.specs.Writes.{sector_of}
 use Rattle.mirror.specs.Story.{given}
 use Rattle.mirror.specs.declared.call.DeviceCall.{DeviceCall}
-use Rattle.recovery.specs.Calls.{most_start_sends}
 use Rattle.window.specs.Window.{Window, fresh, state_of, is_in_sight, ComesAfter, IsServed}
 use Rattle.window.specs.Looks.{near_in_sight, none_refused, none_missed, none_kept_out}
 use Rattle.scsi_unit.specs.Background.{Work}
-use Rattle.scsi_unit.specs.Calls.{most_sends_of}
+use Rattle.scsi_unit.specs.Calls.{SendsOneBatch}
 use Rattle.scsi_unit.specs.Reading.{first_home_of}
+use Rattle.scsi_unit.specs.Starting.{blocks_of}
+use Rattle.spec.specs.Book.{Book, opened}
 use Rattle.bot_machine.specs.Device.{Device}
 use Rattle.bot_machine.specs.Disk.{IsStepBy}
 use Rattle.bot_machine.specs.Opening.{IsOpened, StartLeaves, LeavesMedium}
@@ -26,26 +25,33 @@ use Rattle.spec.specs.declared.event.Event.{Event}
 use Rattle.spec.specs.declared.event.Event.TheVariants as event
 use Rattle.spec.specs.declared.event.Answer.{Answer}
 use Rattle.disk_calls.specs.Plays.{Disk, medium_of, layout_on, Foresees, PlaysBy}
-use Rattle.disk_calls.specs.Refusals.{RefusesNothing, HasRoom, IsRoomy, HoldsLog, SeesHome, HasRoomToStart, HoldsImageLog}
+use Rattle.disk_calls.specs.Refusals.{RefusesNothing, HasRoomFor, IsReady, IsRoomy, HoldsLog, SeesHome, HasRoomToStart, HoldsImageLog}
 use Rattle.disk_calls.specs.Refusals.{StartRefusesNothing}
-use Rattle.store_calls.specs.Rooms as store
-use Rattle.store_calls.specs.Rooms.{WantsMore}
-use Rattle.store_calls.proofs.Roomy.{enough as enough_for}
-use Rattle.disk_calls.specs.Room.{room_of, room_for}
+use Rattle.store_calls.proofs.Served.{fits_start}
+use Rattle.disk_calls.specs.Room.{room_for}
+use Rattle.window.proofs.Kept.{opened_front}
 
--- for each event
-enough : (format : LogFormat) (slots : ℕ) → most_sends_of format ≤ room_of format slots
-enough One slots = le-max_left 309 (most_start_sends One slots)
-enough Two slots = le-max_left 1479 (most_start_sends Two slots)
+-- a book of the disk's size
+abbrev some_book : Disk → Book
+some_book disk = opened (blocks_of disk.unit.store.cached) (λ _. []) 0 false
 
--- for a start
-enough_start : (format : LogFormat) (slots : ℕ) → most_start_sends format slots ≤ room_of format slots
-enough_start One slots = le-max_right 309 (most_start_sends One slots)
-enough_start Two slots = le-max_right 1479 (most_start_sends Two slots)
+-- one that is ready makes no more than one batch durable
+pub one_if_ready : {work : Work} → (old : Disk) (event : Event) (answer : Answer) (new : Disk) → IsReady old event
+    → IsStepBy work (state_of (medium_of old)) (state_of (medium_of new)) old event answer new
+    → SendsOneBatch old.unit.store.goes_ahead (state_of (medium_of old)) (state_of (medium_of new)) old.unit.store.cached.log
+one_if_ready old (event.Out packet) answer new (inl written) step = step.few.one_batch written
+one_if_ready old (event.Out packet) answer new (inr plain) step = step.plain (some_book old) refl (plain (some_book old) refl)
+one_if_ready old event.In answer new ready step = step.plain (some_book old) refl (λ block taken none. absurd none)
+one_if_ready old (event.Setup packet) answer new ready step = step.plain (some_book old) refl (λ block taken none. absurd none)
+one_if_ready old event.Tick answer new ready step = step.plain (some_book old) refl (λ block taken none. absurd none)
 
-fits_in : (waits before after most told room : ℕ) → after ≤ before + most → most ≤ told → waits + told ≤ room
-    → waits + after ≤ before + room
-fits_in waits before after most told room calls less fits = omega (arith, calls, less, fits)
+-- its calls have room
+fits_event : {work : Work} → (old : Disk) (event : Event) (answer : Answer) (new : Disk)
+    → IsStepBy work (state_of (medium_of old)) (state_of (medium_of new)) old event answer new → HasRoomFor old event
+    → length (medium_of old).outbox + sent (state_of (medium_of new)) ≤ sent (state_of (medium_of old)) + (medium_of old).room
+fits_event old event answer new step (inl three) = omega (arith, step.few.sent, three)
+fits_event old event answer new step (inr (one, ready)) =
+    let few = (one_if_ready old event answer new ready step).most in omega (arith, few, one)
 
 -- what leaves no write, no flush and no read refused, where each named a sector that is in sight
 refuses_nothing : (P : ℕ → Type 0) (Room Sight : Type 0) (old new : Window) → ComesAfter old new → IsServed old new
@@ -93,12 +99,9 @@ played old event answer new sees step follows = record {
   covers = sees.covers (medium_of new) follows;
   parts = sees.parts (medium_of new) follows;
   served = sees.served (medium_of new) follows;
-  refuses = refuses_nothing (λ s. (s < first_home_of old.unit) ⊎ ReadsAt old event s) (HasRoom old) (HoldsLog old × SeesHome old event)
-      (medium_of old) (medium_of new) follows (sees.served (medium_of new) follows)
-      (λ enough_room. fits_in (length (medium_of old).outbox) (sent (state_of (medium_of old))) (sent (state_of (medium_of new)))
-      (most_sends_of (layout_on old).format) (room_for (layout_on old)) (medium_of old).room
-      step.few.sent (enough (layout_on old).format (layout_on old).slots) enough_room)
-      step.looks (λ sight. named_in_sight old event sight.0 sight.1);
+  refuses = refuses_nothing (λ s. (s < first_home_of old.unit) ⊎ ReadsAt old event s) (HasRoomFor old event)
+      (HoldsLog old × SeesHome old event) (medium_of old) (medium_of new) follows (sees.served (medium_of new) follows)
+      (fits_event old event answer new step) step.looks (λ sight. named_in_sight old event sight.0 sight.1);
   faulted = λ dead. (asks_nothing (medium_of old) (medium_of new) follows (step.few.faulted dead).0, (step.few.faulted dead).1);
   roomy = stays_roomy old new step.few.layout_stays follows.room_stays;
 }
@@ -106,22 +109,16 @@ played old event answer new sees step follows = record {
 -- ---- a start, good or refused, on a medium that was asked nothing yet
 
 module _ (first after : Window) (empty : length first.outbox ≡ 0) (leaves : StartLeaves (state_of first) (state_of after)) where
-  fits_start : HasRoomToStart first → length first.outbox + sent (state_of after) ≤ sent (state_of first) + first.room
-  fits_start (inl (shape, super, within, enough_room)) =
-      fits_in (length first.outbox) (sent (state_of first)) (sent (state_of after)) (most_start_sends shape.format shape.slots)
-      (room_for shape) first.room (leaves.bounded.sends.most shape (record { super = super; fits = within }))
-      (enough_start shape.format shape.slots) (omega (arith, empty, enough_room))
-  fits_start (inr enough_room) =
-      fits_in (length first.outbox) (sent (state_of first)) (sent (state_of after)) (most_start_sends Two 64) (room_of Two 64)
-      first.room leaves.bounded.sends.any (enough_start Two 64) (omega (arith, empty, enough_room))
+  fits : HasRoomToStart first → length first.outbox + sent (state_of after) ≤ sent (state_of first) + first.room
+  fits = fits_start first after empty leaves.bounded.sends
 
   pub start_refuses : LeavesMedium state_of ComesAfter first after → IsServed first after → StartRefusesNothing first after
   start_refuses medium served =
       let near = first.near in record {
-        kept = λ room. none_kept_out first after medium.follows (fits_start room);
+        kept = λ room. none_kept_out first after medium.follows (fits room);
         seen = λ log. none_missed (λ s. s < near) first after medium.follows (near_in_sight first) (medium.looks near log);
         none = λ room log. none_refused (λ s. s < near) first after served (near_in_sight first) (medium.looks near log)
-            (fits_start room);
+            (fits room);
       }
 
 -- the first sectors that held the log hold it still
@@ -134,22 +131,20 @@ holds_log first new device opened follows holds =
 
 -- ---- the room that an image wants
 
--- the room of a store is that of a disk
-as_store : (shape : Shape) → store.room_for shape ≡ room_for shape
-as_store shape = told shape.format shape.slots
-  where
-    told : (format : LogFormat) (slots : ℕ) → store.room_of format slots ≡ room_of format slots
-    told One slots = refl
-    told Two slots = refl
+-- whatever super the first sectors begin with, its image wants no more than this
+abbrev pub IsEnough : List ℕ → ℕ → Type 0
+IsEnough near room = (shape : Shape) → IsSuper shape (sector_of near 0) → room_for shape ≤ room
 
--- a disk that was started where the image does not want more has the room
+-- a disk that was started where the room is enough has it
 pub roomy : (near holds : List ℕ) (sectors span room : ℕ) (m : Window) (new : Disk) (device : Device)
-    → m ≡ fresh sectors near holds span room → 512 ≤ length near → ¬ WantsMore near room
+    → m ≡ fresh sectors near holds span room → 512 ≤ length near → IsEnough near room
     → IsOpened (state_of m) (state_of (medium_of new)) device new → ComesAfter m (medium_of new) → IsRoomy new
-roomy near holds sectors span room m new device on some none opened follows =
+roomy near holds sectors span room m new device on some enough opened follows =
     let first : Window = fresh sectors near holds span room in
     let stood = opened.store.stood in
     let super : IsSuper (layout_on new) ((state_of first).content 0) =
     subst (λ (w : Window). IsSuper (layout_on new) ((state_of w).content 0)) on stood.keeps.super in
+    let front : IsSuper (layout_on new) (sector_of near 0) =
+    subst (λ (b : List ℕ). IsSuper (layout_on new) b) (sym (opened_front sectors near holds 0 (omega (arith, some)))) super in
     let stays : (medium_of new).room ≡ room = follows.room_stays ∙ ap (λ (w : Window). w.room) on in
-    omega (arith, stays, as_store (layout_on new), enough_for near holds sectors span room (layout_on new) some none super)
+    omega (arith, stays, enough (layout_on new) front)

@@ -1,15 +1,19 @@
 -- Nothing that a disk asks of its medium is refused: no write and no flush for want of room, and no
 -- read of a sector that is not in sight.
 use Rattle.std.specs.Prelude.{⊤, ◌≡◌, ◌⊎◌, ◌+◌, ◌≤◌, length}
-use Rattle.journal.specs.Places.{Shape, first_home, sectors_of}
-use Rattle.journal.specs.Sectors.{IsSuper}
-use Rattle.journal.specs.declared.log_format.LogFormat.TheVariants.{Two}
-use Rattle.medium.specs.Medium.{State}
+use Rattle.journal.specs.Places.{first_home}
 use Rattle.recovery.specs.Calls as recovery
 use Rattle.window.specs.Window.{Window, state_of, kept_out}
+use Rattle.spec.specs.Book.{Book}
 use Rattle.spec.specs.declared.event.Event.{Event}
 use Rattle.spec.specs.declared.event.Event.TheVariants as event
-use Rattle.disk_calls.specs.Room.{room_of, room_for}
+use Rattle.scsi_unit.specs.Background.{IsWritten}
+use Rattle.scsi_unit.specs.Calls.{most_sends_of}
+use Rattle.scsi_unit.specs.UnitValue.{IsOfSize}
+use Rattle.bot_machine.specs.Disk.{over}
+use Rattle.bot_machine.specs.Promising.{PromisesNone}
+pub use Rattle.store_calls.specs.Rooms.{HasRoomToStart}
+use Rattle.disk_calls.specs.Room.{room_for}
 use Rattle.disk_calls.specs.Seen.{Disk, medium_of, layout_on}
 use Rattle.disk_calls.specs.Wanted.{WantsNone}
 
@@ -22,13 +26,23 @@ pub record RefusesNothing (Room Sight : Type 0) (old new : Window) : Type 0 wher
 
 -- ---- an event
 
--- the outbox has room, beside what waits, for as many calls as an event or a start of the image has
+-- The event makes one batch durable at most: no record is left to write, or no command is carried
+-- out that promises. A packet to Bulk-Out alone has any command carried out.
+abbrev pub IsReady : Disk → Event → Type 0
+IsReady disk (event.Out packet) = IsWritten disk.unit.store.cached
+    ⊎ ((book : Book) → IsOfSize disk.unit book
+    → PromisesNone (over disk book) (event.Out packet))
+IsReady disk event.In = ⊤
+IsReady disk (event.Setup packet) = ⊤
+IsReady disk event.Tick = ⊤
+
+-- the outbox has room, beside what waits, for as many calls as make one batch durable
 abbrev pub HasRoom : Disk → Type 0
 HasRoom disk = length (medium_of disk).outbox + room_for (layout_on disk) ≤ (medium_of disk).room
 
 -- The outbox has that room where nothing waits. So has that of each disk that was started
--- (`Begins.roomy`), and each call keeps it: no event is refused for want of room where the outbox
--- was carried out before.
+-- (`Begins.roomy`), and each call keeps it: no event that is ready is refused for want of room
+-- where the outbox was carried out before.
 abbrev pub IsRoomy : Disk → Type 0
 IsRoomy disk = room_for (layout_on disk) ≤ (medium_of disk).room
 
@@ -44,22 +58,20 @@ SeesHome disk event.In = ⊤
 SeesHome disk (event.Setup packet) = ⊤
 SeesHome disk event.Tick = ⊤
 
+-- the outbox has room for this event: for any, those calls that make three batches durable; for one
+-- that is ready, those of one batch
+abbrev pub HasRoomFor : Disk → Event → Type 0
+HasRoomFor disk event = (length (medium_of disk).outbox + most_sends_of (layout_on disk).format
+    ≤ (medium_of disk).room)
+    ⊎ (HasRoom disk × IsReady disk event)
+
 -- No event misses. With the room, the log in memory, and before a packet to Bulk-Out the home
 -- sectors in sight that `Disk::home_sectors` tells for it, an event has no call refused.
 abbrev pub EventRefusesNothing : Disk → Event → Disk → Type 0
-EventRefusesNothing old event new =
-    RefusesNothing (HasRoom old) (HoldsLog old × SeesHome old event) (medium_of old) (medium_of new)
+EventRefusesNothing old event new = RefusesNothing (HasRoomFor old event)
+    (HoldsLog old × SeesHome old event) (medium_of old) (medium_of new)
 
 -- ---- a start
-
--- the room for the format and the slots of the super, or whatever the bytes that for format 2 and
--- 64 slots
-abbrev pub HasRoomToStart : Window → Type 0
-HasRoomToStart first =
-    let before : State = state_of first in
-    ((shape : Shape) × IsSuper shape (before.content 0) × (sectors_of shape ≤ before.size)
-    × (room_for shape ≤ first.room))
-    ⊎ (room_of Two 64 ≤ first.room)
 
 -- the first sectors are all before the first home sector, as `opening` reads them
 abbrev pub HoldsImageLog : Window → Type 0

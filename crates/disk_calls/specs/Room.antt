@@ -1,20 +1,19 @@
 -- How many calls an outbox must have room for, and how much memory a disk takes.
-use Rattle.std.specs.Prelude.{◌≡◌, ◌≢◌, ◌≤◌, ◌<◌, ◌⊎◌, ℕ, ◌+◌, ◌*◌, max}
+use Rattle.std.specs.Prelude.{◌≡◌, ◌≢◌, ◌≤◌, ◌<◌, ◌⊎◌, ℕ, ◌+◌, ◌*◌}
 use Rattle.journal.specs.Places.{Shape, limit_of}
 use Rattle.journal.specs.Sectors.{version_of}
 use Rattle.journal.specs.declared.log_format.LogFormat.{LogFormat}
 use Rattle.journal.specs.declared.log_format.LogFormat.TheVariants.{One, Two}
-use Rattle.recovery.specs.Calls.{most_start_sends}
-use Rattle.scsi_unit.specs.Calls.{most_sends_of}
+use Rattle.store_calls.specs.Rooms.{most_sent}
 
--- As many writes and flushes as an event makes at most, and as a start does that finds
--- `slots` slots.
-abbrev pub room_of : LogFormat → ℕ → ℕ
-room_of format slots = max (most_sends_of format) (most_start_sends format slots)
+-- As many writes and flushes as make one batch durable: no packet that is played makes more, as one
+-- that promises is put off while a record is left to write.
+abbrev pub room_of : LogFormat → ℕ
+room_of format = most_sent format
 
 -- that of an image
 abbrev pub room_for : Shape → ℕ
-room_for shape = room_of shape.format shape.slots
+room_for shape = room_of shape.format
 
 -- a log may have `slots` slots
 abbrev pub AreSlots : ℕ → Type 0

@@ -7,6 +7,7 @@ mod identity;
 mod look;
 mod play;
 mod refused;
+mod room;
 mod run;
 mod wanted;
 
@@ -18,5 +19,6 @@ pub use identity::UsbDiskIdentity;
 pub use look::{UsbDiskLayout, layout_of, super_code};
 pub use play::{answer_request, make_step, play_packet, send_packet, show_sectors};
 pub use refused::refuse;
+pub use room::room_for;
 pub use run::gather;
 pub use wanted::unseen;

@@ -11,10 +11,9 @@ use Rattle.journal.specs.declared.log_format.LogFormat.{LogFormat}
 use Rattle.journal.specs.declared.log_format.LogFormat.TheVariants.{One, Two}
 use Rattle.window.specs.Window.{state_of, ComesAfter}
 use Rattle.window.specs.WindowLaws.{is_sound, comes_after_itself, comes_after_through}
-use Rattle.blocks.specs.Sent.{most_sent}
 use Rattle.store_calls.specs.Calls.{IsStep}
 use Rattle.store_calls.specs.Idling.{AreSteps, IsShort}
-use Rattle.store_calls.specs.Rooms.{Appends, Foresees}
+use Rattle.store_calls.specs.Rooms.{Appends, Foresees, room_of}
 use Rattle.store_calls.specs.Stores.{Store}
 use Rattle.store_calls.proofs.Served.{appends_log}
 
@@ -66,7 +65,7 @@ one_more work count old mid new made short step =
     subst (λ (n : ℕ). AreSteps work n old new) (omega arith) next
 
 -- 32 steps have fewer calls than a call of a store
-few_sends : (format : LogFormat) (count : ℕ) → count ≤ 32 → 2 * count ≤ 3 * most_sent format
+few_sends : (format : LogFormat) (count : ℕ) → count ≤ 32 → 2 * count ≤ room_of format
 few_sends One count few = omega (arith, few)
 few_sends Two count few = omega (arith, few)
 

@@ -10,20 +10,21 @@ use Rattle.medium.specs.Writes.{sector_of}
 use Rattle.mirror.specs.Parts as mirror
 use Rattle.recovery.specs.Calls.{most_start_sends}
 use Rattle.recovery.specs.Calls as recovery
+use Rattle.recovery.specs.Recovered.{HasNoneWaiting}
 use Rattle.window.specs.Window.{Window, state_of, mirror_of, kept_out, is_in_sight, ComesAfter}
 use Rattle.window.specs.Window.{CoversDevice, IsServed}
-use Rattle.blocks.specs.Sent.{most_sent}
+-- handed on to the layers above
+pub use Rattle.blocks.specs.Sent.{most_sent}
 use Rattle.blocks.specs.StoreValue.{layout_of}
 use Rattle.store_calls.specs.Stores.{Store}
 
--- As many writes and flushes as an event of a disk has, which are more than those of any call of a
--- store, and as a start has that finds `slots` slots.
-abbrev pub room_of : LogFormat → ℕ → ℕ
-room_of format slots = max (3 * most_sent format) (most_start_sends format slots)
+-- as many writes and flushes as any call of a store makes: those that make two batches durable
+abbrev pub room_of : LogFormat → ℕ
+room_of format = 2 * most_sent format
 
 -- that of an image
 abbrev pub room_for : Shape → ℕ
-room_for shape = room_of shape.format shape.slots
+room_for shape = room_of shape.format
 
 -- From one moment to another no write and no flush was refused, given this room; no read, given
 -- this sight; and given both, no call at all.
@@ -45,7 +46,7 @@ pub record Foresees (m : Window) : Type 0 where
 
 -- ---- a call
 
--- the outbox has room, beside what waits, for as many calls as an event or a start of the image has
+-- the outbox has room, beside what waits, for as many calls as a call of the store makes
 abbrev pub HasRoom : Store → Type 0
 HasRoom s = length s.medium.outbox + room_for (layout_of s.cached) ≤ s.medium.room
 
@@ -90,14 +91,19 @@ abbrev pub WantsMore : List ℕ → ℕ → Type 0
 WantsMore near room = (512 ≤ length near)
     × ((shape : Shape) × IsSuper shape (sector_of near 0) × (room < room_for shape))
 
--- the room for the format and the slots of the super, or whatever the bytes that for format 2 and
--- 64 slots
+-- a start makes no more writes and flushes where no record waits
+abbrev pub clean_sends : ℕ
+clean_sends = 4
+
+-- By the super, room for a start on all the slots of its log, or for one on a log in which no
+-- record waits; or whatever the bytes, room for a start in format 2 with 64 slots.
 abbrev pub HasRoomToStart : Window → Type 0
 HasRoomToStart first =
     let before : State = state_of first in
     ((shape : Shape) × IsSuper shape (before.content 0) × (sectors_of shape ≤ before.size)
-    × (room_for shape ≤ first.room))
-    ⊎ (room_of Two 64 ≤ first.room)
+    × ((most_start_sends shape.format shape.slots ≤ first.room)
+    ⊎ (HasNoneWaiting shape before.content × (clean_sends ≤ first.room))))
+    ⊎ (most_start_sends Two 64 ≤ first.room)
 
 -- the first sectors are all before the first home sector, as `opening` reads them
 abbrev pub HoldsImageLog : Window → Type 0

@@ -31,7 +31,6 @@ pub use laws::store_laws;
 pub use machine::StoreMachine;
 pub use machine_start::begin_machine;
 pub use parts::Parts;
-pub use room::room_for;
 pub use run::block_for;
 pub use sizes::Sizes;
 pub use store_fault::StoreFault;

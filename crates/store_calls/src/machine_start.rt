@@ -26,7 +26,7 @@ fn reserve_for(near: &[u8]) -> Reserve
     match super_of(near) {
         Some(sizes) => Reserve {
             span: sizes.format.limit(),
-            room: room_for(sizes.format, sizes.slots) as usize,
+            room: room_for(sizes.format) as usize,
         },
         None => Reserve { span: 0, room: 1 },
     }

@@ -1,18 +1,16 @@
 //! How much room an outbox must have, and whether an image wants more than it was given.
-ghost use Rattle.std.specs.Prelude.{◌≡◌, ◌≤◌, ◌<◌, ◌↔◌, IsTrue};
+ghost use Rattle.std.specs.Prelude.{◌≡◌, ◌<◌, ◌↔◌, IsTrue};
 ghost use Rattle.store_calls.specs.Rooms.{room_of, WantsMore};
 
 use journal::{LogFormat, Super};
 
 const SECTOR: usize = 512;
 
-/// How many writes and flushes an outbox must have room for, for an image of this format with
-/// `slots` slots.
-pub fn room_for(format: LogFormat, slots: u64) -> u64
-    requires { slots ≤ 64 }
-    ensures { result ≡ room_of format slots }
+/// How many writes and flushes an outbox must have room for, for a store in this format.
+pub(crate) fn room_for(format: LogFormat) -> u64
+    ensures { result ≡ room_of format }
 {
-    (u64::from(format.limit()) * slots + 4).max(3 * format.record_calls())
+    2 * format.record_calls()
 }
 
 /// Whether these first sectors begin with the super of an image for which an outbox has too little
@@ -34,7 +32,7 @@ pub(crate) fn has_little_room(near: &[u8], room: usize) -> bool
 
 // Whether an image of these sizes wants an outbox with more room.
 fn wants_more(sizes: &Super, room: usize) -> bool
-    ensures { IsTrue result ↔ (room < room_of sizes.now.format sizes.now.slots) }
+    ensures { IsTrue result ↔ (room < room_of sizes.now.format) }
 {
-    (room as u64) < room_for(sizes.format, sizes.slots)
+    (room as u64) < room_for(sizes.format)
 }
