@@ -77,10 +77,10 @@ static bool is_starting(struct disk *disk)
     return usbdisk_io_state(disk->io, &fault) == USBDISK_STARTING;
 }
 
-/* The device refused the call. What was promised stays. Behind a write or a flush nothing that
- * follows it is asked for any more, and no answer goes out good that is not out yet. What is read
- * ahead and refused nobody has asked for, and of what a start reads the start tells. */
-static void tell_refusal(struct disk *disk)
+/* The device refused the call of a disk that goes on. What was promised stays. Behind a write or a
+ * flush nothing that follows it is asked for any more, and no answer goes out good that is not out
+ * yet. What is read ahead and refused nobody has asked for. */
+static void tell_refusal(struct disk *disk, bool is_ahead)
 {
     errno = disk->cause;
     if (disk->kind != USBDISK_READ) {
@@ -92,7 +92,7 @@ static void tell_refusal(struct disk *disk)
         device_thread_await(&disk->thread, A_CALL);
         return;
     }
-    if (usbdisk_io_reads_ahead(disk->io) || is_starting(disk))
+    if (is_ahead || is_starting(disk))
         return;
     disk->counters.unread++;
     say_of_host("%s: %" PRIu64 " sectors from %" PRIu64 " on are not read: %s", disk->path,
@@ -102,9 +102,11 @@ static void tell_refusal(struct disk *disk)
 static void end_call(void *of)
 {
     struct disk *disk = of;
-    if (disk->cause)
-        tell_refusal(disk);
+    bool is_ahead = usbdisk_io_reads_ahead(disk->io);
     usbdisk_io_done(disk->io, !disk->cause);
+    /* (why a start fails, the start tells) */
+    if (disk->cause && !fault_of(disk))
+        tell_refusal(disk, is_ahead);
 }
 
 static const struct device_work work = { take_call, carry_out_call, end_call };
@@ -154,6 +156,10 @@ static bool refuse_start(struct disk *disk, uint32_t fault)
     const char *help = fault == USBDISK_BAD_SUPER ? " (docs/GADGET.md tells how to make one)" : "";
     if (fault == USBDISK_READ_REFUSED)
         return refuse_call(disk, "a read was refused");
+    if (fault == USBDISK_WRITE_REFUSED)
+        return refuse_call(disk, "a write was refused");
+    if (fault == USBDISK_FLUSH_REFUSED)
+        return refuse_call(disk, "a flush was refused");
     snprintf(cause, sizeof cause, "refused: %s%s", usbdisk_text(fault), help);
     return refuse(disk, fault == USBDISK_NO_MEMORY ? STATUS_MEMORY : STATUS_REFUSED, cause);
 }

@@ -50,9 +50,9 @@
 extern "C" {
 #endif
 
-/* The version, 1.2.0: two bytes hold the first number, and one byte each of the others. The library
+/* The version, 1.3.0: two bytes hold the first number, and one byte each of the others. The library
  * tells its own. Where the two differ, header and library are not of one version. */
-#define USBDISK_VERSION 0x010200u
+#define USBDISK_VERSION 0x010300u
 
 uint32_t usbdisk_version(void);
 
@@ -163,11 +163,12 @@ struct usbdisk_options {
 };
 
 /* Starts a disk: on what the device holds, which it recovers from whatever a loss of power left.
- * The device is to read sector 0 first, then the others before the blocks, and then to carry out
- * what the recovery writes: three flushes and a write of the head; where power was lost, blocks
- * too. Until it has, the disk is STARTING. Where there is no disk on the device, or its first
- * sectors cannot be read, it is FAILED, and nothing is left but to stop it; of a device of no
- * sectors at once, by BAD_SUPER.
+ * The device is to carry out the recovery first, one sector at a time: a FLUSH, READs of the first
+ * sectors, a FLUSH, a WRITE of the head and a FLUSH; where power was lost, blocks are read and
+ * written too. Then it is to read sector 0, then the others before the blocks, and to carry out
+ * three flushes and a write of the head. Until it has, the disk is STARTING. Where there is no disk
+ * on the device, or it refuses a call of the recovery or a READ of the first sectors, it is FAILED,
+ * and nothing is left but to stop it; of a device of no sectors at once, by BAD_SUPER.
  *
  * The first command behind a start, other than INQUIRY and REQUEST SENSE, ends with CHECK CONDITION
  * and 6/29/00: the power was off. REQUEST SENSE tells it too, and ends it.
@@ -204,15 +205,15 @@ uint32_t usbdisk_next(struct usbdisk *disk, struct usbdisk_call *call, uint8_t *
 /* The call that is under way has ended. ok: the device carried it out. Of a READ `bytes` are what
  * it gave, 512 for each sector; of the others they are not looked at: pass any address, and 0.
  *
- * Not ok, a READ of the first sectors, or any call of the work on an image: it is FAILED. Not ok, a
- * READ behind the start: the READ of the host that lacks these sectors ends with CHECK CONDITION
- * and 3/11/00, when its packet is handed in again, and the disk goes on. Not ok, a WRITE or FLUSH
- * of a disk or a store: it is FAULTED. No promise is told that was not told before, and the device
- * is asked for nothing more. A good status that was not handed out turns from 00h into 01h, and
- * REQUEST SENSE tells 3/0C/00, a write error. Each later command that needs the medium ends with
- * CHECK CONDITION and 4/44/00, until the next start. What was promised before is on the device.
- * Writes that were not promised may be lost, as by a cut; any part of the WRITE may be on the
- * device.
+ * Not ok, a call of the recovery, a READ of the first sectors, or any call of the work on an
+ * image: it is FAILED. Not ok, a READ behind the start: the READ of the host that lacks these
+ * sectors ends with CHECK CONDITION and 3/11/00, when its packet is handed in again, and the disk
+ * goes on. Not ok, a WRITE or FLUSH of a disk or a store: it is FAULTED. No promise is told that
+ * was not told before, and the device is asked for nothing more. A good status that was not handed
+ * out turns from 00h into 01h, and REQUEST SENSE tells 3/0C/00, a write error. Each later command
+ * that needs the medium ends with CHECK CONDITION and 4/44/00, until the next start. What was
+ * promised before is on the device. Writes that were not promised may be lost, as by a cut; any
+ * part of the WRITE may be on the device.
  *
  * Answers 0. Errors, in this order: EMPTY; NOT_ASKED where no call is under way; BAD_LENGTH where
  * the bytes of a good READ are not as many as were asked for: the call is still under way. */

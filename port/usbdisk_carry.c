@@ -50,15 +50,19 @@ bool usbdisk_carry_all(struct usbdisk_carry *carry)
     return is_made;
 }
 
-/* The first call of all that is started: nothing but the layout is kept of its bytes. */
+/* The first calls of all that is started, up to the first READ, which is that of sector 0: nothing
+ * but the layout is kept of its bytes. */
 static void look(struct usbdisk_carry *carry)
 {
     _Alignas(16) uint8_t sector[512] = { 0 };
+    bool is_read = false;
     carry->buffer = sector;
     carry->most = 1;
-    if (usbdisk_carry_next(carry)) {
+    while (!is_read && usbdisk_carry_next(carry)) {
         bool ok = usbdisk_carry_out(carry);
-        usbdisk_look(sector, &carry->layout);
+        is_read = carry->call.kind == USBDISK_READ;
+        if (is_read)
+            usbdisk_look(sector, &carry->layout);
         usbdisk_carry_done(carry, ok);
     }
     carry->buffer = NULL;

@@ -169,10 +169,10 @@ void usbdisk_io_stop(struct usbdisk_io *io);
  * usbdisk_io_look_ahead wish for is done once the device has nothing else to do; usbdisk_io_idle is
  * for when it is at no call.
  *
- * usbdisk_io_begin starts a disk, as usbdisk_io_start, but that the device reads sector 0 alone
- * here: all else is told by usbdisk_io_next, and usbdisk_io_state tells what came of it. Until it
- * serves, packets are answered NAK. Answers 0; NO_MEMORY; READ_REFUSED; BAD_IDENTITY or
- * BAD_PACKET_SIZE. */
+ * usbdisk_io_begin starts a disk, as usbdisk_io_start, but that the device flushes and reads sector
+ * 0 alone here: all else is told by usbdisk_io_next, and usbdisk_io_state tells what came of it.
+ * Until it serves, packets are answered NAK. Answers 0; NO_MEMORY; READ_REFUSED or FLUSH_REFUSED;
+ * what is wrong with sector 0; BAD_IDENTITY or BAD_PACKET_SIZE. */
 uint32_t usbdisk_io_begin(struct usbdisk_io **io, const struct usbdisk_io_device *device,
                           const struct usbdisk_identity *identity, uint32_t packet);
 

@@ -106,9 +106,24 @@ static bool is_left_out(struct spy *it, const struct usbdisk_call *call, bool *o
     *ok = !is_read;
     it->is_ahead_lost &= !is_lost;
     return (PLANTED == 12 && is_flush && it->call.kind == USBDISK_WRITE) ||
-           (PLANTED == 26 && is_flush && !it->is_open) ||
+           (PLANTED == 26 && is_flush && !it->has_written) ||
            (PLANTED == 27 && is_home(it, call) && it->has_served && !it->waits) ||
            (PLANTED == 18 && is_read) || is_lost;
+}
+
+/* Three flushes end the recovery of a start; what is written or flushed next comes behind the READs
+ * of the first sectors. */
+static uint32_t ask(struct spy *it, struct usbdisk *disk, struct usbdisk_call *call,
+                    uint8_t *buffer, size_t size)
+{
+    uint32_t code = REAL(next)(disk, call, buffer, size);
+    bool is_flush = call->kind == USBDISK_FLUSH, is_write = call->kind == USBDISK_WRITE;
+    if (code)
+        return code;
+    it->is_open |= it->mended >= 3 && (is_flush || is_write);
+    it->has_written |= is_write;
+    it->mended += is_flush;
+    return 0;
 }
 
 /* The next call of the library, but for those that are left out. */
@@ -116,10 +131,10 @@ static uint32_t tell_next(struct spy *it, struct usbdisk *disk, struct usbdisk_c
                           uint8_t *buffer, size_t size)
 {
     bool ok;
-    uint32_t code = REAL(next)(disk, call, buffer, size);
+    uint32_t code = ask(it, disk, call, buffer, size);
     while (!code && is_left_out(it, call, &ok)) {
         REAL(done)(disk, ok, buffer, 0);
-        code = REAL(next)(disk, call, buffer, size);
+        code = ask(it, disk, call, buffer, size);
     }
     if (PLANTED == 5 && it->is_open && it->reads)
         read_first(it, disk, call, buffer, size);
@@ -145,7 +160,6 @@ uint32_t WRAP(next)(struct usbdisk *disk, struct usbdisk_call *call, uint8_t *bu
     if (code)
         return code;
     it->rests = call->kind == USBDISK_NOTHING;
-    it->is_open |= call->kind == USBDISK_WRITE || call->kind == USBDISK_FLUSH;
     it->is_ahead &= is_same(call, &it->ahead);
     it->is_idled = false;
     it->call = it->rests ? it->call : *call;

@@ -42,7 +42,9 @@ struct spy {
     struct usbdisk_call call; /* under way at the device, or none */
     struct usbdisk_layout layout;
     bool has_served;          /* bytes of a host were taken */
-    bool is_open;             /* something else than a READ was told */
+    unsigned mended;          /* so many FLUSHes were told */
+    bool has_written;         /* a WRITE was told */
+    bool is_open;             /* the first sectors were read, and something else was told since */
     bool is_refused;          /* the device refused a WRITE or a FLUSH */
     bool is_idled;            /* steps were made since the call began */
     bool is_again;            /* the READ that failed is told once more */

@@ -199,7 +199,8 @@ static bool play_idle(void)
 static bool cut_start(void)
 {
     uint32_t fault;
-    bool is_ended = !bench.host.is_opening && bench.device.call.kind == USBDISK_NOTHING;
+    bool is_writing = !bench.host.is_opening || bench.is_mending || !bench.opened;
+    bool is_ended = is_writing && bench.device.call.kind == USBDISK_NOTHING;
     if (!is_ended || !book.is_unflushed)
         return true;
     book.is_unflushed = usbdisk_state(&bench.disk, &fault) == USBDISK_STARTING;

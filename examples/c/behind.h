@@ -88,7 +88,8 @@ struct host {
     bool promises;            /* the command is good only when all is durable */
     bool waits;               /* a promise was asked for, and the disk may wait for its device */
     bool is_refused;          /* the last packet was, or the last token */
-    bool is_opening;          /* the first sectors are still read: requests may be refused */
+    bool is_opening;          /* the image is recovered, or its first sectors are read: requests may
+                                 be refused */
     unsigned commands, parts; /* how many there were, and transfers that were taken in part */
 };
 
@@ -112,7 +113,10 @@ struct bench {
     struct host host;
     bool rests;      /* nothing is under way, and the disk has nothing for the device */
     bool is_faulted; /* the device refused a WRITE or a FLUSH */
-    bool has_failed; /* it refused a READ of the first sectors */
+    bool is_mending; /* the image is recovered, before its first sectors are read */
+    unsigned mended; /* the flushes of that which have ended */
+    bool has_failed; /* it refused a call of that, or a READ of the first sectors */
+    uint32_t fault;  /* which, of enum usbdisk_fault */
     uint64_t opened; /* how many of these were read */
     uint64_t behind; /* the sector behind the last one that it was to read */
     bool is_unread;  /* it could not read this sector, */

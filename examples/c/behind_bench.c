@@ -10,7 +10,8 @@ bool bench_start(struct bench *bench, unsigned packet)
     };
     bench->rests = bench->is_faulted = bench->has_failed = bench->is_unread = false;
     bench->reads_ahead = false;
-    bench->opened = 0;
+    bench->is_mending = true;
+    bench->opened = bench->mended = 0;
     bench->wish.kind = USBDISK_NOTHING;
     bench->host = (struct host){ .disk = &bench->disk, .packet = packet, .is_opening = true };
     return !usbdisk_start(&bench->disk, &options) || fails("a start is refused");
@@ -60,7 +61,8 @@ static bool judge_read(struct bench *bench, size_t room)
     bench->reads_ahead = wish->kind != USBDISK_NOTHING;
     bench->wish.kind = USBDISK_NOTHING;
     bench->behind = call->sector + call->count;
-    if (bench->host.is_opening && (call->sector != bench->opened || 512 * call->count > room))
+    bool is_next = bench->is_mending ? call->count == 1 : call->sector == bench->opened;
+    if (bench->host.is_opening && (!is_next || 512 * call->count > room))
         return fails("a start reads other sectors than the next ones");
     if (bench->reads_ahead && (call->sector != wish->sector || call->count != wish->count))
         return fails("other sectors are read than were wished for");
@@ -85,15 +87,30 @@ static bool begin(struct bench *bench)
     if (room < sizeof device->buffer && *behind != was)
         return fails("a byte behind the buffer has changed");
     bool is_read = device->call.kind == USBDISK_READ;
-    bench->host.is_opening &= is_read;
+    bench->host.is_opening &= is_read || bench->is_mending;
     return (!is_read || judge_read(bench, room)) && device_begin(device);
+}
+
+/* A call of a start has ended. The third flush is the last call of the recovery, and the first
+ * sectors are read behind it. */
+static void note_opening(struct bench *bench, const struct usbdisk_call *call)
+{
+    if (!bench->is_mending) {
+        bench->opened += call->count;
+        return;
+    }
+    bench->mended += call->kind == USBDISK_FLUSH;
+    bench->is_mending = bench->mended < 3;
 }
 
 static void note_refusal(struct bench *bench, struct usbdisk_call call)
 {
-    if (bench->host.is_opening)
+    static const uint32_t faults[] = { 0, USBDISK_WRITE_REFUSED, USBDISK_FLUSH_REFUSED,
+                                       USBDISK_READ_REFUSED };
+    if (bench->host.is_opening) {
         bench->has_failed = true;
-    else if (call.kind != USBDISK_READ)
+        bench->fault = faults[call.kind];
+    } else if (call.kind != USBDISK_READ)
         bench->is_faulted = true;
     if (bench->is_faulted)
         bench->wish.kind = USBDISK_NOTHING;
@@ -126,7 +143,8 @@ static bool end(struct bench *bench)
         return fails("a part of what was asked for is taken for all");
     if (usbdisk_done(&bench->disk, is_good, device->buffer, size))
         return fails("no call ends");
-    bench->opened += bench->host.is_opening ? call.count : 0;
+    if (is_good && bench->host.is_opening)
+        note_opening(bench, &call);
     if (!is_good)
         note_refusal(bench, call);
     return true;
@@ -203,7 +221,7 @@ bool bench_state(struct bench *bench)
 {
     uint32_t fault = 7, state = usbdisk_state(&bench->disk, &fault);
     if ((state == USBDISK_FAILED) != bench->has_failed ||
-        fault != (bench->has_failed ? USBDISK_READ_REFUSED : 0))
+        fault != (bench->has_failed ? bench->fault : 0))
         return fails("a start that failed is not told, or one that did not");
     if (bench->has_failed)
         return is_refused_at_all(bench) || fails("a failed start answers something else");

@@ -29,6 +29,7 @@ static struct {
     enum asked asked;
     unsigned address, count, goes_on;
     bool is_faulted, has_failed, rests, waited;
+    uint32_t fault;    /* why the start failed */
     bool is_unflushed; /* the device had unflushed sectors when the store started */
     bool keeps_power;  /* the device does, when the store stops */
     size_t found;      /* of the accepted writes, by the start; it makes them durable */
@@ -60,10 +61,13 @@ static bool end(struct usbdisk *it, struct device *at, bool is_good)
 
 static bool note_refusal(const struct usbdisk_call *call)
 {
+    static const uint32_t faults[] = { 0, USBDISK_WRITE_REFUSED, USBDISK_FLUSH_REFUSED,
+                                       USBDISK_READ_REFUSED };
     uint32_t fault, state = usbdisk_state(&store, &fault);
     bool is_read = call->kind == USBDISK_READ;
-    book.has_failed = state == USBDISK_FAILED && is_read && fault == USBDISK_READ_REFUSED;
-    book.is_faulted |= !is_read;
+    book.has_failed = state == USBDISK_FAILED && fault == faults[call->kind];
+    book.fault = fault;
+    book.is_faulted |= !is_read && !book.has_failed;
     book.refused += is_read;
     counts.refused++;
     return (state == USBDISK_FAULTED) == book.is_faulted || fails("a refusal is not told");
@@ -202,7 +206,7 @@ static bool judge_error(uint32_t code)
 {
     bool is_unread = code == USBDISK_READ_REFUSED && book.asked == READS && book.refused;
     if (book.has_failed)
-        return code == USBDISK_READ_REFUSED || fails("why a start failed is not told");
+        return code == book.fault || fails("why a start failed is not told");
     book.refused -= is_unread;
     return (code == USBDISK_DEAD && book.is_faulted) || is_unread ||
            fails("a call is not good, and nothing was refused");

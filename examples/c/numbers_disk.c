@@ -19,7 +19,7 @@ static void end(struct usbdisk *disk)
 
 static const uint8_t max_lun[8] = { 0xA1, 0xFE, 0, 0, 0, 0, 1 };
 
-/* What comes before the first READ of a start. */
+/* What comes before the first call of a start. */
 static void play_before(struct usbdisk *disk)
 {
     struct usbdisk_call call = { UNTOLD, UNTOLD, UNTOLD };
@@ -45,7 +45,23 @@ static void end_read(struct usbdisk *disk, const struct usbdisk_call *call)
     must(!usbdisk_done(disk, true, place, 512 * call->count), "a READ that ends");
 }
 
-/* The first sectors are read in order, as many at once as there is room for. */
+/* The image is recovered first, sector by sector: of one that was left in order the head alone is
+ * written, between three flushes. */
+static void play_mending(struct usbdisk *disk)
+{
+    struct usbdisk_call call;
+    unsigned writes = 0;
+    for (unsigned flushes = 0; flushes < 3; flushes += call.kind == USBDISK_FLUSH) {
+        must(carry_one(disk, medium, &call), "a recovery without an end");
+        writes += call.kind == USBDISK_WRITE;
+        must(call.kind == USBDISK_FLUSH || call.count == 1, "a run in a recovery");
+        must(call.kind != USBDISK_WRITE || call.sector == 1, "a recovery writes something else");
+        state_of(disk, USBDISK_STARTING);
+    }
+    must(writes == 1, "the head is not written once");
+}
+
+/* Behind it the first sectors are read in order, as many at once as there is room for. */
 static void play_opening(void)
 {
     struct usbdisk disk = USBDISK_NONE;
@@ -54,6 +70,7 @@ static void play_opening(void)
     uint32_t size = UNTOLD;
     begin(&disk);
     play_before(&disk);
+    play_mending(&disk);
     while (!usbdisk_next(&disk, &call, bytes, 1024) && call.kind == USBDISK_READ) {
         must(call.sector == read && call.count >= 1 && call.count <= 2, "not the next sectors");
         read += call.count;
@@ -68,7 +85,7 @@ static void play_opening(void)
     end(&disk);
 }
 
-/* What a start on an image that was left in order writes: three flushes and the head. */
+/* What a start on an image that was left in order writes: twice three flushes and the head. */
 static void play_recovery(void)
 {
     struct usbdisk disk = USBDISK_NONE;
@@ -81,11 +98,11 @@ static void play_recovery(void)
         heads += is_head;
         must(call.kind != USBDISK_WRITE || is_head, "a start writes something else");
     }
-    must(flushes == 3 && heads == 1, "the calls of a start");
+    must(flushes == 6 && heads == 2, "the calls of a start");
     end(&disk);
 }
 
-/* What comes while a disk starts: `read` of its first sectors were read. */
+/* What comes while a disk starts: `read` of its first sectors were read, behind the recovery. */
 static void play_bus_between(struct usbdisk *disk, uint64_t read)
 {
     uint32_t fault;
@@ -107,10 +124,12 @@ static void play_bus(void)
     struct usbdisk disk = USBDISK_NONE;
     struct usbdisk_call call = { .kind = USBDISK_NOTHING };
     uint64_t read = 0;
+    unsigned flushes = 0;
     size_t moved = UNTOLD;
     begin(&disk);
     for (bool goes_on = true; goes_on; goes_on = carry_one(&disk, medium, &call)) {
-        read += call.kind == USBDISK_READ ? call.count : 0;
+        flushes += call.kind == USBDISK_FLUSH;
+        read += call.kind == USBDISK_READ && flushes >= 3 ? call.count : 0;
         play_bus_between(&disk, read);
     }
     state_of(&disk, USBDISK_SERVING);

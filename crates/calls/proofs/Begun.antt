@@ -1,40 +1,26 @@
 -- Why a disk begins, and why it does not.
-use Rattle.std.proofs.Common.{◌≡◌, ◌≤◌, ℕ, List, length, inr, refl, sym, subst, ap, arith}
+use Rattle.std.proofs.Common.{◌≡◌, ◌≤◌, ℕ, List, length, inr, sym, subst, ap, arith}
 use Rattle.medium.specs.Writes.{sector_of}
 use Rattle.window.specs.Window.{Window, state_of, mirror_of, ComesAfter, CoversDevice, IsServed}
 use Rattle.mirror.specs.OutboxMedium.{sent}
 use Rattle.window.proofs.Kept.{opened_front}
-use Rattle.journal.specs.Places.{Shape}
 use Rattle.journal.specs.Sectors.{IsSuper}
-use Rattle.journal.specs.declared.log_format.LogFormat.{LogFormat}
-use Rattle.journal.specs.declared.log_format.LogFormat.TheVariants.{One, Two}
 use Rattle.recovery.specs.declared.start_fault.StartFault.{StartFault}
-use Rattle.store_calls.specs.Rooms.{WantsMore, room_of, room_for}
 use Rattle.store_calls.specs.Starts.{IsNoLength}
 use Rattle.bot_machine.specs.Device.{Device}
 use Rattle.bot_machine.specs.Opening.{StartsDisk, RefusesDisk}
 use Rattle.disk_calls.specs.Parts.{CoversParts}
 use Rattle.disk_calls.specs.Plays.{Disk, medium_of, layout_on, Begins}
-use Rattle.disk_calls.specs.Room as disk_room
 use Rattle.disk_calls.proofs.Refusals.{ends_in}
-use Rattle.disk_calls.proofs.Rooms.{start_refuses, holds_log, roomy}
+use Rattle.disk_calls.proofs.Rooms.{IsEnough, start_refuses, holds_log, roomy}
 use Rattle.disk_machine.specs.Machine.{Machine}
 use Rattle.disk_machine.specs.Moves.{begun, ServesAtRest, BeginsBehind, HasRoomBeside}
 use Rattle.calls.specs.Reserve.{IsReserve, AHEAD}
 use Rattle.calls.specs.Starting.{IsMediumOn, StartsOn, IsRefusedOn}
 
 -- no image wants more than what is reserved for it
-enough : (near : List ℕ) (span room : ℕ) → IsReserve near span room → ¬ WantsMore near room
-enough near span room reserve more =
-    let told = reserve.image more.1.0 (more.0, more.1.1) in omega (arith, told.1, more.1.2)
-
--- the room of a store is that of a disk
-as_store : (shape : Shape) → room_for shape ≡ disk_room.room_for shape
-as_store shape = told shape.format shape.slots
-  where
-    told : (format : LogFormat) (slots : ℕ) → room_of format slots ≡ disk_room.room_of format slots
-    told One slots = refl
-    told Two slots = refl
+enough : (near : List ℕ) (span room : ℕ) → IsReserve near span room → 512 ≤ length near → IsEnough near room
+enough near span room reserve some shape super = let told = reserve.image shape (some, super) in omega (arith, told.1)
 
 module _ (near : List ℕ) (sectors : ℕ) (content : List ℕ) (first : Window) (on : IsMediumOn near sectors content first)
     (length_is : ¬ IsNoLength near sectors) where
@@ -75,7 +61,7 @@ module _ (near : List ℕ) (sectors : ℕ) (content : List ℕ) (first : Window)
       served = served;
       refuses = start_refuses first (medium_of disk) empty starts.leaves.leaves starts.leaves.medium served;
       holds = holds_log first disk device starts.opened follows;
-      roomy = roomy near content sectors on.0 on.1 first disk device on.3 some (enough near on.0 on.1 on.2) starts.opened follows;
+      roomy = roomy near content sectors on.0 on.1 first disk device on.3 some (enough near on.0 on.1 on.2 some) starts.opened follows;
     }
 
     -- the image is that of the super with which the first sectors begin
@@ -87,7 +73,6 @@ module _ (near : List ℕ) (sectors : ℕ) (content : List ℕ) (first : Window)
     beside = omega (
       arith,
       (on.2.image (layout_on disk) (some, super)).1,
-      as_store (layout_on disk),
       follows.room_stays,
       ap (λ (w : Window). w.room) on.3,
     )

@@ -1,9 +1,9 @@
 -- The first sectors that are read hold the log.
-use Rattle.std.proofs.Common.{◌≡◌, ◌<◌, ◌≤◌, ◌*◌, ◌/◌, ◌∙◌, min, ℕ, List, [], ◌∷◌, length, sym, subst, ap, arith}
+use Rattle.std.proofs.Common.{◌≡◌, ◌<◌, ◌≤◌, ◌*◌, ◌∙◌, min, ℕ, List, [], ◌∷◌, length, sym, subst, ap, arith}
 use Rattle.medium.specs.Writes.{sector_of}
 use Rattle.journal.specs.Places.{Shape, first_home}
 use Rattle.journal.specs.Sectors.{IsSuper}
-use Rattle.window.specs.Window.{Window, state_of, mirror_of, fresh}
+use Rattle.window.specs.Window.{Window, mirror_of, fresh}
 use Rattle.window.proofs.Kept.{opened_front, opened_length}
 use Rattle.bot_machine.specs.Device.{Device}
 use Rattle.disk_calls.specs.Refusals.{HoldsImageLog, HoldsLog}

@@ -4,6 +4,8 @@ use Rattle.store_calls.specs.Outbox.{IsNoRoom}
 use Rattle.device_calls.specs.declared.ask.DeviceAsk.{DeviceAsk}
 use Rattle.device_calls.specs.declared.ask.DeviceAsk.TheVariants as ask
 use Rattle.opening.specs.Reading.{Reading, AsksToRead}
+use Rattle.opening.specs.Recovering.{AsksToRecover, GoesOnAsked}
+use Rattle.opening.specs.declared.recovering.Recovering.{Recovering}
 use Rattle.disk_calls.specs.Codes.{BAD_LENGTH}
 use Rattle.disk_machine.specs.Machine.{Machine}
 use Rattle.disk_machine.specs.Asking.{AsksFor}
@@ -14,14 +16,19 @@ use Rattle.store_calls.specs.StoreMachine as store
 use Rattle.image_calls.specs.Machines as images
 use Rattle.calls.specs.Asks.{told_as}
 use Rattle.calls.specs.Handles.{Held}
+use Rattle.calls.specs.Recovers.{IsRecoveryOf}
 use Rattle.calls.specs.declared.asks.UsbDiskCall.{UsbDiskCall}
 use Rattle.calls.specs.declared.held.Stage.{Stage}
 use Rattle.calls.specs.declared.held.Stage.TheVariants as stage
 
--- What the device is asked for: the next of the first sectors, or what the disk, the store or the
--- work asks for, whose bytes of writes lie at the front of the room. Where there is nothing, it is
--- asked for nothing. Before a disk is asked it works ahead, where its device has nothing to do.
+-- What the device is asked for: the next call of the recovery, the next of the first sectors, or
+-- what the disk, the store or the work asks for. The bytes of a write lie at the front of the room.
+-- Where there is nothing, it is asked for nothing. Before a disk is asked it works ahead, where its
+-- device has nothing to do.
 abbrev pub Asks : Stage → List ℕ → DeviceAsk → Held → Held → List ℕ → Type 0
+Asks (stage.Recovering b sectors) room what old new filled = (s' : Recovering)
+    × (new ≡ record old { stage = new.stage }) × IsRecoveryOf s' sectors new.stage
+    × AsksToRecover b.value room what s' filled × GoesOnAsked b.value what s'
 Asks (stage.Opening o) room what old new filled = (o' : Reading)
     × (new ≡ record old { stage = stage.Opening o' }) × (filled ≡ room)
     × AsksToRead o (length room / 512) what o'

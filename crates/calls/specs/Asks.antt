@@ -1,5 +1,4 @@
 -- What a device is to do next, as C is told it.
-use Rattle.std.specs.Prelude.{ℕ}
 use Rattle.device_calls.specs.declared.ask.DeviceAsk.{DeviceAsk}
 use Rattle.device_calls.specs.declared.ask.DeviceAsk.TheVariants as ask
 use Rattle.calls.specs.declared.asks.UsbDiskCall.{UsbDiskCall}

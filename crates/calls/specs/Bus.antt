@@ -16,6 +16,8 @@ use Rattle.calls.specs.declared.held.Stage.TheVariants as stage
 -- kind, the handle stays, and the second or the third is so.
 abbrev pub ToDisk : (Machine → Machine → ℕ → Type 0) → (Purpose → ℕ → Type 0) → Type 0 → Stage
     → Held → Held → ℕ → Type 0
+ToDisk Does Waits Stays (stage.Recovering b sectors) old new code =
+    (new ≡ old) × Waits old.purpose code
 ToDisk Does Waits Stays (stage.Opening o) old new code = (new ≡ old) × Waits old.purpose code
 ToDisk Does Waits Stays (stage.Disk s) old new code =
     (s' : Machine) × (new ≡ record old { stage = stage.Disk s' }) × Does s s' code

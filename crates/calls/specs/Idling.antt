@@ -27,6 +27,7 @@ Rests purpose.Migration code = code ≡ OTHER_KIND
 
 -- steps in the background of a disk or a store, and whether some are left
 abbrev pub MakesAt : Stage → Held → Held → ℕ → Type 0
+MakesAt (stage.Recovering b sectors) old new code = (new ≡ old) × Rests old.purpose code
 MakesAt (stage.Opening o) old new code = (new ≡ old) × Rests old.purpose code
 MakesAt (stage.Disk s) old new code = (s' : Machine) × (left : Bool)
     × (new ≡ record old { stage = stage.Disk s' }) × (code ≡ code_of_bool left) × Idles s s' left

@@ -5,6 +5,7 @@ pub mod Asks
 pub mod Handles
 pub mod Reserve
 pub mod Beginning
+pub mod Recovers
 pub mod Starting
 pub mod Plans
 pub mod Asking

@@ -3,7 +3,7 @@ use Rattle.std.specs.Prelude.{◌≡◌, ℕ, ◌+◌, ◌≤◌, List, length}
 use Rattle.medium.specs.Writes.{sector_of}
 use Rattle.journal.specs.Places.{Shape, limit_of}
 use Rattle.journal.specs.Sectors.{IsSuper}
-use Rattle.store_calls.specs.Rooms.{room_for}
+use Rattle.disk_calls.specs.Room.{room_for}
 
 -- so many calls may wait when a packet is taken
 abbrev pub AHEAD : ℕ
@@ -22,7 +22,7 @@ pub record IsTheSuper (near : List ℕ) (shape : Shape) : Type 0 where
   pub only : (other : Shape) → IsSuperOf near other → other ≡ shape
 
 -- Of an image, as many sectors are shown as one READ has at most, and the outbox has room for the
--- calls of an event or of a start, and for those that may wait.
+-- calls of an event, and so of a start where no record waits, and for those that may wait.
 pub record IsReserve (near : List ℕ) (span room : ℕ) : Type 0 where
   pub image : (shape : Shape) → IsSuperOf near shape
       → (span ≡ limit_of shape.format) × (room ≡ room_for shape + AHEAD)

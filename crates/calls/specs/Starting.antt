@@ -4,7 +4,7 @@ use Rattle.window.specs.Window.{Window, fresh}
 use Rattle.recovery.specs.declared.start_fault.StartFault.{StartFault}
 use Rattle.recovery.specs.declared.start_fault.StartFault.TheVariants as start
 use Rattle.store_calls.specs.Starts.{IsNoLength}
-use Rattle.spec.specs.Identification.{Identification, IsLegible}
+use Rattle.spec.specs.Identification.{IsLegible}
 use Rattle.spec.specs.declared.packet_size.PacketSize.{PacketSize}
 use Rattle.spec.specs.Packets.{bytes_of}
 use Rattle.bot_machine.specs.Device.{Device, device_by, Ahead}
@@ -19,6 +19,7 @@ use Rattle.opening.specs.declared.reach.Reach.{Reach}
 use Rattle.opening.specs.declared.reach.Reach.TheVariants as reach
 use Rattle.calls.specs.Beginning.{BeginsStore, BeginsFormat, BeginsLog, BeginsMigration}
 use Rattle.calls.specs.Handles.{Held}
+use Rattle.calls.specs.Recovers.{IsFirst}
 use Rattle.calls.specs.Reserve.{IsReserve, AHEAD}
 use Rattle.calls.specs.declared.held.Purpose.{Purpose}
 use Rattle.calls.specs.declared.held.Purpose.TheVariants as purpose
@@ -64,6 +65,7 @@ IsRefusedOn near sectors content device why = (why ≡ start.NoMemory)
 -- A disk begins on what was read, or there is none. Where all before the first home sector was
 -- read, it is all that events read of the log: none is refused a READ for want of sight of it.
 abbrev pub BeginsDisk : List ℕ → Reading → Device → Stage → Type 0
+BeginsDisk content o device (stage.Recovering b sectors) = ⊥
 BeginsDisk content o device (stage.Opening o') = ⊥
 BeginsDisk content o device (stage.Disk s) = StartsOn o.near o.sectors content device s
     × (o.reach ≡ reach.Near → HoldsLog s.disk)
@@ -100,8 +102,14 @@ abbrev pub Opens : Purpose → ℕ → Reach → Option Held → Option Held →
 Opens what sectors reach old new code =
     ((code ≡ 0) × (new ≡ Some (started what sectors reach))) ⊎ ((code ≡ 1) × (new ≡ old))
 
+-- a recovery of the image is to begin, or there is no memory for it and the handle stays
+abbrev pub Recovers : Purpose → ℕ → Option Held → Option Held → ℕ → Type 0
+Recovers what sectors old new code = ((code ≡ 0) × ((first : Stage) × IsFirst sectors first
+    × (new ≡ Some (record { purpose = what; stage = first }))))
+    ⊎ ((code ≡ 1) × (new ≡ old))
+
 -- What is there stays. What is wrong with the options is told before anything is done. Else the
--- first sectors are to be read.
+-- image is to be recovered.
 abbrev pub StartsDisk : UsbDiskOptions → Option Held → Option Held → ℕ → Type 0
 StartsDisk options (Some old) new code = (code ≡ STARTED) × (new ≡ Some old)
 StartsDisk options None new code =
@@ -109,14 +117,13 @@ StartsDisk options None new code =
     ⊎ ((size : PacketSize) × (options.packet ≡ bytes_of size)
     × (((¬ IsLegible (identity_of options.identity)) × (code ≡ BAD_IDENTITY) × (new ≡ None))
     ⊎ (IsLegible (identity_of options.identity)
-    × Opens (purpose.Disk (identity_of options.identity) size) options.sectors reach.Near None new
-    code)))
+    × Recovers (purpose.Disk (identity_of options.identity) size) options.sectors None new code)))
 
 -- a store, of which the options tell the sectors alone
 abbrev pub StartsStore : UsbDiskOptions → Option Held → Option Held → ℕ → Type 0
 StartsStore options (Some old) new code = (code ≡ STARTED) × (new ≡ Some old)
 StartsStore options None new code =
-    Opens purpose.Store options.sectors reach.Near None new code
+    Recovers purpose.Store options.sectors None new code
 
 -- what the handle holds goes
 abbrev pub Stops : Option Held → Option Held → ℕ → Type 0

@@ -28,6 +28,7 @@ IsImageAt (image.Refused kind.Flush) fault code = (code ≡ 4) × (fault ≡ num
 
 -- The number of what it is at. Why there is nothing is told, and else 0.
 abbrev pub IsAt : Stage → ℕ → ℕ → Type 0
+IsAt (stage.Recovering b sectors) fault code = (code ≡ 0) × (fault ≡ 0)
 IsAt (stage.Opening o) fault code = (code ≡ 0) × (fault ≡ 0)
 IsAt (stage.Disk s) fault code = (code ≡ code_of_state (state_of s)) × (fault ≡ 0)
 IsAt (stage.Store s) fault code = (code ≡ code_of_state (store.stage_of s)) × (fault ≡ 0)

@@ -36,6 +36,8 @@ code_before code purpose.Migration = OTHER_KIND
 -- failed the number of that, and where there is something of another kind OTHER_KIND: then the
 -- handle stays, and the second is so.
 abbrev pub ToStore : (Machine → Machine → ℕ → Type 0) → Type 0 → Stage → Held → Held → ℕ → Type 0
+ToStore Does Stays (stage.Recovering b sectors) old new code =
+    (new ≡ old) × (code ≡ code_before BUSY old.purpose) × Stays
 ToStore Does Stays (stage.Opening o) old new code =
     (new ≡ old) × (code ≡ code_before BUSY old.purpose) × Stays
 ToStore Does Stays (stage.Disk s) old new code = (new ≡ old) × (code ≡ OTHER_KIND) × Stays

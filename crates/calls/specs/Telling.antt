@@ -1,8 +1,10 @@
 -- What the device tells of what it was asked for.
-use Rattle.std.specs.Prelude.{◌≡◌, ◌⊎◌, ℕ, Bool, List, Result, Ok, Err}
+use Rattle.std.specs.Prelude.{◌≡◌, ℕ, Bool, List, Result, Ok, Err}
 use Rattle.device_calls.specs.declared.done_fault.DoneFault.{DoneFault}
 use Rattle.device_calls.specs.declared.done_fault.DoneFault.TheVariants as fault
-use Rattle.opening.specs.Reading.{Reading, HasRead, IsWhole}
+use Rattle.opening.specs.Reading.{Reading, HasRead}
+use Rattle.opening.specs.Recovering.{HearsOfRecovery, GoesOnHeard}
+use Rattle.opening.specs.declared.recovering.Recovering.{Recovering}
 use Rattle.opening.specs.declared.read_end.ReadEnd.{ReadEnd}
 use Rattle.opening.specs.declared.read_end.ReadEnd.TheVariants as end
 use Rattle.recovery.specs.declared.start_fault.StartFault.TheVariants as start
@@ -16,6 +18,7 @@ use Rattle.store_calls.specs.StoreMachine as store
 use Rattle.image_calls.specs.Machines as images
 use Rattle.calls.specs.Codes.{NOT_ASKED}
 use Rattle.calls.specs.Handles.{Held}
+use Rattle.calls.specs.Recovers.{IsRecoveryOf, ComesBehind}
 use Rattle.calls.specs.Starting.{GoesOn}
 use Rattle.calls.specs.declared.held.Stage.{Stage}
 use Rattle.calls.specs.declared.held.Stage.TheVariants as stage
@@ -30,6 +33,7 @@ code_of_done (Err why) = code_of_fault why
 
 -- where the first sectors are read, what was started begins
 abbrev pub BeginsAt : List ℕ → Stage → Held → Held → Type 0
+BeginsAt content (stage.Recovering b sectors) old new = new ≡ old
 BeginsAt content (stage.Opening o) old new =
     (new ≡ record old { stage = new.stage }) × GoesOn content old.purpose o new.stage
 BeginsAt content (stage.Disk s) old new = new ≡ old
@@ -50,9 +54,19 @@ EndsRead content (Ok end) o old new code =
     (code ≡ 0) × EndsSo content end (stage.Opening o) old new
 EndsRead content (Err why) o old new code = (code ≡ code_of_fault why) × (new ≡ old)
 
+-- what was told of a call of the recovery is taken, or nothing changes
+abbrev pub EndsCall : Result (Unit {0}) DoneFault → Recovering → ℕ → Held → Held → ℕ → Type 0
+EndsCall (Ok done) s sectors old new code = (code ≡ 0) × ComesBehind s sectors new.stage
+EndsCall (Err why) s sectors old new code =
+    (code ≡ code_of_fault why) × IsRecoveryOf s sectors new.stage
+
 -- What the device was asked for last has ended, good or not; of a read these are the bytes. Behind
 -- the first sectors the device holds this content.
 abbrev pub HearsAt : List ℕ → Bool → List ℕ → Stage → Held → Held → ℕ → Type 0
+HearsAt content ok bytes (stage.Recovering b sectors) old new code =
+    (result : Result (Unit {0}) DoneFault) × (s' : Recovering)
+    × (new ≡ record old { stage = new.stage }) × HearsOfRecovery b.value ok bytes result s'
+    × GoesOnHeard b.value ok bytes result s' × EndsCall result s' sectors old new code
 HearsAt content ok bytes (stage.Opening o) old new code = (result : Result ReadEnd DoneFault)
     × (o' : Reading) × HasRead o ok bytes result o' × EndsRead content result o' old new code
 HearsAt content ok bytes (stage.Disk s) old new code = (result : Result (Unit {0}) DoneFault)

@@ -45,6 +45,7 @@ impl Held {
         ensures { Asks self.old.stage buffer.old result self.old self.new buffer.new }
     {
         match &mut self.stage {
+            Stage::Recovering(recovering, _) => recovering.next(buffer),
             Stage::Opening(opening) => opening.next((buffer.len() / SECTOR) as u64),
             Stage::Disk(disk) => {
                 disk.work_ahead();

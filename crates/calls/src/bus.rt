@@ -63,7 +63,9 @@ impl Held {
     {
         match &mut self.stage {
             Stage::Disk(disk) => disk.take_transfer(bytes, taken),
-            Stage::Opening(_) | Stage::Failed(_) => self.purpose.wait_out(taken),
+            Stage::Recovering(_, _) | Stage::Opening(_) | Stage::Failed(_) => self
+                .purpose
+                .wait_out(taken),
             Stage::Store(_) | Stage::Image(_) => OTHER_KIND,
         }
     }
@@ -74,7 +76,9 @@ impl Held {
     {
         match &mut self.stage {
             Stage::Disk(disk) => disk.send_transfer(room, given),
-            Stage::Opening(_) | Stage::Failed(_) => self.purpose.wait_in(room, given),
+            Stage::Recovering(_, _) | Stage::Opening(_) | Stage::Failed(_) => self
+                .purpose
+                .wait_in(room, given),
             Stage::Store(_) | Stage::Image(_) => OTHER_KIND,
         }
     }
@@ -85,7 +89,9 @@ impl Held {
     {
         match &mut self.stage {
             Stage::Disk(disk) => disk.setup(packet, to, size),
-            Stage::Opening(_) | Stage::Failed(_) => self.purpose.stall(size),
+            Stage::Recovering(_, _) | Stage::Opening(_) | Stage::Failed(_) => self
+                .purpose
+                .stall(size),
             Stage::Store(_) | Stage::Image(_) => OTHER_KIND,
         }
     }

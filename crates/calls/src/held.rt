@@ -2,7 +2,7 @@
 use bot_machine::{Identity, PacketSize, StartFault};
 use disk_machine::DiskMachine;
 use image_calls::{ImageMachine, ImagePlan};
-use opening::Opening;
+use opening::{Opening, Recovering};
 use store_calls::StoreMachine;
 
 /// What a handle holds, and what it was started for.
@@ -28,6 +28,8 @@ pub enum Purpose {
 /// How far it has come.
 #[derive(Drop)]
 pub enum Stage {
+    /// The image on a device of so many sectors is recovered.
+    Recovering(Box<Recovering>, u64),
     /// The first sectors are read.
     Opening(Opening),
     /// A disk is there, and may still be starting.

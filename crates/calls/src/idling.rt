@@ -42,7 +42,7 @@ impl Held {
         match &mut self.stage {
             Stage::Disk(disk) => code_of(disk.idle()),
             Stage::Store(store) => code_of(store.idle()),
-            Stage::Opening(_) | Stage::Failed(_) => self.purpose.rests(),
+            Stage::Recovering(_, _) | Stage::Opening(_) | Stage::Failed(_) => self.purpose.rests(),
             Stage::Image(_) => OTHER_KIND,
         }
     }
@@ -53,7 +53,9 @@ impl Held {
     {
         match &mut self.stage {
             Stage::Disk(disk) => code_of(disk.look_ahead(first, count)),
-            Stage::Opening(_) | Stage::Failed(_) => self.purpose.reads_none(),
+            Stage::Recovering(_, _) | Stage::Opening(_) | Stage::Failed(_) => self
+                .purpose
+                .reads_none(),
             Stage::Store(_) | Stage::Image(_) => OTHER_KIND,
         }
     }

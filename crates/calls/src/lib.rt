@@ -15,6 +15,7 @@ mod imaging;
 mod memory;
 mod moves;
 mod options;
+mod recover;
 mod reserve;
 mod starting;
 mod state;

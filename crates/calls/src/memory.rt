@@ -4,6 +4,7 @@ ghost use Rattle.calls.specs.Memory.{TellsMemory, memory_on};
 ghost use Rattle.disk_calls.specs.Room.{slot_memory};
 
 use crate::reserve::AHEAD;
+use disk_calls::room_for;
 use journal::LogFormat;
 
 // What the box behind a handle takes.
@@ -30,7 +31,7 @@ fn memory_on(format: LogFormat, slots: u64) -> u64
 {
     let near = 2 + format.slot_sectors() * slots;
     let limit = u64::from(format.limit());
-    let room = store_calls::room_for(format, slots) + AHEAD as u64;
+    let room = room_for(format) + AHEAD as u64;
     512 * near + (512 + 2096) * limit + 528 * room + slot_memory(format) * slots + KEPT
 }
 

@@ -3,6 +3,7 @@ ghost use Rattle.std.specs.Prelude.{◌≡◌, MatchOption};
 ghost use Rattle.calls.specs.Reserve.{IsReserve, HasSuper, IsTheSuper};
 ghost use Rattle.journal.specs.Formats.{shape_of};
 
+use disk_calls::room_for;
 use journal::Super;
 
 const SECTOR: usize = 512;
@@ -25,7 +26,7 @@ pub(crate) fn reserve_for(near: &[u8]) -> Reserve
     match super_of(near) {
         Some(sizes) => Reserve {
             span: sizes.format.limit(),
-            room: store_calls::room_for(sizes.format, sizes.slots) as usize + AHEAD,
+            room: room_for(sizes.format) as usize + AHEAD,
         },
         None => Reserve {
             span: 0,

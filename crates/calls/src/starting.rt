@@ -1,15 +1,17 @@
 //! Something starts behind a handle, and stops.
-ghost use Rattle.std.specs.Prelude.{◌≡◌, ◌≢◌, MatchOption};
+ghost use Rattle.std.specs.Prelude.{◌≡◌, ◌≢◌, ◌⊎◌, MatchOption, Some};
 ghost use Rattle.std.specs.Option.{SomeIff};
 ghost use Rattle.spec.specs.Packets.{bytes_of};
 ghost use Rattle.spec.specs.Identification.{IsLegible};
 ghost use Rattle.disk_calls.specs.Starting.{identity_of};
 ghost use Rattle.calls.specs.Starting.{StartsDisk, StartsStore, Opens, Stops, started, first_stage};
+ghost use Rattle.calls.specs.Starting.{Recovers};
 
 use crate::handle::UsbDisk;
 use crate::held::{Held, Purpose, Stage};
 use crate::moves::{adopt, holds_any, reclaim};
 use crate::options::UsbDiskOptions;
+use crate::recover::first_call;
 use bot_machine::{Identity, PacketSize, StartFault};
 use disk_calls::{ACK, BAD_IDENTITY, BAD_PACKET_SIZE, EMPTY, STARTED, UsbDiskIdentity, number_of};
 use opening::{Opening, Reach};
@@ -29,7 +31,7 @@ pub fn start_disk(alloc: Global, h: &mut UsbDisk, options: &UsbDiskOptions) -> u
         return BAD_IDENTITY;
     };
     let disk = Purpose::Disk(identity, size);
-    open(alloc, h, disk, options.sectors, Reach::Near)
+    recover(alloc, h, disk, options.sectors)
 }
 
 /// A store starts behind a handle that holds nothing. Of the options it reads the sectors alone.
@@ -39,7 +41,7 @@ pub fn start_store(alloc: Global, h: &mut UsbDisk, options: &UsbDiskOptions) -> 
     if holds_any(h, alloc) {
         return STARTED;
     }
-    open(alloc, h, Purpose::Store, options.sectors, Reach::Near)
+    recover(alloc, h, Purpose::Store, options.sectors)
 }
 
 /// What a handle holds goes.
@@ -63,7 +65,25 @@ pub(crate) fn open(
     ensures { Opens purpose sectors reach h.old.held h.new.held result }
 {
     let stage = first_stage(alloc, sectors, reach);
-    match Box::new(alloc, Held { purpose, stage }) {
+    hold(alloc, h, Held { purpose, stage })
+}
+
+// What is started goes into a handle that holds nothing. Its image is to be recovered first.
+fn recover(alloc: Global, h: &mut UsbDisk, purpose: Purpose, sectors: u64) -> u32
+    ensures { Recovers purpose sectors h.old.held h.new.held result }
+{
+    match first_call(alloc, sectors) {
+        Some(stage) => hold(alloc, h, Held { purpose, stage }),
+        None => number_of(StartFault::NoMemory),
+    }
+}
+
+// This goes into a handle that holds nothing, or there is no memory for it.
+fn hold(alloc: Global, h: &mut UsbDisk, held: Held) -> u32
+    ensures { ((result ≡ 0) × (h.new.held ≡ Some held))
+        ⊎ ((result ≡ 1) × (h.new.held ≡ h.old.held)) }
+{
+    match Box::new(alloc, held) {
         Ok(held) => {
             adopt(h, alloc, held);
             ACK

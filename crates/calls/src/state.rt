@@ -38,7 +38,7 @@ impl Held {
     {
         *fault = 0;
         match &self.stage {
-            Stage::Opening(_) => code_of(MachineState::Starting),
+            Stage::Recovering(_, _) | Stage::Opening(_) => code_of(MachineState::Starting),
             Stage::Disk(disk) => code_of(disk.state()),
             Stage::Store(store) => code_of(store.state()),
             Stage::Image(image) => code_of_image(image.state(), fault),

@@ -73,7 +73,7 @@ impl Held {
                 *limit = sizes.limit;
                 ACK
             }
-            Stage::Opening(_) => self.purpose.code_before(BUSY),
+            Stage::Recovering(_, _) | Stage::Opening(_) => self.purpose.code_before(BUSY),
             Stage::Failed(why) => self.purpose.code_before(number_of(*why)),
             Stage::Disk(_) | Stage::Image(_) => OTHER_KIND,
         }
@@ -84,7 +84,7 @@ impl Held {
     {
         match &mut self.stage {
             Stage::Store(store) => code_of(store.read(block, to)),
-            Stage::Opening(_) => self.purpose.code_before(BUSY),
+            Stage::Recovering(_, _) | Stage::Opening(_) => self.purpose.code_before(BUSY),
             Stage::Failed(why) => self.purpose.code_before(number_of(*why)),
             Stage::Disk(_) | Stage::Image(_) => OTHER_KIND,
         }
@@ -95,7 +95,7 @@ impl Held {
     {
         match &mut self.stage {
             Stage::Store(store) => code_of(store.write(block, bytes)),
-            Stage::Opening(_) => self.purpose.code_before(BUSY),
+            Stage::Recovering(_, _) | Stage::Opening(_) => self.purpose.code_before(BUSY),
             Stage::Failed(why) => self.purpose.code_before(number_of(*why)),
             Stage::Disk(_) | Stage::Image(_) => OTHER_KIND,
         }
@@ -106,7 +106,7 @@ impl Held {
     {
         match &mut self.stage {
             Stage::Store(store) => code_of(store.sync()),
-            Stage::Opening(_) => self.purpose.code_before(BUSY),
+            Stage::Recovering(_, _) | Stage::Opening(_) => self.purpose.code_before(BUSY),
             Stage::Failed(why) => self.purpose.code_before(number_of(*why)),
             Stage::Disk(_) | Stage::Image(_) => OTHER_KIND,
         }

@@ -36,6 +36,13 @@ impl Held {
         ensures { TellsDone content ok bytes.now self.old self.new result }
     {
         match &mut self.stage {
+            Stage::Recovering(recovering, _) => match recovering.done(ok, bytes) {
+                Ok(()) => {
+                    self.recover_on(alloc);
+                    ACK
+                }
+                Err(fault) => code_of(fault),
+            },
             Stage::Opening(opening) => match opening.done(ok, bytes) {
                 Ok(end) => {
                     self.go_on(alloc, end);

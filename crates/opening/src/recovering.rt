@@ -37,11 +37,13 @@ impl Recovering {
     }
 
     /// What the device was asked for last has ended, good or not; of a read these are the bytes of
-    /// the sector. A call that it refused is its last.
+    /// the sector. A call that it refused is its last. It stands apart, so that it does not lie on
+    /// the stack under what begins then.
     ///
     /// # Errors
     /// `NothingAsked` where the device is at no call, and `BadLength` where the bytes are not those
     /// of a sector. Nothing changes then.
+    #[inline(never)]
     pub fn done(&mut self, ok: bool, bytes: &[u8]) -> Result<(), DoneFault>
         ensures hears { HearsOfRecovery self.old ok bytes.now result self.new }
         ensures goes_on { GoesOnHeard self.old ok bytes.now result self.new }

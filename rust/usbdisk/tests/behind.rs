@@ -175,7 +175,7 @@ fn live(log: u32, refused: u32) -> bool {
     let mut device = Memory::with_image(log);
     let mut bench = Bench::new(&mut device, refused);
     bench.catch_up();
-    if bench.disk.state() == State::Faulted {
+    if matches!(bench.disk.state(), State::Faulted | State::Failed(_)) {
         return true;
     }
     assert_eq!(bench.sense(), [6, 0x29, 0]);
@@ -311,6 +311,8 @@ fn what_does_not_fit_is_refused_by_name() {
     assert_eq!(disk.next(&mut []), Err(Misuse::BadLength));
     assert_eq!(disk.next(&mut [0; 513]), Err(Misuse::BadLength));
     assert_eq!(disk.in_(&mut [0; 63]), Err(Misuse::BadLength));
+    assert_eq!(disk.next(&mut [0; SECTOR]), Ok(Call::Flush));
+    assert_eq!(disk.done(true, &[]), Ok(()));
     let (sector, count) = (0, 1);
     let asked = Call::Read { sector, count };
     assert_eq!(disk.next(&mut [0; SECTOR]), Ok(asked));
