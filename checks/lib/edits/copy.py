@@ -2,6 +2,7 @@
 
 import dataclasses
 import os
+import re
 
 from lib import sources
 from lib.edits import answers, twins
@@ -37,6 +38,8 @@ class Copy:
         for edit in edits if narrows else ():
             if (edit.untried or edit.tried) and self.functions[edit] and not edit.is_control:
                 self.leave(edit, self.functions[edit])
+                if edit.tried:
+                    self.search_nothing(edit)
 
     def change(self):
         """Makes the changes of the edits that stand in their functions themselves."""
@@ -92,6 +95,16 @@ class Copy:
         lines = answers.with_tries(answers.without_answers(text, edit.untried), function, [edit.tried] if edit.tried else [])
         self.narrowed[function] = Narrowed(path, len(lines))
         self.texts[path] = "\n".join(lines + answers.left_open(edit.untried))
+
+    def search_nothing(self, edit):
+        """Has the check of an edited function search for none of its goals by itself: so a goal without an answer costs nothing. Where an attribute
+        tells how it searches, that stays. No line moves."""
+        file, first, last = dataclasses.astuple(self.spans[edit][0])
+        lines = self.text(file).split("\n")
+        at = twins.line_of(self.functions[edit], lines, first - 1, last)
+        if at is not None and not twins.tells_tactic(lines, at):
+            lines[at] = re.sub("^ *", r"\g<0>#[tactic(none)] ", lines[at])
+            self.texts[file] = "\n".join(lines)
 
     def text(self, file):
         return self.texts[file] if file in self.texts else sources.text_of(f"{self.crate.folder}/{file}")

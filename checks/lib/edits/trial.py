@@ -151,7 +151,9 @@ class Trial:
         """Writes into an edit that is refused which of its goals its check does not have to try."""
         edit, copy, report = found.edit, checked.copy, checked.report
         name = checked.name_of(edit)
-        if name and not found.why and not found.is_weak and name == copy.functions[edit] and not report.may_have_lost(name, ()):
+        # (of an edit that tries a goal the other goals are not searched for)
+        tries = edit.tried and copy.functions[edit] in copy.narrowed
+        if name and not tries and not found.why and not found.is_weak and name == copy.functions[edit] and not report.may_have_lost(name, ()):
             known = edit.untried if copy.functions[edit] in copy.narrowed else ()
             notes.note(edit, report.refused_goals(name), report.searched_goals(name, copy.spans[edit]), known)
 

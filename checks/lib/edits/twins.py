@@ -31,6 +31,21 @@ def twin_text(edit, ending, changes=()):
     return "\n".join([above[0], *uses, text, "}\n"])
 
 
+def line_of(function, lines, begin, end):
+    """The number of the line, from 0 on, of these lines that has the name of the function, or None."""
+    name = re.compile(rf"\bfn {re.escape(function.split('::')[-1])}\b")
+    return next((n for n in range(begin, end) if name.search(lines[n])), None)
+
+
+def tells_tactic(lines, at):
+    """Whether an attribute above the line of a function's name tells how its goals are searched."""
+    while at and lines[at - 1].strip() and not lines[at - 1].endswith(("{", "}")):
+        at -= 1
+        if "#[tactic(" in lines[at]:
+            return True
+    return False
+
+
 @functools.lru_cache(maxsize=None)
 def can_be_twin(edit):
     return bool(edit.function) and bool(twin_text(edit, "x"))

@@ -67,6 +67,22 @@ class Copies(unittest.TestCase):
         narrowed = copy.narrowed["toy::other"]
         self.assertEqual(narrowed, Narrowed("proofs/other/Answers.antt", lines.index("not_tried = ?") - 1))
 
+    def test_of_a_function_with_a_goal_that_is_tried_nothing_else_is_searched(self):
+        one, six, three = self.edits("one_is_three.edit", "two_is_six.edit", "leaves_all.edit")
+        copy = Copy(self.crate, [one, six, three], narrows=True)
+        text, was = copy.texts["src/lib.rt"], Copy(self.crate, [one, six, three]).texts["src/lib.rt"]
+        self.assertEqual(text.replace("#[tactic(none)] ", ""), was)
+        told = [it for it in text.split("\n") if "tactic(none)" in it]
+        self.assertEqual([it.split("(number")[0] for it in told], [f"#[tactic(none)] pub fn other{it}" for it in ("", "_twin_1")])
+
+    def test_an_attribute_that_tells_how_goals_are_searched_stays(self):
+        with open(f"{self.crate.folder}/src/lib.rt", encoding="utf-8") as file:
+            text = file.read().replace("pub fn other", "#[tactic(auto, using(one))]\npub fn other")
+        with open(f"{self.crate.folder}/src/lib.rt", "w", encoding="utf-8") as file:
+            file.write(text)
+        copy = Copy(self.crate, self.edits("one_is_three.edit"), narrows=True)
+        self.assertNotIn("tactic(none)", copy.texts["src/lib.rt"])
+
     def test_answers_to_goals_that_are_not_tried_go(self):
         text = "use a\n\npub one : goal.one\none c =\n  b\n\npub two : goal.two\ntwo c = d\n"
         self.assertEqual(answers.without_answers(text, ("one",)), ["use a", "", "pub two : goal.two", "two c = d", ""])

@@ -91,6 +91,7 @@ EDITS = {
     "others_are_seven.edit": "file: src/lib.rt\nold: { 5 } else { number }\nnew: { 5 } else { 7 }\n",
     "names_no_goal.edit": "file: src/lib.rt\nold: 5 } else\nnew: 6 } else\nuntried: returns-never\n",
     "leaves_all.edit": f"file: src/lib.rt\nold: 5 }} else\nnew: 6 }} else\nuntried: {MORE}\n",
+    "two_is_still_five.edit": f"file: src/lib.rt\nold: 5 }} else\nnew: 2 + 3 }} else\ntried: {MORE} c\n",
     "two_is_three.edit": "file: src/lib.rt\nold: TWO: u32 = 2\nnew: TWO: u32 = 3\n",
     "a_name_of_none.edit": "file: src/lib.rt\nold: bytes.len() == 0\nnew: bytes.len() == none\n",
     "a_clause_of_none.edit": "file: src/lib.rt\nold: self.new ≡ true\nnew: self.new ≡ none_such\n",
@@ -124,6 +125,7 @@ class Question:
 QUESTIONS = (
     Question("bodies", ("empty_is_one_byte.edit", "full_is_empty.edit", "sets_nothing.edit", "leaves_the_mark.edit", CONTROL)),
     Question("tries", ("one_is_three.edit", "two_is_six.edit", "full_is_empty.edit")),
+    Question("kept", ("one_is_three.edit", "two_is_still_five.edit"), wrong={"two_is_still_five.edit": "NOT REFUSED"}),
     Question("missed", ("others_are_seven.edit", "full_is_empty.edit"), wrong={"others_are_seven.edit": "NOT REFUSED"}),
     Question("wrong_notes", ("names_no_goal.edit", "leaves_all.edit", "sets_nothing.edit")),
     Question("whole", ("both.edit",)),
