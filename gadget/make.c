@@ -250,8 +250,8 @@ static bool read_layout(struct place *place, struct usbdisk_layout *layout)
     return !fault || refuse_image(place, fault);
 }
 
-/* Starts a disk on it in memory alone: all that it reads is read, and nothing of what it would
- * write is carried out. Answers why there is none, or 0. */
+/* Starts a disk on it in memory alone, up to the first WRITE: by then all is read that may be wrong
+ * with an image, and a FLUSH before it has nothing to do. Answers why there is none, or 0. */
 static uint32_t start(struct place *place)
 {
     static uint8_t buffer[USBDISK_IO_MOST * 512];
@@ -261,8 +261,9 @@ static uint32_t start(struct place *place)
     memset(&options.identity, ' ', sizeof options.identity);
     uint32_t fault = usbdisk_start(&disk, &options);
     while (!fault && !usbdisk_next(&disk, &call, buffer, sizeof buffer) &&
-           call.kind == USBDISK_READ) {
-        bool ok = read_sectors(&place->disk, buffer, call.sector, call.count);
+           call.kind != USBDISK_WRITE) {
+        bool ok = call.kind == USBDISK_FLUSH ||
+                  read_sectors(&place->disk, buffer, call.sector, call.count);
         usbdisk_done(&disk, ok, buffer, ok ? call.count * 512 : 0);
         usbdisk_state(&disk, &fault);
     }
