@@ -1,5 +1,5 @@
 -- Where the parts of a medium stand: super, head, slots of the log, and blocks at home.
-use Rattle.std.specs.Prelude.{◌≤◌, ◌<◌, ℕ, ◌+◌, ◌*◌, ◌/◌}
+use Rattle.std.specs.Prelude.{◌≤◌, ◌<◌, ℕ, ◌+◌, ◌*◌, ◌/◌, ◌^◌, Option, Some, None}
 use Rattle.journal.specs.declared.log_format.LogFormat.{LogFormat}
 use Rattle.journal.specs.declared.log_format.LogFormat.TheVariants.{One, Two}
 
@@ -41,8 +41,8 @@ abbrev pub gap_of : LogFormat → ℕ
 gap_of One = 1
 gap_of Two = 249
 
--- Home begins where a log of `slots` slots ends. In format 2 less than a slot may lie between them,
--- which is what a migration leaves.
+-- Home begins where a log of `slots` slots ends. In format 2 less than a slot may lie between them:
+-- a migration leaves that, and a page of the device may begin there.
 abbrev pub IsFirstHome : LogFormat → ℕ → ℕ → Type 0
 IsFirstHome format slots home =
     (2 + slot_sectors_of format * slots ≤ home)
@@ -64,6 +64,24 @@ new_shape format blocks slots = record {
   slots = slots;
   home = 2 + slot_sectors_of format * slots;
 }
+
+-- the same, with home in this sector where one is given
+abbrev pub shape_with : LogFormat → ℕ → ℕ → Option ℕ → Shape
+shape_with format blocks slots None = new_shape format blocks slots
+shape_with format blocks slots (Some home) = record {
+  format = format;
+  blocks = blocks;
+  slots = slots;
+  home = home;
+}
+
+-- the sizes are in their limits, and home begins where it may
+pub record IsInLimits (shape : Shape) : Type 0 where
+  pub some_blocks : 1 ≤ shape.blocks
+  pub most_blocks : shape.blocks ≤ 2 ^ 31
+  pub some_slots : 1 ≤ shape.slots
+  pub most_slots : shape.slots ≤ 64
+  pub home_is : IsFirstHome shape.format shape.slots shape.home
 
 -- The shape after a migration to format 2: the same blocks at home in the same sectors, and as many
 -- slots as lie in the log of format 1.

@@ -1,7 +1,8 @@
 //! The super: the format of a medium, and how many blocks and log slots it has.
 ghost use Rattle.std.specs.Prelude.{◌≡◌, ◌⊎◌, ◌≤◌, ◌<◌, ◌+◌, ◌*◌, ◌^◌, ◌↔◌};
-ghost use Rattle.std.specs.Prelude.{IsTrue, IfOk, IsOkAnd, IfErr, IfSome, IsSomeAnd};
-ghost use Rattle.journal.specs.Places.{IsFirstHome, slot_sectors_of};
+ghost use Rattle.std.specs.Prelude.{IsTrue, IfOk, IsOkAnd, IfErr, IfSome, IsSomeAnd, MatchOption};
+ghost use Rattle.std.specs.Prelude.{Some};
+ghost use Rattle.journal.specs.Places.{IsFirstHome, IsInLimits, shape_with, slot_sectors_of};
 ghost use Rattle.journal.specs.Sectors.{version_of};
 
 use crate::fields::{has_zero_rest, mark_number, number_at, spell};
@@ -44,6 +45,26 @@ impl Super {
             blocks,
             slots,
             home: FIRST_SLOT + format.slot_sectors() * slots,
+        }
+    }
+
+    /// The super of a medium whose block 0 is at home in sector `home`, as where a page of its
+    /// device begins: directly behind the log, or in format 2 up to 248 sectors further.
+    ///
+    /// None where a size is out of its limits, or home lies elsewhere.
+    pub fn with_home(format: LogFormat, blocks: u64, slots: u64, home: u64) -> Option<Super>
+        ensures { let shape = shape_with format blocks slots (Some home) in
+            MatchOption result (¬ IsInLimits shape) (λ sizes. shape_of sizes ≡ shape) }
+    {
+        if are_sizes(format, blocks, slots, home) {
+            Some(Super {
+                format,
+                blocks,
+                slots,
+                home,
+            })
+        } else {
+            None
         }
     }
 
@@ -118,14 +139,8 @@ impl Super {
         }
         let (blocks, slots) = (number_at(sector, 2), number_at(sector, 3));
         let home = number_at(sector, 5);
-        if !are_sizes(format, blocks, slots, home) {
+        let Some(sizes) = Super::with_home(format, blocks, slots, home) else {
             return Err(SuperFault::Sizes);
-        }
-        let sizes = Super {
-            format,
-            blocks,
-            slots,
-            home,
         };
         if sizes.encode() == *sector {
             Ok(sizes)
