@@ -8,7 +8,7 @@ use Rattle.medium.specs.declared.fault.MediumFault.{MediumFault}
 use Rattle.medium.specs.declared.fault.MediumFault.TheVariants.{Read}
 use Rattle.journal.specs.declared.log_format.LogFormat.{LogFormat}
 use Rattle.journal.specs.declared.log_format.LogFormat.TheVariants.{One, Two}
-use Rattle.journal.specs.Places.{limit_of, slot_sectors_of}
+use Rattle.journal.specs.Places.{limit_of, slot_sectors_of, IsFirstHome}
 use Rattle.journal.specs.Standing.{HasShape}
 use Rattle.journal.specs.Sectors.{IsHead, IsSuper}
 use Rattle.journal.specs.Format2.{descriptors_of}
@@ -168,12 +168,13 @@ pub record HasNewHead (stamp : ℕ) (before image : Image) : Type 0 where
 
 -- ---- what a format makes
 
--- the sizes are in their limits, and `size` sectors are enough for them
+-- the sizes are in their limits, home begins where it may, and `size` sectors are enough for them
 pub record AreSizes (size : ℕ) (shape : Shape) : Type 0 where
   pub some_blocks : 1 ≤ shape.blocks
   pub most_blocks : shape.blocks ≤ 2 ^ 31
   pub some_slots : 1 ≤ shape.slots
   pub most_slots : shape.slots ≤ 64
+  pub home_is : IsFirstHome shape.format shape.slots shape.home
   pub fits : sectors_of shape ≤ size
 
 -- The one image that a cut may leave has these sizes, the head at stamp 1, and zeros everywhere

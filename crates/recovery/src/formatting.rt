@@ -1,7 +1,7 @@
 //! The making of an image.
 ghost use Rattle.std.specs.Prelude.{◌≡◌, ◌<◌, ◌≤◌, ◌+◌, ◌*◌, OnOk, OnErr, IfErr, MatchOption};
 ghost use Rattle.journal.specs.declared.log_format.LogFormat.TheVariants.{One, Two};
-ghost use Rattle.journal.specs.Places.{new_shape, sectors_of, slot_sectors_of};
+ghost use Rattle.journal.specs.Places.{new_shape, shape_with, sectors_of, slot_sectors_of};
 ghost use Rattle.journal.specs.Formats.{shape_of};
 ghost use Rattle.recovery.specs.Calls.{CallsUpTo, AreSizes, IsFormatted, FormatLeaves};
 ghost use Rattle.recovery.specs.Calls.{IsFormatCause, Formats, WritesImage};
@@ -23,6 +23,30 @@ pub fn sizes_of(format: LogFormat, sectors: u64, blocks: u64, slots: u64) -> Opt
         return None;
     }
     let sizes = Super::new(format, blocks, slots);
+    if sizes.sectors() <= sectors {
+        Some(sizes)
+    } else {
+        None
+    }
+}
+
+/// The same, with block 0 at home in this sector where one is given: directly behind the log, or in
+/// format 2 up to 248 sectors further.
+pub fn sizes_with(
+    format: LogFormat,
+    sectors: u64,
+    blocks: u64,
+    slots: u64,
+    home: Option<u64>,
+) -> Option<Super>
+    ensures { let shape = shape_with format blocks slots home in
+        MatchOption result (¬ AreSizes sectors shape)
+        (λ sizes. (shape_of sizes ≡ shape) × AreSizes sectors shape) }
+{
+    let Some(home) = home else {
+        return sizes_of(format, sectors, blocks, slots);
+    };
+    let sizes = Super::with_home(format, blocks, slots, home)?;
     if sizes.sectors() <= sectors {
         Some(sizes)
     } else {

@@ -26,7 +26,7 @@ mod survey;
 mod surveying;
 
 pub use format_fault::FormatFault;
-pub use formatting::{format, format2, make, sizes_of};
+pub use formatting::{format, format2, make, sizes_of, sizes_with};
 pub use inspection::{Inspection, inspect};
 pub use laying::lay_log;
 pub use migration::migrate;

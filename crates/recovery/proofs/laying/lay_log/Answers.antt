@@ -1,19 +1,18 @@
-use Rattle.std.proofs.Common.{◌+◌, ap, arith, OnOk}
-use Rattle.journal.specs.Places.{first_home, new_shape}
+use Rattle.std.proofs.Common.{◌+◌, arith, OnOk}
+use Rattle.journal.specs.Places.{first_home}
+use Rattle.journal.specs.Formats.{shape_of}
 use Rattle.recovery.specs.Calls.{IsLaid, LayingLeaves}
 use Rattle.recovery.proofs.JoinedCalls.{image_made}
 use Rattle.recovery.proofs.laying.lay_log.Goals as goal
 use Rattle.recovery.proofs.laying.lay_log.Goals.{After-write_image}
 
 -- an image is made around what home held
-made : (g : _) (c : After-write_image g) → let shape = new_shape c.args.format c.args.blocks c.args.slots in
+made : (g : _) (c : After-write_image g) → let shape = shape_of c.args.sizes.now in
     OnOk c.write_image.result (IsLaid shape (g.M.Medium.state c.args.m.now) (g.M.Medium.state c.write_image.new.m))
     × LayingLeaves shape (g.M.Medium.state c.args.m.now) (g.M.Medium.state c.write_image.new.m)
 made g c =
-    let shape = new_shape c.args.format c.args.blocks c.args.slots in
-    let sized = rw c.in_ok-sizes.ensures.ok_part at c.sizes_of.ensures in
-    image_made _ (rw (sized.0, ap first_home sized.0) at c.write_image.ensures.image)
-    (rw c.sectors.ensures at sized.1.fits) (omega arith)
+    let shape = shape_of c.args.sizes.now in
+    image_made _ c.write_image.ensures.image (omega (arith, c.sectors.ensures, c.sectors-2.ensures, c.if-sectors.false)) (omega arith)
     (λ image is b below. is.behind (first_home shape + b) (omega arith))
 
 pub returns-clause-ok : goal.returns-clause-ok
