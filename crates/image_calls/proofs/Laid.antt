@@ -5,7 +5,7 @@ use Rattle.medium.specs.Sent.{sent}
 use Rattle.std.specs.Prelude.{Bool}
 use Rattle.window.specs.Window.{Window, state_of, kept_out, ComesAfter, CoversDevice}
 use Rattle.window.specs.Looks.{near_in_sight, none_missed}
-use Rattle.journal.specs.Places.{Shape, first_home, slot_sectors_of}
+use Rattle.journal.specs.Places.{Shape, first_home}
 use Rattle.recovery.specs.Calls.{MakesNoRead}
 use Rattle.recovery.specs.Calls.{IsLaid, LayingLeaves}
 use Rattle.recovery.specs.Causes.{start_fault_of}
@@ -107,15 +107,15 @@ migrated_not first m after why on empty refusal leaves follows =
 -- ---- a format that has begun
 
 -- there is room for each of its parts
-has_room : (shape : Shape) (plan : Plan) (first new : Window) → slot_sectors_of shape.format * shape.slots + 7 ≤ first.room
+has_room : (shape : Shape) (plan : Plan) (first new : Window) → first_home shape + 5 ≤ first.room
     → ComesAfter first new → shape ≡ shape_of plan.sizes → HasRoom (Some plan) new
 has_room shape plan first new room follows same =
-    subst (λ (s : Shape). slot_sectors_of s.format * s.slots + 7 ≤ new.room) same (omega (arith, room, follows.room_stays))
+    subst (λ (s : Shape). first_home s + 5 ≤ new.room) same (omega (arith, room, follows.room_stays))
 
 -- two calls wait
 pub begins : (shape : Shape) (first m new : Window) (plan : Plan) (held : Work) → m ≡ first
     → held ≡ record { medium = new; left = Some plan }
-    → first.room ≡ slot_sectors_of shape.format * shape.slots + 7 → IsBegun shape plan (state_of m) (state_of new) → ComesAfter m new
+    → first.room ≡ first_home shape + 5 → IsBegun shape plan (state_of m) (state_of new) → ComesAfter m new
     → CoversDevice m new → BeginsFormat shape first held
 begins shape first m new plan held on same room begun follows covers =
     subst (λ (w : Work). BeginsFormat shape first w) (sym same)

@@ -1,14 +1,16 @@
--- A plan that the medium is too short for does not fit.
-use Rattle.std.proofs.Common.{◌-◌, ◌*◌, ◌≤◌, ◌++◌, ℕ, List, length, arith, length-append}
+-- A medium for a plan that fits refuses no call that the plan makes.
+use Rattle.std.proofs.Common.{◌≡◌, ◌-◌, ◌*◌, ◌+◌, ◌≤◌, ◌<◌, ◌++◌, ℕ, List, length, arith, length-append, ap, sym, subst}
 use Rattle.std.proofs.lemmas.List.{length-take, length-replicate}
 use Rattle.std.specs.Prelude.{replicate, take}
-use Rattle.window.specs.Window.{state_of}
-use Rattle.recovery.specs.Calls.{AreSizes}
-use Rattle.image_calls.specs.Images.{IsLayFault}
-use Rattle.image_calls.specs.Plans.{shape_by, medium_by, IsPlanFault}
-use Rattle.image_calls.specs.declared.image_fault.ImageFault.{ImageFault}
-use Rattle.image_calls.specs.declared.image_fault.ImageFault.TheVariants as fault
+use Rattle.window.specs.Window.{Window, state_of, ComesAfter}
+use Rattle.journal.specs.Places.{Shape, first_home}
+use Rattle.recovery.specs.Calls.{AreSizes, IsFormatCause}
+use Rattle.recovery.specs.declared.format_fault.FormatFault.{FormatFault}
+use Rattle.recovery.specs.declared.format_fault.FormatFault.TheVariants as format_fault
+use Rattle.image_calls.specs.Parts.{SendsPart}
+use Rattle.image_calls.specs.Plans.{shape_by, medium_by}
 use Rattle.image_calls.specs.declared.image_plan.ImagePlan.{ImagePlan}
+use Rattle.image_calls.proofs.Laid.{none_refused}
 
 module _ (near holds : List ℕ) (plan : ImagePlan) where
   -- the medium has as many sectors as the plan says, or more
@@ -27,11 +29,24 @@ module _ (near holds : List ℕ) (plan : ImagePlan) where
     most_blocks = sizes.most_blocks;
     some_slots = sizes.some_slots;
     most_slots = sizes.most_slots;
+    home_is = sizes.home_is;
     fits = omega (arith, sizes.fits, size_is);
   }
 
-  pub plan_fault : (why : ImageFault) → IsLayFault near plan.sectors (shape_by plan) (medium_by near holds plan) why
-      → IsPlanFault near plan why
-  plan_fault fault.Length is = is
-  plan_fault fault.Sizes is = λ sizes. is (sizes_on sizes)
-  plan_fault (fault.Start why) is = is
+  -- so many calls that read nothing
+  pub never_fails : (shape : Shape) (m new : Window) (fault : FormatFault) (most : ℕ) → m ≡ medium_by near holds plan
+      → shape ≡ shape_by plan → AreSizes plan.sectors (shape_by plan) → ComesAfter m new
+      → SendsPart most (state_of m) (state_of new) → most ≤ first_home shape + 5
+      → IsFormatCause shape (state_of m) (state_of new) fault → ⊥
+  never_fails shape m new format_fault.BadSize most on same sizes follows sends few cause =
+      cause (subst (λ (s : Shape). AreSizes (state_of m).size s) (sym same)
+      (subst (λ (w : Window). AreSizes (state_of w).size (shape_by plan)) (sym on) (sizes_on sizes)))
+  never_fails shape m new format_fault.Medium most on same sizes follows sends few cause =
+      none_refused m new follows (omega (
+        arith,
+        ap (λ (w : Window). length w.outbox) on,
+        ap (λ (w : Window). w.room) on,
+        ap (λ (s : Shape). first_home s) same,
+        sends.1,
+        few,
+      )) sends.0 cause.1

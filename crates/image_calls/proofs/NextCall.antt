@@ -8,7 +8,7 @@ use Rattle.medium.proofs.SparedSectors.{spared_joined, spared_unchanged}
 use Rattle.mirror.specs.declared.call.DeviceCall.{DeviceCall}
 use Rattle.window.specs.Window.{Window, state_of, take_first, ComesAfter, CoversDevice}
 use Rattle.window.specs.WindowLaws.{is_sound, comes_after_through}
-use Rattle.journal.specs.Places.{Shape, sectors_of, slot_sectors_of}
+use Rattle.journal.specs.Places.{Shape, sectors_of}
 use Rattle.journal.specs.Sectors.{IsSuper, IsHead}
 use Rattle.journal.specs.Standing.{IsOurs}
 use Rattle.recovery.specs.Calls.{FormatLeaves, IsMidway}
@@ -43,7 +43,6 @@ module _ (shape : Shape) (first now new : Window) (same : IsUnchanged (state_of 
 
   under_on : (at : ℕ) → IsUnderWay shape at (state_of first) (state_of now) → IsUnderWay shape at (state_of first) (state_of new)
   under_on at under = record {
-    anew = under.anew;
     sizes = under.sizes;
     leaves = leaves_on under.leaves;
     from_home = under.from_home;
@@ -85,7 +84,7 @@ has_room_on None now new same room = tt
 has_room : (shape : Shape) (plan : Plan) (left : Option Plan) (first old new : State) (was is : Window) → is.room ≡ was.room
     → IsOnWay shape (Some plan) first old → IsOnWay shape left first new → HasRoom (Some plan) was → HasRoom left is
 has_room shape plan (Some next) first old new was is same one other room =
-    subst (λ (s : Shape). slot_sectors_of s.format * s.slots + 7 ≤ is.room) (sym one.0 ∙ other.0) (omega (arith, room, same))
+    subst (λ (s : Shape). s.home + 5 ≤ is.room) (sym one.0 ∙ other.0) (omega (arith, room, same))
 has_room shape plan None first old new was is same one other room = tt
 
 module _ (old mid : Work) (follows : ComesAfter old.medium mid.medium)
@@ -107,7 +106,7 @@ module _ (old mid : Work) (follows : ComesAfter old.medium mid.medium)
 
   module _ (plan : Plan) (some : mid.left ≡ Some plan) (nothing : length mid.medium.outbox ≡ 0) (new : Window)
       (later : ComesAfter mid.medium new)
-      (few : SendsPart (slot_sectors_of plan.sizes.format * plan.sizes.slots + 7) (state_of mid.medium) (state_of new)) where
+      (few : SendsPart (plan.sizes.home + 5) (state_of mid.medium) (state_of new)) where
     was : (shape : Shape) (first : Window) → IsFormatting shape first old
         → IsOnWay shape (Some plan) (state_of first) (state_of mid.medium) × HasRoom (Some plan) mid.medium
     was shape first formatting = let now = keeps shape first formatting in (

@@ -7,7 +7,7 @@ use Rattle.medium.specs.Moments.{IsFlushed, LeavesOnly, StaysWithin, SparesFrom}
 use Rattle.spec.specs.Blocks.{Array}
 use Rattle.medium.proofs.Moments.{weaker, joined_same}
 use Rattle.medium.proofs.SparedSectors.{HasSpared, spared_joined}
-use Rattle.journal.specs.Places.{Shape, first_home, sectors_of, new_shape}
+use Rattle.journal.specs.Places.{Shape, first_home, sectors_of}
 use Rattle.journal.specs.Record.{home_of}
 use Rattle.journal.specs.Standing.{IsOurs}
 use Rattle.recovery.specs.Calls.{cleared_at, WithOrWithout, IsBetween}
@@ -33,13 +33,13 @@ first_leaves shape array end old first some zeros are sound elsewhere moments fe
 )
 
 -- the super was taken away
-pub begun : (shape : Shape) (old new : State) → shape ≡ new_shape shape.format shape.blocks shape.slots → AreSizes old.size shape
+pub begun : (shape : Shape) (old new : State) → AreSizes old.size shape
     → IsSound new → Holds 0 ZEROS old.content new.content → IsFlushed new → ((x : ℕ) → x ≢ 0 → new.content x ≡ old.content x)
     → LeavesOnly (WithOrWithout 0 ZEROS old.may_leave) old new → new.calls ≡ old.calls + 2 → new.looked ≡ old.looked
     → IsUnderWay shape (first_home shape) old new
-begun shape old new anew sizes sound holds flushed elsewhere moments counted looked =
-    let home : 2 ≤ first_home shape = subst (λ (s : Shape). 2 ≤ first_home s) (sym anew) (omega arith) in record {
-      anew = anew;
+begun shape old new sizes sound holds flushed elsewhere moments counted looked =
+    let log = sizes.home_is.0 in
+    let home : 2 ≤ first_home shape = omega (arith, log) in record {
       sizes = sizes;
       leaves = first_leaves shape BLANK (sectors_of shape) old new (omega (arith, home)) ZEROS refl sound elsewhere moments
           (omega (arith, counted)) looked;
@@ -84,14 +84,13 @@ module _ (shape : Shape) (at to : ℕ) (first mid new : State) (under : IsUnderW
     (elsewhere : (x : ℕ) → ¬ IsBetween at to x → new.content x ≡ mid.content x)
     (within : StaysWithin (cleared_at (IsBetween at to) mid.may_leave) mid new) where
   two : 2 ≤ at
-  two = omega (arith, under.from_home, subst (λ (s : Shape). 2 ≤ first_home s) (sym under.anew) (omega arith))
+  two = let log = under.sizes.home_is.0 in omega (arith, under.from_home, log)
 
   none : (image : Image) → CutLeaves (cleared_at (IsBetween at to) mid.may_leave) image → image 0 ≡ ZEROS
   none image cut = ⊎_elim (λ was. under.gone (image 0) was) (λ cleared. absurd (omega (arith, cleared.0.0, two))) (cut 0)
 
   pub cleared : new.calls ≡ mid.calls + (to - at) → new.looked ≡ mid.looked → IsUnderWay shape to first new
   cleared counted looked = record {
-    anew = under.anew;
     sizes = under.sizes;
     leaves = goes_on shape at first mid new under
         (weaker (CutLeaves (cleared_at (IsBetween at to) mid.may_leave)) (IsNoneOrNew first.size shape BLANK) mid new

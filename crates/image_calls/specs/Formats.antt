@@ -1,7 +1,7 @@
 -- A format on a device, a part at a time: the next waits where the one before it is handed out.
 use Rattle.std.specs.Prelude.{◌≡◌, ◌⊎◌, ◌+◌, ◌*◌, ◌<◌, ◌≤◌, length, Option, Some, None}
 use Rattle.window.specs.Window.{Window, state_of}
-use Rattle.journal.specs.Places.{Shape, slot_sectors_of}
+use Rattle.journal.specs.Places.{Shape}
 use Rattle.image_calls.specs.Images.{WaitFor}
 use Rattle.image_calls.specs.Parts.{IsOnWay}
 use Rattle.image_calls.specs.declared.work.Work.{Work}
@@ -9,7 +9,7 @@ use Rattle.image_calls.specs.declared.plan.Plan.{Plan}
 
 -- an outbox has room for each part
 abbrev pub HasRoom : Option Plan → Window → Type 0
-HasRoom (Some plan) m = slot_sectors_of plan.sizes.format * plan.sizes.slots + 7 ≤ m.room
+HasRoom (Some plan) m = plan.sizes.home + 5 ≤ m.room
 HasRoom None m = Unit {0}
 
 -- A format of this shape, which began on the first medium: it is under way, or made where nothing

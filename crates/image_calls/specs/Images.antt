@@ -35,12 +35,6 @@ pub record IsLaidOn (shape : Shape) (first new : Window) : Type 0 where
   pub calls : (state_of new).calls ≡ (state_of first).calls + (first_home shape + 5)
   pub waits : WaitFor first new
 
--- why none was: for want of memory, or by the lengths or the sizes
-abbrev pub IsLayFault : List ℕ → ℕ → Shape → Window → ImageFault → Type 0
-IsLayFault near sectors shape first fault.Length = IsNoLength near sectors
-IsLayFault near sectors shape first fault.Sizes = ¬ AreSizes (state_of first).size shape
-IsLayFault near sectors shape first (fault.Start why) = why ≡ NoMemory
-
 -- No read was refused, where the first sectors are all before the first home sector: none named any
 -- other.
 abbrev pub MissesNone : Window → Window → Type 0

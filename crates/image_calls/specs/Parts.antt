@@ -2,7 +2,7 @@
 use Rattle.std.specs.Prelude.{◌≡◌, ℕ, suc, ◌+◌, ◌-◌, ◌<◌, ◌≤◌, List, replicate, Option, Some, None}
 use Rattle.medium.specs.Medium.{State, Image}
 use Rattle.medium.specs.Sent.{SendsUpTo}
-use Rattle.journal.specs.Places.{Shape, first_home, sectors_of, new_shape}
+use Rattle.journal.specs.Places.{Shape, first_home, sectors_of}
 use Rattle.journal.specs.Formats.{shape_of}
 use Rattle.recovery.specs.Calls.{IsFormatted, FormatLeaves, AreSizes}
 use Rattle.recovery.specs.Calls.{MakesNoRead}
@@ -11,7 +11,6 @@ use Rattle.image_calls.specs.declared.plan.Plan.{Plan}
 -- Between two parts: home is cleared up to this sector, and there is no super. Since it was taken
 -- away, by the first two calls, no cut has left one.
 pub record IsUnderWay (shape : Shape) (at : ℕ) (first now : State) : Type 0 where
-  pub anew : shape ≡ new_shape shape.format shape.blocks shape.slots
   pub sizes : AreSizes first.size shape
   pub leaves : FormatLeaves shape first now
   pub from_home : first_home shape ≤ at

@@ -1,8 +1,8 @@
 -- What an image is begun on: by a plan, or by the super of the image that is there.
 use Rattle.std.specs.Prelude.{◌≡◌, ◌≢◌, ◌⊎◌, ℕ, ◌+◌, ◌*◌, ◌≤◌, List, length, MatchResult}
-use Rattle.std.specs.Prelude.{Result}
+use Rattle.std.specs.Prelude.{Result, Option, Some, None, zero, suc}
 use Rattle.medium.specs.Writes.{sector_of}
-use Rattle.journal.specs.Places.{Shape, new_shape, slot_sectors_of}
+use Rattle.journal.specs.Places.{Shape, shape_with, first_home}
 use Rattle.journal.specs.Sectors.{IsSuper}
 use Rattle.recovery.specs.Calls.{AreSizes, HoldsLog}
 use Rattle.recovery.specs.Recovered.{IsMigrationRefusal, most_migration_sends}
@@ -15,15 +15,19 @@ use Rattle.image_calls.specs.declared.image_fault.ImageFault.{ImageFault}
 use Rattle.image_calls.specs.declared.image_fault.ImageFault.TheVariants as fault
 use Rattle.image_calls.specs.declared.image_plan.ImagePlan.{ImagePlan}
 
+-- the sector of block 0 that a plan gives, if it gives one
+abbrev pub home_in : ℕ → Option ℕ
+home_in zero = None
+home_in (suc n) = Some (suc n)
+
 -- what is made by the plan
 abbrev pub shape_by : ImagePlan → Shape
-shape_by plan = new_shape plan.format plan.blocks plan.slots
+shape_by plan = shape_with plan.format plan.blocks plan.slots (home_in plan.home)
 
 -- The medium that the plan is carried out on: there is room for a part of a format, and for the
 -- laying of a log.
 abbrev pub medium_by : List ℕ → List ℕ → ImagePlan → Window
-medium_by near holds plan =
-    fresh plan.sectors near holds 0 (slot_sectors_of plan.format * plan.slots + 7)
+medium_by near holds plan = fresh plan.sectors near holds 0 (first_home (shape_by plan) + 5)
 
 -- why the plan is not carried out: by the lengths or the sizes, or for want of memory
 abbrev pub IsPlanFault : List ℕ → ImagePlan → ImageFault → Type 0

@@ -1,24 +1,21 @@
 //! What comes first of the work on an image: all of it, or the first part of a format.
-ghost use Rattle.std.specs.Prelude.{◌≡◌, ◌⊎◌, ◌<◌, ◌≤◌, ◌+◌, ◌*◌, ◌/◌, length};
+ghost use Rattle.std.specs.Prelude.{◌≡◌, ◌⊎◌, ◌<◌, ◌+◌, ◌/◌, length};
 ghost use Rattle.std.specs.Prelude.{IfOk, IfErr, OnOk, MatchResult};
-ghost use Rattle.journal.specs.Places.{slot_sectors_of};
 ghost use Rattle.window.specs.Window.{Window, fresh};
-ghost use Rattle.image_calls.specs.Images.{IsNoLength, IsLaidOn, IsLayFault};
+ghost use Rattle.image_calls.specs.Images.{IsNoLength, IsLaidOn};
 ghost use Rattle.image_calls.specs.Images.{IsMigratedOn, IsMigratedNot, IsWhole};
 ghost use Rattle.image_calls.specs.Formats.{BeginsFormat};
-ghost use Rattle.image_calls.specs.Plans.{shape_by, medium_by};
+ghost use Rattle.image_calls.specs.Plans.{shape_by, medium_by, IsPlanFault};
 ghost use Rattle.recovery.specs.declared.start_fault.StartFault.TheVariants.{NoMemory};
 
 use crate::ImageFault;
 use crate::image_plan::ImagePlan;
 use crate::part::begin_format;
 use crate::work::Work;
+use journal::Super;
 use recovery::{StartFault, lay_log, migrate};
 use std::alloc::Global;
 use window::{DeviceHolds, WindowError, WindowMedium};
-
-// The most slots that a log has.
-const MOST_SLOTS: u64 = 64;
 
 /// A medium of a device of `sectors` sectors, of which these are the first. None is ever shown.
 pub(crate) fn window_of(
@@ -43,30 +40,11 @@ pub(crate) fn window_of(
     }
 }
 
-// How many calls it takes to lay the log of the plan.
-fn calls_to_lay(plan: &ImagePlan) -> u64
-    requires { plan.now.slots ≤ 64 }
-    ensures { result ≡ slot_sectors_of plan.now.format * plan.now.slots + 7 }
+// How many calls it takes to lay the log of these sizes.
+fn calls_to_lay(sizes: &Super) -> usize
+    ensures { result ≡ sizes.now.home + 5 }
 {
-    plan.format.slot_sectors() * plan.slots + 7
-}
-
-// A medium that the plan is carried out on.
-fn medium_for(
-    alloc: Global,
-    near: &[u8],
-    device: &DeviceHolds,
-    plan: &ImagePlan,
-) -> Result<WindowMedium, ImageFault>
-    ensures { let first = medium_by near.now device.now.bytes plan.now in
-        MatchResult result (λ m. m ≡ first)
-        (IsLayFault near.now plan.now.sectors (shape_by plan.now) first) }
-{
-    if plan.slots > MOST_SLOTS {
-        return Err(ImageFault::Sizes);
-    }
-    let room = calls_to_lay(plan) as usize;
-    window_of(alloc, near, plan.sectors, device, room)
+    sizes.home as usize + 5
 }
 
 /// Lays a log on a device.
@@ -78,12 +56,14 @@ pub(crate) fn lay_on(
 ) -> Result<Work, ImageFault>
     ensures { let first = medium_by near.now device.now.bytes plan.now in
         MatchResult result (IsWhole (IsLaidOn (shape_by plan.now) first))
-        (IsLayFault near.now plan.now.sectors (shape_by plan.now) first) }
+        (IsPlanFault near.now plan.now) }
 {
-    let mut medium = medium_for(alloc, near, device, plan)?;
+    let sizes = plan.sizes().ok_or(ImageFault::Sizes)?;
+    let room = calls_to_lay(&sizes);
+    let mut medium = window_of(alloc, near, plan.sectors, device, room)?;
     // The law of the outbox, from the first call on.
     let _waiting = medium.waiting();
-    match lay_log(&mut medium, plan.format, plan.blocks, plan.slots) {
+    match lay_log(&mut medium, &sizes) {
         Ok(()) => Ok(Work { medium, left: None }),
         // There is room for all of its calls, so that none is refused.
         Err(_) => Err(ImageFault::Sizes),
@@ -99,12 +79,14 @@ pub(crate) fn begin_on(
 ) -> Result<Work, ImageFault>
     ensures { let first = medium_by near.now device.now.bytes plan.now in
         MatchResult result (BeginsFormat (shape_by plan.now) first)
-        (IsLayFault near.now plan.now.sectors (shape_by plan.now) first) }
+        (IsPlanFault near.now plan.now) }
 {
-    let mut medium = medium_for(alloc, near, device, plan)?;
+    let sizes = plan.sizes().ok_or(ImageFault::Sizes)?;
+    let room = calls_to_lay(&sizes);
+    let mut medium = window_of(alloc, near, plan.sectors, device, room)?;
     // The law of the outbox, from the first call on.
     let _waiting = medium.waiting();
-    match begin_format(&mut medium, plan.format, plan.blocks, plan.slots) {
+    match begin_format(&mut medium, &sizes) {
         Ok(left) => Ok(Work {
             medium,
             left: Some(left),

@@ -1,15 +1,15 @@
 //! The parts of a format: each by so few calls that they have room in an outbox.
-ghost use Rattle.std.specs.Prelude.{◌+◌, ◌*◌, ◌<◌, ◌≤◌, Some, OnErr, IfOk, IfErr, MatchOption};
-ghost use Rattle.journal.specs.Places.{new_shape, slot_sectors_of, sectors_of};
+ghost use Rattle.std.specs.Prelude.{◌+◌, ◌<◌, ◌≤◌, Some, OnErr, IfOk, IfErr, MatchOption};
+ghost use Rattle.journal.specs.Places.{sectors_of};
 ghost use Rattle.journal.specs.Formats.{shape_of};
 ghost use Rattle.recovery.specs.Calls.{IsFormatCause};
 ghost use Rattle.image_calls.specs.Parts.{IsBegun, KeepsOnWay, FailsOnWay, GoesPart};
 ghost use Rattle.image_calls.specs.Parts.{parts_left};
 
 use crate::plan::Plan;
-use journal::LogFormat;
+use journal::Super;
 use medium::Medium;
-use recovery::{FormatFault, clear, lay_log, sizes_of, write_through};
+use recovery::{FormatFault, clear, lay_log, write_through};
 
 // How many sectors one part clears.
 const PART: u64 = 48;
@@ -19,22 +19,19 @@ const PART: u64 = 48;
 /// # Errors
 ///
 /// `BadSize` before any call, or `Medium`.
-pub(crate) fn begin_format<M: Medium>(
-    m: &mut M,
-    format: LogFormat,
-    blocks: u64,
-    slots: u64,
-) -> Result<Plan, FormatFault>
-    ensures ok { let shape = new_shape format blocks slots in
+pub(crate) fn begin_format<M: Medium>(m: &mut M, sizes: &Super) -> Result<Plan, FormatFault>
+    ensures ok { let shape = shape_of sizes.now in
         IfOk result (λ plan. IsBegun shape plan (M.state m.old) (M.state m.new)) }
-    ensures err { let shape = new_shape format blocks slots in
+    ensures err { let shape = shape_of sizes.now in
         IfErr result (λ fault. IsFormatCause shape (M.state m.old) (M.state m.new) fault) }
     ensures goes { GoesPart M.state M.follows 2 m.old m.new }
 {
-    let sizes = sizes_of(format, m.sectors(), blocks, slots).ok_or(FormatFault::BadSize)?;
+    if m.sectors() < sizes.sectors() {
+        return Err(FormatFault::BadSize);
+    }
     write_through(m, 0, &[0; 512])?;
     Ok(Plan {
-        sizes,
+        sizes: *sizes,
         at: sizes.home,
     })
 }
@@ -49,14 +46,13 @@ pub(crate) fn next_part<M: Medium>(m: &mut M, plan: Plan) -> Result<Option<Plan>
     ensures ok { IfOk result (λ left. KeepsOnWay M.state plan left m.old m.new) }
     ensures err { OnErr result (FailsOnWay M.state plan m.old m.new) }
     ensures nearer { IfOk result (λ left. parts_left left < parts_left (Some plan)) }
-    ensures goes { GoesPart M.state M.follows
-        (slot_sectors_of plan.sizes.format * plan.sizes.slots + 7) m.old m.new }
+    ensures goes { GoesPart M.state M.follows (plan.sizes.home + 5) m.old m.new }
 {
     if m.sectors() < plan.sizes.sectors() {
         return Err(FormatFault::BadSize);
     }
     let Some(to) = end_of_part(&plan) else {
-        lay_log(m, plan.sizes.format, plan.sizes.blocks, plan.sizes.slots)?;
+        lay_log(m, &plan.sizes)?;
         return Ok(None);
     };
     clear(m, plan.at, to)?;

@@ -1,5 +1,6 @@
-use Rattle.std.proofs.Common.{◌≡◌, ◌∙◌, sym, ap, subst, arith}
-use Rattle.journal.specs.Places.{Shape, new_shape, first_home, sectors_of}
+use Rattle.std.proofs.Common.{◌≡◌, sym, ap, subst, arith}
+use Rattle.journal.specs.Places.{Shape, first_home, sectors_of}
+use Rattle.journal.specs.Formats.{shape_of}
 use Rattle.recovery.specs.Calls.{IsLaid, LayingLeaves}
 use Rattle.image_calls.proofs.OnWay.{cleared, made}
 use Rattle.image_calls.proofs.part.next_part.Goals as goal
@@ -21,12 +22,10 @@ returns-in_default-clause-ok g c shape first (same, under) =
     let mid = g.M.Medium.state c.args.m.now in
     let new = g.M.Medium.state c.lay_log.new.m in
     let end = ap (λ (s : Shape). sectors_of s) same in
-    let anew : new_shape c.args.plan.sizes.format c.args.plan.sizes.blocks c.args.plan.sizes.slots ≡ shape =
-    sym (under.anew ∙ ap (λ (s : Shape). new_shape s.format s.blocks s.slots) same) in
-    let laid = subst (λ (s : Shape). IsLaid s mid new) anew c.in_ok-lay_log.ensures.ok in
-    let leaves = subst (λ (s : Shape). LayingLeaves s mid new) anew c.lay_log.ensures.leaves in
+    let laid = subst (λ (s : Shape). IsLaid s mid new) (sym same) c.in_ok-lay_log.ensures.ok in
+    let leaves = subst (λ (s : Shape). LayingLeaves s mid new) (sym same) c.lay_log.ensures.leaves in
     let counted = c.in_ok-lay_log.ensures.calls.exact in
-    let home = ap (λ (s : Shape). first_home s) anew in
+    let home = ap (λ (s : Shape). first_home s) same in
     made shape c.args.plan.at (g.M.Medium.state first) mid new under
     (omega (arith, c.in_default.ensures, end)) laid leaves (omega (arith, counted, home))
     (omega (arith, c.args.plan.in_home, end))

@@ -1,8 +1,7 @@
-use Rattle.std.proofs.Common.{refl, rules}
+use Rattle.std.proofs.Common.{refl}
 use Rattle.image_calls.specs.Images.{IsLaidOn, IsWhole}
 use Rattle.image_calls.specs.Plans.{shape_by, medium_by}
 use Rattle.image_calls.proofs.AtRest.{begins}
-use Rattle.image_calls.proofs.LayFaults.{plan_fault}
 use Rattle.image_calls.proofs.machine.ImageMachine.lay_log.Goals as goal
 
 pub returns : goal.returns
@@ -11,7 +10,3 @@ returns c =
     let over = c.over.ensures in
     begins (IsWhole (IsLaidOn (shape_by c.args.plan.now) first)) first c.in_ok-work.work c.over.result over.is c.in_ok-work.ensures
     (over.since first refl c.in_ok-work.ensures.0.waits) over.rest
-
-pub returns-in_err-work : goal.returns-in_err-work
-returns-in_err-work c =
-    let why = plan_fault c.args.near.now c.args.device.now.bytes c.args.plan.now _ c.in_err-work.ensures in search (rules, why)
