@@ -36,6 +36,17 @@ impl RecordReader {
         }
     }
 
+    /// It goes to the record of this stamp in a log of these sizes, in its place, of which it has
+    /// read nothing: a new reader has 4 KB of zeros.
+    pub fn restart(&mut self, sizes: &Super, stamp: u64)
+        ensures of { (self.new.sizes ≡ sizes.now) × (self.new.stamp ≡ stamp) }
+        ensures unread { IsUnread (shape_of sizes.now) stamp self.new.stage self.new.read }
+    {
+        self.sizes = *sizes;
+        self.stamp = stamp;
+        self.stage = first_stage(sizes.format);
+    }
+
     /// The sector that is to be read next, which lies in the log; none where nothing is.
     pub fn next(&self) -> Option<u64>
         ensures { MatchOption result (¬ IsReading self.now.stage) (λ place.
