@@ -10,10 +10,10 @@ use Rattle.recovery.specs.Starting.{EndsStart, start_left}
 use Rattle.recovery.specs.declared.recovered.Recovered.{Recovered}
 use Rattle.recovery.specs.declared.start_fault.StartFault.{StartFault}
 use Rattle.opening.specs.declared.recovering.Recovering.{Recovering}
-use Rattle.opening.specs.Recovering.{IsRecovering, IsOverAt, EndsAt}
+use Rattle.opening.specs.Recovering.{IsRecovering, IsOverAt, EndsAt, stage_of}
 
 -- no call is left of one that is over, and of which the device refused none
-pub over_left : (s : Recovering) (at : Asked) → refusal_of at ≡ None → IsOverAt at s → start_left s.carried.machine.stage ≡ none
+pub over_left : (s : Recovering) (at : Asked) → refusal_of at ≡ None → IsOverAt at s → start_left (stage_of s.carried.machine) ≡ none
 over_left s asked.Nothing told over = over
 over_left s (asked.At next) told over = absurd over
 over_left s (asked.Refused kind) told over = absurd (cc told)
@@ -21,7 +21,7 @@ over_left s (asked.Refused kind) told over = absurd (cc told)
 -- it ends as what it holds says
 pub ended : (s : Recovering) (result : Result Recovered StartFault) (at : Asked) → s.carried.asked ≡ at → refusal_of at ≡ None
     → IsOverAt at s
-    → ((least : ℕ) (start m : Window) (had : List ℕ) → HoldsStart state_of least s.carried.machine.stage had start m
+    → ((least : ℕ) (start m : Window) (had : List ℕ) → HoldsStart state_of least (stage_of s.carried.machine) had start m
     → EndsStart least (state_of start) (state_of m) result)
     → (m n : Window) → IsRecovering m s n → EndsAt at m n result
 ended s result asked.Nothing at told over ends m n is =

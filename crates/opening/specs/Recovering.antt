@@ -13,41 +13,45 @@ use Rattle.machine_calls.specs.declared.asked.Asked.TheVariants as asked
 use Rattle.recovery.specs.Causes.{start_fault_of}
 use Rattle.recovery.specs.HoldsStart.{HoldsStart, StartView, MayStart}
 use Rattle.recovery.specs.Recovered.{RecoveryLeaves}
+use Rattle.recovery.specs.Stages.{StartStage, stage_at}
 use Rattle.recovery.specs.Starting.{EndsStart, IsStarting, IsStartStep, start_left, start_kind}
 use Rattle.recovery.specs.declared.recovered.Recovered.{Recovered}
 use Rattle.recovery.specs.declared.start_fault.StartFault.{StartFault}
-use Rattle.recovery.specs.declared.start_stage.StartStage.TheVariants as stage
+use Rattle.recovery.specs.declared.start_point.StartPoint.TheVariants as point
 use Rattle.recovery.specs.declared.starting.Starting.{Starting}
 use Rattle.opening.specs.declared.recovering.Recovering.{Recovering}
 
 -- ---- a start, as a machine whose calls a device carries out
+
+abbrev pub stage_of : Starting → StartStage
+stage_of s = stage_at s.stage s.survey s.step
 
 abbrev fits : Starting → ℕ → Type 0
 fits s size = s.sectors ≡ size
 
 abbrev holds : Starting → List ℕ → Window → StartView Window → Type 0
 holds s had m view =
-    (s.least ≡ view.least) × HoldsStart state_of view.least s.stage had view.start m
+    (s.least ≡ view.least) × HoldsStart state_of view.least (stage_of s) had view.start m
 
 abbrev may : StartView Window → Image → Type 0
 may view image = MayStart (state_of view.start) image
 
 abbrev left : Starting → Tally
-left s = start_left s.stage
+left s = start_left (stage_of s)
 
 abbrev Due : Starting → Type 0
-Due s = IsStarting s.stage
+Due s = IsStarting (stage_of s)
 
 abbrev sectors_of : Starting → ℕ
 sectors_of s = s.sectors
 
 abbrev After : Starting → List ℕ → Starting → Type 0
 After s got t = (t.sectors ≡ s.sectors) × (t.least ≡ s.least)
-    × IsStartStep s.sectors s.least s.stage got t.stage
+    × IsStartStep s.sectors s.least (stage_of s) got (stage_of t)
 
 abbrev Gone : Starting → Starting → Type 0
 Gone s t = (t.sectors ≡ s.sectors) × (t.least ≡ s.least)
-    × (t.stage ≡ stage.Refused (start_fault_of (start_kind s.stage)))
+    × (t.stage ≡ point.Refused (start_fault_of (start_kind (stage_of s))))
 
 -- A recovery was begun when the device was this medium, and it has come to that one, whose calls
 -- are those that the device was told. Of a device that tells what it holds.
@@ -106,7 +110,7 @@ IsSafe s = (m n : Window) → IsRecovering m s n → LeavesAsRecovery m n
 
 -- none is at its end that is at a call, or has one left
 abbrev pub IsOverAt : Asked → Recovering → Type 0
-IsOverAt asked.Nothing s = start_left s.carried.machine.stage ≡ none
+IsOverAt asked.Nothing s = start_left (stage_of s.carried.machine) ≡ none
 IsOverAt (asked.At next) s = ⊥
 IsOverAt (asked.Refused kind) s = Unit {0}
 
@@ -115,7 +119,7 @@ IsOver s = IsOverAt s.carried.asked s
 
 -- the device is at a call, or one is left
 abbrev pub IsUnderWayAt : Asked → Recovering → Type 0
-IsUnderWayAt asked.Nothing s = IsStarting s.carried.machine.stage
+IsUnderWayAt asked.Nothing s = IsStarting (stage_of s.carried.machine)
 IsUnderWayAt (asked.At next) s = Unit {0}
 IsUnderWayAt (asked.Refused kind) s = ⊥
 

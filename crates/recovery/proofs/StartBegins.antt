@@ -23,8 +23,8 @@ use Rattle.recovery.specs.Starting.{EndsStart, IsReadFirst, FindsSuper, FindsHea
 use Rattle.recovery.specs.HoldsStart.{HoldsStart, IsFlushedFirst, LooksThere}
 use Rattle.recovery.specs.declared.start_fault.StartFault.{StartFault}
 use Rattle.recovery.specs.declared.start_fault.StartFault.TheVariants as fault
-use Rattle.recovery.specs.declared.start_stage.StartStage.{StartStage}
-use Rattle.recovery.specs.declared.start_stage.StartStage.TheVariants as stage
+use Rattle.recovery.specs.Stages.{StartStage}
+use Rattle.recovery.specs.Stages as stage
 use Rattle.recovery.proofs.WholeRecovery.{IsSurveyed, survey_leaves, refusal}
 
 -- reads alone were made, so many, and of no sector that is no part of the log

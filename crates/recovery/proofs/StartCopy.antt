@@ -12,13 +12,12 @@ use Rattle.journal.specs.Places.{sectors_of, first_home, limit_of}
 use Rattle.journal.specs.Formats.{shape_of, IsWhole, HasWhole}
 use Rattle.journal.specs.Record.{Entry}
 use Rattle.recovery.specs.Calls.{Copies, IsHomeInRecords, freed_at, most_calls_of}
-use Rattle.recovery.specs.Copying.{HoldsCopied, IsCopyStep}
+use Rattle.recovery.specs.Copying.{Copying, HoldsCopied, IsCopyStep, TellsCopy}
 use Rattle.recovery.specs.Recovered.{LeavesAtLeast}
 use Rattle.recovery.specs.Starting.{IsNewCopying, IsCopiedOn}
-use Rattle.recovery.specs.HoldsStart.{HoldsStart, IsCopiedSoFar, TellsCopy, IsCopying, HasSurveyed, HasCopied}
-use Rattle.recovery.specs.declared.copying.Copying.{Copying}
+use Rattle.recovery.specs.HoldsStart.{HoldsStart, IsCopiedSoFar, IsCopying, HasSurveyed, HasCopied}
 use Rattle.recovery.specs.declared.found.Found.{Found}
-use Rattle.recovery.specs.declared.start_stage.StartStage.{StartStage}
+use Rattle.recovery.specs.Stages.{StartStage}
 use Rattle.recovery.proofs.JoinedCalls.{quiet_after}
 use Rattle.recovery.proofs.CopiedBlocks.{gathered, not_copied, all_copied}
 use Rattle.recovery.proofs.CopyTally.{most_copies, most_writes}
@@ -135,16 +134,7 @@ module _ {M : Type 0} (state : M → State) (sound : (m : M) → IsSound (state 
     pub copy_refused : {n : M} {got : List ℕ} {e : MediumFault} → Performed call bytes got (Err e) (state m) (state n)
         → LeavesAtLeast least (state start) (state n)
     copy_refused {e = e} performed =
-        let gone : Copying = record {
-          reader = copying.reader;
-          step = record copying.step { has_bytes = false };
-          goes = record {
-            stamps = copying.goes.stamps;
-            there = copying.goes.there;
-            named = copying.goes.named;
-            unnamed = λ not. ((copying.goes.unnamed not).0, refl);
-          };
-        } in
+        let gone : Copying = record { reader = copying.reader; step = record copying.step { has_bytes = false } } in
         copies_leave_so_far at.surveyed at.new (driven_refused (λ s had m view holds image cut x. holds.within x (image x) (cut x))
         fits_first at.so_far tells performed e refl gone
         (record { reader_stays = refl; left_stays = refl; i_stays = refl; no_bytes = refl }))

@@ -12,7 +12,7 @@ use Rattle.recovery.specs.Recovered.{LeavesAtLeast}
 use Rattle.recovery.specs.Starting.{answer_of}
 use Rattle.recovery.specs.HoldsStart.{HoldsStart, HasCopied, IsMovingHead, IsFlushedAgain, HasMovedHead}
 use Rattle.recovery.specs.declared.found.Found.{Found}
-use Rattle.recovery.specs.declared.start_stage.StartStage.TheVariants as stage
+use Rattle.recovery.specs.Stages as stage
 use Rattle.recovery.proofs.JoinedCalls.{flush_writes, writes_on, none_waits}
 use Rattle.recovery.proofs.StartBegins.{surveyed_by}
 use Rattle.recovery.proofs.WholeRecovery.{moves_leave, recovery_done}

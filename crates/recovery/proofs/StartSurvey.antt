@@ -21,8 +21,8 @@ use Rattle.recovery.specs.Starting.{IsNewSurvey, IsSurveyedOn, found_by}
 use Rattle.recovery.specs.HoldsStart.{HoldsStart, IsSurveyedSoFar, TellsSurvey, IsSurveying, HasSurveyed, LooksThere}
 use Rattle.recovery.specs.declared.surveying.Surveying.{Surveying}
 use Rattle.recovery.specs.declared.start_fault.StartFault.TheVariants as fault
-use Rattle.recovery.specs.declared.start_stage.StartStage.{StartStage}
-use Rattle.recovery.specs.declared.start_stage.StartStage.TheVariants as stage
+use Rattle.recovery.specs.Stages.{StartStage}
+use Rattle.recovery.specs.Stages as stage
 use Rattle.recovery.proofs.JoinedCalls.{records_read}
 use Rattle.recovery.proofs.Tries.{counts_made}
 use Rattle.recovery.proofs.SurveyedRecords.{not_tried}

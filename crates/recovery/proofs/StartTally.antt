@@ -16,10 +16,10 @@ use Rattle.recovery.specs.Starting.{both, head_calls, home_calls, all_calls, sta
 use Rattle.recovery.specs.Starting.{IsCopiedOn, IsFoundOn, IsSurveyedOn}
 use Rattle.journal.specs.declared.reader.RecordReader.{RecordReader}
 use Rattle.recovery.specs.declared.copy_step.CopyStep.{CopyStep}
-use Rattle.recovery.specs.declared.copying.Copying.{Copying}
+use Rattle.recovery.specs.Copying.{Copying}
 use Rattle.recovery.specs.declared.surveying.Surveying.{Surveying}
 use Rattle.recovery.specs.declared.found.Found.{Found}
-use Rattle.recovery.specs.declared.start_stage.StartStage.{StartStage}
+use Rattle.recovery.specs.Stages.{StartStage}
 
 -- no more of each kind
 pub few_left : {left rest : Tally} → left.reads ≤ rest.reads → left.writes ≤ rest.writes → left.flushes ≤ rest.flushes

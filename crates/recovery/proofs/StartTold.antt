@@ -11,26 +11,35 @@ use Rattle.recovery.specs.Recovered.{LeavesAtLeast}
 use Rattle.recovery.specs.Starting.{IsStarting, IsStartStep, start_left, start_kind}
 use Rattle.recovery.specs.HoldsStart.{HoldsStart, StartView}
 use Rattle.recovery.specs.declared.starting.Starting.{Starting}
-use Rattle.recovery.specs.declared.start_stage.StartStage.{StartStage}
-use Rattle.recovery.specs.declared.start_stage.StartStage.TheVariants as stage
+use Rattle.recovery.specs.Stages.{StartStage, stage_at}
+use Rattle.recovery.specs.declared.start_point.StartPoint.{StartPoint}
+use Rattle.recovery.specs.declared.start_point.StartPoint.TheVariants as point
 use Rattle.recovery.proofs.StartBegins.{refused_start}
 
-module _ {M : Type 0} (state : M → State) (machine : Starting) {at : StartStage} {call : Call} {had bytes : List ℕ} where
-  -- a start tells this call at this stage
-  pub told : machine.stage ≡ at → IsStarting at → IsWithin machine.sectors call → ReadsBefore machine.sectors call
-      → fault_of call ≡ start_kind at
+-- where it is, and what it knows there
+abbrev pub at_point : Starting → StartPoint → StartStage
+at_point s here = stage_at here s.survey s.step
+
+abbrev pub stage_of : Starting → StartStage
+stage_of s = at_point s s.stage
+
+module _ {M : Type 0} (state : M → State) (machine : Starting) {here : StartPoint} {call : Call} {had bytes : List ℕ} where
+  -- a start tells this call there
+  pub told : machine.stage ≡ here → IsStarting (at_point machine here) → IsWithin machine.sectors call → ReadsBefore machine.sectors call
+      → fault_of call ≡ start_kind (at_point machine here)
       → ((m n start : M) (got : List ℕ) (least : ℕ) (next : StartStage) → machine.sectors ≡ (state m).size
-      → HoldsStart state least at had start m → Performed call bytes got (Ok tt) (state m) (state n)
-      → IsStartStep machine.sectors least at got next → HoldsStart state least next got start n)
-      → ((m n start : M) (got : List ℕ) (least : ℕ) (e : MediumFault) → HoldsStart state least at had start m
+      → HoldsStart state least (at_point machine here) had start m → Performed call bytes got (Ok tt) (state m) (state n)
+      → IsStartStep machine.sectors least (at_point machine here) got next → HoldsStart state least next got start n)
+      → ((m n start : M) (got : List ℕ) (least : ℕ) (e : MediumFault) → HoldsStart state least (at_point machine here) had start m
       → Performed call bytes got (Err e) (state m) (state n) → LeavesAtLeast least (state start) (state n))
-      → (rest : Tally) → start_left at ≡ one_more rest (fault_of call)
-      → ((got : List ℕ) (next : StartStage) → IsStartStep machine.sectors machine.least at got next → IsLeft ⊥ (start_left next) rest)
+      → (rest : Tally) → start_left (at_point machine here) ≡ one_more rest (fault_of call)
+      → ((got : List ℕ) (next : StartStage) → IsStartStep machine.sectors machine.least (at_point machine here) got next
+      → IsLeft ⊥ (start_left next) rest)
       → TellsCall {M = M} {S = Starting} {V = StartView M} state (λ s size. s.sectors ≡ size)
-      (λ s had m view. (s.least ≡ view.least) × HoldsStart state view.least s.stage had view.start m)
-      (λ s. s.sectors) (λ s. s.sectors) (λ s. start_left s.stage) ⊥ (λ s. IsStarting s.stage)
-      (λ s got t. (t.sectors ≡ s.sectors) × (t.least ≡ s.least) × IsStartStep s.sectors s.least s.stage got t.stage)
-      (λ s t. (t.sectors ≡ s.sectors) × (t.least ≡ s.least) × (t.stage ≡ stage.Refused (start_fault_of (start_kind s.stage))))
+      (λ s had m view. (s.least ≡ view.least) × HoldsStart state view.least (stage_of s) had view.start m)
+      (λ s. s.sectors) (λ s. s.sectors) (λ s. start_left (stage_of s)) ⊥ (λ s. IsStarting (stage_of s))
+      (λ s got t. (t.sectors ≡ s.sectors) × (t.least ≡ s.least) × IsStartStep s.sectors s.least (stage_of s) got (stage_of t))
+      (λ s t. (t.sectors ≡ s.sectors) × (t.least ≡ s.least) × (t.stage ≡ point.Refused (start_fault_of (start_kind (stage_of s)))))
       machine had call bytes
   told is live within looks kind made leaves rest pays rests = record {
     due = rw is live;
@@ -38,7 +47,7 @@ module _ {M : Type 0} (state : M → State) (machine : Starting) {at : StartStag
     looks = looks;
     made = λ m n got view next fits held performed after. (
       after.1 ∙ held.0,
-      made m n view.start got view.least next.stage fits (rw is at held.1) performed (rw (is, held.0) at after.2),
+      made m n view.start got view.least (stage_of next) fits (rw is at held.1) performed (rw (is, held.0) at after.2),
     );
     refused = λ m n got view next e fits held performed gone.
         let h = rw is at held.1 in (
@@ -48,7 +57,7 @@ module _ {M : Type 0} (state : M → State) (machine : Starting) {at : StartStag
         );
     rest = rest;
     pays = rw is pays;
-    rests = λ got next after. rests got next.stage (rw is at after.2);
+    rests = λ got next after. rests got (stage_of next) (rw is at after.2);
   }
 
 -- what is told, where something else was, and of what kind the call is

@@ -4,6 +4,10 @@ use Rattle.std.specs.Prelude.{get_or, take}
 use Rattle.std.specs.Prelude.{slice_index, Bool, true, false}
 use Rattle.medium.specs.Medium.{State, Within}
 use Rattle.medium.specs.Tally.{Tally}
+use Rattle.medium.specs.Machine.{TellsCall}
+use Rattle.medium.specs.declared.medium_call.Call.{Call}
+use Rattle.medium.specs.declared.fault.MediumFault.{MediumFault}
+use Rattle.medium.specs.declared.fault.MediumFault.TheVariants as medium
 use Rattle.journal.specs.declared.log_format.LogFormat.{LogFormat}
 use Rattle.journal.specs.declared.record.Record.{Record}
 use Rattle.journal.specs.declared.reader.RecordReader.{RecordReader}
@@ -11,14 +15,22 @@ use Rattle.journal.specs.declared.super_sector.Super.{Super}
 use Rattle.journal.specs.declared.naming_stage.NamingStage.{NamingStage}
 use Rattle.journal.specs.declared.naming_stage.NamingStage.TheVariants as stage
 use Rattle.journal.specs.Naming.{IsReading, IsUnread, Learns, IsKnown, names_left}
-use Rattle.journal.specs.Places.{first_home, limit_of}
+use Rattle.journal.specs.Places.{first_home, sectors_of, limit_of}
 use Rattle.journal.specs.Record.{Entry, with_records, home_of, block_of}
 use Rattle.journal.specs.Formats.{shape_of, IsWhole}
 use Rattle.journal.specs.Reading.{data_at, record_reads_of}
 use Rattle.recovery.specs.Calls.{IsHomeInRecords, freed_at, copy_calls}
 use Rattle.recovery.specs.declared.copy_step.CopyStep.{CopyStep}
 
--- what a machine that copies holds, whatever it read
+-- what is copied home by a reader: how far it is
+pub record Copying : Type 0 where
+  pub reader : RecordReader
+  pub step : CopyStep
+
+abbrev pub copying_of : RecordReader → CopyStep → Copying
+copying_of reader step = record { reader = reader; step = step }
+
+-- what it holds, whatever it read
 pub record CanCopy (reader : RecordReader) (step : CopyStep) : Type 0 where
   pub stamps : reader.stamp + step.left < 2 ^ 63
   pub there : reader.stage ≢ stage.Missing
@@ -162,3 +174,22 @@ pub record HoldsCopied {M : Type 0} (state : M → State) (reader : RecordReader
       ≡ (state view.start).calls
       + copy_calls view.sizes.format (take home view.records) + (reads + 2 * step.i
       + one_if step.has_bytes)
+
+-- the kind of the next call: once the bytes of a block were read they are written
+abbrev pub copy_kind_by : NamingStage → Bool → MediumFault
+copy_kind_by stage.Named true = medium.Write
+copy_kind_by at has_bytes = medium.Read
+
+abbrev pub copy_kind : RecordReader → CopyStep → MediumFault
+copy_kind reader step = copy_kind_by reader.stage step.has_bytes
+
+-- it tells this call
+abbrev pub TellsCopy : {M : Type 0} → (M → State) → Copying → List ℕ → Call → List ℕ → Type 0
+TellsCopy {M = M} state copying had call bytes =
+    TellsCall {M = M} {S = Copying} {V = CopyView M} state
+    (λ s size. sectors_of (shape_of s.reader.sizes) ≤ size)
+    (λ s had m view. HoldsCopied state s.reader s.step had view m)
+    (λ s. first_home (shape_of s.reader.sizes)) (λ s. sectors_of (shape_of s.reader.sizes))
+    (λ s. copies_left s.reader s.step) ⊥ (λ s. 0 < s.step.left)
+    (λ s got t. IsCopyStep s.reader s.step got t.reader t.step)
+    (λ s t. IsRefusedStep s.reader s.step t.reader t.step) copying had call bytes

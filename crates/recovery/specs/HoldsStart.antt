@@ -16,16 +16,15 @@ use Rattle.journal.specs.Standing.{HasShape}
 use Rattle.recovery.specs.Calls.{IsHomeInRecords, freed_at, Copies, AreCopied, most_calls_of}
 use Rattle.recovery.specs.Calls.{HasNewHead, Writes}
 use Rattle.recovery.specs.Causes.{LooksAtFirst, SurveysAtMost, IsSurvey, HasFewSlots}
-use Rattle.recovery.specs.Copying.{CopyView, HoldsCopied, copies_left, IsCopyStep, IsRefusedStep}
+use Rattle.recovery.specs.Copying.{Copying, CopyView, HoldsCopied, copies_left}
 use Rattle.recovery.specs.Surveying.{SurveyView, HoldsSurveyed, surveys_left, IsSurveyStep}
 use Rattle.recovery.specs.Surveying.{IsRefusedSurvey}
 use Rattle.recovery.specs.Recovered.{LeavesAtLeast, IsOursForSome, StandsForOneOf}
 use Rattle.recovery.specs.Starting.{EndsStart, IsStarting, IsNewSurvey, IsNewCopying}
-use Rattle.recovery.specs.declared.copying.Copying.{Copying}
 use Rattle.recovery.specs.declared.surveying.Surveying.{Surveying}
 use Rattle.recovery.specs.declared.found.Found.{Found}
-use Rattle.recovery.specs.declared.start_stage.StartStage.{StartStage}
-use Rattle.recovery.specs.declared.start_stage.StartStage.TheVariants as stage
+use Rattle.recovery.specs.Stages.{StartStage}
+use Rattle.recovery.specs.Stages as stage
 
 -- A start's cuts: where every image is ours, one that is so for one of the arrays.
 abbrev pub MayStart : State → Image → Type 0
@@ -87,17 +86,6 @@ TellsSurvey {M = M} state survey had call bytes =
     t.waiting.items)
     (λ s t. IsRefusedSurvey s.reader s.left s.place s.waiting.items t.reader t.left t.place
     t.waiting.items) survey had call bytes
-
--- a copying tells this call
-abbrev pub TellsCopy : {M : Type 0} → (M → State) → Copying → List ℕ → Call → List ℕ → Type 0
-TellsCopy {M = M} state copying had call bytes =
-    TellsCall {M = M} {S = Copying} {V = CopyView M} state
-    (λ s size. sectors_of (shape_of s.reader.sizes) ≤ size)
-    (λ s had m view. HoldsCopied state s.reader s.step had view m)
-    (λ s. first_home (shape_of s.reader.sizes)) (λ s. sectors_of (shape_of s.reader.sizes))
-    (λ s. copies_left s.reader s.step) ⊥ (λ s. 0 < s.step.left)
-    (λ s got t. IsCopyStep s.reader s.step got t.reader t.step)
-    (λ s t. IsRefusedStep s.reader s.step t.reader t.step) copying had call bytes
 
 -- the contents stay, and they alone are left
 abbrev pub IsFlushedAgain : Found → State → State → Type 0

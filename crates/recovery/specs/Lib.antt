@@ -5,5 +5,6 @@ pub mod Driven
 pub mod HoldsStart
 pub mod NewImage
 pub mod Recovered
+pub mod Stages
 pub mod Starting
 pub mod Surveying

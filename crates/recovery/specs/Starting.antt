@@ -1,7 +1,7 @@
 -- What a start and a medium hold between two calls, which calls are left of it, and what is so at
 -- its end.
 use Rattle.std.specs.Prelude.{◌≡◌, ◌⊎◌, ℕ, ◌+◌, ◌*◌, ◌<◌, ◌≤◌, ◌^◌, List, [], length}
-use Rattle.std.specs.Prelude.{Result, IfOk, IfErr, OnOk, Bool, true, false}
+use Rattle.std.specs.Prelude.{Result, IfOk, IfErr, OnOk, false}
 use Rattle.medium.specs.Medium.{State}
 use Rattle.medium.specs.Moments.{EachCut}
 use Rattle.medium.specs.Tally.{Tally, none}
@@ -11,8 +11,6 @@ use Rattle.spec.specs.Blocks.{Array}
 use Rattle.journal.specs.declared.log_format.LogFormat.{LogFormat}
 use Rattle.journal.specs.declared.log_format.LogFormat.TheVariants.{One, Two}
 use Rattle.journal.specs.declared.super_sector.Super.{Super}
-use Rattle.journal.specs.declared.naming_stage.NamingStage.{NamingStage}
-use Rattle.journal.specs.declared.naming_stage.NamingStage.TheVariants.{Named}
 use Rattle.journal.specs.Places.{Shape, sectors_of, limit_of}
 use Rattle.journal.specs.Formats.{shape_of}
 use Rattle.journal.specs.Naming.{IsUnread}
@@ -22,17 +20,19 @@ use Rattle.journal.specs.Standing.{IsOurs}
 use Rattle.recovery.specs.Calls.{most_reads_of}
 use Rattle.recovery.specs.Causes.{IsSuperCause}
 use Rattle.recovery.specs.Causes.{HasFewSlots, IsRefusalBy, WritesNothing}
-use Rattle.recovery.specs.Copying.{copies_left, IsCopyStep}
+use Rattle.recovery.specs.Copying.{Copying, CanCopy, copies_left, copy_kind, IsCopyStep}
 use Rattle.recovery.specs.Surveying.{surveys_left, IsSurveyStep}
 use Rattle.recovery.specs.Recovered.{LeavesAtLeast, IsRecoveredFrom, IsFresh, HasNoneWaiting}
-use Rattle.recovery.specs.declared.copying.Copying.{Copying}
 use Rattle.recovery.specs.declared.surveying.Surveying.{Surveying}
 use Rattle.recovery.specs.declared.found.Found.{Found}
 use Rattle.recovery.specs.declared.recovered.Recovered.{Recovered}
 use Rattle.recovery.specs.declared.start_fault.StartFault.{StartFault}
 use Rattle.recovery.specs.declared.start_fault.StartFault.TheVariants as fault
-use Rattle.recovery.specs.declared.start_stage.StartStage.{StartStage}
-use Rattle.recovery.specs.declared.start_stage.StartStage.TheVariants as stage
+use Rattle.recovery.specs.declared.copy_step.CopyStep.{CopyStep}
+use Rattle.recovery.specs.declared.start_point.StartPoint.{StartPoint}
+use Rattle.recovery.specs.declared.start_point.StartPoint.TheVariants as point
+use Rattle.recovery.specs.Stages as stage
+pub use Rattle.recovery.specs.Stages.{StartStage, stage_at}
 
 -- ---- what is so at the end
 
@@ -117,22 +117,24 @@ pub record FitsSurvey (sectors head : ℕ) (survey : Surveying) : Type 0 where
   pub head_most : head < 2 ^ 63
   pub due : 0 < survey.left
 
--- records are left to be copied
-pub record FitsCopying (sectors : ℕ) (found : Found) (copying : Copying) : Type 0 where
+-- records are left to be copied, and none to be surveyed
+pub record FitsCopying (sectors : ℕ) (found : Found) (survey : Surveying) (step : CopyStep)
+    : Type 0 where
   pub fits : FitsFound sectors found
-  pub sizes_are : copying.reader.sizes ≡ found.sizes
-  pub due : 0 < copying.step.left
+  pub sizes_are : survey.reader.sizes ≡ found.sizes
+  pub due : 0 < step.left
+  pub can : CanCopy survey.reader step
+  pub over : survey.left ≡ 0
 
-pub record CanStart (sectors : ℕ) (at : StartStage) : Type 0 where
-  pub super : at ≡ stage.ReadSuper → 0 < sectors
-  pub head : (sizes : Super) → at ≡ stage.ReadHead sizes → sectors_of (shape_of sizes) ≤ sectors
-  pub survey : (head : ℕ) (survey : Surveying) → at ≡ stage.Survey head survey
-      → FitsSurvey sectors head survey
-  pub copy : (found : Found) (copying : Copying) → at ≡ stage.Copy found copying
-      → FitsCopying sectors found copying
-  pub flush : (found : Found) → at ≡ stage.FlushCopies found → FitsFound sectors found
-  pub move : (found : Found) → at ≡ stage.WriteHead found → FitsFound sectors found
-  pub last : (found : Found) → at ≡ stage.FlushHead found → FitsFound sectors found
+pub record CanStart (sectors : ℕ) (at : StartPoint) (survey : Surveying) (step : CopyStep)
+    : Type 0 where
+  pub super : at ≡ point.ReadSuper → 0 < sectors
+  pub head : (sizes : Super) → at ≡ point.ReadHead sizes → sectors_of (shape_of sizes) ≤ sectors
+  pub survey_goes : (head : ℕ) → at ≡ point.Survey head → FitsSurvey sectors head survey
+  pub copy : (found : Found) → at ≡ point.Copy found → FitsCopying sectors found survey step
+  pub flush : (found : Found) → at ≡ point.FlushCopies found → FitsFound sectors found
+  pub move : (found : Found) → at ≡ point.WriteHead found → FitsFound sectors found
+  pub last : (found : Found) → at ≡ point.FlushHead found → FitsFound sectors found
 
 -- ---- one call on
 
@@ -230,19 +232,11 @@ IsStartStep sectors least (stage.FlushHead found) got next =
 IsStartStep sectors least (stage.Started answer) got next = ⊥
 IsStartStep sectors least (stage.Refused fault) got next = ⊥
 
--- the kind of the next call of a copying: once the bytes of a block were read they are written
-abbrev pub copy_kind_by : NamingStage → Bool → MediumFault
-copy_kind_by Named true = medium.Write
-copy_kind_by at has_bytes = medium.Read
-
-abbrev pub copy_kind : Copying → MediumFault
-copy_kind copying = copy_kind_by copying.reader.stage copying.step.has_bytes
-
 -- the kind of the next call
 abbrev pub start_kind : StartStage → MediumFault
 start_kind stage.ReadSuper = medium.Read
 start_kind (stage.ReadHead sizes) = medium.Read
 start_kind (stage.Survey head survey) = medium.Read
-start_kind (stage.Copy found copying) = copy_kind copying
+start_kind (stage.Copy found copying) = copy_kind copying.reader copying.step
 start_kind (stage.WriteHead found) = medium.Write
 start_kind at = medium.Flush

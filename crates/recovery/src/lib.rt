@@ -2,7 +2,6 @@
 #![tactic(auto)]
 
 mod clearing;
-mod copies;
 mod copy_step;
 mod copying;
 mod format_fault;
@@ -19,7 +18,7 @@ mod recovered;
 mod recovery;
 mod sectors;
 mod start_fault;
-mod start_stage;
+mod start_point;
 mod start_steps;
 mod starting;
 mod survey;

@@ -9,11 +9,9 @@ ghost use Rattle.recovery.specs.Recovered.{IsRecoveredFrom, IsRecoveryRefusal, I
 ghost use Rattle.recovery.specs.Recovered.{RecoveryLeaves, LeavesAtLeast};
 ghost use Rattle.recovery.specs.Causes.{HasFewSlots, IsRefusalBy, WritesNothing};
 
-use crate::copies::copy_records;
-use crate::new_head::move_head;
-use crate::survey::inspect;
+use crate::starting::Starting;
 use crate::{Recovered, StartFault};
-use medium::Medium;
+use medium::{Medium, drive};
 
 /// Copies the blocks of the whole records from the head on home, in order of their stamps, and
 /// moves the head past the first record that is not whole. It takes no memory.
@@ -52,13 +50,7 @@ pub(crate) fn recover_at_least<M: Medium>(m: &mut M, least: u64) -> Result<Recov
     ensures leaves { LeavesAtLeast least (M.state m.old) (M.state m.new) }
     ensures follows { M.follows m.old m.new }
 {
-    m.flush()?;
-    let found = inspect(m, least)?;
-    copy_records(m, &found)?;
-    let next = found.head + found.count + 1;
-    move_head(m, next)?;
-    Ok(Recovered {
-        sizes: found.sizes,
-        next,
-    })
+    let mut starting = Starting::begin_at_least::<M>(m.sectors(), least);
+    let _ = drive(m, &mut starting, &mut [0; 512]);
+    starting.end::<M>()
 }

@@ -3,21 +3,21 @@ ghost use Rattle.std.specs.Prelude.{◌≡◌, ◌<◌, ℕ, List, Ok, Err};
 ghost use Rattle.std.proofs.Math.Nat.{le_refl};
 ghost use Rattle.medium.specs.Tally.{none};
 ghost use Rattle.medium.proofs.Moments.{at_exit};
-ghost use Rattle.journal.specs.Sectors.{IsHead};
 ghost use Rattle.recovery.specs.Causes.{start_fault_of};
 ghost use Rattle.recovery.specs.Starting.{EndsStart, IsStarting, start_left, CanStart, IsStartStep};
-ghost use Rattle.recovery.specs.Starting.{start_kind};
+ghost use Rattle.recovery.specs.Starting.{start_kind, stage_at};
 ghost use Rattle.recovery.specs.HoldsStart.{HoldsStart, StartView, MayStart};
-ghost use Rattle.recovery.specs.declared.start_stage.StartStage.TheVariants.{Refused};
+ghost use Rattle.recovery.specs.declared.start_point.StartPoint.TheVariants.{Refused};
 
-use crate::start_stage::StartStage;
+use crate::copy_step::CopyStep;
+use crate::copying::{copy_made, first_step, kind_of_copy, next_copy};
+use crate::start_point::StartPoint;
 use crate::start_steps::{
-    answer_of, end_copies, end_start, end_survey, flush_copies, flush_first, read_head, read_super,
-    write_head,
+    answer_of, behind_head, behind_super, behind_survey, first_read, put_head,
 };
+use crate::surveying::Surveying;
 use crate::{Recovered, StartFault};
-use journal::Head;
-use medium::{Call, Machine, Medium};
+use medium::{Call, Machine, Medium, MediumFault};
 
 /// A start, which says each of its calls: a flush, the reads of super and head, those that find the
 /// records that are whole, the copies of their blocks home, a flush, the new head and a flush.
@@ -29,8 +29,11 @@ use medium::{Call, Machine, Medium};
 pub struct Starting {
     sectors: u64,
     least: u64,
-    stage: StartStage,
-    ghost goes: { CanStart sectors stage },
+    stage: StartPoint,
+    // Its reader reads the records again that are copied.
+    survey: Surveying,
+    step: CopyStep,
+    ghost goes: { CanStart sectors stage survey step },
 }
 
 impl Starting {
@@ -38,7 +41,8 @@ impl Starting {
     pub fn begin<M: Medium>(sectors: u64) -> Starting
         ensures of { (result.sectors ≡ sectors) × (result.least ≡ 0) }
         // Before the first call it and any medium hold what they are to hold.
-        ensures held { (m : M) (had : List ℕ) → HoldsStart M.state 0 result.stage had m m }
+        ensures held { (m : M) (had : List ℕ) → HoldsStart M.state 0
+            (stage_at result.stage result.survey result.step) had m m }
     {
         Starting::begin_at_least::<M>(sectors, 0)
     }
@@ -46,12 +50,29 @@ impl Starting {
     /// So for an image whose log, where it is of format 1, has at least `least` slots.
     pub(crate) fn begin_at_least<M: Medium>(sectors: u64, least: u64) -> Starting
         ensures of { (result.sectors ≡ sectors) × (result.least ≡ least) }
-        ensures held { (m : M) (had : List ℕ) → HoldsStart M.state least result.stage had m m }
+        ensures held { (m : M) (had : List ℕ) → HoldsStart M.state least
+            (stage_at result.stage result.survey result.step) had m m }
     {
         Starting {
             sectors,
             least,
-            stage: StartStage::FlushFirst,
+            stage: StartPoint::FlushFirst,
+            survey: Surveying::over(),
+            step: first_step(0),
+        }
+    }
+
+    // The kind of the next call.
+    fn kind(&self) -> MediumFault
+        ensures { result ≡ start_kind (stage_at self.now.stage self.now.survey self.now.step) }
+    {
+        match self.stage {
+            StartPoint::ReadSuper => MediumFault::Read,
+            StartPoint::ReadHead(_) => MediumFault::Read,
+            StartPoint::Survey(_) => MediumFault::Read,
+            StartPoint::Copy(_) => kind_of_copy(&self.survey.reader, &self.step),
+            StartPoint::WriteHead(_) => MediumFault::Write,
+            _ => MediumFault::Flush,
         }
     }
 
@@ -61,14 +82,14 @@ impl Starting {
     ///
     /// Those of `recover`.
     pub fn end<M: Medium>(self) -> Result<Recovered, StartFault>
-        requires { start_left self.stage ≡ none }
+        requires { start_left (stage_at self.stage self.survey self.step) ≡ none }
         ensures { (least : ℕ) (start m : M) (had : List ℕ)
-            → HoldsStart M.state least self.stage had start m
+            → HoldsStart M.state least (stage_at self.stage self.survey self.step) had start m
             → EndsStart least (M.state start) (M.state m) result }
     {
         match self.stage {
-            StartStage::Started(answer) => Ok(answer),
-            StartStage::Refused(fault) => Err(fault),
+            StartPoint::Started(answer) => Ok(answer),
+            StartPoint::Refused(fault) => Err(fault),
             _ => Err(StartFault::BadSuper),
         }
     }
@@ -80,7 +101,7 @@ impl<M: Medium> Machine<M> for Starting {
     ghost fits = { λ s size. s.sectors ≡ size };
 
     ghost holds = { λ s had m view. (s.least ≡ view.least)
-        × HoldsStart M.state view.least s.stage had view.start m };
+        × HoldsStart M.state view.least (stage_at s.stage s.survey s.step) had view.start m };
 
     ghost may = { λ view image. MayStart (M.state view.start) image };
 
@@ -88,66 +109,67 @@ impl<M: Medium> Machine<M> for Starting {
 
     ghost ends = { λ s. s.sectors };
 
-    ghost cost = { λ s. start_left s.stage };
+    ghost cost = { λ s. start_left (stage_at s.stage s.survey s.step) };
 
     ghost exact = { ⊥ };
 
-    ghost due = { λ s. IsStarting s.stage };
+    ghost due = { λ s. IsStarting (stage_at s.stage s.survey s.step) };
 
     ghost after = { λ s got t. (t.sectors ≡ s.sectors) × (t.least ≡ s.least)
-        × IsStartStep s.sectors s.least s.stage got t.stage };
+        × IsStartStep s.sectors s.least (stage_at s.stage s.survey s.step) got
+        (stage_at t.stage t.survey t.step) };
 
     ghost gone = { λ s t. (t.sectors ≡ s.sectors) × (t.least ≡ s.least)
-        × (t.stage ≡ Refused (start_fault_of (start_kind s.stage))) };
+        × (t.stage ≡ Refused (start_fault_of (start_kind
+        (stage_at s.stage s.survey s.step)))) };
 
     fn next(&self, sector: &mut [u8; 512]) -> Option<Call> {
-        match &self.stage {
-            StartStage::FlushFirst => Some(Call::Flush),
-            StartStage::ReadSuper => Some(Call::Read(0)),
-            StartStage::ReadHead(_) => Some(Call::Read(1)),
-            StartStage::Survey(_, survey) => Machine::<M>::next(survey, sector),
-            StartStage::Copy(_, copying) => Machine::<M>::next(copying, sector),
-            StartStage::FlushCopies(_) => Some(Call::Flush),
-            StartStage::WriteHead(found) => {
-                *sector = Head::new(found.head + found.count + 1).encode();
+        match self.stage {
+            StartPoint::FlushFirst => Some(Call::Flush),
+            StartPoint::ReadSuper => Some(Call::Read(0)),
+            StartPoint::ReadHead(_) => Some(Call::Read(1)),
+            StartPoint::Survey(_) => Machine::<M>::next(&self.survey, sector),
+            StartPoint::Copy(_) => next_copy::<M>(&self.survey.reader, &self.step, sector),
+            StartPoint::FlushCopies(_) => Some(Call::Flush),
+            StartPoint::WriteHead(found) => {
+                put_head(&found, sector);
                 Some(Call::Write(1))
             }
-            StartStage::FlushHead(_) => Some(Call::Flush),
-            StartStage::Started(_) => None,
-            StartStage::Refused(_) => None,
+            StartPoint::FlushHead(_) => Some(Call::Flush),
+            StartPoint::Started(_) => None,
+            StartPoint::Refused(_) => None,
         }
     }
 
     fn made(&mut self, sector: &[u8; 512]) {
-        match &mut self.stage {
-            StartStage::FlushFirst => flush_first(&mut self.stage, self.sectors),
-            StartStage::ReadSuper => read_super(&mut self.stage, sector, self.sectors),
-            StartStage::ReadHead(_) => read_head(&mut self.stage, sector, self.least),
-            StartStage::Survey(_, survey) => {
-                Machine::<M>::made(survey, sector);
-                if survey.left == 0 {
-                    end_survey(&mut self.stage);
+        match self.stage {
+            StartPoint::FlushFirst => self.stage = first_read(self.sectors),
+            StartPoint::ReadSuper => self.stage = behind_super(sector, self.sectors),
+            StartPoint::ReadHead(sizes) => {
+                self.stage = behind_head(sector, &sizes, self.least, &mut self.survey);
+            }
+            StartPoint::Survey(head) => {
+                Machine::<M>::made(&mut self.survey, sector);
+                if self.survey.left == 0 {
+                    self.stage = behind_survey(head, &mut self.survey, &mut self.step);
                 }
             }
-            StartStage::Copy(_, copying) => {
-                Machine::<M>::made(copying, sector);
-                if copying.step.left == 0 {
-                    end_copies(&mut self.stage);
+            StartPoint::Copy(found) => {
+                copy_made(&mut self.survey.reader, &mut self.step, sector);
+                if self.step.left == 0 {
+                    self.stage = StartPoint::FlushCopies(found);
                 }
             }
-            StartStage::FlushCopies(_) => flush_copies(&mut self.stage),
-            StartStage::WriteHead(_) => write_head(&mut self.stage),
-            StartStage::FlushHead(found) => {
-                let answer = answer_of(found);
-                end_start(&mut self.stage, answer);
-            }
-            StartStage::Started(_) => {}
-            StartStage::Refused(_) => {}
+            StartPoint::FlushCopies(found) => self.stage = StartPoint::WriteHead(found),
+            StartPoint::WriteHead(found) => self.stage = StartPoint::FlushHead(found),
+            StartPoint::FlushHead(found) => self.stage = StartPoint::Started(answer_of(&found)),
+            StartPoint::Started(_) => {}
+            StartPoint::Refused(_) => {}
         }
     }
 
     fn refused(&mut self) {
-        self.stage = StartStage::Refused(StartFault::from(self.stage.kind()));
+        self.stage = StartPoint::Refused(StartFault::from(self.kind()));
     }
 
     ghost leaves = { λ s had m view holds image cut each. at_exit _ (M.state view.start)

@@ -4,14 +4,10 @@ ghost use Rattle.journal.specs.Places.{sectors_of};
 ghost use Rattle.journal.specs.Formats.{shape_of};
 ghost use Rattle.journal.specs.Standing.{HasShape};
 ghost use Rattle.journal.specs.Sectors.{IsSuper, IsHead};
-ghost use Rattle.medium.specs.Moments.{IsQuiet};
-ghost use Rattle.recovery.specs.Causes.{IsRefusalBy, IsSuperCause, LooksAtFirst, IsSurvey};
-ghost use Rattle.recovery.specs.Causes.{SurveysAtMost};
+ghost use Rattle.recovery.specs.Causes.{IsSuperCause, LooksAtFirst};
 ghost use Rattle.recovery.specs.Starting.{IsSmall};
 
 use crate::StartFault;
-use crate::found::Found;
-use crate::record::count_waiting;
 use journal::{Head, Super, SuperFault};
 use medium::Medium;
 
@@ -70,25 +66,4 @@ pub(crate) fn has_few_slots(sizes: &Super, least: u64) -> bool
     ensures { IsTrue result ↔ IsSmall least sizes.now }
 {
     sizes.format.migrates() && sizes.slots < least
-}
-
-/// Reads all that recovery has to know before its first write. A log of format 1 with fewer slots
-/// than these is too small.
-pub(crate) fn inspect<M: Medium>(m: &mut M, least: u64) -> Result<Found, StartFault>
-    ensures reads { SurveysAtMost (M.state m.old) (M.state m.new) }
-    ensures ok { IfOk result (IsSurvey least (M.state m.old).size (M.state m.old).content
-        (M.state m.old).calls (M.state m.new).calls) }
-    ensures err { IfErr result (IsRefusalBy least IsQuiet (M.state m.old) (M.state m.new)) }
-    ensures follows { M.follows m.old m.new }
-{
-    let (sizes, head) = read_head(m)?;
-    if has_few_slots(&sizes, least) {
-        return Err(StartFault::LogTooSmall);
-    }
-    let count = count_waiting(m, &sizes, head)?.len() as u64;
-    if head + count < (1 << 63) - 1 {
-        Ok(Found { sizes, head, count })
-    } else {
-        Err(StartFault::StampsUsedUp)
-    }
 }

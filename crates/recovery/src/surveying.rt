@@ -8,9 +8,9 @@ ghost use Rattle.journal.specs.declared.naming_stage.NamingStage.TheVariants.{Na
 ghost use Rattle.recovery.specs.Surveying.{CanSurvey, SurveyView, HoldsSurveyed, surveys_left};
 ghost use Rattle.recovery.specs.Surveying.{IsSurveyStep, IsRefusedSurvey, TakesName, TakesPlace};
 
-use crate::copying::reader_behind;
+use crate::copying::next_record;
 use arrayvec::ArrayVec;
-use journal::{NamingStage, RecordReader, copy_place, is_data2, slot_of};
+use journal::{LogFormat, NamingStage, RecordReader, Super, copy_place, is_data2, slot_of};
 use medium::{Call, Machine, Medium};
 
 /// The records from the head on are to be tried: what names the blocks of each is read, and where
@@ -28,6 +28,32 @@ pub(crate) struct Surveying {
 }
 
 impl Surveying {
+    ghost use Rattle.std.specs.Prelude.{[]};
+    ghost use Rattle.recovery.specs.Starting.{IsNewSurvey};
+
+    /// One of which nothing is left.
+    pub(crate) fn over() -> Surveying
+        ensures { result.left ≡ 0 }
+    {
+        Surveying {
+            reader: RecordReader::new(&Super::new(LogFormat::One, 1, 1), 0),
+            left: 0,
+            place: 0,
+            waiting: ArrayVec::new(),
+        }
+    }
+
+    /// It begins at the record of this stamp, in its place.
+    pub(crate) fn begin(&mut self, sizes: &Super, stamp: u64)
+        requires { stamp < 2 ^ 63 }
+        ensures { IsNewSurvey sizes.now stamp self.new }
+    {
+        self.reader.restart(sizes, stamp);
+        self.left = sizes.slots;
+        self.place = 0;
+        self.waiting.clear();
+    }
+
     // A sector was read that names blocks.
     fn take(&mut self, sector: &[u8; 512])
         requires reading { IsReading self.old.reader.stage }
@@ -42,7 +68,7 @@ impl Surveying {
             NamingStage::Named => {
                 if self.reader.lacks_stamps() {
                     self.waiting.push(self.reader.read.numbers.len() as u8);
-                    self.reader = reader_behind(&self.reader);
+                    next_record(&mut self.reader);
                     self.left -= 1;
                 }
             }
@@ -50,7 +76,9 @@ impl Surveying {
         }
     }
 
-    // A data place was read.
+    // A data place was read. It stands apart, so that a data place to compare with does not lie on
+    // the stack under the reading of what names blocks.
+    #[inline(never)]
     fn place_on(&mut self, sector: &[u8; 512])
         requires named { self.old.reader.stage ≡ Named }
         requires left { 0 < self.old.left }
@@ -65,7 +93,7 @@ impl Surveying {
             self.place += 1;
         } else {
             self.waiting.push(count as u8);
-            self.reader = reader_behind(&self.reader);
+            next_record(&mut self.reader);
             self.left -= 1;
             self.place = 0;
         }

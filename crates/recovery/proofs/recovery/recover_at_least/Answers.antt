@@ -1,64 +1,52 @@
-use Rattle.std.proofs.Common.{◌+◌, rules, arith}
-use Rattle.medium.proofs.Moments.{quiet_start}
-use Rattle.medium.proofs.SectorsRead.{no_looks}
-use Rattle.journal.specs.Formats.{shape_of, HasWhole}
-use Rattle.recovery.specs.Recovered.{LeavesAtLeast}
-use Rattle.recovery.proofs.JoinedCalls.{log_ends, quiet_after}
-use Rattle.recovery.proofs.WholeRecovery.{IsSurveyed, survey_leaves, copies_leave, moves_leave, recovery_done, refusal}
+-- A recovery is a start whose calls are made.
+use Rattle.std.proofs.Common.{◌≡◌, ◌⊎◌, inl, inr, refl, arith, Ok, Err, Result, OnOk}
+use Rattle.medium.specs.Medium.{State}
+use Rattle.medium.specs.Tally.{Tally, none}
+use Rattle.medium.specs.Machine.{Tallied}
+use Rattle.medium.specs.declared.fault.MediumFault.{MediumFault}
+use Rattle.medium.proofs.Tallies.{refusal_counts}
+use Rattle.recovery.specs.Starting.{start_left, IsStarting}
+use Rattle.recovery.specs.HoldsStart.{HoldsStart}
+use Rattle.recovery.specs.Stages.{StartStage}
+use Rattle.recovery.specs.Stages as stage
+use Rattle.recovery.proofs.StartTold.{stage_of}
 use Rattle.recovery.proofs.recovery.recover_at_least.Goals as goal
-use Rattle.recovery.proofs.recovery.recover_at_least.Goals.{After-inspect, After-move_head}
+use Rattle.recovery.proofs.recovery.recover_at_least.Goals.{After-drive}
 
--- the flush and the survey
-survey : (g : _) (c : After-inspect g)
-    → IsSurveyed c.flush.result (g.M.Medium.state c.args.m.now) (g.M.Medium.state c.flush.new.self)
-    (g.M.Medium.state c.inspect.new.m)
-survey g c = search (rules, g.met.M.Medium.sound)
+-- a start is at its end, or a call is left
+ended_or_not : (at : StartStage) → (start_left at ≡ none) ⊎ IsStarting at
+ended_or_not stage.FlushFirst = inr tt
+ended_or_not stage.ReadSuper = inr tt
+ended_or_not (stage.ReadHead sizes) = inr tt
+ended_or_not (stage.Survey head survey) = inr tt
+ended_or_not (stage.Copy found copying) = inr tt
+ended_or_not (stage.FlushCopies found) = inr tt
+ended_or_not (stage.WriteHead found) = inr tt
+ended_or_not (stage.FlushHead found) = inr tt
+ended_or_not (stage.Started answer) = inl refl
+ended_or_not (stage.Refused fault) = inl refl
 
--- and the copies and the new head
-moved : (g : _) (c : After-move_head g)
-    → LeavesAtLeast c.args.least (g.M.Medium.state c.args.m.now) (g.M.Medium.state c.move_head.new.m)
-moved g c = moves_leave c.args.least (survey g (goal.at.After-move_head g c).After-inspect) c.in_ok-found.ensures.ok
-    (g.met.M.Medium.sound c.copy_records.new.m) c.copy_records.ensures.copies c.in_ok-copy_records.ensures.done (omega arith)
-    c.move_head.ensures.writes
+-- it was driven to its end, or a call was refused, which ends it
+at_end : {Exact : Type 0} {left rest : Tally} (A : Type 0) {old new : State} (at : StartStage) (result : Result (Unit {0}) MediumFault)
+    → Tallied Exact left rest result old new → OnOk result ((start_left at ≡ none) × A) → (IsStarting at → new.failures ≡ old.failures)
+    → start_left at ≡ none
+at_end A at (Ok done) t end well = end.0
+at_end A at (Err e) t end well = elim (ended_or_not at) [
+  | inl is ↦ is
+  | inr live ↦ absurd (omega (arith, (refusal_counts (Err e) t).0, well live))
+]
 
-pub copy_records-requires-clause-whole : goal.copy_records-requires-clause-whole
-copy_records-requires-clause-whole g c j below =
-    quiet_after (λ n i. HasWhole (shape_of c.in_ok-found.found.sizes) i (c.in_ok-found.found.head + j)) _ _
-    c.inspect.ensures.reads.only.quiet (c.in_ok-found.ensures.ok.count.whole j below)
+-- it began before the first call
+held : (g : _) (c : After-drive g) → HoldsStart g.M.Medium.state c.args.least (stage_of c.drive.new.machine) c.drive.new.sector c.args.m.now
+    c.drive.new.m
+held g c = ((c.drive.ensures.driven.runs (record { start = c.args.m.now; least = c.args.least })
+    (c.begin_at_least-starting.ensures.of.1, c.begin_at_least-starting.ensures.held c.args.m.now _)).1).1
 
-pub move_head-requires-clause-inside : goal.move_head-requires-clause-inside
-move_head-requires-clause-inside g c =
-    let sizes = c.in_ok-found.found.sizes in
-    omega (arith, c.in_ok-found.ensures.ok.shape.fits, log_ends (shape_of sizes) sizes.home_is)
-
--- behind a refused flush there is no survey
-pub returns-in_err-flush-clause-leaves : goal.returns-in_err-flush-clause-leaves
-returns-in_err-flush-clause-leaves g c =
-    let mid = g.M.Medium.state c.flush.new.self in
-    survey_leaves c.args.least {mid = mid} {result = c.flush.result}
-    (search (rules, quiet_start mid, no_looks, g.met.M.Medium.sound))
-
-pub returns-in_err-found : goal.returns-in_err-found
-returns-in_err-found g c =
-    let known = survey g (goal.at.returns-in_err-found g c).After-inspect in
-    let refused = refusal c.args.least known c.in_err-found.field-0.0 c.in_err-found.ensures.err in
-    search (rules, survey_leaves c.args.least known, refused, g.met.M.Medium.follows_through)
-
-pub returns-in_err-copy_records-clause-leaves : goal.returns-in_err-copy_records-clause-leaves
-returns-in_err-copy_records-clause-leaves g c =
-    copies_leave c.args.least (survey g
-    (goal.at.returns-in_err-copy_records-clause-leaves g c).After-inspect) c.in_ok-found.ensures.ok
-    (g.met.M.Medium.sound c.copy_records.new.m) c.copy_records.ensures.copies
-
-pub returns-in_err-move_head-clause-leaves : goal.returns-in_err-move_head-clause-leaves
-returns-in_err-move_head-clause-leaves g c = moved g (goal.at.returns-in_err-move_head-clause-leaves g c).After-move_head
+pub end-requires : goal.end-requires
+end-requires g c = at_end _ (stage_of c.drive.new.machine) c.drive.result c.drive.ensures.driven.tallied c.drive.ensures.done
+    (held g (goal.at.end-requires g c).After-drive).well
 
 pub returns : goal.returns
 returns g c =
-    let at = goal.at.returns g c in
-    let moves = c.in_ok-move_head.ensures in
-    let both = recovery_done c.args.least (survey g at.After-inspect) c.in_ok-found.ensures.ok
-    (g.met.M.Medium.sound c.copy_records.new.m)
-    c.copy_records.ensures.copies c.in_ok-copy_records.ensures.done (g.M.Medium.state c.move_head.new.m) moves.done.0 moves.done.1
-    moves.writes.exact in
-    search (rules, both, moved g at.After-move_head, g.met.M.Medium.follows_through)
+    let ends = c.end.ensures c.args.least c.args.m.now c.drive.new.m _ (held g (goal.at.returns g c).After-drive) in
+    record { ok = ends.ok; fresh = ends.fresh; err = ends.err; leaves = ends.leaves; follows = c.drive.ensures.follows }

@@ -1,14 +1,34 @@
-use Rattle.std.proofs.Common.{inl, inr, refl, arith}
+use Rattle.std.proofs.Common.{inl, inr, refl, ◌∙◌, arith}
+use Rattle.recovery.specs.Copying.{copying_of}
+use Rattle.recovery.specs.Starting.{IsNewCopying}
 use Rattle.recovery.proofs.start_steps.behind_survey.Goals as goal
+use Rattle.recovery.proofs.start_steps.behind_survey.Goals.{After-first_step}
 
-pub returns-then-copying-eq0 : goal.returns-then-copying-eq0
-returns-then-copying-eq0 c =
-    let new = c.new_copying-copying in
-    rw (← c.len.ensures.value)
-    (inr (omega (arith, c.if-found.false), new.result, new.ensures, inr (c.if-copying-eq0.true, refl)))
+-- the copying begins
+new : (c : After-first_step)
+    → IsNewCopying (record { sizes = c.args.survey.now.reader.sizes; head = c.args.head; count = c.len.result })
+    (copying_of c.restart.new.self c.first_step.result)
+new c = record {
+  sizes_are = c.restart.ensures.of.0;
+  stamp_is = c.restart.ensures.of.1;
+  unread = c.restart.ensures.unread;
+  left_is = c.first_step.ensures.0;
+  i_is = c.first_step.ensures.1;
+  no_bytes = c.first_step.ensures.2;
+}
 
-pub returns : goal.returns
-returns c =
-    let new = c.new_copying-copying in
-    rw (← c.len.ensures.value)
-    (inr (omega (arith, c.if-found.false), new.result, new.ensures, inl (omega (arith, c.if-copying-eq0.false), refl)))
+pub returns-then-found-eq0-clause-goes : goal.returns-then-found-eq0-clause-goes
+returns-then-found-eq0-clause-goes c = rw (← c.len.ensures.value) (inr (
+  omega (arith, c.if-found.false),
+  _,
+  new (goal.at.returns-then-found-eq0-clause-goes c).After-first_step,
+  inr (c.first_step.ensures.0 ∙ c.if-found-eq0.true, refl),
+))
+
+pub returns-clause-goes : goal.returns-clause-goes
+returns-clause-goes c = rw (← c.len.ensures.value) (inr (
+  omega (arith, c.if-found.false),
+  _,
+  new (goal.at.returns-clause-goes c).After-first_step,
+  inl (omega (arith, c.first_step.ensures.0, c.if-found-eq0.false), refl),
+))

@@ -4,14 +4,15 @@ use Rattle.window.specs.Window.{state_of}
 use Rattle.recovery.specs.HoldsStart.{HoldsStart}
 use Rattle.recovery.specs.Starting.{start_left}
 use Rattle.recovery.specs.declared.starting.Starting.{Starting}
+use Rattle.opening.specs.Recovering.{stage_of}
 use Rattle.opening.proofs.Recoveries.{over_left, ended}
 use Rattle.opening.proofs.recovering.Recovering.end.Goals as goal
 
 pub end-requires : goal.end-requires
-end-requires c = subst (λ (s : Starting). start_left s.stage ≡ none) (sym c.into_machine.ensures)
+end-requires c = subst (λ (s : Starting). start_left (stage_of s) ≡ none) (sym c.into_machine.ensures)
     (over_left c.args.self c.args.self.carried.asked (sym c.refusal.ensures ∙ c.in-None.is) c.requires)
 
 pub returns-in-None : goal.returns-in-None
 returns-in-None c = ended c.args.self c.end.result c.args.self.carried.asked refl (sym c.refusal.ensures ∙ c.in-None.is) c.requires
     (λ least start m had held. c.end.ensures least start m had
-    (subst (λ (s : Starting). HoldsStart state_of least s.stage had start m) (sym c.into_machine.ensures) held))
+    (subst (λ (s : Starting). HoldsStart state_of least (stage_of s) had start m) (sym c.into_machine.ensures) held))

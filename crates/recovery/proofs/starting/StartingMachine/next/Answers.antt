@@ -6,7 +6,6 @@ use Rattle.medium.specs.declared.medium_call.Call.TheVariants.{Read, Write, Flus
 use Rattle.journal.specs.declared.log_format.LogFormat.TheVariants.{Two}
 use Rattle.journal.specs.Places.{sectors_of, first_home}
 use Rattle.journal.specs.Formats.{shape_of}
-use Rattle.journal.specs.Sectors.{IsHead}
 use Rattle.recovery.specs.Starting.{head_calls, all_calls, home_calls, both}
 use Rattle.recovery.proofs.StartBegins.{flushed_first, first_made, super_leaves, super_made, head_leaves, head_made}
 use Rattle.recovery.proofs.StartSurvey.{survey_made, survey_refused}
@@ -68,8 +67,8 @@ returns-in-Survey g c =
     let S = g.M.Medium.state in
     let sound = g.met.M.Medium.sound in
     let s = c.args.self.now in
-    let survey = c.in-Survey.survey in
-    let can = s.goes.survey c.in-Survey.field-0 survey c.in-Survey.is in
+    let survey = s.survey in
+    let can = s.goes.survey_goes c.in-Survey.field-0 c.in-Survey.is in
     let others = home_calls survey.reader.sizes.format survey.reader.sizes.slots in
     let ends = no_tries_left survey.reader survey.left survey.place survey.goes in
     told_by c.next.result (λ none. absurd (omega (arith, can.due, ends none.0))) (λ call tells. told S s c.in-Survey.is tt
@@ -88,22 +87,22 @@ returns-in-Copy g c =
     let S = g.M.Medium.state in
     let sound = g.met.M.Medium.sound in
     let s = c.args.self.now in
-    let copying = c.in-Copy.copying in
-    let can = s.goes.copy c.in-Copy.field-0 copying c.in-Copy.is in
-    let fits_here : sectors_of (shape_of copying.reader.sizes) ≤ s.sectors = rw can.sizes_are can.fits.fits in
-    let ends = none_left copying.reader copying.step copying.goes in
-    told_by c.next-in-Copy.result (λ none. absurd (omega (arith, can.due, ends none.0)))
+    let reader = s.survey.reader in
+    let can = s.goes.copy c.in-Copy.field-0 c.in-Copy.is in
+    let fits_here : sectors_of (shape_of reader.sizes) ≤ s.sectors = rw can.sizes_are can.fits.fits in
+    let ends = none_left reader s.step can.can in
+    told_by c.next_copy.result (λ none. absurd (omega (arith, can.due, ends none.0)))
     (λ call both_tell.
     let tells = both_tell.0 in
-    told S s c.in-Copy.is tt (within_more (sectors_of (shape_of copying.reader.sizes)) s.sectors fits_here call tells.within)
-    (reads_more (first_home (shape_of copying.reader.sizes)) s.sectors (omega (arith, fits_here)) call tells.looks) both_tell.1
+    told S s c.in-Copy.is tt (within_more (sectors_of (shape_of reader.sizes)) s.sectors fits_here call tells.within)
+    (reads_more (first_home (shape_of reader.sizes)) s.sectors (omega (arith, fits_here)) call tells.looks) both_tell.1
     (λ m n start got least next fits held performed after.
     copy_made S sound least held.midway tells (held.well tt) performed after.1 after.2)
     (λ m n start got least e held performed. copy_refused S sound least held.midway tells performed)
     (both tells.rest head_calls)
     (ap (λ (t : Tally). both t head_calls) tells.pays ∙ both_more tells.rest head_calls (fault_of call))
     (λ got next after. left_through (copied_left after.2) (both_left head_calls (tells.rests got after.0 after.1))))
-    (both_told _ _ _ c.next-in-Copy.result c.next-in-Copy.ensures.told c.next-in-Copy.ensures.kind)
+    (both_told _ _ _ c.next_copy.result c.next_copy.ensures.told c.next_copy.ensures.kind)
 
 -- the flush of the copies
 pub returns-in-FlushCopies : goal.returns-in-FlushCopies
@@ -124,10 +123,9 @@ returns-in-WriteHead g c =
     let s = c.args.self.now in
     let found = c.in-WriteHead.found in
     let some : 1 < s.sectors = omega (arith, (s.goes.move found c.in-WriteHead.is).fits, found.sizes.home_is.0) in
-    let head : IsHead (found.head + found.count + 1) c.encode.result = rw (← c.new.ensures) c.encode.ensures in
     told S s c.in-WriteHead.is tt some tt refl
-    (λ m n start got least next fits held performed after. rw after (head_write_made S sound least held head performed))
-    (λ m n start got least e held performed. head_write_leaves S sound least held head performed)
+    (λ m n start got least next fits held performed after. rw after (head_write_made S sound least held c.put_head.ensures performed))
+    (λ m n start got least e held performed. head_write_leaves S sound least held c.put_head.ensures performed)
     (record { reads = 0; writes = 0; flushes = 1 }) refl
     (λ got next after. rw after (few_left (omega arith) (omega arith) (omega arith)))
 

@@ -1,0 +1,100 @@
+use Rattle.std.proofs.Common.{◌≡◌, ◌<◌, ◌≤◌, ◌+◌, ◌*◌, ◌%◌, ◌++◌, ℕ, [], length, drop, get_or, ap, refl, ◌∙◌, arith, true, false}
+use Rattle.std.proofs.lemmas.Nat.{mod_below}
+use Rattle.journal.specs.declared.naming_stage.NamingStage.TheVariants.{Named}
+use Rattle.journal.specs.Places.{first_home, first_data_of, limit_of}
+use Rattle.journal.specs.Formats.{layout_of, shape_of}
+use Rattle.journal.specs.Reading.{data_at}
+use Rattle.journal.proofs.SectorsRead.{place_before}
+use Rattle.recovery.specs.Copying.{IsBlockStep, HasRead}
+use Rattle.recovery.proofs.CopiedBlocks.{unread, took, block_read, unwritten, block_written, record_written}
+use Rattle.recovery.proofs.CopyTally.{naming_pays, naming_left, block_pays, block_left, home_pays, home_left, is_named}
+use Rattle.std.proofs.Common.{⊎_elim, Bool, subst}
+use Rattle.recovery.proofs.copying.next_copy.Goals as goal
+
+pub returns-in-Some-clause-told : goal.returns-in-Some-clause-told
+returns-in-Some-clause-told g c =
+    let reader = c.args.reader.now in
+    let step = c.args.step.now in
+    let asked = c.in-Some.ensures in
+    let due : 0 < step.left = omega (arith, c.if-step-eq0.false) in
+    let first = c.requires.unnamed (λ is. rw is at asked.0) in
+    record {
+      due = due;
+      within = omega (arith, asked.1);
+      looks = asked.1;
+      made = λ m n got view next fits held performed after.
+          took held performed due asked.1 asked.2 first.0 first.1 (after.reading asked.0);
+      refused = λ m n got view next e fits held performed gone. unread held performed gone;
+      rest = _;
+      pays = naming_pays reader step due asked.0;
+      rests = λ got next after. naming_left reader step due asked.0 (λ e. e) after.sizes_stay (after.reading asked.0);
+    }
+
+pub returns-then-not-step-clause-told : goal.returns-then-not-step-clause-told
+returns-then-not-step-clause-told g c =
+    let reader = c.args.reader.now in
+    let step = c.args.step.now in
+    let due : 0 < step.left = omega (arith, c.if-step-eq0.false) in
+    let named : reader.stage ≡ Named = is_named reader.stage c.in_default.ensures c.requires.there in
+    let below = c.requires.named named in
+    let inside : length reader.read.numbers.items ≤ limit_of reader.sizes.format = (reader.reads.named named).few in
+    let no_bytes : step.has_bytes ≡ false = c.if-not-step.true in
+    let is : c.copy_place.result ≡ data_at (shape_of reader.sizes) reader.stamp step.i = c.copy_place.ensures
+    ∙ ap (λ (k : ℕ). 2 + (layout_of reader.sizes.format).slot_sectors * k + first_data_of reader.sizes.format + step.i)
+    c.slot_of-slot.ensures in
+    let low = place_before reader.sizes.format reader.sizes.slots reader.sizes.home (reader.stamp % reader.sizes.slots) step.i
+    reader.sizes.home_is (mod_below reader.stamp reader.sizes.slots reader.sizes.some_slots) (omega (arith, below, inside)) in
+    let lies : c.copy_place.result < first_home (shape_of reader.sizes) = omega (arith, is, low) in
+    record {
+      due = due;
+      within = omega (arith, lies);
+      looks = lies;
+      made = λ m n got view next fits held performed after.
+          let has : HasRead reader step next.reader next.step =
+          subst (λ (b : Bool). IsBlockStep b reader step next.reader next.step)
+          no_bytes (after.copying named) in
+          block_read held performed due lies is no_bytes has;
+      refused = λ m n got view next e fits held performed gone. unread held performed gone;
+      rest = _;
+      pays = block_pays reader step due named below inside no_bytes;
+      rests = λ got next after.
+          let has : HasRead reader step next.reader next.step =
+          subst (λ (b : Bool). IsBlockStep b reader step next.reader next.step)
+          no_bytes (after.copying named) in
+          block_left reader step due named below inside (λ e. e) no_bytes has;
+    }
+
+pub returns-clause-told : goal.returns-clause-told
+returns-clause-told g c =
+    let reader = c.args.reader.now in
+    let step = c.args.step.now in
+    let due : 0 < step.left = omega (arith, c.if-step-eq0.false) in
+    let named : reader.stage ≡ Named = is_named reader.stage c.in_default.ensures c.requires.there in
+    let below = c.requires.named named in
+    let names = reader.reads.named named in
+    let full : step.has_bytes ≡ true = c.if-not-step.false in
+    let is : c.home_of.result ≡ first_home (shape_of reader.sizes) + get_or reader.read.numbers.items step.i 0 =
+    rw c.deref.ensures.0 at c.home_of.ensures in
+    let inside = names.inside step.i 0 below in
+    let first = get_or reader.read.firsts.items step.i [] in
+    let bytes_are : c.copy_from_slice.new.self ++ drop (length c.first-first.result.now) c.args.sector.now
+    ≡ first ++ drop (length first) c.args.sector.now = rw (c.copy_from_slice.ensures.after, c.first-first.ensures.is) refl in
+    record {
+      due = due;
+      within = omega (arith, is, inside);
+      looks = tt;
+      made = λ m n got view next fits held performed after.
+          let went : IsBlockStep true reader step next.reader next.step =
+          subst (λ (b : Bool). IsBlockStep b reader step next.reader next.step)
+          full (after.copying named) in
+          ⊎_elim (λ has. block_written held due named below is full bytes_are performed has)
+          (λ last. record_written held due named below is full bytes_are performed last.0 last.1) went;
+      refused = λ m n got view next e fits held performed gone. unwritten held due named below is performed gone;
+      rest = _;
+      pays = home_pays reader step due named below names.few;
+      rests = λ got next after.
+          let went : IsBlockStep true reader step next.reader next.step =
+          subst (λ (b : Bool). IsBlockStep b reader step next.reader next.step)
+          full (after.copying named) in
+          home_left reader step due named below names.few (λ e. e) full after.sizes_stay went;
+    }
