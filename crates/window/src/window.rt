@@ -242,6 +242,7 @@ impl Medium for WindowMedium {
         Ok(())
     }
 
+    #[inline]
     fn write(&mut self, sector: u64, from: &[u8; 512]) -> Result<(), MediumFault>
         requires { sector < (state_of self.old).size }
         ensures exact { OnOk result (self.new
@@ -258,16 +259,21 @@ impl Medium for WindowMedium {
         ensures passes { Passes Write result (state_of self.old) (state_of self.new) }
         ensures follows { ComesAfter self.old self.new }
     {
+        if self.outbox.len() >= self.room {
+            let call = DeviceCall::Write(SectorWrite {
+                sector,
+                block: *from,
+            });
+            self.story = self.story.refused(&call);
+            return Err(MediumFault::Write);
+        }
+        keep(&mut self.near, &mut self.pane, sector, from);
+        // (made right where it is put, it is copied once)
         let call = DeviceCall::Write(SectorWrite {
             sector,
             block: *from,
         });
-        if self.outbox.len() >= self.room {
-            self.story = self.story.refused(&call);
-            return Err(MediumFault::Write);
-        }
         self.story = self.story.gave(&call);
-        keep(&mut self.near, &mut self.pane, sector, from);
         self.outbox.push_back_reserved(call);
         Ok(())
     }
