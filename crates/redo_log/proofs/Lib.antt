@@ -7,4 +7,5 @@ pub mod LeavingIndex
 pub mod LogRules
 pub mod HeldLog
 pub mod StepCalls
+pub mod TurnCalls
 pub mod TurnLaws

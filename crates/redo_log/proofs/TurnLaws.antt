@@ -294,3 +294,22 @@ two_counts log owed first second home head home_then some head_then {old} {mid} 
       sent = omega (arith, sends);
       flushed = record { later = omega (arith, flushes); most = omega (arith, flushes); exact = on_ok_same two flushes };
     }
+
+-- a refused first call is no more than they are
+pub refused_counts : (log : LogValue) → 0 < of_oldest log → (first : Call) → (2 < of_oldest log → Counts first 0 0)
+    → (of_oldest log ≡ 2 → Counts first 1 1) → (of_oldest log ≡ 1 → Counts first 1 0) → {old new : State} {e : MediumFault}
+    → Passes (fault_of first) (Err e) old new
+    → CountsStep {X = Unit {0}} (next_calls log) (next_sends log) (next_turn_flushes log) (Err e) old new
+refused_counts log owed first home flush head {old} {new} a =
+    let one = one_sent first old new a in
+    record {
+      two = omega (arith, a.calls_are);
+      most = grind (arith, owed, a.calls_are);
+      exact = tt;
+      sent = grind (arith, owed, cases_lt 2 (of_oldest log), home, flush, head, one.0);
+      flushed = record {
+        later = omega (arith, one.1);
+        most = grind (arith, owed, cases_lt 2 (of_oldest log), home, flush, head, one.1);
+        exact = tt;
+      };
+    }

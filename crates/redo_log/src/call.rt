@@ -8,7 +8,7 @@ ghost use Rattle.redo_log.specs.Shown.{IsRecord, written_at};
 ghost use Rattle.medium.specs.Performed.{IsWithin};
 ghost use Rattle.redo_log.specs.Calls.{IsNextCall};
 
-use journal::{Super, early, parts, slot_of, slot_place, write_part};
+use journal::{LogFormat, Super, early, parts, slot_of, slot_place, write_part};
 use medium::Call;
 
 // How many parts of a record are written after `made` calls. One of them may be the early flush.
@@ -30,11 +30,14 @@ fn is_early_due(early: usize, made: usize) -> bool
     0 < early && made == early
 }
 
-// Whether a flush comes next: the early parts are written, or all.
-fn is_flush_due(early: usize, parts: usize, made: usize, written: usize) -> bool
-    ensures { IsTrue result ↔ (((0 < early) × (made ≡ early)) ⊎ (parts ≤ written)) }
+// Whether a flush comes next: the early parts are written, or all. A record has more parts than
+// blocks, so that they are not counted for each of these.
+fn is_flush_due(format: LogFormat, count: usize, early: usize, made: usize, written: usize) -> bool
+    requires { count ≤ 240 }
+    ensures { IsTrue result ↔ (((0 < early) × (made ≡ early))
+        ⊎ ((layout_of format).parts count ≤ written)) }
 {
-    is_early_due(early, made) || parts <= written
+    is_early_due(early, made) || (count < written && parts(format, count) <= written)
 }
 
 /// The next call of a record of which `made` calls are made, and in the sector what it writes.
@@ -55,7 +58,7 @@ pub(crate) fn next_call(
     let count = numbers.len();
     let early = early(sizes.format, count);
     let written = written_at(early, made);
-    if is_flush_due(early, parts(sizes.format, count), made, written) {
+    if is_flush_due(sizes.format, count, early, made, written) {
         return Call::Flush;
     }
     Call::Write(put_part(sizes, stamp, numbers, bytes, written, sector))

@@ -60,10 +60,11 @@ impl Log {
         ensures sent { IsAway self.now
             → StaysSent result self.now (M.state m.old) (M.state m.new) }
     {
+        let turn = self.oldest_turn();
         let mut sector = [0; 512];
-        let first = self.turn_first::<M>(&mut sector);
+        let first = turn.first(&mut sector);
         perform(m, first, &mut sector)?;
-        let Some(second) = self.turn_second::<M>(&mut sector) else {
+        let Some(second) = turn.second(&mut sector) else {
             return Ok(());
         };
         perform(m, second, &mut sector)

@@ -45,7 +45,8 @@ impl Log {
         let Some(made) = self.made else {
             unreachable!()
         };
-        if made + 1 < steps_for(self.sizes.format, numbers.len()) {
+        // (a record has more steps than blocks: they are not counted for each of these)
+        if made < numbers.len() || made + 1 < steps_for(self.sizes.format, numbers.len()) {
             self.made = Some(made + 1);
             return Progress::More;
         }
