@@ -1,7 +1,7 @@
 -- How many bytes an intention has, and how long data are.
 use Rattle.std.proofs.Common.{◌≡◌, ◌≢◌, ◌<◌, ◌≤◌, ◌+◌, ◌*◌, ℕ, zero, suc, Bool, true, false, List, [], length, take, Some, None, Option}
-use Rattle.std.proofs.Common.{refl, ap, arith, length-append}
-use Rattle.std.specs.Prelude.{if◌then◌else◌, ◌==◌, min, unwrap_or}
+use Rattle.std.proofs.Common.{refl, ap, ◌∙◌, arith, length-append}
+use Rattle.std.specs.Prelude.{if◌then◌else◌, ◌==◌, min, unwrap_or, IfOk, Result, Ok, Err}
 use Rattle.std.proofs.lemmas.Bool.{eqb-true, eqb-false}
 use Rattle.spec.specs.Blocks.{Array}
 use Rattle.spec.specs.Book.{blocks_at}
@@ -13,7 +13,9 @@ use Rattle.spec.specs.Inquiry.{block_limits}
 use Rattle.spec.specs.ModePage.{mode_data, caching_page}
 use Rattle.spec.specs.declared.intent.Intent.TheVariants as intent
 use Rattle.spec.specs.Capacity.{capacity_10, capacity_16}
-use Rattle.spec.specs.Rules.{UnitState, sends, takes}
+use Rattle.spec.specs.declared.command.Command.{Command}
+use Rattle.spec.specs.Rules.{UnitState, sends, takes, moves}
+use Rattle.scsi_unit.specs.Calls.{SendsAsMeant}
 use Rattle.scsi_unit.specs.Laws.{IsSized}
 use Rattle.scsi_unit.proofs.Directions.{in_or_none, out_or_none}
 
@@ -52,6 +54,29 @@ sends_nothing_at bytes false none never = absurd (never bytes refl)
 
 pub sends_nothing : (bytes : ℕ) → ((n : ℕ) → sends bytes ≢ intent.In n) → bytes ≡ 0
 sends_nothing bytes never = sends_nothing_at bytes (bytes == 0) (λ yes. eqb-true bytes 0 yes) never
+
+-- room for what is intended is room for what is sent
+sends_room_at : (bytes room : ℕ) (nothing : Bool) → (nothing ≡ true → bytes ≡ 0)
+    → ((n : ℕ) → in_or_none bytes nothing ≡ intent.In n → n ≤ room) → bytes ≤ room
+sends_room_at bytes room true none fits = omega (arith, none refl)
+sends_room_at bytes room false none fits = fits bytes refl
+
+pub sends_room : (bytes room : ℕ) → ((n : ℕ) → sends bytes ≡ intent.In n → n ≤ room) → bytes ≤ room
+sends_room bytes room fits = sends_room_at bytes room (bytes == 0) (λ yes. eqb-true bytes 0 yes) fits
+
+pub room_for : (command other : Command) (bytes room : ℕ) → command ≡ other → moves other ≡ sends bytes
+    → ((n : ℕ) → moves command ≡ intent.In n → n ≤ room) → bytes ≤ room
+room_for command other bytes room is moved fits = sends_room bytes room (λ n sent. fits n (ap moves is ∙ moved ∙ sent))
+
+-- as many bytes are sent as are intended
+pub meant_to_send : (bytes limit : ℕ) (result : Result ℕ Sense) → IfOk result (λ sent. sent ≡ bytes) → bytes ≤ 512 * limit
+    → SendsAsMeant (sends bytes) limit result
+meant_to_send bytes limit (Ok sent) is few = record {
+  sent = λ n meant. is ∙ (sends_is bytes n meant).0;
+  none = λ never. is ∙ sends_nothing bytes never;
+  most = omega (arith, is, few);
+}
+meant_to_send bytes limit (Err sense) is few = record { sent = λ n meant. tt; none = λ never. tt; most = tt }
 
 takes_nothing_at : (bytes : ℕ) (nothing : Bool) → (nothing ≡ true → bytes ≡ 0)
     → ((n : ℕ) → out_or_none bytes nothing ≢ intent.Out n) → bytes ≡ 0

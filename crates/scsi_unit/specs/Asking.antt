@@ -8,27 +8,28 @@ use Rattle.spec.specs.declared.intent.Intent.TheVariants as intent
 use Rattle.spec.specs.Rules.{needs_medium, moves}
 use Rattle.scsi_unit.specs.UnitValue.{UnitValue, unit_limit, intention_of}
 
--- a command block, the bytes taken for it, as many as it intends to take, and room for a transfer
+-- a command block, the bytes taken for it, as many as it intends to take, and room for those that
+-- it intends to send
 pub record CanCarryOut {M : Type 0} (unit : UnitValue M) (block taken out : List ℕ)
     : Type 0 where
   pub some : 0 < length block
   pub taken_all : (n : ℕ) → intention_of unit block ≡ intent.Out n → length taken ≡ n
-  pub room : length out ≡ 512 * unit_limit unit
+  pub room : (n : ℕ) → intention_of unit block ≡ intent.In n → n ≤ length out
 
--- a command that the unit does not refuse, the bytes taken for it, and room for a transfer
+-- a command that the unit does not refuse, the bytes taken for it, and room for what it sends
 pub record CanPerform {M : Type 0} (unit : UnitValue M) (command : Command)
     (taken out : List ℕ) : Type 0 where
   pub served : (is_dead unit.store.cached && needs_medium command) ≡ false
   pub supported : IsSupported (blocks_of unit.store.cached) (unit_limit unit) command
   pub taken_all : (n : ℕ) → moves command ≡ intent.Out n → length taken ≡ n
-  pub room : length out ≡ 512 * unit_limit unit
+  pub room : (n : ℕ) → moves command ≡ intent.In n → n ≤ length out
 
--- a READ that the unit does not refuse, and room for a transfer
+-- a READ that the unit does not refuse, and room for its blocks
 pub record CanRead {M : Type 0} (unit : UnitValue M) (transfer : Transfer) (out : List ℕ)
     : Type 0 where
   pub live : is_dead unit.store.cached ≡ false
   pub within : IsWithin (blocks_of unit.store.cached) (unit_limit unit) transfer
-  pub room : length out ≡ 512 * unit_limit unit
+  pub room : 512 * transfer.count ≤ length out
 
 -- a WRITE that the unit does not refuse, and its blocks
 pub record CanWrite {M : Type 0} (unit : UnitValue M) (transfer : Transfer) (taken : List ℕ)

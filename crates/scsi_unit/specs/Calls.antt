@@ -1,5 +1,5 @@
 -- How many calls of the medium a command makes at most: what its calls of the store add up to.
-use Rattle.std.specs.Prelude.{◌≡◌, ℕ, ◌+◌, ◌*◌, ◌≤◌, ◌||◌, not, Bool, false, List, Result}
+use Rattle.std.specs.Prelude.{◌≡◌, ◌≢◌, ℕ, ◌+◌, ◌*◌, ◌≤◌, ◌||◌, not, Bool, false, List, Result}
 use Rattle.std.specs.Prelude.{Ok, Err, IfOk, Option, if◌then◌else◌}
 use Rattle.medium.specs.Medium.{State}
 use Rattle.medium.specs.Sent.{SendsUpTo}
@@ -114,9 +114,11 @@ pub record MakesFew {M : Type 0} (before after : State) (block taken : List ℕ)
   pub sent : SendsUpTo (most_sends old) before after
   pub looks : LooksToRead before after old (read_of (command_for old block))
 
--- How many bytes a command sends: as many as it is meant to, and no more than a transfer has.
+-- How many bytes a command sends: as many as it is meant to, and no more than a transfer has. One
+-- that is not meant to send, as one that takes data, sends none.
 pub record SendsAsMeant (intention : Intention) (limit : ℕ) (result : Result ℕ Sense) : Type 0 where
   pub sent : (n : ℕ) → intention ≡ intent.In n → IfOk result (λ sent. sent ≡ n)
+  pub none : ((n : ℕ) → intention ≢ intent.In n) → IfOk result (λ sent. sent ≡ 0)
   pub most : IfOk result (λ sent. sent ≤ 512 * limit)
 
 -- the same, and the medium comes after what it was, by calls alone

@@ -26,7 +26,7 @@ use sense::Sense;
 
 // Sends data, of which an allocation length cuts what is behind it.
 fn send(bytes: &[u8], allocation: usize, out: &mut [u8]) -> usize
-    requires { length bytes.now ≤ length out.old }
+    requires { min allocation (length bytes.now) ≤ length out.old }
     ensures size { result ≡ min allocation (length bytes.now) }
     ensures sent { take result out.new ≡ take allocation bytes.now }
 {
@@ -136,7 +136,7 @@ impl<M: Medium> Unit<M> {
 
     // REQUEST SENSE: what is reported waits no longer.
     fn report(&mut self, allocation: u8, out: &mut [u8]) -> usize
-        requires { length out.old ≡ 512 * unit_limit self.old }
+        requires { min allocation 18 ≤ length out.old }
         ensures size { result ≡ min allocation 18 }
         ensures sent { take result out.new
             ≡ take allocation (fixed_sense (reported self.old.kept)) }
@@ -148,7 +148,7 @@ impl<M: Medium> Unit<M> {
 
     // INQUIRY: standard data, or a vital product data page.
     fn inquire(&self, page: Option<u8>, allocation: u16, out: &mut [u8]) -> usize
-        requires { length out.old ≡ 512 * unit_limit self.now }
+        requires { min allocation (unwrap_or (inquiry_size page) 0) ≤ length out.old }
         ensures size { result ≡ min allocation (unwrap_or (inquiry_size page) 0) }
         ensures sent { take result out.new
             ≡ take allocation
@@ -172,7 +172,7 @@ impl<M: Medium> Unit<M> {
         out: &mut [u8],
     ) -> Result<usize, Sense>
         requires there { HasModePage control page subpage }
-        requires room { 24 ≤ length out.old }
+        requires room { min allocation 24 ≤ length out.old }
         ensures size { result ≡ Ok (min allocation 24) }
         ensures sent { IfOk result (λ sent. take sent out.new
             ≡ take allocation (mode_data control self.now.write_cache)) }

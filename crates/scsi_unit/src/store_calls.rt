@@ -34,7 +34,7 @@ pub(crate) fn read_blocks<M: Medium>(
     out: &mut [u8],
 ) -> Result<usize, Sense>
     requires can { CanTransfer store.old.cached transfer }
-    requires room { length out.old ≡ 512 * transfer_limit store.old.cached }
+    requires room { 512 * transfer.count ≤ length out.old }
     ensures reads { ReadsBlocks transfer (M.state store.old.medium) (M.state store.new.medium)
         store.old.cached store.new.cached out.new result }
     ensures passes { PassesRead M.follows transfer store.old store.new result }

@@ -88,6 +88,7 @@ impl<M: Medium> Unit<M> {
         ensures by_book { (book : Book) → FitsUnit (M.state self.now.store.medium) self.now book
             → result ≡ intention (state_of self.now book) block.now }
         ensures most { (n : ℕ) → result ≡ intent.Out n → (0 < n) × (n ≤ 512 * unit_limit self.now) }
+        ensures room { (n : ℕ) → result ≡ intent.In n → n ≤ 512 * unit_limit self.now }
     {
         match self.command(block) {
             Ok(command) => moves(&self.identity, &command),
@@ -96,9 +97,9 @@ impl<M: Medium> Unit<M> {
     }
 
     /// Carries out a command block, of 1 to 16 bytes, over the data taken for it, and writes the
-    /// data to send to the front of `out`, which has room for `limit` blocks of 512 bytes. The
-    /// answer is the number of these. Where the block intends to take data, `taken` has as many
-    /// bytes; else it is ignored.
+    /// data to send to the front of `out`. The answer is the number of these bytes. Where the block
+    /// intends to take data, `taken` has as many bytes; else it is ignored. Where it intends to
+    /// send data, `out` has room for as many bytes; else nothing is sent, and `out` may be empty.
     ///
     /// # Errors
     ///

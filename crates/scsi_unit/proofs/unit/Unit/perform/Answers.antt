@@ -1,17 +1,20 @@
-use Rattle.std.proofs.Common.{◌≡◌, ◌*◌, ℕ, Bool, true, false, List, [], Ok, refl, subst, sym, ◌∙◌, ap, length, take}
+use Rattle.std.proofs.Common.{◌≡◌, ◌*◌, ℕ, Bool, true, false, List, [], Ok, refl, subst, sym, ◌∙◌, ap, arith, length, take}
 use Rattle.spec.specs.declared.command.Command.{Command}
 use Rattle.spec.specs.declared.command.Command.TheVariants as command
 use Rattle.spec.specs.declared.intent.Intent.TheVariants as intent
 use Rattle.spec.specs.Rules.{moves, gives}
-use Rattle.scsi_unit.specs.UnitValue.{UnitValue, state_of, answer_of}
+use Rattle.scsi_unit.specs.UnitValue.{UnitValue, unit_limit, state_of, answer_of}
 use Rattle.spec.specs.Capacity.{capacity_10, capacity_16}
 use Rattle.spec.specs.ModePage.{mode_data}
-use Rattle.std.specs.Prelude.{◌&&◌}
-use Rattle.blocks.specs.StoreValue.{blocks_of, is_dead}
+use Rattle.std.specs.Prelude.{◌&&◌, min, unwrap_or}
+use Rattle.blocks.specs.StoreValue.{layout_of, blocks_of, is_dead}
+use Rattle.spec.specs.Inquiry.{inquiry_size}
 use Rattle.scsi_unit.specs.Performing.{Performs, Spares, silent}
 use Rattle.scsi_unit.proofs.PerformedCommands.{takes_enough, sends_data, reports_sense, reads_16, writes_16, synchronizes_16, answer_at}
 use Rattle.scsi_unit.proofs.PerformedCommands.{take-capacity_10, performs_silently, spares_silently}
 use Rattle.scsi_unit.proofs.SparedCalls.{spares_reading_16, spares_writing_16, spares_synchronizing_16}
+use Rattle.blocks.proofs.Limits.{limit_least}
+use Rattle.scsi_unit.proofs.DataSizes.{room_for, meant_to_send, inquiry_most}
 use Rattle.scsi_unit.proofs.unit.Unit.perform.Goals as goal
 
 -- a command that needs the medium and is served finds it live
@@ -23,15 +26,35 @@ pub read-requires : goal.read-requires
 read-requires g c = record {
   live = served_live (is_dead c.args.self.now.store.cached) (rw c.in-Read10.is at c.requires.served);
   within = rw c.in-Read10.is at c.requires.supported;
-  room = c.requires.room;
+  room = room_for _ _ (512 * c.in-Read10.transfer.count) (length c.args.out.now) c.in-Read10.is refl c.requires.room;
 }
 
 pub read-requires-in-Read16 : goal.read-requires-in-Read16
 read-requires-in-Read16 g c = record {
   live = served_live (is_dead c.args.self.now.store.cached) (rw c.in-Read16.is at c.requires.served);
   within = rw c.in-Read16.is at c.requires.supported;
-  room = c.requires.room;
+  room = room_for _ _ (512 * c.in-Read16.transfer.count) (length c.args.out.now) c.in-Read16.is refl c.requires.room;
 }
+
+pub report-requires : goal.report-requires
+report-requires g c =
+    room_for _ _ (min c.in-RequestSense.allocation 18) (length c.args.out.now) c.in-RequestSense.is refl c.requires.room
+
+pub inquire-requires : goal.inquire-requires
+inquire-requires g c =
+    room_for _ _ (min c.in-Inquiry.allocation (unwrap_or (inquiry_size c.in-Inquiry.page) 0)) (length c.args.out.now) c.in-Inquiry.is refl
+    c.requires.room
+
+pub sense_mode-requires-clause-room : goal.sense_mode-requires-clause-room
+sense_mode-requires-clause-room g c =
+    room_for _ _ (min c.in-ModeSense.allocation 24) (length c.args.out.now) c.in-ModeSense.is refl c.requires.room
+
+pub send-requires : goal.send-requires
+send-requires g c = omega (arith, room_for _ _ 8 (length c.args.out.now) c.in-ReadCapacity10.is refl c.requires.room)
+
+pub send-requires-in-ReadCapacity16 : goal.send-requires-in-ReadCapacity16
+send-requires-in-ReadCapacity16 g c =
+    omega (arith, room_for _ _ (min c.in-ReadCapacity16.allocation 32) (length c.args.out.now) c.in-ReadCapacity16.is refl c.requires.room)
 
 pub select-requires : goal.select-requires
 select-requires g c = record {
@@ -251,3 +274,70 @@ returns-in-SynchronizeCache16-clause-spares g c =
     (spares_synchronizing_16 (g.M.Medium.state unit.store.medium) (g.M.Medium.state after.store.medium) c.in-SynchronizeCache16.field-0
     c.args.taken.now unit (silent c.synchronize-in-SynchronizeCache16.result) after
     (c.synchronize-in-SynchronizeCache16.ensures.spares c.in-SynchronizeCache16.field-0 c.args.taken.now))
+
+pub returns-in-RequestSense-clause-sends : goal.returns-in-RequestSense-clause-sends
+returns-in-RequestSense-clause-sends g c =
+    let unit = c.args.self.now in
+    rw c.in-RequestSense.is (record {
+      sends = meant_to_send (min c.in-RequestSense.allocation 18) (unit_limit unit) (Ok c.report.result) c.report.ensures.size
+          (omega (arith, limit_least (layout_of unit.store.cached).format));
+      follows = rw c.report.ensures.left (g.met.M.Medium.follows_itself unit.store.medium);
+    })
+
+pub returns-in-Inquiry-clause-sends : goal.returns-in-Inquiry-clause-sends
+returns-in-Inquiry-clause-sends g c =
+    let unit = c.args.self.now in
+    let page = c.in-Inquiry.page in
+    rw c.in-Inquiry.is (record {
+      sends = meant_to_send (min c.in-Inquiry.allocation (unwrap_or (inquiry_size page) 0)) (unit_limit unit) (Ok c.inquire.result)
+          c.inquire.ensures.size (omega (arith, limit_least (layout_of unit.store.cached).format, inquiry_most page));
+      follows = g.met.M.Medium.follows_itself unit.store.medium;
+    })
+
+pub returns-in-ModeSense-clause-sends : goal.returns-in-ModeSense-clause-sends
+returns-in-ModeSense-clause-sends g c =
+    let unit = c.args.self.now in
+    rw c.in-ModeSense.is (record {
+      sends = meant_to_send (min c.in-ModeSense.allocation 24) (unit_limit unit) c.sense_mode.result (rw c.sense_mode.ensures.size refl)
+          (omega (arith, limit_least (layout_of unit.store.cached).format));
+      follows = g.met.M.Medium.follows_itself unit.store.medium;
+    })
+
+pub returns-in-ReadCapacity10-clause-sends : goal.returns-in-ReadCapacity10-clause-sends
+returns-in-ReadCapacity10-clause-sends g c =
+    let unit = c.args.self.now in
+    rw c.in-ReadCapacity10.is (record {
+      sends = meant_to_send 8 (unit_limit unit) (Ok c.send.result) (omega (arith, c.send.ensures.size))
+          (omega (arith, limit_least (layout_of unit.store.cached).format));
+      follows = g.met.M.Medium.follows_itself unit.store.medium;
+    })
+
+pub returns-in-ReadCapacity16-clause-sends : goal.returns-in-ReadCapacity16-clause-sends
+returns-in-ReadCapacity16-clause-sends g c =
+    let unit = c.args.self.now in
+    rw c.in-ReadCapacity16.is (record {
+      sends = meant_to_send (min c.in-ReadCapacity16.allocation 32) (unit_limit unit) (Ok c.send-in-ReadCapacity16.result)
+          (omega (arith, c.send-in-ReadCapacity16.ensures.size))
+          (omega (arith, limit_least (layout_of unit.store.cached).format));
+      follows = g.met.M.Medium.follows_itself unit.store.medium;
+    })
+
+pub returns-in-Read10-clause-sends : goal.returns-in-Read10-clause-sends
+returns-in-Read10-clause-sends g c =
+    let unit = c.args.self.now in
+    let few = (rw c.in-Read10.is at c.requires.supported).few in
+    rw c.in-Read10.is (record {
+      sends = meant_to_send (512 * c.in-Read10.transfer.count) (unit_limit unit) c.read.result c.read.ensures.sends.sent
+          (omega (arith, few));
+      follows = c.read.ensures.sends.follows;
+    })
+
+pub returns-in-Read16-clause-sends : goal.returns-in-Read16-clause-sends
+returns-in-Read16-clause-sends g c =
+    let unit = c.args.self.now in
+    let few = (rw c.in-Read16.is at c.requires.supported).few in
+    rw c.in-Read16.is (record {
+      sends = meant_to_send (512 * c.in-Read16.transfer.count) (unit_limit unit) c.read-in-Read16.result
+          c.read-in-Read16.ensures.sends.sent (omega (arith, few));
+      follows = c.read-in-Read16.ensures.sends.follows;
+    })

@@ -31,7 +31,8 @@ perform-requires g c =
       supported = IfOk-at_ok (IsSupported (blocks_of cached) (unit_limit unit)) c.in_ok-command.was c.command.ensures.supported;
       taken_all = λ n out. c.requires.taken_all n
           (intention_of_command (blocks_of cached) (unit_limit unit) attention (is_dead cached) block command is ∙ out);
-      room = c.requires.room;
+      room = λ n sent. c.requires.room n
+          (intention_of_command (blocks_of cached) (unit_limit unit) attention (is_dead cached) block command is ∙ sent);
     }
 
 pub returns-clause-sends : goal.returns-clause-sends
@@ -42,6 +43,9 @@ returns-clause-sends g c =
         sent = λ n is_in. c.perform.ensures.sends.sends.sent n
             (sym (intention_of_command (blocks_of unit.store.cached) (unit_limit unit) unit.kept.attention (is_dead unit.store.cached)
             c.args.block.now c.in_ok-command.command (sym c.command.ensures.value ∙ c.in_ok-command.was)) ∙ is_in);
+        none = λ never. c.perform.ensures.sends.sends.none (λ n is_in. never n
+            (intention_of_command (blocks_of unit.store.cached) (unit_limit unit) unit.kept.attention (is_dead unit.store.cached)
+            c.args.block.now c.in_ok-command.command (sym c.command.ensures.value ∙ c.in_ok-command.was) ∙ is_in));
         most = c.perform.ensures.sends.sends.most;
       };
       follows = c.perform.ensures.sends.follows;
