@@ -8,7 +8,8 @@ use Rattle.spec.specs.declared.case.Endpoint.{Endpoint}
 use Rattle.spec.specs.declared.event.Answer.TheVariants.{Data}
 use Rattle.spec.specs.Packets.{packets_of}
 use Rattle.bot_machine.specs.Refinement.{halt_of, sent_size}
-use Rattle.spec.specs.Exchange.{Line, Script, sending, in_answer, after_in, laid_out, sent_in}
+use Rattle.bot_machine.specs.Serving.{LiesIn}
+use Rattle.spec.specs.Exchange.{Line, Script, sending, in_answer, after_in, laid_out, sent_in, moment_of, after_data}
 use Rattle.bot_machine.proofs.Packets.{packets_of-range, packets_of-some, packets_of-end, packets_of-none}
 
 module _ (size : ℕ) (some : 0 < size) where
@@ -54,6 +55,18 @@ module _ (size : ℕ) (some : 0 < size) where
   sent_in-size C11 most bytes = sym (packets_of-none size some)
   sent_in-size C12 most bytes = sym (packets_of-none size some)
   sent_in-size C13 most bytes = sym (packets_of-none size some)
+
+-- what is sent is the front of the buffer in which it lies, or there is none
+module _ (case : Case) (size : ℕ) (buffer out : List ℕ) (lies : LiesIn buffer case out) where
+  pub lies_sent : take (sent_size case size) buffer ≡ take (sent_size case size) out
+  lies_sent = grind (arith, lies)
+
+  pub lies_within : size ≤ length out → sent_size case size ≤ length buffer
+  lies_within fits = grind (arith, lies, fits)
+
+-- a command that waits for its data sends none
+pub lies_after : (buffer : List ℕ) (case : Case) (out : List ℕ) → moment_of case ≡ after_data → LiesIn buffer case out
+lies_after buffer case out waits = λ once. cc
 
 module _ (size : ℕ) (some : 0 < size) (locked out_halted : Bool) (status : List ℕ) where
   abbrev pub open_to : Bool → Script → Line

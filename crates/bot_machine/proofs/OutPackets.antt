@@ -288,13 +288,13 @@ asked m disk packet told line sound step = record {
 }
 
 -- in the phases that take nothing something is sent
-pub sends : (phase : Phase) → (phase ≡ Command → ⊥) → ((t : Taking) → phase ≡ DataOut t → ⊥) → (size : ℕ) (taken staging status : List ℕ)
-    → (packets : List (List ℕ)) × (halt : Option Endpoint) × (sending packets halt status ≡ left_of size phase taken staging status)
-sends Command command out size taken staging status = absurd (command refl)
-sends (DataOut t) command out size taken staging status = absurd (out t refl)
-sends (DataIn from to halt) command out size taken staging status =
-    (packets_of size (slice_range staging from to), halt_of halt, refl)
-sends Status command out size taken staging status = ([], None, refl)
+pub sends : (phase : Phase) → (phase ≡ Command → ⊥) → ((t : Taking) → phase ≡ DataOut t → ⊥) → (size : ℕ) (buffer status : List ℕ)
+    → (packets : List (List ℕ)) × (halt : Option Endpoint) × (sending packets halt status ≡ left_of size phase buffer status)
+sends Command command out size buffer status = absurd (command refl)
+sends (DataOut t) command out size buffer status = absurd (out t refl)
+sends (DataIn from to halt) command out size buffer status =
+    (packets_of size (slice_range buffer from to), halt_of halt, refl)
+sends Status command out size buffer status = ([], None, refl)
 
 -- a unit that comes to take no other data, nor to send any, goes on with the phase
 pub still_in_phase : (limit : ℕ) (old new : List ℕ → Intention)
@@ -317,7 +317,7 @@ still_in_phase limit old new steady steady_in (DataIn from to halt) h = h
 still_in_phase limit old new steady steady_in Status h = tt
 
 -- what is kept with one limit is kept with another that is the same
-pub kept_as : (old new : ℕ) (intention : List ℕ → Intention) (phase : Phase) (taken staging : List ℕ) → new ≡ old
-    → Invariant old intention phase taken staging → Invariant new intention phase taken staging
-kept_as old new intention phase taken staging same kept =
-    subst (λ (n : ℕ). Invariant n intention phase taken staging) (sym same) kept
+pub kept_as : (old new : ℕ) (intention : List ℕ → Intention) (phase : Phase) (buffer : List ℕ) → new ≡ old
+    → Invariant old intention phase buffer → Invariant new intention phase buffer
+kept_as old new intention phase buffer same kept =
+    subst (λ (n : ℕ). Invariant n intention phase buffer) (sym same) kept

@@ -8,27 +8,25 @@ use Rattle.bot_machine.specs.declared.bulk_state.Phase.TheVariants.{DataIn, Stat
 use Rattle.bot_machine.specs.declared.bulk_state.BulkState.{BulkState}
 use Rattle.bot_machine.specs.Refinement.{line_of, line_with, IsInPhase}
 
--- The line changes so, whatever was taken and is sent. The phase and the size of a packet stay.
+-- The line changes so, whatever was taken or is sent. The phase and the size of a packet stay.
 pub record ChangesLine (old : BulkState) (change : Line → Line) (new : BulkState) : Type 0 where
-  pub line : (taken staging : List ℕ)
-      → line_of new taken staging ≡ change (line_of old taken staging)
+  pub line : (buffer : List ℕ) → line_of new buffer ≡ change (line_of old buffer)
   pub phase : new.phase ≡ old.phase
   pub size : new.size ≡ old.size
 
--- `sent` bytes of the staging buffer are laid out, a halt after them, and the status wrapper.
+-- `sent` bytes of the buffer are laid out, a halt after them, and the status wrapper.
 pub record LaysOut (old : BulkState) (sent : ℕ) (halt : Option Endpoint) (status : List ℕ)
     (new : BulkState) : Type 0 where
-  pub line : (taken staging : List ℕ) (left : Script) → sent ≤ length staging
-      → line_of new taken staging
-      ≡ laid_out (packets_of (bytes_of old.size) (take sent staging)) halt status
+  pub line : (buffer : List ℕ) (left : Script) → sent ≤ length buffer
+      → line_of new buffer
+      ≡ laid_out (packets_of (bytes_of old.size) (take sent buffer)) halt status
       (line_with old left)
   pub size : new.size ≡ old.size
   pub phase : (limit : ℕ) (intention : List ℕ → Intention) → sent ≤ 512 * limit
       → IsInPhase limit intention new.phase
 
--- A packet of the staging buffer's bytes from one place to another is sent, up to this end. What is
--- left is sent next; behind the last packet the endpoint is halted, if it is to be, and the status
--- is next.
+-- A packet of the buffer's bytes from one place to another is sent, up to this end. What is left is
+-- sent next; behind the last packet the endpoint is halted, if it is to be, and the status is next.
 pub record MovesOn (old : BulkState) (from to : ℕ) (halt : Bool) (end : ℕ) (new : BulkState)
     : Type 0 where
   pub ends : end ≡ min to (from + bytes_of old.size)

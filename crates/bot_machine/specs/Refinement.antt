@@ -34,14 +34,14 @@ abbrev pub taking_of : Taking → List ℕ → Script
 taking_of t taken =
     taking t.exchange.case t.exchange.command t.exchange.intended (take t.filled taken) t.due
 
--- what is left of the exchange, by the size of a packet, the phase, the bytes taken, the bytes to
--- send and the status wrapper
-abbrev pub left_of : ℕ → Phase → List ℕ → List ℕ → List ℕ → Script
-left_of size Command taken staging status = finished
-left_of size (DataOut t) taken staging status = taking_of t taken
-left_of size (DataIn from to halt) taken staging status =
-    sending (packets_of size (slice_range staging from to)) (halt_of halt) status
-left_of size Status taken staging status = sending [] None status
+-- what is left of the exchange, by the size of a packet, the phase, the buffer, which holds the
+-- bytes taken or those to send, as the phase tells, and the status wrapper
+abbrev pub left_of : ℕ → Phase → List ℕ → List ℕ → Script
+left_of size Command buffer status = finished
+left_of size (DataOut t) buffer status = taking_of t buffer
+left_of size (DataIn from to halt) buffer status =
+    sending (packets_of size (slice_range buffer from to)) (halt_of halt) status
+left_of size Status buffer status = sending [] None status
 
 -- the line, but for what is left of the exchange
 abbrev pub line_with : BulkState → Script → Line
@@ -53,9 +53,9 @@ line_with bulk left = record {
   left = left;
 }
 
-abbrev pub line_of : BulkState → List ℕ → List ℕ → Line
-line_of bulk taken staging =
-    line_with bulk (left_of (bytes_of bulk.size) bulk.phase taken staging bulk.status)
+abbrev pub line_of : BulkState → List ℕ → Line
+line_of bulk buffer =
+    line_with bulk (left_of (bytes_of bulk.size) bulk.phase buffer bulk.status)
 
 -- Data is taken: the case takes data, and the bytes taken are the intended ones of those that came,
 -- of as many blocks as a transfer has at most. What the unit intends to take now, if it still does,
@@ -83,9 +83,8 @@ IsInPhase limit intention Status = ⊤
 
 -- what holds of the fields of every disk
 pub record Invariant (limit : ℕ) (intention : List ℕ → Intention) (phase : Phase)
-    (taken staging : List ℕ) : Type 0 where
-  pub taken_room : length taken ≡ 512 * limit
-  pub staging_room : length staging ≡ 512 * limit
+    (buffer : List ℕ) : Type 0 where
+  pub room : length buffer ≡ 512 * limit
   pub phase_holds : IsInPhase limit intention phase
 
 -- when a command is carried out

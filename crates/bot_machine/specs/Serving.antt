@@ -19,7 +19,7 @@ use Rattle.bot_machine.specs.declared.bulk_state.Taking.{Taking}
 use Rattle.bot_machine.specs.declared.bulk_state.Phase.TheVariants.{Command, DataOut}
 use Rattle.bot_machine.specs.declared.bulk_state.BulkState.{BulkState}
 use Rattle.spec.specs.Packets.{bytes_of}
-use Rattle.spec.specs.Exchange.{Line, Script}
+use Rattle.spec.specs.Exchange.{Line, Script, moment_of, at_once}
 use Rattle.spec.specs.Conversation.{IsCarriedOut, OpensExchange, Locks, Takes}
 use Rattle.spec.specs.UnitConversation.{way_of, Intends, write_of_packet, on_line}
 use Rattle.bot_machine.specs.Acts.{PacketCarriesOut}
@@ -37,9 +37,15 @@ pub record IsBegun {M : Type 0} (unit : UnitValue M) (packet : List ℕ) (exchan
   pub some_block : 0 < length exchange.command.block.items
   pub intended : exchange.intended ≡ way_of (intention_of unit exchange.command.block.items)
   pub few : (n : ℕ) → exchange.intended ≡ ways.Out n → n ≤ 512 * unit_limit unit
+  pub room : (n : ℕ) → exchange.intended ≡ ways.In n → n ≤ 512 * unit_limit unit
   pub is_case : IsCase exchange.case exchange.command.host exchange.intended
   pub one_case : (other : Case) → IsCase other exchange.command.host exchange.intended
       → other ≡ exchange.case
+
+-- What is sent lies in this buffer: where a command is carried out at once, the one that it wrote
+-- to. One that waits for its data sends none, and any buffer does.
+abbrev pub LiesIn : List ℕ → Case → List ℕ → Type 0
+LiesIn buffer case out = moment_of case ≡ at_once → buffer ≡ out
 
 module _ {M : Type 0} (before after : State) (old new : UnitValue M) (from to : Line) where
   -- the command of an exchange is carried out over these bytes
@@ -129,20 +135,22 @@ pub record EndsData {M : Type 0} (state : M → State) (Follows : M → M → Ty
 -- ---- what these parts ask for
 
 -- The command of an exchange may be carried out over these bytes: what the unit intends is still
--- what it intended when the wrapper came.
-pub record CanCarryOut {M : Type 0} (unit : UnitValue M) (exchange : Exchange) (bytes : List ℕ)
-    : Type 0 where
+-- what it intended when the wrapper came. There is room for what it intends to send.
+pub record CanCarryOut {M : Type 0} (unit : UnitValue M) (exchange : Exchange)
+    (bytes out : List ℕ) : Type 0 where
   pub is_case : IsCase exchange.case exchange.command.host exchange.intended
   pub some_block : 0 < length exchange.command.block.items
   pub sends : (n : ℕ) → exchange.intended ≡ ways.In n
       → intention_of unit exchange.command.block.items ≡ intent.In n
   pub takes : (n : ℕ) → intention_of unit exchange.command.block.items ≡ intent.Out n
       → length bytes ≡ n
+  pub room : (n : ℕ) → intention_of unit exchange.command.block.items ≡ intent.In n
+      → n ≤ length out
 
 -- a command wrapper is expected, and there is room for the data of a transfer
-pub record AwaitsWrapper (limit : ℕ) (bulk : BulkState) (staging : List ℕ) : Type 0 where
+pub record AwaitsWrapper (limit : ℕ) (bulk : BulkState) (buffer : List ℕ) : Type 0 where
   pub expected : bulk.phase ≡ Command
-  pub room : length staging ≡ 512 * limit
+  pub room : length buffer ≡ 512 * limit
 
 -- a packet of the greatest size comes, behind which more data is due
 pub record HasMoreDue (pending : Taking) (taken packet : List ℕ) (most : ℕ) : Type 0 where
@@ -150,8 +158,3 @@ pub record HasMoreDue (pending : Taking) (taken packet : List ℕ) (most : ℕ) 
   pub more : most < pending.due
   pub before : pending.filled ≤ size_of_way pending.exchange.intended
   pub room : size_of_way pending.exchange.intended ≤ length taken
-
--- both buffers have room for the data of a transfer
-pub record HaveRoom (limit : ℕ) (taken staging : List ℕ) : Type 0 where
-  pub taken_room : length taken ≡ 512 * limit
-  pub staging_room : length staging ≡ 512 * limit

@@ -14,7 +14,7 @@ ghost use Rattle.spec.specs.Exchange.{Script, finished};
 ghost use Rattle.bot_machine.specs.Refinement.{IsTaking, line_of, line_with};
 ghost use Rattle.spec.specs.Packets.{bytes_of};
 ghost use Rattle.bot_machine.specs.Serving.{IsBegun, CarriesOutOn, BeginsOn, RestsOn, SparesOn};
-ghost use Rattle.bot_machine.specs.Serving.{TakesData, HandsOn, EndsData, CanCarryOut, HaveRoom};
+ghost use Rattle.bot_machine.specs.Serving.{TakesData, HandsOn, EndsData, CanCarryOut, LiesIn};
 ghost use Rattle.bot_machine.specs.Serving.{AwaitsWrapper, HasMoreDue, PlainOn};
 ghost use Rattle.bot_machine.specs.LineChanges.{LaysOut};
 ghost use Rattle.scsi_unit.specs.Reading.{IsOneOf};
@@ -27,30 +27,32 @@ use scsi_unit::{Intent, Unit};
 use std::mem;
 use wrappers::{Status, case_of, read_cbw, write_csw};
 
-// Carries out the command of an exchange over the bytes taken, and lays out what is sent.
+// Carries out the command of an exchange over the bytes taken, and lays out what is sent. One that
+// waited for its data sends none, so that the bytes taken may lie in the buffer itself.
 fn carry_out<M: Medium>(
     unit: &mut Unit<M>,
     bulk: &mut BulkState,
-    staging: &mut [u8],
+    out: &mut [u8],
     exchange: &Exchange,
     bytes: &[u8],
 )
-    requires can { CanCarryOut unit.old exchange.now bytes.now }
-    requires room { length staging.old ≡ 512 * unit_limit unit.old }
-    ensures carried_out { (taken : List ℕ) (left : Script) → CarriesOutOn
+    requires { CanCarryOut unit.old exchange.now bytes.now out.old }
+    ensures carried_out { (buffer : List ℕ) (left : Script)
+        → LiesIn buffer exchange.now.case out.new → CarriesOutOn
         (M.state unit.old.store.medium) (M.state unit.new.store.medium) unit.old unit.new
-        (line_with bulk.old left) (line_of bulk.new taken staging.new) exchange.now bytes.now }
+        (line_with bulk.old left) (line_of bulk.new buffer) exchange.now bytes.now }
     ensures spares { (answer : Result (List ℕ) Sense)
         × IsSparing (M.state unit.old.store.medium) (M.state unit.new.store.medium)
         exchange.now.command.block.items bytes.now unit.old answer unit.new
         × IsBounded (M.state unit.old.store.medium) (M.state unit.new.store.medium)
         exchange.now.command.block.items bytes.now unit.old
-        × ((taken : List ℕ) → Tells answer (line_of bulk.new taken staging.new)) }
+        × ((buffer : List ℕ) → LiesIn buffer exchange.now.case out.new
+        → Tells answer (line_of bulk.new buffer)) }
     ensures passes { HandsOn M.state M.follows
         (IsOneOf (sectors_for unit.old exchange.now.command.block.items))
         unit.old unit.new bulk.old bulk.new }
 {
-    match unit.carry_out(exchange.command.block.as_slice(), bytes, staging) {
+    match unit.carry_out(exchange.command.block.as_slice(), bytes, out) {
         Ok(size) => {
             let size = size_sent(exchange.case, size);
             bulk.conclude(exchange, exchange.case, size, Status::Passed);
@@ -79,18 +81,18 @@ pub(crate) fn read_exchange<M: Medium>(unit: &Unit<M>, packet: &[u8]) -> Option<
 pub(crate) fn open<M: Medium>(
     unit: &mut Unit<M>,
     bulk: &mut BulkState,
-    staging: &mut [u8],
+    transfer: &mut [u8],
     packet: &[u8],
 )
-    requires { AwaitsWrapper (unit_limit unit.old) bulk.old staging.old }
-    ensures opens { (taken : List ℕ) → BeginsOn
+    requires { AwaitsWrapper (unit_limit unit.old) bulk.old transfer.old }
+    ensures opens { BeginsOn
         (M.state unit.old.store.medium) (M.state unit.new.store.medium) unit.old unit.new
-        (line_of bulk.old taken staging.old) (line_of bulk.new taken staging.new) packet.now }
+        (line_of bulk.old transfer.old) (line_of bulk.new transfer.new) packet.now }
     ensures rests { RestsOn (bytes_of bulk.old.size) (M.state unit.old.store.medium)
         unit.old unit.new finished packet.now }
-    ensures spares { (taken : List ℕ) → SparesOn (bytes_of bulk.old.size)
+    ensures spares { SparesOn (bytes_of bulk.old.size)
         (M.state unit.old.store.medium) (M.state unit.new.store.medium) unit.old unit.new
-        (line_of bulk.new taken staging.new) finished packet.now }
+        (line_of bulk.new transfer.new) finished packet.now }
     ensures plain { PlainOn (bytes_of bulk.old.size) (M.state unit.old.store.medium)
         (M.state unit.new.store.medium) unit.old finished packet.now }
     ensures passes { HandsOn M.state M.follows (WrapperReadsAt unit.old packet.now)
@@ -101,7 +103,7 @@ pub(crate) fn open<M: Medium>(
         return;
     };
     match when_carried_out(exchange.case) {
-        When::AtOnce => carry_out(unit, bulk, staging, &exchange, &[]),
+        When::AtOnce => carry_out(unit, bulk, transfer, &exchange, &[]),
         When::AfterData => {
             let due = exchange.command.host.size();
             bulk.phase = Phase::DataOut(Taking {
@@ -115,21 +117,20 @@ pub(crate) fn open<M: Medium>(
 }
 
 /// Takes a packet where data is expected. The intended bytes that came already are the first ones
-/// of `taken`. Where more data is due behind the packet, what is pending changes in its place,
+/// of `transfer`. Where more data is due behind the packet, what is pending changes in its place,
 /// since a long transfer is made of such packets.
 #[tactic(auto, using(crate::proofs::EventParts::none_besides))]
 pub(crate) fn take_data<M: Medium>(
     unit: &mut Unit<M>,
     bulk: &mut BulkState,
-    taken: &mut [u8],
-    staging: &mut [u8],
+    transfer: &mut [u8],
     packet: &[u8],
 )
-    requires room { HaveRoom (unit_limit unit.old) taken.old staging.old }
+    requires room { length transfer.old ≡ 512 * unit_limit unit.old }
     requires taking { (pending : Taking) × (bulk.old.phase ≡ Phase.DataOut pending)
         × IsTaking (unit_limit unit.old) (intention_of unit.old) pending }
     ensures serves { TakesData (M.state unit.old.store.medium) (M.state unit.new.store.medium)
-        unit.old unit.new bulk.old (line_of bulk.new taken.new staging.new) taken.old packet.now }
+        unit.old unit.new bulk.old (line_of bulk.new transfer.new) transfer.old packet.now }
     ensures passes { HandsOn M.state M.follows (λ _. ⊥) unit.old unit.new bulk.old bulk.new }
 {
     let Phase::DataOut(pending) = &mut bulk.phase else {
@@ -137,10 +138,10 @@ pub(crate) fn take_data<M: Medium>(
     };
     let most = bulk.size.bytes();
     if pending.due > most && packet.len() == most as usize {
-        take_more(pending, taken, packet, most);
+        take_more(pending, transfer, packet, most);
         return;
     }
-    end_data(unit, bulk, taken, staging, packet);
+    end_data(unit, bulk, transfer, packet);
 }
 
 // Takes a packet of the greatest size, behind which more data is due.
@@ -162,20 +163,14 @@ fn take_more(pending: &mut Taking, taken: &mut [u8], packet: &[u8], most: u32)
 // Takes a packet that ends the data, or has a wrong size. It stands apart, so that the code that
 // runs for each other packet of a transfer is short.
 #[inline(never)]
-fn end_data<M: Medium>(
-    unit: &mut Unit<M>,
-    bulk: &mut BulkState,
-    taken: &mut [u8],
-    staging: &mut [u8],
-    packet: &[u8],
-)
-    requires room { HaveRoom (unit_limit unit.old) taken.old staging.old }
+fn end_data<M: Medium>(unit: &mut Unit<M>, bulk: &mut BulkState, transfer: &mut [u8], packet: &[u8])
+    requires room { length transfer.old ≡ 512 * unit_limit unit.old }
     requires taking { (pending : Taking) × (bulk.old.phase ≡ Phase.DataOut pending)
         × IsTaking (unit_limit unit.old) (intention_of unit.old) pending }
     requires ends { (pending : Taking) → bulk.old.phase ≡ Phase.DataOut pending
         → length packet.now ≡ bytes_of bulk.old.size → pending.due ≤ bytes_of bulk.old.size }
     ensures { EndsData M.state M.follows unit.old unit.new bulk.old bulk.new
-        (line_of bulk.new taken.new staging.new) taken.old packet.now }
+        (line_of bulk.new transfer.new) transfer.old packet.now }
 {
     let Phase::DataOut(pending) = mem::replace(&mut bulk.phase, Phase::Command) else {
         unreachable!()
@@ -190,13 +185,9 @@ fn end_data<M: Medium>(
         conclude_wrong_size(bulk, exchange.command.tag, due);
         return;
     }
-    fill(
-        taken,
-        &mut filled,
-        packet,
-        exchange.intended.size() as usize,
-    );
-    carry_out(unit, bulk, staging, &exchange, &taken[..filled]);
+    let size = exchange.intended.size() as usize;
+    fill(transfer, &mut filled, packet, size);
+    carry_out(unit, bulk, &mut [], &exchange, &transfer[..filled]);
 }
 
 // How many bytes the next packet has, where `due` bytes are due.

@@ -29,7 +29,7 @@ pub(crate) enum Phase {
     Command,
     // Data is taken.
     DataOut(Taking),
-    // Data is sent: the staging buffer from one place to another. Bulk-In may be halted after it.
+    // Data is sent: the buffer from one place to another. Bulk-In may be halted after it.
     DataIn { from: usize, to: usize, halt: bool },
     // The status wrapper is sent next.
     Status,
@@ -57,8 +57,7 @@ fn is_some_halt(halt: Option<Endpoint>) -> bool
 impl BulkState {
     /// Nothing is halted, and a command wrapper is expected.
     pub(crate) fn at_rest(size: PacketSize) -> BulkState
-        ensures line { (taken staging : List ℕ)
-            → line_of result taken staging ≡ at_rest (bytes_of size) }
+        ensures line { (buffer : List ℕ) → line_of result buffer ≡ at_rest (bytes_of size) }
         ensures phase { (limit : ℕ) (intention : List ℕ → Intention)
             → IsInPhase limit intention result.phase }
     {
@@ -110,8 +109,7 @@ impl BulkState {
 
     /// Whether an endpoint is halted.
     pub(crate) fn is_halted(&self, endpoint: Endpoint) -> bool
-        ensures { (taken staging : List ℕ)
-            → result ≡ halted endpoint (line_of self.now taken staging) }
+        ensures { (buffer : List ℕ) → result ≡ halted endpoint (line_of self.now buffer) }
     {
         match endpoint {
             Endpoint::In => self.in_halted,
@@ -119,8 +117,8 @@ impl BulkState {
         }
     }
 
-    /// Lays out what is sent: the first bytes of the staging buffer, a halt after them, and the
-    /// status wrapper.
+    /// Lays out what is sent: the first bytes of the buffer, a halt after them, and the status
+    /// wrapper.
     pub(crate) fn lay_out(&mut self, size: usize, halt: Option<Endpoint>, status: [u8; 13])
         requires halts_in { 0 < size → halt ≢ Some Endpoint.Out }
         ensures { LaysOut self.old size halt status self.new }
@@ -160,8 +158,8 @@ impl BulkState {
         end
     }
 
-    /// Concludes an exchange that ends in this case: lays out the first bytes of the staging
-    /// buffer, the halt of the case, and the status.
+    /// Concludes an exchange that ends in this case: lays out the first bytes of the buffer, the
+    /// halt of the case, and the status.
     pub(crate) fn conclude(&mut self, exchange: &Exchange, case: Case, size: usize, status: Status)
         requires possible { IsPossible case exchange.now.command.host exchange.now.intended }
         requires halts_in { 0 < size

@@ -37,10 +37,9 @@ use std::marker::Model;
 pub struct Disk<M: Medium> {
     pub(crate) unit: Unit<M>,
     pub(crate) bulk: BulkState,
-    // The intended bytes that came of the data being taken.
-    pub(crate) taken: Vec<u8>,
-    // The bytes that are sent.
-    pub(crate) staging: Vec<u8>,
+    // The intended bytes that came of the data being taken, or the bytes that are sent: the phase
+    // tells which.
+    pub(crate) transfer: Vec<u8>,
 }
 
 impl<M: Medium> Model for Disk<M> {
@@ -52,13 +51,12 @@ impl<M: Medium> Model for Disk<M> {
     ghost use Rattle.bot_machine.specs.Refinement.{line_of, Invariant};
 
     ghost view = { λ d. record {
-      line = line_of d.bulk d.taken.items d.staging.items;
+      line = line_of d.bulk d.transfer.items;
       unit = d.unit;
     } };
 
     ghost invariant = { λ d.
-        Invariant (unit_limit d.unit) (intention_of d.unit) d.bulk.phase
-        d.taken.items d.staging.items };
+        Invariant (unit_limit d.unit) (intention_of d.unit) d.bulk.phase d.transfer.items };
 }
 
 impl<M: Medium> Disk<M> {
@@ -153,17 +151,11 @@ impl<M: Medium> Disk<M> {
         }
         match self.bulk.phase {
             Phase::Command => {
-                open(&mut self.unit, &mut self.bulk, &mut self.staging, packet);
+                open(&mut self.unit, &mut self.bulk, &mut self.transfer, packet);
                 OutAnswer::Ack
             }
             Phase::DataOut(_) => {
-                take_data(
-                    &mut self.unit,
-                    &mut self.bulk,
-                    &mut self.taken,
-                    &mut self.staging,
-                    packet,
-                );
+                take_data(&mut self.unit, &mut self.bulk, &mut self.transfer, packet);
                 OutAnswer::Ack
             }
             _ => OutAnswer::Nak,
@@ -187,7 +179,7 @@ impl<M: Medium> Disk<M> {
             Phase::Command | Phase::DataOut(_) => InAnswer::Nak,
             Phase::DataIn { from, to, halt } => {
                 let end = self.bulk.move_on(from, to, halt);
-                InAnswer::Data(&self.staging[from..end])
+                InAnswer::Data(&self.transfer[from..end])
             }
             Phase::Status => {
                 self.bulk.phase = Phase::Command;

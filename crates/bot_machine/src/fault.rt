@@ -36,8 +36,7 @@ impl BulkState {
     /// Takes back a good status that is still to be sent. Whether there was one.
     fn take_back(&mut self) -> bool
         ensures line { ChangesLine self.old faulted_line self.new }
-        ensures good { (taken staging : List ℕ)
-            → result ≡ owes_good (line_of self.old taken staging).left }
+        ensures good { (buffer : List ℕ) → result ≡ owes_good (line_of self.old buffer).left }
     {
         match self.phase {
             Phase::Command | Phase::DataOut(_) => false,

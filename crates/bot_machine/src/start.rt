@@ -1,11 +1,10 @@
 //! How a disk starts.
-ghost use Rattle.std.specs.Prelude.{ℕ, IfOk, IfErr, IfSome, MatchResult};
+ghost use Rattle.std.specs.Prelude.{◌≡◌, ◌*◌, ℕ, length, IfOk, IfErr, IfSome, MatchResult};
 ghost use Rattle.medium.specs.Moments.{EachCut, LeavesOnly};
 ghost use Rattle.scsi_unit.specs.Starting.{HasLimit, IsOursForSome};
 ghost use Rattle.bot_machine.specs.Device.{device_by, device_of};
 ghost use Rattle.bot_machine.specs.Opening.{IsOpened, IsNotOpened, StartLeaves, LeavesMedium};
 ghost use Rattle.bot_machine.specs.Opening.{StartsDisk, RefusesDisk};
-ghost use Rattle.bot_machine.specs.Serving.{HaveRoom};
 ghost use Rattle.spec.specs.declared.packet_size.PacketSize.TheVariants.{High512};
 
 use crate::bulk_state::BulkState;
@@ -85,35 +84,23 @@ impl<M: Medium> Disk<M> {
             (λ error. RefusesDisk M.state M.follows medium error.medium error.fault) }
     {
         let unit = Unit::start_by(alloc, medium, identity, retiring)?;
-        let Some(buffers) = buffers_for(alloc, unit.limit()) else {
+        let Some(transfer) = buffer_for(alloc, unit.limit()) else {
             return Err(StartError {
                 fault: StartFault::NoMemory,
                 medium: unit.into_medium(),
             });
         };
-        let Buffers { taken, staging } = buffers;
         Ok(Disk {
             unit,
             bulk: BulkState::at_rest(size),
-            taken,
-            staging,
+            transfer,
         })
     }
 }
 
-// What is kept of the data of a transfer.
-#[derive(Drop)]
-struct Buffers {
-    taken: Vec<u8>,
-    staging: Vec<u8>,
-}
-
-// Buffers for transfers of `blocks` blocks; `None` for want of memory.
-fn buffers_for(alloc: Global, blocks: u32) -> Option<Buffers>
-    ensures { IfSome result (λ made. HaveRoom blocks made.taken.items made.staging.items) }
+// A buffer for a transfer of `blocks` blocks; `None` for want of memory.
+fn buffer_for(alloc: Global, blocks: u32) -> Option<Vec<u8>>
+    ensures { IfSome result (λ made. length made.items ≡ 512 * blocks) }
 {
-    let room = 512 * blocks as usize;
-    let taken = vec![in alloc; 0; room].ok()?;
-    let staging = vec![in alloc; 0; room].ok()?;
-    Some(Buffers { taken, staging })
+    vec![in alloc; 0; 512 * blocks as usize].ok()
 }

@@ -1,9 +1,13 @@
-use Rattle.std.proofs.Common.{take, arith, length-take}
-use Rattle.std.specs.Prelude.{Ok, Err}
+use Rattle.std.proofs.Common.{◌≡◌, ◌≤◌, ℕ, length, take, arith, refl, length-take}
+use Rattle.std.specs.Prelude.{Result, Ok, Err}
+use Rattle.spec.specs.Sense.{Sense}
+use Rattle.spec.specs.Rules.{Intention}
+use Rattle.spec.specs.declared.intent.Intent.TheVariants as intent
+use Rattle.scsi_unit.specs.Calls.{SendsAsMeant}
 use Rattle.bot_machine.proofs.UnitLaws.{ours_stay}
 use Rattle.spec.specs.Exchange.{finished}
 use Rattle.bot_machine.specs.Refinement.{line_with}
-use Rattle.bot_machine.proofs.DataPackets.{sent_in-size}
+use Rattle.bot_machine.proofs.DataPackets.{sent_in-size, lies_sent, lies_within}
 use Rattle.bot_machine.proofs.AnswerLines.{tells}
 use Rattle.bot_machine.proofs.FaultedDisk.{faulted_rests}
 use Rattle.bot_machine.proofs.Packets.{packets_of-none}
@@ -11,31 +15,49 @@ use Rattle.bot_machine.proofs.Sizes.{some_bytes}
 use Rattle.bot_machine.proofs.UnitMoments.{proceeding}
 use Rattle.bot_machine.proofs.bulk_out.carry_out.Goals as goal
 
+-- there is room for what is sent
+sent_fits : (intention : Intention) (limit size room : ℕ) → SendsAsMeant intention limit (let good : Result ℕ Sense = Ok size in good)
+    → ((n : ℕ) → intention ≡ intent.In n → n ≤ room) → size ≤ room
+sent_fits intent.None limit size room sends fits = omega (arith, sends.none (λ n is. cc))
+sent_fits (intent.In n) limit size room sends fits = omega (arith, sends.sent n refl, fits n refl)
+sent_fits (intent.Out n) limit size room sends fits = omega (arith, sends.none (λ n is. cc))
+sent_fits (intent.Fail sense) limit size room sends fits = omega (arith, sends.none (λ n is. cc))
+
 pub returns-in-Ok-clause-carried_out : goal.returns-in-Ok-clause-carried_out
-returns-in-Ok-clause-carried_out g c = λ taken left book fits.
+returns-in-Ok-clause-carried_out g c = λ buffer left lies book fits.
     let out = c.carry_out.new.out in
+    let case = c.args.exchange.now.case in
+    let sends = rw c.as_slice.ensures.value at c.in-Ok.ensures.passes.sends in
+    let room = sent_fits _ _ c.in-Ok.size (length c.args.out.now) sends c.requires.room in
     let line = rw c.as_slice.ensures.value at (c.in-Ok.ensures.serves.line book fits) in
     proceeding _ _ _ _ _ _ book line.0
     (record {
       answer = Ok (take c.in-Ok.size out);
       effect = line.1;
-      moved = λ n intended.
-          let size = rw c.as_slice.ensures.value at c.in-Ok.ensures.passes.sends.sent in
-          omega (arith, size n (c.requires.can.sends n intended), c.in-Ok.ensures.passes.sends.most, length-take c.in-Ok.size out);
-      after = rw (c.size_sent-size.ensures.is, ← sent_in-size _ (some_bytes c.args.bulk.now.size) c.args.exchange.now.case c.in-Ok.size out)
-          at (c.conclude.ensures.line taken out left (omega (arith, c.in-Ok.ensures.passes.sends.most)));
+      moved = λ n intended. omega (arith, sends.sent n (c.requires.sends n intended), room, length-take c.in-Ok.size out);
+      after = rw (
+        c.size_sent-size.ensures.is,
+        lies_sent case c.in-Ok.size buffer out lies,
+        ← sent_in-size _ (some_bytes c.args.bulk.now.size) case c.in-Ok.size out,
+      ) at
+          (c.conclude.ensures.line buffer left
+          (omega (arith, c.size_sent-size.ensures.is, lies_within case c.in-Ok.size buffer out lies (omega (arith, room)))));
     })
     line.2 (ours_stay _ _ _ _ _ _ line.1)
     (rw c.as_slice.ensures.value at (c.in-Ok.ensures.serves.cuts book fits))
 
 pub returns-in-Ok-clause-spares : goal.returns-in-Ok-clause-spares
 returns-in-Ok-clause-spares g c =
-    let out = c.carry_out.new.out in (
+    let out = c.carry_out.new.out in
+    let case = c.args.exchange.now.case in
+    let sends = rw c.as_slice.ensures.value at c.in-Ok.ensures.passes.sends in
+    let room = sent_fits _ _ c.in-Ok.size (length c.args.out.now) sends c.requires.room in (
       Ok (take c.in-Ok.size out),
       rw c.as_slice.ensures.value at c.in-Ok.ensures.sparing,
       rw c.as_slice.ensures.value at c.in-Ok.ensures.passes.calls.bounded,
-      (λ taken. tells (Ok (take c.in-Ok.size out)) _ _ _ _ _ (line_with c.args.bulk.now finished)
-          (c.conclude.ensures.line taken out finished (omega (arith, c.in-Ok.ensures.passes.sends.most)))),
+      (λ buffer lies. tells (Ok (take c.in-Ok.size out)) _ _ _ _ _ (line_with c.args.bulk.now finished)
+          (c.conclude.ensures.line buffer finished
+          (omega (arith, c.size_sent-size.ensures.is, lies_within case c.in-Ok.size buffer out lies (omega (arith, room)))))),
     )
 
 pub returns-in-Ok-clause-passes : goal.returns-in-Ok-clause-passes
@@ -61,8 +83,7 @@ returns-in-Ok-clause-passes g c =
     }
 
 pub returns-in-Err-clause-carried_out : goal.returns-in-Err-clause-carried_out
-returns-in-Err-clause-carried_out g c = λ taken left book fits.
-    let out = c.carry_out.new.out in
+returns-in-Err-clause-carried_out g c = λ buffer left lies book fits.
     let line = rw c.as_slice.ensures.value at (c.in-Err.ensures.serves.line book fits) in
     proceeding _ _ _ _ _ _ book line.0
     (record {
@@ -70,19 +91,18 @@ returns-in-Err-clause-carried_out g c = λ taken left book fits.
       effect = line.1;
       moved = λ n intended. tt;
       after = rw (c.after_failure.ensures, packets_of-none _ (some_bytes c.args.bulk.now.size)) at
-          (c.conclude-in-Err.ensures.line taken out left (omega arith));
+          (c.conclude-in-Err.ensures.line buffer left (omega arith));
     })
     line.2 (ours_stay _ _ _ _ _ _ line.1) (rw c.as_slice.ensures.value at (c.in-Err.ensures.serves.cuts book fits))
 
 pub returns-in-Err-clause-spares : goal.returns-in-Err-clause-spares
-returns-in-Err-clause-spares g c =
-    let out = c.carry_out.new.out in (
-      Err c.in-Err.field-0,
-      rw c.as_slice.ensures.value at c.in-Err.ensures.sparing,
-      rw c.as_slice.ensures.value at c.in-Err.ensures.passes.calls.bounded,
-      (λ taken. tells (Err c.in-Err.field-0) _ _ _ _ _ (line_with c.args.bulk.now finished)
-          (c.conclude-in-Err.ensures.line taken out finished (omega arith))),
-    )
+returns-in-Err-clause-spares g c = (
+  Err c.in-Err.field-0,
+  rw c.as_slice.ensures.value at c.in-Err.ensures.sparing,
+  rw c.as_slice.ensures.value at c.in-Err.ensures.passes.calls.bounded,
+  (λ buffer lies. tells (Err c.in-Err.field-0) _ _ _ _ _ (line_with c.args.bulk.now finished)
+      (c.conclude-in-Err.ensures.line buffer finished (omega arith))),
+)
 
 pub returns-in-Err-clause-passes : goal.returns-in-Err-clause-passes
 returns-in-Err-clause-passes g c =

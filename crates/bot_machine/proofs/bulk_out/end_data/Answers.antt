@@ -12,6 +12,7 @@ use Rattle.bot_machine.proofs.UnitMoments.{staying_so, proceeding_so}
 use Rattle.bot_machine.proofs.EventParts.{unit_stays, plainly}
 use Rattle.bot_machine.proofs.UnitLaws.{none_made}
 use Rattle.bot_machine.proofs.TakenData.{one_taking}
+use Rattle.bot_machine.proofs.DataPackets.{lies_after}
 use Rattle.bot_machine.proofs.bulk_out.end_data.Goals as goal
 
 pub returns-then-packet-size_of_next : goal.returns-then-packet-size_of_next
@@ -30,7 +31,7 @@ returns-then-packet-size_of_next g c = record {
               size = let s : length c.args.packet.now ≢ min most d.due = omega arith in s;
               unit = refl;
               after = rw (packets_of-none most (some_bytes c.args.bulk.now.size))
-                  at (c.conclude_wrong_size.ensures.line c.args.taken.now c.args.staging.now left (omega arith));
+                  at (c.conclude_wrong_size.ensures.line c.args.transfer.now left (omega arith));
             }))));
         rests = λ pending is book fits none. refl;
         spares = λ pending is book fits block taken carries.
@@ -47,56 +48,55 @@ returns-then-packet-size_of_next g c = record {
 }
 
 pub returns : goal.returns
-returns g c = record {
-  serves =
-      let d = c.in-DataOut.pending in
-      let most : ℕ = bytes_of c.args.bulk.now.size in
-      let bytes = rw c.size.ensures at c.fill.ensures.bytes in
-      let ends = c.requires.ends d (sym c.in-DataOut.ensures.value) in
-      let last : d.due ≤ most = elim (cases_lt most d.due) [
-        | inl h ↦ ends (omega (arith, h, c.if-packet-size_of_next.false, c.size_of_next.ensures, c.bytes-most.ensures))
-        | inr h ↦ h
-      ] in
-      let whole : length c.args.packet.now ≡ d.due =
-      omega (arith, last, c.if-packet-size_of_next.false, c.size_of_next.ensures, c.bytes-most.ensures) in
-      record {
-        takes = λ pending is left book fits.
-            let same : d ≡ pending = one_taking d pending (c.in-DataOut.ensures.value ∙ is) in
-            rw (← same) (proceeding_so _ _ _ _ _ _ _ _ book
-            (rw bytes at (c.carry_out.ensures.carried_out c.fill.new.buffer left book fits))
-            (last_packet most (length c.args.packet.now) d.due _ _ whole last)
-            (λ later moves. inr (inl (record {
-              size = whole;
-              last = last;
-              carried_out = moves;
-            }))));
-        rests = λ pending is book fits none.
-            let same : d ≡ pending = one_taking d pending (c.in-DataOut.ensures.value ∙ is) in
-            absurd ((rw (← same) at none) _ _ (record { size = whole; last = last; block_is = refl; taken_is = refl }));
-        spares = λ pending is book fits block taken carries.
-            let same : d ≡ pending = one_taking d pending (c.in-DataOut.ensures.value ∙ is) in
-            let spared = rw bytes at c.carry_out.ensures.spares in
-            let last_one = rw (← same) at carries in
-            rw (last_one.block_is, last_one.taken_is) (spared.0, spared.1, spared.2, spared.3 c.fill.new.buffer);
-        plain = λ pending is book size none.
-            let same : d ≡ pending = one_taking d pending (c.in-DataOut.ensures.value ∙ is) in
-            plainly _ _ c.args.unit.now d.exchange.command.block.items _ book size c.carry_out.ensures.spares.2
-            ((rw (← same) at none) _ _ (record { size = whole; last = last; block_is = refl; taken_is = refl }));
-      };
-  passes =
-      let p = c.carry_out.ensures.passes in
-      let d = c.in-DataOut.pending in
-      let unit = c.args.unit.now in
-      let pending = c.requires.taking.0 in
-      let same : d ≡ pending = one_taking d pending (c.in-DataOut.ensures.value ∙ c.requires.taking.1) in
-      let taking = subst (λ (t : Taking). IsTaking (unit_limit unit) (intention_of unit) t) (sym same) c.requires.taking.2 in
-      record {
-        phase = p.phase;
-        limit = p.limit;
-        size = p.size;
-        few = p.few;
-        looks = log_alone _ _ unit d.exchange.command.block.items taking.sends_none p.looks;
-        elapses = p.elapses;
-        follows = p.follows;
-      };
-}
+returns g c =
+    let d = c.in-DataOut.pending in
+    let unit = c.args.unit.now in
+    let one : d ≡ c.requires.taking.0 = one_taking d c.requires.taking.0 (c.in-DataOut.ensures.value ∙ c.requires.taking.1) in
+    let held = subst (λ (t : Taking). IsTaking (unit_limit unit) (intention_of unit) t) (sym one) c.requires.taking.2 in
+    let lies = lies_after c.fill.new.buffer d.exchange.case _ held.moment in record {
+      serves =
+          let most : ℕ = bytes_of c.args.bulk.now.size in
+          let bytes = rw c.size-size.ensures at c.fill.ensures.bytes in
+          let ends = c.requires.ends d (sym c.in-DataOut.ensures.value) in
+          let last : d.due ≤ most = elim (cases_lt most d.due) [
+            | inl h ↦ ends (omega (arith, h, c.if-packet-size_of_next.false, c.size_of_next.ensures, c.bytes-most.ensures))
+            | inr h ↦ h
+          ] in
+          let whole : length c.args.packet.now ≡ d.due =
+          omega (arith, last, c.if-packet-size_of_next.false, c.size_of_next.ensures, c.bytes-most.ensures) in
+          record {
+            takes = λ pending is left book fits.
+                let same : d ≡ pending = one_taking d pending (c.in-DataOut.ensures.value ∙ is) in
+                rw (← same) (proceeding_so _ _ _ _ _ _ _ _ book
+                (rw bytes at (c.carry_out.ensures.carried_out c.fill.new.buffer left lies book fits))
+                (last_packet most (length c.args.packet.now) d.due _ _ whole last)
+                (λ later moves. inr (inl (record {
+                  size = whole;
+                  last = last;
+                  carried_out = moves;
+                }))));
+            rests = λ pending is book fits none.
+                let same : d ≡ pending = one_taking d pending (c.in-DataOut.ensures.value ∙ is) in
+                absurd ((rw (← same) at none) _ _ (record { size = whole; last = last; block_is = refl; taken_is = refl }));
+            spares = λ pending is book fits block taken carries.
+                let same : d ≡ pending = one_taking d pending (c.in-DataOut.ensures.value ∙ is) in
+                let spared = rw bytes at c.carry_out.ensures.spares in
+                let last_one = rw (← same) at carries in
+                rw (last_one.block_is, last_one.taken_is) (spared.0, spared.1, spared.2, spared.3 c.fill.new.buffer lies);
+            plain = λ pending is book size none.
+                let same : d ≡ pending = one_taking d pending (c.in-DataOut.ensures.value ∙ is) in
+                plainly _ _ c.args.unit.now d.exchange.command.block.items _ book size c.carry_out.ensures.spares.2
+                ((rw (← same) at none) _ _ (record { size = whole; last = last; block_is = refl; taken_is = refl }));
+          };
+      passes =
+          let p = c.carry_out.ensures.passes in
+          record {
+            phase = p.phase;
+            limit = p.limit;
+            size = p.size;
+            few = p.few;
+            looks = log_alone _ _ unit d.exchange.command.block.items held.sends_none p.looks;
+            elapses = p.elapses;
+            follows = p.follows;
+          };
+    }

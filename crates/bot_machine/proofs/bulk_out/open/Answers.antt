@@ -14,13 +14,13 @@ use Rattle.bot_machine.specs.Refinement.{left_of}
 use Rattle.bot_machine.proofs.bulk_out.open.Goals as goal
 
 pub returns-in_default-clause-opens : goal.returns-in_default-clause-opens
-returns-in_default-clause-opens g c = λ taken book fits.
+returns-in_default-clause-opens g c = λ book fits.
     let unit = c.args.unit.now in
     staying _ unit _ book (g.met.M.Medium.sound unit.store.medium) fits
     (inr (record { unknown = c.in_default.ensures; unit = refl; after = rw c.lock.ensures refl }))
 
 pub returns-in_default-clause-spares : goal.returns-in_default-clause-spares
-returns-in_default-clause-spares g c = λ came book fits block taken carries.
+returns-in_default-clause-spares g c = λ book fits block taken carries.
     absurd (c.in_default.ensures carries.command carries.spelled)
 
 pub returns-in_default-clause-passes : goal.returns-in_default-clause-passes
@@ -29,10 +29,10 @@ returns-in_default-clause-passes g c =
     (rw (c.lock.ensures, c.requires.expected) tt) (rw c.lock.ensures refl)
 
 pub returns-in-AtOnce-clause-opens : goal.returns-in-AtOnce-clause-opens
-returns-in-AtOnce-clause-opens g c = λ taken book fits.
+returns-in-AtOnce-clause-opens g c = λ book fits.
     let e = c.in-Some.exchange in
     let begun = c.in-Some.ensures in
-    proceeding_so _ _ _ _ _ _ _ _ book (c.carry_out.ensures.carried_out taken finished book fits)
+    proceeding_so _ _ _ _ _ _ _ _ book (c.carry_out.ensures.carried_out _ finished (λ once. refl) book fits)
     (no_write _ book (fits_size _ c.args.unit.now book fits) _ e begun [] c.in-AtOnce.ensures)
     (λ later moves. inl (opens _ book (fits_size _ c.args.unit.now book fits) _ e begun _ _ _
     (rw (← c.in-AtOnce.ensures) (rw c.requires.expected moves))))
@@ -43,10 +43,10 @@ returns-in-AtOnce-clause-rests g c = λ book fits none.
     c.in-AtOnce.ensures))
 
 pub returns-in-AtOnce-clause-spares : goal.returns-in-AtOnce-clause-spares
-returns-in-AtOnce-clause-spares g c = λ came book fits block taken carries.
+returns-in-AtOnce-clause-spares g c = λ book fits block taken carries.
     let spared = c.carry_out.ensures.spares in
     let same = carried_at_once _ book (fits_size _ c.args.unit.now book fits) _ c.in-Some.exchange c.in-Some.ensures block taken carries in
-    rw (same.1, same.2) (spared.0, spared.1, spared.2, spared.3 came)
+    rw (same.1, same.2) (spared.0, spared.1, spared.2, spared.3 _ (λ once. refl))
 
 pub returns-in-AtOnce-clause-plain : goal.returns-in-AtOnce-clause-plain
 returns-in-AtOnce-clause-plain g c = λ book size none.
@@ -55,30 +55,30 @@ returns-in-AtOnce-clause-plain g c = λ book size none.
     (none e.command.block.items [] (carries_out _ book size _ e c.in-Some.ensures c.in-AtOnce.ensures))
 
 pub returns-in-AfterData-clause-opens : goal.returns-in-AfterData-clause-opens
-returns-in-AfterData-clause-opens g c = λ taken book fits.
+returns-in-AfterData-clause-opens g c = λ book fits.
     let unit = c.args.unit.now in
     staying _ unit _ book (g.met.M.Medium.sound unit.store.medium) fits
     (inl (opens _ book (fits_size _ c.args.unit.now book fits) _ c.in-Some.exchange c.in-Some.ensures _ _ _
     (rw (← c.in-AfterData.ensures, ← c.size-due.ensures) (refl, refl))))
 
 pub returns-in-AfterData-clause-spares : goal.returns-in-AfterData-clause-spares
-returns-in-AfterData-clause-spares g c = λ came book fits block taken carries.
+returns-in-AfterData-clause-spares g c = λ book fits block taken carries.
     let same = carried_at_once _ book (fits_size _ c.args.unit.now book fits) _ c.in-Some.exchange c.in-Some.ensures block taken carries in
     absurd (let e : after_data ≡ at_once = c.in-AfterData.ensures ∙ same.0 in cc)
 
 pub returns-in-Never-clause-opens : goal.returns-in-Never-clause-opens
-returns-in-Never-clause-opens g c = λ taken book fits.
+returns-in-Never-clause-opens g c = λ book fits.
     let unit = c.args.unit.now in
     let bulk = c.args.bulk.now in
     staying _ unit _ book (g.met.M.Medium.sound unit.store.medium) fits
     (inl (opens _ book (fits_size _ c.args.unit.now book fits) _ c.in-Some.exchange c.in-Some.ensures _ _ _ (rw (← c.in-Never.ensures) (
       refl,
-      rw (packets_of-none _ (some_bytes bulk.size)) at (c.conclude.ensures.line taken c.args.staging.now
-          (left_of (bytes_of bulk.size) bulk.phase taken c.args.staging.now bulk.status) (omega arith)),
+      rw (packets_of-none _ (some_bytes bulk.size)) at (c.conclude.ensures.line c.args.transfer.now
+          (left_of (bytes_of bulk.size) bulk.phase c.args.transfer.now bulk.status) (omega arith)),
     ))))
 
 pub returns-in-Never-clause-spares : goal.returns-in-Never-clause-spares
-returns-in-Never-clause-spares g c = λ came book fits block taken carries.
+returns-in-Never-clause-spares g c = λ book fits block taken carries.
     let same = carried_at_once _ book (fits_size _ c.args.unit.now book fits) _ c.in-Some.exchange c.in-Some.ensures block taken carries in
     absurd (let e : never ≡ at_once = c.in-Never.ensures ∙ same.0 in cc)
 

@@ -39,7 +39,7 @@ returns-then-packet-most-clause-serves g c =
                 ∙ ap
                 (λ n. line_with bulk
                 (taking e.case e.command e.intended
-                (take (size_of_way e.intended) (take d.filled c.args.taken.now ++ c.args.packet.now)) n)) left_due;
+                (take (size_of_way e.intended) (take d.filled c.args.transfer.now ++ c.args.packet.now)) n)) left_due;
           })));
       rests = λ pending is book fits none. refl;
       spares = λ pending is book fits block taken carries.

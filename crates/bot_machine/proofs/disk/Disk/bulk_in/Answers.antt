@@ -14,7 +14,7 @@ returns-in-DataIn g c =
     let i = c.in-DataIn in
     let held = rw i.is at c.self.invariant.phase_holds in
     let some : i.from < i.to = held.0 in
-    let there : i.to ≤ length d.staging.items = omega (arith, c.self.invariant.staging_room, held.1) in
+    let there : i.to ≤ length d.transfer.items = omega (arith, c.self.invariant.room, held.1) in
     let moves = c.move_on-end.ensures in
     let e = c.move_on-end.result in
     elim (cases_lt c.move_on-end.result i.to) [
@@ -25,13 +25,13 @@ returns-in-DataIn g c =
               (λ _. tt),
               ap put
                   (sym (sent_more (bytes_of d.bulk.size) (some_bytes d.bulk.size) d.bulk.locked d.bulk.out_halted d.bulk.status
-                  d.staging.items i.from i.to e i.halt some there moves.ends more)),
+                  d.transfer.items i.from i.to e i.halt some there moves.ends more)),
             ),
             record {
               after = tt;
               answer = answer_sent (bytes_of d.bulk.size) (some_bytes d.bulk.size) d.bulk.locked d.bulk.out_halted d.bulk.status
-                  d.staging.items i.from i.to e i.halt some there moves.ends;
-              fits = omega (arith, moves.ends, length-take (e - i.from) (drop i.from d.staging.items));
+                  d.transfer.items i.from i.to e i.halt some there moves.ends;
+              fits = omega (arith, moves.ends, length-take (e - i.from) (drop i.from d.transfer.items));
               most = (few_bytes d.bulk.size).1;
             },
           )
@@ -42,13 +42,13 @@ returns-in-DataIn g c =
               (λ _. tt),
               ap put
                   (sym (sent_last (bytes_of d.bulk.size) (some_bytes d.bulk.size) d.bulk.locked d.bulk.out_halted d.bulk.status
-                  d.staging.items i.from i.to e i.halt some there moves.ends last)),
+                  d.transfer.items i.from i.to e i.halt some there moves.ends last)),
             ),
             record {
               after = tt;
               answer = answer_sent (bytes_of d.bulk.size) (some_bytes d.bulk.size) d.bulk.locked d.bulk.out_halted d.bulk.status
-                  d.staging.items i.from i.to e i.halt some there moves.ends;
-              fits = omega (arith, moves.ends, length-take (e - i.from) (drop i.from d.staging.items));
+                  d.transfer.items i.from i.to e i.halt some there moves.ends;
+              fits = omega (arith, moves.ends, length-take (e - i.from) (drop i.from d.transfer.items));
               most = (few_bytes d.bulk.size).1;
             },
           )

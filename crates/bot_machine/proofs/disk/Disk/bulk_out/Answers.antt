@@ -12,29 +12,25 @@ returns-then-self-clause-step g c =
 pub returns-in-Command-clause-step : goal.returns-in-Command-clause-step
 returns-in-Command-clause-step g c =
     let d = c.self.inside in
-    let left = ap (λ p. left_of (bytes_of d.bulk.size) p d.taken.items d.staging.items d.bulk.status) (sym c.in-Command.is) in
-    let opens = rw c.deref_mut.ensures.value at (c.open.ensures.opens d.taken.items) in
+    let left = ap (λ p. left_of (bytes_of d.bulk.size) p d.transfer.items d.bulk.status) (sym c.in-Command.is) in
+    let opens = rw c.deref_mut.ensures.value at c.open.ensures.opens in
     let passes = c.open.ensures.passes in
-    rw (← c.self.view_is, with_items_is d.staging c.open.new.staging (search (rules, places)))
-    (begins _ _ _ _ c.args.packet.now (sym c.if-self.false) left opens c.open.ensures.rests (c.open.ensures.spares d.taken.items)
+    rw (← c.self.view_is, with_items_is d.transfer c.open.new.transfer (search (rules, places)))
+    (begins _ _ _ _ c.args.packet.now (sym c.if-self.false) left opens c.open.ensures.rests c.open.ensures.spares
     c.open.ensures.plain passes.few passes.looks passes.elapses passes.limit (ap bytes_of passes.size))
 
 pub returns-in-DataOut-clause-step : goal.returns-in-DataOut-clause-step
 returns-in-DataOut-clause-step g c =
     let d = c.self.inside in
     let t = c.in-DataOut.field-0 in
-    let left = ap (λ p. left_of (bytes_of d.bulk.size) p d.taken.items d.staging.items d.bulk.status) (sym c.in-DataOut.is) in
+    let left = ap (λ p. left_of (bytes_of d.bulk.size) p d.transfer.items d.bulk.status) (sym c.in-DataOut.is) in
     let taken = c.deref_mut-in-DataOut.ensures.value in
     let serves = c.take_data.ensures.serves in
     let passes = c.take_data.ensures.passes in
-    rw (
-      ← c.self.view_is,
-      with_items_is d.taken c.take_data.new.taken (search (rules, places)),
-      with_items_is d.staging c.take_data.new.staging (search (rules, places)),
-    )
+    rw (← c.self.view_is, with_items_is d.transfer c.take_data.new.transfer (search (rules, places)))
     (goes_on _ _ _ _ c.args.packet.now t c.deref_mut-in-DataOut.result.now (sym c.if-self.false)
     (ap (λ came. taking_of t came) taken ∙ left)
-    (serves.takes t c.in-DataOut.is (left_of (bytes_of d.bulk.size) d.bulk.phase d.taken.items d.staging.items d.bulk.status))
+    (serves.takes t c.in-DataOut.is (left_of (bytes_of d.bulk.size) d.bulk.phase d.transfer.items d.bulk.status))
     (serves.rests t c.in-DataOut.is) (serves.spares t c.in-DataOut.is) (serves.plain t c.in-DataOut.is) passes.few passes.looks
     passes.elapses passes.limit (ap bytes_of passes.size))
 
@@ -42,6 +38,6 @@ pub returns-in_default-clause-step : goal.returns-in_default-clause-step
 returns-in_default-clause-step g c =
     let d = c.self.inside in
     let sent = sends d.bulk.phase (λ e. c.in_default.not-Command e) (λ t e. c.in_default.not-DataOut t e)
-    (bytes_of d.bulk.size) d.taken.items d.staging.items d.bulk.status in
+    (bytes_of d.bulk.size) d.transfer.items d.bulk.status in
     rw (← c.self.view_is)
     (not_ready _ _ c.args.packet.now sent.0 sent.1 d.bulk.status (g.met.M.Medium.sound d.unit.store.medium) (sym c.if-self.false) sent.2)

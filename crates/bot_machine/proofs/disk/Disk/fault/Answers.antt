@@ -9,10 +9,9 @@ invariant_of-self g c =
     let steady = c.fault.ensures.steady in
     let d = c.self.inside in
     rw c.take_back-was_good.ensures.line.phase
-    (kept_as _ _ _ d.bulk.phase d.taken.items d.staging.items
+    (kept_as _ _ _ d.bulk.phase d.transfer.items
     (ap (λ (u : UnitValue g.row.M.Denot). unit_limit u) c.fault.ensures.unit) (record {
-      taken_room = c.self.invariant.taken_room;
-      staging_room = c.self.invariant.staging_room;
+      room = c.self.invariant.room;
       phase_holds = still_in_phase _ _ _ steady.takes steady.sends d.bulk.phase c.self.invariant.phase_holds;
     }))
 

@@ -23,8 +23,7 @@ returns-in_default g c = rw c.into_medium.ensures (record {
 
 pub invariant_of-result : goal.invariant_of-result
 invariant_of-result g c = record {
-  taken_room = search (rules, places);
-  staging_room = search (rules, places);
+  room = search (rules, places);
   phase_holds = c.at_rest.ensures.phase _ _;
 }
 
@@ -34,7 +33,7 @@ returns g c =
     record {
       opened = record {
         store = started.store;
-        line = c.at_rest.ensures.line _ _;
+        line = c.at_rest.ensures.line _;
         retires = started.retires;
         headroom = started.headroom;
         unit = started.opened;

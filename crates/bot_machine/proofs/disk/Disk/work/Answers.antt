@@ -12,8 +12,7 @@ pub invariant_of-self : goal.invariant_of-self
 invariant_of-self g c =
     let ticks = c.work.ensures.ticks in
     let d = c.self.inside in
-    kept_as _ _ _ d.bulk.phase d.taken.items d.staging.items ticks.limit_stays (record {
-      taken_room = c.self.invariant.taken_room;
-      staging_room = c.self.invariant.staging_room;
+    kept_as _ _ _ d.bulk.phase d.transfer.items ticks.limit_stays (record {
+      room = c.self.invariant.room;
       phase_holds = still_in_phase _ _ _ ticks.steady ticks.steady_in d.bulk.phase c.self.invariant.phase_holds;
     })
