@@ -8,7 +8,7 @@ use disk_calls::room_for;
 use journal::LogFormat;
 
 // What the box behind a handle takes.
-const KEPT: u64 = 864;
+const KEPT: u64 = 840;
 
 /// How many bytes of memory a disk takes on an image of this format with `slots` slots, whose
 /// blocks begin behind the log. 0 where there is no such format or number of slots.
@@ -32,7 +32,7 @@ fn memory_on(format: LogFormat, slots: u64) -> u64
     let near = 2 + format.slot_sectors() * slots;
     let limit = u64::from(format.limit());
     let room = room_for(format) + AHEAD as u64;
-    512 * near + (512 + 2096) * limit + 528 * room + slot_memory(format) * slots + KEPT
+    512 * near + (512 + 1584) * limit + 528 * room + slot_memory(format) * slots + KEPT
 }
 
 // How many bytes each slot takes.

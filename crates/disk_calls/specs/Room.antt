@@ -38,7 +38,7 @@ abbrev pub slot_memory : LogFormat → ℕ
 slot_memory format = 1928 * version_of format + 8 * limit_of format
 
 -- How many bytes of memory a start takes, by measure: the first sectors, the window, the outbox,
--- two batches and two buffers of a transfer each, what each slot takes, and the disk.
+-- two batches and a buffer of a transfer each, what each slot takes, and the disk.
 abbrev pub memory_of : ℕ → ℕ → ℕ → ℕ → LogFormat → ℕ
 memory_of size slots span room format =
-    size + 512 * span + 528 * room + 2096 * limit_of format + slot_memory format * slots + 744
+    size + 512 * span + 528 * room + 1584 * limit_of format + slot_memory format * slots + 720
