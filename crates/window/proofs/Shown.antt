@@ -2,16 +2,20 @@
 use Rattle.std.proofs.Common.{◌≡◌, ◌⊎◌, inl, inr, ℕ, zero, suc, ◌+◌, ◌-◌, ◌*◌, ◌/◌, ◌%◌, ◌<◌, ◌≤◌, true, false, List, [], ◌∷◌}
 use Rattle.std.proofs.Common.{◌++◌}
 use Rattle.std.proofs.Common.{length, take, drop, refl, sym, ◌∙◌, ap, subst, arith, length-append, ◌==◌}
-use Rattle.std.proofs.Common.{min}
+use Rattle.std.proofs.Common.{min, Option, Some, None}
+use Rattle.std.specs.List.{list_all}
 use Rattle.std.proofs.lemmas.Bool.{cases_lt, and_parts}
 use Rattle.std.proofs.lemmas.Bool.Decides.{eqb_tells, nat_tests}
 use Rattle.std.proofs.lemmas.List.{take_all, drop_all, take-append-le, drop-append-le, length-take, length-drop}
 use Rattle.medium.specs.Medium.{Image, Holds}
 use Rattle.medium.specs.Writes.{sector_of}
-use Rattle.mirror.specs.Device.{put, durable, after}
+use Rattle.mirror.specs.Device.{Device, put, durable, carried_out, after}
 use Rattle.mirror.specs.Story.{Told, given}
 use Rattle.mirror.specs.OutboxMedium.{device_of}
-use Rattle.window.specs.Seen.{same, agrees, overlaid, lies_in, bytes_of, nothings, reborn}
+use Rattle.mirror.specs.declared.call.DeviceCall.{DeviceCall}
+use Rattle.mirror.specs.declared.call.DeviceCall.TheVariants.{Write, Flush}
+use Rattle.mirror.proofs.Asked.{after-append}
+use Rattle.window.specs.Seen.{same, agrees, overlaid, lies_in, bytes_of, spares, with_less, reborn}
 
 same_self : (xs : List ℕ) → same xs xs ≡ true
 same_self [] = refl
@@ -83,13 +87,19 @@ sector_of_bytes (suc count) image whole s lt =
           (behind (bytes_of count image) (image count) count long (whole count (omega arith)))
     ]
 
-pub given_nothing : (count : ℕ) → given (nothings count) ≡ []
-given_nothing zero = refl
-given_nothing (suc count) = given_nothing count
+pub length_of_less : (count : ℕ) (calls : List (Option DeviceCall)) → length (with_less count calls) ≡ length calls
+length_of_less count [] = refl
+length_of_less count (None ∷ calls) = ap suc (length_of_less count calls)
+length_of_less zero (Some call ∷ calls) = ap suc (length_of_less zero calls)
+length_of_less (suc count) (Some call ∷ calls) = ap suc (length_of_less count calls)
 
-pub length_of_nothings : (count : ℕ) → length (nothings count) ≡ count
-length_of_nothings zero = refl
-length_of_nothings (suc count) = ap suc (length_of_nothings count)
+given_less : (count : ℕ) (calls : List (Option DeviceCall)) → given (with_less count calls) ≡ drop count (given calls)
+given_less zero [] = refl
+given_less (suc count) [] = refl
+given_less zero (None ∷ calls) = given_less zero calls
+given_less (suc count) (None ∷ calls) = given_less (suc count) calls
+given_less zero (Some call ∷ calls) = ap (λ (l : List DeviceCall). call ∷ l) (given_less zero calls)
+given_less (suc count) (Some call ∷ calls) = given_less count calls
 
 -- whether a sector lies there
 pub lies : (first count s : ℕ) → ((lies_in first count s ≡ true) × (first ≤ s) × (s < first + count))
@@ -140,7 +150,56 @@ module _ (image : Image) (first count : ℕ) (bytes : List ℕ) where
     | inr other ↦ rw other.0 (whole s lt)
   ]
 
-module _ (t : Told) (first count : ℕ) (bytes : List ℕ) (whole : length t.opening % 512 ≡ 0)
+-- ---- calls that are carried out
+
+-- where none is a write to some sectors, they stay as they are
+pub stay_as_they_are : (d : Device) (calls : List DeviceCall) (first count s : ℕ) → list_all (spares first count) calls ≡ true
+    → lies_in first count s ≡ true → (after d calls).content s ≡ d.content s
+stay_as_they_are d [] first count s spared is = refl
+stay_as_they_are d (Write w ∷ calls) first count s spared is =
+    let parts = and_parts (spares first count (Write w)) (list_all (spares first count) calls) spared in
+    elim (eqb_tells s w.sector) [
+      | inl here ↦
+          let touched : spares first count (Write w) ≡ false = rw (sym here.1) (rw is refl) in
+          absurd (cc (parts.0, touched))
+      | inr other ↦
+          let beside : (carried_out d (Write w)).content s ≡ d.content s = rw other.0 refl in
+          stay_as_they_are (carried_out d (Write w)) calls first count s parts.1 is ∙ beside
+    ]
+stay_as_they_are d (Flush ∷ calls) first count s spared is =
+    stay_as_they_are (carried_out d Flush) calls first count s
+    (and_parts (spares first count Flush) (list_all (spares first count) calls) spared).1 is
+
+same_behind : (d e : Device) (calls : List DeviceCall) (s : ℕ) → e.content s ≡ d.content s
+    → (after e calls).content s ≡ (after d calls).content s
+same_behind d e [] s same = same
+same_behind d e (Write w ∷ calls) s same = same_behind (carried_out d (Write w)) (carried_out e (Write w)) calls s
+    (elim (eqb_tells s w.sector) [ inl here ↦ rw here.0 refl | inr other ↦ rw other.0 same ])
+same_behind d e (Flush ∷ calls) s same = same_behind (carried_out d Flush) (carried_out e Flush) calls s same
+
+-- a sector that is already as they leave it stays so
+carried_out_again : (d e : Device) (calls : List DeviceCall) (s : ℕ) → e.content s ≡ (after d calls).content s
+    → (after e calls).content s ≡ (after d calls).content s
+carried_out_again d e [] s same = same
+carried_out_again d e (Write w ∷ calls) s same = elim (eqb_tells s w.sector) [
+  | inl here ↦ same_behind (carried_out d (Write w)) (carried_out e (Write w)) calls s (rw here.0 refl)
+  | inr other ↦ carried_out_again (carried_out d (Write w)) (carried_out e (Write w)) calls s (rw other.0 same)
+]
+carried_out_again d e (Flush ∷ calls) s same = carried_out_again (carried_out d Flush) (carried_out e Flush) calls s same
+
+module _ (t : Told) (waits : List DeviceCall) (sent : given t.asked ≡ t.taken ++ waits) where
+  thought : (s : ℕ) → (device_of t).content s ≡ (after (after (durable t.opening) t.taken) waits).content s
+  thought s = ap (λ (calls : List DeviceCall). (after (durable t.opening) calls).content s) sent
+      ∙ ap (λ (d : Device). d.content s) (after-append (durable t.opening) t.taken waits)
+
+  -- a device that has carried out what was taken holds what the medium does, where no write waits
+  pub holds_already : (first count s : ℕ) → list_all (spares first count) waits ≡ true → lies_in first count s ≡ true
+      → (after (durable t.opening) t.taken).content s ≡ (device_of t).content s
+  holds_already first count s spared is =
+      sym (thought s ∙ stay_as_they_are (after (durable t.opening) t.taken) waits first count s spared is)
+
+module _ (t : Told) (waits : List DeviceCall) (sent : given t.asked ≡ t.taken ++ waits)
+    (first count : ℕ) (bytes : List ℕ) (spared : list_all (spares first count) waits ≡ true) (whole : length t.opening % 512 ≡ 0)
     (sized : AreWhole (length t.opening / 512) (device_of t).content) (fits : 512 * count ≤ length bytes) where
   abbrev image : Image
   image = overlaid (device_of t).content first count bytes
@@ -151,10 +210,22 @@ module _ (t : Told) (first count : ℕ) (bytes : List ℕ) (whole : length t.ope
   pub reborn_length : length (reborn t first count bytes).opening ≡ length t.opening
   reborn_length = length_of_bytes (length t.opening / 512) image all_whole ∙ omega (arith, whole)
 
-  pub reborn_given : given (reborn t first count bytes).asked ≡ []
-  reborn_given = given_nothing (length t.asked)
+  pub reborn_given : given (reborn t first count bytes).asked ≡ waits
+  reborn_given = given_less (length t.taken) t.asked ∙ ap (λ (l : List DeviceCall). drop (length t.taken) l) sent
+      ∙ drop-append-le (length t.taken) t.taken waits (omega arith)
+      ∙ ap (λ (l : List DeviceCall). l ++ waits) (drop_all (length t.taken) t.taken (omega arith))
+
+  opened : (s : ℕ) → s < length t.opening / 512 → sector_of (reborn t first count bytes).opening s ≡ image s
+  opened s lt = sector_of_bytes (length t.opening / 512) image all_whole s lt
 
   pub reborn_content : (s : ℕ) → s < length t.opening / 512 → (device_of (reborn t first count bytes)).content s ≡ image s
   reborn_content s lt =
       ap (λ calls. (after (durable (reborn t first count bytes).opening) calls).content s) reborn_given
-      ∙ sector_of_bytes (length t.opening / 512) image all_whole s lt
+      ∙ elim (lies first count s) [
+        | inl here ↦ stay_as_they_are (durable (reborn t first count bytes).opening) waits first count s spared here.0
+            ∙ opened s lt
+        | inr other ↦
+            let before = overlaid_beside (device_of t).content first count bytes s other.0 ∙ thought t waits sent s in
+            carried_out_again (after (durable t.opening) t.taken) (durable (reborn t first count bytes).opening) waits s
+            (opened s lt ∙ before) ∙ sym before
+      ]

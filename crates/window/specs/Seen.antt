@@ -1,7 +1,8 @@
 -- What a medium that reads on demand was asked since the beginning.
 use Rattle.std.specs.Prelude.{◌+◌, ◌-◌, ◌*◌, ◌/◌, ℕ, zero, suc, Bool, true, false, List, [], ◌∷◌}
 use Rattle.std.specs.Prelude.{◌++◌}
-use Rattle.std.specs.Prelude.{length, take, replicate, Option, None, if◌then◌else◌, ◌==◌, ◌&&◌}
+use Rattle.std.specs.Prelude.{length, take, replicate, Option, Some, None, if◌then◌else◌, ◌==◌}
+use Rattle.std.specs.Prelude.{◌&&◌}
 use Rattle.std.specs.Prelude.{nat_lt, nat_le}
 use Rattle.medium.specs.Medium.{Image}
 use Rattle.medium.specs.Tally.{one_more}
@@ -11,6 +12,7 @@ use Rattle.mirror.specs.Story as story
 use Rattle.mirror.specs.Story.{Told}
 use Rattle.mirror.specs.OutboxMedium.{device_of}
 use Rattle.mirror.specs.declared.call.DeviceCall.{DeviceCall}
+use Rattle.mirror.specs.declared.call.DeviceCall.TheVariants.{Write, Flush}
 
 pub record Seen : Type 0 where
   -- as a medium that has all bytes in memory tells it
@@ -74,16 +76,24 @@ abbrev pub bytes_of : ℕ → Image → List ℕ
 bytes_of zero image = []
 bytes_of (suc count) image = bytes_of count image ++ image count
 
-abbrev pub nothings : ℕ → List (Option DeviceCall)
-nothings zero = []
-nothings (suc count) = None ∷ nothings count
+-- whether a call is no write to one of these sectors
+abbrev pub spares : ℕ → ℕ → DeviceCall → Bool
+spares first count (Write w) = if lies_in first count w.sector then false else true
+spares first count Flush = true
 
--- A device that holds what is shown, and else what was thought: it begins anew. Of a device that
--- keeps what it holds it is never made.
+-- these calls, of which so many that gave something to the device gave nothing
+abbrev pub with_less : ℕ → List (Option DeviceCall) → List (Option DeviceCall)
+with_less count [] = []
+with_less count (None ∷ calls) = None ∷ with_less count calls
+with_less zero (Some call ∷ calls) = Some call ∷ with_less zero calls
+with_less (suc count) (Some call ∷ calls) = None ∷ with_less count calls
+
+-- A device that holds what is shown, and else what was thought: it begins anew, and is still to
+-- carry out what waits. Of a device that keeps what it holds it is never made.
 abbrev pub reborn : Told → ℕ → ℕ → List ℕ → Told
 reborn t first count bytes = record t {
   opening = bytes_of (length t.opening / 512) (overlaid (device_of t).content first count bytes);
-  asked = nothings (length t.asked);
+  asked = with_less (length t.taken) t.asked;
   taken = [];
 }
 

@@ -9,6 +9,7 @@ use Rattle.medium.specs.Tally.{Tally}
 use Rattle.inlet.specs.Inlet.{AreHeld}
 use Rattle.mirror.specs.OutboxMedium as mirror
 use Rattle.mirror.specs.OutboxMedium.{OutboxMedium}
+use Rattle.mirror.specs.Device.{Device, durable, after}
 use Rattle.mirror.specs.Story.{given}
 use Rattle.mirror.specs.declared.call.DeviceCall.{DeviceCall}
 use Rattle.window.specs.Seen as seen
@@ -130,11 +131,26 @@ pub record IsWellFormed (w : Window) : Type 0 where
   pub held : w.held ≤ w.span
   pub behind : w.near ≤ w.from ⊎ (w.held ≡ 0)
 
--- these bytes may be shown from this sector on: no call waits in the outbox, and they are whole
--- sectors, no more than there is room for, all of the device and behind the first ones
+-- no write to one of these sectors waits in the outbox
+abbrev pub are_spared : Window → ℕ → ℕ → Bool
+are_spared m first count = list_all (seen.spares first count) m.outbox
+
+-- the device as it is when it has carried out what was taken out of the outbox, and nothing else
+abbrev pub device_so_far : Window → Device
+device_so_far m = after (durable m.seen.told.opening) m.seen.told.taken
+
+-- it holds in these sectors what the medium does
+abbrev pub AgreesOn : ℕ → ℕ → Window → Type 0
+AgreesOn first count m = (s : ℕ) → lies_in first count s ≡ true
+    → (device_so_far m).content s ≡ (state_of m).content s
+
+-- these bytes may be shown from this sector on: no write to one of the sectors waits in the outbox,
+-- and they are whole sectors, no more than there is room for, all of the device and behind the
+-- first ones
 abbrev pub HasPlace : ℕ → List ℕ → Window → Type 0
 HasPlace first bytes m =
-    (length m.outbox ≡ 0) × (length bytes % 512 ≡ 0) × (length bytes / 512 ≤ m.span)
+    (are_spared m first (length bytes / 512) ≡ true)
+    × (length bytes % 512 ≡ 0) × (length bytes / 512 ≤ m.span)
     × (m.near ≤ first) × (512 * first + length bytes ≤ length m.seen.told.opening)
 
 -- Sectors were shown, and taken or not. Where they are what was thought, nothing but the window has
@@ -146,6 +162,8 @@ pub record IsShown (first : ℕ) (bytes : List ℕ) (taken : Bool) (old new : Wi
   pub fits : IsTrue taken ↔ HasPlace first bytes old
   pub honest : taken ≡ true → AreHeld (state_of old).content first (length bytes / 512) bytes
       → new ≡ moved old first (length bytes / 512)
+  -- what was thought is what the device held before it carries out what waits
+  pub agrees : taken ≡ true → AgreesOn first (length bytes / 512) old
   pub content : taken ≡ true → AreHeld (state_of new).content first (length bytes / 512) bytes
   pub beside : taken ≡ true → (s : ℕ) → s < (state_of old).size
       → lies_in first (length bytes / 512) s ≡ false

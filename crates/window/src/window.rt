@@ -5,7 +5,9 @@ ghost use Rattle.medium.specs.Moments.{IsFlushed};
 ghost use Rattle.medium.specs.Writes.{sector_of};
 ghost use Rattle.mirror.specs.OutboxMedium.{first_of};
 ghost use Rattle.window.specs.Window.{Window, state_of, fresh, without_first, ComesAfter};
+ghost use Rattle.window.specs.Seen.{spares};
 ghost use Rattle.window.specs.Window.{CoversDevice, IsServed, HasPlace, IsShown, is_in_sight};
+ghost use Rattle.window.specs.Window.{AgreesOn, are_spared};
 
 use crate::holds::DeviceHolds;
 use crate::look::Look;
@@ -108,9 +110,9 @@ impl WindowMedium {
     /// Shows these sectors as the device holds them, in place of those that were shown before.
     /// Where they are as it held them, nothing else changes. It is no call of a medium.
     ///
-    /// It answers false, and nothing changes, where calls wait in the outbox, or the bytes are no
-    /// whole sectors, more than there is room for, or not all of them of the device and behind the
-    /// first ones.
+    /// It answers false, and nothing changes, where a write to one of them waits in the outbox, or
+    /// the bytes are no whole sectors, more than there is room for, or not all of them of the
+    /// device and behind the first ones.
     pub fn fill(&mut self, first: u64, bytes: &[u8]) -> bool
         ensures { IsShown first bytes.now result self.old self.new }
     {
@@ -122,20 +124,37 @@ impl WindowMedium {
         true
     }
 
-    // Whether these bytes may be shown from this sector on: no call waits in the outbox, and they
-    // are whole sectors, no more than there is room for, all of the device and behind the first
-    // ones.
+    // Whether these bytes may be shown from this sector on: no write to one of the sectors waits in
+    // the outbox, and they are whole sectors, no more than there is room for, all of the device and
+    // behind the first ones.
     fn has_place_for(&self, first: u64, bytes: &[u8]) -> bool
         ensures { IsTrue result ↔ HasPlace first bytes.now self.now }
     {
-        if self.outbox.len() > 0 || bytes.len() % SECTOR != 0 {
+        let count = (bytes.len() / SECTOR) as u64;
+        if bytes.len() % SECTOR != 0 || !self.spares(first, count) {
             return false;
         }
-        let count = (bytes.len() / SECTOR) as u64;
         if bytes.len() > self.pane.sectors.bytes.len() || first < self.near() {
             return false;
         }
         count <= self.size && first <= self.size - count
+    }
+
+    /// Whether no write to one of these sectors waits in the outbox. A device that has carried out
+    /// what was taken out of it holds then what the medium does in them.
+    pub fn spares(&self, first: u64, count: u64) -> bool
+        ensures is { result ≡ are_spared self.now first count }
+        ensures agrees { result ≡ true → AgreesOn first count self.now }
+    {
+        for place in 0..self.outbox.len() {
+            let Some(call) = self.outbox.get(place) else {
+                return true;
+            };
+            if !spares(call, first, count) {
+                return false;
+            }
+        }
+        true
     }
 
     /// How many of the first sectors lie in memory.
@@ -194,6 +213,16 @@ impl WindowMedium {
         ensures served { (new : Window) → ComesAfter self.now new → IsServed self.now new }
     {
         self.outbox.len()
+    }
+}
+
+// Whether this call is no write to one of these sectors.
+fn spares(call: &DeviceCall, first: u64, count: u64) -> bool
+    ensures { result ≡ spares first count call.now }
+{
+    match call {
+        DeviceCall::Write(write) => write.sector < first || write.sector - first >= count,
+        DeviceCall::Flush => true,
     }
 }
 
