@@ -1,13 +1,13 @@
 -- A machine whose calls a device carries out is carried on, call by call.
 use Rattle.std.proofs.Common.{◌≡◌, ℕ, Bool, true, false, List, [], ◌∷◌, ◌++◌, length, inl, inr, refl, sym, ◌∙◌, ap, subst, arith}
-use Rattle.std.proofs.Common.{Ok, Err, Result}
+use Rattle.std.proofs.Common.{Ok, Result}
 use Rattle.std.proofs.Common.{Option, Some, None, append_assoc}
 use Rattle.std.proofs.lemmas.List.{append-nil}
 use Rattle.window.specs.WindowLaws.{is_sound}
 use Rattle.medium.specs.Medium.{Image}
 use Rattle.medium.specs.Moments.{EachCut, LeavesOnly}
-use Rattle.medium.specs.Tally.{Tally, none, one_more, of_kind}
-use Rattle.medium.specs.Machine.{GoesOn, Driven, TellsCall}
+use Rattle.medium.specs.Tally.{Tally, none}
+use Rattle.medium.specs.Machine.{GoesOn}
 use Rattle.medium.specs.declared.medium_call.Call.{Call}
 use Rattle.medium.specs.declared.medium_call.Call.TheVariants as call
 use Rattle.medium.specs.declared.fault.MediumFault.TheVariants as kind
@@ -15,7 +15,6 @@ use Rattle.medium.proofs.Driving.{driven_call, driven_refused, not_driven}
 use Rattle.mirror.specs.Story.{given, are_whole, is_whole}
 use Rattle.mirror.specs.OutboxMedium as mirror
 use Rattle.mirror.specs.OutboxMedium.{OutboxMedium, sent, DeviceLeaves, ComesAfter}
-use Rattle.mirror.specs.MirrorLaws.{given-append}
 use Rattle.mirror.specs.declared.call.DeviceCall.{DeviceCall}
 use Rattle.mirror.specs.declared.call.DeviceCall.TheVariants as device
 use Rattle.mirror.proofs.Asked.{given_none, given_some, whole_more}
@@ -29,7 +28,7 @@ use Rattle.machine_calls.specs.Carried.{IsCarried, Tells, HearsRead, IsCarriedOn
 use Rattle.machine_calls.proofs.Performing.{read_performed, read_refused, write_performed, flush_performed}
 
 -- a call more that gives the device nothing
-asked_more : (old now new : OutboxMedium) → ComesAfter old now → new.story.asked ≡ now.story.asked ++ None ∷ []
+abbrev pub asked_more : (old now new : OutboxMedium) → ComesAfter old now → new.story.asked ≡ now.story.asked ++ None ∷ []
     → new.outbox ≡ now.outbox → new.story.taken ≡ now.story.taken → ComesAfter old new
 asked_more old now new follows asks outbox taken = record {
   since = follows.since ++ None ∷ [];
@@ -40,7 +39,7 @@ asked_more old now new follows asks outbox taken = record {
 }
 
 -- and one that does
-gave_more : (old now : OutboxMedium) (one : DeviceCall) → ComesAfter old now → ComesAfter old (mirror.gives now one)
+abbrev pub gave_more : (old now : OutboxMedium) (one : DeviceCall) → ComesAfter old now → ComesAfter old (mirror.gives now one)
 gave_more old now one follows = record {
   since = follows.since ++ Some one ∷ [];
   asked = ap (λ (l : List (Option DeviceCall)). l ++ Some one ∷ []) follows.asked

@@ -1,2 +1,4 @@
 pub mod Performing
 pub mod Carrying
+pub mod Handing
+pub mod Stepped

@@ -1,15 +1,12 @@
 -- What the device does is what a call of a medium does.
-use Rattle.std.proofs.Common.{◌≡◌, ◌⊎◌, ◌<◌, ℕ, true, List, length, inl, inr, refl, sym, ◌∙◌, ap, subst, Ok, Err}
-use Rattle.medium.specs.Medium.{Stays, Holds, Within, Gains, LooksOnly}
-use Rattle.medium.specs.Moments.{SparesFrom}
-use Rattle.medium.specs.Performed.{Performed, IsWithin, ReadsBefore}
+use Rattle.std.proofs.Common.{◌≡◌, ◌<◌, ℕ, true, List, inr, refl, sym, subst, Ok, Err}
+use Rattle.medium.specs.Medium.{Stays, Holds, Within, Gains}
+use Rattle.medium.specs.Performed.{Performed}
 use Rattle.medium.specs.declared.medium_call.Call.TheVariants as call
 use Rattle.medium.specs.declared.fault.MediumFault.TheVariants as kind
 use Rattle.medium.proofs.SparedSectors.{spared_silent, spared_write}
 use Rattle.medium.proofs.SectorsRead.{look_below, write_looks, flush_looks}
-use Rattle.mirror.specs.Device.{carried_out}
 use Rattle.mirror.specs.Story.{given, are_whole, is_whole}
-use Rattle.mirror.specs.OutboxMedium.{device_of}
 use Rattle.mirror.specs.declared.call.DeviceCall.TheVariants as device
 use Rattle.mirror.proofs.Asked as asked
 use Rattle.window.specs.Window.{Window, state_of, mirror_of, reads, misses, gives}

@@ -1,1 +1,4 @@
 pub mod Carried
+pub mod Runs
+pub mod Stepping
+pub mod Running

@@ -16,10 +16,10 @@ const SECTOR: usize = 512;
 /// A machine, and the device that carries out its calls: what its next call is, and how that ended.
 #[derive(Drop)]
 pub struct Carried<T> {
-    machine: T,
+    pub(crate) machine: T,
     // The sector that is lent to its calls.
-    sector: [u8; 512],
-    asked: Asked,
+    pub(crate) sector: [u8; 512],
+    pub(crate) asked: Asked,
 }
 
 impl<T: Machine<WindowMedium>> Carried<T> {
@@ -188,8 +188,8 @@ impl<T: Machine<WindowMedium>> Carried<T> {
     {}
 }
 
-// Does nothing: a sector has 512 bytes.
-fn is_sector(sector: &[u8; 512])
+/// Does nothing: a sector has 512 bytes.
+pub(crate) fn is_sector(sector: &[u8; 512])
     ensures { length sector.now ≡ 512 }
 {}
 

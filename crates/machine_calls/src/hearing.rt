@@ -1,0 +1,113 @@
+//! How a call of the device of a machine ended.
+ghost use Rattle.std.specs.Prelude.{◌≡◌, ◌≤◌, ◌↔◌, IsTrue, true, length, take};
+ghost use Rattle.medium.specs.declared.medium_call.Call.TheVariants as call;
+ghost use Rattle.machine_calls.specs.Carried.{EndsAs, refusal_of, LeavesWhatItMay, HoldsOn};
+ghost use Rattle.machine_calls.specs.Carried.{Hears, IsCarriedOn};
+ghost use Rattle.machine_calls.specs.Running.{RunHears, HearsRunRead, IsRunOn, IsReading};
+ghost use Rattle.machine_calls.specs.declared.asked.Asked.TheVariants as asked;
+
+use crate::asked::Asked;
+use crate::running::Running;
+use device_calls::DoneFault;
+use medium::{Call, Machine, MediumFault};
+use mirror::SECTOR;
+use window::WindowMedium;
+
+impl<T: Machine<WindowMedium>> Running<T> {
+    /// What the device was asked for last has ended, good or not; of a read these are the bytes of
+    /// its sectors, and of other calls no bytes are looked at. A call that it refused is its last.
+    ///
+    /// # Errors
+    /// `NothingAsked` where the device is at no call, and `BadLength` where the bytes are not those
+    /// of as many sectors as it was to read. Nothing changes then.
+    pub fn done(&mut self, ok: bool, bytes: &[u8]) -> Result<(), DoneFault>
+        ensures hears { RunHears T.fits T.holds T.may T.reads T.ends T.cost T.exact T.due T.after
+            T.gone self.old.carried.asked self.old ok bytes.now result self.new }
+        ensures goes_on { IsRunOn T.fits T.holds T.may T.reads T.ends T.cost T.exact T.due T.after
+            T.gone self.old ok bytes.now result self.new }
+    {
+        match self.carried.asked {
+            Asked::Nothing | Asked::Refused(_) => Err(DoneFault::NothingAsked),
+            Asked::At(call) => match call {
+                Call::Read(first) => self.end_read(first, ok, bytes),
+                Call::Write(_) => self.carried.done(ok, bytes),
+                Call::Flush => self.carried.done(ok, bytes),
+            },
+        }
+    }
+
+    // A read has ended, good or not.
+    fn end_read(&mut self, first: u64, ok: bool, bytes: &[u8]) -> Result<(), DoneFault>
+        requires { self.old.carried.asked ≡ asked.At (call.Read first) }
+        ensures hears { HearsRunRead T.fits T.holds T.may T.reads T.ends T.cost T.exact T.due
+            T.after T.gone first self.old ok bytes.now result self.new }
+        ensures goes_on { IsRunOn T.fits T.holds T.may T.reads T.ends T.cost T.exact T.due T.after
+            T.gone self.old ok bytes.now result self.new }
+    {
+        if !ok {
+            return self.carried.done(false, bytes);
+        }
+        if bytes.len() != self.reading as usize * SECTOR {
+            return Err(DoneFault::BadLength);
+        }
+        self.run.hold(first, bytes);
+        self.tell_first(bytes)
+    }
+
+    // The machine is told the first sector that was read.
+    fn tell_first(&mut self, bytes: &[u8]) -> Result<(), DoneFault>
+        requires { 512 ≤ length bytes.now }
+        ensures stays { (self.new.run ≡ self.old.run) × (self.new.reading ≡ self.old.reading) }
+        ensures hears { Hears T.fits T.holds T.may T.reads T.ends T.cost T.exact T.due T.after
+            T.gone self.old.carried.asked self.old.carried true (take 512 bytes.now) result
+            self.new.carried }
+        ensures carried { IsCarriedOn T.fits T.holds T.may T.reads T.ends T.cost T.exact T.due
+            T.after T.gone self.old.carried true (take 512 bytes.now) result self.new.carried }
+    {
+        let sector = &bytes[..SECTOR];
+        self.carried.done(true, sector)
+    }
+
+    /// Whether the device is at a read.
+    pub fn is_reading(&self) -> bool
+        ensures { IsTrue result ↔ IsReading self.now.carried.asked }
+    {
+        match self.carried.asked {
+            Asked::At(Call::Read(_)) => true,
+            _ => false,
+        }
+    }
+
+    /// How its calls ended, if none is left: all were made, or the device refused one of this kind.
+    pub fn end(&self) -> Option<Result<(), MediumFault>>
+        ensures { EndsAs T.fits T.holds T.may T.reads T.ends T.cost T.exact T.due T.after T.gone
+            self.now.carried.asked self.now.carried result }
+    {
+        self.carried.end()
+    }
+
+    /// The kind of the call that the device refused, if it refused one.
+    pub fn refusal(&self) -> Option<MediumFault>
+        ensures { result ≡ refusal_of self.now.carried.asked }
+    {
+        self.carried.refusal()
+    }
+
+    /// The machine, as far as it has come.
+    pub fn into_machine(self) -> T
+        ensures { result ≡ self.carried.machine }
+    {
+        self.carried.into_machine()
+    }
+
+    /// Does nothing. Wherever in what it was told the device is, what a loss of power leaves of it
+    /// is what the machine may leave.
+    pub fn rest(&self)
+        ensures leaves { LeavesWhatItMay T.fits T.holds T.may T.reads T.ends T.cost T.exact T.due
+            T.after T.gone self.now.carried }
+        ensures holds { HoldsOn T.fits T.holds T.may T.reads T.ends T.cost T.exact T.due T.after
+            T.gone self.now.carried }
+    {
+        self.carried.rest();
+    }
+}
