@@ -1,13 +1,19 @@
--- The recovery of an image, which a device carries out call by call.
-use Rattle.std.specs.Prelude.{◌≡◌, ℕ, ◌≤◌, Bool, true, false, List, length, Result, Err}
+-- The recovery of an image, which a device carries out in runs of neighbouring sectors.
+use Rattle.std.specs.Prelude.{◌≡◌, ◌⊎◌, ℕ, ◌≤◌, min, Bool, true, false, List, length}
+use Rattle.std.specs.Prelude.{Result, Ok, Err}
 use Rattle.medium.specs.Medium.{Image}
 use Rattle.medium.specs.Tally.{Tally, none}
+use Rattle.medium.specs.Writes.{sector_of}
 use Rattle.mirror.specs.Story.{given, are_whole}
-use Rattle.mirror.specs.OutboxMedium.{sent, DeviceLeaves}
+use Rattle.mirror.specs.OutboxMedium.{sent}
+use Rattle.mirror.specs.OutboxMedium as outbox
+use Rattle.mirror.specs.Parts.{CoversParts}
 use Rattle.window.specs.Window.{Window, state_of, mirror_of}
 use Rattle.device_calls.specs.declared.ask.DeviceAsk.{DeviceAsk}
 use Rattle.device_calls.specs.declared.done_fault.DoneFault.{DoneFault}
-use Rattle.machine_calls.specs.Carried.{IsCarried, IsAsked, Hears, told, ended_by, IsHonest}
+use Rattle.machine_calls.specs.Carried.{ended_by}
+use Rattle.machine_calls.specs.Running.{IsRunning, RunAsks, RunHears, HandedOut, handed, AreHonest}
+use Rattle.machine_calls.specs.Running.{IsReading}
 use Rattle.machine_calls.specs.declared.asked.Asked.{Asked}
 use Rattle.machine_calls.specs.declared.asked.Asked.TheVariants as asked
 use Rattle.recovery.specs.Causes.{start_fault_of}
@@ -19,6 +25,7 @@ use Rattle.recovery.specs.declared.recovered.Recovered.{Recovered}
 use Rattle.recovery.specs.declared.start_fault.StartFault.{StartFault}
 use Rattle.recovery.specs.declared.start_point.StartPoint.TheVariants as point
 use Rattle.recovery.specs.declared.starting.Starting.{Starting}
+use Rattle.opening.specs.Near.{IsNear}
 use Rattle.opening.specs.declared.recovering.Recovering.{Recovering}
 
 -- ---- a start, as a machine whose calls a device carries out
@@ -58,8 +65,8 @@ Gone s t = (t.sectors ≡ s.sectors) × (t.least ≡ s.least)
 pub record IsRecovering (m : Window) (s : Recovering) (n : Window) : Type 0 where
   pub first : Starting
   pub began : List ℕ
-  pub carried : IsCarried fits holds may sectors_of sectors_of left ⊥ Due After Gone first began m
-      s.carried n
+  pub running : IsRunning fits holds may sectors_of sectors_of left ⊥ Due After Gone first began m
+      s.running n
   pub held : holds first began m (record { start = m; least = 0 })
 
 -- Whatever the device was when it was begun, of so many sectors, which was given whole ones alone.
@@ -69,39 +76,61 @@ BeginsRecovery sectors s = (m : Window) → (state_of m).size ≡ sectors
 
 -- ---- what its calls are
 
--- the next call of the start, if the device is at none and has refused none
+-- The next call of the start, if the device is at none and has refused none: sectors before
+-- `s.until` are read ahead.
 abbrev pub AsksToRecover : Recovering → List ℕ → DeviceAsk → Recovering → List ℕ → Type 0
 AsksToRecover old buffer what new filled =
-    IsAsked fits holds may sectors_of sectors_of left ⊥ Due After Gone old.carried.asked
-    old.carried buffer what new.carried filled
+    RunAsks fits holds may sectors_of sectors_of left ⊥ Due After Gone old.until
+    old.running.carried.asked old.running buffer what new.running filled
+    × (new.until ≡ old.until) × (new.sectors ≡ old.sectors)
 
--- it is told that
+-- these bytes were read first
+abbrev pub ReadsFirst : Recovering → Bool → List ℕ → Type 0
+ReadsFirst s ok bytes = (s.until ≡ 1) × IsReading s.running.carried.asked × (ok ≡ true)
+    × (512 ≤ length bytes)
+
+-- Before the first read sector 0 alone is read ahead, and from then on all before the blocks, as
+-- the sector tells it that was read first.
+abbrev pub ReachesTo : Recovering → Bool → List ℕ → ℕ → Type 0
+ReachesTo old ok bytes until = ((¬ ReadsFirst old ok bytes) × (until ≡ old.until))
+    ⊎ (ReadsFirst old ok bytes × (count : ℕ) × IsNear (sector_of bytes 0) count
+    × (until ≡ min count old.sectors))
+
+-- it is told that; what is not taken changes nothing
 abbrev pub HearsOfRecovery : Recovering → Bool → List ℕ → Result (Unit {0}) DoneFault
     → Recovering → Type 0
 HearsOfRecovery old ok bytes result new =
-    Hears fits holds may sectors_of sectors_of left ⊥ Due After Gone old.carried.asked old.carried
-    ok bytes result new.carried
+    RunHears fits holds may sectors_of sectors_of left ⊥ Due After Gone
+    old.running.carried.asked old.running ok bytes result new.running
+    × (new.sectors ≡ old.sectors) × IfTaken old ok bytes result new
+  where
+    IfTaken : Recovering → Bool → List ℕ → Result (Unit {0}) DoneFault → Recovering → Type 0
+    IfTaken old ok bytes (Ok done) new = ReachesTo old ok bytes new.until
+    IfTaken old ok bytes (Err why) new = new.until ≡ old.until
 
--- So the recovery goes on, on the medium that the device has come to.
-abbrev pub GoesOnAsked : Recovering → DeviceAsk → Recovering → Type 0
-GoesOnAsked old what new = (m n : Window) → IsRecovering m old n
-    → IsRecovering m new (told what new.carried.sector n)
+-- So the recovery goes on, on the medium that the device has come to: by calls of a medium that
+-- handed it what it was told, and nothing else.
+abbrev pub GoesOnAsked : Recovering → DeviceAsk → Recovering → List ℕ → Type 0
+GoesOnAsked old what new filled = (m n : Window) → IsRecovering m old n
+    → (k : Window) × IsRecovering m new k × HandedOut (handed what filled) n k
 
 abbrev pub GoesOnHeard : Recovering → Bool → List ℕ → Result (Unit {0}) DoneFault → Recovering
     → Type 0
-GoesOnHeard old ok bytes result new = (m n : Window) → IsHonest old.carried.asked ok bytes n
-    → IsRecovering m old n → IsRecovering m new (ended_by result old.carried.asked ok n)
+GoesOnHeard old ok bytes result new = (m n : Window)
+    → AreHonest old.running.carried.asked old.running.reading ok bytes n
+    → IsRecovering m old n → IsRecovering m new (ended_by result old.running.carried.asked ok n)
 
 -- ---- what is so at each moment of it
 
 -- What is left at each moment is what a recovery leaves: a later start finds the array of before.
 -- What a loss of power leaves of the device, wherever in what it was told it is, is left at such a
--- moment.
+-- moment; so also where it has carried out any part of a run, in any order.
 pub record LeavesAsRecovery (m n : Window) : Type 0 where
   pub leaves : RecoveryLeaves (state_of m) (state_of n)
-  pub device : given m.seen.told.asked ≡ sent (mirror_of m) → (count : ℕ) (image : Image)
-      → length (sent (mirror_of m)) ≤ count → DeviceLeaves (mirror_of n) count image
-      → (state_of n).left_since (state_of m).calls image
+  pub device : given m.seen.told.asked ≡ sent (mirror_of m)
+      → outbox.CoversDevice (mirror_of m) (mirror_of n)
+  pub parts : given m.seen.told.asked ≡ sent (mirror_of m)
+      → CoversParts (mirror_of m) (mirror_of n)
 
 abbrev pub IsSafe : Recovering → Type 0
 IsSafe s = (m n : Window) → IsRecovering m s n → LeavesAsRecovery m n
@@ -110,22 +139,22 @@ IsSafe s = (m n : Window) → IsRecovering m s n → LeavesAsRecovery m n
 
 -- none is at its end that is at a call, or has one left
 abbrev pub IsOverAt : Asked → Recovering → Type 0
-IsOverAt asked.Nothing s = start_left (stage_of s.carried.machine) ≡ none
+IsOverAt asked.Nothing s = start_left (stage_of s.running.carried.machine) ≡ none
 IsOverAt (asked.At next) s = ⊥
 IsOverAt (asked.Refused kind) s = Unit {0}
 
 abbrev pub IsOver : Recovering → Type 0
-IsOver s = IsOverAt s.carried.asked s
+IsOver s = IsOverAt s.running.carried.asked s
 
 -- the device is at a call, or one is left
 abbrev pub IsUnderWayAt : Asked → Recovering → Type 0
-IsUnderWayAt asked.Nothing s = IsStarting (stage_of s.carried.machine)
+IsUnderWayAt asked.Nothing s = IsStarting (stage_of s.running.carried.machine)
 IsUnderWayAt (asked.At next) s = Unit {0}
 IsUnderWayAt (asked.Refused kind) s = ⊥
 
 abbrev pub TellsOver : Recovering → Bool → Type 0
 TellsOver s true = IsOver s
-TellsOver s false = IsUnderWayAt s.carried.asked s
+TellsOver s false = IsUnderWayAt s.running.carried.asked s
 
 -- where the device refused a call, for that; else as `recover` that made these calls
 abbrev pub EndsAt : Asked → Window → Window → Result Recovered StartFault → Type 0
@@ -134,4 +163,4 @@ EndsAt (asked.At next) m n result = ⊥
 EndsAt (asked.Refused kind) m n result = result ≡ Err (start_fault_of kind)
 
 abbrev pub Ends : Recovering → Result Recovered StartFault → Type 0
-Ends s result = (m n : Window) → IsRecovering m s n → EndsAt s.carried.asked m n result
+Ends s result = (m n : Window) → IsRecovering m s n → EndsAt s.running.carried.asked m n result

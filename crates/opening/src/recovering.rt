@@ -1,61 +1,92 @@
-//! The recovery of an image, which a device carries out call by call.
-ghost use Rattle.std.specs.Prelude.{◌≡◌, ◌≤◌, ◌/◌, length};
+//! The recovery of an image, which a device carries out in runs of neighbouring sectors.
+ghost use Rattle.std.specs.Prelude.{◌≡◌, ◌≤◌, ◌/◌, length, IfSome};
 ghost use Rattle.opening.specs.Recovering.{BeginsRecovery, AsksToRecover, GoesOnAsked};
-ghost use Rattle.opening.specs.Recovering.{HearsOfRecovery, GoesOnHeard, IsSafe};
+ghost use Rattle.opening.specs.Recovering.{HearsOfRecovery, GoesOnHeard, IsSafe, ReachesTo};
 ghost use Rattle.opening.specs.Recovering.{IsOver, TellsOver, Ends};
 
+use crate::near::near_in;
 use device_calls::{DeviceAsk, DoneFault};
-use machine_calls::Carried;
+use machine_calls::Running;
+use mirror::device_laws;
 use recovery::{Recovered, StartFault, Starting};
+use std::alloc::Global;
 use window::WindowMedium;
 
-/// The recovery of an image, which a device carries out call by call. It holds no log: some 5 KB
-/// whatever the image, and takes no memory.
+const SECTOR: usize = 512;
+
+/// The recovery of an image, which a device carries out in runs of neighbouring sectors. It holds
+/// no log: some 38 KB whatever the image, which it takes when it is made.
 #[derive(Drop)]
 pub struct Recovering {
-    carried: Carried<Starting>,
+    running: Running<Starting>,
+    sectors: u64,
+    // No sector from this one on is read before the recovery reads it. Those before the blocks a
+    // start reads anyway, so one that cannot be read ends no start that would have gone on.
+    until: u64,
 }
 
 impl Recovering {
     /// The recovery of the image on a device of `sectors` sectors, of which nothing is read yet.
-    pub fn new(sectors: u64) -> Recovering
-        ensures { BeginsRecovery sectors result }
+    /// None where there is no memory.
+    pub fn new(alloc: Global, sectors: u64) -> Option<Recovering>
+        ensures { IfSome result (BeginsRecovery sectors) }
     {
-        Recovering {
-            carried: Carried::new(Starting::begin::<WindowMedium>(sectors)),
-        }
+        let running = Running::new(alloc, Starting::begin::<WindowMedium>(sectors))?;
+        Some(Recovering {
+            running,
+            sectors,
+            until: 1,
+        })
     }
 
     /// What the device is to do next: nothing while it is at a call, or refused one, or where the
-    /// recovery is at its end. The bytes of a write go to the front of the buffer.
+    /// recovery is at its end. Sectors before the blocks are read ahead, and writes to neighbouring
+    /// ones come together, as many as there is room for. Their bytes go to the front of the buffer.
     pub fn next(&mut self, buffer: &mut [u8]) -> DeviceAsk
         requires { 1 ≤ length buffer.old / 512 }
         ensures asks { AsksToRecover self.old buffer.old result self.new buffer.new }
-        ensures goes_on { GoesOnAsked self.old result self.new }
+        ensures goes_on { GoesOnAsked self.old result self.new buffer.new }
     {
-        self.carried.next(buffer)
+        self.running.next(self.until, buffer)
     }
 
     /// What the device was asked for last has ended, good or not; of a read these are the bytes of
-    /// the sector. A call that it refused is its last. It stands apart, so that it does not lie on
+    /// its sectors. A call that it refused is its last. It stands apart, so that it does not lie on
     /// the stack under what begins then.
     ///
     /// # Errors
     /// `NothingAsked` where the device is at no call, and `BadLength` where the bytes are not those
-    /// of a sector. Nothing changes then.
+    /// of as many sectors as it was to read. Nothing changes then.
     #[inline(never)]
     pub fn done(&mut self, ok: bool, bytes: &[u8]) -> Result<(), DoneFault>
         ensures hears { HearsOfRecovery self.old ok bytes.now result self.new }
         ensures goes_on { GoesOnHeard self.old ok bytes.now result self.new }
     {
-        self.carried.done(ok, bytes)
+        let until = self.until_behind(ok, bytes);
+        match self.running.done(ok, bytes) {
+            Ok(()) => {
+                self.until = until;
+                Ok(())
+            }
+            Err(fault) => Err(fault),
+        }
+    }
+
+    // How far is read ahead, where the device told this of its call.
+    fn until_behind(&self, ok: bool, bytes: &[u8]) -> u64
+        ensures { ReachesTo self.now ok bytes.now result }
+    {
+        if !ok || self.until != 1 || bytes.len() < SECTOR || !self.running.is_reading() {
+            return self.until;
+        }
+        near_in(bytes).min(self.sectors)
     }
 
     /// Whether it is at its end: no call is left, or the device refused one.
     pub fn is_over(&self) -> bool
         ensures { TellsOver self.now result }
     {
-        self.carried.end().is_some()
+        self.running.end().is_some()
     }
 
     /// What came of it: what is known of the image, or why it is refused.
@@ -66,9 +97,9 @@ impl Recovering {
         requires { IsOver self }
         ensures { Ends self result }
     {
-        match self.carried.refusal() {
+        match self.running.refusal() {
             Some(kind) => Err(StartFault::from(kind)),
-            None => self.carried.into_machine().end::<WindowMedium>(),
+            None => self.running.into_machine().end::<WindowMedium>(),
         }
     }
 
@@ -76,6 +107,7 @@ impl Recovering {
     pub fn rest(&self)
         ensures { IsSafe self.now }
     {
-        self.carried.rest();
+        self.running.rest();
+        device_laws();
     }
 }

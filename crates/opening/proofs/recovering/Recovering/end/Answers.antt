@@ -10,9 +10,9 @@ use Rattle.opening.proofs.recovering.Recovering.end.Goals as goal
 
 pub end-requires : goal.end-requires
 end-requires c = subst (λ (s : Starting). start_left (stage_of s) ≡ none) (sym c.into_machine.ensures)
-    (over_left c.args.self c.args.self.carried.asked (sym c.refusal.ensures ∙ c.in-None.is) c.requires)
+    (over_left c.args.self c.args.self.running.carried.asked (sym c.refusal.ensures ∙ c.in-None.is) c.requires)
 
 pub returns-in-None : goal.returns-in-None
-returns-in-None c = ended c.args.self c.end.result c.args.self.carried.asked refl (sym c.refusal.ensures ∙ c.in-None.is) c.requires
+returns-in-None c = ended c.args.self c.end.result c.args.self.running.carried.asked refl (sym c.refusal.ensures ∙ c.in-None.is) c.requires
     (λ least start m had held. c.end.ensures least start m had
     (subst (λ (s : Starting). HoldsStart state_of least (stage_of s) had start m) (sym c.into_machine.ensures) held))
