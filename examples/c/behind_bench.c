@@ -51,7 +51,8 @@ static bool note_rest(struct bench *bench)
     return true;
 }
 
-/* A READ: of the first sectors, in order; of what is wished for; or of what a host lacks. */
+/* A READ: of a recovery, which reads a few sectors ahead; of the first sectors, in order; of what is
+ * wished for; or of what a host lacks. */
 static bool judge_read(struct bench *bench, size_t room)
 {
     const struct usbdisk_call *call = &bench->device.call;
@@ -61,7 +62,7 @@ static bool judge_read(struct bench *bench, size_t room)
     bench->reads_ahead = wish->kind != USBDISK_NOTHING;
     bench->wish.kind = USBDISK_NOTHING;
     bench->behind = call->sector + call->count;
-    bool is_next = bench->is_mending ? call->count == 1 : call->sector == bench->opened;
+    bool is_next = bench->is_mending ? call->count <= MENDS : call->sector == bench->opened;
     if (bench->host.is_opening && (!is_next || 512 * call->count > room))
         return fails("a start reads other sectors than the next ones");
     if (bench->reads_ahead && (call->sector != wish->sector || call->count != wish->count))

@@ -28,7 +28,7 @@ use Rattle.calls.specs.declared.held.Stage.TheVariants as stage
 abbrev pub Asks : Stage → List ℕ → DeviceAsk → Held → Held → List ℕ → Type 0
 Asks (stage.Recovering b sectors) room what old new filled = (s' : Recovering)
     × (new ≡ record old { stage = new.stage }) × IsRecoveryOf s' sectors new.stage
-    × AsksToRecover b.value room what s' filled × GoesOnAsked b.value what s'
+    × AsksToRecover b.value room what s' filled × GoesOnAsked b.value what s' filled
 Asks (stage.Opening o) room what old new filled = (o' : Reading)
     × (new ≡ record old { stage = stage.Opening o' }) × (filled ≡ room)
     × AsksToRead o (length room / 512) what o'

@@ -1,4 +1,4 @@
--- The device carries out a recovery, one call at a time, before its first sectors are read.
+-- The device carries out a recovery, in runs, before its first sectors are read.
 use Rattle.std.specs.Prelude.{◌≡◌, ◌≢◌, ◌⊎◌, ℕ, Result, Ok, Err}
 use Rattle.recovery.specs.declared.recovered.Recovered.{Recovered}
 use Rattle.recovery.specs.declared.start_fault.StartFault.{StartFault}
@@ -32,7 +32,7 @@ behind (Err why) sectors = stage.Failed why
 
 -- It goes on, or it is at its end, good or refused.
 abbrev pub ComesBehind : Recovering → ℕ → Stage → Type 0
-ComesBehind s sectors new = (IsUnderWayAt s.carried.asked s × IsRecoveryOf s sectors new)
+ComesBehind s sectors new = (IsUnderWayAt s.running.carried.asked s × IsRecoveryOf s sectors new)
     ⊎ (IsOver s × (result : Result Recovered StartFault) × Ends s result
     × (new ≡ behind result sectors))
 

@@ -1,4 +1,4 @@
-//! The device carries out a recovery, one call at a time, before its first sectors are read.
+//! The device carries out a recovery, in runs, before its first sectors are read.
 ghost use Rattle.std.specs.Prelude.{◌≡◌, MatchOption};
 ghost use Rattle.calls.specs.Recovers.{IsFirst, RecoversOn, ComesBehind, behind};
 
@@ -19,7 +19,8 @@ pub(crate) fn first_call(alloc: Global, sectors: u64) -> Option<Stage>
     if sectors == 0 {
         return Some(Stage::Failed(StartFault::BadSuper));
     }
-    match Box::new(alloc, Recovering::new(sectors)) {
+    let recovering = Recovering::new(alloc, sectors)?;
+    match Box::new(alloc, recovering) {
         Ok(recovering) => Some(Stage::Recovering(recovering, sectors)),
         Err(_) => None,
     }

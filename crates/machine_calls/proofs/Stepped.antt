@@ -1,6 +1,7 @@
 -- A machine whose calls a device carries out in runs is carried on, step by step.
 use Rattle.std.proofs.Common.{◌≡◌, ◌+◌, ◌-◌, ◌*◌, ◌/◌, ◌<◌, ◌≤◌, ℕ, Bool, true, false, List, [], ◌∷◌, length, inl, inr, refl, sym, ◌∙◌, ap}
 use Rattle.std.proofs.Common.{subst, arith, Ok, Err, Result, add-one, add-zero}
+use Rattle.std.proofs.Common.{length-take, take}
 use Rattle.medium.specs.Medium.{Image, Holds}
 use Rattle.medium.specs.Moments.{EachCut}
 use Rattle.medium.specs.Tally.{Tally, of_all}
@@ -19,7 +20,8 @@ use Rattle.mirror.proofs.Asked as mirror
 use Rattle.window.specs.Window.{Window, state_of, mirror_of, reads, gives}
 use Rattle.device_calls.specs.declared.done_fault.DoneFault.{DoneFault}
 use Rattle.device_calls.specs.declared.ask.DeviceAsk.TheVariants as ask
-use Rattle.machine_calls.specs.Carried.{IsCarried, Tells, Reaches, Runs, StaysCarried, told, HearsRead, EndsRead, ended_by, IsHonest, IsCarriedOn}
+use Rattle.machine_calls.specs.Carried.{IsCarried, Tells, Reaches, Runs, StaysCarried, told, HearsRead, EndsRead, ended_by, IsHonest}
+use Rattle.machine_calls.specs.Carried.{IsCarriedOn}
 use Rattle.machine_calls.specs.Carried.{Hears, IsAsked}
 use Rattle.machine_calls.specs.Runs.{HoldsOf, HoldsRead, LetsGo, IsHeld, held_at}
 use Rattle.machine_calls.specs.Running.{IsRunning, IsAtRest, Hands, GathersOn, HasGiven, HandedOut, writes_of, HasGathered}
@@ -31,7 +33,8 @@ use Rattle.machine_calls.specs.declared.carried.Carried.{Carried}
 use Rattle.machine_calls.specs.declared.run.Run.{Run}
 use Rattle.machine_calls.specs.declared.running.Running.{Running}
 use Rattle.machine_calls.proofs.Carrying.{asked_more, gave_more, whole_write}
-use Rattle.machine_calls.proofs.Handing.{handed_none, handed_read, handed_more, handed_on, handed_through, writes_more, held_read, held_written}
+use Rattle.machine_calls.proofs.Handing.{handed_none, handed_read, handed_more, handed_on, handed_through, writes_more, held_read}
+use Rattle.machine_calls.proofs.Handing.{held_written}
 use Rattle.machine_calls.proofs.Handing.{held_flushed, held_anew}
 use Rattle.machine_calls.proofs.Performing.{read_performed, write_performed}
 
@@ -276,19 +279,28 @@ module _ {S V : Type 0} (fits : S → ℕ → Type 0) (holds : S → List ℕ �
   )
 
   -- a good read of a sector
-  pub good_read : (old new : Carried S) (bytes : List ℕ) (result : Result (Unit {0}) DoneFault) → length bytes ≡ 512
+  good_read : (old new : Carried S) (bytes : List ℕ) (result : Result (Unit {0}) DoneFault) → length bytes ≡ 512
       → HearsRead fits holds may reads_to ends cost Exact Due After Gone old true bytes result new
       → (result ≡ Ok tt) × EndsRead fits holds may reads_to ends cost Exact Due After Gone old true bytes new
   good_read old new bytes result long (inl short) = absurd (short.1 long)
   good_read old new bytes result long (inr good) = good
 
   -- where the device was at a read
-  pub read_told : (place : ℕ) (old new : Carried S) (bytes : List ℕ) (result : Result (Unit {0}) DoneFault)
+  read_told : (place : ℕ) (old new : Carried S) (bytes : List ℕ) (result : Result (Unit {0}) DoneFault)
       → old.asked ≡ asked.At (call.Read place)
       → Hears fits holds may reads_to ends cost Exact Due After Gone old.asked old true bytes result new
       → HearsRead fits holds may reads_to ends cost Exact Due After Gone old true bytes result new
   read_told place old new bytes result at heard =
       subst (λ (a : Asked). Hears fits holds may reads_to ends cost Exact Due After Gone a old true bytes result new) at heard
+
+  -- the first sector of a read is told
+  pub first_told : (place count : ℕ) (old new : Carried S) (bytes : List ℕ) (result : Result (Unit {0}) DoneFault)
+      → old.asked ≡ asked.At (call.Read place) → length bytes ≡ 512 * count → 1 ≤ count
+      → Hears fits holds may reads_to ends cost Exact Due After Gone old.asked old true (take 512 bytes) result new
+      → (result ≡ Ok tt) × EndsRead fits holds may reads_to ends cost Exact Due After Gone old true (take 512 bytes) new
+  first_told place count old new bytes result at long some heard =
+      good_read old new (take 512 bytes) result (omega (arith, length-take 512 bytes, long, some))
+      (read_told place old new (take 512 bytes) result at heard)
 
   -- of one that is asked for nothing nothing changes
   pub asked_nothing : (at : Asked) (old new : Carried S) (buffer filled : List ℕ)
@@ -322,6 +334,14 @@ module _ {S V : Type 0} (fits : S → ℕ → Type 0) (holds : S → List ℕ �
     held = subst (λ (r : Run). HoldsOf r (state_of (ended_by result s.carried.asked ok n)).content) (sym run)
         (held_ended s.run s.carried.asked ok result n is.held);
   }
+
+  -- a call that was refused gave none
+  pub none_read : (at : Asked) (bytes : List ℕ) (n : Window) → IsHonest at false bytes n
+  none_read asked.Nothing bytes n = tt
+  none_read (asked.At (call.Read place)) bytes n = tt
+  none_read (asked.At (call.Write place)) bytes n = tt
+  none_read (asked.At call.Flush) bytes n = tt
+  none_read (asked.Refused kind) bytes n = tt
 
   -- where they are held from now on
   pub read_on : (s t : Running S) (place : ℕ) (bytes sector : List ℕ) (result : Result (Unit {0}) DoneFault)

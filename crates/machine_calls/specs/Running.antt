@@ -67,6 +67,21 @@ IsReading (asked.At (call.Write place)) = ⊥
 IsReading (asked.At call.Flush) = ⊥
 IsReading (asked.Refused kind) = ⊥
 
+-- so many sectors lie in these bytes
+abbrev pub HasSectors : ℕ → List ℕ → Type 0
+HasSectors count bytes = 512 * count ≤ length bytes
+
+-- there is room for a sector, and the device is at no call
+pub record MayAsk {S : Type 0} (s : Running S) (buffer : List ℕ) : Type 0 where
+  pub room : 512 ≤ length buffer
+  pub rests : s.carried.asked ≡ asked.Nothing
+
+-- there is room for so many, and the device is at a write from this sector on
+pub record MayGather {S : Type 0} (first count : ℕ) (s : Running S) (buffer : List ℕ)
+    : Type 0 where
+  pub room : 512 * count ≤ length buffer
+  pub writes : s.carried.asked ≡ asked.At (call.Write first)
+
 -- how many sectors are read from this one on: as many as there is room for, 64 at most, and none
 -- from `until` on but the first
 abbrev pub count_from : ℕ → ℕ → ℕ → ℕ

@@ -1,10 +1,9 @@
 //! What the device of a machine is asked for: runs of neighbouring sectors.
 ghost use Rattle.std.specs.Prelude.{◌≡◌, ◌≤◌, ◌+◌, ◌/◌, ◌*◌, [], length, IfSome, true};
-ghost use Rattle.medium.specs.declared.medium_call.Call.TheVariants as call;
 ghost use Rattle.machine_calls.specs.Running.{BeginsRunning, RunAsks, AsksNext, HasAnswered};
 ghost use Rattle.machine_calls.specs.Running.{Hands, HandsFor, IsAtRest, AsksToRead, GathersOn};
 ghost use Rattle.machine_calls.specs.Running.{HasGathered, PutsNext, gathered};
-ghost use Rattle.machine_calls.specs.declared.asked.Asked.TheVariants as asked;
+ghost use Rattle.machine_calls.specs.Running.{HasSectors, MayAsk, MayGather, handed};
 
 use crate::asked::Asked;
 use crate::carried::Carried;
@@ -37,7 +36,7 @@ impl<T: Machine<WindowMedium>> Running<T> {
     /// machine is at its end. It reads no sector from `until` on before the machine does. The bytes
     /// of writes go to the front of the buffer.
     pub fn next(&mut self, until: u64, buffer: &mut [u8]) -> DeviceAsk
-        requires { 512 ≤ length buffer.old }
+        requires { HasSectors 1 buffer.old }
         ensures asks { RunAsks T.fits T.holds T.may T.reads T.ends T.cost T.exact T.due T.after
             T.gone until self.old.carried.asked self.old buffer.old result self.new buffer.new }
         ensures hands { HandsFor T.fits T.holds T.may T.reads T.ends T.cost T.exact T.due T.after
@@ -63,12 +62,11 @@ impl<T: Machine<WindowMedium>> Running<T> {
 
     // What a device that is at no call is to do next.
     fn ask(&mut self, until: u64, buffer: &mut [u8]) -> DeviceAsk
-        requires room { 512 ≤ length buffer.old }
-        requires rests { self.old.carried.asked ≡ asked.Nothing }
+        requires { MayAsk self.old buffer.old }
         ensures asks { AsksNext T.fits T.holds T.may T.reads T.ends T.cost T.exact T.due T.after
             T.gone until self.old buffer.old result self.new buffer.new }
-        ensures hands { HandsFor T.fits T.holds T.may T.reads T.ends T.cost T.exact T.due T.after
-            T.gone self.old result self.new buffer.new }
+        ensures hands { Hands T.fits T.holds T.may T.reads T.ends T.cost T.exact T.due T.after
+            T.gone (handed result buffer.new) self.old self.new }
     {
         match self.carried.next(buffer) {
             DeviceAsk::Nothing => DeviceAsk::Nothing,
@@ -98,8 +96,7 @@ impl<T: Machine<WindowMedium>> Running<T> {
     // The first write lies at the front of the buffer. As long as a write to the next sector comes
     // next and has room, it goes behind it. How many they are.
     fn gather(&mut self, first: u64, buffer: &mut [u8]) -> usize
-        requires room { 512 ≤ length buffer.old }
-        requires writes { self.old.carried.asked ≡ asked.At (call.Write first) }
+        requires { MayGather first 1 self.old buffer.old }
         ensures gathers { HasGathered T.fits T.holds T.may T.reads T.ends T.cost T.exact T.due
             T.after T.gone first result buffer.old self.new buffer.new }
         ensures hands { GathersOn T.fits T.holds T.may T.reads T.ends T.cost T.exact T.due T.after
@@ -116,8 +113,7 @@ impl<T: Machine<WindowMedium>> Running<T> {
 
     // The next write goes to the buffer, behind so many, where it is to the sector behind theirs.
     fn put_next(&mut self, first: u64, count: usize, buffer: &mut [u8]) -> bool
-        requires room { 512 * (count + 1) ≤ length buffer.old }
-        requires writes { self.old.carried.asked ≡ asked.At (call.Write first) }
+        requires { MayGather first (count + 1) self.old buffer.old }
         ensures puts { PutsNext T.fits T.holds T.may T.reads T.ends T.cost T.exact T.due T.after
             T.gone first count buffer.old buffer.new result self.old self.new }
         ensures hands { GathersOn T.fits T.holds T.may T.reads T.ends T.cost T.exact T.due T.after

@@ -1,9 +1,10 @@
 //! How a call of the device of a machine ended.
-ghost use Rattle.std.specs.Prelude.{◌≡◌, ◌≤◌, ◌↔◌, IsTrue, true, length, take};
+ghost use Rattle.std.specs.Prelude.{◌≡◌, ◌↔◌, IsTrue, true, take};
 ghost use Rattle.medium.specs.declared.medium_call.Call.TheVariants as call;
 ghost use Rattle.machine_calls.specs.Carried.{EndsAs, refusal_of, LeavesWhatItMay, HoldsOn};
 ghost use Rattle.machine_calls.specs.Carried.{Hears, IsCarriedOn};
 ghost use Rattle.machine_calls.specs.Running.{RunHears, HearsRunRead, IsRunOn, IsReading};
+ghost use Rattle.machine_calls.specs.Running.{HasSectors};
 ghost use Rattle.machine_calls.specs.declared.asked.Asked.TheVariants as asked;
 
 use crate::asked::Asked;
@@ -29,24 +30,22 @@ impl<T: Machine<WindowMedium>> Running<T> {
         match self.carried.asked {
             Asked::Nothing | Asked::Refused(_) => Err(DoneFault::NothingAsked),
             Asked::At(call) => match call {
-                Call::Read(first) => self.end_read(first, ok, bytes),
+                Call::Read(first) if ok => self.take_read(first, bytes),
+                Call::Read(_) => self.carried.done(false, bytes),
                 Call::Write(_) => self.carried.done(ok, bytes),
                 Call::Flush => self.carried.done(ok, bytes),
             },
         }
     }
 
-    // A read has ended, good or not.
-    fn end_read(&mut self, first: u64, ok: bool, bytes: &[u8]) -> Result<(), DoneFault>
+    // A good read has ended.
+    fn take_read(&mut self, first: u64, bytes: &[u8]) -> Result<(), DoneFault>
         requires { self.old.carried.asked ≡ asked.At (call.Read first) }
         ensures hears { HearsRunRead T.fits T.holds T.may T.reads T.ends T.cost T.exact T.due
-            T.after T.gone first self.old ok bytes.now result self.new }
+            T.after T.gone first self.old true bytes.now result self.new }
         ensures goes_on { IsRunOn T.fits T.holds T.may T.reads T.ends T.cost T.exact T.due T.after
-            T.gone self.old ok bytes.now result self.new }
+            T.gone self.old true bytes.now result self.new }
     {
-        if !ok {
-            return self.carried.done(false, bytes);
-        }
         if bytes.len() != self.reading as usize * SECTOR {
             return Err(DoneFault::BadLength);
         }
@@ -56,7 +55,7 @@ impl<T: Machine<WindowMedium>> Running<T> {
 
     // The machine is told the first sector that was read.
     fn tell_first(&mut self, bytes: &[u8]) -> Result<(), DoneFault>
-        requires { 512 ≤ length bytes.now }
+        requires { HasSectors 1 bytes.now }
         ensures stays { (self.new.run ≡ self.old.run) × (self.new.reading ≡ self.old.reading) }
         ensures hears { Hears T.fits T.holds T.may T.reads T.ends T.cost T.exact T.due T.after
             T.gone self.old.carried.asked self.old.carried true (take 512 bytes.now) result

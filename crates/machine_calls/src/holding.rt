@@ -37,7 +37,7 @@ impl Run {
         requires { length bytes.now ≤ 32768 }
         ensures { HoldsRead first bytes.now self.old self.new }
     {
-        put(&mut self.sectors.bytes, bytes);
+        lay(&mut self.sectors.bytes, bytes);
         self.first = first;
         self.held = (bytes.len() / SECTOR) as u64;
     }
@@ -52,10 +52,10 @@ impl Run {
     }
 }
 
-// Copies bytes over the front of others.
-fn put(to: &mut [u8], from: &[u8])
-    requires { length from.now ≤ length to.old }
-    ensures { to.new ≡ from.now ++ drop (length from.now) to.old }
+// Copies what was read over the front of the room.
+fn lay(room: &mut [u8], bytes: &[u8])
+    requires { length bytes.now ≤ length room.old }
+    ensures { room.new ≡ bytes.now ++ drop (length bytes.now) room.old }
 {
-    to[..from.len()].copy_from_slice(from);
+    room[..bytes.len()].copy_from_slice(bytes);
 }

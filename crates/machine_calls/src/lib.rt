@@ -1,5 +1,5 @@
-//! A machine of a medium whose calls a device carries out: one at a time, or in runs of neighbouring
-//! sectors.
+//! A machine of a medium whose calls a device carries out: one at a time, or neighbouring sectors
+//! together.
 #![tactic(auto)]
 
 mod asked;
