@@ -10,7 +10,8 @@ enum {
     MOST = 40,
     MOST_SLOTS = 6,
     SECTORS = 2 + 249 * MOST_SLOTS + BLOCKS,
-    LONGEST = 240
+    LONGEST = 240,
+    MENDS = 64 /* so many sectors are read at a time while the image is recovered, at most */
 };
 
 extern uint64_t seed;
