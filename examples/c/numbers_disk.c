@@ -45,8 +45,15 @@ static void end_read(struct usbdisk *disk, const struct usbdisk_call *call)
     must(!usbdisk_done(disk, true, place, 512 * call->count), "a READ that ends");
 }
 
-/* The image is recovered first, sector by sector: of one that was left in order the head alone is
- * written, between three flushes. */
+/* The image is recovered first. Sector 0 is read alone, then up to 64 sectors at a time, none of
+ * them a block. Of one that was left in order the head alone is written, between three flushes. */
+static bool is_of_mending(const struct usbdisk_call *call)
+{
+    if (call->kind == USBDISK_WRITE)
+        return call->sector == 1 && call->count == 1;
+    return call->kind == USBDISK_FLUSH || (call->sector ? call->count >= 1 : call->count == 1);
+}
+
 static void play_mending(struct usbdisk *disk)
 {
     struct usbdisk_call call;
@@ -54,8 +61,8 @@ static void play_mending(struct usbdisk *disk)
     for (unsigned flushes = 0; flushes < 3; flushes += call.kind == USBDISK_FLUSH) {
         must(carry_one(disk, medium, &call), "a recovery without an end");
         writes += call.kind == USBDISK_WRITE;
-        must(call.kind == USBDISK_FLUSH || call.count == 1, "a run in a recovery");
-        must(call.kind != USBDISK_WRITE || call.sector == 1, "a recovery writes something else");
+        must(is_of_mending(&call), "a recovery asks for something else");
+        must(call.count <= 64 && call.sector + call.count <= FIRST, "a recovery reads too far");
         state_of(disk, USBDISK_STARTING);
     }
     must(writes == 1, "the head is not written once");

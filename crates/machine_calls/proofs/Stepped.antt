@@ -19,13 +19,14 @@ use Rattle.mirror.proofs.Asked.{given_none, given_some, whole_more}
 use Rattle.mirror.proofs.Asked as mirror
 use Rattle.window.specs.Window.{Window, state_of, mirror_of, reads, gives}
 use Rattle.device_calls.specs.declared.done_fault.DoneFault.{DoneFault}
+use Rattle.device_calls.specs.declared.ask.DeviceAsk.{DeviceAsk}
 use Rattle.device_calls.specs.declared.ask.DeviceAsk.TheVariants as ask
 use Rattle.machine_calls.specs.Carried.{IsCarried, Tells, Reaches, Runs, StaysCarried, told, HearsRead, EndsRead, ended_by, IsHonest}
 use Rattle.machine_calls.specs.Carried.{IsCarriedOn}
 use Rattle.machine_calls.specs.Carried.{Hears, IsAsked}
 use Rattle.machine_calls.specs.Runs.{HoldsOf, HoldsRead, LetsGo, IsHeld, held_at}
 use Rattle.machine_calls.specs.Running.{IsRunning, IsAtRest, Hands, GathersOn, HasGiven, HandedOut, writes_of, HasGathered}
-use Rattle.machine_calls.specs.Running.{RunAsks, IsRunOn}
+use Rattle.machine_calls.specs.Running.{RunAsks, AsksNext, IsRunOn}
 use Rattle.machine_calls.specs.Stepping.{Answers, Puts, TellsNone, IsAnswered, WritesTo}
 use Rattle.machine_calls.specs.declared.asked.Asked.{Asked}
 use Rattle.machine_calls.specs.declared.asked.Asked.TheVariants as asked
@@ -358,6 +359,13 @@ module _ {S V : Type 0} (fits : S → ℕ → Type 0) (holds : S → List ℕ �
         held = held_anew s.run t.run place s.reading bytes (state_of (reads n place)).content read long
             (λ i lt. all i lt ∙ sym (mirror.quiet_content (mirror_of n) (place + i)));
       }))
+
+  -- it is at none, and refused none
+  pub asks_next : (until : ℕ) (at : Asked) (s new : Running S) (room filled : List ℕ) (what : DeviceAsk) → at ≡ asked.Nothing
+      → AsksNext fits holds may reads_to ends cost Exact Due After Gone until s room what new filled
+      → RunAsks fits holds may reads_to ends cost Exact Due After Gone until at s room what new filled
+  asks_next until at s new room filled what is asks =
+      subst (λ (a : Asked). RunAsks fits holds may reads_to ends cost Exact Due After Gone until a s room what new filled) (sym is) asks
 
   -- it is at a call, or refused one
   pub asks_nothing : (until : ℕ) (at : Asked) (s : Running S) (room : List ℕ) → ¬ (at ≡ asked.Nothing)

@@ -197,11 +197,9 @@ module _ {S V : Type 0} (fits : S → ℕ → Type 0) (holds : S → List ℕ �
       × (read.count ≡ count_from read.first until (length room / 512))
       × (new.reading ≡ read.count) × (filled ≡ room)
 
-  -- Nothing is, as long as it is at a call, or where it refused one. Else the reads of sectors that
-  -- are held are made first.
+  -- Nothing is, as long as it is at a call, or where it refused one.
   abbrev pub RunAsks : ℕ → Asked → Running S → List ℕ → DeviceAsk → Running S → List ℕ → Type 0
-  RunAsks until asked.Nothing old room what new filled = (mid : Running S) × HasAnswered old mid
-      × AsksNext until mid room what new filled
+  RunAsks until asked.Nothing old room what new filled = AsksNext until old room what new filled
   RunAsks until (asked.At next) old room what new filled =
       (what ≡ ask.Nothing) × (new ≡ old) × (filled ≡ room)
   RunAsks until (asked.Refused kind) old room what new filled =
@@ -238,3 +236,27 @@ module _ {S V : Type 0} (fits : S → ℕ → Type 0) (holds : S → List ℕ �
       HearsAlone old ok bytes result new
   RunHears (asked.At call.Flush) old ok bytes result new = HearsAlone old ok bytes result new
   RunHears (asked.Refused kind) old ok bytes result new = HearsAlone old ok bytes result new
+
+  -- where the device is at no call, the next call of the machine is no read of what is held
+  abbrev pub Settles : Asked → Running S → Running S → Type 0
+  Settles asked.Nothing old new = HasAnswered old new
+  Settles (asked.At next) old new = new ≡ old
+  Settles (asked.Refused kind) old new = new ≡ old
+
+  -- what was told is taken, and then the reads of what is held are made
+  abbrev pub RunEnds : Running S → Bool → List ℕ → Result (Unit {0}) DoneFault → Running S
+      → Type 0
+  RunEnds old ok bytes result new = (mid : Running S)
+      × RunHears old.carried.asked old ok bytes result mid × IfTaken result mid new
+    where
+      IfTaken : Result (Unit {0}) DoneFault → Running S → Running S → Type 0
+      IfTaken (Ok done) mid new = Settles mid.carried.asked mid new
+      IfTaken (Err why) mid new = new ≡ mid
+
+  -- So the device has come on, where the bytes that it read are honest. It is handed nothing.
+  abbrev pub RunsOn : Running S → Bool → List ℕ → Result (Unit {0}) DoneFault → Running S
+      → Type 0
+  RunsOn old ok bytes result new = (first : S) (began : List ℕ) (m n : Window)
+      → AreHonest old.carried.asked old.reading ok bytes n → IsRunning first began m old n
+      → (k : Window) × IsRunning first began m new k
+      × HandedOut [] (ended_by result old.carried.asked ok n) k

@@ -45,12 +45,11 @@ impl<T: Machine<WindowMedium>> Running<T> {
         let Asked::Nothing = self.carried.asked else {
             return DeviceAsk::Nothing;
         };
-        self.answer_reads();
         self.ask(until, buffer)
     }
 
     // Reads of sectors that are held are made, as long as they come next.
-    fn answer_reads(&mut self)
+    pub(crate) fn answer_reads(&mut self)
         requires { IsAtRest self.old.carried.asked }
         ensures answers { HasAnswered T.fits T.holds T.may T.reads T.ends T.cost T.exact T.due
             T.after T.gone self.old self.new }

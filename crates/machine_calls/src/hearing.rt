@@ -1,10 +1,10 @@
 //! How a call of the device of a machine ended.
-ghost use Rattle.std.specs.Prelude.{◌≡◌, ◌↔◌, IsTrue, true, take};
+ghost use Rattle.std.specs.Prelude.{◌≡◌, ◌↔◌, IsTrue, true, [], take};
 ghost use Rattle.medium.specs.declared.medium_call.Call.TheVariants as call;
 ghost use Rattle.machine_calls.specs.Carried.{EndsAs, refusal_of, LeavesWhatItMay, HoldsOn};
 ghost use Rattle.machine_calls.specs.Carried.{Hears, IsCarriedOn};
 ghost use Rattle.machine_calls.specs.Running.{RunHears, HearsRunRead, IsRunOn, IsReading};
-ghost use Rattle.machine_calls.specs.Running.{HasSectors};
+ghost use Rattle.machine_calls.specs.Running.{HasSectors, RunEnds, RunsOn, Settles, Hands};
 ghost use Rattle.machine_calls.specs.declared.asked.Asked.TheVariants as asked;
 
 use crate::asked::Asked;
@@ -22,6 +22,36 @@ impl<T: Machine<WindowMedium>> Running<T> {
     /// `NothingAsked` where the device is at no call, and `BadLength` where the bytes are not those
     /// of as many sectors as it was to read. Nothing changes then.
     pub fn done(&mut self, ok: bool, bytes: &[u8]) -> Result<(), DoneFault>
+        ensures hears { RunEnds T.fits T.holds T.may T.reads T.ends T.cost T.exact T.due T.after
+            T.gone self.old ok bytes.now result self.new }
+        ensures goes_on { RunsOn T.fits T.holds T.may T.reads T.ends T.cost T.exact T.due T.after
+            T.gone self.old ok bytes.now result self.new }
+    {
+        match self.end_call(ok, bytes) {
+            Ok(()) => {
+                self.settle();
+                Ok(())
+            }
+            Err(fault) => Err(fault),
+        }
+    }
+
+    // Where the device is at no call, the reads of sectors that are held are made: so a machine
+    // whose last call is such a read is at its end.
+    fn settle(&mut self)
+        ensures answers { Settles T.fits T.holds T.may T.reads T.ends T.cost T.exact T.due T.after
+            T.gone self.old.carried.asked self.old self.new }
+        ensures hands { Hands T.fits T.holds T.may T.reads T.ends T.cost T.exact T.due T.after
+            T.gone [] self.old self.new }
+    {
+        match self.carried.asked {
+            Asked::Nothing => self.answer_reads(),
+            Asked::At(_) | Asked::Refused(_) => {}
+        }
+    }
+
+    // The call has ended, good or not.
+    fn end_call(&mut self, ok: bool, bytes: &[u8]) -> Result<(), DoneFault>
         ensures hears { RunHears T.fits T.holds T.may T.reads T.ends T.cost T.exact T.due T.after
             T.gone self.old.carried.asked self.old ok bytes.now result self.new }
         ensures goes_on { IsRunOn T.fits T.holds T.may T.reads T.ends T.cost T.exact T.due T.after

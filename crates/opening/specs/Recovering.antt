@@ -1,6 +1,6 @@
 -- The recovery of an image, which a device carries out in runs of neighbouring sectors.
-use Rattle.std.specs.Prelude.{◌≡◌, ◌⊎◌, ℕ, ◌≤◌, min, Bool, true, false, List, length}
-use Rattle.std.specs.Prelude.{Result, Ok, Err}
+use Rattle.std.specs.Prelude.{◌≡◌, ◌⊎◌, ℕ, ◌≤◌, min, Bool, true, false, List, []}
+use Rattle.std.specs.Prelude.{length, Result, Ok, Err}
 use Rattle.medium.specs.Medium.{Image}
 use Rattle.medium.specs.Tally.{Tally, none}
 use Rattle.medium.specs.Writes.{sector_of}
@@ -12,7 +12,7 @@ use Rattle.window.specs.Window.{Window, state_of, mirror_of}
 use Rattle.device_calls.specs.declared.ask.DeviceAsk.{DeviceAsk}
 use Rattle.device_calls.specs.declared.done_fault.DoneFault.{DoneFault}
 use Rattle.machine_calls.specs.Carried.{ended_by}
-use Rattle.machine_calls.specs.Running.{IsRunning, RunAsks, RunHears, HandedOut, handed, AreHonest}
+use Rattle.machine_calls.specs.Running.{IsRunning, RunAsks, RunEnds, HandedOut, handed, AreHonest}
 use Rattle.machine_calls.specs.Running.{IsReading}
 use Rattle.machine_calls.specs.declared.asked.Asked.{Asked}
 use Rattle.machine_calls.specs.declared.asked.Asked.TheVariants as asked
@@ -70,9 +70,12 @@ pub record IsRecovering (m : Window) (s : Recovering) (n : Window) : Type 0 wher
   pub held : holds first began m (record { start = m; least = 0 })
 
 -- Whatever the device was when it was begun, of so many sectors, which was given whole ones alone.
-abbrev pub BeginsRecovery : ℕ → Recovering → Type 0
-BeginsRecovery sectors s = (m : Window) → (state_of m).size ≡ sectors
-    → are_whole (given m.seen.told.asked) ≡ true → IsRecovering m s m
+-- Nothing is read ahead with sector 0.
+pub record BeginsRecovery (sectors : ℕ) (s : Recovering) : Type 0 where
+  pub sectors_are : s.sectors ≡ sectors
+  pub until_is : s.until ≡ 1
+  pub begins : (m : Window) → (state_of m).size ≡ sectors
+      → are_whole (given m.seen.told.asked) ≡ true → IsRecovering m s m
 
 -- ---- what its calls are
 
@@ -100,8 +103,8 @@ ReachesTo old ok bytes until = ((¬ ReadsFirst old ok bytes) × (until ≡ old.u
 abbrev pub HearsOfRecovery : Recovering → Bool → List ℕ → Result (Unit {0}) DoneFault
     → Recovering → Type 0
 HearsOfRecovery old ok bytes result new =
-    RunHears fits holds may sectors_of sectors_of left ⊥ Due After Gone
-    old.running.carried.asked old.running ok bytes result new.running
+    RunEnds fits holds may sectors_of sectors_of left ⊥ Due After Gone old.running ok bytes result
+    new.running
     × (new.sectors ≡ old.sectors) × IfTaken old ok bytes result new
   where
     IfTaken : Recovering → Bool → List ℕ → Result (Unit {0}) DoneFault → Recovering → Type 0
@@ -118,7 +121,8 @@ abbrev pub GoesOnHeard : Recovering → Bool → List ℕ → Result (Unit {0}) 
     → Type 0
 GoesOnHeard old ok bytes result new = (m n : Window)
     → AreHonest old.running.carried.asked old.running.reading ok bytes n
-    → IsRecovering m old n → IsRecovering m new (ended_by result old.running.carried.asked ok n)
+    → IsRecovering m old n → (k : Window) × IsRecovering m new k
+    × HandedOut [] (ended_by result old.running.carried.asked ok n) k
 
 -- ---- what is so at each moment of it
 

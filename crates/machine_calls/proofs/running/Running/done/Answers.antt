@@ -1,11 +1,16 @@
 use Rattle.std.proofs.Common.{refl}
-use Rattle.machine_calls.proofs.Stepped.{run_on, none_read}
+use Rattle.machine_calls.proofs.Handing.{handed_none}
 use Rattle.machine_calls.proofs.running.Running.done.Goals as goal
 
-pub returns-in-Read-2-clause-goes_on : goal.returns-in-Read-2-clause-goes_on
-returns-in-Read-2-clause-goes_on g c =
-    let laws = g.met.T.Machine in
-    let b = g.T.Machine in
-    rw c.if-ok.false (run_on _ _ _ _ _ _ _ _ _ _ laws.leaves laws.goes_on c.args.self.now _ _ c.args.bytes.now _
-    (none_read b.fits b.holds b.may b.reads b.ends b.cost b.exact b.due b.after b.gone laws.leaves laws.goes_on
-    c.args.self.now.carried.asked c.args.bytes.now) refl c.done.ensures.carried)
+pub returns-in-Ok-clause-hears : goal.returns-in-Ok-clause-hears
+returns-in-Ok-clause-hears g c = (c.end_call.new.self, c.in-Ok.ensures.hears, c.settle.ensures.answers)
+
+pub returns-in-Ok-clause-goes_on : goal.returns-in-Ok-clause-goes_on
+returns-in-Ok-clause-goes_on g c first began m n honest is =
+    c.settle.ensures.hands first began m _ (c.in-Ok.ensures.goes_on first began m n honest is)
+
+pub returns-in-Err-clause-hears : goal.returns-in-Err-clause-hears
+returns-in-Err-clause-hears g c = (c.end_call.new.self, c.in-Err.ensures.hears, refl)
+
+pub returns-in-Err-clause-goes_on : goal.returns-in-Err-clause-goes_on
+returns-in-Err-clause-goes_on g c first began m n honest is = (_, c.in-Err.ensures.goes_on first began m n honest is, handed_none _)
