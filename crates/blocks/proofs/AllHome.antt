@@ -34,7 +34,7 @@ module _ (m : State) (sound : IsSound m) (s : Cached) (live : is_dead s ≡ fals
       let batches = nothing_left s none in
       sym (over_none s.active.numbers s.active.bytes batches.1 (over (map_of s.frozen) f.view.array) b
       ∙ over_none s.frozen.numbers s.frozen.bytes batches.0 f.view.array b)
-      ∙ f.now b below
+      ∙ f.arrays.now_is b below
 
   no_records : (book : Book) (f : FitsBook m s book) → f.view.records ≡ []
   no_records book f =
@@ -73,7 +73,7 @@ module _ (m : State) (sound : IsSound m) (s : Cached) (live : is_dead s ≡ fals
     none_under_way = under_way;
     active = (nothing_left s none).1;
     frozen = (nothing_left s none).0;
-    durable = λ book f. settles_all m s book none f;
+    durable = λ book f. settles_all none f;
     home = at_home;
     cuts = cut_home;
   }

@@ -1,5 +1,5 @@
 -- How many calls of the medium the background steps make.
-use Rattle.std.proofs.Common.{◌≡◌, ◌≤◌, ◌<◌, ◌+◌, inl, inr, arith, sym, ◌∙◌, Bool, true, false, length}
+use Rattle.std.proofs.Common.{◌≡◌, ◌<◌, ◌+◌, inl, inr, arith, sym, ◌∙◌, Bool, true, false, length}
 use Rattle.std.proofs.lemmas.Bool.{false≢true, cases_lt}
 use Rattle.medium.specs.Medium.{State}
 use Rattle.blocks.specs.StoreValue.{Cached, is_dead, steps_left}
@@ -15,14 +15,6 @@ pub pays_both : (before mid after : State) (old then new : Cached) → IsPaid be
 pays_both before mid after old then new first live second = record {
   most = omega (arith, first.rest live, second.most);
   rest = λ lives. omega (arith, first.rest live, second.rest lives);
-}
-
--- a step of at most two calls, where one was left
-pub pays_step : (before after : State) (old new : Cached) → 0 < steps_left old → after.calls ≤ before.calls + 2
-    → (is_dead new ≡ false → steps_left new < steps_left old) → IsPaid before after old new
-pays_step before after old new some calls falls = record {
-  most = omega (arith, some, calls);
-  rest = λ lives. omega (arith, calls, falls lives);
 }
 
 -- a log without room and without a record under way has one to retire

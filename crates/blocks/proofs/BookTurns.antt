@@ -10,7 +10,7 @@ use Rattle.journal.specs.Places.{Shape}
 use Rattle.journal.specs.Record.{Entry, numbers_of, with_blocks}
 use Rattle.journal.specs.Standing.{IsOurs}
 use Rattle.redo_log.specs.Value.{LogValue, HasRoom, begun, IsBatch, entries_from, entries_of}
-use Rattle.redo_log.specs.Held.{View, HoldsView, MayLeave, with_record, with_begun}
+use Rattle.redo_log.specs.Held.{View, HoldsView, MayLeave, with_record}
 use Rattle.redo_log.proofs.StoreFacts.{begun_holds, may_leave_ours}
 use Rattle.cache.specs.Blocks.{Blocks, blocks_of, over, with_range}
 use Rattle.cache.specs.Entries.{Entries, map_of}
@@ -18,7 +18,7 @@ use Rattle.cache.proofs.Arrays.{over_put}
 use Rattle.blocks.specs.Book.{Same}
 use Rattle.spec.specs.Book.{Book, after_first, array_of, with_write, promised}
 use Rattle.blocks.specs.Finding.{StandsAs, MayFind}
-use Rattle.blocks.specs.StoreValue.{firsts_in, Cached, FitsBook, wants, steps_for}
+use Rattle.blocks.specs.StoreValue.{firsts_in, Cached, FitsBook, ShowsBook, wants, steps_for}
 
 -- blocks over two arrays that have the same block
 pub over_same : (blocks : Blocks) (a c : Array) (b : ℕ) → a b ≡ c b → over blocks a b ≡ over blocks c b
@@ -85,15 +85,8 @@ wants_none numbers e = grind arith
 pub wants_most : (numbers : List ℕ) → wants numbers ≤ 1
 wants_most numbers = grind arith
 
--- an empty batch takes no steps, and another takes some
-pub steps_for_none : (most : ℕ) (numbers : List ℕ) → numbers ≡ [] → steps_for most numbers ≡ 0
-steps_for_none most numbers e = grind arith
-
 pub steps_for_most : (most : ℕ) (numbers : List ℕ) → steps_for most numbers ≤ most
 steps_for_most most numbers = grind arith
-
-pub no_steps_for : (most : ℕ) (numbers : List ℕ) → 0 < most → steps_for most numbers ≡ 0 → numbers ≡ []
-no_steps_for most numbers some e = grind arith
 
 -- an image that is ours for an array is ours for one with the same blocks
 pub ours_same : (size : ℕ) (shape : Shape) (image : Image) (a c : Array) (next : ℕ) → Same shape.blocks a c → IsOurs size shape image a next
@@ -106,62 +99,78 @@ pub stands_as : (size blocks : ℕ) (shape : Shape) (image : Image) (a c : Array
 stands_as size blocks shape image a c next is same ours =
     (shape, is, ours_same size shape image a c next (subst (λ n. Same n a c) (sym is) same) ours)
 
--- the log goes on, with the same array and the same record under way
-pub moves : (m m' : State) (s : Cached) (book : Book) (log' : LogValue) (view' : View) (f : FitsBook m s book) → HoldsView log' m' view'
-    → view'.array ≡ f.view.array → view'.under_way ≡ f.view.under_way → view'.ours ≡ f.view.ours → log'.shape ≡ s.log.shape
-    → log'.head + length log'.waiting ≡ s.log.head + length s.log.waiting → log'.steps_left ≤ s.log.steps_left
-    → FitsBook m' (record s { log = log' }) book
-moves m m' s book log' view' f holds array under_way ours shape stamp fewer = record {
+-- ---- what a store shows
+
+-- arrays with the same blocks show the same
+pub shows_same : {book : Book} {k n : ℕ} {a b c a' b' c' : Array} → ShowsBook book k n a b c → Same book.blocks a' a
+    → Same book.blocks b' b → Same book.blocks c' c → ShowsBook book k n a' b' c'
+shows_same s floor middle now = grind (arith, s, floor, middle, now)
+
+-- the writes of the frozen batch are durable, or it has all, or all are promised
+shows_durable : {book : Book} {k n : ℕ} {a b c : Array} → ShowsBook book k n a b c → ShowsBook book n n b b c
+shows_durable s = grind (arith, s)
+
+shows_all : {book : Book} {k n : ℕ} {a b c : Array} → ShowsBook book k n a b c → ShowsBook book k (length book.writes) a c c
+shows_all {book = book} s = grind (arith, s, first_all book)
+
+shows_promised : {book : Book} {k n : ℕ} {a b c : Array} → ShowsBook book k n a b c
+    → ShowsBook (promised book) (length book.writes) (length book.writes) c c c
+shows_promised {book = book} s = grind (arith, s, first_all book)
+
+-- the log goes on, with the same array
+pub moves : {m m' : State} {s : Cached} {book : Book} {log' : LogValue} {view' : View} (f : FitsBook m s book) → HoldsView log' m' view'
+    → view'.array ≡ f.view.array → (0 < log'.steps_left → view'.under_way ≡ entries_of s.frozen.numbers s.frozen.bytes)
+    → (0 < log'.steps_left → wants s.frozen.numbers ≡ 1) → view'.ours ≡ f.view.ours → log'.shape ≡ s.log.shape
+    → log'.head + length log'.waiting ≡ s.log.head + length s.log.waiting → FitsBook m' (record s { log = log' }) book
+moves {view' = view'} f holds array under_way some ours shape stamp = record {
   view = view';
   holds = holds;
-  under_way = λ some. under_way ∙ f.under_way (omega (arith, some, fewer));
-  some = λ some. f.some (omega (arith, some, fewer));
+  under_way = under_way;
+  some = some;
   blocks = ap (λ (x : Shape). x.blocks) shape ∙ f.blocks;
   floor_count = f.floor_count;
   middle_count = f.middle_count;
-  promises = f.promises;
-  rises = f.rises;
-  accepted = f.accepted;
-  floor = λ b below. ap (λ (a : Array). a b) array ∙ f.floor b below;
-  middle = λ b below. ap (λ (a : Array). over (map_of s.frozen) a b) array ∙ f.middle b below;
-  now = λ b below. ap (λ (a : Array). over (map_of s.active) (over (map_of s.frozen) a) b) array ∙ f.now b below;
+  arrays = rw array f.arrays;
   stamps = omega (arith, f.stamps, stamp);
   ours = ours ∙ f.ours;
 }
 
--- the frozen batch is begun
-pub begins : (m : State) (s : Cached) (book : Book) (f : FitsBook m s book) → HasRoom s.log
-    → IsBatch s.log.shape s.frozen.numbers s.frozen.bytes → FitsBook m
-    (record s { log = begun s.frozen.numbers (firsts_in s.frozen) s.log }) book
-begins m s book f room batch = record {
-  view = with_begun (entries_of s.frozen.numbers s.frozen.bytes) f.view;
-  holds = begun_holds s.log m f.view s.frozen.numbers s.frozen.bytes f.holds room batch;
-  under_way = λ some. refl;
-  some = λ some. wants_some s.frozen.numbers batch.some;
-  blocks = f.blocks;
-  floor_count = f.floor_count;
-  middle_count = f.middle_count;
-  promises = f.promises;
-  rises = f.rises;
-  accepted = f.accepted;
-  floor = f.floor;
-  middle = f.middle;
-  now = f.now;
-  stamps = f.stamps;
-  ours = f.ours;
+-- another batch takes writes, or the book is another
+pub shows_book : {m : State} {s : Cached} {book book' : Book} {k n : ℕ} (f : FitsBook m s book) (active : Entries)
+    → book.blocks ≡ book'.blocks → book.ours ≡ book'.ours → ShowsBook book' k n f.view.array
+    (over (map_of s.frozen) f.view.array) (over (map_of active) (over (map_of s.frozen) f.view.array))
+    → s.log.head + length s.log.waiting + wants s.frozen.numbers + wants active.numbers ≤ book'.stamp + length book'.writes
+    → FitsBook m (record s { active = active }) book'
+shows_book {k = k} {n = n} f active blocks ours arrays stamps = record {
+  view = f.view;
+  holds = f.holds;
+  under_way = f.under_way;
+  some = f.some;
+  blocks = f.blocks ∙ blocks;
+  floor_count = k;
+  middle_count = n;
+  arrays = arrays;
+  stamps = stamps;
+  ours = f.ours ∙ ours;
 }
 
+-- the frozen batch is begun
+pub begins : {m : State} {s : Cached} {book : Book} → FitsBook m s book → HasRoom s.log
+    → IsBatch s.log.shape s.frozen.numbers s.frozen.bytes
+    → FitsBook m (record s { log = begun s.frozen.numbers (firsts_in s.frozen) s.log }) book
+begins f room batch = moves f (begun_holds _ _ _ _ _ f.holds room batch) refl (λ some. refl) (λ some. wants_some _ batch.some) refl refl refl
+
 -- the record under way becomes durable, and the frozen batch is emptied
-pub becomes_durable : (m m' : State) (s : Cached) (book : Book) (log' : LogValue) (none : Entries) (f : FitsBook m s book)
+pub becomes_durable : {m m' : State} {s : Cached} {book : Book} {log' : LogValue} {none : Entries} (f : FitsBook m s book)
     → 0 < s.log.steps_left → none.numbers ≡ [] → HoldsView log' m' (with_record f.view) → log'.shape ≡ s.log.shape → log'.head ≡ s.log.head
     → length log'.waiting ≡ length s.log.waiting + 1 → log'.steps_left ≡ 0
     → FitsBook m' (record { log = log'; active = s.active; frozen = none }) book
-becomes_durable m m' s book log' none f some empty holds shape head longer done =
-    let array : (b : ℕ) → with_blocks f.view.under_way f.view.array b ≡ over (map_of s.frozen) f.view.array b =
-    λ b. ap (λ (l : List Entry). with_blocks l f.view.array b) (f.under_way some)
-    ∙ with_entries s.frozen.numbers s.frozen.bytes f.view.array b in
+becomes_durable {s = s} {none = none} f some empty holds shape head longer done =
     let durable : Array = with_blocks f.view.under_way f.view.array in
-    let no_frozen : (a : Array) (b : ℕ) → over (map_of none) a b ≡ a b = over_none none.numbers none.bytes empty in
+    let array : (b : ℕ) → durable b ≡ over (map_of s.frozen) f.view.array b =
+    λ b. rw (f.under_way some) (with_entries s.frozen.numbers s.frozen.bytes f.view.array b) in
+    let emptied : (b : ℕ) → over (map_of none) durable b ≡ over (map_of s.frozen) f.view.array b =
+    λ b. over_none none.numbers none.bytes empty durable b ∙ array b in
     record {
       view = with_record f.view;
       holds = holds;
@@ -170,25 +179,18 @@ becomes_durable m m' s book log' none f some empty holds shape head longer done 
       blocks = ap (λ (x : Shape). x.blocks) shape ∙ f.blocks;
       floor_count = f.middle_count;
       middle_count = f.middle_count;
-      promises = omega (arith, f.promises, f.rises);
-      rises = omega arith;
-      accepted = f.accepted;
-      floor = λ b below. array b ∙ f.middle b below;
-      middle = λ b below. no_frozen durable b ∙ (array b ∙ f.middle b below);
-      now = λ b below. over_same (map_of s.active) (over (map_of none) durable) (over (map_of s.frozen) f.view.array) b
-          (no_frozen durable b ∙ array b)
-          ∙ f.now b below;
+      arrays = shows_same (shows_durable f.arrays) (λ b below. array b) (λ b below. emptied b)
+          (λ b below. over_same (map_of s.active) (over (map_of none) durable) (over (map_of s.frozen) f.view.array) b (emptied b));
       stamps = omega (arith, f.stamps, f.some some, head, longer, wants_none none.numbers empty);
       ours = f.ours;
     }
 
 -- the active batch is frozen in place of an empty one
-pub freezes : (m : State) (s : Cached) (book : Book) → s.log.steps_left ≡ 0 → s.frozen.numbers ≡ [] → FitsBook m s book
+pub freezes : {m : State} {s : Cached} {book : Book} → s.log.steps_left ≡ 0 → s.frozen.numbers ≡ [] → FitsBook m s book
     → FitsBook m (record s { active = s.frozen; frozen = s.active }) book
-freezes m s book idle empty f =
+freezes {s = s} {book = book} idle empty f =
     let none : (a : Array) (b : ℕ) → over (map_of s.frozen) a b ≡ a b = over_none s.frozen.numbers s.frozen.bytes empty in
-    let now : (b : ℕ) → b < book.blocks → over (map_of s.active) f.view.array b ≡ array_of book b = λ b below.
-    sym (over_same (map_of s.active) (over (map_of s.frozen) f.view.array) f.view.array b (none f.view.array b)) ∙ f.now b below in
+    let now = λ (b : ℕ). over_same (map_of s.active) f.view.array (over (map_of s.frozen) f.view.array) b (sym (none f.view.array b)) in
     record {
       view = f.view;
       holds = f.holds;
@@ -197,72 +199,41 @@ freezes m s book idle empty f =
       blocks = f.blocks;
       floor_count = f.floor_count;
       middle_count = length book.writes;
-      promises = f.promises;
-      rises = omega (arith, f.rises, f.accepted);
-      accepted = omega arith;
-      floor = f.floor;
-      middle = λ b below. now b below ∙ ap (λ (a : Array). a b) (sym (first_all book));
-      now = λ b below. none (over (map_of s.active) f.view.array) b ∙ now b below;
+      arrays = shows_same (shows_all f.arrays) (λ b below. refl) (λ b below. now b)
+          (λ b below. none (over (map_of s.active) f.view.array) b ∙ now b);
       stamps = omega (arith, f.stamps);
       ours = f.ours;
     }
 
 -- the active batch takes a write
-pub appends : (m : State) (s : Cached) (book : Book) (more : Entries) (address : ℕ) (bytes : List ℕ) (count : ℕ)
+pub appends : {m : State} {s : Cached} {book : Book} (more : Entries) (address : ℕ) (bytes : List ℕ) (count : ℕ)
     → ((b : ℕ) → map_of more b ≡ with_range (map_of s.active) address count bytes b) → FitsBook m s book
-    → (let w : Write = record { address = address; blocks = chunks count bytes } in
-    FitsBook m (record s { active = more }) (with_write book w))
-appends m s book more address bytes count put f =
+    → FitsBook m (record s { active = more }) (with_write book (record { address = address; blocks = chunks count bytes }))
+appends {s = s} {book = book} more address bytes count put f =
     let w : Write = record { address = address; blocks = chunks count bytes } in
     let longer : length (book.writes ++ w ∷ []) ≡ length book.writes + 1 = length-append book.writes (w ∷ []) in
     let middle : Array = over (map_of s.frozen) f.view.array in
-    record {
-      view = f.view;
-      holds = f.holds;
-      under_way = f.under_way;
-      some = f.some;
-      blocks = f.blocks;
-      floor_count = f.floor_count;
-      middle_count = f.middle_count;
-      promises = f.promises;
-      rises = f.rises;
-      accepted = omega (arith, f.accepted, longer);
-      floor = λ b below.
-          f.floor b below ∙ ap (λ (a : Array). a b) (sym (first_same book w f.floor_count (omega (arith, f.rises, f.accepted))));
-      middle = λ b below. f.middle b below ∙ ap (λ (a : Array). a b) (sym (first_same book w f.middle_count f.accepted));
-      now = λ b below. over_put s.active more middle address count bytes put b
-          ∙ (apply_same w (over (map_of s.active) middle) (array_of book) b (f.now b below)
+    let a = f.arrays in
+    shows_book f more refl refl (record {
+      promises = a.promises;
+      rises = a.rises;
+      accepted = omega (arith, a.accepted, longer);
+      floor_is = rw (first_same book w f.floor_count (omega (arith, a.rises, a.accepted))) a.floor_is;
+      middle_is = rw (first_same book w f.middle_count a.accepted) a.middle_is;
+      now_is = λ b below. over_put s.active more middle address count bytes put b
+          ∙ (apply_same w (over (map_of s.active) middle) (array_of book) b (a.now_is b below)
           ∙ ap (λ (a : Array). a b) (sym (after_last book.opening book.writes w)));
-      stamps = omega (arith, f.stamps, longer, wants_most more.numbers);
-      ours = f.ours;
-    }
+    }) (omega (arith, f.stamps, longer, wants_most more.numbers))
 
 -- with both batches empty everything is durable
-pub settles : (m : State) (s : Cached) (book : Book) → s.frozen.numbers ≡ [] → s.active.numbers ≡ [] → FitsBook m s book
+pub settles : {m : State} {s : Cached} {book : Book} → s.frozen.numbers ≡ [] → s.active.numbers ≡ [] → FitsBook m s book
     → FitsBook m s (promised book)
-settles m s book no_frozen no_active f =
+settles {s = s} no_frozen no_active f =
     let frozen : (a : Array) (b : ℕ) → over (map_of s.frozen) a b ≡ a b = over_none s.frozen.numbers s.frozen.bytes no_frozen in
     let active : (a : Array) (b : ℕ) → over (map_of s.active) a b ≡ a b = over_none s.active.numbers s.active.bytes no_active in
-    let durable : (b : ℕ) → b < book.blocks → f.view.array b ≡ after_first (length book.writes) book b = λ b below.
-    sym (active (over (map_of s.frozen) f.view.array) b ∙ frozen f.view.array b)
-    ∙ (f.now b below ∙ ap (λ (a : Array). a b) (sym (first_all book))) in
-    record {
-      view = f.view;
-      holds = f.holds;
-      under_way = f.under_way;
-      some = f.some;
-      blocks = f.blocks;
-      floor_count = length book.writes;
-      middle_count = length book.writes;
-      promises = omega arith;
-      rises = omega arith;
-      accepted = omega arith;
-      floor = durable;
-      middle = λ b below. frozen f.view.array b ∙ durable b below;
-      now = f.now;
-      stamps = f.stamps;
-      ours = f.ours;
-    }
+    let middle : Array = over (map_of s.frozen) f.view.array in
+    shows_book f s.active refl refl (shows_same (shows_promised f.arrays) (λ b below. sym (active middle b ∙ frozen f.view.array b))
+    (λ b below. sym (active middle b)) (λ b below. refl)) f.stamps
 
 -- what a cut may leave of the log may be found
 pub finds : (m : State) (s : Cached) (book : Book) (f : FitsBook m s book) (image : Image) → MayLeave m.size s.log f.view image
@@ -276,21 +247,21 @@ finds m s book f image left =
     (λ durable. record {
       count = f.floor_count;
       next = stamp + 1;
-      promises = f.promises;
-      accepted = omega (arith, f.rises, f.accepted);
-      stands = stands_as m.size book.blocks s.log.shape image f.view.array (after_first f.floor_count book) (stamp + 1) f.blocks f.floor
+      promises = f.arrays.promises;
+      accepted = omega (arith, f.arrays.rises, f.arrays.accepted);
+      stands = stands_as m.size book.blocks s.log.shape image f.view.array (after_first f.floor_count book) (stamp + 1) f.blocks f.arrays.floor_is
           durable;
       bound = omega (arith, f.stamps, as_many);
     })
     (λ whole. record {
       count = f.middle_count;
       next = stamp + 2;
-      promises = omega (arith, f.promises, f.rises);
-      accepted = f.accepted;
+      promises = omega (arith, f.arrays.promises, f.arrays.rises);
+      accepted = f.arrays.accepted;
       stands = stands_as m.size book.blocks s.log.shape image (with_blocks f.view.under_way f.view.array)
           (after_first f.middle_count book) (stamp + 2) f.blocks
           (λ b below. ap (λ (l : List Entry). with_blocks l f.view.array b) (f.under_way whole.0)
-          ∙ (with_entries s.frozen.numbers s.frozen.bytes f.view.array b ∙ f.middle b below)) whole.1;
+          ∙ (with_entries s.frozen.numbers s.frozen.bytes f.view.array b ∙ f.arrays.middle_is b below)) whole.1;
       bound = omega (arith, f.stamps, as_many, f.some whole.0);
     })
     (may_leave_ours m.size s.log f.view image left)

@@ -12,12 +12,14 @@ use Rattle.blocks.specs.declared.work.Work.{Work}
 use Rattle.blocks.specs.declared.work.Work.TheVariants.{Settle, Ahead, WriteBack}
 use Rattle.blocks.specs.Ahead.{counted, ahead_room}
 use Rattle.blocks.specs.Background.{IsBackgroundStep}
+use Rattle.blocks.specs.Going.{SettlesFlush}
 use Rattle.blocks.specs.Headroom.{HasHeadroom, RestsWithRoom, next_durable, FlushesOnce}
 use Rattle.blocks.specs.Retiring.{finished_with, finished}
 use Rattle.blocks.specs.Sparing.{IsSparing, AreSparing}
 use Rattle.blocks.specs.StoreValue.{Cached, StoreValue, firsts_in, is_dead, steps_left, wants}
-use Rattle.blocks.specs.Work.{RetiresNone, GoesOnAhead, IsAheadStep, IsWork, IsWriteBackStep, with_counted}
+use Rattle.blocks.specs.Work.{RetiresNone, GoesOnAhead, IsAheadStep, IsWork, IsWriteBackStep, WorksBy, DoesWork, with_counted}
 use Rattle.blocks.proofs.Headroom.{headroom_finished, two_with_headroom, rests_finished, rests_stepped, landed_stepped, landed_begun}
+use Rattle.blocks.proofs.Headroom.{headroom_stepped}
 use Rattle.blocks.proofs.Room.{flushes_step, steps_once}
 use Rattle.blocks.proofs.Steady.{finished_is}
 use Rattle.blocks.proofs.WrittenBack.{may_or_not, next_some, rests_spared, some_to_write, way_ahead, written_or_not}
@@ -48,14 +50,14 @@ steps_ahead before after old new step r live = elim (cases_Bool (is_dead old)) [
       ]
 ]
 
-pub headroom_ahead : (before after : State) (old new : Cached) → IsAheadStep true before after old new → HasHeadroom old.log
+headroom_ahead : (before after : State) (old new : Cached) → IsAheadStep true before after old new → HasHeadroom old.log
     → is_dead new ≡ false → HasHeadroom new.log
 headroom_ahead before after old new step head live =
     let rests = λ (r : RestsWithRoom old.log). steps_ahead before after old new step r live in
     grind (arith, step, head, rests)
 
 -- one step that writes back
-pub headroom_back : (before after : State) (old new : Cached) → IsWriteBackStep true before after old new → HasHeadroom old.log
+headroom_back : (before after : State) (old new : Cached) → IsWriteBackStep true before after old new → HasHeadroom old.log
     → is_dead new ≡ false → HasHeadroom new.log
 headroom_back before after old new step head live = elim (written_or_not old) [
   | inl done ↦ rw (step.written done).0 head
@@ -87,6 +89,13 @@ store_is {M} s t medium cached policy =
     ap (λ (m : M). record t { medium = m }) medium
     ∙ ap (λ (c : Cached). record t { medium = s.medium; cached = c }) cached
     ∙ ap (λ (b : Bool). record s { goes_ahead = b }) policy
+
+-- a flush was counted
+pub counted_store : {M : Type 0} {state : M → State} {old mid : StoreValue M} → SettlesFlush state old mid
+    → mid ≡ record old { cached = with_counted old.cached }
+counted_store {old = old} {mid = mid} made =
+    let cached = cached_is old.cached mid.cached made.counts.log made.counts.stays.active made.counts.stays.frozen in
+    store_is (record old { cached = with_counted old.cached }) mid made.keeps.medium cached made.keeps.policy
 
 -- no flush is counted where no step is left
 pub none_counted : (s : Cached) → steps_left s ≡ 0 → counted s.log ≡ s.log
@@ -156,11 +165,29 @@ writes_back_once before after old new step head live = elim (written_or_not old)
   ]
 ]
 
-pub work_once : (work : Work) (ahead : Bool) (before after : State) (old new : Cached) → IsWork work ahead before after old new
+work_once : (work : Work) (ahead : Bool) (before after : State) (old new : Cached) → IsWork work ahead before after old new
     → RetiresNone work ahead old → FlushesOnce ahead before after old new
 work_once Settle ahead before after old new is kind on head live = settles_once ahead before after old new is kind head live
 work_once Ahead ahead before after old new is kind on head live = goes_ahead_once before after old new (rw on at is) head live
 work_once WriteBack ahead before after old new is kind on head live = writes_back_once before after old new (rw on at is) head live
+
+-- a step of the work leaves headroom
+pub does_work : {M : Type 0} {state : M → State} {Follows : M → M → Type 0} {work : Work} {old new : StoreValue M}
+    → WorksBy state Follows work old new → DoesWork state Follows work old new
+does_work {state = state} {work = work} {old = old} {new = new} made = record {
+  passes = made.passes;
+  order = made.order;
+  steps = made.steps;
+  active = made.active;
+  headroom = λ on head live. headroom_work work (state old.medium) (state new.medium) old.cached new.cached (rw on at made.order) head live;
+  once = work_once work _ _ _ _ _ made.order;
+}
+  where
+    headroom_work : (work : Work) (before after : State) (old new : Cached) → IsWork work true before after old new → HasHeadroom old.log
+        → is_dead new ≡ false → HasHeadroom new.log
+    headroom_work Settle before after old new is head live = headroom_stepped before after old new is head live
+    headroom_work Ahead before after old new is head live = headroom_ahead before after old new is head live
+    headroom_work WriteBack before after old new is head live = headroom_back before after old new is head live
 
 -- ---- one call after another
 

@@ -18,7 +18,7 @@ use Rattle.blocks.specs.Finding.{StandsAs, MayFind, FoundWith}
 use Rattle.blocks.specs.StoreValue.{Cached, layout_of, blocks_of, FitsBook}
 use Rattle.blocks.specs.Opening.{StandsForOpening, OpensOn, IsCauseFor}
 use Rattle.blocks.specs.Started.{IsStartCause}
-use Rattle.blocks.proofs.BookTurns.{stands_as, apply_same}
+use Rattle.blocks.proofs.BookTurns.{stands_as, apply_same, shows_book}
 
 -- ---- what an image stands for
 
@@ -64,23 +64,16 @@ stands_for_some size book image there = (there.0, book.opening, book.stamp, ther
 -- what fits a book fits one that opened with the same blocks
 reopened : (m : State) (s : Cached) (book : Book) (c : Array) → Same book.blocks book.opening c → FitsBook m s book
     → FitsBook m s (record book { opening = c })
-reopened m s book c same f = record {
-  view = f.view;
-  holds = f.holds;
-  under_way = f.under_way;
-  some = f.some;
-  blocks = f.blocks;
-  floor_count = f.floor_count;
-  middle_count = f.middle_count;
-  promises = f.promises;
-  rises = f.rises;
-  accepted = f.accepted;
-  floor = λ b below. f.floor b below ∙ after_same (take f.floor_count book.writes) book.opening c b (same b below);
-  middle = λ b below. f.middle b below ∙ after_same (take f.middle_count book.writes) book.opening c b (same b below);
-  now = λ b below. f.now b below ∙ after_same book.writes book.opening c b (same b below);
-  stamps = f.stamps;
-  ours = f.ours;
-}
+reopened m s book c same f =
+    let a = f.arrays in
+    shows_book f s.active refl refl (record {
+      promises = a.promises;
+      rises = a.rises;
+      accepted = a.accepted;
+      floor_is = λ b below. a.floor_is b below ∙ after_same (take f.floor_count book.writes) book.opening c b (same b below);
+      middle_is = λ b below. a.middle_is b below ∙ after_same (take f.middle_count book.writes) book.opening c b (same b below);
+      now_is = λ b below. a.now_is b below ∙ after_same book.writes book.opening c b (same b below);
+    }) f.stamps
 
 -- a store that serves what the contents stood for fits each book with which a life may open over them
 pub serves : (before after : State) (s : Cached) (array : Array) (next : ℕ) → StandsFor before.size (layout_of s) before.content array next

@@ -86,7 +86,7 @@ dies : (before after : State) (s : Cached) (log' : LogValue) → log' ≡ died s
     → after.size ≡ before.size → ((book : Book) (f : FitsBook before s book) → HoldsView log' after f.view) → LeavesLog s.log before after
     → IsTurn before after s (record s { log = log' })
 dies before after s log' is grew size holds leaves = record {
-  fits = λ book f. moves before after s book log' f.view f (holds book f) refl refl refl (rw is refl) (rw is refl) (rw is (omega arith));
+  fits = λ book f. moves f (holds book f) refl (rw is f.under_way) (rw is f.some) refl (rw is refl) (rw is refl);
   cuts = cuts_found before after s leaves;
   goes_on = goes_on before after s _ leaves (omega (arith, grew)) size (rw is refl) (λ dead. rw is refl) (λ live dead. omega (arith, grew));
 }
@@ -119,8 +119,8 @@ module _ {M : Type 0} {state : M → State} {Follows : M → M → Type 0} {None
   turn_made (Ok x) called same stays =
       let stay = stays called.answers.ok in
       record {
-        fits = λ book f. moves (state m) (state n) s book log' (after f.view) f (called.holds f.view f.holds)
-            (same f.view).0 (same f.view).1 (same f.view).2 stay.shape stay.stamp (omega (arith, stay.steps));
+        fits = λ book f. moves f (called.holds f.view f.holds) (same f.view).0 (rw (stay.steps, (same f.view).1) f.under_way)
+            (rw stay.steps f.some) (same f.view).2 stay.shape stay.stamp;
         cuts = cuts_found (state m) (state n) s called.leaves;
         goes_on = goes_on (state m) (state n) s _ called.leaves (omega (arith, called.passes.failures)) called.passes.size stay.shape
             (λ dead. stay.dead ∙ dead) (λ live dead. absurd (false≢true (sym (stay.dead ∙ live) ∙ dead)));
@@ -182,15 +182,15 @@ pub step_turn : {M : Type 0} {state : M → State} {Follows : M → M → Type 0
     → IsTurn (state m) (state n) s (stepped result s log' none)
 step_turn {state = state} {m = m} {n = n} (Ok More) s log' none empty some called =
     let is = called.answers.ok.1 in record {
-      fits = λ book f. moves (state m) (state n) s book log' f.view f (called.holds f.view f.holds (f.under_way some)) refl refl refl
-          (rw is refl) (rw is refl) (rw is (omega arith));
+      fits = λ book f. moves f (called.holds f.view f.holds (f.under_way some)) refl (λ more. f.under_way some) (λ more. f.some some) refl
+          (rw is refl) (rw is refl);
       cuts = cuts_found (state m) (state n) s called.leaves;
       goes_on = goes_on (state m) (state n) s _ called.leaves (omega (arith, called.passes.failures)) called.passes.size (rw is refl)
           (λ dead. rw is dead) (λ live dead. absurd (false≢true (sym live ∙ rw is at dead)));
     }
 step_turn {state = state} {m = m} {n = n} (Ok Durable) s log' none empty some called =
     let is = called.answers.ok.1 in record {
-      fits = λ book f. becomes_durable (state m) (state n) s book log' none f some empty (called.holds f.view f.holds (f.under_way some))
+      fits = λ book f. becomes_durable f some empty (called.holds f.view f.holds (f.under_way some))
           (rw is refl) (rw is refl) (rw is (length-append s.log.waiting (s.log.under_way ∷ []))) (rw is refl);
       cuts = cuts_found (state m) (state n) s called.leaves;
       goes_on = goes_on (state m) (state n) s _ called.leaves (omega (arith, called.passes.failures)) called.passes.size (rw is refl)
@@ -224,8 +224,7 @@ module _ (m : State) (sound : IsSound m) (s : Cached) where
     | inl covers ↦
         let covered : IsCovered s.log = grind (arith, nat_tests, covers) in
         rw (is, covers) (record {
-          fits = λ book f. moves m m s book (settled s.log) f.view f (settled_holds s.log m f.view f.holds covered) refl refl refl refl refl
-              (omega arith);
+          fits = λ book f. moves f (settled_holds s.log m f.view f.holds covered) refl f.under_way f.some refl refl refl;
           cuts = still_found;
           goes_on = here (record s { log = settled s.log }) refl refl;
         })
@@ -236,7 +235,7 @@ module _ (m : State) (sound : IsSound m) (s : Cached) where
   pub begins_record : HasRoom s.log → IsBatch s.log.shape s.frozen.numbers s.frozen.bytes → IsTurn m m s
       (record s { log = begun s.frozen.numbers (firsts_in s.frozen) s.log })
   begins_record room batch = record {
-    fits = λ book f. begins m s book f room batch;
+    fits = λ book f. begins f room batch;
     cuts = still_found;
     goes_on = here (record s { log = begun s.frozen.numbers (firsts_in s.frozen) s.log }) refl refl;
   }
@@ -244,7 +243,7 @@ module _ (m : State) (sound : IsSound m) (s : Cached) where
   -- no stamp is left for it, and the log is dead
   pub begins_nothing : HasRoom s.log → 0 < length s.frozen.numbers → s.log.next ≡ 2 ^ 63 - 1 → IsTurn m m s (record s { log = died s.log })
   begins_nothing room some last = record {
-    fits = λ book f. moves m m s book (died s.log) f.view f (died_holds s.log m f.view f.holds) refl refl refl refl refl (omega arith);
+    fits = λ book f. moves f (died_holds s.log m f.view f.holds) refl f.under_way f.some refl refl refl;
     cuts = still_found;
     goes_on = record {
       failures_stay = omega arith;
@@ -264,7 +263,7 @@ module _ (m : State) (sound : IsSound m) (s : Cached) where
   -- the active batch is frozen in place of an empty one
   pub freezes_active : s.log.steps_left ≡ 0 → s.frozen.numbers ≡ [] → IsTurn m m s (record s { active = s.frozen; frozen = s.active })
   freezes_active idle empty = record {
-    fits = λ book f. freezes m s book idle empty f;
+    fits = λ book f. freezes idle empty f;
     cuts = still_found;
     goes_on = here (record s { active = s.frozen; frozen = s.active }) refl refl;
   }
@@ -274,7 +273,7 @@ module _ (m : State) (sound : IsSound m) (s : Cached) where
       → ((b : ℕ) → map_of more b ≡ with_range (map_of s.active) address count bytes b)
       → (let w : Write = record { address = address; blocks = chunks count bytes } in IsWriteTurn w true m m s (record s { active = more }))
   appends_write more address bytes count put = let w : Write = record { address = address; blocks = chunks count bytes } in record {
-    fits = λ book f. appends m s book more address bytes count put f;
+    fits = λ book f. appends more address bytes count put f;
     cuts = λ book f ours. weaker (MayFind m.size book) (Found m.size book w) m m (λ image found. inl found) (still_found book f ours);
     goes_on = here (record s { active = more }) refl refl;
   }
@@ -283,10 +282,10 @@ module _ (m : State) (sound : IsSound m) (s : Cached) where
 pub nothing_left : (s : Cached) → steps_left s ≡ 0 → (s.frozen.numbers ≡ []) × (s.active.numbers ≡ [])
 nothing_left s none = grind (arith, nil_from_length s.frozen.numbers, nil_from_length s.active.numbers)
 
-pub settles_all : (m : State) (s : Cached) (book : Book) → steps_left s ≡ 0 → FitsBook m s book → FitsBook m s (promised book)
-settles_all m s book none f = let empty = nothing_left s none in settles m s book empty.0 empty.1 f
+pub settles_all : {m : State} {s : Cached} {book : Book} → steps_left s ≡ 0 → FitsBook m s book → FitsBook m s (promised book)
+settles_all {s = s} none f = let empty = nothing_left s none in settles empty.0 empty.1 f
 
 -- a store that is given up from outside fits the books that it fitted
 pub stopped_fits : (m : State) (s : Cached) (book : Book) → FitsBook m s book → FitsBook m (stopped s) book
 stopped_fits m s book f =
-    moves m m s book (died s.log) f.view f (died_holds s.log m f.view f.holds) refl refl refl refl refl (omega arith)
+    moves f (died_holds s.log m f.view f.holds) refl f.under_way f.some refl refl refl

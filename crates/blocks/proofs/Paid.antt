@@ -37,6 +37,16 @@ module _ {M : Type 0} {state : M → State} {Follows : M → M → Type 0} where
   kept_paid {sends = sends} {old = old} {new = new} itself keeps fewer =
       let on : PassesOn state Follows IsTurn 0 sends old new = kept_on itself keeps in grind (arith, on, fewer)
 
+  -- and then others were
+  pub kept_then : {most sends : ℕ} {old mid new : StoreValue M} → KeepsMedium state IsTurn old mid
+      → PassesOn state Follows IsTurn most sends mid new → PassesOn state Follows IsTurn most sends old new
+  kept_then {old = old} {mid = mid} {new = new} keeps made =
+      let turn = turns _ _ _ _ _ _ keeps.turn made.turn in
+      let looks = looks_on (state old.medium) (state mid.medium) (state new.medium) old.cached mid.cached keeps.turn.goes_on.layout_stays
+      (none (state old.medium) (state mid.medium) old.cached (ap (λ m. (state m).looked) keeps.medium)) made.looks in
+      let on = rw keeps.medium at made in
+      grind (arith, keeps.policy, turn, looks, on)
+
   -- nothing was done, as a record of each kind tells it
   pub rested_on : {most sends : ℕ} {old : StoreValue M} → ((m : M) → Follows m m) → ((m : M) → IsSound (state m))
       → PassesOn state Follows IsTurn most sends old old

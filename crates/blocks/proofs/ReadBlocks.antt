@@ -20,7 +20,7 @@ durable_is m s book f b below active frozen =
     let durable : List ℕ = f.view.array b in
     sym (ap (λ (o : Option (List ℕ)). unwrap_or o (over (map_of s.frozen) f.view.array b)) active
     ∙ ap (λ (o : Option (List ℕ)). unwrap_or o durable) frozen)
-    ∙ f.now b (omega (arith, below, f.blocks))
+    ∙ f.arrays.now_is b (omega (arith, below, f.blocks))
 
 -- a block that a batch holds is the newest one
 pub newest_is : (m : State) (s : Cached) (book : Book) (f : FitsBook m s book) (b : ℕ) (bytes : List ℕ) → b < blocks_of s
@@ -32,7 +32,7 @@ newest_is m s book f b bytes below held =
     (λ active. ap (λ (o : Option (List ℕ)). unwrap_or o behind) active)
     (λ both. ap (λ (o : Option (List ℕ)). unwrap_or o behind) both.0 ∙ ap (λ (o : Option (List ℕ)). unwrap_or o durable) both.1)
     held in
-    sym is ∙ f.now b (omega (arith, below, f.blocks))
+    sym is ∙ f.arrays.now_is b (omega (arith, below, f.blocks))
 
 one_more_suc : (array : Array) (address i : ℕ) → blocks_at array address (suc i) ≡ blocks_at array address i ++ array (address + i)
 one_more_suc array address zero = append-nil (array address) ∙ ap array (sym (add-zero address))

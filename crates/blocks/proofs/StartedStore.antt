@@ -1,5 +1,5 @@
 -- The store that a recovery starts.
-use Rattle.std.proofs.Common.{◌≡◌, ◌≤◌, ℕ, [], false, inl, refl, sym, subst, arith}
+use Rattle.std.proofs.Common.{◌≡◌, ◌≤◌, ℕ, [], false, inl, refl, sym, subst, arith, rules}
 use Rattle.std.specs.Prelude.{Bool, true}
 use Rattle.medium.specs.Medium.{State, Image, IsSound}
 use Rattle.medium.specs.Moments.{EachCut}
@@ -73,12 +73,7 @@ opens shape array next ours m holds = record {
   blocks = refl;
   floor_count = 0;
   middle_count = 0;
-  promises = omega arith;
-  rises = omega arith;
-  accepted = omega arith;
-  floor = λ b below. refl;
-  middle = λ b below. refl;
-  now = λ b below. refl;
+  arrays = search (rules, arith);
   stamps = omega arith;
   ours = refl;
 }

@@ -1,15 +1,16 @@
 -- Turns of a store follow one another.
-use Rattle.std.proofs.Common.{◌≡◌, ℕ, inl, arith, ◌∙◌, sym, refl, subst, true, false}
+use Rattle.std.proofs.Common.{◌≡◌, ℕ, inl, arith, ◌∙◌, sym, refl, subst, Bool, true, false}
 use Rattle.std.proofs.lemmas.Bool.{cases_Bool, false≢true}
 use Rattle.medium.specs.Medium.{State, IsSound}
-use Rattle.medium.specs.Moments.{EachCut, LeavesOnly, IsQuiet, SparesFrom}
+use Rattle.medium.specs.Moments.{EachCut, LeavesOnly, IsQuiet, IsUnchanged, SparesFrom}
 use Rattle.spec.specs.Blocks.{Write}
-use Rattle.medium.proofs.Moments.{joined_same, weaker, quiet_leaves, quiet_start}
+use Rattle.medium.proofs.Moments.{joined_same, weaker, quiet_leaves, quiet_start, unchanged_quiet}
 use Rattle.medium.proofs.SparedSectors.{spared_joined, spared_quiet}
 use Rattle.journal.specs.Places.{Shape, sectors_of}
 use Rattle.redo_log.proofs.StoreFacts.{quiet_held}
 use Rattle.spec.specs.Book.{Book}
 use Rattle.blocks.specs.Finding.{MayFind, Found}
+use Rattle.blocks.specs.Passing.{IsUntouched}
 use Rattle.blocks.specs.StoreValue.{Cached, layout_of, is_dead, FitsBook}
 use Rattle.blocks.specs.Turns.{GoesOn, IsTurn, IsWriteTurn}
 use Rattle.blocks.proofs.BookTurns.{moves, finds}
@@ -40,7 +41,7 @@ turns before mid after old then new first second = record {
 pub quiet_turn : (before after : State) (s : Cached) → IsSound before → IsQuiet before after → IsTurn before after s s
 quiet_turn before after s sound quiet = record {
   fits = λ book f.
-      moves before after s book s.log f.view f (quiet_held s.log f.view before after quiet f.holds) refl refl refl refl refl (omega arith);
+      moves f (quiet_held s.log f.view before after quiet f.holds) refl f.under_way f.some refl refl refl;
   cuts = λ book f ours. quiet_leaves (MayFind before.size book) before after sound (exits before s book f ours) quiet;
   goes_on = record {
     failures_stay = quiet.failures_stay;
@@ -56,6 +57,13 @@ quiet_turn before after s sound quiet = record {
 -- nothing has happened
 pub stays : (m : State) (s : Cached) → IsSound m → IsTurn m m s s
 stays m s sound = quiet_turn m m s sound (quiet_start m)
+
+-- a call that is none of the medium
+pub untouched : {M : Type 0} {state : M → State} {m n : M} {s : Cached} {ahead : Bool} → IsSound (state m)
+    → IsUnchanged (state m) (state n) → IsUntouched state (record { medium = m; cached = s; goes_ahead = ahead })
+    (record { medium = n; cached = s; goes_ahead = ahead })
+untouched sound same =
+    record { unchanged = same; cached = refl; policy = refl; turn = quiet_turn _ _ _ sound (unchanged_quiet _ _ same) }
 
 -- a turn that accepts no write
 pub not_written : (w : Write) (before after : State) (old new : Cached) → IsTurn before after old new

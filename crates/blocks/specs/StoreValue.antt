@@ -8,6 +8,7 @@ use Rattle.journal.specs.Places.{Shape, limit_of}
 use Rattle.journal.specs.Format2.{firsts_of}
 use Rattle.redo_log.specs.Value.{LogValue, most_steps, most_retire_steps, entries_of}
 use Rattle.redo_log.specs.Held.{View, HoldsView}
+use Rattle.spec.specs.Blocks.{Array}
 use Rattle.spec.specs.Book.{Book, after_first, array_of}
 use Rattle.blocks.specs.Book.{Same}
 
@@ -104,6 +105,17 @@ pub record HasLimits (s : Cached) : Type 0 where
   pub active_fits : length (active_of s) ≤ transfer_limit s
   pub few_steps : steps_left s ≤ (slots_of s + 4) * (2 * transfer_limit s + 16)
 
+-- Three arrays are those of a book after some of its first writes, after more of them, and after
+-- all. The first ones hold each write that is promised.
+pub record ShowsBook (book : Book) (floor_count middle_count : ℕ) (floor middle now : Array)
+    : Type 0 where
+  pub promises : book.mark ≤ floor_count
+  pub rises : floor_count ≤ middle_count
+  pub accepted : middle_count ≤ length book.writes
+  pub floor_is : Same book.blocks floor (after_first floor_count book)
+  pub middle_is : Same book.blocks middle (after_first middle_count book)
+  pub now_is : Same book.blocks now (array_of book)
+
 -- A store shows three arrays: what is durable, that with the frozen batch, and that with the active
 -- batch too. It fits a book in which they are the array after some of the first writes, after more
 -- of them, and after all.
@@ -118,13 +130,8 @@ pub record FitsBook (m : State) (s : Cached) (book : Book) : Type 0 where
   -- how many writes are durable, and how many with those in the frozen batch
   pub floor_count : ℕ
   pub middle_count : ℕ
-  pub promises : book.mark ≤ floor_count
-  pub rises : floor_count ≤ middle_count
-  pub accepted : middle_count ≤ length book.writes
-  pub floor : Same book.blocks view.array (after_first floor_count book)
-  pub middle : Same book.blocks (over (map_of s.frozen) view.array) (after_first middle_count book)
-  pub now : Same book.blocks (over (map_of s.active) (over (map_of s.frozen) view.array))
-      (array_of book)
+  pub arrays : ShowsBook book floor_count middle_count view.array
+      (over (map_of s.frozen) view.array) (over (map_of s.active) (over (map_of s.frozen) view.array))
   -- there is a stamp for each batch: the next one behind the durable records, with the batches
   -- counted, is among those that the writes allow
   pub stamps : s.log.head + length s.log.waiting + wants s.frozen.numbers + wants s.active.numbers

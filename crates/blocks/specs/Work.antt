@@ -132,22 +132,13 @@ pub record DoesWork {M : Type 0} (state : M → State) (Follows : M → M → Ty
   pub once : RetiresNone work old.goes_ahead old.cached
       → FlushesOnce old.goes_ahead (state old.medium) (state new.medium) old.cached new.cached
 
--- one step ahead is made, or none
-pub record WorksAhead {M : Type 0} (state : M → State) (Follows : M → M → Type 0)
+-- one step of this work is made, or none
+pub record WorksBy {M : Type 0} (state : M → State) (Follows : M → M → Type 0) (work : Work)
     (old new : StoreValue M) : Type 0 where
   pub passes : PassesOn state Follows IsTurn 2 2 old new
-  pub order : IsAheadStep old.goes_ahead (state old.medium) (state new.medium)
+  pub order : IsWork work old.goes_ahead (state old.medium) (state new.medium)
       old.cached new.cached
-  pub steps : CountsBy Ahead old new
-  pub active : new.cached.active ≡ old.cached.active
-
--- one step that writes back is made, or none
-pub record WritesBack {M : Type 0} (state : M → State) (Follows : M → M → Type 0)
-    (old new : StoreValue M) : Type 0 where
-  pub passes : PassesOn state Follows IsTurn 2 2 old new
-  pub order : IsWriteBackStep old.goes_ahead (state old.medium) (state new.medium)
-      old.cached new.cached
-  pub steps : CountsBy WriteBack old new
+  pub steps : CountsBy work old new
   pub active : MayEmpty (active_of old.cached) (active_of new.cached)
 
 -- A record waits to be retired, and none is under way.

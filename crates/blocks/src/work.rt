@@ -1,5 +1,6 @@
 //! The steps in the background, by what they work towards.
-ghost use Rattle.blocks.specs.Work.{DoesWork, WorksAhead, StepsAhead, IsIdle};
+ghost use Rattle.blocks.specs.declared.work.Work.TheVariants.{Ahead};
+ghost use Rattle.blocks.specs.Work.{DoesWork, WorksBy, StepsAhead, IsIdle};
 
 use crate::{Store, StoreFault};
 use medium::Medium;
@@ -35,7 +36,7 @@ impl<M: Medium> Store<M> {
 
     // Makes one step ahead, or none where the store is dead, does not go ahead, or writes a record.
     fn work_ahead(&mut self)
-        ensures { WorksAhead M.state M.follows self.old self.new }
+        ensures { WorksBy M.state M.follows Ahead self.old self.new }
     {
         if !self.goes_ahead || self.writing || self.is_dead() {
             return;

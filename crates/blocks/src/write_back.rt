@@ -2,7 +2,8 @@
 ghost use Rattle.std.specs.Prelude.{◌≡◌, ◌⊎◌, ◌↔◌, ◌<◌, true, false, length, IsTrue};
 ghost use Rattle.redo_log.specs.Value.{CanPass, IsAway};
 ghost use Rattle.blocks.specs.Work.{GoesTowardsRoom, HasToRetire, MayWrite, SparesSlots};
-ghost use Rattle.blocks.specs.Work.{WritesBack};
+ghost use Rattle.blocks.specs.Work.{WorksBy};
+ghost use Rattle.blocks.specs.declared.work.Work.TheVariants.{WriteBack};
 
 use crate::Store;
 use medium::Medium;
@@ -11,7 +12,7 @@ impl<M: Medium> Store<M> {
     /// Makes one step that writes back: the record under way goes on, or the next one is begun, or
     /// room is made for it. None is made where no record is left to write.
     pub(crate) fn write_back(&mut self)
-        ensures { WritesBack M.state M.follows self.old self.new }
+        ensures { WorksBy M.state M.follows WriteBack self.old self.new }
     {
         if self.is_written() {
             return;

@@ -24,6 +24,18 @@ passes g c =
     (kept_paid g.met.M.Medium.follows_itself counts.keeps (λ live. counts.counts.fewer)) (counts.life ∙ c.requires.live)
     c.pass_head.ensures.passes (omega (arith, quiet, c.pass_head.ensures.passes.sent))
 
+-- what the head that went past makes of the log, by how many calls
+gone_past : (g : Over) (c : In_ok-pass_head g) → (c.pass_head.new.self.cached.log ≡ passed c.args.self.now.cached.log)
+    × ((g.M.Medium.state c.pass_head.new.self.medium).calls
+    ≡ (g.M.Medium.state c.args.self.now.medium).calls + passed_calls c.args.self.now.cached.log)
+    × ((g.M.Medium.state c.pass_head.new.self.medium).made Flush ≡ (g.M.Medium.state c.args.self.now.medium).made Flush)
+gone_past g c =
+    let same = c.count_flush.ensures.keeps.medium in
+    let short : HasSlots 3 c.args.self.now.cached.log → ⊥ = λ (slots : HasSlots 3 c.args.self.now.cached.log).
+    grind (arith, c.has_slots.ensures, c.if-has_slots.false, c.self.view_is) in
+    let passing = rw same at c.pass_head.ensures.passing in
+    grind (arith, nat_tests, passing, c.in_ok-pass_head.ensures.answer, c.count_flush.ensures.counts.log, short)
+
 pub returns-then-has_slots-clause-passes : goal.returns-then-has_slots-clause-passes
 returns-then-has_slots-clause-passes g c = rested_paid g.met.M.Medium.follows_itself g.met.M.Medium.sound
 
@@ -32,70 +44,49 @@ returns-then-has_slots-clause-going g c =
     let slots : HasSlots 3 c.args.self.now.cached.log = rw (← c.self.view_is) (c.has_slots.ensures.0 c.if-has_slots.true) in
     grind (arith, nat_tests, slots, c.requires.idle, c.requires.live)
 
-pub returns-in_err-pass_head-clause-passes : goal.returns-in_err-pass_head-clause-passes
-returns-in_err-pass_head-clause-passes g c =
-    let all = passes g (goal.at.returns-in_err-pass_head-clause-passes g c).After-pass_head in
-    paid_more all (omega (arith, all.sent))
+pub returns-in_err-pass_head : goal.returns-in_err-pass_head
+returns-in_err-pass_head g c =
+    let all = passes g (goal.at.returns-in_err-pass_head g c).After-pass_head in
+    let passing = rw c.count_flush.ensures.keeps.medium at c.pass_head.ensures.passing in
+    let short = few g (goal.at.returns-in_err-pass_head g c).Else-has_slots in
+    record {
+      passes = paid_more all (omega (arith, all.sent));
+      going = grind (arith, c.in_err-pass_head.ensures.answer, c.count_flush.ensures.counts, passing);
+      rests = λ slots. absurd (short slots);
+    }
 
-pub returns-in_err-pass_head-clause-going : goal.returns-in_err-pass_head-clause-going
-returns-in_err-pass_head-clause-going g c =
-    let made = ap (λ m. (g.M.Medium.state m).made Flush) c.count_flush.ensures.keeps.medium in
-    grind (arith, c.in_err-pass_head.ensures.answer, c.count_flush.ensures.counts, c.pass_head.ensures.passing, made)
-
-pub returns-then-has_slots-2-clause-passes : goal.returns-then-has_slots-2-clause-passes
-returns-then-has_slots-2-clause-passes g c =
-    let all = passes g (goal.at.returns-then-has_slots-2-clause-passes g c).After-pass_head in
-    paid_more all (omega (arith, all.sent))
-
-pub returns-clause-passes : goal.returns-clause-passes
-returns-clause-passes g c =
-    let first = passes g (goal.at.returns-clause-passes g c).After-pass_head in
-    let last = c.go_home.ensures.passes in
-    let same = ap (λ (shape : Shape). limit_of shape.format) first.turn.goes_on.layout_stays in
-    paid_then g.met.M.Medium.follows_through first c.in_ok-pass_head.ensures.answer last (omega (arith, first.sent, last.sent, same))
-
--- what the head that went past makes of the log, by how many calls
-gone_past : (g : Over) (c : In_ok-pass_head g) → (c.pass_head.new.self.cached.log ≡ passed c.args.self.now.cached.log)
-    × ((g.M.Medium.state c.pass_head.new.self.medium).calls
-    ≡ (g.M.Medium.state c.args.self.now.medium).calls + passed_calls c.args.self.now.cached.log)
-    × ((g.M.Medium.state c.pass_head.new.self.medium).made Flush ≡ (g.M.Medium.state c.args.self.now.medium).made Flush)
-gone_past g c =
-    let made = ap (λ m. (g.M.Medium.state m).made Flush) c.count_flush.ensures.keeps.medium in
-    let calls = ap (λ m. (g.M.Medium.state m).calls) c.count_flush.ensures.keeps.medium in
-    let log = c.pass_head.ensures.passing.log c.in_ok-pass_head.ensures.answer in
-    let short : HasSlots 3 c.args.self.now.cached.log → ⊥ = λ (slots : HasSlots 3 c.args.self.now.cached.log).
-    grind (arith, c.has_slots.ensures, c.if-has_slots.false, c.self.view_is) in
-    grind (
-      arith,
-      nat_tests,
-      log,
-      c.pass_head.ensures.passing.calls c.in_ok-pass_head.ensures.answer,
-      c.count_flush.ensures.counts.log,
-      c.pass_head.ensures.passing.flushed,
-      short,
-      made,
-      calls,
-    )
-
-pub returns-then-has_slots-2-clause-going : goal.returns-then-has_slots-2-clause-going
-returns-then-has_slots-2-clause-going g c =
+pub returns-then-has_slots-2 : goal.returns-then-has_slots-2
+returns-then-has_slots-2 g c =
+    let all = passes g (goal.at.returns-then-has_slots-2 g c).After-pass_head in
     let slots : HasSlots 3 c.pass_head.new.self.cached.log = rw (← c.self-2.view_is) (c.has_slots-2.ensures.0 c.if-has_slots-2.true) in
-    let past = gone_past g (goal.at.returns-then-has_slots-2-clause-going g c).In_ok-pass_head in
-    grind (arith, nat_tests, slots, past, c.in_ok-pass_head.ensures.answer, c.count_flush.ensures.counts, c.pass_head.ensures.passing.stays)
+    let past = gone_past g (goal.at.returns-then-has_slots-2 g c).In_ok-pass_head in
+    let short = few g (goal.at.returns-then-has_slots-2 g c).Else-has_slots in
+    record {
+      passes = paid_more all (omega (arith, all.sent));
+      going = grind (
+        arith,
+        nat_tests,
+        slots,
+        past,
+        c.in_ok-pass_head.ensures.answer,
+        c.count_flush.ensures.counts,
+        c.pass_head.ensures.passing.stays,
+      );
+      rests = λ spare. absurd (short spare);
+    }
 
-pub returns-clause-going : goal.returns-clause-going
-returns-clause-going g c =
-    let past = gone_past g (goal.at.returns-clause-going g c).In_ok-pass_head in
+pub returns : goal.returns
+returns g c =
+    let first = passes g (goal.at.returns g c).After-pass_head in
+    let last = c.go_home.ensures in
+    let same = ap (λ (shape : Shape). limit_of shape.format) first.turn.goes_on.layout_stays in
+    let past = gone_past g (goal.at.returns g c).In_ok-pass_head in
+    let full = few g (goal.at.returns g c).Else-has_slots in
     let short : HasSlots 3 c.pass_head.new.self.cached.log → ⊥ = λ (slots : HasSlots 3 c.pass_head.new.self.cached.log).
     grind (arith, c.has_slots-2.ensures, c.if-has_slots-2.false, c.self-2.view_is) in
-    grind (arith, nat_tests, short, past, c.go_home.ensures.going, c.count_flush.ensures.counts, c.pass_head.ensures.passing.stays)
-
-pub returns-in_err-pass_head-clause-rests : goal.returns-in_err-pass_head-clause-rests
-returns-in_err-pass_head-clause-rests g c slots = absurd (few g (goal.at.returns-in_err-pass_head-clause-rests g c).Else-has_slots slots)
-
-pub returns-then-has_slots-2-clause-rests : goal.returns-then-has_slots-2-clause-rests
-returns-then-has_slots-2-clause-rests g c slots =
-    absurd (few g (goal.at.returns-then-has_slots-2-clause-rests g c).Else-has_slots slots)
-
-pub returns-clause-rests : goal.returns-clause-rests
-returns-clause-rests g c slots = absurd (few g (goal.at.returns-clause-rests g c).Else-has_slots slots)
+    record {
+      passes = paid_then g.met.M.Medium.follows_through first c.in_ok-pass_head.ensures.answer last.passes
+          (omega (arith, first.sent, last.passes.sent, same));
+      going = grind (arith, nat_tests, short, past, last.going, c.count_flush.ensures.counts, c.pass_head.ensures.passing.stays);
+      rests = λ slots. absurd (full slots);
+    }

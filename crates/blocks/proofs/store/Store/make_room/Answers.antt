@@ -107,18 +107,11 @@ returns-in_err-retire g c = record {
       let few : sends_of_oldest old ≤ most_retire_sends old.shape.format = rw (← c.self.view_is) c.has_room-few.ensures.few in
       step_passes g at (omega (arith, all, few));
   answer = search rules;
-  room = record {
-    retires =
-        let died = c.retire.ensures.retiring.dies c.in_err-retire.ensures.answer.1 in
-        grind (arith, died.is, c.loop-self.invariant.one, c.loop-self.invariant.stays);
-    room = search rules;
-    made = search rules;
-    quiet = λ room.
-        let full = is_full g (goal.at.returns-in_err-retire g c).After-retire in
-        absurd (full.full (rw (c.loop-self.invariant.stays room) room));
-    active = search rules;
-    frozen = search rules;
-  };
+  room =
+      let died = c.retire.ensures.retiring.dies c.in_err-retire.ensures.answer.1 in
+      let full = is_full g (goal.at.returns-in_err-retire g c).After-retire in
+      let room : HasRoom c.args.self.now.cached.log → ⊥ = λ room. full.full (rw (c.loop-self.invariant.stays room) room) in
+      grind (arith, died.is, c.loop-self.invariant, c.retire.ensures.retiring, room);
   cost = search rules;
   flushes = search rules;
 }
@@ -136,11 +129,11 @@ returns g c =
       answer = search rules;
       room = record {
         retires = grind (arith, so_far.one, so_far.stays);
-        room = search rules;
+        room = room;
         made = room_is_made so_far.stays room so_far.costs;
-        quiet = search rules;
-        active = search rules;
-        frozen = search rules;
+        quiet = so_far.quiet;
+        active = so_far.active;
+        frozen = so_far.frozen;
       };
       cost = counts_room so_far.stays (λ had. ap (λ m. (g.M.Medium.state m).calls) (so_far.quiet had)) room so_far.costs;
       flushes = counts_room so_far.stays (λ had. ap (λ m. (g.M.Medium.state m).made Flush) (so_far.quiet had)) room

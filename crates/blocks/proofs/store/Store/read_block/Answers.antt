@@ -16,12 +16,7 @@ returns-in-Ok g c =
             ∙ durable_is (g.M.Medium.state c.args.self.now.medium) s book fits c.args.block c.requires.readable.inside none.0 none.1;
         err = search rules;
         keeps = c.read_durable.ensures.keeps;
-        cost = record {
-          calls = omega (arith, c.read_durable.ensures.cost.calls);
-          none_sent = omega (arith, c.read_durable.ensures.cost.none_sent);
-          reads = omega (arith, c.read_durable.ensures.cost.reads, one);
-          exactly = omega (arith, c.in-Ok.ensures.cost.exactly, one);
-        };
+        cost = grind (arith, c.read_durable.ensures.cost, c.in-Ok.ensures.cost, one);
       };
       next = c.in_default.ensures.next;
     }
@@ -38,20 +33,11 @@ returns-in-Some g c =
             ∙ newest_is (g.M.Medium.state c.args.self.now.medium) s book fits c.args.block c.in-Some.bytes.now c.requires.readable.inside
             held;
         err = search rules;
-        keeps = record {
-          policy = search rules;
-          stays = search rules;
-          quiet = search rules;
-          follows = search rules;
-          looks = none_read (g.M.Medium.state c.args.self.now.medium) (g.M.Medium.state c.args.self.now.medium) s c.args.block 1
-              (λ i. (g.M.Medium.state c.args.self.now.medium).looked);
-        };
-        cost = record {
-          calls = search rules;
-          reads = search rules;
-          none_sent = search rules;
-          exactly = omega (arith, none);
-        };
+        keeps =
+            let m = g.M.Medium.state c.args.self.now.medium in
+            let looks = none_read m m s c.args.block 1 refl in
+            search rules;
+        cost = search (rules, arith, none);
       };
       next = c.in-Some.ensures.next;
     }
@@ -65,12 +51,9 @@ returns-in-Err g c =
         ok = search rules;
         err = search rules;
         keeps = c.read_durable.ensures.keeps;
-        cost = record {
-          calls = omega (arith, c.read_durable.ensures.cost.calls);
-          none_sent = omega (arith, c.read_durable.ensures.cost.none_sent);
-          reads = omega (arith, c.read_durable.ensures.cost.reads, reads_copy s c.args.block none.0 none.1);
-          exactly = search rules;
-        };
+        cost =
+            let one = reads_copy s c.args.block none.0 none.1 in
+            grind (arith, c.read_durable.ensures.cost, one);
       };
       next = c.in_default.ensures.next;
     }

@@ -29,12 +29,7 @@ returns-in_err-read_block g c =
       err = search rules;
       keeps = keeps;
       turn = keeps_turn g.met.M.Medium.sound keeps;
-      cost = record {
-        calls = search rules;
-        none_sent = omega (arith, read.none_sent, one.cost.none_sent);
-        reads = calls_more read c.read_block.new.self more one.cost.reads;
-        exactly = search rules;
-      };
+      cost = let reads = calls_more read c.read_block.new.self more one.cost.reads in search (rules, arith, read, one);
     }
 
 pub returns : goal.returns

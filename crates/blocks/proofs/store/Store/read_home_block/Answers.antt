@@ -22,12 +22,7 @@ returns-in-Ok g c =
           ∙ (home ∙ durable_is m s book fits c.args.block c.requires.readable.inside c.requires.home.active c.requires.home.frozen);
       err = search rules;
       keeps = c.read_at_home.ensures.keeps;
-      cost = record {
-        calls = c.read_at_home.ensures.cost.calls;
-        reads = omega (arith, c.read_at_home.ensures.cost.reads, one);
-        none_sent = c.read_at_home.ensures.cost.none_sent;
-        exactly = omega (arith, c.in-Ok.ensures.cost.exactly, one);
-      };
+      cost = grind (arith, c.read_at_home.ensures.cost, c.in-Ok.ensures.cost, one);
     }
 
 pub returns-in-Err : goal.returns-in-Err
@@ -37,10 +32,5 @@ returns-in-Err g c =
       ok = search rules;
       err = search rules;
       keeps = c.read_at_home.ensures.keeps;
-      cost = record {
-        calls = c.read_at_home.ensures.cost.calls;
-        reads = omega (arith, c.read_at_home.ensures.cost.reads, one);
-        none_sent = c.read_at_home.ensures.cost.none_sent;
-        exactly = search rules;
-      };
+      cost = grind (arith, c.read_at_home.ensures.cost, one);
     }
