@@ -1,6 +1,6 @@
 -- How the books that a store fits go on from turn to turn.
 use Rattle.std.proofs.Common.{◌≡◌, ◌≤◌, ◌<◌, ℕ, ◌+◌, ◌*◌, ◌-◌, ⊎_elim, arith, ◌∙◌, sym, ap, subst, refl, Bool, true, false, Option, Some}
-use Rattle.std.proofs.Common.{List, [], ◌∷◌, ◌++◌, length, take, drop, length-append}
+use Rattle.std.proofs.Common.{List, [], ◌∷◌, ◌++◌, length, take, drop, length-append, zero, suc, get_or}
 use Rattle.std.specs.Prelude.{if◌then◌else◌, ◌==◌, nat_le, get_or, slice_range, unwrap_or}
 use Rattle.std.proofs.lemmas.List.{take-append-le, length-map, drop-drop}
 use Rattle.std.proofs.Math.Seq.{take-length}
@@ -12,13 +12,15 @@ use Rattle.journal.specs.Standing.{IsOurs}
 use Rattle.redo_log.specs.Value.{LogValue, HasRoom, begun, IsBatch, entries_from, entries_of}
 use Rattle.redo_log.specs.Held.{View, HoldsView, MayLeave, with_record}
 use Rattle.redo_log.proofs.StoreFacts.{begun_holds, may_leave_ours}
-use Rattle.cache.specs.Blocks.{Blocks, blocks_of, over, with_range}
+use Rattle.cache.specs.Blocks.{Blocks, blocks_of, over, with_range, is_listed, Listed}
 use Rattle.cache.specs.Entries.{Entries, map_of}
 use Rattle.cache.proofs.Arrays.{over_put}
 use Rattle.blocks.specs.Book.{Same}
 use Rattle.spec.specs.Book.{Book, after_first, array_of, with_write, promised}
 use Rattle.blocks.specs.Finding.{StandsAs, MayFind}
 use Rattle.blocks.specs.StoreValue.{firsts_in, Cached, FitsBook, ShowsBook, wants, steps_for}
+use Rattle.std.proofs.lemmas.Bool.Decides.{nat_tests}
+use Rattle.blocks.specs.Kept.{IsBatchOf}
 
 -- blocks over two arrays that have the same block
 pub over_same : (blocks : Blocks) (a c : Array) (b : ℕ) → a b ≡ c b → over blocks a b ≡ over blocks c b
@@ -265,3 +267,30 @@ finds m s book f image left =
       bound = omega (arith, f.stamps, as_many, f.some whole.0);
     })
     (may_leave_ours m.size s.log f.view image left)
+
+-- ---- the batches of a store
+
+or_else : (t b : Bool) → b ≡ true → (if t then true else b) ≡ true
+or_else true b e = refl
+or_else false b e = e
+
+itself : (n : ℕ) → (n == n) ≡ true
+itself n = grind (arith, nat_tests)
+
+-- each number of a list is in it
+listed_at : (numbers : List ℕ) (k d : ℕ) → k < length numbers → Listed numbers (get_or numbers k d)
+listed_at [] k d below = absurd (omega (arith, below))
+listed_at (n ∷ numbers) zero d below = ap (λ (t : Bool). if t then true else is_listed numbers n) (itself n)
+listed_at (n ∷ numbers) (suc k) d below =
+    or_else (n == get_or numbers k d) (is_listed numbers (get_or numbers k d)) (listed_at numbers k d (omega (arith, below)))
+
+-- a batch that holds blocks can be logged
+pub is_batch : (shape : Shape) (batch : Entries) → IsBatchOf shape batch → 0 < length batch.numbers
+    → IsBatch shape batch.numbers batch.bytes
+is_batch shape batch kept some = record {
+  some = some;
+  few = omega (arith, kept.well_formed.within, kept.room);
+  rising = kept.well_formed.rising;
+  inside = λ k d below. kept.inside (get_or batch.numbers k d) (listed_at batch.numbers k d below);
+  size = kept.well_formed.sized;
+}

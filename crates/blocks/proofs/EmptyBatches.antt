@@ -1,20 +1,111 @@
--- A store whose batches are empty: what fits, what is sent, and how many steps are left else.
-use Rattle.std.proofs.Common.{◌≡◌, ◌⊎◌, ◌<◌, ◌≤◌, ◌∙◌, ℕ, Bool, [], List, inl, inr, sym, subst, ap, arith, length}
+-- A store whose batches are empty: what fits, what is sent, how many steps are left else, and that at rest everything is at home.
+use Rattle.std.proofs.Common.{◌≡◌, ◌+◌, ◌<◌, ◌≤◌, ℕ, ◌∙◌, sym, ap, refl, arith, true, false, List, [], ◌∷◌, length, ◌⊎◌, Bool, inl, inr}
+use Rattle.std.proofs.Common.{subst}
+use Rattle.std.proofs.lemmas.List.{length-map, nil_from_length}
+use Rattle.medium.specs.Medium.{State, Image, IsSound}
+use Rattle.medium.specs.Moments.{EachCut}
+use Rattle.spec.specs.Blocks.{Array}
+use Rattle.journal.specs.Record.{Entry, numbers_of, with_records, home_of}
+use Rattle.redo_log.specs.Value.{LogValue, Owes, retire_steps_of, most_steps}
+use Rattle.journal.specs.Standing.{Keeps}
+use Rattle.redo_log.proofs.StoreFacts.{home_is, blocks_guarded, put_head}
+use Rattle.cache.specs.Blocks.{over}
+use Rattle.cache.specs.Entries.{map_of, Entries}
+use Rattle.spec.specs.Book.{Book, array_of}
+use Rattle.blocks.specs.StoreValue.{Cached, layout_of, is_dead, steps_left, FitsBook, FitsBeside, active_of, transfer_limit, unwritten}
+use Rattle.blocks.specs.Settled.{IsAtHome, IsSettled}
+use Rattle.blocks.proofs.BookTurns.{over_none}
+use Rattle.blocks.proofs.LogTurns.{nothing_left, settles_all}
 use Rattle.std.proofs.lemmas.Bool.{false≢true, cases_lt}
 use Rattle.std.specs.Prelude.{false}
-use Rattle.medium.specs.Medium.{State}
 use Rattle.medium.specs.Sent.{SendsUpTo}
-use Rattle.cache.specs.Entries.{Entries}
 use Rattle.cache.proofs.Arrays.{unlisted_empty}
 use Rattle.journal.specs.declared.log_format.LogFormat.{LogFormat}
 use Rattle.journal.specs.declared.log_format.LogFormat.TheVariants.{One, Two}
-use Rattle.redo_log.specs.Value.{LogValue, most_steps}
 use Rattle.blocks.specs.OneBatch.{SendsOneBatch}
 use Rattle.blocks.specs.Sent.{most_sent}
-use Rattle.blocks.specs.StoreValue.{Cached, FitsBeside, active_of, is_dead, steps_left, transfer_limit, unwritten}
 use Rattle.blocks.specs.Written.{IsWritten}
-use Rattle.blocks.proofs.AllHome.{none_of}
-use Rattle.blocks.proofs.LogTurns.{nothing_left}
+
+-- ---- a store at rest has everything at home
+
+-- a list without elements is empty
+pub none_of : {A : Type 0} (l : List A) → length l ≤ 0 → l ≡ []
+none_of [] few = refl
+none_of (x ∷ l) few = absurd (omega (arith, few))
+
+-- without records the blocks are at home
+home_alone : (records : List (List Entry)) (a : Array) (b : ℕ) → records ≡ [] → with_records records a b ≡ a b
+home_alone [] a b e = refl
+home_alone (r ∷ records) a b e = absurd (cc e)
+
+module _ (m : State) (sound : IsSound m) (s : Cached) (live : is_dead s ≡ false) (none : steps_left s ≡ 0)
+    (empty : s.log.waiting ≡ []) where
+  -- the array of the log is that of the book
+  durable : (book : Book) (f : FitsBook m s book) (b : ℕ) → b < book.blocks → f.view.array b ≡ array_of book b
+  durable book f b below =
+      let batches = nothing_left s none in
+      sym (over_none s.active.numbers s.active.bytes batches.1 (over (map_of s.frozen) f.view.array) b
+      ∙ over_none s.frozen.numbers s.frozen.bytes batches.0 f.view.array b)
+      ∙ f.arrays.now_is b below
+
+  no_records : (book : Book) (f : FitsBook m s book) → f.view.records ≡ []
+  no_records book f =
+      let g : List Entry → List ℕ = λ r. numbers_of r in
+      none_of f.view.records
+      (omega (
+        arith,
+        length-map f.view.records g,
+        ap (λ (l : List (List ℕ)). length l) f.holds.durable,
+        ap (λ (l : List (List ℕ)). length l) empty,
+      ))
+
+  at_home : (book : Book) → FitsBook m s book → IsAtHome (layout_of s) book m.content
+  at_home book f b below =
+      home_is s.log m f.view f.holds live b (omega (arith, below, f.blocks))
+      (λ age waits. absurd (omega (arith, waits, ap (λ (l : List (List ℕ)). length l) empty)))
+      ∙ durable book f b below
+
+  left_home : (book : Book) (f : FitsBook m s book) (b : ℕ) → b < book.blocks → (image : Image)
+      → Keeps s.log.shape image s.log.head f.view.records f.view.array → home_of s.log.shape image b ≡ array_of book b
+  left_home book f b below image keeps =
+      sym (home_alone f.view.records (home_of s.log.shape image) b (no_records book f))
+      ∙ (keeps.blocks b (omega (arith, below, f.blocks)) ∙ durable book f b below)
+
+  cut_home : (book : Book) → FitsBook m s book → book.ours ≡ true → EachCut (IsAtHome (layout_of s) book) m
+  cut_home book f ours image cut b below =
+      let g = blocks_guarded s.log m f.view sound f.holds live (f.ours ∙ ours) image cut in
+      let keeps = g.0.stored.keeps in
+      sym (g.1 (s.log.shape.home + b) (λ e. omega (arith, e, keeps.super.home_is.0)))
+      ∙ left_home book f b below (put_head m image) keeps
+
+  -- a store without steps whose log has no record is at rest
+  pub at_rest : s.log.under_way ≡ [] → IsSettled m s
+  at_rest under_way = record {
+    none_waits = empty;
+    none_under_way = under_way;
+    active = (nothing_left s none).1;
+    frozen = (nothing_left s none).0;
+    durable = λ book f. settles_all none f;
+    home = at_home;
+    cuts = cut_home;
+  }
+
+-- a store without steps is at rest: its log owes none, and so no record waits
+pub settled : (m : State) → IsSound m → (s : Cached) → Owes s.log → s.log.under_way ≡ [] → is_dead s ≡ false → steps_left s ≡ 0
+    → IsSettled m s
+settled m sound s owes under_way live none =
+    at_rest m sound s live none
+    (grind (arith, nil_from_length s.log.waiting, owes.some_wait, none))
+    under_way
+
+-- no retire step is owed where no record waits and none is under way
+pub owes_none : (log : LogValue) → Owes log → log.under_way ≡ [] → log.waiting ≡ [] → log.retire_steps_left ≡ 0
+owes_none log owes under_way empty = owes.none_waits empty ∙ ap (λ (l : List ℕ). retire_steps_of l) under_way
+
+-- no step is left where no record is under way, none is owed, and both batches are empty
+pub none_left : (s : Cached) → s.log.steps_left ≡ 0 → s.log.retire_steps_left ≡ 0 → s.frozen.numbers ≡ [] → s.active.numbers ≡ []
+    → steps_left s ≡ 0
+none_left s idle owed frozen active = grind arith
 
 -- both batches of a live store are empty where no record is left to write
 pub both_empty : (s : Cached) → is_dead s ≡ false → IsWritten s → (s.frozen.numbers ≡ []) × (s.active.numbers ≡ [])

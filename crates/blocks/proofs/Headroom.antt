@@ -17,8 +17,7 @@ use Rattle.blocks.specs.Headroom.{IsInOrder, RestsWithRoom, HasHeadroom, landed}
 use Rattle.blocks.specs.Flushing.{finish_flushes, both_flushes}
 use Rattle.blocks.specs.Retiring.{HasSlots, finished_with}
 use Rattle.blocks.specs.StoreValue.{Cached, layout_of, is_dead, firsts_in, wants}
-use Rattle.blocks.proofs.Ready.{idle_behind}
-use Rattle.blocks.proofs.Room.{steps_once}
+use Rattle.blocks.proofs.Room.{idle_behind, steps_once}
 use Rattle.blocks.proofs.Steady.{blocks_more, blocks_behind, behind_more, first_owed, with_more, finished_is}
 
 -- ---- order is kept by each turn

@@ -13,7 +13,7 @@ use Rattle.journal.specs.Places.{sectors_of}
 use Rattle.journal.specs.declared.super_sector.Super.{Super}
 use Rattle.journal.specs.Record.{Entry, numbers_of}
 use Rattle.redo_log.specs.Value.{LogValue, Owes, CanPass, IsAway, IsSentHome, HasRoom, begun, died, IsCovered, IsRetireStepped, IsBatch}
-use Rattle.redo_log.specs.Value.{settled, entries_of}
+use Rattle.redo_log.specs.Value.{settled, entries_of, pass_calls, ahead_calls, next_calls, next_sends, next_turn_flushes}
 use Rattle.redo_log.specs.Held.{View, HoldsView, stamps_of}
 use Rattle.redo_log.specs.Steps.{MakesTurns, MakesStep, CountsStep, LeavesLog}
 use Rattle.redo_log.specs.declared.fault.LogFault.{LogFault}
@@ -29,10 +29,12 @@ use Rattle.blocks.specs.Finding.{MayFind, Found}
 use Rattle.blocks.specs.Kept.{Invariant}
 use Rattle.blocks.specs.Passing.{PassesOn, PassesPaid}
 use Rattle.blocks.specs.Stopping.{stopped}
-use Rattle.blocks.specs.StoreValue.{firsts_in, Cached, layout_of, steps_left, FitsBook}
+use Rattle.blocks.specs.StoreValue.{firsts_in, Cached, layout_of, steps_left, FitsBook, is_dead}
 use Rattle.blocks.specs.Turns.{GoesOn, IsTurn, IsWriteTurn}
 use Rattle.blocks.proofs.BookTurns.{moves, begins, becomes_durable, freezes, appends, settles, finds}
 use Rattle.blocks.proofs.TurnsJoined.{exits}
+use Rattle.blocks.specs.Going.{PassesHead, BringsHome}
+use Rattle.blocks.specs.Background.{IsRetiring}
 
 -- ---- what stays of a log of which a record goes home, is flushed there, or is retired
 
@@ -71,15 +73,7 @@ cuts_found before after s leaves book f ours =
 goes_on : (before after : State) (old new : Cached) → LeavesLog old.log before after → before.failures ≤ after.failures
     → after.size ≡ before.size → new.log.shape ≡ old.log.shape → (old.log.dead ≡ true → new.log.dead ≡ true)
     → (old.log.dead ≡ false → new.log.dead ≡ true → before.failures < after.failures) → GoesOn before after old new
-goes_on before after old new leaves failures size shape stays died = record {
-  failures_stay = failures;
-  size_stays = size;
-  layout_stays = shape;
-  spares = leaves.spares;
-  blocks_stay = ap (λ x. x.blocks) shape;
-  dead_stays = stays;
-  cause = λ live dead. inl (died live dead);
-}
+goes_on before after old new leaves failures size shape stays died = grind (arith, leaves.spares, failures, size, shape, stays, died)
 
 -- the medium is refused it, and the log is dead
 dies : (before after : State) (s : Cached) (log' : LogValue) → log' ≡ died s.log → after.failures ≡ before.failures + 1
@@ -205,15 +199,7 @@ step_turn {state = state} {m = m} {n = n} (Err e) s log' none empty some called 
 module _ (m : State) (sound : IsSound m) (s : Cached) where
   -- nothing has happened to the medium
   here : (new : Cached) → new.log.shape ≡ s.log.shape → new.log.dead ≡ s.log.dead → GoesOn m m s new
-  here new shape dead = record {
-    failures_stay = omega arith;
-    size_stays = refl;
-    layout_stays = shape;
-    spares = spared_start (sectors_of (layout_of s)) m sound;
-    blocks_stay = ap (λ x. x.blocks) shape;
-    dead_stays = λ is. dead ∙ is;
-    cause = λ live died. absurd (false≢true (sym (dead ∙ live) ∙ died));
-  }
+  here new shape dead = let spares = spared_start (sectors_of (layout_of s)) m sound in grind (arith, shape, dead, spares)
 
   still_found : (book : Book) → FitsBook m s book → book.ours ≡ true → LeavesOnly (MayFind m.size book) m m
   still_found book f ours = started (MayFind m.size book) m sound (exits m s book f ours)
@@ -245,19 +231,19 @@ module _ (m : State) (sound : IsSound m) (s : Cached) where
   begins_nothing room some last = record {
     fits = λ book f. moves f (died_holds s.log m f.view f.holds) refl f.under_way f.some refl refl refl;
     cuts = still_found;
-    goes_on = record {
-      failures_stay = omega arith;
-      size_stays = refl;
-      layout_stays = refl;
-      spares = spared_start (sectors_of (layout_of s)) m sound;
-      blocks_stay = refl;
-      dead_stays = λ dead. refl;
-      cause = λ live died. inr (λ book f.
-          let g : List Entry → List ℕ = λ r. numbers_of r in
-          let as_many : length s.log.waiting ≡ length f.view.records =
-          ap (λ (l : List (List ℕ)). length l) f.holds.durable ∙ length-map f.view.records g in
-          omega (arith, f.stamps, f.holds.next, as_many, last, ap (λ (l : List ℕ). stamps_of l) room.none_under_way));
-    };
+    goes_on =
+        let spares = spared_start (sectors_of (layout_of s)) m sound in
+        let out : (book : Book) → FitsBook m s book → 2 ^ 63 - 1 ≤ book.stamp + length book.writes = λ book f.
+        omega (
+          arith,
+          f.stamps,
+          f.holds.next,
+          ap (λ (l : List (List ℕ)). length l) f.holds.durable,
+          length-map f.view.records (λ (r : List Entry). numbers_of r),
+          last,
+          ap (λ (l : List ℕ). stamps_of l) room.none_under_way,
+        ) in
+        grind (arith, spares, out);
   }
 
   -- the active batch is frozen in place of an empty one
@@ -289,3 +275,28 @@ settles_all {s = s} none f = let empty = nothing_left s none in settles empty.0 
 pub stopped_fits : (m : State) (s : Cached) (book : Book) → FitsBook m s book → FitsBook m (stopped s) book
 stopped_fits m s book f =
     moves f (died_holds s.log m f.view f.holds) refl f.under_way f.some refl refl refl
+
+-- ---- what the calls of the log that bring its oldest record on make of a store, and what they cost
+
+-- a step of the store fewer is left, or as many, and a call is made only where one is left
+pub past_fewer : (s : Cached) (log' : LogValue) → ((CanPass s.log → ⊥) → log' ≡ s.log) → (CanPass s.log → IsRetireStepped s.log log')
+    → pass_calls s.log + 2 * steps_left (record s { log = log' }) ≤ 2 * steps_left s
+past_fewer s log' none some = grind (arith, nat_tests)
+
+pub home_fewer : (s : Cached) (log' : LogValue) → IsAway s.log → IsSentHome s.log log'
+    → steps_left (record s { log = log' }) < steps_left s
+home_fewer s log' away sent = grind (arith, nat_tests)
+
+module _ {M : Type 0} {state : M → State} {Follows : M → M → Type 0} {after : View → View} {m n : M} {s : Cached} {log' : LogValue}
+    (live : is_dead s ≡ false) (result : Result (Unit {0}) LogFault) where
+  pub passes_head : Made state Follows (CanPass s.log → ⊥) (CanPass s.log → IsRetireStepped s.log log') (pass_calls s.log)
+      (pass_calls s.log) 0 after result s.log log' m n → s.log.steps_left ≡ 0 → PassesHead (state m) (state n) s (record s { log = log' })
+  passes_head called idle = grind (arith, nat_tests, called.answers, called.none, called.passes)
+
+  pub brings_home : Made state Follows (IsAway s.log → ⊥) (IsAway s.log → IsSentHome s.log log') (ahead_calls s.log) (next_sends s.log) 0
+      after result s.log log' m n → IsAway s.log → s.log.steps_left ≡ 0 → BringsHome (state m) (state n) s (record s { log = log' })
+  brings_home called away idle = grind (arith, nat_tests, called.answers, called.passes)
+
+  pub is_retiring : Made state Follows (s.log.waiting ≡ []) (0 < length s.log.waiting → IsRetireStepped s.log log') (next_calls s.log)
+      (next_sends s.log) (next_turn_flushes s.log) after result s.log log' m n → IsRetiring (state m) (state n) s (record s { log = log' })
+  is_retiring called = grind (arith, called.answers, called.none, called.passes)

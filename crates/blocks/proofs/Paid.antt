@@ -1,17 +1,46 @@
 -- What the calls of a store pass on, one after another.
-use Rattle.std.proofs.Common.{◌≡◌, ◌≤◌, ◌<◌, ◌+◌, ℕ, ◌∙◌, ap, refl, arith, false}
+use Rattle.std.proofs.Common.{◌≡◌, ◌<◌, ◌+◌, inl, inr, arith, sym, ◌∙◌, Bool, true, false, length, ◌≤◌, ◌*◌, ℕ, ap, refl}
+use Rattle.std.proofs.lemmas.Bool.{false≢true, cases_lt}
 use Rattle.medium.specs.Medium.{State, IsSound}
+use Rattle.blocks.specs.StoreValue.{Cached, is_dead, steps_left, StoreValue, batch_steps, steps_for, waiting}
+use Rattle.blocks.specs.Turns.{IsPaid, IsTurn, IsWriteTurn}
 use Rattle.medium.specs.Sent.{sent, SendsUpTo}
+use Rattle.spec.specs.Blocks.{Write}
 use Rattle.blocks.specs.Passing.{PassesOn, PassesPaid, KeepsMedium}
-use Rattle.blocks.specs.StoreValue.{Cached, StoreValue, is_dead, steps_left, batch_steps, steps_for, waiting}
-use Rattle.blocks.specs.Turns.{IsTurn}
-use Rattle.blocks.proofs.BackgroundCalls.{pays_both}
 use Rattle.blocks.proofs.SectorsRead.{none, looks_on}
-use Rattle.blocks.proofs.TurnsJoined.{stays, turns}
+use Rattle.blocks.proofs.TurnsJoined.{stays, turns, not_written, then_written}
+
+-- ---- how many calls of the medium the background steps make
+
+-- one turn after another
+pub pays_both : (before mid after : State) (old then new : Cached) → IsPaid before mid old then → is_dead then ≡ false
+    → IsPaid mid after then new → IsPaid before after old new
+pays_both before mid after old then new first live second = record {
+  most = omega (arith, first.rest live, second.most);
+  rest = λ lives. omega (arith, first.rest live, second.rest lives);
+}
+
+-- a log without room and without a record under way has one to retire
+pub must_retire : (s : Cached) (room : Bool) → room ≡ false → (room ≡ false → 0 < s.log.steps_left + length s.log.waiting)
+    → (s.log.steps_left + s.log.retire_steps_left ≡ 0 → room ≡ true) → s.log.steps_left ≡ 0
+    → (0 < length s.log.waiting) × (0 < steps_left s)
+must_retire s room none full always idle = (
+  omega (arith, full none, idle),
+  elim (cases_lt 0 s.log.retire_steps_left) [
+    | inl some ↦ omega (arith, some)
+    | inr few ↦ absurd (false≢true (sym none ∙ always (omega (arith, few, idle))))
+  ],
+)
 
 -- nothing was done
 pub rested : {M : Type 0} {state : M → State} {old : StoreValue M} → IsSound (state old.medium) → KeepsMedium state IsTurn old old
 rested sound = record { turn = stays _ _ sound; medium = refl; policy = refl }
+
+-- a turn without a call
+pub kept : {M : Type 0} {state : M → State} {Turn : State → State → Cached → Cached → Type 0} {m : M} {old new : Cached} {ahead : Bool}
+    → Turn (state m) (state m) old new → KeepsMedium state Turn (record { medium = m; cached = old; goes_ahead = ahead })
+    (record { medium = m; cached = new; goes_ahead = ahead })
+kept turn = record { turn = turn; medium = refl; policy = refl }
 
 -- both batches change places where no record is under way, and as many steps are left
 pub swapped_steps : (s : Cached) → s.log.steps_left ≡ 0 → steps_left (record s { active = s.frozen; frozen = s.active }) ≤ steps_left s
@@ -70,6 +99,19 @@ module _ {M : Type 0} {state : M → State} {Follows : M → M → Type 0} where
         one.looks two.looks;
     policy = two.policy ∙ one.policy;
   }
+
+  -- as a write that is refused tells it, and one that takes place without a call
+  pub paid_refused : {w : Write} {sends : ℕ} {old new : StoreValue M} → PassesPaid state Follows sends old new
+      → PassesOn state Follows (IsWriteTurn w false) (2 * steps_left old.cached) sends old new
+  paid_refused {w = w} {old = old} {new = new} paid =
+      let turn = not_written w (state old.medium) (state new.medium) old.cached new.cached paid.turn in grind (arith, paid, turn)
+
+  pub paid_written : {w : Write} {sends : ℕ} {old mid new : StoreValue M} → PassesPaid state Follows sends old mid
+      → is_dead mid.cached ≡ false → KeepsMedium state (IsWriteTurn w true) mid new
+      → PassesOn state Follows (IsWriteTurn w true) (2 * steps_left old.cached) sends old new
+  paid_written {w = w} {old = old} {mid = mid} {new = new} paid live keeps =
+      let turn = then_written w _ _ _ old.cached mid.cached new.cached paid.turn keeps.turn in
+      grind (arith, paid, live, keeps.medium, keeps.policy, turn)
 
   -- a step of at most two calls, where one was left
   pub on_paid : {most sends : ℕ} {old new : StoreValue M} → 0 < steps_left old.cached

@@ -1,11 +1,76 @@
--- How many calls of the medium a read makes.
-use Rattle.std.proofs.Common.{◌≡◌, ◌≤◌, ℕ, zero, suc, ◌+◌, ap, arith, add-one}
-use Rattle.std.proofs.Common.{List, None}
-use Rattle.cache.specs.Entries.{map_of}
+-- What a read gives, and how many calls of the medium it makes.
+use Rattle.std.proofs.Common.{◌≡◌, ℕ, zero, suc, ◌+◌, ◌*◌, ◌≤◌, ◌<◌, List, ◌++◌, length, take, drop, Option, None, ⊎_elim, sym, ◌∙◌, ap}
+use Rattle.std.proofs.Common.{arith, append_assoc, append-nil, add-zero, add-one, Result, false, refl, subst}
+use Rattle.std.proofs.lemmas.List.{length-drop, length-take-le, take_all}
+use Rattle.std.proofs.lemmas.Slice.{take-put_mid}
+use borrow.Rule.Slice.PartMut.{put_mid}
+use Rattle.std.specs.Prelude.{unwrap_or, Ok}
+use Rattle.medium.specs.Medium.{State, Passes, IsSound}
+use Rattle.spec.specs.Blocks.{Array}
+use Rattle.cache.specs.Blocks.{over, is_listed, unlisted}
+use Rattle.cache.specs.Entries.{map_of, Entries}
+use Rattle.spec.specs.Book.{Book, array_of, blocks_at}
+use Rattle.blocks.specs.Reads.{IsInBatch, ReadsBlock}
+use Rattle.blocks.specs.StoreValue.{Cached, blocks_of, FitsBook, StoreValue}
+use Rattle.medium.specs.declared.fault.MediumFault.{MediumFault}
+use Rattle.medium.specs.declared.fault.MediumFault.TheVariants.{Read}
+use Rattle.medium.proofs.CallsSent.{read_sends}
 use Rattle.cache.proofs.Maps.{listed_is}
-use Rattle.blocks.specs.Reads.{IsInBatch}
-use Rattle.blocks.specs.StoreValue.{Cached}
-use Rattle.blocks.specs.Calls.{block_reads, reads_of}
+use Rattle.blocks.specs.Calls.{block_reads, reads_of, CostsReads}
+use Rattle.medium.specs.Sent.{SendsUpTo}
+use Rattle.medium.proofs.Moments.{quiet_joined}
+use Rattle.cache.proofs.Arrays.{unlisted_most}
+use Rattle.blocks.specs.Passing.{KeepsStore}
+use Rattle.blocks.specs.Turns.{IsTurn}
+use Rattle.blocks.proofs.SectorsRead.{one_more, fewer_read}
+use Rattle.blocks.proofs.TurnsJoined.{quiet_turn}
+
+-- ---- what a read gives
+
+-- a block that no batch holds is the durable one
+pub durable_is : (m : State) (s : Cached) (book : Book) (f : FitsBook m s book) (b : ℕ) → b < blocks_of s → map_of s.active b ≡ None
+    → map_of s.frozen b ≡ None → f.view.array b ≡ array_of book b
+durable_is m s book f b below active frozen =
+    let durable : List ℕ = f.view.array b in
+    sym (ap (λ (o : Option (List ℕ)). unwrap_or o (over (map_of s.frozen) f.view.array b)) active
+    ∙ ap (λ (o : Option (List ℕ)). unwrap_or o durable) frozen)
+    ∙ f.arrays.now_is b (omega (arith, below, f.blocks))
+
+-- a block that a batch holds is the newest one
+pub newest_is : (m : State) (s : Cached) (book : Book) (f : FitsBook m s book) (b : ℕ) (bytes : List ℕ) → b < blocks_of s
+    → IsInBatch s b bytes → bytes ≡ array_of book b
+newest_is m s book f b bytes below held =
+    let durable : List ℕ = f.view.array b in
+    let behind : List ℕ = over (map_of s.frozen) f.view.array b in
+    let is : over (map_of s.active) (over (map_of s.frozen) f.view.array) b ≡ bytes = ⊎_elim
+    (λ active. ap (λ (o : Option (List ℕ)). unwrap_or o behind) active)
+    (λ both. ap (λ (o : Option (List ℕ)). unwrap_or o behind) both.0 ∙ ap (λ (o : Option (List ℕ)). unwrap_or o durable) both.1)
+    held in
+    sym is ∙ f.arrays.now_is b (omega (arith, below, f.blocks))
+
+one_block_suc : (array : Array) (address i : ℕ) → blocks_at array address (suc i) ≡ blocks_at array address i ++ array (address + i)
+one_block_suc array address zero = append-nil (array address) ∙ ap array (sym (add-zero address))
+one_block_suc array address (suc i) =
+    let last : address + 1 + i ≡ address + suc i = omega arith in
+    ap (λ (l : List ℕ). array address ++ l) (one_block_suc array (address + 1) i)
+    ∙ (sym (append_assoc (array address) (blocks_at array (address + 1) i) (array (address + 1 + i)))
+    ∙ ap (λ (n : ℕ). blocks_at array address (suc i) ++ array n) last)
+
+-- one block more
+one_block : (array : Array) (address i : ℕ) → blocks_at array address (i + 1) ≡ blocks_at array address i ++ array (address + i)
+one_block array address i = rw add-one (one_block_suc array address i)
+
+-- a slice that begins with i blocks begins with i + 1 where the next block is put behind them
+pub put_block : (array : Array) (address i at size end : ℕ) (to block : List ℕ) → at ≡ 512 * i → size ≡ 512 → end ≡ 512 * (i + 1)
+    → end ≤ length to → length block ≡ length (take size (drop at to)) → take (512 * i) to ≡ blocks_at array address i
+    → block ≡ array (address + i) → take end (put_mid at size to block) ≡ blocks_at array address (i + 1)
+put_block array address i at size end to block at_is size_is end_is inside alike so_far is =
+    let part : length (take size (drop at to)) ≡ size =
+    length-take-le size (drop at to) (omega (arith, length-drop at to, at_is, size_is, end_is, inside)) in
+    take-put_mid at size to block end (omega (arith, at_is, size_is, end_is, alike, part)) (omega (arith, at_is, end_is, inside))
+    ∙ (ap (λ (n : ℕ). take n to ++ block) at_is
+    ∙ (ap (λ (l : List ℕ). l ++ block) so_far
+    ∙ (ap (λ (l : List ℕ). blocks_at array address i ++ l) is ∙ sym (one_block array address i))))
 
 reads_suc : (s : Cached) (address i : ℕ) → reads_of s address (suc i) ≡ reads_of s address i + block_reads s (address + i)
 reads_suc s address zero =
@@ -35,7 +100,86 @@ pub reads_copy : (s : Cached) (b : ℕ) → map_of s.active b ≡ None → map_o
 reads_copy s b active frozen =
     grind (arith, listed_is s.active.numbers s.active.bytes b, listed_is s.frozen.numbers s.frozen.bytes b)
 
+-- a read that is one call
+pub costs_one : {A : Type 0} (answer : Result A MediumFault) {result : Result (Unit {0}) MediumFault} {before after : State}
+    → Passes Read result before after → CostsReads answer 1 1 before after
+costs_one answer {before = before} {after = after} call = grind (arith, call.calls_are, read_sends before after call)
+
 -- each block takes one call at most
 pub reads_few : (s : Cached) (address count : ℕ) → reads_of s address count ≤ count
 reads_few s address zero = omega arith
 reads_few s address (suc count) = grind (arith, reads_few s (address + 1) count)
+
+-- ---- blocks are read one after another
+
+-- of a range none is listed, and so no batch has one
+unlisted_at : (numbers : List ℕ) (address count i : ℕ) → unlisted numbers address count ≡ count → i < count
+    → is_listed numbers (address + i) ≡ false
+unlisted_at numbers address zero i all lt = absurd (omega (arith, lt))
+unlisted_at numbers address (suc count) zero all lt = grind (arith, unlisted_most numbers (address + 1) count)
+unlisted_at numbers address (suc count) (suc i) all lt =
+    grind (arith, unlisted_most numbers (address + 1) count, unlisted_at numbers (address + 1) count i)
+
+pub none_at : (batch : Entries) (address count i : ℕ) → unlisted batch.numbers address count ≡ count → i < count
+    → map_of batch (address + i) ≡ None
+none_at batch address count i all lt =
+    grind (arith, listed_is batch.numbers batch.bytes (address + i), unlisted_at batch.numbers address count i all lt)
+
+-- so many blocks were read so far, from an address on, and these are the first bytes
+pub record HasRead {M : Type 0} (state : M → State) (Follows : M → M → Type 0) (address count : ℕ) (bytes : List ℕ)
+    (old new : StoreValue M) : Type 0 where
+  pub keeps : KeepsStore state Follows address count old new
+  pub calls : (state new.medium).calls ≤ (state old.medium).calls + count
+  pub reads : (state new.medium).calls ≡ (state old.medium).calls + reads_of old.cached address count
+  pub none_sent : SendsUpTo 0 (state old.medium) (state new.medium)
+  pub so_far : (book : Book) → FitsBook (state old.medium) old.cached book
+      → take (512 * count) bytes ≡ blocks_at (array_of book) address count
+
+module _ {M : Type 0} {state : M → State} {Follows : M → M → Type 0} {address : ℕ} {old : StoreValue M} where
+  pub keeps_turn : ((m : M) → IsSound (state m)) → {count : ℕ} {new : StoreValue M} → KeepsStore state Follows address count old new
+      → IsTurn (state old.medium) (state new.medium) old.cached new.cached
+  keeps_turn sound {new = new} keeps = subst (IsTurn (state old.medium) (state new.medium) old.cached) (sym keeps.stays)
+      (quiet_turn (state old.medium) (state new.medium) old.cached (sound old.medium) keeps.quiet)
+
+  -- all were
+  pub all_read : {count : ℕ} {bytes : List ℕ} {new : StoreValue M} → HasRead state Follows address count bytes old new
+      → length bytes ≤ 512 * count → (book : Book) → FitsBook (state old.medium) old.cached book
+      → bytes ≡ blocks_at (array_of book) address count
+  all_read {count} {bytes} read long book fits = sym (take_all (512 * count) bytes long) ∙ read.so_far book fits
+
+  module _ {i : ℕ} {bytes : List ℕ} {mid : StoreValue M} (read : HasRead state Follows address i bytes old mid) where
+    -- one more is, good or refused
+    pub keeps_more : ((m n k : M) → Follows m n → Follows n k → Follows m k) → {count : ℕ} {new : StoreValue M} → i + 1 ≤ count
+        → KeepsStore state Follows (address + i) 1 mid new → KeepsStore state Follows address count old new
+    keeps_more through {count} {new} more last = record {
+      stays = last.stays ∙ read.keeps.stays;
+      quiet = quiet_joined _ _ _ read.keeps.quiet last.quiet;
+      follows = through _ _ _ read.keeps.follows last.follows;
+      looks = fewer_read (state old.medium) (state new.medium) old.cached address (i + 1) count more
+          (one_more (state old.medium) (state mid.medium) (state new.medium) old.cached mid.cached address i read.keeps.stays
+          read.keeps.looks last.looks);
+      policy = last.policy ∙ read.keeps.policy;
+    }
+
+    pub calls_more : {count : ℕ} (new : StoreValue M) → i + 1 ≤ count
+        → (state new.medium).calls ≤ (state mid.medium).calls + block_reads mid.cached (address + i)
+        → (state new.medium).calls ≤ (state old.medium).calls + reads_of old.cached address count
+    calls_more {count} new more few =
+        let same = ap (λ (s : Cached). block_reads s (address + i)) read.keeps.stays in
+        omega (arith, read.reads, few, same, reads_more old.cached address i, reads_within old.cached address (i + 1) count more)
+
+    pub block_more : ((m : M) → IsSound (state m)) → ((m n k : M) → Follows m n → Follows n k → Follows m k) → {done : Unit {0}}
+        → {block : List ℕ} {new : StoreValue M} (at size : ℕ) → at ≡ 512 * i → size ≡ 512 → 512 * (i + 1) ≤ length bytes
+        → length block ≡ length (take size (drop at bytes))
+        → ReadsBlock state Follows (Ok done) (address + i) block mid new
+        → HasRead state Follows address (i + 1) (put_mid at size bytes block) old new
+    block_more sound through {block = block} at size at_is size_is inside alike one = record {
+      keeps = keeps_more through (omega arith) one.keeps;
+      calls = omega (arith, read.calls, one.cost.calls);
+      reads =
+          let same = ap (λ (s : Cached). block_reads s (address + i)) read.keeps.stays in
+          omega (arith, read.reads, one.cost.exactly, same, reads_more old.cached address i);
+      none_sent = omega (arith, read.none_sent, one.cost.none_sent);
+      so_far = λ book fits. put_block (array_of book) address i at size (512 * (i + 1)) bytes block at_is size_is refl inside alike
+          (read.so_far book fits) (one.ok book ((keeps_turn sound read.keeps).fits book fits));
+    }

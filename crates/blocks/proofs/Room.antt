@@ -1,14 +1,18 @@
 -- How room is made in the ring, and what that and a batch that becomes durable cost: calls, writes and flushes.
 use Rattle.std.proofs.Common.{◌≡◌, ◌⊎◌, ◌<◌, ◌≤◌, ◌+◌, ◌-◌, arith, refl, inl, []}
-use Rattle.std.specs.Prelude.{ℕ, suc, zero, List, length, nat_lt, Bool, if◌then◌else◌}
+use Rattle.std.specs.Prelude.{ℕ, suc, zero, List, length, nat_lt, Bool, if◌then◌else◌, []}
 use Rattle.std.proofs.lemmas.Bool.Decides.{nat_tests}
 use Rattle.journal.specs.declared.log_format.LogFormat.TheVariants.{Two}
-use Rattle.redo_log.specs.Value.{LogValue, HasRoom, IsStepped, IsRetireStepped, of_oldest, steps_of}
-use Rattle.redo_log.specs.Value.{turn_calls, turns_calls, turn_sends, turns_sends, turn_flushes, turns_flushes, next_step_flushes}
-use Rattle.redo_log.specs.Value.{steps_flushes}
+use Rattle.redo_log.specs.Value.{LogValue, HasRoom, IsStepped, IsRetireStepped, of_oldest, steps_of, turn_calls, turns_calls, turn_sends}
+use Rattle.redo_log.specs.Value.{turns_sends, turn_flushes, turns_flushes, next_step_flushes, steps_flushes, AllFirsts, begun, IsAway}
+use Rattle.redo_log.specs.Value.{IsSentHome, behind_oldest, ahead_of, next_calls, next_sends, sends_of_oldest, most_retire_sends}
 use Rattle.redo_log.specs.declared.progress.Progress.{Progress}
 use Rattle.blocks.specs.Flushing.{left_flushes, room_flushes, finish_flushes, both_flushes}
-use Rattle.blocks.specs.Retiring.{oldest_retired, with_room, written_out, finished_with, finish_calls, ready_calls}
+use Rattle.blocks.specs.Retiring.{oldest_retired, with_room, written_out, finished_with, finish_calls, ready_calls, HasSlots, made_ready}
+use Rattle.blocks.specs.Retiring.{both_calls, record_calls, calls_from, to_begin, with_spare, room_calls}
+use Rattle.blocks.specs.Ahead.{passed, sent_home, passed_calls, sent_calls, ahead_room, ahead_room_calls, gone_home, going_calls}
+use Rattle.blocks.specs.StoreValue.{wants}
+use Rattle.journal.specs.Places.{limit_of}
 
 -- ---- a count of calls, by how many each step makes
 
@@ -132,3 +136,97 @@ flushes_of ahead frozen active firsts old mid is = grind (arith, nat_tests)
 pub once : (ahead : Bool) (frozen active : List ℕ) (log : LogValue) → log.shape.format ≡ Two → HasRoom log → frozen ≡ []
     → 0 < length active → both_flushes ahead frozen active log ≡ 1
 once ahead frozen active log two room none some = grind (arith, nat_tests, steps_once)
+
+-- ---- the calls of a batch do not depend on the bytes of the one before it, and none is made for room where slots are free
+
+calls_one : (ahead : Bool) (numbers : List ℕ) (log : LogValue) (k : AllFirsts)
+    → finish_calls ahead numbers (record log { firsts = k }) ≡ finish_calls ahead numbers log
+calls_one ahead numbers log k = grind (arith, nat_tests)
+
+pub calls_of : (ahead : Bool) (frozen active : List ℕ) (firsts : List (List ℕ)) (old mid : LogValue)
+    → mid ≡ finished_with ahead frozen firsts old
+    → finish_calls ahead active mid ≡ finish_calls ahead active (finished_with ahead frozen [] old)
+calls_of ahead frozen active firsts old mid is = grind (arith, nat_tests, but_firsts, calls_one)
+
+-- the record of a batch is written behind a log that has room
+pub made_finished : (ahead : Bool) (numbers : List ℕ) (firsts : List (List ℕ)) (old mid new : LogValue) → old.steps_left ≡ 0
+    → 0 < length numbers → mid ≡ made_ready ahead old → new ≡ written_out (begun numbers firsts mid)
+    → new ≡ finished_with ahead numbers firsts old
+made_finished ahead numbers firsts old mid new idle some ready is = grind (arith, nat_tests)
+
+-- no step is left of a batch that is durable
+pub idle_behind : (ahead : Bool) (numbers : List ℕ) (log : LogValue) → (finished_with ahead numbers [] log).steps_left ≡ 0
+idle_behind ahead numbers log = grind (arith, nat_tests)
+
+-- where a slot is free for each record that is to be begun, a sync makes the calls of the records
+pub roomy_both : (ahead : Bool) (frozen active : List ℕ) (log : LogValue)
+    → HasSlots (with_spare ahead (to_begin frozen log + wants active)) log
+    → both_calls ahead frozen active log ≡ record_calls frozen log + calls_from 0 log.shape.format active
+roomy_both ahead frozen active log slots = grind (arith, nat_tests)
+
+-- ---- room for a record, as a store makes it that goes ahead
+
+-- what has room still has it
+pub still_room : (log : LogValue) → HasRoom log → HasRoom (sent_home (passed log))
+still_room log room = grind (arith, nat_tests)
+
+-- a slot is free, or none is
+pub free_is : (log : LogValue) → log.next - log.head < log.shape.slots → (ahead_room log ≡ sent_home (passed log))
+    × (ahead_room_calls log ≡ passed_calls log + sent_calls (passed log)) × (room_flushes log ≡ 0)
+free_is log free = grind (arith, nat_tests)
+
+pub full_is : (log : LogValue) → (log.next - log.head < log.shape.slots → ⊥) → (with_room log ≡ ahead_room log)
+    × (room_calls log ≡ ahead_room_calls log)
+full_is log full = grind (arith, nat_tests)
+
+-- ---- how the oldest record goes home ahead, turn by turn, and what that costs
+
+-- a block is away still, or none was
+pub record Going (old new : LogValue) : Type 0 where
+  pub so_far : new ≡ record old { retire_steps_left = new.retire_steps_left }
+  pub away : 2 < of_oldest old → 2 < of_oldest new
+  pub none : of_oldest old ≤ 2 → new ≡ old
+
+-- the blocks that were away are home
+pub record Gone (old new : LogValue) : Type 0 where
+  pub away : 2 < of_oldest old
+  pub is : new ≡ record old { retire_steps_left = behind_oldest old + 2; ahead = ahead_of old }
+
+-- with the calls of the steps that are left they are those of all steps, and with the writes and flushes of these no more than all
+pub record GoesHome (old new : LogValue) (calls calls' sends sends' : ℕ) : Type 0 where
+  pub home : Going old new ⊎ Gone old new
+  pub costs : calls' + turns_calls (of_oldest new) ≡ calls + turns_calls (of_oldest old)
+  pub sent : sends' + turns_sends (of_oldest new) ≤ sends + turns_sends (of_oldest old)
+
+pub begins_home : (log : LogValue) (calls sends : ℕ) → GoesHome log log calls calls sends sends
+begins_home log calls sends = grind (arith, nat_tests)
+
+-- two steps are three calls and sends, and more are never fewer
+rest : (left : ℕ) → 2 ≤ left → (3 ≤ turns_calls left) × (3 ≤ turns_sends left)
+rest zero two = absurd (omega (arith, two))
+rest (suc zero) two = absurd (omega (arith, two))
+rest (suc (suc zero)) two = (omega arith, omega arith)
+rest (suc (suc (suc left))) two = grind (arith, rest (suc (suc left)))
+
+module _ {old mid : LogValue} {calls calls' sends sends' : ℕ} (so_far : GoesHome old mid calls calls' sends sends') where
+  pub goes_on_home : {new : LogValue} {calls'' sends'' : ℕ} → IsAway mid → IsSentHome mid new → calls'' ≡ calls' + next_calls mid
+      → sends'' ≤ sends' + next_sends mid → GoesHome old new calls calls'' sends sends''
+  goes_on_home away sent made few = grind (arith, nat_tests)
+
+  -- no block is away any more
+  pub all_home : (IsAway mid → ⊥) → mid ≡ gone_home old
+  all_home home = grind (arith, nat_tests)
+
+  pub all_costs : (IsAway mid → ⊥) → calls' ≡ calls + going_calls old
+  all_costs home = grind (arith, nat_tests, rest)
+
+  pub home_stays_head : mid.head ≡ old.head
+  home_stays_head = grind (arith, nat_tests)
+
+  -- one more turn, good or refused, and all that were made
+  pub few_home : {made : ℕ} → IsAway mid → made ≤ sends' + next_sends mid → sends_of_oldest old ≤ most_retire_sends old.shape.format
+      → made ≤ sends + limit_of old.shape.format
+  few_home away more few = grind (arith, nat_tests, rest (of_oldest mid - 1))
+
+  pub all_sends : sends_of_oldest old ≤ most_retire_sends old.shape.format → sends' ≤ sends + limit_of old.shape.format
+  all_sends few = grind (arith, nat_tests, rest)

@@ -1,6 +1,6 @@
 -- Turns of a store follow one another.
-use Rattle.std.proofs.Common.{◌≡◌, ℕ, inl, arith, ◌∙◌, sym, refl, subst, Bool, true, false}
-use Rattle.std.proofs.lemmas.Bool.{cases_Bool, false≢true}
+use Rattle.std.proofs.Common.{◌≡◌, ℕ, inl, arith, ◌∙◌, refl, subst, Bool, true, false}
+use Rattle.std.proofs.lemmas.Bool.{cases_Bool}
 use Rattle.medium.specs.Medium.{State, IsSound}
 use Rattle.medium.specs.Moments.{EachCut, LeavesOnly, IsQuiet, IsUnchanged, SparesFrom}
 use Rattle.spec.specs.Blocks.{Write}
@@ -43,15 +43,7 @@ quiet_turn before after s sound quiet = record {
   fits = λ book f.
       moves f (quiet_held s.log f.view before after quiet f.holds) refl f.under_way f.some refl refl refl;
   cuts = λ book f ours. quiet_leaves (MayFind before.size book) before after sound (exits before s book f ours) quiet;
-  goes_on = record {
-    failures_stay = quiet.failures_stay;
-    size_stays = quiet.size_stays;
-    layout_stays = refl;
-    spares = spared_quiet (sectors_of (layout_of s)) before after sound quiet;
-    blocks_stay = refl;
-    dead_stays = λ dead. dead;
-    cause = λ live died. absurd (false≢true (sym live ∙ died));
-  };
+  goes_on = let spares = spared_quiet (sectors_of (layout_of s)) before after sound quiet in grind (arith, quiet, spares);
 }
 
 -- nothing has happened

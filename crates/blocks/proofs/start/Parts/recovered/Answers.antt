@@ -4,7 +4,7 @@ use Rattle.journal.specs.Places.{sectors_of}
 use Rattle.journal.specs.Formats.{shape_of}
 use Rattle.recovery.specs.declared.start_fault.StartFault.TheVariants.{NoMemory}
 use Rattle.blocks.specs.Started.{MakesParts, RefusesParts}
-use Rattle.blocks.proofs.StartedStore.{started, starts, started_kept}
+use Rattle.blocks.proofs.KnownImages.{started, starts, started_kept}
 use Rattle.blocks.proofs.start.Parts.recovered.Goals as goal
 
 pub returns-in_err-recovered-clause-refused : goal.returns-in_err-recovered-clause-refused

@@ -1,15 +1,8 @@
-use Rattle.std.proofs.Common.{◌/◌, length, rules}
+use Rattle.std.proofs.Common.{◌/◌, length}
 use Rattle.blocks.proofs.LogTurns.{appends_write}
+use Rattle.blocks.proofs.Paid.{kept}
 use Rattle.blocks.proofs.store.Store.append.Goals as goal
 
 pub returns-clause-keeps : goal.returns-clause-keeps
-returns-clause-keeps g c = record {
-  policy = search rules;
-  turn =
-      let m = c.self.inside.medium in
-      let count = length c.args.bytes.now / 512 in
-      rw (← c.self.view_is)
-      (appends_write (g.M.Medium.state m) (g.met.M.Medium.sound m) _ c.put.new.self
-      c.args.address c.args.bytes.now count c.put.ensures.over.map);
-  medium = search rules;
-}
+returns-clause-keeps g c = rw (← c.self.view_is) (kept (appends_write _ (g.met.M.Medium.sound c.self.inside.medium) _ c.put.new.self
+    c.args.address c.args.bytes.now (length c.args.bytes.now / 512) c.put.ensures.over.map))

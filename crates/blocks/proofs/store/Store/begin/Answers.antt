@@ -1,6 +1,7 @@
 use Rattle.std.proofs.Common.{rules}
-use Rattle.blocks.proofs.Batches.{is_batch}
+use Rattle.blocks.proofs.BookTurns.{is_batch}
 use Rattle.blocks.proofs.LogTurns.{begins_record, begins_nothing}
+use Rattle.blocks.proofs.Paid.{kept}
 use Rattle.blocks.proofs.store.Store.begin.Goals as goal
 
 pub begin-requires-clause-batch : goal.begin-requires-clause-batch
@@ -10,16 +11,11 @@ begin-requires-clause-batch g c =
 
 pub returns-in-Ok : goal.returns-in-Ok
 returns-in-Ok g c = record {
-  keeps = record {
-    policy = search rules;
-    turn =
-        let m = c.self.inside.medium in
-        let some = rw (← c.self.view_is) at c.requires.some in
-        rw (← c.self.view_is, c.in-Ok.ensures.ok.1, c.numbers.ensures.value, c.bytes.ensures.value)
-        (begins_record (g.M.Medium.state m) (g.met.M.Medium.sound m) _
-        (rw (← c.self.view_is) at c.requires.room) (is_batch _ c.self.inside.frozen c.self.invariant.frozen some));
-    medium = search rules;
-  };
+  keeps =
+      let some = rw (← c.self.view_is) at c.requires.some in
+      rw (← c.self.view_is, c.in-Ok.ensures.ok.1, c.numbers.ensures.value, c.bytes.ensures.value)
+      (kept (begins_record _ (g.met.M.Medium.sound c.self.inside.medium) _
+      (rw (← c.self.view_is) at c.requires.room) (is_batch _ c.self.inside.frozen c.self.invariant.frozen some)));
   begins = search rules;
   answer = search rules;
   begun = search rules;
@@ -27,15 +23,9 @@ returns-in-Ok g c = record {
 
 pub returns-in-Err : goal.returns-in-Err
 returns-in-Err g c = record {
-  keeps = record {
-    policy = search rules;
-    turn =
-        let m = c.self.inside.medium in
-        rw (← c.self.view_is, c.in-Err.ensures.err.2)
-        (begins_nothing (g.M.Medium.state m) (g.met.M.Medium.sound m) _
-        (rw (← c.self.view_is) at c.requires.room) (rw (← c.self.view_is) at c.requires.some) c.in-Err.ensures.err.1);
-    medium = search rules;
-  };
+  keeps = rw (← c.self.view_is, c.in-Err.ensures.err.2)
+      (kept (begins_nothing _ (g.met.M.Medium.sound c.self.inside.medium) _
+      (rw (← c.self.view_is) at c.requires.room) (rw (← c.self.view_is) at c.requires.some) c.in-Err.ensures.err.1));
   begins = search rules;
   answer = search rules;
   begun = search rules;

@@ -15,8 +15,7 @@ use Rattle.blocks.specs.Steady.{IsFilling, IsSteady}
 use Rattle.blocks.specs.StoreValue.{is_dead, firsts_in}
 use Rattle.blocks.proofs.OneBatchSent.{none_sent, record_sent, room_sent}
 use Rattle.blocks.proofs.Paid.{kept_paid, paid_then, paid_more, rested_paid}
-use Rattle.blocks.proofs.Ready.{made_finished}
-use Rattle.blocks.proofs.Room.{finishes_under_way, finish_begun, flushes_begun}
+use Rattle.blocks.proofs.Room.{made_finished, finishes_under_way, finish_begun, flushes_begun}
 use Rattle.blocks.proofs.Steady.{fills, stays_on}
 use Rattle.blocks.proofs.store.Store.finish.Given.{Over}
 use Rattle.blocks.proofs.store.Store.finish.Goals as goal

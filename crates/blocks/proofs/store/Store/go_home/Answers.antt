@@ -1,8 +1,8 @@
-use Rattle.std.proofs.Common.{refl, ◌∙◌, sym, arith, rules}
+use Rattle.std.proofs.Common.{refl, ◌∙◌, sym, arith}
 use Rattle.std.proofs.lemmas.Bool.{false≢true}
 use Rattle.medium.specs.Sent.{sent}
 use Rattle.redo_log.specs.Value.{IsAway}
-use Rattle.blocks.proofs.OldestHome.{begins_home, goes_on_home, all_home, all_costs, all_sends, few_home, home_stays_head}
+use Rattle.blocks.proofs.Room.{begins_home, goes_on_home, all_home, all_costs, all_sends, few_home, home_stays_head}
 use Rattle.blocks.proofs.Paid.{paid_then, rested_paid}
 use Rattle.blocks.proofs.store.Store.go_home.Given.{Over}
 use Rattle.blocks.proofs.store.Store.go_home.Goals as goal
@@ -17,9 +17,7 @@ loop-self-init g c = record {
   live = c.requires.live;
   home = begins_home _ _ _;
   flushed = refl;
-  idle = c.requires.idle;
-  active = refl;
-  frozen = refl;
+  stays = record { active = refl; frozen = refl; idle = c.requires.idle; head = omega arith };
 }
 
 pub loop-self-preserved : goal.loop-self-preserved
@@ -35,47 +33,35 @@ loop-self-preserved g c =
       home = goes_on_home so_far.home (away g (goal.at.loop-self-preserved g c).After-bring_home) (brings.log live) (brings.calls live)
           brings.sent;
       flushed = brings.flushed ∙ so_far.flushed;
-      idle = brings.stays.idle;
-      active = brings.stays.active ∙ so_far.active;
-      frozen = brings.stays.frozen ∙ so_far.frozen;
+      stays = grind (arith, brings.stays, brings.head, so_far.stays);
     }
 
-pub returns-in_err-bring_home-clause-passes : goal.returns-in_err-bring_home-clause-passes
-returns-in_err-bring_home-clause-passes g c =
+pub returns-in_err-bring_home : goal.returns-in_err-bring_home
+returns-in_err-bring_home g c =
     let so_far = c.loop-self.invariant in
     let first = so_far.passes (sent (g.M.Medium.state c.loop-self.self.medium)) (omega arith) in
-    paid_then g.met.M.Medium.follows_through first so_far.live c.bring_home.ensures.passes
-    (few_home so_far.home (away g (goal.at.returns-in_err-bring_home-clause-passes g c).After-bring_home) c.bring_home.ensures.brings.sent
-    (rw (← c.self.view_is) c.has_room-few.ensures.few))
-
-pub returns-clause-passes : goal.returns-clause-passes
-returns-clause-passes g c =
-    c.loop-self.invariant.passes _ (all_sends c.loop-self.invariant.home (rw (← c.self.view_is) c.has_room-few.ensures.few))
-
-pub returns-in_err-bring_home-clause-going : goal.returns-in_err-bring_home-clause-going
-returns-in_err-bring_home-clause-going g c =
     let brings = c.bring_home.ensures.brings in
-    let head = home_stays_head c.loop-self.invariant.home in
+    let head = home_stays_head so_far.home in
     record {
-      log = search rules;
-      calls = search rules;
-      flushed = search rules;
-      stays = grind (arith, brings.stays, brings.head, head, c.loop-self.invariant.active, c.loop-self.invariant.frozen);
-      head = omega (arith, head, brings.head);
-      answer = search rules;
+      passes = paid_then g.met.M.Medium.follows_through first so_far.live c.bring_home.ensures.passes
+          (few_home so_far.home (away g (goal.at.returns-in_err-bring_home g c).After-bring_home) brings.sent
+          (rw (← c.self.view_is) c.has_room-few.ensures.few));
+      going = grind (arith, c.in_err-bring_home.ensures.answer, brings, head, so_far.stays, so_far.flushed);
     }
 
-pub returns-clause-going : goal.returns-clause-going
-returns-clause-going g c =
+pub returns : goal.returns
+returns g c =
     let so_far = c.loop-self.invariant in
     let home : IsAway c.loop-self.self.cached.log → ⊥ = λ away. false≢true (sym c.loop-self-test.false
     ∙ c.is_away.ensures.1 (rw (← c.self-in-loop-self.view_is) at away)) in
-    let head = home_stays_head so_far.home in
     record {
-      log = λ alive. all_home so_far.home home;
-      calls = λ alive. all_costs so_far.home home;
-      flushed = so_far.flushed;
-      stays = record { active = so_far.active; frozen = so_far.frozen; idle = so_far.idle; head = omega (arith, head) };
-      head = omega (arith, head);
-      answer = so_far.live;
+      passes = so_far.passes _ (all_sends so_far.home (rw (← c.self.view_is) c.has_room-few.ensures.few));
+      going = record {
+        log = λ alive. all_home so_far.home home;
+        calls = λ alive. all_costs so_far.home home;
+        flushed = so_far.flushed;
+        stays = so_far.stays;
+        head = omega (arith, home_stays_head so_far.home);
+        answer = so_far.live;
+      };
     }

@@ -1,9 +1,10 @@
 use Rattle.std.proofs.Common.{◌≡◌, ℕ, false}
 use Rattle.medium.specs.Sent.{sent, SendsUpTo}
 use Rattle.medium.specs.declared.fault.MediumFault.TheVariants.{Flush}
+use Rattle.blocks.specs.Going.{StaysIdle}
 use Rattle.blocks.specs.Passing.{PassesPaid}
 use Rattle.blocks.specs.StoreValue.{is_dead, steps_left}
-use Rattle.blocks.proofs.OldestHome.{GoesHome}
+use Rattle.blocks.proofs.Room.{GoesHome}
 use Rattle.blocks.proofs.store.Store.go_home.Given as goal
 
 abbrev pub invariant-loop-self : goal.invariant-loop-self
@@ -14,9 +15,7 @@ invariant-loop-self g l = record {
   home : GoesHome l.fn.self.cached.log l.self.cached.log (g.M.Medium.state l.fn.self.medium).calls (g.M.Medium.state l.self.medium).calls
       (sent (g.M.Medium.state l.fn.self.medium)) (sent (g.M.Medium.state l.self.medium));
   flushed : (g.M.Medium.state l.self.medium).made Flush ≡ (g.M.Medium.state l.fn.self.medium).made Flush;
-  idle : l.self.cached.log.steps_left ≡ 0;
-  active : l.self.cached.active ≡ l.fn.self.cached.active;
-  frozen : l.self.cached.frozen ≡ l.fn.self.cached.frozen;
+  stays : StaysIdle l.fn.self.cached l.self.cached;
 }
 
 abbrev pub decreases-loop-self : goal.decreases-loop-self

@@ -1,6 +1,6 @@
 use Rattle.std.proofs.Common.{◌≡◌, ◌∙◌, sym, false}
 use Rattle.blocks.specs.StoreValue.{Cached, is_dead}
-use Rattle.blocks.proofs.AllHome.{settled, owes_none, none_left}
+use Rattle.blocks.proofs.EmptyBatches.{settled, owes_none, none_left}
 use Rattle.blocks.proofs.store.Store.is_settled.Goals as goal
 
 pub returns-then-is_empty-clause-settled : goal.returns-then-is_empty-clause-settled

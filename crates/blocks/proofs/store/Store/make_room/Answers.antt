@@ -8,8 +8,7 @@ use Rattle.blocks.specs.StoreValue.{steps_left}
 use Rattle.blocks.proofs.Room.{IsFull, none_counted, one_at_most, counts_more, counts_room, room_is_made, at_most_refused, more_calls}
 use Rattle.blocks.proofs.Room.{more_sends, more_flushes, next_few}
 use Rattle.blocks.specs.Passing.{PassesPaid}
-use Rattle.blocks.proofs.BackgroundCalls.{must_retire}
-use Rattle.blocks.proofs.Paid.{paid_then, on_paid, rested_paid}
+use Rattle.blocks.proofs.Paid.{must_retire, paid_then, on_paid, rested_paid}
 use Rattle.blocks.proofs.store.Store.make_room.Given.{Over}
 use Rattle.blocks.proofs.store.Store.make_room.Goals as goal
 use Rattle.blocks.proofs.store.Store.make_room.Goals.{After-retire}

@@ -1,27 +1,18 @@
-use Rattle.std.proofs.Common.{◌≡◌, ◌∙◌, ℕ, ◌+◌, ap, arith, subst, rules}
-use Rattle.std.proofs.lemmas.Result.{on_ok_weaker}
+use Rattle.std.proofs.Common.{◌≡◌, ◌+◌, ap, arith, subst, rules}
 use Rattle.medium.specs.Medium.{LooksOnly}
-use Rattle.medium.specs.Sent.{sent}
-use Rattle.medium.proofs.CallsSent.{read_sends}
 use Rattle.medium.proofs.Moments.{quiet_call}
 use Rattle.journal.specs.Places.{Shape, first_home}
+use Rattle.blocks.proofs.ReadCalls.{costs_one}
 use Rattle.blocks.proofs.SectorsRead.{home_read}
 use Rattle.blocks.proofs.store.Store.read_at_home.Goals as goal
 
 pub returns : goal.returns
 returns g c =
     let first = ap (λ (s : Shape). first_home s) c.self.invariant.shape in
-    let same = ap (λ v. first_home v.cached.log.shape) c.self.view_is in
     let place : c.home_of.result ≡ first_home c.args.self.now.cached.log.shape + c.args.block =
-    omega (arith, c.home_of.ensures, first, same) in
-    let before = ap (λ v. (g.M.Medium.state v.medium).calls) c.self.view_is in
-    let one = c.read.ensures.passes.calls_are in
+    rw (← c.self.view_is) (omega (arith, c.home_of.ensures, first)) in
     record {
-      ok = on_ok_weaker c.read.result
-          (λ read. read
-          ∙ (ap (λ v. (g.M.Medium.state v.medium).content c.home_of.result) c.self.view_is
-          ∙ ap (λ (s : ℕ). (g.M.Medium.state c.args.self.now.medium).content s) place))
-          c.read.ensures.ok;
+      ok = rw (← place, ← c.self.view_is) c.read.ensures.ok;
       err = search rules;
       keeps = record {
         policy = search rules;
@@ -32,13 +23,5 @@ returns g c =
             (subst (λ m. LooksOnly (λ x. x ≡ c.home_of.result) (g.M.Medium.state m) (g.M.Medium.state c.read.new.self))
             (ap (λ v. v.medium) c.self.view_is) c.read.ensures.follows.1);
       };
-      cost = record {
-        calls = omega (arith, one, before);
-        reads = omega (arith, one, before);
-        exactly = on_ok_weaker c.read.result (λ _. omega (arith, one, before)) c.read.ensures.ok;
-        none_sent =
-            let same = ap (λ v. sent (g.M.Medium.state v.medium)) c.self.view_is in
-            let none = read_sends (g.M.Medium.state c.self.inside.medium) (g.M.Medium.state c.read.new.self) c.read.ensures.passes in
-            omega (arith, none, same);
-      };
+      cost = rw (← c.self.view_is) (costs_one c.read.result c.read.ensures.passes);
     }

@@ -1,6 +1,5 @@
 use Rattle.std.proofs.Common.{◌∙◌, refl, arith, rules}
-use Rattle.blocks.proofs.ReadBlocks.{durable_is, newest_is}
-use Rattle.blocks.proofs.ReadCalls.{reads_newest, reads_copy}
+use Rattle.blocks.proofs.ReadCalls.{durable_is, newest_is, reads_newest, reads_copy}
 use Rattle.blocks.proofs.SectorsRead.{none_read}
 use Rattle.blocks.proofs.store.Store.read_block.Goals as goal
 

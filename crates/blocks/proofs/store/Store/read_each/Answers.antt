@@ -1,7 +1,7 @@
 use Rattle.std.proofs.Common.{◌≡◌, ◌*◌, ◌-◌, ◌+◌, ◌≤◌, subst, arith, rules}
 use Rattle.cache.specs.Places.{HasPlace}
 use Rattle.blocks.specs.StoreValue.{Cached}
-use Rattle.blocks.proofs.ReadRanges.{keeps_turn, all_read, keeps_more, calls_more, block_more}
+use Rattle.blocks.proofs.ReadCalls.{keeps_turn, all_read, keeps_more, calls_more, block_more}
 use Rattle.blocks.proofs.store.Store.read_each.Goals as goal
 
 pub loop-i-preserved : goal.loop-i-preserved

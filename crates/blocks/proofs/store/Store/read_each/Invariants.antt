@@ -1,6 +1,6 @@
 use Rattle.std.proofs.Common.{◌+◌}
 use Rattle.cache.specs.Places.{HasPlace}
-use Rattle.blocks.proofs.ReadRanges.{HasRead}
+use Rattle.blocks.proofs.ReadCalls.{HasRead}
 use Rattle.blocks.proofs.store.Store.read_each.Given as goal
 
 abbrev pub invariant-loop-i : goal.invariant-loop-i

@@ -1,7 +1,7 @@
 use Rattle.std.proofs.Common.{◌≡◌, ◌*◌, ◌/◌, ◌-◌, ◌+◌, length, ◌≤◌, sym, subst, arith, rules}
 use Rattle.blocks.specs.Reads.{IsAtHome}
 use Rattle.blocks.specs.StoreValue.{Cached}
-use Rattle.blocks.proofs.ReadRanges.{none_at, keeps_turn, all_read, keeps_more, calls_more, block_more}
+use Rattle.blocks.proofs.ReadCalls.{none_at, keeps_turn, all_read, keeps_more, calls_more, block_more}
 use Rattle.blocks.proofs.store.Store.read_home.Goals as goal
 
 pub read_home_block-requires-clause-home : goal.read_home_block-requires-clause-home

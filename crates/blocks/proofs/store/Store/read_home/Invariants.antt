@@ -1,4 +1,4 @@
-use Rattle.blocks.proofs.ReadRanges.{HasRead}
+use Rattle.blocks.proofs.ReadCalls.{HasRead}
 use Rattle.blocks.proofs.store.Store.read_home.Given as goal
 
 abbrev pub invariant-loop-i : goal.invariant-loop-i

@@ -1,8 +1,7 @@
 use Rattle.std.proofs.Common.{◌≡◌, ◌∙◌, ℕ, List, [], length, ap, arith, rules}
 use Rattle.redo_log.specs.Value.{LogValue, HasNoCopy}
 use Rattle.redo_log.proofs.StoreFacts.{home_is}
-use Rattle.blocks.proofs.ReadBlocks.{durable_is}
-use Rattle.blocks.proofs.ReadCalls.{reads_copy}
+use Rattle.blocks.proofs.ReadCalls.{durable_is, reads_copy}
 use Rattle.blocks.proofs.store.Store.read_home_block.Goals as goal
 
 -- no record that waits has a copy where none waits

@@ -4,7 +4,7 @@ use Rattle.blocks.specs.Ahead.{may_go_ahead}
 use Rattle.blocks.specs.Started.{IsStarted, LeavesMedium}
 use Rattle.blocks.specs.StoreValue.{Cached, layout_of}
 use Rattle.blocks.proofs.Headroom.{starts_with_room}
-use Rattle.blocks.proofs.StartedStore.{with_policy}
+use Rattle.blocks.proofs.KnownImages.{with_policy}
 use Rattle.blocks.proofs.Steady.{starts_filling, starts_reaching}
 use Rattle.blocks.proofs.store.Store.start_ahead.Goals as goal
 

@@ -8,13 +8,12 @@ use Rattle.blocks.specs.Flushing.{both_flushes}
 use Rattle.blocks.specs.Retiring.{finished, both_calls}
 use Rattle.blocks.specs.Sent.{most_sent, batch_sends}
 use Rattle.blocks.specs.StoreValue.{Cached, StoreValue, firsts_in, steps_left}
-use Rattle.blocks.proofs.AllHome.{none_of}
+use Rattle.blocks.proofs.EmptyBatches.{none_of}
 use Rattle.blocks.proofs.BookTurns.{settles}
 use Rattle.blocks.proofs.FlushesOnce.{both_durable, store_is}
 use Rattle.blocks.proofs.Headroom.{both_each, headroom_finished}
 use Rattle.blocks.proofs.Paid.{swapped_steps, kept_paid, paid_then, paid_more}
-use Rattle.blocks.proofs.Ready.{calls_of, roomy_both}
-use Rattle.blocks.proofs.Room.{flushes_of, once}
+use Rattle.blocks.proofs.Room.{calls_of, roomy_both, flushes_of, once}
 use Rattle.blocks.proofs.Steady.{steady_sync, steady_roomy}
 use Rattle.blocks.proofs.store.Store.sync.Given.{Over}
 use Rattle.blocks.proofs.store.Store.sync.Goals as goal

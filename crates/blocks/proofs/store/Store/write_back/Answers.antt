@@ -6,7 +6,7 @@ use Rattle.blocks.specs.Work.{MayWrite}
 use Rattle.blocks.specs.Written.{IsWritten}
 use Rattle.blocks.proofs.EmptyBatches.{steps_to_write}
 use Rattle.blocks.proofs.Paid.{kept_on, rested_on}
-use Rattle.blocks.proofs.WrittenBack.{live_to_write, some_to_write}
+use Rattle.blocks.proofs.FlushesOnce.{live_to_write, some_to_write}
 use Rattle.blocks.proofs.store.Store.write_back.Given.{Over}
 use Rattle.blocks.proofs.store.Store.write_back.Goals as goal
 use Rattle.blocks.proofs.store.Store.write_back.Goals.{Else-is_written, Then-self, Else-self}
