@@ -2,17 +2,18 @@
 use Rattle.std.proofs.Common.{◌≡◌, ◌≤◌, ◌<◌, ℕ, ◌+◌, ◌*◌, ◌-◌, ⊎_elim, arith, ◌∙◌, sym, ap, subst, refl, Bool, true, false, Option, Some}
 use Rattle.std.proofs.Common.{List, [], ◌∷◌, ◌++◌, length, take, drop, length-append, zero, suc, get_or}
 use Rattle.std.specs.Prelude.{if◌then◌else◌, ◌==◌, nat_le, get_or, slice_range, unwrap_or}
-use Rattle.std.proofs.lemmas.List.{take-append-le, length-map, drop-drop}
+use Rattle.std.proofs.lemmas.List.{take-append-le, drop-drop}
 use Rattle.std.proofs.Math.Seq.{take-length}
 use Rattle.medium.specs.Medium.{State, Image}
 use Rattle.spec.specs.Blocks.{Array, Write, apply, after, chunks}
 use Rattle.journal.specs.Places.{Shape}
-use Rattle.journal.specs.Record.{Entry, numbers_of, with_blocks}
+use Rattle.journal.specs.Record.{with_blocks}
 use Rattle.journal.specs.Standing.{IsOurs}
 use Rattle.redo_log.specs.Value.{LogValue, HasRoom, begun, IsBatch, entries_from, entries_of}
 use Rattle.redo_log.specs.Held.{View, HoldsView, MayLeave, with_record}
+use Rattle.redo_log.proofs.HeldLog.{many}
 use Rattle.redo_log.proofs.StoreFacts.{begun_holds, may_leave_ours}
-use Rattle.cache.specs.Blocks.{Blocks, blocks_of, over, with_range, is_listed, Listed}
+use Rattle.cache.specs.Blocks.{Blocks, blocks_of, over, with_range, Listed}
 use Rattle.cache.specs.Entries.{Entries, map_of}
 use Rattle.cache.proofs.Arrays.{over_put}
 use Rattle.blocks.specs.Book.{Same}
@@ -237,52 +238,40 @@ settles {s = s} no_frozen no_active f =
     shows_book f s.active refl refl (shows_same (shows_promised f.arrays) (λ b below. sym (active middle b ∙ frozen f.view.array b))
     (λ b below. sym (active middle b)) (λ b below. refl)) f.stamps
 
+-- an image that is ours for the blocks after some of the first writes may be found
+pub may_find : {size : ℕ} {book : Book} {shape : Shape} {image : Image} {a : Array} {next : ℕ} (k : ℕ) → book.mark ≤ k
+    → k ≤ length book.writes → shape.blocks ≡ book.blocks → Same book.blocks a (after_first k book) → IsOurs size shape image a next
+    → next ≤ book.stamp + length book.writes + 1 → MayFind size book image
+may_find {size} {book} {shape} {image} {a} {next} k promises accepted blocks same ours bound = record {
+  count = k;
+  next = next;
+  promises = promises;
+  accepted = accepted;
+  stands = stands_as size book.blocks shape image a (after_first k book) next blocks same ours;
+  bound = bound;
+}
+
 -- what a cut may leave of the log may be found
 pub finds : (m : State) (s : Cached) (book : Book) (f : FitsBook m s book) (image : Image) → MayLeave m.size s.log f.view image
     → MayFind m.size book image
 finds m s book f image left =
-    let g : List Entry → List ℕ = λ r. numbers_of r in
-    let as_many : length s.log.waiting ≡ length f.view.records =
-    ap (λ (l : List (List ℕ)). length l) f.holds.durable ∙ length-map f.view.records g in
-    let stamp : ℕ = s.log.head + length f.view.records in
+    let as_many = many f.holds in
+    let a = f.arrays in
     ⊎_elim
-    (λ durable. record {
-      count = f.floor_count;
-      next = stamp + 1;
-      promises = f.arrays.promises;
-      accepted = omega (arith, f.arrays.rises, f.arrays.accepted);
-      stands = stands_as m.size book.blocks s.log.shape image f.view.array (after_first f.floor_count book) (stamp + 1) f.blocks f.arrays.floor_is
-          durable;
-      bound = omega (arith, f.stamps, as_many);
-    })
-    (λ whole. record {
-      count = f.middle_count;
-      next = stamp + 2;
-      promises = omega (arith, f.arrays.promises, f.arrays.rises);
-      accepted = f.arrays.accepted;
-      stands = stands_as m.size book.blocks s.log.shape image (with_blocks f.view.under_way f.view.array)
-          (after_first f.middle_count book) (stamp + 2) f.blocks
-          (λ b below. ap (λ (l : List Entry). with_blocks l f.view.array b) (f.under_way whole.0)
-          ∙ (with_entries s.frozen.numbers s.frozen.bytes f.view.array b ∙ f.arrays.middle_is b below)) whole.1;
-      bound = omega (arith, f.stamps, as_many, f.some whole.0);
-    })
+    (λ durable. may_find f.floor_count a.promises (omega (arith, a.rises, a.accepted)) f.blocks a.floor_is durable
+    (omega (arith, f.stamps, as_many)))
+    (λ whole. may_find f.middle_count (omega (arith, a.promises, a.rises)) a.accepted f.blocks
+    (λ b below. rw (f.under_way whole.0) (with_entries s.frozen.numbers s.frozen.bytes f.view.array b) ∙ a.middle_is b below) whole.1
+    (omega (arith, f.stamps, as_many, f.some whole.0)))
     (may_leave_ours m.size s.log f.view image left)
 
 -- ---- the batches of a store
 
-or_else : (t b : Bool) → b ≡ true → (if t then true else b) ≡ true
-or_else true b e = refl
-or_else false b e = e
-
-itself : (n : ℕ) → (n == n) ≡ true
-itself n = grind (arith, nat_tests)
-
 -- each number of a list is in it
 listed_at : (numbers : List ℕ) (k d : ℕ) → k < length numbers → Listed numbers (get_or numbers k d)
 listed_at [] k d below = absurd (omega (arith, below))
-listed_at (n ∷ numbers) zero d below = ap (λ (t : Bool). if t then true else is_listed numbers n) (itself n)
-listed_at (n ∷ numbers) (suc k) d below =
-    or_else (n == get_or numbers k d) (is_listed numbers (get_or numbers k d)) (listed_at numbers k d (omega (arith, below)))
+listed_at (n ∷ numbers) zero d below = grind (arith, nat_tests)
+listed_at (n ∷ numbers) (suc k) d below = grind (arith, nat_tests, listed_at numbers k d (omega (arith, below)))
 
 -- a batch that holds blocks can be logged
 pub is_batch : (shape : Shape) (batch : Entries) → IsBatchOf shape batch → 0 < length batch.numbers

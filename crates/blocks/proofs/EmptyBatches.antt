@@ -1,13 +1,13 @@
 -- A store whose batches are empty: what fits, what is sent, how many steps are left else, and that at rest everything is at home.
-use Rattle.std.proofs.Common.{◌≡◌, ◌+◌, ◌<◌, ◌≤◌, ℕ, ◌∙◌, sym, ap, refl, arith, true, false, List, [], ◌∷◌, length, ◌⊎◌, Bool, inl, inr}
+use Rattle.std.proofs.Common.{◌≡◌, ◌+◌, ◌<◌, ◌≤◌, ℕ, ◌∙◌, sym, ap, arith, true, false, List, [], length, ◌⊎◌, Bool, inl, inr}
 use Rattle.std.proofs.Common.{subst}
-use Rattle.std.proofs.lemmas.List.{length-map, nil_from_length}
+use Rattle.std.proofs.lemmas.List.{nil_from_length}
 use Rattle.medium.specs.Medium.{State, Image, IsSound}
 use Rattle.medium.specs.Moments.{EachCut}
-use Rattle.spec.specs.Blocks.{Array}
-use Rattle.journal.specs.Record.{Entry, numbers_of, with_records, home_of}
+use Rattle.journal.specs.Record.{home_of}
 use Rattle.redo_log.specs.Value.{LogValue, Owes, retire_steps_of, most_steps}
 use Rattle.journal.specs.Standing.{Keeps}
+use Rattle.redo_log.proofs.HeldLog.{many}
 use Rattle.redo_log.proofs.StoreFacts.{home_is, blocks_guarded, put_head}
 use Rattle.cache.specs.Blocks.{over}
 use Rattle.cache.specs.Entries.{map_of, Entries}
@@ -21,7 +21,6 @@ use Rattle.std.specs.Prelude.{false}
 use Rattle.medium.specs.Sent.{SendsUpTo}
 use Rattle.cache.proofs.Arrays.{unlisted_empty}
 use Rattle.journal.specs.declared.log_format.LogFormat.{LogFormat}
-use Rattle.journal.specs.declared.log_format.LogFormat.TheVariants.{One, Two}
 use Rattle.blocks.specs.OneBatch.{SendsOneBatch}
 use Rattle.blocks.specs.Sent.{most_sent}
 use Rattle.blocks.specs.Written.{IsWritten}
@@ -30,13 +29,7 @@ use Rattle.blocks.specs.Written.{IsWritten}
 
 -- a list without elements is empty
 pub none_of : {A : Type 0} (l : List A) → length l ≤ 0 → l ≡ []
-none_of [] few = refl
-none_of (x ∷ l) few = absurd (omega (arith, few))
-
--- without records the blocks are at home
-home_alone : (records : List (List Entry)) (a : Array) (b : ℕ) → records ≡ [] → with_records records a b ≡ a b
-home_alone [] a b e = refl
-home_alone (r ∷ records) a b e = absurd (cc e)
+none_of l few = nil_from_length l (omega (arith, few))
 
 module _ (m : State) (sound : IsSound m) (s : Cached) (live : is_dead s ≡ false) (none : steps_left s ≡ 0)
     (empty : s.log.waiting ≡ []) where
@@ -49,15 +42,7 @@ module _ (m : State) (sound : IsSound m) (s : Cached) (live : is_dead s ≡ fals
       ∙ f.arrays.now_is b below
 
   no_records : (book : Book) (f : FitsBook m s book) → f.view.records ≡ []
-  no_records book f =
-      let g : List Entry → List ℕ = λ r. numbers_of r in
-      none_of f.view.records
-      (omega (
-        arith,
-        length-map f.view.records g,
-        ap (λ (l : List (List ℕ)). length l) f.holds.durable,
-        ap (λ (l : List (List ℕ)). length l) empty,
-      ))
+  no_records book f = none_of f.view.records (omega (arith, many f.holds, ap (λ (l : List (List ℕ)). length l) empty))
 
   at_home : (book : Book) → FitsBook m s book → IsAtHome (layout_of s) book m.content
   at_home book f b below =
@@ -68,8 +53,7 @@ module _ (m : State) (sound : IsSound m) (s : Cached) (live : is_dead s ≡ fals
   left_home : (book : Book) (f : FitsBook m s book) (b : ℕ) → b < book.blocks → (image : Image)
       → Keeps s.log.shape image s.log.head f.view.records f.view.array → home_of s.log.shape image b ≡ array_of book b
   left_home book f b below image keeps =
-      sym (home_alone f.view.records (home_of s.log.shape image) b (no_records book f))
-      ∙ (keeps.blocks b (omega (arith, below, f.blocks)) ∙ durable book f b below)
+      (rw (no_records book f) at (keeps.blocks b (omega (arith, below, f.blocks)))) ∙ durable book f b below
 
   cut_home : (book : Book) → FitsBook m s book → book.ours ≡ true → EachCut (IsAtHome (layout_of s) book) m
   cut_home book f ours image cut b below =
@@ -114,24 +98,11 @@ both_empty s live (inr none) = (none_of s.frozen.numbers (omega (arith, none)), 
 
 -- where one is, a step is left
 pub steps_to_write : (s : Cached) → ¬ IsWritten s → 0 < steps_left s
-steps_to_write s some = elim (cases_lt 0 (steps_left s)) [
-  | inl left ↦ left
-  | inr none ↦
-      let both = nothing_left s (omega (arith, none)) in
-      let frozen = ap (λ (l : List ℕ). length l) both.0 in
-      let active = ap (λ (l : List ℕ). length l) both.1 in
-      absurd (some (inr (omega (arith, frozen, active))))
-]
+steps_to_write s some = grind (arith, some, nothing_left s)
 
 -- of a live store one is left, or none
 pub written_live : (s : Cached) → is_dead s ≡ false → IsWritten s ⊎ (¬ IsWritten s)
-written_live s live = elim (cases_lt 0 (unwritten s)) [
-  | inl some ↦ inr (λ written. elim written [
-    | inl dead ↦ false≢true (sym live ∙ dead)
-    | inr none ↦ absurd (omega (arith, some, none))
-  ])
-  | inr none ↦ inl (inr (omega (arith, none)))
-]
+written_live s live = grind (arith, live, cases_lt 0 (unwritten s))
 
 -- a range fits beside an empty batch
 pub fits_alone : (s : Cached) (address count : ℕ) → active_of s ≡ [] → count ≤ transfer_limit s
@@ -146,8 +117,7 @@ frozen_as old new same none = ap (λ (batch : Entries). batch.numbers) same ∙ 
 
 -- two calls are no more than those of a batch
 two_fit : (format : LogFormat) → (2 ≤ most_sent format) × (2 ≤ most_steps format)
-two_fit One = (omega arith, omega arith)
-two_fit Two = (omega arith, omega arith)
+two_fit format = grind arith
 
 pub step_sent : (ahead : Bool) (before after : State) (log : LogValue) → SendsUpTo 2 before after → SendsOneBatch ahead before after log
 step_sent ahead before after log two =

@@ -1,7 +1,7 @@
 -- One step ahead, or one that writes back, keeps headroom, and each record makes one flush, whatever calls come between.
-use Rattle.std.proofs.Common.{◌≡◌, ◌⊎◌, ◌<◌, ◌∙◌, inl, inr, sym, refl, arith, length-append, ◌+◌, ap}
+use Rattle.std.proofs.Common.{◌≡◌, ◌⊎◌, ◌<◌, ◌∙◌, inl, inr, refl, arith, length-append, ◌+◌, ap}
 use Rattle.std.specs.Prelude.{ℕ, List, [], ◌∷◌, length, true, false, Bool}
-use Rattle.std.proofs.lemmas.Bool.{false≢true, cases_Bool, cases_lt}
+use Rattle.std.proofs.lemmas.Bool.{cases_Bool, cases_lt}
 use Rattle.std.proofs.lemmas.Bool.Decides.{nat_tests}
 use Rattle.std.proofs.lemmas.List.{nil_from_length}
 use Rattle.medium.specs.Medium.{State}
@@ -54,12 +54,7 @@ go_falls before after old new goes (inr away) live = (goes.brings away).fewer li
 -- it is a step ahead of the store before the flush was counted
 pub as_ahead : (before after : State) (old new : Cached) → is_dead old ≡ false → old.log.steps_left ≡ 0
     → GoesOnAhead before after (with_counted old) new → IsAheadStep true before after old new
-as_ahead before after old new live idle goes = record {
-  dead = λ dead. absurd (false≢true (sym live ∙ dead));
-  plain = λ plain. absurd (false≢true (sym plain));
-  under_way = λ some. absurd (omega (arith, some, idle));
-  goes = λ on lives none. goes;
-}
+as_ahead before after old new live idle goes = grind (arith, live, idle, goes)
 
 -- ---- slots are spared, or a step ahead does something
 
@@ -122,33 +117,6 @@ steps_ahead before after old new step r live = elim (cases_Bool (is_dead old)) [
         | inl stepped ↦ (rests_stepped (counted old.log) new.log counts stepped, next_stepped (counted old.log) new.log stepped ∙ next)
         | inr same ↦ rw same (counts, next)
       ]
-]
-
-headroom_ahead : (before after : State) (old new : Cached) → IsAheadStep true before after old new → HasHeadroom old.log
-    → is_dead new ≡ false → HasHeadroom new.log
-headroom_ahead before after old new step head live =
-    let rests = λ (r : RestsWithRoom old.log). steps_ahead before after old new step r live in
-    grind (arith, step, head, rests)
-
--- one step that writes back
-headroom_back : (before after : State) (old new : Cached) → IsWriteBackStep true before after old new → HasHeadroom old.log
-    → is_dead new ≡ false → HasHeadroom new.log
-headroom_back before after old new step head live = elim (written_or_not old) [
-  | inl done ↦ rw (step.written done).0 head
-  | inr left ↦ elim (cases_lt 0 old.log.steps_left) [
-    | inl some ↦ let made = (step.goes_on left some).live live in rw (landed_stepped made.1 old.log new.log some made.2.log) head
-    | inr few ↦
-        let idle : old.log.steps_left ≡ 0 = omega (arith, few) in
-        let r : RestsWithRoom old.log = grind (arith, head) in
-        elim (may_or_not old.log r) [
-          | inl may ↦
-              let b = step.begins left may in
-              let some = next_some old new b.next (some_to_write old left) in
-              rw ((b.live live).1, landed_begun new.frozen.numbers (firsts_in new.frozen) old.log)
-              (rests_spared new.frozen.numbers (firsts_in new.frozen) old.log r.order some (may.spares refl))
-          | inr not ↦ headroom_ahead before after old new (way_ahead before after old new step left idle r not) head live
-        ]
-  ]
 ]
 
 -- a store is known by its parts
@@ -214,27 +182,37 @@ settles_once ahead before after old new order kind head live =
     let once = λ (progress : Progress). step_once progress old.log new.log head in
     grind (arith, cases_Bool (is_dead old), kind, order, once)
 
-goes_ahead_once : (before after : State) (old new : Cached) → IsAheadStep true before after old new → HasHeadroom old.log
-    → is_dead new ≡ false → after.made Flush + next_durable old.log ≡ before.made Flush + next_durable new.log
-goes_ahead_once before after old new step head live =
-    let rests = λ (r : RestsWithRoom old.log). steps_ahead before after old new step r live in
-    grind (arith, step, rests, head)
+-- it leaves headroom, and its flushes are those of the records that became durable
+abbrev Spared : State → State → Cached → Cached → Type 0
+Spared before after old new = HasHeadroom new.log × (after.made Flush + next_durable old.log ≡ before.made Flush + next_durable new.log)
 
-writes_back_once : (before after : State) (old new : Cached) → IsWriteBackStep true before after old new → HasHeadroom old.log
-    → is_dead new ≡ false → after.made Flush + next_durable old.log ≡ before.made Flush + next_durable new.log
-writes_back_once before after old new step head live = elim (written_or_not old) [
-  | inl done ↦ grind (arith, step.written done)
+spared_ahead : (before after : State) (old new : Cached) → IsAheadStep true before after old new → HasHeadroom old.log
+    → is_dead new ≡ false → Spared before after old new
+spared_ahead before after old new step head live =
+    let rests = λ (r : RestsWithRoom old.log). steps_ahead before after old new step r live in
+    (grind (arith, step, head, rests), grind (arith, step, rests, head))
+
+spared_back : (before after : State) (old new : Cached) → IsWriteBackStep true before after old new → HasHeadroom old.log
+    → is_dead new ≡ false → Spared before after old new
+spared_back before after old new step head live = elim (written_or_not old) [
+  | inl done ↦ (rw (step.written done).0 head, grind (arith, step.written done))
   | inr left ↦ elim (cases_lt 0 old.log.steps_left) [
     | inl some ↦
         let made = (step.goes_on left some).live live in
         let one = step_once made.1 old.log new.log head some made.2.log in
-        omega (arith, (step.goes_on left some).flushed, one)
+        (rw (landed_stepped made.1 old.log new.log some made.2.log) head, omega (arith, (step.goes_on left some).flushed, one))
     | inr few ↦
         let idle : old.log.steps_left ≡ 0 = omega (arith, few) in
         let r : RestsWithRoom old.log = grind (arith, head) in
         elim (may_or_not old.log r) [
-          | inl may ↦ let b = step.begins left may in grind (arith, b.unchanged, (b.live live).1)
-          | inr not ↦ goes_ahead_once before after old new (way_ahead before after old new step left idle r not) head live
+          | inl may ↦
+              let b = step.begins left may in
+              let some = next_some old new b.next (some_to_write old left) in
+              let rests = rests_spared new.frozen.numbers (firsts_in new.frozen) old.log r.order some (may.spares refl) in (
+                rw ((b.live live).1, landed_begun new.frozen.numbers (firsts_in new.frozen) old.log) rests,
+                grind (arith, b.unchanged, (b.live live).1),
+              )
+          | inr not ↦ spared_ahead before after old new (way_ahead before after old new step left idle r not) head live
         ]
   ]
 ]
@@ -242,8 +220,8 @@ writes_back_once before after old new step head live = elim (written_or_not old)
 work_once : (work : Work) (ahead : Bool) (before after : State) (old new : Cached) → IsWork work ahead before after old new
     → RetiresNone work ahead old → FlushesOnce ahead before after old new
 work_once Settle ahead before after old new is kind on head live = settles_once ahead before after old new is kind head live
-work_once Ahead ahead before after old new is kind on head live = goes_ahead_once before after old new (rw on at is) head live
-work_once WriteBack ahead before after old new is kind on head live = writes_back_once before after old new (rw on at is) head live
+work_once Ahead ahead before after old new is kind on head live = (spared_ahead before after old new (rw on at is) head live).1
+work_once WriteBack ahead before after old new is kind on head live = (spared_back before after old new (rw on at is) head live).1
 
 -- a step of the work leaves headroom
 pub does_work : {M : Type 0} {state : M → State} {Follows : M → M → Type 0} {work : Work} {old new : StoreValue M}
@@ -260,8 +238,8 @@ does_work {state = state} {work = work} {old = old} {new = new} made = record {
     headroom_work : (work : Work) (before after : State) (old new : Cached) → IsWork work true before after old new → HasHeadroom old.log
         → is_dead new ≡ false → HasHeadroom new.log
     headroom_work Settle before after old new is head live = headroom_stepped before after old new is head live
-    headroom_work Ahead before after old new is head live = headroom_ahead before after old new is head live
-    headroom_work WriteBack before after old new is head live = headroom_back before after old new is head live
+    headroom_work Ahead before after old new is head live = (spared_ahead before after old new is head live).0
+    headroom_work WriteBack before after old new is head live = (spared_back before after old new is head live).0
 
 -- ---- one call after another
 

@@ -1,16 +1,14 @@
 -- A store that goes ahead keeps headroom, turn by turn, and its records flush once each.
-use Rattle.std.proofs.Common.{◌≡◌, ◌⊎◌, ◌<◌, ◌≤◌, ◌+◌, ◌∙◌, sym, arith, length-append, inl, inr}
-use Rattle.std.specs.Prelude.{ℕ, List, [], ◌∷◌, length, drop, true, false, Result, Ok, Err, OnOk}
-use Rattle.std.proofs.lemmas.Bool.{false≢true, cases_Bool, cases_lt}
+use Rattle.std.proofs.Common.{◌≡◌, ◌⊎◌, ◌<◌, ◌≤◌, ◌+◌, arith, length-append, inl, inr}
+use Rattle.std.specs.Prelude.{ℕ, List, [], ◌∷◌, length, drop, true, false}
+use Rattle.std.proofs.lemmas.Bool.{cases_Bool, cases_lt}
 use Rattle.std.proofs.lemmas.List.{nil_from_length}
 use Rattle.std.proofs.lemmas.Bool.Decides.{nat_tests}
 use Rattle.journal.specs.declared.log_format.LogFormat.TheVariants.{Two}
 use Rattle.medium.specs.Medium.{State}
 use Rattle.redo_log.specs.Value.{LogValue, IsRetireStepped, IsStepped, begun, of_oldest}
 use Rattle.redo_log.specs.declared.progress.Progress.{Progress}
-use Rattle.blocks.specs.declared.fault.StoreFault.{StoreFault}
 use Rattle.blocks.specs.Background.{IsBackgroundStep, MayBegin}
-use Rattle.blocks.specs.Passing.{TellsLife}
 use Rattle.blocks.specs.Started.{IsStarted}
 use Rattle.blocks.specs.Ahead.{oldest_retired, passed, sent_home, ahead_room, may_go_ahead}
 use Rattle.blocks.specs.Headroom.{IsInOrder, RestsWithRoom, HasHeadroom, landed}
@@ -146,11 +144,6 @@ headroom_stepped before after old new order head live =
         ]
       ]
     ]
-
--- what a good call of a live store made
-pub ok_of : {A X : Type 0} (result : Result A StoreFault) (s : Cached) → TellsLife result s → is_dead s ≡ false → OnOk result X → X
-ok_of (Ok x) s tells live made = made
-ok_of (Err e) s tells live made = absurd (false≢true (sym live ∙ tells.1))
 
 -- ---- a store that starts
 

@@ -1,5 +1,5 @@
 -- What is known of an image by the books for which it stands, and the store that a recovery starts.
-use Rattle.std.proofs.Common.{◌≡◌, ◌≤◌, ◌<◌, ◌^◌, ℕ, ◌+◌, ⊎_elim, arith, ◌∙◌, sym, ap, subst, refl, Bool, true, false, Option, None, Some}
+use Rattle.std.proofs.Common.{◌≡◌, ◌≤◌, ◌<◌, ◌^◌, ℕ, ⊎_elim, arith, ◌∙◌, sym, ap, subst, refl, Bool, true, false, Option, None, Some}
 use Rattle.std.proofs.Common.{List, [], ◌∷◌, take, inl, rules}
 use Rattle.std.proofs.lemmas.Bool.{false≢true}
 use Rattle.medium.specs.Medium.{State, Image, IsSound}
@@ -17,7 +17,7 @@ use Rattle.blocks.specs.Finding.{StandsAs, MayFind, FoundWith}
 use Rattle.blocks.specs.StoreValue.{Cached, layout_of, blocks_of, FitsBook}
 use Rattle.blocks.specs.Opening.{StandsForOpening, OpensOn, IsCauseFor}
 use Rattle.blocks.specs.Started.{IsStartCause, IsStarted}
-use Rattle.blocks.proofs.BookTurns.{stands_as, apply_same, shows_book}
+use Rattle.blocks.proofs.BookTurns.{stands_as, apply_same, shows_book, may_find}
 use Rattle.std.specs.Prelude.{Bool, true}
 use Rattle.journal.specs.declared.super_sector.Super.{Super}
 use Rattle.journal.specs.declared.log_format.LogFormat.{LogFormat}
@@ -114,19 +114,6 @@ opens_on m shape array next stood = record {
 
 module _ (before after : State) (sound : IsSound after) (size_stays : after.size ≡ before.size) (book : Book) (on : OpensOn before book)
     (flushed : IsFlushed before) where
-  -- an image that is ours for the blocks of the book, with its stamp or the next
-  may_find_by : (image : Image) (next : ℕ) (shape : Shape) (found : Array) → shape.blocks ≡ book.blocks
-      → ((x : ℕ) → x < book.blocks → book.opening x ≡ found x) → next ≤ book.stamp + 1 → IsOurs before.size shape image found next
-      → MayFind before.size (opened book.blocks book.opening book.stamp book.ours) image
-  may_find_by image next shape found same blocks_same bound is_ours = record {
-    count = 0;
-    next = next;
-    promises = omega arith;
-    accepted = omega arith;
-    stands = stands_as before.size book.blocks shape image found book.opening next same (λ b below. sym (blocks_same b below)) is_ours;
-    bound = omega (arith, bound);
-  }
-
   -- where nothing was unflushed, a cut leaves what may be found of a book that opens
   pub finds : LeavesOnly (StandsForOneOf before) before after → EachCut (MayFind after.size book) after
   finds cuts image cut =
@@ -139,12 +126,12 @@ module _ (before after : State) (sound : IsSound after) (size_stays : after.size
       let blocks_same : one.shape.blocks ≡ book.blocks = sym (ap (λ (x : Shape). x.blocks) same.0) ∙ on.stands.1 in
       let arrays : Same book.blocks book.opening one.array = subst (λ (n : ℕ). Same n book.opening one.array) on.stands.1 same.2 in
       let stamps : book.stamp ≡ one.next = same.1 in
-      subst (λ (n : ℕ). MayFind n book image) (sym size_stays)
-      (subst (λ (b : Book). MayFind before.size b image) (sym on.opens)
-      (⊎_elim
-      (λ is. may_find_by image one.next one.shape one.array blocks_same arrays (omega (arith, stamps)) is)
-      (λ is. may_find_by image (one.next + 1) one.shape one.array blocks_same arrays (omega (arith, stamps)) is)
-      one.is))
+      let none = ap (λ (b : Book). b.mark) on.opens in
+      let found = λ (b : ℕ) (below : b < book.blocks). sym (arrays b below) in
+      rw size_stays (⊎_elim
+      (λ is. may_find 0 (omega (arith, none)) (omega arith) blocks_same found is (omega (arith, stamps)))
+      (λ is. may_find 0 (omega (arith, none)) (omega arith) blocks_same found is (omega (arith, stamps)))
+      one.is)
 
 -- ---- why a start is refused
 

@@ -1,17 +1,16 @@
 -- The turns of the store's own functions, from what the log's calls do.
-use Rattle.std.proofs.Common.{◌≡◌, ◌≤◌, ◌<◌, ℕ, ◌+◌, ◌-◌, ◌*◌, ◌^◌, inl, inr, arith, ◌∙◌, sym, refl, ap, true, false, Bool, List, [], ◌∷◌}
+use Rattle.std.proofs.Common.{◌≡◌, ◌≤◌, ◌<◌, ℕ, ◌+◌, ◌-◌, ◌*◌, ◌^◌, inl, inr, arith, ◌∙◌, refl, ap, true, false, Bool, List, [], ◌∷◌}
 use Rattle.std.proofs.Common.{length, length-append}
 use Rattle.std.specs.Prelude.{Result, Ok, Err}
-use Rattle.std.proofs.lemmas.Bool.{false≢true, cases_lt, cases_Bool}
+use Rattle.std.proofs.lemmas.Bool.{cases_lt, cases_Bool}
 use Rattle.std.proofs.lemmas.Bool.Decides.{nat_tests}
-use Rattle.std.proofs.lemmas.List.{length-map, nil_from_length}
+use Rattle.std.proofs.lemmas.List.{nil_from_length}
 use Rattle.medium.specs.Medium.{State, IsSound}
 use Rattle.medium.specs.Moments.{LeavesOnly}
 use Rattle.medium.proofs.Moments.{started, weaker}
 use Rattle.medium.proofs.SparedSectors.{spared_start}
 use Rattle.journal.specs.Places.{sectors_of}
 use Rattle.journal.specs.declared.super_sector.Super.{Super}
-use Rattle.journal.specs.Record.{Entry, numbers_of}
 use Rattle.redo_log.specs.Value.{LogValue, Owes, CanPass, IsAway, IsSentHome, HasRoom, begun, died, IsCovered, IsRetireStepped, IsBatch}
 use Rattle.redo_log.specs.Value.{settled, entries_of, pass_calls, ahead_calls, next_calls, next_sends, next_turn_flushes}
 use Rattle.redo_log.specs.Held.{View, HoldsView, stamps_of}
@@ -19,6 +18,7 @@ use Rattle.redo_log.specs.Steps.{MakesTurns, MakesStep, CountsStep, LeavesLog}
 use Rattle.redo_log.specs.declared.fault.LogFault.{LogFault}
 use Rattle.redo_log.specs.declared.progress.Progress.{Progress}
 use Rattle.redo_log.specs.declared.progress.Progress.TheVariants.{More, Durable}
+use Rattle.redo_log.proofs.HeldLog.{many}
 use Rattle.redo_log.proofs.StoreFacts.{died_holds, settled_holds}
 use Rattle.spec.specs.Blocks.{chunks, Write}
 use Rattle.cache.specs.Blocks.{with_range}
@@ -69,21 +69,18 @@ cuts_found before after s leaves book f ours =
     weaker _ (MayFind before.size book) before after (λ image left. finds before s book f image left)
     (leaves.cuts f.view f.holds (f.ours ∙ ours))
 
--- no count has fallen, and the store lives as it did, or a call was refused
-goes_on : (before after : State) (old new : Cached) → LeavesLog old.log before after → before.failures ≤ after.failures
-    → after.size ≡ before.size → new.log.shape ≡ old.log.shape → (old.log.dead ≡ true → new.log.dead ≡ true)
-    → (old.log.dead ≡ false → new.log.dead ≡ true → before.failures < after.failures) → GoesOn before after old new
-goes_on before after old new leaves failures size shape stays died = grind (arith, leaves.spares, failures, size, shape, stays, died)
+-- so it is a turn
+turned : {before after : State} {s new : Cached} → ((book : Book) → FitsBook before s book → FitsBook after new book)
+    → LeavesLog s.log before after → GoesOn before after s new → IsTurn before after s new
+turned {before} {after} {s} fits leaves goes_on = record { fits = fits; cuts = cuts_found before after s leaves; goes_on = goes_on }
 
 -- the medium is refused it, and the log is dead
 dies : (before after : State) (s : Cached) (log' : LogValue) → log' ≡ died s.log → after.failures ≡ before.failures + 1
     → after.size ≡ before.size → ((book : Book) (f : FitsBook before s book) → HoldsView log' after f.view) → LeavesLog s.log before after
     → IsTurn before after s (record s { log = log' })
-dies before after s log' is grew size holds leaves = record {
-  fits = λ book f. moves f (holds book f) refl (rw is f.under_way) (rw is f.some) refl (rw is refl) (rw is refl);
-  cuts = cuts_found before after s leaves;
-  goes_on = goes_on before after s _ leaves (omega (arith, grew)) size (rw is refl) (λ dead. rw is refl) (λ live dead. omega (arith, grew));
-}
+dies before after s log' is grew size holds leaves =
+    turned (λ book f. moves f (holds book f) refl (rw is f.under_way) (rw is f.some) refl (rw is refl) (rw is refl)) leaves
+    (grind (arith, leaves.spares, is, grew, size))
 
 -- what was true of the store's fields is so where the log came further, or died
 still_kept : {before after : ℕ} {sizes : Super} {s : Cached} {log' : LogValue} {writing ahead : Bool} → after ≡ before
@@ -112,13 +109,9 @@ module _ {M : Type 0} {state : M → State} {Follows : M → M → Type 0} {None
       → KeepsArray after → (Done → Stays s.log log') → IsTurn (state m) (state n) s (record s { log = log' })
   turn_made (Ok x) called same stays =
       let stay = stays called.answers.ok in
-      record {
-        fits = λ book f. moves f (called.holds f.view f.holds) (same f.view).0 (rw (stay.steps, (same f.view).1) f.under_way)
-            (rw stay.steps f.some) (same f.view).2 stay.shape stay.stamp;
-        cuts = cuts_found (state m) (state n) s called.leaves;
-        goes_on = goes_on (state m) (state n) s _ called.leaves (omega (arith, called.passes.failures)) called.passes.size stay.shape
-            (λ dead. stay.dead ∙ dead) (λ live dead. absurd (false≢true (sym (stay.dead ∙ live) ∙ dead)));
-      }
+      turned (λ book f. moves f (called.holds f.view f.holds) (same f.view).0 (rw (stay.steps, (same f.view).1) f.under_way)
+      (rw stay.steps f.some) (same f.view).2 stay.shape stay.stamp) called.leaves
+      (grind (arith, called.leaves.spares, called.passes.failures, called.passes.size, stay))
   turn_made (Err e) called same stays = dies (state m) (state n) s log' called.answers.err called.passes.failures called.passes.size
       (λ book f. called.holds f.view f.holds) called.leaves
 
@@ -170,29 +163,31 @@ stepped (Ok More) s log' none = record s { log = log' }
 stepped (Ok Durable) s log' none = record { log = log'; active = s.active; frozen = none }
 stepped (Err e) s log' none = record s { log = log' }
 
-pub step_turn : {M : Type 0} {state : M → State} {Follows : M → M → Type 0} {m n : M} (result : Result Progress LogFault) (s : Cached)
+step_turn : {M : Type 0} {state : M → State} {Follows : M → M → Type 0} {m n : M} (result : Result Progress LogFault) (s : Cached)
     (log' : LogValue) (none : Entries) → none.numbers ≡ [] → 0 < s.log.steps_left
     → MakesStep state Follows (entries_of s.frozen.numbers s.frozen.bytes) result s.log log' m n
     → IsTurn (state m) (state n) s (stepped result s log' none)
-step_turn {state = state} {m = m} {n = n} (Ok More) s log' none empty some called =
-    let is = called.answers.ok.1 in record {
-      fits = λ book f. moves f (called.holds f.view f.holds (f.under_way some)) refl (λ more. f.under_way some) (λ more. f.some some) refl
-          (rw is refl) (rw is refl);
-      cuts = cuts_found (state m) (state n) s called.leaves;
-      goes_on = goes_on (state m) (state n) s _ called.leaves (omega (arith, called.passes.failures)) called.passes.size (rw is refl)
-          (λ dead. rw is dead) (λ live dead. absurd (false≢true (sym live ∙ rw is at dead)));
-    }
-step_turn {state = state} {m = m} {n = n} (Ok Durable) s log' none empty some called =
-    let is = called.answers.ok.1 in record {
-      fits = λ book f. becomes_durable f some empty (called.holds f.view f.holds (f.under_way some))
-          (rw is refl) (rw is refl) (rw is (length-append s.log.waiting (s.log.under_way ∷ []))) (rw is refl);
-      cuts = cuts_found (state m) (state n) s called.leaves;
-      goes_on = goes_on (state m) (state n) s _ called.leaves (omega (arith, called.passes.failures)) called.passes.size (rw is refl)
-          (λ dead. rw is dead) (λ live dead. absurd (false≢true (sym live ∙ rw is at dead)));
-    }
+step_turn (Ok More) s log' none empty some called =
+    let is = called.answers.ok.1 in
+    turned (λ book f. moves f (called.holds f.view f.holds (f.under_way some)) refl (λ more. f.under_way some) (λ more. f.some some) refl
+    (rw is refl) (rw is refl)) called.leaves (grind (arith, called.leaves.spares, called.passes.failures, called.passes.size, is))
+step_turn (Ok Durable) s log' none empty some called =
+    let is = called.answers.ok.1 in
+    turned (λ book f. becomes_durable f some empty (called.holds f.view f.holds (f.under_way some)) (rw is refl) (rw is refl)
+    (rw is (length-append s.log.waiting (s.log.under_way ∷ []))) (rw is refl)) called.leaves
+    (grind (arith, called.leaves.spares, called.passes.failures, called.passes.size, is))
 step_turn {state = state} {m = m} {n = n} (Err e) s log' none empty some called =
     dies (state m) (state n) s log' called.answers.err called.passes.failures called.passes.size
     (λ book f. called.holds f.view f.holds (f.under_way some)) called.leaves
+
+pub passes_step : {M : Type 0} {state : M → State} {Follows : M → M → Type 0} {m n : M} (ahead : Bool) (result : Result Progress LogFault)
+    (s : Cached) (log' : LogValue) (none : Entries) → none.numbers ≡ [] → 0 < s.log.steps_left
+    → MakesStep state Follows (entries_of s.frozen.numbers s.frozen.bytes) result s.log log' m n
+    → PassesOn state Follows IsTurn 1 1 (record { medium = m; cached = s; goes_ahead = ahead })
+    (record { medium = n; cached = stepped result s log' none; goes_ahead = ahead })
+passes_step ahead result s log' none empty some called =
+    let turn = step_turn result s log' none empty some called in
+    grind (arith, turn, called.answers, called.passes, called.leaves.looks)
 
 -- ---- where no call is made
 
@@ -234,15 +229,7 @@ module _ (m : State) (sound : IsSound m) (s : Cached) where
     goes_on =
         let spares = spared_start (sectors_of (layout_of s)) m sound in
         let out : (book : Book) → FitsBook m s book → 2 ^ 63 - 1 ≤ book.stamp + length book.writes = λ book f.
-        omega (
-          arith,
-          f.stamps,
-          f.holds.next,
-          ap (λ (l : List (List ℕ)). length l) f.holds.durable,
-          length-map f.view.records (λ (r : List Entry). numbers_of r),
-          last,
-          ap (λ (l : List ℕ). stamps_of l) room.none_under_way,
-        ) in
+        omega (arith, f.stamps, f.holds.next, many f.holds, last, ap (λ (l : List ℕ). stamps_of l) room.none_under_way) in
         grind (arith, spares, out);
   }
 

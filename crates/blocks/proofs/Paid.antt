@@ -2,7 +2,7 @@
 use Rattle.std.proofs.Common.{◌≡◌, ◌<◌, ◌+◌, inl, inr, arith, sym, ◌∙◌, Bool, true, false, length, ◌≤◌, ◌*◌, ℕ, ap, refl}
 use Rattle.std.proofs.lemmas.Bool.{false≢true, cases_lt}
 use Rattle.medium.specs.Medium.{State, IsSound}
-use Rattle.blocks.specs.StoreValue.{Cached, is_dead, steps_left, StoreValue, batch_steps, steps_for, waiting}
+use Rattle.blocks.specs.StoreValue.{Cached, is_dead, steps_left, StoreValue}
 use Rattle.blocks.specs.Turns.{IsPaid, IsTurn, IsWriteTurn}
 use Rattle.medium.specs.Sent.{sent, SendsUpTo}
 use Rattle.spec.specs.Blocks.{Write}
@@ -44,13 +44,7 @@ kept turn = record { turn = turn; medium = refl; policy = refl }
 
 -- both batches change places where no record is under way, and as many steps are left
 pub swapped_steps : (s : Cached) → s.log.steps_left ≡ 0 → steps_left (record s { active = s.frozen; frozen = s.active }) ≤ steps_left s
-swapped_steps s idle =
-    let active = at_rest s.log.steps_left (steps_for (batch_steps s) s.active.numbers) idle in
-    let frozen = at_rest s.log.steps_left (steps_for (batch_steps s) s.frozen.numbers) idle in
-    omega (arith, active, frozen)
-  where
-    at_rest : (left steps : ℕ) → left ≡ 0 → waiting left steps ≡ steps
-    at_rest left steps none = ap (λ (n : ℕ). waiting n steps) none
+swapped_steps s idle = grind (arith, idle)
 
 module _ {M : Type 0} {state : M → State} {Follows : M → M → Type 0} where
   -- no call was made

@@ -3,53 +3,44 @@ use Rattle.std.proofs.Common.{◌≡◌, ◌<◌, ◌≤◌, ◌+◌, ℕ, inl, 
 use Rattle.medium.specs.Medium.{State, LooksOnly}
 use Rattle.medium.proofs.SectorsRead.{no_looks, one_look, looks_joined, looks_wider}
 use Rattle.journal.specs.Places.{Shape, first_home}
-use Rattle.blocks.specs.Looks.{LooksAtLog, IsLogOrHome, LooksAtBlocks}
+use Rattle.blocks.specs.Looks.{LooksAtLog, LooksAtBlocks}
 use Rattle.blocks.specs.StoreValue.{Cached, layout_of}
 
 -- no read was made
 pub none : (before after : State) (s : Cached) → after.looked ≡ before.looked → LooksAtLog before after s
-none before after s same = no_looks (λ x. x < first_home (layout_of s)) before after same
+none before after s same = no_looks _ before after same
 
 -- calls of one store, and then of the store that it became
 pub looks_on : (before mid after : State) (old half : Cached) → layout_of half ≡ layout_of old → LooksAtLog before mid old
     → LooksAtLog mid after half → LooksAtLog before after old
 looks_on before mid after old half layout first last =
-    looks_joined (λ x. x < first_home (layout_of old)) before mid after first
-    (subst (λ (shape : Shape). LooksOnly (λ x. x < first_home shape) mid after) layout last)
+    looks_joined _ before mid after first (subst (λ (shape : Shape). LooksOnly (λ x. x < first_home shape) mid after) layout last)
 
 -- none of a READ
 pub none_read : (before after : State) (s : Cached) (address count : ℕ) → after.looked ≡ before.looked
     → LooksAtBlocks before after s address count
-none_read before after s address count same = no_looks (IsLogOrHome (first_home (layout_of s)) address count) before after same
+none_read before after s address count same = no_looks _ before after same
 
 -- reads of the log alone
 pub log_read : (before after : State) (s : Cached) (address count : ℕ) → LooksAtLog before after s
     → LooksAtBlocks before after s address count
-log_read before after s address count looks =
-    looks_wider (λ x. x < first_home (layout_of s)) (IsLogOrHome (first_home (layout_of s)) address count) before after
-    (λ x low. inl low) looks
+log_read before after s address count looks = looks_wider _ _ before after (λ x low. inl low) looks
 
 -- the read of a block at home
 pub home_read : (before after : State) (s : Cached) (block sector : ℕ) → sector ≡ first_home (layout_of s) + block
     → LooksOnly (λ x. x ≡ sector) before after → LooksAtBlocks before after s block 1
 home_read before after s block sector is look =
-    one_look (IsLogOrHome (first_home (layout_of s)) block 1) before after sector (inr (omega (arith, is), omega (arith, is))) look
+    one_look _ before after sector (inr (omega (arith, is), omega (arith, is))) look
 
 -- the blocks before it were read, and it was
 pub one_more : (before mid after : State) (old half : Cached) (address i : ℕ) → half ≡ old → LooksAtBlocks before mid old address i
     → LooksAtBlocks mid after half (address + i) 1 → LooksAtBlocks before after old address (i + 1)
 one_more before mid after old half address i same first last =
     let here = subst (λ (s : Cached). LooksAtBlocks mid after s (address + i) 1) same last in
-    looks_joined (IsLogOrHome (first_home (layout_of old)) address (i + 1)) before mid after
-    (looks_wider (IsLogOrHome (first_home (layout_of old)) address i) (IsLogOrHome (first_home (layout_of old)) address (i + 1)) before mid
-    (λ x named. grind (arith, named)) first)
-    (looks_wider (IsLogOrHome (first_home (layout_of old)) (address + i) 1)
-    (IsLogOrHome (first_home (layout_of old)) address (i + 1)) mid after
-    (λ x named. grind (arith, named)) here)
+    looks_joined _ before mid after (looks_wider _ _ before mid (λ x named. grind (arith, named)) first)
+    (looks_wider _ _ mid after (λ x named. grind (arith, named)) here)
 
 -- what looks at few blocks at most looks at many at most
 pub fewer_read : (before after : State) (s : Cached) (address few many : ℕ) → few ≤ many → LooksAtBlocks before after s address few
     → LooksAtBlocks before after s address many
-fewer_read before after s address few many le looks =
-    looks_wider (IsLogOrHome (first_home (layout_of s)) address few) (IsLogOrHome (first_home (layout_of s)) address many) before after
-    (λ x named. grind (arith, named, le)) looks
+fewer_read before after s address few many le looks = looks_wider _ _ before after (λ x named. grind (arith, named, le)) looks

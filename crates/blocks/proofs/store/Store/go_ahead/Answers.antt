@@ -9,7 +9,7 @@ use Rattle.blocks.specs.Retiring.{HasSlots}
 use Rattle.blocks.proofs.Paid.{kept_paid, paid_more, paid_then, rested_paid}
 use Rattle.blocks.proofs.store.Store.go_ahead.Given.{Over}
 use Rattle.blocks.proofs.store.Store.go_ahead.Goals as goal
-use Rattle.blocks.proofs.store.Store.go_ahead.Goals.{After-pass_head, Else-has_slots, In_ok-pass_head}
+use Rattle.blocks.proofs.store.Store.go_ahead.Goals.{Else-has_slots, After-pass_head, In_ok-pass_head}
 
 -- fewer slots are free than three
 few : (g : Over) (c : Else-has_slots g) → HasSlots 3 c.args.self.now.cached.log → ⊥

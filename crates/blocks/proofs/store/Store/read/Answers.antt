@@ -1,27 +1,27 @@
-use Rattle.std.proofs.Common.{◌/◌, length, ap, arith, rules}
+use Rattle.std.proofs.Common.{◌≤◌, ◌+◌, ◌/◌, ◌^◌, length, ap, refl, arith, rules}
 use Rattle.journal.specs.Places.{Shape}
 use Rattle.medium.proofs.Moments.{quiet_start}
 use Rattle.blocks.proofs.TurnsJoined.{quiet_turn}
 use Rattle.blocks.proofs.SectorsRead.{none_read}
+use Rattle.blocks.proofs.store.Store.read.Given.{Over}
 use Rattle.blocks.proofs.store.Store.read.Goals as goal
+use Rattle.blocks.proofs.store.Store.read.Goals.{Else-is_dead}
+
+-- the number of a block is small
+small : (g : Over) (c : Else-is_dead g) → c.args.address + length c.args.to.now / 512 ≤ 2 ^ 31
+small g c =
+    let blocks = ap (λ (s : Shape). s.blocks) c.self.invariant.shape in
+    let same = ap (λ v. v.cached.log.shape.blocks) c.self.view_is in
+    omega (arith, blocks, same, c.self.inside.sizes.most_blocks, c.requires.inside)
 
 pub are_at_home-requires : goal.are_at_home-requires
-are_at_home-requires g c =
-    let blocks = ap (λ (s : Shape). s.blocks) c.self.invariant.shape in
-    let same = ap (λ v. v.cached.log.shape.blocks) c.self.view_is in
-    omega (arith, blocks, same, c.self.inside.sizes.most_blocks, c.requires.inside)
+are_at_home-requires g c = small g (goal.at.are_at_home-requires g c).Else-is_dead
 
 pub read_home-requires-clause-small : goal.read_home-requires-clause-small
-read_home-requires-clause-small g c =
-    let blocks = ap (λ (s : Shape). s.blocks) c.self.invariant.shape in
-    let same = ap (λ v. v.cached.log.shape.blocks) c.self.view_is in
-    omega (arith, blocks, same, c.self.inside.sizes.most_blocks, c.requires.inside)
+read_home-requires-clause-small g c = small g (goal.at.read_home-requires-clause-small g c).Else-is_dead
 
 pub read_each-requires-clause-small : goal.read_each-requires-clause-small
-read_each-requires-clause-small g c =
-    let blocks = ap (λ (s : Shape). s.blocks) c.self.invariant.shape in
-    let same = ap (λ v. v.cached.log.shape.blocks) c.self.view_is in
-    omega (arith, blocks, same, c.self.inside.sizes.most_blocks, c.requires.inside)
+read_each-requires-clause-small g c = small g (goal.at.read_each-requires-clause-small g c).Else-is_dead
 
 pub returns-then-is_dead-clause-turn : goal.returns-then-is_dead-clause-turn
 returns-then-is_dead-clause-turn g c =
@@ -29,11 +29,7 @@ returns-then-is_dead-clause-turn g c =
     quiet_turn m m c.args.self.now.cached (g.met.M.Medium.sound c.args.self.now.medium) (quiet_start m)
 
 pub returns-then-is_dead-clause-keeps : goal.returns-then-is_dead-clause-keeps
-returns-then-is_dead-clause-keeps g c = record {
-  policy = search rules;
-  stays = search rules;
-  quiet = search rules;
-  follows = search rules;
-  looks = none_read (g.M.Medium.state c.args.self.now.medium) (g.M.Medium.state c.args.self.now.medium) c.args.self.now.cached
-      c.args.address (length c.args.to.now / 512) (λ i. (g.M.Medium.state c.args.self.now.medium).looked);
-}
+returns-then-is_dead-clause-keeps g c =
+    let m = g.M.Medium.state c.args.self.now.medium in
+    let looks = none_read m m c.args.self.now.cached c.args.address (length c.args.to.now / 512) refl in
+    search rules
