@@ -19,7 +19,7 @@ use Rattle.cache.proofs.Arrays.{over_put}
 use Rattle.blocks.specs.Book.{Same}
 use Rattle.spec.specs.Book.{Book, after_first, array_of, with_write, promised}
 use Rattle.blocks.specs.Finding.{StandsAs, MayFind}
-use Rattle.blocks.specs.StoreValue.{firsts_in, Cached, FitsBook, ShowsBook, wants, steps_for}
+use Rattle.blocks.specs.StoreValue.{firsts_in, Cached, FitsBook, ShowsBook, wants}
 use Rattle.std.proofs.lemmas.Bool.Decides.{nat_tests}
 use Rattle.blocks.specs.Kept.{IsBatchOf}
 
@@ -87,9 +87,6 @@ wants_none numbers e = grind arith
 
 pub wants_most : (numbers : List ℕ) → wants numbers ≤ 1
 wants_most numbers = grind arith
-
-pub steps_for_most : (most : ℕ) (numbers : List ℕ) → steps_for most numbers ≤ most
-steps_for_most most numbers = grind arith
 
 -- an image that is ours for an array is ours for one with the same blocks
 pub ours_same : (size : ℕ) (shape : Shape) (image : Image) (a c : Array) (next : ℕ) → Same shape.blocks a c → IsOurs size shape image a next

@@ -1,6 +1,5 @@
 -- A store whose batches are empty: what fits, what is sent, how many steps are left else, and that at rest everything is at home.
-use Rattle.std.proofs.Common.{◌≡◌, ◌+◌, ◌<◌, ◌≤◌, ℕ, ◌∙◌, sym, ap, arith, true, false, List, [], length, ◌⊎◌, Bool, inl, inr}
-use Rattle.std.proofs.Common.{subst}
+use Rattle.std.proofs.Common.{◌≡◌, ◌+◌, ◌<◌, ◌≤◌, ℕ, ◌∙◌, sym, ap, arith, true, false, List, [], length, ◌⊎◌, Bool, inl, inr, subst}
 use Rattle.std.proofs.lemmas.List.{nil_from_length}
 use Rattle.medium.specs.Medium.{State, Image, IsSound}
 use Rattle.medium.specs.Moments.{EachCut}

@@ -7,8 +7,8 @@ use Rattle.std.proofs.lemmas.List.{nil_from_length}
 use Rattle.medium.specs.Medium.{State}
 use Rattle.redo_log.specs.Value.{LogValue, CanPass, IsAway, IsStepped, IsRetireStepped, next_step_flushes}
 use Rattle.blocks.specs.Ahead.{counted, ahead_room}
-use Rattle.blocks.specs.Background.{FreezesNext, IsBackgroundStep}
-use Rattle.blocks.specs.Headroom.{IsInOrder, RestsWithRoom, HasHeadroom, next_durable, FlushesOnce}
+use Rattle.blocks.specs.Background.{FreezesNext, IsBackgroundStep, SettlesFlush}
+use Rattle.blocks.specs.Headroom.{IsInOrder, RestsWithRoom, HasHeadroom, next_durable, FlushesOnce, IsSparing, AreSparing}
 use Rattle.blocks.specs.StoreValue.{Cached, is_dead, steps_left, unwritten, StoreValue, firsts_in, wants}
 use Rattle.blocks.specs.Work.{GoesOnAhead, IsAheadStep, IsWriteBackStep, MayWrite, SparesSlots, with_counted, RetiresNone, IsWork, WorksBy}
 use Rattle.blocks.specs.Work.{DoesWork}
@@ -22,9 +22,7 @@ use Rattle.cache.specs.Entries.{Entries}
 use Rattle.redo_log.specs.declared.progress.Progress.{Progress}
 use Rattle.blocks.specs.declared.work.Work.{Work}
 use Rattle.blocks.specs.declared.work.Work.TheVariants.{Settle, Ahead, WriteBack}
-use Rattle.blocks.specs.Going.{SettlesFlush}
 use Rattle.blocks.specs.Retiring.{finished_with, finished}
-use Rattle.blocks.specs.Sparing.{IsSparing, AreSparing}
 use Rattle.blocks.proofs.Room.{flushes_step, steps_once}
 
 -- ---- the steps that write back: each leaves fewer steps, and a record is begun where that keeps room

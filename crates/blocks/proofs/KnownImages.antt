@@ -95,11 +95,9 @@ pub serves : (before after : State) (s : Cached) (array : Array) (next : ℕ) �
 serves before after s array next stood fits book on =
     let one = StandsFor-one before.size before.size (layout_of s) on.stands.0 before.content array book.opening next book.stamp stood
     on.stands.2 in
-    let f : FitsBook after s (opened (blocks_of s) book.opening next book.ours) =
-    reopened after s (opened (blocks_of s) array next book.ours) book.opening one.2 (fits book.ours (each_ours before book on)) in
-    subst (FitsBook after s) (sym on.opens)
-    (subst (λ (n : ℕ). FitsBook after s (opened n book.opening book.stamp book.ours)) (ap (λ (x : Shape). x.blocks) one.0 ∙ on.stands.1)
-    (subst (λ (t : ℕ). FitsBook after s (opened (blocks_of s) book.opening t book.ours)) one.1 f))
+    let blocks : blocks_of s ≡ book.blocks = ap (λ (x : Shape). x.blocks) one.0 ∙ on.stands.1 in
+    let f = reopened after s (opened (blocks_of s) array next book.ours) book.opening one.2 (fits book.ours (each_ours before book on)) in
+    rw (on.opens, ← blocks, ← one.1) f
 
 -- contents that stand for something open a book that claims no more
 pub opens_on : (m : State) (shape : Shape) (array : Array) (next : ℕ) → StandsFor m.size shape m.content array next

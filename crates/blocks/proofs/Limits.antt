@@ -7,7 +7,6 @@ use Rattle.journal.specs.declared.super_sector.Super.{Super}
 use Rattle.blocks.specs.StoreValue.{Cached, layout_of, blocks_of, slots_of, transfer_limit, batch_steps, steps_for, waiting, HasLimits}
 use Rattle.redo_log.specs.Value.{most_steps, most_retire_steps}
 use Rattle.blocks.specs.Kept.{Invariant}
-use Rattle.blocks.proofs.BookTurns.{steps_for_most}
 
 -- no format has a lower limit, or a higher one
 pub limit_least : (format : LogFormat) → 48 ≤ limit_of format
@@ -15,9 +14,6 @@ limit_least format = grind arith
 
 pub limit_most : (format : LogFormat) → limit_of format ≤ 240
 limit_most format = grind arith
-
-waiting_most : (begun steps : ℕ) → waiting begun steps ≤ steps
-waiting_most begun steps = grind arith
 
 -- what the records and the batches take together
 few : (format : LogFormat) (slots steps left frozen active : ℕ) → steps ≤ most_steps format → left ≤ most_retire_steps format * slots
@@ -39,13 +35,7 @@ has_limits size sizes s writing ahead kept =
       active_fits = omega (arith, kept.active.well_formed.within, kept.active.room);
       few_steps = few format (slots_of s) s.log.steps_left s.log.retire_steps_left
           (waiting s.log.steps_left (steps_for (batch_steps s) s.frozen.numbers)) (steps_for (batch_steps s) s.active.numbers)
-          kept.few_steps kept.few_retire_steps
-          (omega (
-            arith,
-            waiting_most s.log.steps_left (steps_for (batch_steps s) s.frozen.numbers),
-            steps_for_most (batch_steps s) s.frozen.numbers,
-          ))
-          (steps_for_most (batch_steps s) s.active.numbers);
+          kept.few_steps kept.few_retire_steps (grind arith) (grind arith);
     }
 
 few_batch : (format : LogFormat) → most_steps format + most_retire_steps format + 10 ≤ 3 * limit_of format + 16

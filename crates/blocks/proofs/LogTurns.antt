@@ -33,8 +33,7 @@ use Rattle.blocks.specs.StoreValue.{firsts_in, Cached, layout_of, steps_left, Fi
 use Rattle.blocks.specs.Turns.{GoesOn, IsTurn, IsWriteTurn}
 use Rattle.blocks.proofs.BookTurns.{moves, begins, becomes_durable, freezes, appends, settles, finds}
 use Rattle.blocks.proofs.TurnsJoined.{exits}
-use Rattle.blocks.specs.Going.{PassesHead, BringsHome}
-use Rattle.blocks.specs.Background.{IsRetiring}
+use Rattle.blocks.specs.Background.{PassesHead, BringsHome, IsRetiring}
 
 -- ---- what stays of a log of which a record goes home, is flushed there, or is retired
 
@@ -128,34 +127,16 @@ module _ {M : Type 0} {state : M → State} {Follows : M → M → Type 0} {None
     pub passes_turn : {most : ℕ} → sends ≤ most
         → PassesOn state Follows IsTurn 2 most (record { medium = m; cached = s; goes_ahead = ahead })
         (record { medium = n; cached = record s { log = log' }; goes_ahead = ahead })
-    passes_turn few = record {
-      turn = turn_made result called same stays;
-      calls = called.passes.calls.two;
-      sent = omega (arith, called.passes.calls.sent, few);
-      none_refused = λ live. grind (arith, called.answers, called.passes.failures);
-      follows = called.passes.follows;
-      looks = called.leaves.looks;
-      policy = refl;
-    }
+    passes_turn few =
+        let turn = turn_made result called same stays in
+        grind (arith, turn, called.answers, called.passes, called.leaves.looks, few)
 
     pub paid_turn : {most : ℕ} → sends ≤ most → count ≤ 2 * steps_left s
         → (Done → count + 2 * steps_left (record s { log = log' }) ≤ 2 * steps_left s)
         → PassesPaid state Follows most (record { medium = m; cached = s; goes_ahead = ahead })
         (record { medium = n; cached = record s { log = log' }; goes_ahead = ahead })
     paid_turn {most} few some fewer =
-        let on = passes_turn {most = most} few in
-        record {
-          turn = on.turn;
-          paid = record {
-            most = omega (arith, called.passes.calls.most, some);
-            rest = λ live. grind (arith, called.answers, called.passes.calls.most, fewer);
-          };
-          sent = on.sent;
-          none_refused = on.none_refused;
-          follows = on.follows;
-          looks = on.looks;
-          policy = refl;
-        }
+        let on = passes_turn {most = most} few in grind (arith, on, called.answers, called.passes.calls.most, some, fewer)
 
 -- a step of the record under way, which is the frozen batch; after its last one that batch is emptied
 abbrev stepped : Result Progress LogFault → Cached → LogValue → Entries → Cached

@@ -1,36 +1,13 @@
 -- What the calls of a store pass on, one after another.
-use Rattle.std.proofs.Common.{◌≡◌, ◌<◌, ◌+◌, inl, inr, arith, sym, ◌∙◌, Bool, true, false, length, ◌≤◌, ◌*◌, ℕ, ap, refl}
-use Rattle.std.proofs.lemmas.Bool.{false≢true, cases_lt}
+use Rattle.std.proofs.Common.{◌≡◌, ◌<◌, ◌+◌, arith, ◌∙◌, Bool, true, false, ◌≤◌, ◌*◌, ℕ, ap, refl}
 use Rattle.medium.specs.Medium.{State, IsSound}
 use Rattle.blocks.specs.StoreValue.{Cached, is_dead, steps_left, StoreValue}
-use Rattle.blocks.specs.Turns.{IsPaid, IsTurn, IsWriteTurn}
+use Rattle.blocks.specs.Turns.{IsTurn, IsWriteTurn}
 use Rattle.medium.specs.Sent.{sent, SendsUpTo}
 use Rattle.spec.specs.Blocks.{Write}
 use Rattle.blocks.specs.Passing.{PassesOn, PassesPaid, KeepsMedium}
 use Rattle.blocks.proofs.SectorsRead.{none, looks_on}
 use Rattle.blocks.proofs.TurnsJoined.{stays, turns, not_written, then_written}
-
--- ---- how many calls of the medium the background steps make
-
--- one turn after another
-pub pays_both : (before mid after : State) (old then new : Cached) → IsPaid before mid old then → is_dead then ≡ false
-    → IsPaid mid after then new → IsPaid before after old new
-pays_both before mid after old then new first live second = record {
-  most = omega (arith, first.rest live, second.most);
-  rest = λ lives. omega (arith, first.rest live, second.rest lives);
-}
-
--- a log without room and without a record under way has one to retire
-pub must_retire : (s : Cached) (room : Bool) → room ≡ false → (room ≡ false → 0 < s.log.steps_left + length s.log.waiting)
-    → (s.log.steps_left + s.log.retire_steps_left ≡ 0 → room ≡ true) → s.log.steps_left ≡ 0
-    → (0 < length s.log.waiting) × (0 < steps_left s)
-must_retire s room none full always idle = (
-  omega (arith, full none, idle),
-  elim (cases_lt 0 s.log.retire_steps_left) [
-    | inl some ↦ omega (arith, some)
-    | inr few ↦ absurd (false≢true (sym none ∙ always (omega (arith, few, idle))))
-  ],
-)
 
 -- nothing was done
 pub rested : {M : Type 0} {state : M → State} {old : StoreValue M} → IsSound (state old.medium) → KeepsMedium state IsTurn old old
@@ -85,7 +62,7 @@ module _ {M : Type 0} {state : M → State} {Follows : M → M → Type 0} where
       → SendsUpTo all (state old.medium) (state new.medium) → PassesPaid state Follows all old new
   paid_then {old = old} {mid = mid} {new = new} through one live two sent = record {
     turn = turns _ _ _ _ _ _ one.turn two.turn;
-    paid = pays_both _ _ _ _ _ _ one.paid live two.paid;
+    paid = grind (arith, one.paid, live, two.paid);
     sent = sent;
     none_refused = λ lives. two.none_refused lives ∙ one.none_refused live;
     follows = through _ _ _ one.follows two.follows;

@@ -5,7 +5,6 @@ pub mod Calls
 pub mod Finding
 pub mod Finishing
 pub mod Flushing
-pub mod Going
 pub mod Headroom
 pub mod Kept
 pub mod Limit
@@ -17,7 +16,6 @@ pub mod Reads
 pub mod Retiring
 pub mod Sent
 pub mod Settled
-pub mod Sparing
 pub mod Started
 pub mod Steady
 pub mod Stopping

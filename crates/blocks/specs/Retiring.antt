@@ -4,8 +4,7 @@ use Rattle.std.specs.Prelude.{◌≡◌, ◌+◌, ◌-◌, ◌≤◌, ℕ, zero,
 use Rattle.std.specs.Prelude.{Bool, true, false, if◌then◌else◌}
 use Rattle.journal.specs.declared.log_format.LogFormat.{LogFormat}
 use Rattle.cache.specs.Entries.{Entries}
-use Rattle.redo_log.specs.Value.{LogValue, HasRoom, begun, steps_of}
-use Rattle.redo_log.specs.Value.{of_oldest, turns_calls}
+use Rattle.redo_log.specs.Value.{LogValue, HasRoom, begun, steps_of, of_oldest, turns_calls}
 pub use Rattle.blocks.specs.Ahead.{oldest_retired}
 use Rattle.blocks.specs.Ahead.{ahead_room, ahead_room_calls}
 use Rattle.blocks.specs.StoreValue.{wants, waiting, firsts_in}

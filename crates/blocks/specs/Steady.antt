@@ -2,8 +2,7 @@
 use Rattle.std.specs.Prelude.{◌≡◌, ◌+◌, ◌-◌, ◌*◌, ◌<◌, ◌≤◌, ℕ, List, []}
 use Rattle.std.specs.Prelude.{◌∷◌, length, get_or, sum_by, true, All}
 use Rattle.cache.specs.Entries.{Entries}
-use Rattle.redo_log.specs.Value.{LogValue, IsCovered, steps_of}
-use Rattle.redo_log.specs.Value.{retire_steps_of}
+use Rattle.redo_log.specs.Value.{LogValue, IsCovered, steps_of, retire_steps_of}
 use Rattle.blocks.specs.Retiring.{finished}
 
 -- the record that is the oldest once the oldest one is passed

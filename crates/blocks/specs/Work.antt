@@ -9,8 +9,7 @@ use Rattle.blocks.specs.declared.work.Work.TheVariants.{Settle, Ahead, WriteBack
 use Rattle.blocks.specs.declared.fault.StoreFault.{StoreFault}
 use Rattle.blocks.specs.Ahead.{counted}
 use Rattle.blocks.specs.Background.{IsBackgroundStep, HasDied, LeavesFewer, MayBegin, IsBeginning}
-use Rattle.blocks.specs.Background.{IsRecordStep, IsRetiring}
-use Rattle.blocks.specs.Going.{PassesHead, BringsHome}
+use Rattle.blocks.specs.Background.{IsRecordStep, IsRetiring, PassesHead, BringsHome}
 use Rattle.blocks.specs.Headroom.{KeepsHeadroom, FlushesOnce}
 use Rattle.blocks.specs.Passing.{PassesOn, TellsLife, MayEmpty}
 use Rattle.blocks.specs.Turns.{IsTurn}

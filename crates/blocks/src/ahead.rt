@@ -7,7 +7,7 @@ ghost use Rattle.blocks.specs.Passing.{PassesPaid};
 ghost use Rattle.blocks.specs.Ahead.{counted, gone_home, going_calls, passed, passed_calls};
 ghost use Rattle.blocks.specs.Ahead.{sent_home, sent_calls};
 ghost use Rattle.blocks.specs.Retiring.{HasSlots};
-ghost use Rattle.blocks.specs.Going.{SettlesFlush, GoesPast, GoesHome, GoesAhead};
+ghost use Rattle.blocks.specs.Background.{SettlesFlush, GoesPast, GoesHome, GoesAhead};
 
 use crate::{Store, StoreFault};
 use medium::Medium;

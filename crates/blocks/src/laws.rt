@@ -1,5 +1,5 @@
 //! What holds of any calls of a store, one after another.
-ghost use Rattle.blocks.specs.Sparing.{CallsFlushOnce};
+ghost use Rattle.blocks.specs.Headroom.{CallsFlushOnce};
 
 use medium::Medium;
 

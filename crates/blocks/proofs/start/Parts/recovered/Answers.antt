@@ -2,22 +2,15 @@ use Rattle.std.proofs.Common.{◌≤◌, inl, inr, refl, sym, subst, arith}
 use Rattle.std.proofs.lemmas.Result.{err_from_is_err_and, IfOk-weaker, IfErr-weaker}
 use Rattle.journal.specs.Places.{sectors_of}
 use Rattle.journal.specs.Formats.{shape_of}
-use Rattle.recovery.specs.declared.start_fault.StartFault.TheVariants.{NoMemory}
-use Rattle.blocks.specs.Started.{MakesParts, RefusesParts}
+use Rattle.blocks.specs.Started.{MakesParts}
 use Rattle.blocks.proofs.KnownImages.{started, starts, started_kept}
 use Rattle.blocks.proofs.start.Parts.recovered.Goals as goal
 
 pub returns-in_err-recovered-clause-refused : goal.returns-in_err-recovered-clause-refused
 returns-in_err-recovered-clause-refused g c =
-    let before = g.M.Medium.state c.args.medium.now in
-    let after = g.M.Medium.state c.recover.new.m in
     let p = err_from_is_err_and c.from_residual.result c.from_residual.ensures.1 in
     let why = c.in_err-recovered.ensures.err in
-    let refusal : RefusesParts before after c.in_err-recovered.field-0.0 = record {
-      cause = inl why.cause;
-      served = λ shape array next stands left. inl (why.served shape array next stands left);
-    } in
-    rw (p.1, p.2) refusal
+    rw (p.1, p.2) (record { cause = inl why.cause; served = λ shape array next stands left. inl (why.served shape array next stands left) })
 
 pub returns-clause-ok : goal.returns-clause-ok
 returns-clause-ok g c =
@@ -38,11 +31,7 @@ returns-clause-ok g c =
     c.new.ensures.ok
 
 pub returns-clause-refused : goal.returns-clause-refused
-returns-clause-refused g c =
-    let before = g.M.Medium.state c.args.medium.now in
-    let after = g.M.Medium.state c.recover.new.m in
-    let refusal : RefusesParts before after NoMemory = record {
-      cause = inr (refl, c.in_ok-recovered.recovered, c.in_ok-recovered.ensures.ok);
-      served = λ shape array next stands left. inr refl;
-    } in
-    IfErr-weaker c.new.result _ _ (λ fault is. subst (RefusesParts before after) (sym is) refusal) c.new.ensures.err
+returns-clause-refused g c = IfErr-weaker c.new.result _ _ (λ fault is. rw is (record {
+  cause = inr (refl, c.in_ok-recovered.recovered, c.in_ok-recovered.ensures.ok);
+  served = λ shape array next stands left. inr refl;
+})) c.new.ensures.err

@@ -77,33 +77,31 @@ pub returns-in_err-make_ready-clause-one_batch : goal.returns-in_err-make_ready-
 returns-in_err-make_ready-clause-one_batch g c =
     made_room g (goal.at.returns-in_err-make_ready-clause-one_batch g c).After-make_ready (omega arith)
 
-pub returns-in_err-begin-clause-passes : goal.returns-in_err-begin-clause-passes
-returns-in_err-begin-clause-passes g c =
+pub returns-in_err-begin : goal.returns-in_err-begin
+returns-in_err-begin g c =
     let ready = c.make_ready.ensures.ready in
     let begins = c.begin.ensures in
     let quiet = ap (λ m. sent (g.M.Medium.state m)) begins.keeps.medium in
-    paid_then {last = 0} g.met.M.Medium.follows_through ready.passes c.in_ok-make_ready.ensures.ready.answer
-    (kept_paid g.met.M.Medium.follows_itself begins.keeps (λ live. omega (arith, begins.begins.falls live)))
-    (omega (arith, ready.passes.sent, quiet))
-
-pub returns-in_err-begin-clause-batch : goal.returns-in_err-begin-clause-batch
-returns-in_err-begin-clause-batch g c = record {
-  answers = search rules;
-  done = search rules;
-  rests = search rules;
-  waits = search rules;
-  finishes = search rules;
-  retires = grind (arith, c.begin.ensures.begins.head, c.make_ready.ensures.ready.room.retires);
-  active = search rules;
-  fills = λ on filling listed. search rules;
-  stays = λ on steady. search rules;
-  some = search rules;
-}
-
-pub returns-in_err-begin-clause-one_batch : goal.returns-in_err-begin-clause-one_batch
-returns-in_err-begin-clause-one_batch g c =
-    let quiet = ap (λ m. sent (g.M.Medium.state m)) c.begin.ensures.keeps.medium in
-    made_room g (goal.at.returns-in_err-begin-clause-one_batch g c).After-make_ready (omega (arith, quiet))
+    record {
+      passes = paid_then {last = 0} g.met.M.Medium.follows_through ready.passes c.in_ok-make_ready.ensures.ready.answer
+          (kept_paid g.met.M.Medium.follows_itself begins.keeps (λ live. omega (arith, begins.begins.falls live)))
+          (omega (arith, ready.passes.sent, quiet));
+      batch = record {
+        answers = search rules;
+        done = search rules;
+        rests = search rules;
+        waits = search rules;
+        finishes = search rules;
+        retires = grind (arith, begins.begins.head, ready.room.retires);
+        active = search rules;
+        fills = λ on filling listed. search rules;
+        stays = λ on steady. search rules;
+        some = search rules;
+      };
+      cost = search rules;
+      flushes = search rules;
+      one_batch = made_room g (goal.at.returns-in_err-begin g c).After-make_ready (omega (arith, quiet));
+    }
 
 -- the record of the frozen batch is begun and written
 pub returns : goal.returns

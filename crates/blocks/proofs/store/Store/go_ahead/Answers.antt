@@ -25,14 +25,13 @@ passes g c =
     c.pass_head.ensures.passes (omega (arith, quiet, c.pass_head.ensures.passes.sent))
 
 -- what the head that went past makes of the log, by how many calls
-gone_past : (g : Over) (c : In_ok-pass_head g) → (c.pass_head.new.self.cached.log ≡ passed c.args.self.now.cached.log)
+gone_past : (g : Over) (c : In_ok-pass_head g) → (HasSlots 3 c.args.self.now.cached.log → ⊥)
+    → (c.pass_head.new.self.cached.log ≡ passed c.args.self.now.cached.log)
     × ((g.M.Medium.state c.pass_head.new.self.medium).calls
     ≡ (g.M.Medium.state c.args.self.now.medium).calls + passed_calls c.args.self.now.cached.log)
     × ((g.M.Medium.state c.pass_head.new.self.medium).made Flush ≡ (g.M.Medium.state c.args.self.now.medium).made Flush)
-gone_past g c =
+gone_past g c short =
     let same = c.count_flush.ensures.keeps.medium in
-    let short : HasSlots 3 c.args.self.now.cached.log → ⊥ = λ (slots : HasSlots 3 c.args.self.now.cached.log).
-    grind (arith, c.has_slots.ensures, c.if-has_slots.false, c.self.view_is) in
     let passing = rw same at c.pass_head.ensures.passing in
     grind (arith, nat_tests, passing, c.in_ok-pass_head.ensures.answer, c.count_flush.ensures.counts.log, short)
 
@@ -59,8 +58,8 @@ pub returns-then-has_slots-2 : goal.returns-then-has_slots-2
 returns-then-has_slots-2 g c =
     let all = passes g (goal.at.returns-then-has_slots-2 g c).After-pass_head in
     let slots : HasSlots 3 c.pass_head.new.self.cached.log = rw (← c.self-2.view_is) (c.has_slots-2.ensures.0 c.if-has_slots-2.true) in
-    let past = gone_past g (goal.at.returns-then-has_slots-2 g c).In_ok-pass_head in
     let short = few g (goal.at.returns-then-has_slots-2 g c).Else-has_slots in
+    let past = gone_past g (goal.at.returns-then-has_slots-2 g c).In_ok-pass_head short in
     record {
       passes = paid_more all (omega (arith, all.sent));
       going = grind (
@@ -80,8 +79,8 @@ returns g c =
     let first = passes g (goal.at.returns g c).After-pass_head in
     let last = c.go_home.ensures in
     let same = ap (λ (shape : Shape). limit_of shape.format) first.turn.goes_on.layout_stays in
-    let past = gone_past g (goal.at.returns g c).In_ok-pass_head in
     let full = few g (goal.at.returns g c).Else-has_slots in
+    let past = gone_past g (goal.at.returns g c).In_ok-pass_head full in
     let short : HasSlots 3 c.pass_head.new.self.cached.log → ⊥ = λ (slots : HasSlots 3 c.pass_head.new.self.cached.log).
     grind (arith, c.has_slots-2.ensures, c.if-has_slots-2.false, c.self-2.view_is) in
     record {

@@ -8,7 +8,7 @@ use Rattle.blocks.specs.StoreValue.{steps_left}
 use Rattle.blocks.proofs.Room.{IsFull, none_counted, one_at_most, counts_more, counts_room, room_is_made, at_most_refused, more_calls}
 use Rattle.blocks.proofs.Room.{more_sends, more_flushes, next_few}
 use Rattle.blocks.specs.Passing.{PassesPaid}
-use Rattle.blocks.proofs.Paid.{must_retire, paid_then, on_paid, rested_paid}
+use Rattle.blocks.proofs.Paid.{paid_then, on_paid, rested_paid}
 use Rattle.blocks.proofs.store.Store.make_room.Given.{Over}
 use Rattle.blocks.proofs.store.Store.make_room.Goals as goal
 use Rattle.blocks.proofs.store.Store.make_room.Goals.{After-retire}
@@ -16,10 +16,8 @@ use Rattle.blocks.proofs.store.Store.make_room.Goals.{After-retire}
 -- a record waits, and one of its steps is made
 must_step : (g : Over) (c : After-retire g) → (0 < length c.loop-self.self.cached.log.waiting) × (0 < steps_left c.loop-self.self.cached)
 must_step g c =
-    let here = c.self-in-loop-self.inside in
-    rw (← c.self-in-loop-self.view_is) (must_retire (record { log = here.log; active = here.active; frozen = here.frozen })
-    c.has_room.result c.loop-self-test.true c.has_room.ensures.full c.has_room.ensures.always
-    (rw (← c.self-in-loop-self.view_is) at c.loop-self.invariant.idle))
+    let idle = rw (← c.self-in-loop-self.view_is) at c.loop-self.invariant.idle in
+    rw (← c.self-in-loop-self.view_is) (grind (arith, idle, c.loop-self-test.true, c.has_room.ensures.full, c.has_room.ensures.always))
 
 step_passes : (g : Over) (c : After-retire g) → {sends : ℕ}
     → SendsUpTo sends (g.M.Medium.state c.args.self.now.medium) (g.M.Medium.state c.retire.new.self.medium)
