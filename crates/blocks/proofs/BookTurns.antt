@@ -1,26 +1,26 @@
 -- How the books that a store fits go on from turn to turn.
+use Rattle.std.specs.Prelude.{if◌then◌else◌, ◌==◌, nat_le, get_or, slice_range, unwrap_or}
 use Rattle.std.proofs.Common.{◌≡◌, ◌≤◌, ◌<◌, ℕ, ◌+◌, ◌*◌, ◌-◌, ⊎_elim, arith, ◌∙◌, sym, ap, subst, refl, Bool, true, false, Option, Some}
 use Rattle.std.proofs.Common.{List, [], ◌∷◌, ◌++◌, length, take, drop, length-append, zero, suc, get_or}
-use Rattle.std.specs.Prelude.{if◌then◌else◌, ◌==◌, nat_le, get_or, slice_range, unwrap_or}
 use Rattle.std.proofs.lemmas.List.{take-append-le, drop-drop}
 use Rattle.std.proofs.Math.Seq.{take-length}
+use Rattle.std.proofs.lemmas.Bool.Decides.{nat_tests}
 use Rattle.medium.specs.Medium.{State, Image}
 use Rattle.spec.specs.Blocks.{Array, Write, apply, after, chunks}
+use Rattle.spec.specs.Book.{Book, after_first, array_of, with_write, promised}
 use Rattle.journal.specs.Places.{Shape}
 use Rattle.journal.specs.Record.{with_blocks}
 use Rattle.journal.specs.Standing.{IsOurs}
+use Rattle.cache.specs.Blocks.{Blocks, blocks_of, over, with_range, Listed}
+use Rattle.cache.specs.Entries.{Entries, map_of}
+use Rattle.cache.proofs.Arrays.{over_put}
 use Rattle.redo_log.specs.Value.{LogValue, HasRoom, begun, IsBatch, entries_from, entries_of}
 use Rattle.redo_log.specs.Held.{View, HoldsView, MayLeave, with_record}
 use Rattle.redo_log.proofs.HeldLog.{many}
 use Rattle.redo_log.proofs.StoreFacts.{begun_holds, may_leave_ours}
-use Rattle.cache.specs.Blocks.{Blocks, blocks_of, over, with_range, Listed}
-use Rattle.cache.specs.Entries.{Entries, map_of}
-use Rattle.cache.proofs.Arrays.{over_put}
 use Rattle.blocks.specs.Book.{Same}
-use Rattle.spec.specs.Book.{Book, after_first, array_of, with_write, promised}
 use Rattle.blocks.specs.Finding.{StandsAs, MayFind}
 use Rattle.blocks.specs.StoreValue.{firsts_in, Cached, FitsBook, ShowsBook, wants}
-use Rattle.std.proofs.lemmas.Bool.Decides.{nat_tests}
 use Rattle.blocks.specs.Kept.{IsBatchOf}
 
 -- blocks over two arrays that have the same block
@@ -158,7 +158,8 @@ shows_book {k = k} {n = n} f active blocks ours arrays stamps = record {
 pub begins : {m : State} {s : Cached} {book : Book} → FitsBook m s book → HasRoom s.log
     → IsBatch s.log.shape s.frozen.numbers s.frozen.bytes
     → FitsBook m (record s { log = begun s.frozen.numbers (firsts_in s.frozen) s.log }) book
-begins f room batch = moves f (begun_holds _ _ _ _ _ f.holds room batch) refl (λ some. refl) (λ some. wants_some _ batch.some) refl refl refl
+begins f room batch =
+    moves f (begun_holds _ _ _ _ _ f.holds room batch) refl (λ some. refl) (λ some. wants_some _ batch.some) refl refl refl
 
 -- the record under way becomes durable, and the frozen batch is emptied
 pub becomes_durable : {m m' : State} {s : Cached} {book : Book} {log' : LogValue} {none : Entries} (f : FitsBook m s book)

@@ -1,28 +1,26 @@
 -- A store whose batches are empty: what fits, what is sent, how many steps are left else, and that at rest everything is at home.
-use Rattle.std.proofs.Common.{◌≡◌, ◌+◌, ◌<◌, ◌≤◌, ℕ, ◌∙◌, sym, ap, arith, true, false, List, [], length, ◌⊎◌, Bool, inl, inr, subst}
+use Rattle.std.specs.Prelude.{false}
+use Rattle.std.proofs.Common.{◌≡◌, ◌+◌, ◌<◌, ◌≤◌, ℕ, ◌∙◌, sym, ap, arith, true, false, List, [], length, ◌⊎◌, Bool}
 use Rattle.std.proofs.lemmas.List.{nil_from_length}
+use Rattle.std.proofs.lemmas.Bool.{cases_lt}
 use Rattle.medium.specs.Medium.{State, Image, IsSound}
 use Rattle.medium.specs.Moments.{EachCut}
+use Rattle.medium.specs.Sent.{SendsUpTo}
+use Rattle.spec.specs.Book.{Book, array_of}
 use Rattle.journal.specs.Record.{home_of}
-use Rattle.redo_log.specs.Value.{LogValue, Owes, retire_steps_of, most_steps}
 use Rattle.journal.specs.Standing.{Keeps}
-use Rattle.redo_log.proofs.HeldLog.{many}
-use Rattle.redo_log.proofs.StoreFacts.{home_is, blocks_guarded, put_head}
 use Rattle.cache.specs.Blocks.{over}
 use Rattle.cache.specs.Entries.{map_of, Entries}
-use Rattle.spec.specs.Book.{Book, array_of}
+use Rattle.cache.proofs.Arrays.{unlisted_empty}
+use Rattle.redo_log.specs.Value.{LogValue, Owes, retire_steps_of}
+use Rattle.redo_log.proofs.HeldLog.{many}
+use Rattle.redo_log.proofs.StoreFacts.{home_is, blocks_guarded, put_head}
 use Rattle.blocks.specs.StoreValue.{Cached, layout_of, is_dead, steps_left, FitsBook, FitsBeside, active_of, transfer_limit, unwritten}
 use Rattle.blocks.specs.Settled.{IsAtHome, IsSettled}
+use Rattle.blocks.specs.OneBatch.{SendsOneBatch}
+use Rattle.blocks.specs.Written.{IsWritten}
 use Rattle.blocks.proofs.BookTurns.{over_none}
 use Rattle.blocks.proofs.LogTurns.{nothing_left, settles_all}
-use Rattle.std.proofs.lemmas.Bool.{false≢true, cases_lt}
-use Rattle.std.specs.Prelude.{false}
-use Rattle.medium.specs.Sent.{SendsUpTo}
-use Rattle.cache.proofs.Arrays.{unlisted_empty}
-use Rattle.journal.specs.declared.log_format.LogFormat.{LogFormat}
-use Rattle.blocks.specs.OneBatch.{SendsOneBatch}
-use Rattle.blocks.specs.Sent.{most_sent}
-use Rattle.blocks.specs.Written.{IsWritten}
 
 -- ---- a store at rest has everything at home
 
@@ -92,8 +90,7 @@ none_left s idle owed frozen active = grind arith
 
 -- both batches of a live store are empty where no record is left to write
 pub both_empty : (s : Cached) → is_dead s ≡ false → IsWritten s → (s.frozen.numbers ≡ []) × (s.active.numbers ≡ [])
-both_empty s live (inl dead) = absurd (false≢true (sym live ∙ dead))
-both_empty s live (inr none) = (none_of s.frozen.numbers (omega (arith, none)), none_of s.active.numbers (omega (arith, none)))
+both_empty s live written = grind (arith, live, written, none_of s.frozen.numbers, none_of s.active.numbers)
 
 -- where one is, a step is left
 pub steps_to_write : (s : Cached) → ¬ IsWritten s → 0 < steps_left s
@@ -106,19 +103,12 @@ written_live s live = grind (arith, live, cases_lt 0 (unwritten s))
 -- a range fits beside an empty batch
 pub fits_alone : (s : Cached) (address count : ℕ) → active_of s ≡ [] → count ≤ transfer_limit s
     → FitsBeside (transfer_limit s) (active_of s) address count
-fits_alone s address count none few =
-    subst (λ (numbers : List ℕ). FitsBeside (transfer_limit s) numbers address count) (sym none)
-    (omega (arith, few, unlisted_empty address count))
+fits_alone s address count none few = rw none (omega (arith, few, unlisted_empty address count))
 
 -- a frozen batch that stays is empty still
 pub frozen_as : (old new : Cached) → new.frozen ≡ old.frozen → old.frozen.numbers ≡ [] → new.frozen.numbers ≡ []
 frozen_as old new same none = ap (λ (batch : Entries). batch.numbers) same ∙ none
 
 -- two calls are no more than those of a batch
-two_fit : (format : LogFormat) → (2 ≤ most_sent format) × (2 ≤ most_steps format)
-two_fit format = grind arith
-
 pub step_sent : (ahead : Bool) (before after : State) (log : LogValue) → SendsUpTo 2 before after → SendsOneBatch ahead before after log
-step_sent ahead before after log two =
-    let few = two_fit log.shape.format in
-    record { most = omega (arith, two, few); roomy = λ roomy. omega (arith, two, few) }
+step_sent ahead before after log two = grind (arith, two)

@@ -1,11 +1,11 @@
 -- A store that goes ahead keeps headroom, turn by turn, and its records flush once each.
-use Rattle.std.proofs.Common.{◌≡◌, ◌⊎◌, ◌<◌, ◌≤◌, ◌+◌, arith, length-append, inl, inr}
 use Rattle.std.specs.Prelude.{ℕ, List, [], ◌∷◌, length, drop, true, false}
+use Rattle.std.proofs.Common.{◌≡◌, ◌⊎◌, ◌<◌, ◌≤◌, ◌+◌, arith, length-append, inl, inr}
 use Rattle.std.proofs.lemmas.Bool.{cases_Bool, cases_lt}
 use Rattle.std.proofs.lemmas.List.{nil_from_length}
 use Rattle.std.proofs.lemmas.Bool.Decides.{nat_tests}
-use Rattle.journal.specs.declared.log_format.LogFormat.TheVariants.{Two}
 use Rattle.medium.specs.Medium.{State}
+use Rattle.journal.specs.declared.log_format.LogFormat.TheVariants.{Two}
 use Rattle.redo_log.specs.Value.{LogValue, IsRetireStepped, IsStepped, begun, of_oldest}
 use Rattle.redo_log.specs.declared.progress.Progress.{Progress}
 use Rattle.blocks.specs.Background.{IsBackgroundStep, MayBegin}

@@ -1,37 +1,37 @@
 -- What is known of an image by the books for which it stands, and the store that a recovery starts.
+use Rattle.std.specs.Prelude.{Bool, true}
 use Rattle.std.proofs.Common.{◌≡◌, ◌≤◌, ◌<◌, ◌^◌, ℕ, ⊎_elim, arith, ◌∙◌, sym, ap, subst, refl, Bool, true, false, Option, None, Some}
 use Rattle.std.proofs.Common.{List, [], ◌∷◌, take, inl, rules}
 use Rattle.std.proofs.lemmas.Bool.{false≢true}
 use Rattle.medium.specs.Medium.{State, Image, IsSound}
 use Rattle.medium.specs.Moments.{EachCut, IsFlushed, LeavesOnly}
-use Rattle.spec.specs.Blocks.{Array, Write, apply, after}
 use Rattle.medium.proofs.Moments.{at_exit, only_image}
+use Rattle.spec.specs.Blocks.{Array, Write, apply, after}
+use Rattle.spec.specs.Book.{Book, after_first, opened, with_write}
 use Rattle.journal.specs.Places.{Shape, limit_of, sectors_of}
 use Rattle.journal.specs.Standing.{StandsFor, Stands, IsOurs, Keeps}
+use Rattle.journal.specs.declared.super_sector.Super.{Super}
+use Rattle.journal.specs.declared.log_format.LogFormat.{LogFormat}
+use Rattle.journal.specs.Formats.{shape_of, CarriesBelow}
+use Rattle.journal.specs.Sectors.{IsSuper}
+use Rattle.journal.specs.Standing as image
 use Rattle.journal.proofs.StandingLaws.{StandsFor-one, HasFault-stands}
+use Rattle.cache.specs.Entries.{Entries}
+use Rattle.redo_log.specs.Held.{resting_view, HasNoRecord, HoldsView}
+use Rattle.redo_log.specs.Value.{idle_from}
+use Rattle.redo_log.proofs.StoreFacts.{idle_holds}
 use Rattle.recovery.specs.Recovered.{IsOursForSome, StandsForOneOf, IsRecoveredFrom}
 use Rattle.recovery.specs.declared.start_fault.StartFault.{StartFault}
-use Rattle.spec.specs.Book.{Book, after_first, opened, with_write}
+use Rattle.recovery.specs.declared.recovered.Recovered.{Recovered}
+use Rattle.recovery.specs.Recovered as recovered
 use Rattle.blocks.specs.Book.{Same}
 use Rattle.blocks.specs.Finding.{StandsAs, MayFind, FoundWith}
 use Rattle.blocks.specs.StoreValue.{Cached, layout_of, blocks_of, FitsBook}
 use Rattle.blocks.specs.Opening.{StandsForOpening, OpensOn, IsCauseFor}
 use Rattle.blocks.specs.Started.{IsStartCause, IsStarted}
-use Rattle.blocks.proofs.BookTurns.{stands_as, apply_same, shows_book, may_find}
-use Rattle.std.specs.Prelude.{Bool, true}
-use Rattle.journal.specs.declared.super_sector.Super.{Super}
-use Rattle.journal.specs.declared.log_format.LogFormat.{LogFormat}
-use Rattle.journal.specs.Formats.{shape_of, CarriesBelow}
-use Rattle.journal.specs.Sectors.{IsSuper}
-use Rattle.recovery.specs.declared.recovered.Recovered.{Recovered}
-use Rattle.redo_log.specs.Held.{resting_view, HasNoRecord, HoldsView}
-use Rattle.redo_log.specs.Value.{idle_from}
-use Rattle.redo_log.proofs.StoreFacts.{idle_holds}
-use Rattle.cache.specs.Entries.{Entries}
 use Rattle.blocks.specs.Ahead.{may_go_ahead}
 use Rattle.blocks.specs.Kept.{Invariant}
-use Rattle.journal.specs.Standing as image
-use Rattle.recovery.specs.Recovered as recovered
+use Rattle.blocks.proofs.BookTurns.{stands_as, apply_same, shows_book, may_find}
 
 -- ---- what an image stands for
 
@@ -102,11 +102,7 @@ serves before after s array next stood fits book on =
 -- contents that stand for something open a book that claims no more
 pub opens_on : (m : State) (shape : Shape) (array : Array) (next : ℕ) → StandsFor m.size shape m.content array next
     → OpensOn m (opened shape.blocks array next false)
-opens_on m shape array next stood = record {
-  opens = refl;
-  stands = (shape, refl, stood);
-  ours = λ ours. absurd (false≢true ours);
-}
+opens_on m shape array next stood = record { opens = refl; stands = (shape, refl, stood); ours = λ ours. absurd (false≢true ours) }
 
 -- ---- what a start leaves
 
@@ -140,10 +136,9 @@ module _ (before after : State) (book : Book) (on : OpensOn before book) where
 
   used_up : image.HasNoStampLeft before.size before.content → 2 ^ 63 ≤ book.stamp
   used_up (shape, array, next, stood, past) =
-      let same =
-      StandsFor-one before.size before.size shape on.stands.0 before.content array book.opening next book.stamp stood on.stands.2 in
-      let stamps : next ≡ book.stamp = same.1 in
-      omega (arith, stamps, past)
+      let same = StandsFor-one before.size before.size shape on.stands.0 before.content array book.opening next book.stamp stood
+      on.stands.2 in
+      omega (arith, same.1, past)
 
   -- contents that stand for a book have no fault but that their stamps may be used up
   pub is_cause_for : (fault : StartFault) → IsStartCause before after fault → IsCauseFor book before after fault

@@ -1,7 +1,7 @@
 -- The turns of the store's own functions, from what the log's calls do.
+use Rattle.std.specs.Prelude.{Result, Ok, Err}
 use Rattle.std.proofs.Common.{◌≡◌, ◌≤◌, ◌<◌, ℕ, ◌+◌, ◌-◌, ◌*◌, ◌^◌, inl, inr, arith, ◌∙◌, refl, ap, true, false, Bool, List, [], ◌∷◌}
 use Rattle.std.proofs.Common.{length, length-append}
-use Rattle.std.specs.Prelude.{Result, Ok, Err}
 use Rattle.std.proofs.lemmas.Bool.{cases_lt, cases_Bool}
 use Rattle.std.proofs.lemmas.Bool.Decides.{nat_tests}
 use Rattle.std.proofs.lemmas.List.{nil_from_length}
@@ -9,8 +9,12 @@ use Rattle.medium.specs.Medium.{State, IsSound}
 use Rattle.medium.specs.Moments.{LeavesOnly}
 use Rattle.medium.proofs.Moments.{started, weaker}
 use Rattle.medium.proofs.SparedSectors.{spared_start}
+use Rattle.spec.specs.Blocks.{chunks, Write}
+use Rattle.spec.specs.Book.{Book, promised}
 use Rattle.journal.specs.Places.{sectors_of}
 use Rattle.journal.specs.declared.super_sector.Super.{Super}
+use Rattle.cache.specs.Blocks.{with_range}
+use Rattle.cache.specs.Entries.{Entries, map_of}
 use Rattle.redo_log.specs.Value.{LogValue, Owes, CanPass, IsAway, IsSentHome, HasRoom, begun, died, IsCovered, IsRetireStepped, IsBatch}
 use Rattle.redo_log.specs.Value.{settled, entries_of, pass_calls, ahead_calls, next_calls, next_sends, next_turn_flushes}
 use Rattle.redo_log.specs.Held.{View, HoldsView, stamps_of}
@@ -20,10 +24,6 @@ use Rattle.redo_log.specs.declared.progress.Progress.{Progress}
 use Rattle.redo_log.specs.declared.progress.Progress.TheVariants.{More, Durable}
 use Rattle.redo_log.proofs.HeldLog.{many}
 use Rattle.redo_log.proofs.StoreFacts.{died_holds, settled_holds}
-use Rattle.spec.specs.Blocks.{chunks, Write}
-use Rattle.cache.specs.Blocks.{with_range}
-use Rattle.cache.specs.Entries.{Entries, map_of}
-use Rattle.spec.specs.Book.{Book, promised}
 use Rattle.blocks.specs.Ahead.{counted, is_covered}
 use Rattle.blocks.specs.Finding.{MayFind, Found}
 use Rattle.blocks.specs.Kept.{Invariant}
@@ -31,9 +31,9 @@ use Rattle.blocks.specs.Passing.{PassesOn, PassesPaid}
 use Rattle.blocks.specs.Stopping.{stopped}
 use Rattle.blocks.specs.StoreValue.{firsts_in, Cached, layout_of, steps_left, FitsBook, is_dead}
 use Rattle.blocks.specs.Turns.{GoesOn, IsTurn, IsWriteTurn}
+use Rattle.blocks.specs.Background.{PassesHead, BringsHome, IsRetiring}
 use Rattle.blocks.proofs.BookTurns.{moves, begins, becomes_durable, freezes, appends, settles, finds}
 use Rattle.blocks.proofs.TurnsJoined.{exits}
-use Rattle.blocks.specs.Background.{PassesHead, BringsHome, IsRetiring}
 
 -- ---- what stays of a log of which a record goes home, is flushed there, or is retired
 

@@ -1,25 +1,25 @@
 -- What a read gives, and how many calls of the medium it makes.
+use Rattle.std.specs.Prelude.{unwrap_or, Ok}
 use Rattle.std.proofs.Common.{◌≡◌, ℕ, zero, suc, ◌+◌, ◌*◌, ◌≤◌, ◌<◌, List, ◌++◌, length, take, drop, Option, None, ⊎_elim, sym, ◌∙◌, ap}
 use Rattle.std.proofs.Common.{arith, append_assoc, append-nil, add-zero, add-one, Result, false, refl, subst}
 use Rattle.std.proofs.lemmas.List.{length-drop, length-take-le, take_all}
 use Rattle.std.proofs.lemmas.Slice.{take-put_mid}
 use borrow.Rule.Slice.PartMut.{put_mid}
-use Rattle.std.specs.Prelude.{unwrap_or, Ok}
 use Rattle.medium.specs.Medium.{State, Passes, IsSound}
-use Rattle.spec.specs.Blocks.{Array}
-use Rattle.cache.specs.Blocks.{over, is_listed, unlisted}
-use Rattle.cache.specs.Entries.{map_of, Entries}
-use Rattle.spec.specs.Book.{Book, array_of, blocks_at}
-use Rattle.blocks.specs.Reads.{IsInBatch, ReadsBlock}
-use Rattle.blocks.specs.StoreValue.{Cached, blocks_of, FitsBook, StoreValue}
 use Rattle.medium.specs.declared.fault.MediumFault.{MediumFault}
 use Rattle.medium.specs.declared.fault.MediumFault.TheVariants.{Read}
-use Rattle.medium.proofs.CallsSent.{read_sends}
-use Rattle.cache.proofs.Maps.{listed_is}
-use Rattle.blocks.specs.Calls.{block_reads, reads_of, CostsReads}
 use Rattle.medium.specs.Sent.{SendsUpTo}
+use Rattle.medium.proofs.CallsSent.{read_sends}
 use Rattle.medium.proofs.Moments.{quiet_joined}
+use Rattle.spec.specs.Blocks.{Array}
+use Rattle.spec.specs.Book.{Book, array_of, blocks_at}
+use Rattle.cache.specs.Blocks.{over, is_listed, unlisted}
+use Rattle.cache.specs.Entries.{map_of, Entries}
+use Rattle.cache.proofs.Maps.{listed_is}
 use Rattle.cache.proofs.Arrays.{unlisted_most}
+use Rattle.blocks.specs.Reads.{IsInBatch, ReadsBlock}
+use Rattle.blocks.specs.StoreValue.{Cached, blocks_of, FitsBook, StoreValue}
+use Rattle.blocks.specs.Calls.{block_reads, reads_of, CostsReads}
 use Rattle.blocks.specs.Passing.{KeepsStore}
 use Rattle.blocks.specs.Turns.{IsTurn}
 use Rattle.blocks.proofs.SectorsRead.{one_more, fewer_read}
@@ -73,12 +73,8 @@ put_block array address i at size end to block at_is size_is end_is inside alike
     ∙ (ap (λ (l : List ℕ). blocks_at array address i ++ l) is ∙ sym (one_block array address i))))
 
 reads_suc : (s : Cached) (address i : ℕ) → reads_of s address (suc i) ≡ reads_of s address i + block_reads s (address + i)
-reads_suc s address zero =
-    let here : address ≡ address + 0 = omega arith in
-    omega (arith, ap (λ (n : ℕ). block_reads s n) here)
-reads_suc s address (suc i) =
-    let last : address + 1 + i ≡ address + suc i = omega arith in
-    omega (arith, reads_suc s (address + 1) i, ap (λ (n : ℕ). block_reads s n) last)
+reads_suc s address zero = grind arith
+reads_suc s address (suc i) = grind (arith, reads_suc s (address + 1) i)
 
 -- one block more
 pub reads_more : (s : Cached) (address i : ℕ) → reads_of s address (i + 1) ≡ reads_of s address i + block_reads s (address + i)

@@ -185,7 +185,7 @@ pub record WorksOn {M : Type 0} (state : M → State) (Follows : M → M → Typ
   pub left : LeavesFewer old.cached new.cached
   pub active : MayEmpty (active_of old.cached) (active_of new.cached)
 
--- ---- what the calls of a store do that make it go ahead.
+-- ---- what the calls of a store do that make it go ahead
 
 -- this is known of each of them: both batches stay, and no step is left of a record
 pub record StaysIdle (old new : Cached) : Type 0 where

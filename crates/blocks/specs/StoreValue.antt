@@ -131,7 +131,8 @@ pub record FitsBook (m : State) (s : Cached) (book : Book) : Type 0 where
   pub floor_count : ℕ
   pub middle_count : ℕ
   pub arrays : ShowsBook book floor_count middle_count view.array
-      (over (map_of s.frozen) view.array) (over (map_of s.active) (over (map_of s.frozen) view.array))
+      (over (map_of s.frozen) view.array)
+      (over (map_of s.active) (over (map_of s.frozen) view.array))
   -- there is a stamp for each batch: the next one behind the durable records, with the batches
   -- counted, is among those that the writes allow
   pub stamps : s.log.head + length s.log.waiting + wants s.frozen.numbers + wants s.active.numbers

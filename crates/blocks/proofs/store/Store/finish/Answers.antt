@@ -131,8 +131,8 @@ returns g c =
     let few : c.begin.new.self.cached.log.steps_left ≤ most_steps old.log.shape.format =
     rw (first, shape) (few_steps_for old.log.shape.format (length numbers) within) in
     let finishes : OnOk c.write_out-2.result (c.write_out-2.new.self.cached.log ≡ finished ahead old.frozen old.log) =
-    on_ok_weaker c.write_out-2.result (λ written. made_finished ahead numbers (firsts_in old.frozen) old.log _ _ idle some room.room.made (rw first at written))
-    wrote.batch.written in
+    on_ok_weaker c.write_out-2.result (λ written.
+    made_finished ahead numbers (firsts_in old.frozen) old.log _ _ idle some room.room.made (rw first at written)) wrote.batch.written in
     let fill = λ (on : ahead ≡ true) (filling : IsFilling old.log).
     fills numbers (firsts_in old.frozen) old.log filling (room.blocks on) some in
     let stay = λ (on : ahead ≡ true) (steady : IsSteady old.log).

@@ -1,13 +1,13 @@
 use Rattle.std.proofs.Common.{◌+◌, ◌≤◌, ◌<◌, ℕ, length, refl, ◌∙◌, ap, sym, inl, arith, rules}
 use Rattle.std.proofs.lemmas.Bool.{false≢true}
-use Rattle.journal.specs.Places.{Shape}
 use Rattle.medium.specs.Sent.{sent, SendsUpTo}
 use Rattle.medium.specs.declared.fault.MediumFault.TheVariants.{Flush}
+use Rattle.journal.specs.Places.{Shape}
 use Rattle.redo_log.specs.Value.{HasRoom, of_oldest, sends_of_oldest, most_retire_sends, turn_calls, turn_sends, turn_flushes}
 use Rattle.blocks.specs.StoreValue.{steps_left}
+use Rattle.blocks.specs.Passing.{PassesPaid}
 use Rattle.blocks.proofs.Room.{IsFull, none_counted, one_at_most, counts_more, counts_room, room_is_made, at_most_refused, more_calls}
 use Rattle.blocks.proofs.Room.{more_sends, more_flushes, next_few}
-use Rattle.blocks.specs.Passing.{PassesPaid}
 use Rattle.blocks.proofs.Paid.{paid_then, on_paid, rested_paid}
 use Rattle.blocks.proofs.store.Store.make_room.Given.{Over}
 use Rattle.blocks.proofs.store.Store.make_room.Goals as goal

@@ -20,7 +20,8 @@ returns g c =
     let old = c.args.self.now in
     let live : is_dead old.cached ≡ false = sym c.is_dead.ensures ∙ c.if-is_dead.false in
     let on : old.goes_ahead ≡ true = rw (← c.self.view_is) c.if-not-self.false in
-    let idle : old.cached.log.steps_left ≡ 0 = rw (← c.self.view_is) (c.self.invariant.rests (rw (← c.self.view_is) at live) c.if-self.false) in
+    let idle : old.cached.log.steps_left ≡ 0 =
+    rw (← c.self.view_is) (c.self.invariant.rests (rw (← c.self.view_is) at live) c.if-self.false) in
     let counts = c.count_flush.ensures.counts in
     let is = counted_store c.count_flush.ensures in
     let goes = rw is at c.step_ahead.ensures.goes in
