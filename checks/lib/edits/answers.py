@@ -12,6 +12,8 @@ USES = [
     "use Rattle.std.proofs.lemmas.Grind as tried_grind",
     "use native.Mathlib.Omega as tried_omega",
 ]
+# An answer to a goal.
+ANSWER = re.compile(r"^pub (\S+) : goal\.\1$", re.M)
 TRIED = "first_of (search tried_rules.rules, grind (tried_omega.arith, tried_grind.common_steps) steps 2000000)"
 
 
@@ -30,6 +32,25 @@ def without_answers(text, goals):
         if not answered:
             kept.append(line)
     return kept
+
+
+def blocks_of(text):
+    """The declarations of a file of answers by their names, each with its words."""
+    found, name = {}, ""
+    for line in text.split("\n"):
+        begins = re.match(r"(?:pub )?([^\s)}\]]+)", line)
+        name = begins[1] if begins else name
+        found.setdefault(name, set()).update(re.split(r"[\s(){}\[\],;.]+", line))
+    return found
+
+
+def alone(text, goals):
+    """The lines of a file of answers, but for the answers on which those to these goals do not stand."""
+    blocks, answered = blocks_of(text), {*ANSWER.findall(text)}
+    kept = {it for it in blocks if it not in answered} | {*goals}
+    while cited := {it for it in answered - kept if any(it in blocks.get(other, ()) for other in kept)}:
+        kept |= cited
+    return without_answers(text, answered - kept)
 
 
 def with_tries(lines, function, tries):
@@ -55,7 +76,7 @@ def answers_of(edit):
 
 def goals_among(edit, names):
     """Those of these names of answers that answer a goal. The others are lemmas, on which answers stand."""
-    answered = {*edit.tried[:1], *re.findall(r"^pub (\S+) : goal\.\1$", answers_of(edit), re.M)}
+    answered = {*edit.tried[:1], *ANSWER.findall(answers_of(edit))}
     return [it for it in names if it in answered]
 
 

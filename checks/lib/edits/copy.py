@@ -36,10 +36,8 @@ class Copy:
         for function in filter(None, self.functions.values()):
             self.answer_nothing(function)
         for edit in edits if narrows else ():
-            if (edit.untried or edit.tried) and self.functions[edit] and not edit.is_control:
+            if edit.is_narrowed and self.functions[edit]:
                 self.leave(edit, self.functions[edit])
-                if edit.tried:
-                    self.search_nothing(edit)
 
     def change(self):
         """Makes the changes of the edits that stand in their functions themselves."""
@@ -83,28 +81,36 @@ class Copy:
         is_there = path in self.texts or os.path.exists(f"{self.crate.folder}/{path}")
         return path, self.text(path) if is_there else ""
 
-    def try_goals(self, function, tries):
-        """Has a function as it is answer these goals as its edits do that try them."""
+    def ask_goals(self, edits):
+        """Has a function as it is answer the goals that these edits of it ask for, as they do, and no other."""
+        function = edits[0].function
         path, text = self.answers_of(function)
-        self.texts[path] = "\n".join(answers.with_tries(text.split("\n"), function, tries))
+        asks = self.search_nothing(function, edits[0].spans[0])
+        lines = answers.alone(text, {it.asked for it in edits}) if asks else text.split("\n")
+        self.texts[path] = "\n".join(answers.with_tries(lines, function, [it.tried for it in edits if it.tried]))
         self.named.append(function)
 
     def leave(self, edit, function):
-        """Has the goal of an edited function that is to be tried answered by a search, and leaves those open that are not."""
+        """Has the goal that is asked for answered by a search, or by the function's own answer, and no other. Where its lines ask for none, or the
+        others would be searched, it leaves those open that its line names."""
         path, text = self.answers_of(function)
-        lines = answers.with_tries(answers.without_answers(text, edit.untried), function, [edit.tried] if edit.tried else [])
+        asks = bool(edit.asked) and self.search_nothing(function, self.spans[edit][0])
+        lines = answers.alone(text, {edit.asked}) if asks else answers.without_answers(text, edit.untried)
+        lines = answers.with_tries(lines, function, [edit.tried] if edit.tried else [])
         self.narrowed[function] = Narrowed(path, len(lines))
-        self.texts[path] = "\n".join(lines + answers.left_open(edit.untried))
+        self.texts[path] = "\n".join(lines + answers.left_open(() if asks else edit.untried))
 
-    def search_nothing(self, edit):
-        """Has the check of an edited function search for none of its goals by itself: so a goal without an answer costs nothing. Where an attribute
-        tells how it searches, that stays. No line moves."""
-        file, first, last = dataclasses.astuple(self.spans[edit][0])
+    def search_nothing(self, function, span):
+        """Has the check of a function that stands there search for none of its goals by itself: so a goal without an answer costs nothing. Where an
+        attribute tells how it searches, that stays. No line moves. Returns whether nothing is searched."""
+        file, first, last = dataclasses.astuple(span)
         lines = self.text(file).split("\n")
-        at = twins.line_of(self.functions[edit], lines, first - 1, last)
-        if at is not None and not twins.tells_tactic(lines, at):
-            lines[at] = re.sub("^ *", r"\g<0>#[tactic(none)] ", lines[at])
-            self.texts[file] = "\n".join(lines)
+        at = twins.line_of(function, lines, first - 1, last)
+        if at is None or twins.tells_tactic(lines, at):
+            return False
+        lines[at] = re.sub("^ *", r"\g<0>#[tactic(none)] ", lines[at])
+        self.texts[file] = "\n".join(lines)
+        return True
 
     def text(self, file):
         return self.texts[file] if file in self.texts else sources.text_of(f"{self.crate.folder}/{file}")

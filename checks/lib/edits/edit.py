@@ -10,6 +10,8 @@ import re
 from lib import sources
 
 INSIDE = ("src/", "specs/", "proofs/")
+# The lines by which an edit tells what its check does not have to try.
+NOTES = ("untried:", "tried:", "only:")
 
 
 @dataclasses.dataclass(frozen=True)
@@ -48,9 +50,11 @@ class Edit:
     function: str
     text: sources.Function
     spans: tuple
-    # the goals of the function that its check does not try, and the one that is tried by an answer, with the arguments of that
+    # the goals of the function that its check does not try; the one that is tried by an answer, with the arguments of that; the one that is tried
+    # alone, by the function's own answer
     untried: tuple
     tried: tuple
+    only: tuple
 
     @property
     def name(self):
@@ -60,6 +64,16 @@ class Edit:
     def is_control(self):
         """Whether it keeps the meaning of a body."""
         return self.path.endswith(".control")
+
+    @property
+    def is_narrowed(self):
+        """Whether its lines tell what its check does not have to try."""
+        return not self.is_control and bool(self.untried or self.tried or self.only)
+
+    @property
+    def asked(self):
+        """The one goal that its lines ask for, and nothing else, or nothing."""
+        return "".join([*self.only, *self.tried][:1])
 
     @property
     def is_of_body(self):
@@ -84,7 +98,7 @@ def read(crate, path):
     found = [(function, span) for _, function, span in places if span]
     one = functions.pop() if len(functions) == 1 and found else None
     function, spans = found[0][0] if found else None, tuple(span for _, span in found)
-    notes = words_behind("untried:", text), words_behind("tried:", text)
+    notes = [words_behind(it, text) for it in NOTES]
     return Edit(crate, path, texts, why, changes, one, function, spans, *notes)
 
 

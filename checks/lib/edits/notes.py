@@ -1,20 +1,41 @@
-"""Writes into edits what their checks do not have to try: the lines `untried:` and `tried:`."""
+"""Writes into edits what their checks do not have to try: the lines `untried:`, `tried:` and `only:`."""
+
+import dataclasses
 
 from lib import sources
 from lib.edits import answers, twins
+from lib.edits.edit import NOTES
 
 
-def note(edit, refused, searched, known):
-    """Writes into an edit which goals its check does not have to try: those that were left open by its line, and of those that it leaves open now all
-    but one. Where that one is searched, it is tried by an answer that asks for the search."""
-    goals = [*answers.goals_among(edit, refused), *searched]
+@dataclasses.dataclass(frozen=True)
+class Open:
+    """The goals of an edited function that are left open: those whose own answer is refused, those of them where it is refused by more than a name
+    that is gone, those that the search did not prove, and those that a line left open."""
+
+    refused: list
+    held: list
+    searched: list
+    known: tuple
+
+
+def note(edit, found):
+    """Writes into an edit which goals its check does not have to try: of those that it leaves open all but one. Where that one is refused by the
+    function's own answer, that alone is asked for; where it is searched, it is tried by an answer that asks for the search."""
+    refused, held = (answers.goals_among(edit, it) for it in (found.refused, found.held))
+    goals = [*held, *refused, *found.searched]
     tried = tried_of(edit, goals)
-    untried = sorted({*known, *goals} - {tried})
-    lines = [f"untried: {' '.join(untried)}"] if untried else []
-    if twins.can_be_twin(edit) and (tried in searched or tried in edit.tried[:1]):
+    lines = [f"untried: {' '.join(untried)}"] if (untried := sorted({*found.known, *goals} - {tried})) else []
+    if tried in edit.tried[:1] or twins.can_be_twin(edit) and tried in found.searched:
         words = edit.tried if tried in edit.tried[:1] else [tried, *answers.arguments_of(edit)]
         lines.append(f"tried: {' '.join(words)}")
-    write_notes(edit, ("untried:", "tried:"), lines)
+    elif is_alone(edit) and tried in held:
+        lines = [f"only: {tried}"]
+    write_notes(edit, NOTES, lines)
+
+
+def is_alone(edit):
+    """Whether no other goal is searched beside the one that an edit asks for: no attribute tells how those of its function are."""
+    return twins.can_be_twin(edit) and not twins.tells_tactic(edit.text.lines, edit.text.at)
 
 
 def tried_of(edit, goals):
@@ -31,13 +52,16 @@ def write_notes(edit, marks, lines):
 
 
 def without_wrong(edits, report):
-    """The edits whose line `tried:` stands, by the report on their functions as they are with these answers. The lines of the others go."""
-    open_ones = [it for it in edits if not report.has_verdict or not report.proves(report.name_of(it.function))]
-    # (where no error names the goal, none of its function's lines can be kept)
-    named = [it for it in open_ones if report.refuses(it.function, it.tried[0])]
-    blamed = {it.function for it in named}
-    gone = [it for it in open_ones if it in named or it.function not in blamed]
-    for edit in gone:
-        write_notes(edit, ("tried:",), [])
-        print(f"{edit.name}: its function is not proved by the answer of its line 'tried:', which goes", flush=True)
-    return [it for it in edits if it not in gone]
+    """The edits whose line `tried:` or `only:` stands, by the report on their functions as they are with these answers alone. Beside one that stands
+    nothing has to be left open. The lines of the others go, and a line `only:` of a goal to which the function has no answer."""
+    kept = []
+    for edit in edits:
+        has_answer = not edit.only or edit.asked in answers.goals_among(edit, edit.only)
+        if has_answer and report.proves_answers(edit.function, [edit.asked]):
+            kept.append(edit)
+            if edit.untried and is_alone(edit):
+                write_notes(edit, ("untried:",), [])
+            continue
+        write_notes(edit, ("only:",) if edit.only else ("tried:",), [])
+        print(f"{edit.name}: `{edit.asked}` of its function is not proved by the answer that its line asks for, which goes", flush=True)
+    return kept

@@ -186,9 +186,15 @@ class Report:
         """Whether the answer to the goal that is tried failed by a search, and by nothing else."""
         return not tried or any(it.goal == tried[0] and OF_SEARCH.match(it.says) for it in self.errors_at(narrowed.path))
 
-    def refuses(self, function, goal):
-        """Whether an error stands at the function's answer to this goal."""
-        return any(it.goal == goal for it in self.errors_at(answers_path(function)))
+    def proves_answers(self, function, goals):
+        """Those of these goals whose answers in the function's file are proved: no error names them, and each error names a goal."""
+        errors = self.errors_at(answers_path(function))
+        is_read = self.has_verdict and not self.unread and self.name_of(function) in self.verdicts and all(it.goal for it in errors)
+        return [it for it in goals if is_read and it not in {error.goal for error in errors}]
+
+    def refuses(self, path, goal):
+        """Whether the answer to this goal in a file is refused by more than that it names what is not there."""
+        return any(it.goal == goal and not it.is_of_what_is_gone for it in self.errors_at(path))
 
     def misses(self, narrowed):
         """Whether a goal that is left open is none of the function's, or its file cannot be read: an error from its line on, or of no name."""
@@ -205,6 +211,7 @@ class Report:
         if not function:
             told = [it for it in self.remarks if ": error" in it.whole or it.is_note]
             return bool(told) and all(not it.is_note and "proofs/" in it.file and it.is_of_what_is_gone for it in told)
-        own = [it for it in self.remarks if it.file.startswith(own_proof(function) + "/")]
-        inside = [it for it in self.remarks if it not in own and any(span.holds(it.file, it.line) for span in spans)]
+        # (a hole that leaves a goal open is told there too, and is no reason)
+        own = [it for it in self.remarks if it.is_error and not it.is_note and it.file.startswith(own_proof(function) + "/")]
+        inside = [it for it in self.remarks if any(span.holds(it.file, it.line) for span in spans)]
         return bool(own) and not inside and all(it.is_of_what_is_gone for it in own)

@@ -3,6 +3,7 @@
 import dataclasses
 
 from lib.edits import notes
+from lib.edits.answers import answers_path
 from lib.edits.copy import Copy
 from lib.edits.report import Report, is_part
 from lib.edits.shut import shut_texts
@@ -77,6 +78,8 @@ class Checked:
             return f"no search for `{edit.tried[0]}` failed"
         if report.misses(narrowed):
             return "a goal that is left open is not there"
+        if edit.only:
+            return "" if report.refuses(narrowed.path, edit.asked) else f"the answer to `{edit.asked}` is not there, or not refused by itself"
         return "all that is refused is an answer to a goal that is not there" if report.may_have_lost(self.name_of(edit), edit.tried) else ""
 
 
@@ -131,7 +134,7 @@ class Trial:
             return [found]
         left = checked.leaves_too_much(edit, found)
         if left:
-            tell(f"{edit.name}: its lines 'untried:' or 'tried:' leave too much or name what is not there, so it is tried whole: {left}")
+            tell(f"{edit.name}: its lines leave too much or name what is not there, so it is tried whole: {left}")
             return self.judged([edit], shuts, False)
         if why and len(checked.batch) > 1:
             return self.judged([edit], shuts, narrows)
@@ -152,22 +155,18 @@ class Trial:
         edit, copy, report = found.edit, checked.copy, checked.report
         name = checked.name_of(edit)
         # (of an edit that tries a goal the other goals are not searched for)
-        tries = edit.tried and copy.functions[edit] in copy.narrowed
-        if name and not tries and not found.why and not found.is_weak and name == copy.functions[edit] and not report.may_have_lost(name, ()):
+        asks = edit.asked and copy.functions[edit] in copy.narrowed
+        if name and not asks and not found.why and not found.is_weak and name == copy.functions[edit] and not report.may_have_lost(name, ()):
             known = edit.untried if copy.functions[edit] in copy.narrowed else ()
-            notes.note(edit, report.refused_goals(name), report.searched_goals(name, copy.spans[edit]), known)
+            refused = report.refused_goals(name)
+            held = [it for it in refused if report.refuses(answers_path(name), it)]
+            notes.note(edit, notes.Open(refused, held, report.searched_goals(name, copy.spans[edit]), known))
 
-    def confirmed(self, edits):
-        """Gives each function as it is the answers by which edits of it are tried. The lines of those go that do not prove it, and of those whose
-        goal it does not have, since it is one of the edited function alone. Returns how many are left and how many went."""
-        trying, gone = [it for it in edits if it.tried and it.function and not it.is_control], 0
-        while trying:
-            copy = Copy(self.crate)
-            for function in dict.fromkeys(it.function for it in trying):
-                copy.try_goals(function, [it.tried for it in trying if it.function == function])
-            left = notes.without_wrong(trying, self.report(copy, False))
-            if len(left) == len(trying):
-                break
-            gone += len(trying) - len(left)
-            trying = left
-        return len(trying), gone
+    def confirmed(self, edits, shuts):
+        """Gives each function as it is the answers by which edits of it are tried, and no other. The lines of those go that are not proved, and of those
+        whose goal it does not have, since it is one of the edited function alone. Returns how many are left and how many went."""
+        asking, copy = [it for it in edits if it.asked and it.function and not it.is_control], Copy(self.crate)
+        for function in dict.fromkeys(it.function for it in asking):
+            copy.ask_goals([it for it in asking if it.function == function])
+        left = notes.without_wrong(asking, self.report(copy, shuts)) if asking else []
+        return len(left), len(asking) - len(left)

@@ -3,6 +3,7 @@
 import tempfile
 import unittest
 
+from lib import sources
 from lib.edits import answers, shut, twins
 from lib.edits.copy import Copy, Narrowed, batches_of
 from lib.edits.edit import read
@@ -59,6 +60,7 @@ class Copies(unittest.TestCase):
         self.assertEqual((texts["proofs/proved/Answers.antt"], "proofs/is_full/Proof.antt" in texts), (None, False))
 
     def test_goals_are_left_open_behind_the_answers(self):
+        self.tell_how_it_searches()
         (one,) = self.edits("one_is_three.edit")
         copy = Copy(self.crate, [one], narrows=True)
         lines = copy.texts["proofs/other/Answers.antt"].split("\n")
@@ -66,6 +68,32 @@ class Copies(unittest.TestCase):
         self.assertIn(f"{toy.MORE} c = not_tried", lines)
         narrowed = copy.narrowed["toy::other"]
         self.assertEqual(narrowed, Narrowed("proofs/other/Answers.antt", lines.index("not_tried = ?") - 1))
+
+    def test_where_nothing_is_searched_nothing_has_to_be_left_open(self):
+        (one,) = self.edits("one_is_three.edit")
+        lines = Copy(self.crate, [one], narrows=True).texts["proofs/other/Answers.antt"].split("\n")
+        self.assertEqual([it for it in lines if it.startswith("pub ")], [f"pub {toy.ONE} : goal.{toy.ONE}"])
+
+    def test_a_goal_that_is_asked_for_alone_has_the_functions_own_answer(self):
+        four, more = self.edits("proved_is_four.edit", "names_no_answer.edit")
+        copy = Copy(self.crate, [four, more], narrows=True)
+        own = sources.text_of(f"{self.crate.folder}/proofs/proved/Answers.antt")
+        self.assertEqual(copy.texts["proofs/proved/Answers.antt"], own)
+        self.assertNotIn("pub ", copy.texts["proofs/other/Answers.antt"])
+        self.assertEqual(copy.texts["src/lib.rt"].count("#[tactic(none)] pub fn "), 2)
+
+    def test_answers_on_which_one_does_not_stand_go(self):
+        one, two, three = (f"pub {it} : goal.{it}\n{it} c =\n  {by}" for it, by in (("one", "two c"), ("two", "held"), ("three", "(one c)")))
+        text = "\n".join(["use a", "", "held = b", one, two, three])
+        self.assertEqual("\n".join(answers.alone(text, {"one"})), "\n".join(["use a", "", "held = b", one, two]))
+        self.assertEqual("\n".join(answers.alone(text, {"two"})), "\n".join(["use a", "", "held = b", two]))
+
+    def test_a_function_as_it_is_answers_what_its_edits_ask_for(self):
+        copy = Copy(self.crate)
+        copy.ask_goals(self.edits("one_is_three.edit", "two_is_six.edit"))
+        lines = copy.texts["proofs/other/Answers.antt"].split("\n")
+        self.assertTrue({f"{it} c = {answers.TRIED}" for it in (toy.ONE, toy.MORE)} < {*lines})
+        self.assertEqual((copy.named, "#[tactic(none)] pub fn other(" in copy.texts["src/lib.rt"]), (["toy::other"], True))
 
     def test_of_a_function_with_a_goal_that_is_tried_nothing_else_is_searched(self):
         one, six, three = self.edits("one_is_three.edit", "two_is_six.edit", "leaves_all.edit")
@@ -75,11 +103,13 @@ class Copies(unittest.TestCase):
         told = [it for it in text.split("\n") if "tactic(none)" in it]
         self.assertEqual([it.split("(number")[0] for it in told], [f"#[tactic(none)] pub fn other{it}" for it in ("", "_twin_1")])
 
-    def test_an_attribute_that_tells_how_goals_are_searched_stays(self):
-        with open(f"{self.crate.folder}/src/lib.rt", encoding="utf-8") as file:
-            text = file.read().replace("pub fn other", "#[tactic(auto, using(one))]\npub fn other")
+    def tell_how_it_searches(self):
+        text = sources.text_of(f"{self.crate.folder}/src/lib.rt")
         with open(f"{self.crate.folder}/src/lib.rt", "w", encoding="utf-8") as file:
-            file.write(text)
+            file.write(text.replace("pub fn other", "#[tactic(auto, using(one))]\npub fn other"))
+
+    def test_an_attribute_that_tells_how_goals_are_searched_stays(self):
+        self.tell_how_it_searches()
         copy = Copy(self.crate, self.edits("one_is_three.edit"), narrows=True)
         self.assertNotIn("tactic(none)", copy.texts["src/lib.rt"])
 

@@ -74,6 +74,20 @@ class Remarks(unittest.TestCase):
         self.assertFalse(report(at + "as printed, the two types differ").has_searched(narrowed, ("returns", "c")))
         self.assertTrue(report(at).has_searched(narrowed, ()))
 
+    def test_an_answer_that_is_refused_by_itself(self):
+        path, at = "proofs/a/Answers.antt", "./proofs/a/Answers.antt:7:23: error: "
+        self.assertTrue(report(at + "`returns`: as printed, the two types differ").refuses(path, "returns"))
+        self.assertFalse(report(at + "`returns`: `step` is not in scope").refuses(path, "returns"))
+        self.assertFalse(report(at + "`returns`: module `Rattle.a.Goals` has no `returns`").refuses(path, "returns"))
+        self.assertFalse(report(at + "`left`: as printed, the two types differ").refuses(path, "returns"))
+
+    def test_answers_that_are_proved(self):
+        proves = lambda *lines: report("fn cdb::form::check: not proved", *lines).proves_answers("cdb::form::check", ["one", "two"])
+        at = "./proofs/form/check/Answers.antt:7:1: error: "
+        self.assertEqual(proves(), ["one", "two"])
+        self.assertEqual(proves(at + "`one`: `search`: no proof of `x`"), ["two"])
+        self.assertEqual((proves(at + "expected the end"), report().proves_answers("cdb::form::check", ["one"])), ([], []))
+
     def test_a_goal_left_open_that_is_none_of_the_functions(self):
         narrowed, at = Narrowed("proofs/a/Answers.antt", 8), "./proofs/a/Answers.antt:"
         self.assertTrue(report(at + "12:1: error: `never`: module `Rattle.a.Goals` has no `never`").misses(narrowed))
@@ -92,6 +106,9 @@ class Remarks(unittest.TestCase):
         self.assertTrue(report(gone).is_weak("cdb::form::check", span))
         self.assertFalse(report(gone, "note: src/form.rt:5:1: it is not proved that (`returns`)").is_weak("cdb::form::check", span))
         self.assertFalse(report(gone, gone.replace("is not in scope", "the goal does not follow")).is_weak("cdb::form::check", span))
+        # (a goal that is left open is no reason)
+        left = [f"./proofs/form/check/Answers.antt:{it}" for it in ("9:1: `not_tried` is not admitted: has-holes", "10:13: goal ? in `not_tried`")]
+        self.assertTrue(report(gone, *left).is_weak("cdb::form::check", span))
         self.assertTrue(report(gone).is_weak(None, ()))
         self.assertFalse(report(gone, "src/form.rt:5:1: error[E0308]: mismatched types").is_weak(None, ()))
 

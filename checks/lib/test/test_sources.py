@@ -1,10 +1,13 @@
 """What is read of sources and of edits."""
 
+import contextlib
+import io
 import tempfile
 import unittest
 
 from lib import sources
 from lib.edits import edit, notes
+from lib.edits.report import Output, Report
 from lib.test import toy
 
 TRAIT = """pub trait Device<T> {
@@ -88,8 +91,8 @@ class OfToy(unittest.TestCase):
         self.addCleanup(self.room.cleanup)
         self.crate = toy.Crate("toy", toy.lay(self.room.name))
 
-    def read(self, text):
-        path = f"{self.crate.folder}/edits/tried.edit"
+    def read(self, text, name="tried"):
+        path = f"{self.crate.folder}/edits/{name}.edit"
         with open(path, "w", encoding="utf-8") as file:
             file.write(text)
         return edit.read(self.crate, path)
@@ -101,6 +104,7 @@ class Edits(OfToy):
     def test_a_body(self):
         found = self.read("file: src/lib.rt\nold: self.is_set = true\nnew: self.is_set = false\nuntried: a b\ntried: c g\n")
         self.assertEqual((found.why, found.function, found.untried, found.tried), (None, "toy::Mark::set", ("a", "b"), ("c", "g")))
+        self.assertEqual((found.is_narrowed, found.asked), (True, "c"))
         self.assertIn("        self.is_set = false;\n", found.texts["src/lib.rt"])
 
     def test_a_whole_line_has_its_indent(self):
@@ -126,7 +130,7 @@ class Notes(OfToy):
 
     def noted(self, text, refused, searched):
         found = self.read(f"file: src/lib.rt\nold: 5 }} else\nnew: 6 }} else\n{text}")
-        notes.note(found, refused, searched, found.untried)
+        notes.note(found, notes.Open(refused, refused, searched, found.untried))
         return sources.text_of(found.path).split("\n", 3)[3]
 
     def test_a_clause_of_the_function_itself_is_tried(self):
@@ -141,11 +145,28 @@ class Notes(OfToy):
     def test_an_answer_that_is_refused_needs_no_search(self):
         text = "file: src/lib.rt\nold: { 2 } else\nnew: { 3 } else\n"
         goal = "returns-then-number-eq1"
-        notes.note(self.read(text), [goal], ["left"], ())
+        notes.note(self.read(text), notes.Open([goal], [goal], ["left"], ()))
+        self.assertEqual(sources.text_of(f"{self.crate.folder}/edits/tried.edit"), f"{text}only: {goal}\n")
+
+    def test_an_answer_that_names_what_is_gone_is_not_asked_for(self):
+        text = "file: src/lib.rt\nold: { 2 } else\nnew: { 3 } else\n"
+        notes.note(self.read(text), notes.Open(["returns-then-number-eq1"], [], ["left"], ()))
         self.assertEqual(sources.text_of(f"{self.crate.folder}/edits/tried.edit"), f"{text}untried: left\n")
 
     def test_a_lemma_is_no_goal(self):
         self.assertEqual(self.noted("", ["written"], ["returns", "left"]), "untried: left\ntried: returns c\n")
+
+    def test_a_line_stands_whose_answer_is_proved_by_itself(self):
+        text = "file: src/lib.rt\nold: 5 } else\nnew: 6 } else\n"
+        own = "file: src/lib.rt\nold: { 2 } else\nnew: { 3 } else\nonly: returns-then-number-eq1\n"
+        found = [self.read(f"{text}untried: a\ntried: {it} c\n", it) for it in ("one", "two")]
+        found += [self.read(own, "own"), self.read(f"{text}only: none\n", "none")]
+        said = ["./proofs/other/Answers.antt:7:1: error: `two`: `search`: no proof", "fn toy::other: not proved", "fn toy::proved: not proved", "only=2"]
+        with contextlib.redirect_stdout(io.StringIO()):
+            left = notes.without_wrong(found, Report(Output(1, "\n".join(said))))
+        self.assertEqual([it.name for it in left], ["toy/one.edit", "toy/own.edit"])
+        wanted = [f"{text}tried: one c\n", f"{text}untried: a\n", own, text]
+        self.assertEqual([sources.text_of(it.path) for it in found], wanted)
 
 
 if __name__ == "__main__":

@@ -6,7 +6,7 @@ import os
 
 SOURCE = """//! What checks/tools asks the prover about.
 #![tactic(auto)]
-ghost use Rattle.std.specs.Prelude.{◌≡◌, ◌↔◌, Bool, IsTrue, false, length, true};
+ghost use Rattle.std.specs.Prelude.{◌≡◌, ◌↔◌, ◌<◌, Bool, IsTrue, false, length, true};
 
 use std::marker::Model;
 
@@ -45,6 +45,15 @@ pub fn proved(number: u32) -> u32
     if number == 1 { 2 } else { number }
 }
 
+/// Whether there is a byte, with a proof that names the call.
+pub fn named(bytes: &[u8], number: u32) -> bool
+    requires { number < 8 }
+    ensures { IsTrue result ↔ (length bytes.now ≡ 0 → IsTrue false) }
+{
+    let empty = is_empty(bytes);
+    !empty
+}
+
 /// A mark that can be set and taken.
 pub struct Mark {
     is_set: bool,
@@ -79,7 +88,14 @@ use Rattle.toy.proofs.proved.Goals as goal
 pub returns-then-number-eq1 : goal.returns-then-number-eq1
 returns-then-number-eq1 c = search rules
 """
+NAMED = """use Rattle.std.proofs.Common.{rules}
+use Rattle.toy.proofs.named.Goals as goal
+
+pub returns : goal.returns
+returns c = let said = c.is_empty-empty.ensures in search rules
+"""
 ONE, MORE = "returns-then-number-eq1-clause-one", "returns-then-number-eq2-clause-more"
+PROVED = "returns-then-number-eq1"
 CONTROL = "empty_is_less_than_one.control"
 EDITS = {
     "empty_is_one_byte.edit": "file: src/lib.rt\nold: bytes.len() == 0\nnew: bytes.len() == 1\n",
@@ -97,6 +113,12 @@ EDITS = {
     "a_clause_of_none.edit": "file: src/lib.rt\nold: self.new ≡ true\nnew: self.new ≡ none_such\n",
     "turned_around.edit": "file: src/lib.rt\nold: if number == 1 { 2 } else { number }\nnew: if number != 1 { number } else { 2 }\n",
     "proved_is_three.edit": "file: src/lib.rt\nold: if number == 1 { 2 }\nnew: if number == 1 { 3 }\n",
+    "turned_alone.edit": "file: src/lib.rt\nold: if number == 1 { 2 } else { number }\nnew: if number != 1 { number } else { 2 }\n"
+    f"only: {PROVED}\n",
+    "proved_is_four.edit": f"file: src/lib.rt\nold: if number == 1 {{ 2 }}\nnew: if number == 1 {{ 4 }}\nonly: {PROVED}\n",
+    "names_no_answer.edit": f"file: src/lib.rt\nold: 5 }} else\nnew: 6 }} else\nonly: {MORE}\n",
+    "asks_the_length.edit": "file: src/lib.rt\nold: let empty = is_empty(bytes);\nnew: let _more = number + 1; let empty = bytes.len() == 0;\n"
+    "untried: overflow_add-number\n",
     "sets_nothing.edit": "file: src/lib.rt\nold: self.is_set = true;\nnew: self.is_set = false;\n",
     "leaves_the_mark.edit": "file: src/lib.rt\nold: std::mem::take(&mut self.is_set)\nnew: self.is_set\n",
     "stands_nowhere.edit": "file: src/lib.rt\nold: no such text\nnew: another\n",
@@ -133,6 +155,8 @@ QUESTIONS = (
     Question("no_name", ("a_name_of_none.edit",), wrong={"a_name_of_none.edit": "it does not reach the prover: "}),
     Question("no_clause", ("a_clause_of_none.edit",), wrong={"a_clause_of_none.edit": "it does not reach the prover: "}),
     Question("names_gone", ("turned_around.edit", "proved_is_three.edit"), weak=("turned_around.edit",)),
+    Question("alone", ("proved_is_four.edit", "turned_alone.edit", "names_no_answer.edit"), weak=("turned_alone.edit",)),
+    Question("names_gone_beside_a_hole", ("asks_the_length.edit",), weak=("asks_the_length.edit",)),
     Question("nothing_shut", ("empty_is_one_byte.edit", "sets_nothing.edit"), shuts=False),
 )
 
@@ -140,7 +164,8 @@ QUESTIONS = (
 def lay(room):
     """Lays the crate into a folder as a repository, and gives its folder."""
     folder = f"{room}/crates/toy"
-    files = {f"{room}/crates.txt": "toy:\n", f"{folder}/src/lib.rt": SOURCE, f"{folder}/proofs/proved/Answers.antt": ANSWERS}
+    files = {f"{room}/crates.txt": "toy:\n", f"{folder}/src/lib.rt": SOURCE}
+    files.update({f"{folder}/proofs/{name}/Answers.antt": text for name, text in (("proved", ANSWERS), ("named", NAMED))})
     files.update({f"{folder}/edits/{name}": text for name, text in EDITS.items()})
     for path, text in files.items():
         os.makedirs(os.path.dirname(path), exist_ok=True)
