@@ -163,8 +163,8 @@ class Trial:
             notes.note(edit, notes.Open(refused, held, report.searched_goals(name, copy.spans[edit]), known))
 
     def confirmed(self, edits, shuts):
-        """Gives each function as it is the answers by which edits of it are tried, and no other. The lines of those go that are not proved, and of those
-        whose goal it does not have, since it is one of the edited function alone. Returns how many are left and how many went."""
+        """Gives each function as it is the answers by which edits of it are tried, and no other. The lines of those go that are not proved, and of
+        those whose goal it does not have, since it is one of the edited function alone. Returns how many are left and how many went."""
         asking, copy = [it for it in edits if it.asked and it.function and not it.is_control], Copy(self.crate)
         for function in dict.fromkeys(it.function for it in asking):
             copy.ask_goals([it for it in asking if it.function == function])

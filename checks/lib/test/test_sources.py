@@ -161,9 +161,10 @@ class Notes(OfToy):
         own = "file: src/lib.rt\nold: { 2 } else\nnew: { 3 } else\nonly: returns-then-number-eq1\n"
         found = [self.read(f"{text}untried: a\ntried: {it} c\n", it) for it in ("one", "two")]
         found += [self.read(own, "own"), self.read(f"{text}only: none\n", "none")]
-        said = ["./proofs/other/Answers.antt:7:1: error: `two`: `search`: no proof", "fn toy::other: not proved", "fn toy::proved: not proved", "only=2"]
+        said = ["fn toy::other: not proved", "fn toy::proved: not proved", "only=2"]
+        error = "./proofs/other/Answers.antt:7:1: error: `two`: `search`: no proof"
         with contextlib.redirect_stdout(io.StringIO()):
-            left = notes.without_wrong(found, Report(Output(1, "\n".join(said))))
+            left = notes.without_wrong(found, Report(Output(1, "\n".join([error, *said]))))
         self.assertEqual([it.name for it in left], ["toy/one.edit", "toy/own.edit"])
         wanted = [f"{text}tried: one c\n", f"{text}untried: a\n", own, text]
         self.assertEqual([sources.text_of(it.path) for it in found], wanted)
