@@ -45,12 +45,13 @@ def blocks_of(text):
 
 
 def alone(text, goals):
-    """The lines of a file of answers, but for the answers on which those to these goals do not stand."""
-    blocks, answered = blocks_of(text), {*ANSWER.findall(text)}
+    """The lines of a file of answers, but for the answers on which those to these goals do not stand, and the goals of those."""
+    blocks, answered = blocks_of(text), ANSWER.findall(text)
     kept = {it for it in blocks if it not in answered} | {*goals}
-    while cited := {it for it in answered - kept if any(it in blocks.get(other, ()) for other in kept)}:
+    while cited := {it for it in answered if it not in kept and any(it in blocks.get(other, ()) for other in kept)}:
         kept |= cited
-    return without_answers(text, answered - kept)
+    gone = [it for it in answered if it not in kept]
+    return without_answers(text, gone), gone
 
 
 def with_tries(lines, function, tries):

@@ -1,6 +1,7 @@
 """A copy of a crate: the texts of files in which it differs from the crate, so that one check of it judges many edits."""
 
 import dataclasses
+import math
 import os
 import re
 
@@ -11,10 +12,10 @@ from lib.edits.edit import Span, own_proof
 
 @dataclasses.dataclass(frozen=True)
 class Narrowed:
-    """The file of answers of a function of which goals are left open, and the first line of these."""
+    """The file of answers of a function of which goals are left open, and the first line of these, where each has to be there."""
 
     path: str
-    first: int
+    first: float
 
 
 class Copy:
@@ -86,8 +87,10 @@ class Copy:
         function = edits[0].function
         path, text = self.answers_of(function)
         asks = self.search_nothing(function, edits[0].spans[0])
-        lines = answers.alone(text, {it.asked for it in edits}) if asks else text.split("\n")
-        self.texts[path] = "\n".join(answers.with_tries(lines, function, [it.tried for it in edits if it.tried]))
+        lines, left = answers.alone(text, {it.asked for it in edits}) if asks else (text.split("\n"), ())
+        lines = answers.with_tries(lines, function, [it.tried for it in edits if it.tried])
+        self.texts[path] = "\n".join(lines + answers.left_open(left))
+        self.narrowed[function] = Narrowed(path, math.inf)
         self.named.append(function)
 
     def leave(self, edit, function):
@@ -95,10 +98,14 @@ class Copy:
         others would be searched, it leaves those open that its line names."""
         path, text = self.answers_of(function)
         asks = bool(edit.asked) and self.search_nothing(function, self.spans[edit][0])
-        lines = answers.alone(text, {edit.asked}) if asks else answers.without_answers(text, edit.untried)
+        if asks:
+            lines, left = answers.alone(text, {edit.asked})
+        else:
+            lines, left = answers.without_answers(text, edit.untried), edit.untried
         lines = answers.with_tries(lines, function, [edit.tried] if edit.tried else [])
-        self.narrowed[function] = Narrowed(path, len(lines))
-        self.texts[path] = "\n".join(lines + answers.left_open(() if asks else edit.untried))
+        # (where one goal is asked for, the others may be gone: nothing is said of them)
+        self.narrowed[function] = Narrowed(path, math.inf if asks else len(lines))
+        self.texts[path] = "\n".join(lines + answers.left_open(left))
 
     def search_nothing(self, function, span):
         """Has the check of a function that stands there search for none of its goals by itself: so a goal without an answer costs nothing. Where an

@@ -121,10 +121,13 @@ class Trial:
             if len(batch) > 1:
                 half = len(batch) // 2
                 return self.judged(batch[:half], shuts, narrows) + self.judged(batch[half:], shuts, narrows)
-        return [found for it in batch for found in self.judged_in(checked, it)]
+        found = [(it, self.judged_in(checked, it)) for it in batch]
+        # (what is tried whole goes into one copy, which costs what loading costs)
+        whole = [it for it, those in found if not those]
+        return [one for _, those in found for one in those] + (self.judged(whole, shuts, False) if whole else [])
 
     def judged_in(self, checked, edit):
-        """What is found of an edit by the check of its batch, or by one more."""
+        """What is found of an edit by the check of its batch, or by one more; nothing where it has to be tried whole."""
         shuts, narrows = checked.shuts, checked.narrows
         if self.lacks(checked, edit):
             return self.judged([edit], shuts, narrows)
@@ -135,7 +138,7 @@ class Trial:
         left = checked.leaves_too_much(edit, found)
         if left:
             tell(f"{edit.name}: its lines leave too much or name what is not there, so it is tried whole: {left}")
-            return self.judged([edit], shuts, False)
+            return []
         if why and len(checked.batch) > 1:
             return self.judged([edit], shuts, narrows)
         if self.options.writes_notes:

@@ -85,8 +85,9 @@ class Copies(unittest.TestCase):
     def test_answers_on_which_one_does_not_stand_go(self):
         one, two, three = (f"pub {it} : goal.{it}\n{it} c =\n  {by}" for it, by in (("one", "two c"), ("two", "held"), ("three", "(one c)")))
         text = "\n".join(["use a", "", "held = b", one, two, three])
-        self.assertEqual("\n".join(answers.alone(text, {"one"})), "\n".join(["use a", "", "held = b", one, two]))
-        self.assertEqual("\n".join(answers.alone(text, {"two"})), "\n".join(["use a", "", "held = b", two]))
+        (by_one, gone), (by_two, others) = answers.alone(text, {"one"}), answers.alone(text, {"two"})
+        self.assertEqual(("\n".join(by_one), gone), ("\n".join(["use a", "", "held = b", one, two]), ["three"]))
+        self.assertEqual(("\n".join(by_two), others), ("\n".join(["use a", "", "held = b", two]), ["one", "three"]))
 
     def test_a_function_as_it_is_answers_what_its_edits_ask_for(self):
         copy = Copy(self.crate)
