@@ -1,9 +1,9 @@
 -- How an image is begun by a plan.
 use Rattle.std.specs.Prelude.{◌≡◌, ◌≢◌, ◌⊎◌, ℕ, Option, Some, None}
 use Rattle.journal.specs.declared.log_format.LogFormat.{LogFormat}
-use Rattle.journal.specs.Places.{new_shape}
 use Rattle.journal.specs.Sectors.{version_of}
 use Rattle.recovery.specs.Calls.{AreSizes}
+use Rattle.image_calls.specs.Plans.{shape_by}
 use Rattle.image_calls.specs.declared.image_plan.ImagePlan.{ImagePlan}
 use Rattle.opening.specs.declared.reach.Reach.TheVariants as reach
 use Rattle.disk_calls.specs.Codes.{STARTED, BAD_SIZES}
@@ -20,11 +20,12 @@ plan_in format plan = record {
   format = format;
   blocks = plan.blocks;
   slots = plan.slots;
+  home = plan.home;
 }
 
--- the sizes are in their limits, and the device is long enough for them
+-- the sizes are in their limits, home begins where it may, and the device is long enough for them
 abbrev pub Fits : ImagePlan → Type 0
-Fits plan = AreSizes plan.sectors (new_shape plan.format plan.blocks plan.slots)
+Fits plan = AreSizes plan.sectors (shape_by plan)
 
 -- it is a plan of C that fits, in one of the two formats
 abbrev pub IsPlan : UsbDiskPlan → ImagePlan → Type 0

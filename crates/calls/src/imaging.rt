@@ -59,6 +59,7 @@ fn plan_of(given: &UsbDiskPlan) -> Option<ImagePlan>
         format,
         blocks: given.blocks,
         slots: given.slots,
+        home: given.home,
     };
     if plan.fits() { Some(plan) } else { None }
 }

@@ -24,4 +24,6 @@ pub struct UsbDiskPlan {
     pub slots: u64,
     /// How many blocks a host sees.
     pub blocks: u64,
+    /// The sector of block 0; 0 for the first behind the log.
+    pub home: u64,
 }
