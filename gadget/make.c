@@ -15,8 +15,8 @@
 #define MOST_SECTORS (MOST_BLOCKS + 2 + 249 * MOST_SLOTS)
 
 static const char usage[] =
-    "usbdisk-make IMAGE [--size SIZE | --blocks N] [--slots K] [--format 1|2] [--zero] "
-    "[--replace]\n"
+    "usbdisk-make IMAGE [--size SIZE | --blocks N] [--slots K] [--format 1|2] [--align SIZE] "
+    "[--zero] [--replace]\n"
     "usbdisk-make IMAGE --show\n"
     "usbdisk-make IMAGE --migrate\n"
     "\n"
@@ -30,6 +30,9 @@ static const char usage[] =
     "  --slots K      how many writes of a host, of 240 blocks at most, wait in the log: 1 to 64, "
     "else 6\n"
     "  --format 1|2   else 2, which any host takes\n"
+    "  --align SIZE   the blocks begin at a multiple of it, as of a page of the device: a power of "
+    "two, as 4K or 64K;\n"
+    "                 else directly behind the log\n"
     "  --zero         writes zeros to each block, in place of what lies there\n"
     "  --replace      also where an image, a file system or other data would be lost\n"
     "  --show         tells what image it is, and whether a disk starts on it; writes nothing\n"
@@ -39,7 +42,7 @@ static const char usage[] =
 
 struct options {
     const char *image;
-    uint64_t size, blocks, slots, format;
+    uint64_t size, blocks, slots, format, align;
     bool shows, migrates, zeroes, replaces, makes;
 };
 
@@ -89,6 +92,8 @@ static bool read_value(struct options *options, const char *word, const char *va
         return read_number(value, 1, MOST_BLOCKS, &options->blocks);
     if (!strcmp(word, "--slots"))
         return read_number(value, 1, MOST_SLOTS, &options->slots);
+    if (!strcmp(word, "--align"))
+        return read_size(value, &options->align) && !(options->align & (options->align - 1));
     return read_number(value, 1, 2, &options->format);
 }
 
@@ -117,7 +122,7 @@ static bool read_flag(struct options *options, const char *word)
 static bool takes_value(const char *word)
 {
     return !strcmp(word, "--size") || !strcmp(word, "--blocks") || !strcmp(word, "--slots") ||
-           !strcmp(word, "--format");
+           !strcmp(word, "--format") || !strcmp(word, "--align");
 }
 
 static bool refuse_words(const char *word, const char *cause)
@@ -145,10 +150,29 @@ static int read_word(struct options *options, char **words)
     return 1;
 }
 
+/* Where the log ends. */
+static uint64_t end_of_log(const struct options *options)
+{
+    return 2 + (options->format == 1 ? 50 : 249) * options->slots;
+}
+
+/* Where home begins, which is how many sectors an image takes beside its blocks. */
+static uint64_t home_of(const struct options *options)
+{
+    uint64_t page = options->align / 512;
+    return (end_of_log(options) + page - 1) / page * page;
+}
+
+/* Whether home may begin there: where the log ends, or in format 2 less than a slot behind it. */
+static bool may_begin_home(const struct options *options)
+{
+    return home_of(options) - end_of_log(options) < (options->format == 1 ? 1 : 249);
+}
+
 /* Whether the words go together. */
 static bool read_words(struct options *options, char **words)
 {
-    *options = (struct options){ .slots = 6, .format = 2 };
+    *options = (struct options){ .slots = 6, .format = 2, .align = 512 };
     while (*words) {
         int taken = read_word(options, words);
         if (!taken)
@@ -161,14 +185,11 @@ static bool read_words(struct options *options, char **words)
         return refuse_words("--show", "goes with no other word");
     if (options->migrates && options->makes)
         return refuse_words("--migrate", "goes with no other word");
-    return !options->size || !options->blocks ||
-           refuse_words("--blocks", "does not go with --size");
-}
-
-/* Where home begins, which is how many sectors an image takes beside its blocks. */
-static uint64_t home_of(const struct options *options)
-{
-    return 2 + (options->format == 1 ? 50 : 249) * options->slots;
+    if (options->size && options->blocks)
+        return refuse_words("--blocks", "does not go with --size");
+    return may_begin_home(options) ||
+           refuse_words("--align", "no blocks begin there behind a log of so many slots: other "
+                                   "--slots or --format 2 may do");
 }
 
 /* How many sectors of the place the image takes. 0: nothing tells it. */
@@ -226,8 +247,11 @@ static bool make(const struct options *options, struct place *place)
     if (sectors > place->disk.sectors)
         return refuse(&place->disk, STATUS_REFUSED, "too small: it is shorter than that");
     place_begin(place, home_of(options) + (options->zeroes ? blocks : 0));
-    uint32_t fault = (options->zeroes ? usbdisk_io_format : usbdisk_io_lay_log)(
-        &place->device, (uint32_t)options->format, options->slots, blocks);
+    const struct usbdisk_plan plan = { .format = (uint32_t)options->format,
+                                       .slots = options->slots,
+                                       .blocks = blocks,
+                                       .home = home_of(options) };
+    uint32_t fault = usbdisk_io_make(&place->device, &plan, !options->zeroes);
     if (fault)
         return refuse_image(place, fault);
     place_keep(place);

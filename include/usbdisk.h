@@ -142,10 +142,10 @@ struct usbdisk_layout {
 uint32_t usbdisk_look(const uint8_t sector[512], struct usbdisk_layout *layout);
 
 /* How many bytes of memory a disk takes, on an image of this format (1 or 2) with `slots` log
- * slots, of every size of the device, and no more while it starts. An image that was migrated may
- * take up to 126,976 bytes more. A store takes 105,360 bytes less in format 1 and 2,256 more in
- * format 2; while it starts it takes the first sectors twice. 0 where there is no such format or
- * number of slots. */
+ * slots, of every size of the device, and no more while it starts. Each sector between log and
+ * home takes 512 bytes more: at most 126,976, where an image was migrated or made so. A store takes
+ * 105,360 bytes less in format 1 and 2,256 more in format 2; while it starts it takes the first
+ * sectors twice. 0 where there is no such format or number of slots. */
 uint64_t usbdisk_memory(uint32_t format, uint64_t slots);
 
 /* Who the disk is, as INQUIRY tells it: printable ASCII, padded with spaces, with no final 0. */
@@ -281,13 +281,17 @@ uint32_t usbdisk_idle(struct usbdisk *disk);
  * host ends for that: one that lacks them has them read anew. */
 uint32_t usbdisk_ahead(struct usbdisk *disk, uint64_t first, uint32_t count);
 
-/* What image is made. Format 1 takes 2 + 50 * slots + blocks sectors, format 2 takes
- * 2 + 249 * slots + blocks; what lies behind them is spared. */
+/* What image is made. It takes `home + blocks` sectors; what lies behind them is spared.
+ *
+ * `home` is the sector of block 0. With 0 it is the first behind the log: 2 + 50 * slots in format
+ * 1, and 2 + 249 * slots in format 2. In format 2 it may be up to 248 more, so that blocks begin
+ * where a page of the device does: the next multiple of 128 sectors always fits (64 KiB). */
 struct usbdisk_plan {
     uint64_t sectors; /* how many sectors the device has */
     uint32_t format;  /* 1 or 2 */
     uint64_t slots;   /* log slots, 1 to 64 */
     uint64_t blocks;  /* 1 to 2^31 */
+    uint64_t home;    /* the sector where the blocks begin; 0: directly behind the log */
 };
 
 /* Makes an image of blocks of zeros. The device is to read sector 0, and then to carry out as many

@@ -207,6 +207,11 @@ uint32_t usbdisk_io_format(const struct usbdisk_io_device *device, uint32_t form
 uint32_t usbdisk_io_lay_log(const struct usbdisk_io_device *device, uint32_t format, uint64_t slots,
                             uint64_t blocks);
 
+/* The same by a plan, of which `sectors` are the device's and are not read: so `home` may be the
+ * first sector of a page of it. `keeps` false makes all blocks zeros, true lays the log alone. */
+uint32_t usbdisk_io_make(const struct usbdisk_io_device *device, const struct usbdisk_plan *plan,
+                         bool keeps);
+
 /* As usbdisk_io_format, where the device is blank: each byte of sector 0 is 00h, or each is FFh.
  * What lies behind it is not looked at. A format that was cut off leaves no image and such a
  * sector, or what was there before. Any other device stays as it is, for a start to tell what is on

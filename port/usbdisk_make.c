@@ -24,26 +24,30 @@ static uint32_t work(const struct usbdisk_io_device *device, usbdisk_making *mak
     return code;
 }
 
-/* How many blocks there is room for behind a log that ends at `home`. */
-static uint64_t most_blocks(uint64_t sectors, uint64_t home)
+/* How many blocks there is room for behind the plan's log, or from its home on. */
+static uint64_t most_blocks(const struct usbdisk_plan *plan)
 {
-    uint64_t most = (uint64_t)1 << 31, left = sectors > home ? sectors - home : 0;
+    uint64_t log = 2 + (plan->format == 1 ? 50 : 249) * plan->slots;
+    uint64_t home = plan->home ? plan->home : log, most = (uint64_t)1 << 31;
+    uint64_t left = plan->sectors > home ? plan->sectors - home : 0;
     return left < most ? left : most;
 }
 
-static uint32_t make(const struct usbdisk_io_device *device, usbdisk_making *making,
-                     uint32_t format, uint64_t slots, uint64_t blocks)
+uint32_t usbdisk_io_make(const struct usbdisk_io_device *device, const struct usbdisk_plan *plan,
+                         bool keeps)
 {
-    struct usbdisk_plan plan = { device->sectors, format, slots, blocks };
-    if (!blocks)
-        plan.blocks = most_blocks(device->sectors, 2 + (format == 1 ? 50 : 249) * slots);
-    return work(device, making, &plan);
+    struct usbdisk_plan made = *plan;
+    made.sectors = device->sectors;
+    if (!made.blocks)
+        made.blocks = most_blocks(&made);
+    return work(device, keeps ? usbdisk_lay_log : usbdisk_format, &made);
 }
 
 uint32_t usbdisk_io_format(const struct usbdisk_io_device *device, uint32_t format, uint64_t slots,
                            uint64_t blocks)
 {
-    return make(device, usbdisk_format, format, slots, blocks);
+    struct usbdisk_plan plan = { .format = format, .slots = slots, .blocks = blocks };
+    return usbdisk_io_make(device, &plan, false);
 }
 
 /* Reads sector 0, and tells whether each of its bytes is 00h, or each is FFh. */
@@ -67,7 +71,8 @@ uint32_t usbdisk_io_format_blank(const struct usbdisk_io_device *device, uint32_
 uint32_t usbdisk_io_lay_log(const struct usbdisk_io_device *device, uint32_t format, uint64_t slots,
                             uint64_t blocks)
 {
-    return make(device, usbdisk_lay_log, format, slots, blocks);
+    struct usbdisk_plan plan = { .format = format, .slots = slots, .blocks = blocks };
+    return usbdisk_io_make(device, &plan, true);
 }
 
 uint32_t usbdisk_io_migrate(const struct usbdisk_io_device *device)

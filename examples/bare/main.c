@@ -44,7 +44,7 @@ static void lay_image(void)
     uint64_t sectors = block_sectors();
     if (sectors <= HOME)
         give_up("a small device, of sectors", sectors);
-    const struct usbdisk_plan plan = { sectors, FORMAT, SLOTS, sectors - HOME };
+    const struct usbdisk_plan plan = { sectors, FORMAT, SLOTS, sectors - HOME, 0 };
     uint32_t fault, code = usbdisk_lay_log(&image, &plan);
     if (code)
         give_up("no image is made:", code);

@@ -1,24 +1,26 @@
 /* An image of zeros is made on a device that holds another, and bytes behind it, with a cut at each
  * call: a start finds what was there, no image, or the new one, whole. So it is where a log alone
- * is laid. Runs of any length come to the same, and the memory is the same for any number of
- * blocks. */
+ * is laid, and where home begins further behind the log, as at a page of the device. Runs of any
+ * length come to the same, and the memory is the same for any number of blocks. */
 #include "gadget.h"
 #include "usbdisk.h"
 #include <stdio.h>
 #include <stdlib.h>
 #include <string.h>
 
-enum { BLOCKS = 150, SLOTS = 2, SECTORS = 2 + 249 * SLOTS + BLOCKS + 9, BEHIND = 0xAA };
+enum { BLOCKS = 150, SLOTS = 2, LOG_END = 2 + 249 * SLOTS, PAGE = 512, FURTHEST = LOG_END + 248 };
+enum { SECTORS = FURTHEST + BLOCKS + 9, BEHIND = 0xAA };
 
 /* What a work is made by: usbdisk_format or usbdisk_lay_log. */
 typedef uint32_t making(struct usbdisk *image, const struct usbdisk_plan *plan);
 
 static uint8_t device[SECTORS][512], kept[SECTORS][512], durable[SECTORS][512], now[SECTORS][512];
-static uint64_t blocks = BLOCKS;
+static uint64_t blocks = BLOCKS, given;
 
 static uint64_t home_of(uint32_t format)
 {
-    return 2 + (uint64_t)(format == 1 ? 50 : 249) * SLOTS;
+    uint64_t slot = format == 1 ? 50 : 249;
+    return given ? given : 2 + slot * SLOTS;
 }
 
 static bool are_zeros(uint64_t first, uint64_t end)
@@ -49,7 +51,7 @@ static void carry_out(const struct usbdisk_call *call, const uint8_t *bytes)
 static int make(making *making, uint32_t format, int most, size_t room)
 {
     static uint8_t bytes[240 * 512];
-    const struct usbdisk_plan plan = { SECTORS, format, SLOTS, blocks };
+    const struct usbdisk_plan plan = { SECTORS, format, SLOTS, blocks, given };
     struct usbdisk image = USBDISK_NONE;
     struct usbdisk_call call;
     uint32_t fault;
@@ -141,26 +143,51 @@ static void keep_other(uint32_t format)
     memcpy(kept, device, sizeof device);
 }
 
-static bool play(making *making, uint32_t format)
+/* With home in this sector, or with 0 behind the log. */
+static bool play(making *making, uint32_t format, uint64_t home)
 {
     bool is_log = making == usbdisk_lay_log;
+    given = 0;
     keep_other(format);
+    given = home;
     int calls = make(making, format, -1, 1),
         wanted = (int)home_of(format) + (is_log ? 5 : BLOCKS + 7);
     bool good =
         calls == wanted && is_cut_well(making, format, calls) && is_same_by_runs(making, format);
     size_t most = memory_of(making, format, BLOCKS);
     good &= most > 0 && most == memory_of(making, format, 1);
-    printf("format %u, %s: %d calls, %zu bytes of memory\n", format, is_log ? "a log" : "zeros",
-           calls, most);
+    printf("format %u, %s, home at %d: %d calls, %zu bytes of memory\n", format,
+           is_log ? "a log" : "zeros", (int)home_of(format), calls, most);
+    return good;
+}
+
+/* Home that begins in the log, or a slot and more behind it, is refused. */
+static bool are_refused(making *making)
+{
+    const struct usbdisk_plan bad[] = {
+        { SECTORS, 1, SLOTS, BLOCKS, 1 },
+        { SECTORS, 1, SLOTS, BLOCKS, 2 + 50 * SLOTS - 1 },
+        { SECTORS, 1, SLOTS, BLOCKS, 2 + 50 * SLOTS + 1 },
+        { SECTORS, 2, SLOTS, BLOCKS, LOG_END - 1 },
+        { SECTORS, 2, SLOTS, BLOCKS, FURTHEST + 1 },
+        { SECTORS, 2, SLOTS, BLOCKS + 10, FURTHEST },
+        { UINT64_MAX, 2, SLOTS, BLOCKS, UINT64_MAX },
+    };
+    struct usbdisk image = USBDISK_NONE;
+    bool good = true;
+    for (size_t i = 0; i < sizeof bad / sizeof *bad; i++)
+        good &= making(&image, &bad[i]) == USBDISK_BAD_SIZES && !image.at;
     return good;
 }
 
 int main(void)
 {
-    bool good = true;
+    bool good = are_refused(usbdisk_format) && are_refused(usbdisk_lay_log);
     for (uint32_t format = 1; format <= 2; format++)
-        good &= play(usbdisk_format, format) && play(usbdisk_lay_log, format);
+        good &= play(usbdisk_format, format, 0) && play(usbdisk_lay_log, format, 0);
+    good &= play(usbdisk_format, 1, 2 + 50 * SLOTS) && play(usbdisk_lay_log, 2, LOG_END);
+    good &= play(usbdisk_format, 2, PAGE) && play(usbdisk_lay_log, 2, PAGE);
+    good &= play(usbdisk_format, 2, FURTHEST) && play(usbdisk_lay_log, 2, FURTHEST);
     printf("%s, %zu blocks of memory left\n", good ? "good at each cut" : "WRONG", heap_blocks);
     return !good || heap_blocks;
 }

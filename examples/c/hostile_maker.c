@@ -86,7 +86,8 @@ static void start_any(struct held *it)
         .packet = below(8) ? 64u << 3 * below(2) : below(1024),
     };
     const struct usbdisk_plan plan = { options.sectors, 1 + below(below(8) ? 2 : 9),
-                                       1 + below(SLOTS + 1), BLOCKS + below(3) };
+                                       1 + below(SLOTS + 1), BLOCKS + below(3),
+                                       below(4) ? 0 : below(SECTORS) };
     struct usbdisk before = it->handle;
     options.identity.vendor[below(8)] = below(8) ? 'X' : 0;
     heap_fails = below(16) ? 0 : 1 + (int)below(30);

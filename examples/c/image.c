@@ -25,7 +25,7 @@ void carry_all(struct usbdisk *it, uint8_t *medium)
 uint32_t format_memory(uint8_t *medium, size_t size, uint32_t format, uint64_t blocks,
                        uint64_t slots)
 {
-    const struct usbdisk_plan plan = { size / 512, format, slots, blocks };
+    const struct usbdisk_plan plan = { size / 512, format, slots, blocks, 0 };
     struct usbdisk image = USBDISK_NONE;
     uint32_t fault, code = usbdisk_format(&image, &plan);
     if (code)

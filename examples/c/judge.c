@@ -252,7 +252,7 @@ static bool spares_the_rest(uint32_t format)
 
 static bool lay_image(uint32_t format)
 {
-    const struct usbdisk_plan plan = { SECTORS, format, SLOTS, BLOCKS };
+    const struct usbdisk_plan plan = { SECTORS, format, SLOTS, BLOCKS, 0 };
     struct usbdisk image = USBDISK_NONE;
     uint32_t fault;
     if (usbdisk_format(&image, &plan) || !carry_all(&image))

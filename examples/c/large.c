@@ -1,6 +1,7 @@
 /* A device larger than memory: 2^31 blocks, of which a map has the sectors that were written. A log
  * is laid on it, a disk started, a block written and read again, also while the device cannot read
- * it; then the image is migrated. The power goes at each call on the way. */
+ * it; then the image is migrated. The power goes at each call on the way. In the end a log is laid
+ * before home that begins at a page of 64 KiB. */
 #include "gadget.h"
 #include "usbdisk_io.h"
 #include <stdio.h>
@@ -170,6 +171,21 @@ static bool cuts(uint32_t format, int most, int one, int other)
     return true;
 }
 
+/* A disk on an image whose home begins at a page of the device: a block is written, and a start
+ * brings it there. */
+static bool serves_a_page(void)
+{
+    const struct usbdisk_plan plan = { .format = 2, .slots = SLOTS - 1, .home = 1024 };
+    struct usbdisk_io *io;
+    uint8_t block[512];
+    memset(block, 0xC3, 512);
+    if (usbdisk_io_make(&device, &plan, true) || usbdisk_io_start(&io, &device, &who, 512))
+        return false;
+    bool good = sense_of(io) == 0x062900 && move_block(io, block, true);
+    usbdisk_io_stop(io);
+    return good && found() == 0xC3 && place_of(1024 + BLOCKS - 1)->bytes[0] == 0xC3;
+}
+
 int main(void)
 {
     struct usbdisk_io *io;
@@ -194,6 +210,8 @@ int main(void)
     printf("a block is written: %s\n", good ? "yes" : "no");
     printf("a migration: %s\n",
            cuts(0, 50 * SLOTS + 20, 0xA5, 0xA5) ? "good at each cut" : "WRONG");
+    good = serves_a_page() && good;
+    printf("home at a page: %s\n", good ? "a disk serves" : "WRONG");
     printf("%zu blocks of memory left\n", heap_blocks);
     return !good;
 }

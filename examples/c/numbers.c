@@ -13,7 +13,7 @@ static const struct usbdisk_options good = {
     .identity = { "EXAMPLE ", "NUMBERS         ", "0001", "000000000001" },
     .packet = 512,
 };
-static const struct usbdisk_plan plan = { SECTORS, FORMAT, SLOTS, BLOCKS };
+static const struct usbdisk_plan plan = { SECTORS, FORMAT, SLOTS, BLOCKS, 0 };
 uint8_t medium[SECTORS * 512];
 static uint8_t kept[SECTORS * 512], bytes[1024];
 
@@ -327,14 +327,14 @@ static void play_dead_store(void)
 static void play_images(void)
 {
     static const struct usbdisk_plan bad[] = {
-        { SECTORS - 1, FORMAT, SLOTS, BLOCKS },
-        { SECTORS, 3, SLOTS, BLOCKS },
-        { SECTORS, 0, SLOTS, BLOCKS },
-        { SECTORS, FORMAT, 0, BLOCKS },
-        { 1 << 20, FORMAT, 65, BLOCKS },
-        { SECTORS, FORMAT, SLOTS, 0 },
-        { UINT64_MAX, 2, SLOTS, ((uint64_t)1 << 31) + 1 },
-        { 0, FORMAT, SLOTS, BLOCKS },
+        { SECTORS - 1, FORMAT, SLOTS, BLOCKS, 0 },
+        { SECTORS, 3, SLOTS, BLOCKS, 0 },
+        { SECTORS, 0, SLOTS, BLOCKS, 0 },
+        { SECTORS, FORMAT, 0, BLOCKS, 0 },
+        { 1 << 20, FORMAT, 65, BLOCKS, 0 },
+        { SECTORS, FORMAT, SLOTS, 0, 0 },
+        { UINT64_MAX, 2, SLOTS, ((uint64_t)1 << 31) + 1, 0 },
+        { 0, FORMAT, SLOTS, BLOCKS, 0 },
     };
     static const uint8_t zeros[512];
     struct usbdisk none = USBDISK_NONE;

@@ -55,6 +55,7 @@ impl Plan {
             format,
             slots,
             blocks: if blocks == 0 { most } else { blocks },
+            home: 0,
         }
     }
 }

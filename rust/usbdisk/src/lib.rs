@@ -138,8 +138,7 @@ pub struct Layout {
     pub sectors: u64,
 }
 
-/// What image is made. Format 1 takes 2 + 50 * slots + blocks sectors, format 2 takes
-/// 2 + 249 * slots + blocks; what lies behind them is spared.
+/// What image is made. It takes `home + blocks` sectors; what lies behind them is spared.
 #[repr(C)]
 #[derive(Debug, Clone, Copy, Default, PartialEq, Eq)]
 pub struct Plan {
@@ -151,6 +150,10 @@ pub struct Plan {
     pub slots: u64,
     /// How many blocks a host sees, 1 to 2^31.
     pub blocks: u64,
+    /// The sector of block 0; 0 for the first behind the log: 2 + 50 * slots in format 1, and
+    /// 2 + 249 * slots in format 2. In format 2 it may be up to 248 more, so that the blocks begin where
+    /// a page of the device does.
+    pub home: u64,
 }
 
 /// The version of the library that was linked.

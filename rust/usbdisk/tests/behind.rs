@@ -3,8 +3,8 @@
 mod common;
 
 use common::{refuse_each_call, wrapper};
-use usbdisk::{format, Answer, Call, Calls, Device, Disk, Error, Fault, Identity, Image, Misuse};
-use usbdisk::{Plan, Refusal, State, Store, BUFFER, SECTOR};
+use usbdisk::{format, look, Answer, Call, Calls, Device, Disk, Error, Fault, Identity, Image};
+use usbdisk::{Misuse, Plan, Refusal, State, Store, BUFFER, SECTOR};
 
 const BLOCKS: u64 = 64;
 const SLOTS: u64 = 5;
@@ -363,6 +363,7 @@ fn the_work_on_an_image_is_done_by_its_last_call() {
         format,
         slots,
         blocks,
+        home: 0,
     };
     let mut image = Image::format(&plan).unwrap();
     assert_eq!(image.state(), State::Starting);
@@ -371,6 +372,28 @@ fn the_work_on_an_image_is_done_by_its_last_call() {
     assert_eq!(image.state(), State::Done);
     assert_eq!(image.carry_out(&mut device, buffer), Ok(false));
     assert_eq!(device.bytes, device.durable);
+}
+
+#[test]
+fn blocks_begin_at_a_page_of_the_device() {
+    let mut device = Memory::with_image(1);
+    let plan = Plan {
+        sectors: SECTORS,
+        format: 2,
+        slots: 4,
+        blocks: BLOCKS,
+        home: 1024,
+    };
+    let mut image = Image::lay_log(&plan).unwrap();
+    image.carry_out(&mut device, &mut [0; SECTOR]).unwrap();
+    let mut sector = [0; SECTOR];
+    device.read(0, &mut sector).unwrap();
+    assert_eq!(look(&sector).map(|it| it.home), Ok(1024));
+    for home in [997, 1247] {
+        let elsewhere = Plan { home, ..plan };
+        let refused = Image::format(&elsewhere).err();
+        assert_eq!(refused, Some(Refusal::Misuse(Misuse::BadSizes)));
+    }
 }
 
 #[test]

@@ -62,6 +62,7 @@ fn what_is_dropped_gives_its_memory_back() {
         format,
         slots,
         blocks,
+        home: 0,
     };
     assert!(taken(|| Disk::start(sectors, &who, 512).unwrap()) > 0);
     assert!(taken(|| Store::start(sectors).unwrap()) > 0);
