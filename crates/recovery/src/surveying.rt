@@ -28,7 +28,6 @@ pub(crate) struct Surveying {
 }
 
 impl Surveying {
-    ghost use Rattle.std.specs.Prelude.{[]};
     ghost use Rattle.recovery.specs.Starting.{IsNewSurvey};
 
     /// One of which nothing is left.

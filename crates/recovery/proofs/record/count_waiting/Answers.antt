@@ -1,26 +1,18 @@
-use Rattle.std.proofs.Common.{◌≡◌, ℕ, length, sym, refl, arith, rules, Ok, Result}
+use Rattle.std.proofs.Common.{◌≡◌, length, sym, refl, arith, rules, Ok, Result}
 use Rattle.medium.specs.Medium.{State}
 use Rattle.medium.specs.Machine.{Tallied}
 use Rattle.medium.specs.declared.fault.MediumFault.{MediumFault}
-use Rattle.medium.specs.declared.fault.MediumFault.TheVariants as fault
 use Rattle.medium.specs.Tally.{Tally}
-use Rattle.medium.proofs.Tallies.{calls_most, none_made}
+use Rattle.medium.proofs.Tallies.{calls_most}
 use Rattle.journal.specs.Formats.{shape_of}
-use Rattle.journal.specs.Reading.{MakesReadsAlone}
 use Rattle.recovery.specs.Surveying.{HoldsSurveyed}
 use Rattle.recovery.proofs.Tries.{counts_made}
 use Rattle.recovery.proofs.SurveyedRecords.{not_tried}
 use Rattle.recovery.proofs.SurveyTally.{no_tries_left, most_tries}
+use Rattle.recovery.proofs.StartSurvey.{reads_alone}
 use Rattle.recovery.proofs.DrivenCalls.{refused_call}
 use Rattle.recovery.proofs.record.count_waiting.Goals as goal
 use Rattle.recovery.proofs.record.count_waiting.Goals.{After-drive}
-
--- none of its calls is a write or a flush
-reads_alone : {Exact : Type 0} {rest : Tally} {reads : ℕ} {result : Result (Unit {0}) MediumFault} {old new : State}
-    → Tallied Exact (record { reads = reads; writes = 0; flushes = 0 }) rest result old new → MakesReadsAlone old new
-reads_alone t fault.Read other = absurd (other refl)
-reads_alone t fault.Write other = none_made t fault.Write refl
-reads_alone t fault.Flush other = none_made t fault.Flush refl
 
 -- where it ended well none was refused
 none_failed : {Exact : Type 0} {left rest : Tally} {old new : State} {result : Result (Unit {0}) MediumFault} → result ≡ Ok tt
