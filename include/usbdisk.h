@@ -190,7 +190,9 @@ uint32_t usbdisk_stop(struct usbdisk *disk);
  * WRITE: the bytes lie in `buffer`, `count` sectors one behind the other, as many as wait in a row
  * and as it has room for: one write of the device. FLUSH: all writes that were told done are to be
  * made durable. READ: `count` sectors are to be read, into any place: before it serves, at most as
- * many as the buffer has room for; then at most 240, in format 1 at most 48. The buffer is the
+ * many as the buffer has room for; then at most 240, in format 1 at most 48. A READ that the host
+ * waits for is told before the calls that wait, where none of them writes one of its sectors: what
+ * the device holds there is good, whatever it has not carried out yet. The buffer is the
  * program's, who may have the device read it until usbdisk_done: the library writes it in this call
  * alone, and never keeps its address.
  *

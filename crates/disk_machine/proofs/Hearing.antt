@@ -1,9 +1,10 @@
 -- What the device was asked for has ended.
-use Rattle.std.proofs.Common.{◌≡◌, ◌⊎◌, ◌≤◌, ◌/◌, inl, inr, [], ◌∷◌, List, ℕ, Bool, true, false, length, refl, sym, ◌∙◌, ap, subst, arith}
+use Rattle.std.proofs.Common.{◌≡◌, ◌⊎◌, ◌+◌, ◌≤◌, ◌/◌, inl, inr, [], ◌∷◌, List, ℕ, Bool, true, false, length, refl, sym, ◌∙◌, ap, subst, arith}
 use Rattle.std.specs.Prelude.{Result}
 use Rattle.std.proofs.lemmas.Bool.{false≢true}
+use Rattle.std.proofs.lemmas.Bool.Decides.{nat_tests}
 use Rattle.mirror.specs.declared.call.DeviceCall.{DeviceCall}
-use Rattle.window.specs.Window.{Window, state_of, moved}
+use Rattle.window.specs.Window.{Window, state_of, moved, device_so_far, IsShown}
 use Rattle.inlet.specs.Inlet.{AreHeld}
 use Rattle.spec.specs.Book.{Book}
 use Rattle.scsi_unit.specs.UnitValue.{state_of as unit_state}
@@ -101,40 +102,54 @@ module _ (old new : Machine) (home : DeviceRead) (was : old.asked ≡ asked.Read
       serves_still old new (stays old new disk (as_far (ap (λ (d : Disk). (medium_of d).seen.told.taken) disk)))
       (λ none. inl (sym waits ∙ none)) same_refused
 
--- the window has moved, or stayed
-shown_medium : (old new : Disk) (first : ℕ) (bytes : List ℕ) (taken : Bool) → Sees old first bytes new taken
-    → AreHeld (state_of (medium_of old)).content first (length bytes / 512) bytes
-    → (medium_of new ≡ medium_of old) ⊎ (medium_of new ≡ moved (medium_of old) first (length bytes / 512))
-shown_medium old new first bytes false sees held = inl (sees.shown.refused refl)
-shown_medium old new first bytes true sees held = inr (sees.shown.honest refl held)
+-- the bytes that an honest device read
+abbrev AreRead : Machine → DeviceRead → List ℕ → Type 0
+AreRead s home bytes = AreHeld (device_so_far (medium_of s.disk)).content home.first (length bytes / 512) bytes
 
-same_sent : (old new : Disk) (first count : ℕ) → (medium_of new ≡ medium_of old) ⊎ (medium_of new ≡ moved (medium_of old) first count)
-    → IsSentStill (medium_of old) (medium_of new) × ((medium_of new).seen.told.taken ≡ (medium_of old).seen.told.taken)
-same_sent old new first count (inl same) = (
-  subst (λ (w : Window). IsSentStill (medium_of old) w) (sym same) (record { opening = refl; sent = refl; size = refl }),
-  ap (λ (w : Window). w.seen.told.taken) same,
-)
-same_sent old new first count (inr moves) = (
-  subst (λ (w : Window). IsSentStill (medium_of old) w) (sym moves) (record { opening = refl; sent = refl; size = refl }),
+-- where the disk took them the window has moved
+same_sent : (old new : Window) (first count : ℕ) → new ≡ moved old first count
+    → IsSentStill old new × (new.seen.told.taken ≡ old.seen.told.taken)
+same_sent old new first count moves = (
+  subst (λ (w : Window). IsSentStill old w) (sym moves) (record { opening = refl; sent = refl; size = refl }),
   ap (λ (w : Window). w.seen.told.taken) moves,
 )
 
-shown_stands : (old new : Machine) (home : DeviceRead) (bytes : List ℕ) → old.asked ≡ asked.Read home → IsShownTo old home bytes new
-    → AreHeld (state_of (medium_of old.disk)).content home.first (length bytes / 512) bytes → Stands old new
-shown_stands old new home bytes was shown held =
-    let sent = same_sent old.disk new.disk home.first (length bytes / 512)
-    (shown_medium old.disk new.disk home.first bytes shown.taken shown.sees held) in record {
-      others = shown.sees.others;
-      fits = shown.sees.fits held;
+-- and what the device held the medium did
+held_too : (old new : Window) (first : ℕ) (bytes : List ℕ) → IsShown first bytes true old new
+    → AreHeld (device_so_far old).content first (length bytes / 512) bytes
+    → AreHeld (state_of old).content first (length bytes / 512) bytes
+held_too old new first bytes shown held i lt = held i lt ∙ shown.agrees refl (first + i) (grind (arith, nat_tests, lt))
+
+-- where it took none of them it is as it was
+not_taken : (old new : Disk) (first : ℕ) (bytes : List ℕ) → Sees old first bytes new false → new ≡ old
+not_taken old new first bytes sees = sees.others ∙ (λ i. record old {
+  unit = record old.unit { store = record old.unit.store { medium = sees.shown.refused refl i } };
+})
+
+taken_stands : (old new : Machine) (home : DeviceRead) (bytes : List ℕ) (taken : Bool) → old.asked ≡ asked.Read home
+    → new.asked ≡ asked.Nothing → Sees old.disk home.first bytes new.disk taken → AreRead old home bytes → Stands old new
+taken_stands old new home bytes false was now sees read =
+    let same = not_taken old.disk new.disk home.first bytes sees in
+    stays old new same (as_far old new home was now (ap (λ (d : Disk). (medium_of d).seen.told.taken) same))
+taken_stands old new home bytes true was now sees read =
+    let held = held_too (medium_of old.disk) (medium_of new.disk) home.first bytes sees.shown read in
+    let sent = same_sent (medium_of old.disk) (medium_of new.disk) home.first (length bytes / 512) (sees.shown.honest refl held) in
+    record {
+      others = sees.others;
+      fits = sees.fits held;
       size = sent.0.size;
-      leaves = leaves_no_more old new sent.0
-          (as_far old new home was (ap (λ (s : Machine). s.asked) shown.others) sent.1);
+      leaves = leaves_no_more old new sent.0 (as_far old new home was now sent.1);
     }
 
+shown_stands : (old new : Machine) (home : DeviceRead) (bytes : List ℕ) → old.asked ≡ asked.Read home → IsShownTo old home bytes new
+    → AreRead old home bytes → Stands old new
+shown_stands old new home bytes was shown read =
+    taken_stands old new home bytes shown.taken was (ap (λ (s : Machine). s.asked) shown.others) shown.sees read
+
 pub shown_serves : (old new : Machine) (home : DeviceRead) (bytes : List ℕ) → old.asked ≡ asked.Read home → IsShownTo old home bytes new
-    → AreHeld (state_of (medium_of old.disk)).content home.first (length bytes / 512) bytes → ServesOn old new
-shown_serves old new home bytes was shown held =
-    serves_still old new (shown_stands old new home bytes was shown held)
+    → AreRead old home bytes → ServesOn old new
+shown_serves old new home bytes was shown read =
+    serves_still old new (shown_stands old new home bytes was shown read)
     (λ none. inl (sym (ap (λ (s : Machine). s.waiting) shown.others) ∙ none))
     (same_refused old new home was (ap (λ (s : Machine). s.asked) shown.others))
 

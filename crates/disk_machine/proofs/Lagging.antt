@@ -2,7 +2,6 @@
 use Rattle.std.proofs.Common.{◌≡◌, ◌≢◌, ◌⊎◌, inl, inr, [], ◌∷◌, ◌++◌, ◌&&◌, List, ℕ, zero, suc, Bool, true, false}
 use Rattle.std.proofs.Common.{refl, sym, ◌∙◌, ap, subst}
 use Rattle.std.specs.Prelude.{Result}
-use Rattle.std.proofs.lemmas.Bool.{false≢true}
 use Rattle.mirror.specs.Story.{given}
 use Rattle.mirror.specs.declared.call.DeviceCall.{DeviceCall}
 use Rattle.window.specs.Window.{Window}
@@ -45,20 +44,24 @@ begun_waits disk most = begun_behind (medium_of disk).outbox
 handed_wait : (old new : Machine) (count : ℕ) → HandsOut old count new → WaitStays old new
 handed_wait old new count hands waits some = ap (λ (s : Machine). is_behind s.asked (medium_of s.disk).outbox) hands.others
 
--- nothing waited
-none_behind : (old new : Machine) → old.asked ≡ asked.Nothing → (medium_of old.disk).outbox ≡ [] → new.waiting ≡ old.waiting
+-- a device that reads is as far behind as one that is at no call
+read_behind : (home : DeviceRead) (calls : List DeviceCall) → is_behind (asked.Read home) calls ≡ is_behind asked.Nothing calls
+read_behind home [] = refl
+read_behind home (call ∷ calls) = refl
+
+reads_wait : (old new : Machine) (home : DeviceRead) → old.asked ≡ asked.Nothing → new ≡ record old { asked = asked.Read home }
     → WaitStays old new
-none_behind old new free empty waiting waits some =
-    let idle : is_behind old.asked (medium_of old.disk).outbox ≡ false = λ i. is_behind (free i) (empty i) in
-    absurd (false≢true (sym idle ∙ waits (λ none. some (waiting ∙ none))))
+reads_wait old new home free is waits some =
+    ap (λ (s : Machine). is_behind s.asked (medium_of s.disk).outbox) is ∙ read_behind home (medium_of old.disk).outbox
+    ∙ ap (λ (a : Asked). is_behind a (medium_of old.disk).outbox) (sym free)
+    ∙ waits (λ none. some (ap (λ (s : Machine). s.waiting) is ∙ none))
 
 pub asks_wait : (old new : Machine) (room : List ℕ) (what : DeviceAsk) (filled : List ℕ) → AsksFor old room what new filled
     → WaitStays old new
 asks_wait old new room ask.Nothing filled asks = same_wait old new asks.1
 asks_wait old new room (ask.Write first count) filled asks = handed_wait old new count asks.0
 asks_wait old new room ask.Flush filled asks = handed_wait old new 1 asks.0
-asks_wait old new room (ask.Read home) filled asks =
-    none_behind old new asks.0 asks.1 (ap (λ (s : Machine). s.waiting) asks.3)
+asks_wait old new room (ask.Read home) filled asks = reads_wait old new home asks.0 asks.3
 
 -- ---- what has ended
 
@@ -72,11 +75,6 @@ calls_wait : (count : ℕ) (ok : Bool) (old new : Machine) (result : Result (Uni
 calls_wait count true old new result ended =
     subst (λ (s : Machine). WaitStays old s) (sym ended.1) (λ waits. counted_behind (medium_of old.disk).outbox old.waiting)
 calls_wait count false old new result ended = λ waits some. absurd (some (ap (λ (s : Machine). s.waiting) ended.1.others))
-
--- a device that reads is as far behind as one that is at no call
-read_behind : (home : DeviceRead) (calls : List DeviceCall) → is_behind (asked.Read home) calls ≡ is_behind asked.Nothing calls
-read_behind home [] = refl
-read_behind home (call ∷ calls) = refl
 
 no_call : (old new : Machine) (home : DeviceRead) → old.asked ≡ asked.Read home → new.asked ≡ asked.Nothing → new.waiting ≡ old.waiting
     → (medium_of new.disk).outbox ≡ (medium_of old.disk).outbox → WaitStays old new

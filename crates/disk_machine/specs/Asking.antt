@@ -5,7 +5,7 @@ use Rattle.inlet.specs.Inlet.{AreHeld}
 use Rattle.mirror.specs.OutboxMedium.{first_of}
 use Rattle.mirror.specs.declared.call.DeviceCall.{DeviceCall}
 use Rattle.mirror.specs.declared.call.DeviceCall.TheVariants as call
-use Rattle.window.specs.Window.{state_of}
+use Rattle.window.specs.Window.{Window, device_so_far, are_spared}
 use Rattle.store_calls.specs.Outbox.{without, IsLongestRun}
 use Rattle.device_calls.specs.declared.ask.DeviceRead.{DeviceRead}
 use Rattle.disk_calls.specs.Plays.{medium_of, Sees}
@@ -45,18 +45,32 @@ abbrev pub IsAtRest : Machine → Type 0
 IsAtRest s = (s.asked ≢ asked.Nothing)
     ⊎ (((medium_of s.disk).outbox ≡ []) × (to_read s.lack ≡ None))
 
--- The next of the outbox: a flush, or the longest run of writes for which the buffer has room.
--- Where none waits, the sectors that are to be read.
+-- A READ lacks sectors that no waiting call writes: they are read before these calls, as the device
+-- holds in them what the medium does. What is read ahead waits for the calls.
+abbrev pub overtakes : Window → Lack → Bool
+overtakes m lack.Nothing = false
+overtakes m (lack.Wanted home) = are_spared m home.first home.count
+overtakes m (lack.Ahead home) = false
+overtakes m lack.Ended = false
+overtakes m (lack.Unread home) = false
+
+abbrev pub IsOvertaken : Machine → Type 0
+IsOvertaken s = overtakes (medium_of s.disk) s.lack ≡ true
+
+-- The sectors that a READ lacks, where no waiting call writes one of them. Else the next of the
+-- outbox: a flush, or the longest run of writes for which the buffer has room. Where none waits, the
+-- sectors that are to be read.
 abbrev pub AsksFor : Machine → List ℕ → DeviceAsk → Machine → List ℕ → Type 0
 AsksFor old room ask.Nothing new filled = IsAtRest old × (new ≡ old) × (filled ≡ room)
 AsksFor old room (ask.Write first count) new filled =
     HandsOut old count new × (0 < count)
     × IsLongestRun (medium_of old.disk) (medium_of new.disk) first count room filled
+    × (¬ IsOvertaken old)
 AsksFor old room ask.Flush new filled =
     HandsOut old 1 new × (first_of (medium_of old.disk).outbox ≡ Some call.Flush)
-    × (filled ≡ room)
+    × (filled ≡ room) × (¬ IsOvertaken old)
 AsksFor old room (ask.Read home) new filled =
-    (old.asked ≡ asked.Nothing) × ((medium_of old.disk).outbox ≡ [])
+    (old.asked ≡ asked.Nothing) × (IsOvertaken old ⊎ ((medium_of old.disk).outbox ≡ []))
     × (to_read old.lack ≡ Some home)
     × (new ≡ record old { asked = asked.Read home }) × (filled ≡ room)
 
@@ -139,7 +153,8 @@ IsDone (asked.Refused count behind) ok old bytes result new =
 abbrev pub Hears : Machine → Bool → List ℕ → Result (Unit {0}) DoneFault → Machine → Type 0
 Hears old ok bytes result new = IsDone old.asked ok old bytes result new
 
--- the bytes are those that the device holds, where it read some
+-- the bytes are those that the device holds, where it read some: it has carried out all that left
+-- the outbox, and nothing of what waits there
 abbrev pub IsHonest : Machine → Bool → List ℕ → Type 0
 IsHonest s ok bytes = ok ≡ true → (home : DeviceRead) → s.asked ≡ asked.Read home
-    → AreHeld (state_of (medium_of s.disk)).content home.first (length bytes / 512) bytes
+    → AreHeld (device_so_far (medium_of s.disk)).content home.first (length bytes / 512) bytes

@@ -1,8 +1,8 @@
 //! What the device is asked for.
-ghost use Rattle.std.specs.Prelude.{◌≡◌, List, [], ℕ, length};
+ghost use Rattle.std.specs.Prelude.{◌≡◌, ◌⊎◌, ◌↔◌, List, [], ℕ, length, IsTrue};
 ghost use Rattle.store_calls.specs.Outbox.{IsNoRoom};
 ghost use Rattle.disk_calls.specs.Plays.{medium_of};
-ghost use Rattle.disk_machine.specs.Asking.{AsksFor};
+ghost use Rattle.disk_machine.specs.Asking.{AsksFor, IsOvertaken};
 ghost use Rattle.disk_machine.specs.Moves.{StaysSafe};
 ghost use Rattle.disk_machine.specs.declared.asked.Asked.TheVariants as asked;
 
@@ -15,7 +15,9 @@ use mirror::DeviceCall;
 
 impl DiskMachine {
     /// What the device is to do next: nothing as long as it has not told the last call done. The
-    /// bytes of writes go to the front of the buffer, which has room for some whole sectors.
+    /// sectors that a READ lacks are read before the calls that wait, where none of these writes one
+    /// of them. The bytes of writes go to the front of the buffer, which has room for some whole
+    /// sectors.
     pub fn next(&mut self, buffer: &mut [u8]) -> DeviceAsk
         requires { ¬ IsNoRoom (length buffer.old) }
         ensures asks { AsksFor self.old buffer.old result self.new buffer.new }
@@ -31,6 +33,28 @@ impl DiskMachine {
     fn ask(&mut self, buffer: &mut [u8]) -> DeviceAsk
         ensures { self.old.asked ≡ asked.Nothing → ¬ IsNoRoom (length buffer.old)
             → AsksFor self.old buffer.old result self.new buffer.new }
+    {
+        if self.is_overtaken() {
+            self.ask_to_read()
+        } else {
+            self.ask_in_order(buffer)
+        }
+    }
+
+    // Whether a READ lacks sectors that none of the calls that wait writes.
+    fn is_overtaken(&self) -> bool
+        ensures { IsTrue result ↔ IsOvertaken self.now }
+    {
+        match self.lack {
+            Lack::Wanted(home) => self.disk.medium().spares(home.first, u64::from(home.count)),
+            Lack::Nothing | Lack::Ahead(_) | Lack::Ended | Lack::Unread(_) => false,
+        }
+    }
+
+    // What it is to do next where no READ comes before the calls that wait.
+    fn ask_in_order(&mut self, buffer: &mut [u8]) -> DeviceAsk
+        ensures { self.old.asked ≡ asked.Nothing → ¬ IsNoRoom (length buffer.old)
+            → ¬ IsOvertaken self.old → AsksFor self.old buffer.old result self.new buffer.new }
     {
         match self.disk.medium().first() {
             Some(DeviceCall::Write(write)) => {
@@ -50,10 +74,10 @@ impl DiskMachine {
         }
     }
 
-    // The sectors that are to be read, where no call waits.
+    // The sectors that are to be read, where they come before the calls that wait, or none waits.
     fn ask_to_read(&mut self) -> DeviceAsk
-        ensures { self.old.asked ≡ asked.Nothing → (medium_of self.old.disk).outbox ≡ []
-            → (buffer : List ℕ) → AsksFor self.old buffer result self.new buffer }
+        ensures { self.old.asked ≡ asked.Nothing
+            → IsOvertaken self.old ⊎ ((medium_of self.old.disk).outbox ≡ []) → (buffer : List ℕ) → AsksFor self.old buffer result self.new buffer }
     {
         match self.lack {
             Lack::Wanted(home) | Lack::Ahead(home) => {

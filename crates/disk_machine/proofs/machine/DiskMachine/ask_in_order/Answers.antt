@@ -1,12 +1,12 @@
-use Rattle.std.proofs.Common.{refl, sym, ◌∙◌, ap, Some}
+use Rattle.std.proofs.Common.{inr, refl, sym, ◌∙◌, ap, Some}
 use Rattle.mirror.specs.OutboxMedium.{first_of}
 use Rattle.mirror.specs.declared.call.DeviceCall.{DeviceCall}
 use Rattle.window.specs.Window.{Window}
 use Rattle.disk_machine.proofs.Handing.{none_first}
-use Rattle.disk_machine.proofs.machine.DiskMachine.ask.Goals as goal
+use Rattle.disk_machine.proofs.machine.DiskMachine.ask_in_order.Goals as goal
 
 pub returns-in-Some-Flush : goal.returns-in-Some-Flush
-returns-in-Some-Flush c = λ free room. (
+returns-in-Some-Flush c = λ free room none. (
   record {
     free = free;
     gone = c.pop.ensures.given;
@@ -16,9 +16,10 @@ returns-in-Some-Flush c = λ free room. (
   ap (λ (w : Window). first_of w.outbox) (sym c.medium.ensures.is) ∙ sym c.first.ensures ∙ c.in-Some-Flush.is
       ∙ ap (λ (call : DeviceCall). Some call) c.in-Some-Flush.field-0-is,
   refl,
+  none,
 )
 
 pub returns-in-None : goal.returns-in-None
-returns-in-None c = λ free room.
+returns-in-None c = λ free room over.
     let none = ap (λ (w : Window). first_of w.outbox) (sym c.medium.ensures.is) ∙ sym c.first.ensures ∙ c.in-None.is in
-    c.ask_to_read.ensures free (none_first _ none) c.args.buffer.now
+    c.ask_to_read.ensures free (inr (none_first _ none)) c.args.buffer.now
