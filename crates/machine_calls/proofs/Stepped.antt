@@ -26,7 +26,7 @@ use Rattle.machine_calls.specs.Carried.{IsCarriedOn}
 use Rattle.machine_calls.specs.Carried.{Hears, IsAsked}
 use Rattle.machine_calls.specs.Runs.{HoldsOf, HoldsRead, LetsGo, IsHeld, held_at}
 use Rattle.machine_calls.specs.Running.{IsRunning, IsAtRest, Hands, GathersOn, HasGiven, HandedOut, writes_of, HasGathered}
-use Rattle.machine_calls.specs.Running.{RunAsks, AsksNext, IsRunOn}
+use Rattle.machine_calls.specs.Running.{RunAsks, Settles, AsksNext, IsRunOn}
 use Rattle.machine_calls.specs.Stepping.{Answers, Puts, TellsNone, IsAnswered, WritesTo}
 use Rattle.machine_calls.specs.declared.asked.Asked.{Asked}
 use Rattle.machine_calls.specs.declared.asked.Asked.TheVariants as asked
@@ -359,6 +359,13 @@ module _ {S V : Type 0} (fits : S → ℕ → Type 0) (holds : S → List ℕ �
         held = held_anew s.run t.run place s.reading bytes (state_of (reads n place)).content read long
             (λ i lt. all i lt ∙ sym (mirror.quiet_content (mirror_of n) (place + i)));
       }))
+
+  -- where it is at this
+  pub settled : (at real : Asked) (s : Running S) → at ≡ real
+      → Settles fits holds may reads_to ends cost Exact Due After Gone real s s
+      → Settles fits holds may reads_to ends cost Exact Due After Gone at s s
+  settled at real s is same =
+      subst (λ (a : Asked). Settles fits holds may reads_to ends cost Exact Due After Gone a s s) (sym is) same
 
   -- it is at none, and refused none
   pub asks_next : (until : ℕ) (at : Asked) (s new : Running S) (room filled : List ℕ) (what : DeviceAsk) → at ≡ asked.Nothing

@@ -243,6 +243,10 @@ module _ {S V : Type 0} (fits : S → ℕ → Type 0) (holds : S → List ℕ �
   Settles (asked.At next) old new = new ≡ old
   Settles (asked.Refused kind) old new = new ≡ old
 
+  -- and the device is handed nothing
+  abbrev pub SettlesBy : Running S → Running S → Type 0
+  SettlesBy old new = Settles old.carried.asked old new × Hands [] old new
+
   -- what was told is taken, and then the reads of what is held are made
   abbrev pub RunEnds : Running S → Bool → List ℕ → Result (Unit {0}) DoneFault → Running S
       → Type 0

@@ -1,10 +1,10 @@
 //! How a call of the device of a machine ended.
-ghost use Rattle.std.specs.Prelude.{◌≡◌, ◌↔◌, IsTrue, true, [], take};
+ghost use Rattle.std.specs.Prelude.{◌≡◌, ◌↔◌, IsTrue, true, take};
 ghost use Rattle.medium.specs.declared.medium_call.Call.TheVariants as call;
 ghost use Rattle.machine_calls.specs.Carried.{EndsAs, refusal_of, LeavesWhatItMay, HoldsOn};
 ghost use Rattle.machine_calls.specs.Carried.{Hears, IsCarriedOn};
 ghost use Rattle.machine_calls.specs.Running.{RunHears, HearsRunRead, IsRunOn, IsReading};
-ghost use Rattle.machine_calls.specs.Running.{HasSectors, RunEnds, RunsOn, Settles, Hands};
+ghost use Rattle.machine_calls.specs.Running.{HasSectors, RunEnds, RunsOn, SettlesBy};
 ghost use Rattle.machine_calls.specs.declared.asked.Asked.TheVariants as asked;
 
 use crate::asked::Asked;
@@ -39,14 +39,13 @@ impl<T: Machine<WindowMedium>> Running<T> {
     // Where the device is at no call, the reads of sectors that are held are made: so a machine
     // whose last call is such a read is at its end.
     fn settle(&mut self)
-        ensures answers { Settles T.fits T.holds T.may T.reads T.ends T.cost T.exact T.due T.after
-            T.gone self.old.carried.asked self.old self.new }
-        ensures hands { Hands T.fits T.holds T.may T.reads T.ends T.cost T.exact T.due T.after
-            T.gone [] self.old self.new }
+        ensures { SettlesBy T.fits T.holds T.may T.reads T.ends T.cost T.exact T.due T.after T.gone
+            self.old self.new }
     {
         match self.carried.asked {
             Asked::Nothing => self.answer_reads(),
-            Asked::At(_) | Asked::Refused(_) => {}
+            Asked::At(_) => {}
+            Asked::Refused(_) => {}
         }
     }
 

@@ -15,7 +15,7 @@ use window::WindowMedium;
 const SECTOR: usize = 512;
 
 /// The recovery of an image, which a device carries out in runs of neighbouring sectors. It holds
-/// no log: some 38 KB whatever the image, which it takes when it is made.
+/// no log: some 37 KB whatever the image, which it takes when it is made.
 #[derive(Drop)]
 pub struct Recovering {
     running: Running<Starting>,
