@@ -12,6 +12,11 @@ USES = [
     "use Rattle.std.proofs.lemmas.Grind as tried_grind",
     "use native.Mathlib.Omega as tried_omega",
 ]
+HOLE = ["not_tried : {A : Type 0} → A", "not_tried = ?", ""]
+# A search in an answer up to its list, what a list begins with, and what may follow it.
+SEARCH = re.compile(r"(?<![\w.`-])(?:search|grind|omega|first_of) +(?=[\w(])")
+WORD = re.compile(r"\(|[\w.'-]+")
+OPTIONS = re.compile(r"(?: +(?:steps|depth|fits) \d+)*")
 # An answer to a goal.
 ANSWER = re.compile(r"^pub (\S+) : goal\.\1$", re.M)
 TRIED = "first_of (search tried_rules.rules, grind (tried_omega.arith, tried_grind.common_steps) steps 2000000)"
@@ -63,10 +68,42 @@ def with_tries(lines, function, tries):
     return [*([] if goals in lines else [goals]), *(USES if asked else []), *lines, *asked]
 
 
-def left_open(goals):
-    """Answers that leave these goals open by one hole: a hole for each would print its goal, which takes longer than the search."""
-    hole = ["not_tried : {A : Type 0} → A", "not_tried = ?", ""] if goals else []
+def left_open(goals, lines=()):
+    """Answers that leave these goals open by one hole, below these lines, which may have it: a hole for each would print its goal, which takes longer
+    than the search."""
+    hole = HOLE if goals and HOLE[0] not in lines else []
     return hole + [line for it in goals for line in (f"pub {it} : goal.{it}", f"{it} c = not_tried", "")]
+
+
+def without_searches(lines, goals):
+    """The lines of a file of answers, with a hole in place of each search in the answers to these goals."""
+    begins = sorted(n for n, line in enumerate(lines) for goal in goals if line.startswith(f"pub {goal} :"))
+    lines = list(lines)
+    for begin in reversed(begins):
+        goal = lines[begin].split()[1]
+        others = (n for n, line in enumerate(lines) if n > begin and line[:1].strip() and not line.startswith((f"{goal} ", "}", ")")))
+        ends = next(others, len(lines))
+        lines[begin:ends] = with_holes("\n".join(lines[begin:ends])).split("\n")
+    return [*lines[: begins[0]], *HOLE, *lines[begins[0] :]] if begins else lines
+
+
+def with_holes(text):
+    """The text of an answer with a hole in place of each search."""
+    at = 0
+    while call := SEARCH.search(text, at):
+        text = f"{text[: call.start()]}not_tried{text[end_of_call(text, call.end()) :]}"
+        at = call.start()
+    return text
+
+
+def end_of_call(text, at):
+    """Where a call ends whose list begins here."""
+    end = WORD.match(text, at).end()
+    depth = text.count("(", at, end) - text.count(")", at, end)
+    while depth:
+        depth += {"(": 1, ")": -1}.get(text[end], 0)
+        end += 1
+    return OPTIONS.match(text, end).end()
 
 
 def answers_of(edit):

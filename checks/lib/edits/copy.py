@@ -88,8 +88,9 @@ class Copy:
         path, text = self.answers_of(function)
         asks = self.search_nothing(function, edits[0].spans[0])
         lines, left = answers.alone(text, {it.asked for it in edits}) if asks else (text.split("\n"), ())
+        lines = answers.without_searches(lines, {it.asked for it in edits if it.is_by_terms})
         lines = answers.with_tries(lines, function, [it.tried for it in edits if it.tried])
-        self.texts[path] = "\n".join(lines + answers.left_open(left))
+        self.texts[path] = "\n".join(lines + answers.left_open(left, lines))
         self.narrowed[function] = Narrowed(path, math.inf)
         self.named.append(function)
 
@@ -102,10 +103,11 @@ class Copy:
             lines, left = answers.alone(text, {edit.asked})
         else:
             lines, left = answers.without_answers(text, edit.untried), edit.untried
+        lines = answers.without_searches(lines, {edit.asked}) if edit.is_by_terms else lines
         lines = answers.with_tries(lines, function, [edit.tried] if edit.tried else [])
         # (where one goal is asked for, the others may be gone: nothing is said of them)
         self.narrowed[function] = Narrowed(path, math.inf if asks else len(lines))
-        self.texts[path] = "\n".join(lines + answers.left_open(left))
+        self.texts[path] = "\n".join(lines + answers.left_open(left, lines))
 
     def search_nothing(self, function, span):
         """Has the check of a function that stands there search for none of its goals by itself: so a goal without an answer costs nothing. Where an

@@ -12,6 +12,8 @@ from lib import sources
 INSIDE = ("src/", "specs/", "proofs/")
 # The lines by which an edit tells what its check does not have to try.
 NOTES = ("untried:", "tried:", "only:")
+# The word of a line `only:` that an answer is tried without its searches.
+TERMS = "terms"
 
 
 @dataclasses.dataclass(frozen=True)
@@ -51,7 +53,7 @@ class Edit:
     text: sources.Function
     spans: tuple
     # the goals of the function that its check does not try; the one that is tried by an answer, with the arguments of that; the one that is tried
-    # alone, by the function's own answer
+    # by the function's own answer, and TERMS where that is without its searches
     untried: tuple
     tried: tuple
     only: tuple
@@ -74,6 +76,11 @@ class Edit:
     def asked(self):
         """The one goal that its lines ask for, and nothing else, or nothing."""
         return "".join([*self.only, *self.tried][:1])
+
+    @property
+    def is_by_terms(self):
+        """Whether the answer of its line `only:` is tried without its searches."""
+        return self.only[1:] == (TERMS,)
 
     @property
     def is_of_body(self):

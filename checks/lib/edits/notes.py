@@ -4,18 +4,20 @@ import dataclasses
 
 from lib import sources
 from lib.edits import answers, twins
-from lib.edits.edit import NOTES
+from lib.edits.edit import NOTES, TERMS
 
 
 @dataclasses.dataclass(frozen=True)
 class Open:
     """The goals of an edited function that are left open: those whose own answer is refused, those of them where it is refused by more than a name
-    that is gone, those that the search did not prove, and those that a line left open."""
+    that is gone, those that the search did not prove, those that a line left open, and those of the second whose answer is refused without its
+    searches too."""
 
     refused: list
     held: list
     searched: list
     known: tuple
+    by_terms: tuple = ()
 
 
 def note(edit, found):
@@ -29,7 +31,7 @@ def note(edit, found):
         words = edit.tried if tried in edit.tried[:1] else [tried, *answers.arguments_of(edit)]
         lines.append(f"tried: {' '.join(words)}")
     elif is_alone(edit) and tried in held:
-        lines = [f"only: {tried}"]
+        lines = [f"only: {tried} {TERMS}" if tried in found.by_terms else f"only: {tried}"]
     write_notes(edit, NOTES, lines)
 
 
@@ -53,11 +55,17 @@ def write_notes(edit, marks, lines):
 
 def without_wrong(edits, report):
     """The edits whose line `tried:` or `only:` stands, by the report on their functions as they are with these answers alone. Beside one that stands
-    nothing has to be left open. The lines of the others go, and a line `only:` of a goal to which the function has no answer."""
+    nothing has to be left open. The lines of the others go, and a line `only:` of a goal to which the function has no answer. One whose answer is
+    not proved without its searches is tried with them."""
     kept = []
     for edit in edits:
         has_answer = not edit.only or edit.asked in answers.goals_among(edit, edit.only)
-        if has_answer and report.proves_answers(edit.function, [edit.asked]):
+        is_proved = bool(report.proves_answers(edit.function, [edit.asked]))
+        if has_answer and edit.is_by_terms and report.has_verdict and not is_proved:
+            write_notes(edit, ("only:",), [f"only: {edit.asked}"])
+            print(f"{edit.name}: `{edit.asked}` is not proved without the searches of its answer, which stay", flush=True)
+            is_proved = True
+        if has_answer and is_proved:
             kept.append(edit)
             if edit.untried and is_alone(edit):
                 write_notes(edit, ("untried:",), [])

@@ -23,6 +23,7 @@ IS_PROVED = re.compile(r"proved|no holes|depends on a hole in .*")
 PLACE = re.compile(r"(note: )?(?:\./)?(\S+?):(\d+):\d+: (error: )?(.*)")
 GOAL = re.compile(r"`([^`]+)`: (.*)")
 OF_SEARCH = re.compile(r"`(?:search|grind)`")
+OF_ANY_SEARCH = re.compile(r"`(?:search|grind|omega|first_of)`")
 NOT_PROVED = re.compile(r"it is not proved that .*?\(`([^`]+)`\)")
 NO_GOAL = re.compile(r"module `[^`]*\.Goals` has no `")
 # A proof file that names what the edit took away says little of the contract.
@@ -195,6 +196,10 @@ class Report:
     def refuses(self, path, goal):
         """Whether the answer to this goal in a file is refused by more than that it names what is not there."""
         return any(it.goal == goal and not it.is_of_what_is_gone for it in self.errors_at(path))
+
+    def refuses_terms(self, path, goal):
+        """Whether the answer to this goal in a file is refused by that too and not by a search in it."""
+        return any(it.goal == goal and not it.is_of_what_is_gone and not OF_ANY_SEARCH.match(it.says) for it in self.errors_at(path))
 
     def misses(self, narrowed):
         """Whether a goal that is left open is none of the function's, or its file cannot be read: an error from its line on, or of no name."""

@@ -163,7 +163,8 @@ class Trial:
             known = edit.untried if copy.functions[edit] in copy.narrowed else ()
             refused = report.refused_goals(name)
             held = [it for it in refused if report.refuses(answers_path(name), it)]
-            notes.note(edit, notes.Open(refused, held, report.searched_goals(name, copy.spans[edit]), known))
+            by_terms = tuple(it for it in held if report.refuses_terms(answers_path(name), it))
+            notes.note(edit, notes.Open(refused, held, report.searched_goals(name, copy.spans[edit]), known, by_terms))
 
     def confirmed(self, edits, shuts):
         """Gives each function as it is the answers by which edits of it are tried, and no other. The lines of those go that are not proved, and of

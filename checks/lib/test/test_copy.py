@@ -89,6 +89,18 @@ class Copies(unittest.TestCase):
         self.assertEqual(("\n".join(by_one), gone), ("\n".join(["use a", "", "held = b", one, two]), ["three"]))
         self.assertEqual(("\n".join(by_two), others), ("\n".join(["use a", "", "held = b", two]), ["one", "three"]))
 
+    def test_a_hole_stands_for_each_search_of_an_answer(self):
+        held = ["held = search a", ""]
+        lines = ["pub one : goal.one", "one c ="]
+        lines += ["  let a : b = omega (arith, (f c).g) in", "  record { x = f (search rules); y = grind (a, b) steps 20; }"]
+        wanted = ["  let a : b = not_tried in", "  record { x = f (not_tried); y = not_tried; }"]
+        others = ["", "pub two : goal.two", "two c = search rules"]
+        found = answers.without_searches([*held, *lines, *others], {"one"})
+        self.assertEqual(found, [*held, *answers.HOLE, *lines[:2], *wanted, *others])
+        self.assertEqual(answers.left_open(["three"], found), ["pub three : goal.three", "three c = not_tried", ""])
+        both = answers.without_searches([*lines, *others], {"one", "two"})
+        self.assertEqual(both, [*answers.HOLE, *lines[:2], *wanted, *others[:2], "two c = not_tried"])
+
     def test_a_function_as_it_is_answers_what_its_edits_ask_for(self):
         copy = Copy(self.crate)
         copy.ask_goals(self.edits("one_is_three.edit", "two_is_six.edit"))

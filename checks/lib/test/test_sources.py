@@ -148,6 +148,16 @@ class Notes(OfToy):
         notes.note(self.read(text), notes.Open([goal], [goal], ["left"], ()))
         self.assertEqual(sources.text_of(f"{self.crate.folder}/edits/tried.edit"), f"{text}only: {goal}\n")
 
+    def test_an_answer_that_is_refused_without_its_searches_is_tried_so(self):
+        text, goal = "file: src/lib.rt\nold: { 2 } else\nnew: { 3 } else\n", "returns-then-number-eq1"
+        notes.note(self.read(text), notes.Open([goal], [goal], [], (), (goal,)))
+        found = self.read(f"{text}only: {goal} terms\n")
+        self.assertEqual(sources.text_of(found.path), f"{text}only: {goal} terms\n")
+        said = [f"./proofs/proved/Answers.antt:7:1: error: `{goal}`: expected type `a`", "fn toy::proved: not proved", "only=1"]
+        with contextlib.redirect_stdout(io.StringIO()):
+            self.assertEqual(notes.without_wrong([found], Report(Output(1, "\n".join(said)))), [found])
+        self.assertEqual(sources.text_of(found.path), f"{text}only: {goal}\n")
+
     def test_an_answer_that_names_what_is_gone_is_not_asked_for(self):
         text = "file: src/lib.rt\nold: { 2 } else\nnew: { 3 } else\n"
         notes.note(self.read(text), notes.Open(["returns-then-number-eq1"], [], ["left"], ()))
