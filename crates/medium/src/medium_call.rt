@@ -19,7 +19,6 @@ pub enum Call {
 /// # Errors
 ///
 /// As the medium.
-#[inline(always)]
 pub fn perform<M: Medium>(m: &mut M, call: Call, sector: &mut [u8; 512]) -> Result<(), MediumFault>
     requires { IsWithin (M.state m.old).size call }
     ensures performed { Performed call sector.old sector.new result (M.state m.old)

@@ -37,6 +37,17 @@ pub record MakesNext (shape : Shape) (stamp : ℕ) (entries : List Entry) (made 
   pub inside : IsWithin (first_home shape) call
   pub makes : Performed call bytes after result old new
 
+-- the medium has the sector that the call names
+abbrev pub CanMake : State → Call → Type 0
+CanMake m call = IsWithin m.size call
+
+-- A call is made with these bytes in the lent sector, or refused. The medium comes after what it
+-- was, by calls alone.
+pub record Makes {M : Type 0} (state : M → State) (Follows : M → M → Type 0) (call : Call)
+    (bytes after : List ℕ) (result : Result (Unit {0}) MediumFault) (old new : M) : Type 0 where
+  pub performed : Performed call bytes after result (state old) (state new)
+  pub follows : Follows old new
+
 -- what a cut may leave, with these bytes in one sector too
 abbrev pub gaining : ℕ → List ℕ → Sets → Sets
 gaining place bytes sets s c = sets s c ⊎ ((s ≡ place) × (c ≡ bytes))

@@ -13,6 +13,7 @@ mod fault;
 mod firsts;
 mod index;
 mod log;
+mod making;
 mod oldest;
 mod progress;
 mod stage;

@@ -7,10 +7,11 @@ ghost use Rattle.std.specs.VecDeque.{deque_capacity};
 use crate::begun::BegunNumbers;
 use crate::firsts::{age_of, first_kept, keep_firsts};
 use crate::index::{Copied, newest};
+use crate::making::make;
 use crate::{LogFault, Progress};
 use arrayvec::ArrayVec;
 use journal::{Firsts, LogFormat, Super, read_copy};
-use medium::{Medium, MediumFault, perform};
+use medium::{Medium, MediumFault};
 use std::alloc::{AllocError, Global};
 use std::collections::VecDeque;
 use std::marker::Model;
@@ -178,7 +179,7 @@ impl Log {
     {
         let mut sector = [0; 512];
         let call = self.next_step::<M>(numbers, bytes, &mut sector);
-        let Ok(()) = perform(m, call, &mut sector) else {
+        let Ok(()) = make(m, call, &mut sector) else {
             self.stop();
             return Err(LogFault::Medium);
         };

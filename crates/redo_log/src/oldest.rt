@@ -11,9 +11,10 @@ ghost use Rattle.redo_log.specs.Halfway.{TellsFirst, TellsSecond};
 
 use crate::Log;
 use crate::index::drop_record;
+use crate::making::make;
 use crate::turn::{Turn, next_turn};
 use journal::{Head, slot_of};
-use medium::{Call, Medium, MediumFault, perform};
+use medium::{Call, Medium, MediumFault};
 
 impl Log {
     // The next turn of the oldest durable record.
@@ -63,11 +64,11 @@ impl Log {
         let turn = self.oldest_turn();
         let mut sector = [0; 512];
         let first = turn.first(&mut sector);
-        perform(m, first, &mut sector)?;
+        make(m, first, &mut sector)?;
         let Some(second) = turn.second(&mut sector) else {
             return Ok(());
         };
-        perform(m, second, &mut sector)
+        make(m, second, &mut sector)
     }
 
     /// Writes the head past the oldest durable record, which is not counted yet, and does not flush
@@ -81,7 +82,7 @@ impl Log {
             m.new }
     {
         let mut sector = Head::new(self.head + 1).encode();
-        perform(m, Call::Write(1), &mut sector)
+        make(m, Call::Write(1), &mut sector)
     }
 
     /// Counts a block of the oldest durable record that went home. The last one is noted: the flush

@@ -1,0 +1,26 @@
+//! The calls that a log makes of its medium.
+ghost use Rattle.redo_log.specs.Calls.{CanMake, Makes};
+
+use medium::{Call, Medium, MediumFault};
+
+/// Makes the call with this sector, as `perform` does, and right where it is asked for: the
+/// compiler sees whose bytes go where there, and copies them once.
+///
+/// # Errors
+///
+/// As the medium.
+#[inline(always)]
+pub(crate) fn make<M: Medium>(
+    m: &mut M,
+    call: Call,
+    sector: &mut [u8; 512],
+) -> Result<(), MediumFault>
+    requires { CanMake (M.state m.old) call }
+    ensures { Makes M.state M.follows call sector.old sector.new result m.old m.new }
+{
+    match call {
+        Call::Read(place) => m.read(place, sector),
+        Call::Write(place) => m.write(place, sector),
+        Call::Flush => m.flush(),
+    }
+}
