@@ -26,8 +26,8 @@ OF_SEARCH = re.compile(r"`(?:search|grind)`")
 OF_ANY_SEARCH = re.compile(r"`(?:search|grind|omega|first_of)`")
 NOT_PROVED = re.compile(r"it is not proved that .*?\(`([^`]+)`\)")
 NO_GOAL = re.compile(r"module `[^`]*\.Goals` has no `")
-# A proof file that names what the edit took away says little of the contract.
-GONE = re.compile(r"has no field|is not in scope|has no `|was not admitted")
+# A proof file that names what the edit took away says little of the contract. (Behind a long name what a record lacks is told in the next line.)
+GONE = re.compile(r"has no field|\(nearest: \.|is not in scope|has no `|was not admitted")
 # How antt says that it cannot read a text, where it names a definition.
 UNREAD = re.compile(r"is not in scope|has no field|is no name|operand is missing|expected the end|cannot continue")
 

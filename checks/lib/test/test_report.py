@@ -78,6 +78,7 @@ class Remarks(unittest.TestCase):
         path, at = "proofs/a/Answers.antt", "./proofs/a/Answers.antt:7:23: error: "
         self.assertTrue(report(at + "`returns`: as printed, the two types differ").refuses(path, "returns"))
         self.assertFalse(report(at + "`returns`: `step` is not in scope").refuses(path, "returns"))
+        self.assertFalse(report(at + "`returns`: record `Rattle.a.Lts.After-drop3` (nearest: .room-2)").refuses(path, "returns"))
         self.assertFalse(report(at + "`returns`: module `Rattle.a.Goals` has no `returns`").refuses(path, "returns"))
         self.assertFalse(report(at + "`left`: as printed, the two types differ").refuses(path, "returns"))
 
