@@ -58,8 +58,8 @@ abbrev pub IsOvertaken : Machine → Type 0
 IsOvertaken s = overtakes (medium_of s.disk) s.lack ≡ true
 
 -- The sectors that a READ lacks, where no waiting call writes one of them. Else the next of the
--- outbox: a flush, or the longest run of writes for which the buffer has room. Where none waits, the
--- sectors that are to be read.
+-- outbox: a flush, or the longest run of writes for which the buffer has room. Where none waits,
+-- the sectors that are to be read.
 abbrev pub AsksFor : Machine → List ℕ → DeviceAsk → Machine → List ℕ → Type 0
 AsksFor old room ask.Nothing new filled = IsAtRest old × (new ≡ old) × (filled ≡ room)
 AsksFor old room (ask.Write first count) new filled =

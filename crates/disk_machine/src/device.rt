@@ -15,9 +15,9 @@ use mirror::DeviceCall;
 
 impl DiskMachine {
     /// What the device is to do next: nothing as long as it has not told the last call done. The
-    /// sectors that a READ lacks are read before the calls that wait, where none of these writes one
-    /// of them. The bytes of writes go to the front of the buffer, which has room for some whole
-    /// sectors.
+    /// sectors that a READ lacks are read before the calls that wait, where none of these writes
+    /// one of them. The bytes of writes go to the front of the buffer, which has room for some
+    /// whole sectors.
     pub fn next(&mut self, buffer: &mut [u8]) -> DeviceAsk
         requires { ¬ IsNoRoom (length buffer.old) }
         ensures asks { AsksFor self.old buffer.old result self.new buffer.new }
@@ -77,7 +77,8 @@ impl DiskMachine {
     // The sectors that are to be read, where they come before the calls that wait, or none waits.
     fn ask_to_read(&mut self) -> DeviceAsk
         ensures { self.old.asked ≡ asked.Nothing
-            → IsOvertaken self.old ⊎ ((medium_of self.old.disk).outbox ≡ []) → (buffer : List ℕ) → AsksFor self.old buffer result self.new buffer }
+            → IsOvertaken self.old ⊎ ((medium_of self.old.disk).outbox ≡ [])
+            → (buffer : List ℕ) → AsksFor self.old buffer result self.new buffer }
     {
         match self.lack {
             Lack::Wanted(home) | Lack::Ahead(home) => {
