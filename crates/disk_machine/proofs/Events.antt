@@ -83,8 +83,8 @@ module _ {work : Work} (old new : Machine) (event : Event) (answer : Answer) (pl
 
     grows : book.mark ≤ later.mark
     grows =
-        let kept = fits in
-        (mark_grows refused before behind event answer by_rules (omega (arith, kept.promises, kept.rises, kept.accepted))).0
+        let shows = fits.arrays in
+        (mark_grows refused before behind event answer by_rules (omega (arith, shows.promises, shows.rises, shows.accepted))).0
 
     -- no promise was made
     keeps_all : PromisesNone before event → Keeps old book.mark book → Keeps new later.mark later
