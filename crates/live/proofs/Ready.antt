@@ -1,6 +1,7 @@
 -- A disk over a file that was ready is ready again, and what an event reads is in sight.
 use Rattle.std.proofs.Common.{◌≡◌, ◌⊎◌, ◌<◌, ◌≤◌, ◌+◌, ◌/◌, ℕ, true, List, length, inl, inr, arith, sym, ◌∙◌, ap, subst}
 use Rattle.std.specs.Prelude.{Option, Some, None}
+use Rattle.std.specs.List.{list_all}
 use Rattle.std.proofs.lemmas.Bool.{cases_Bool, cases_lt}
 use Rattle.medium.specs.Sent.{sent}
 use Rattle.journal.specs.Places.{Shape}
@@ -11,6 +12,7 @@ use Rattle.spec.specs.declared.case.Case.{Case}
 use Rattle.spec.specs.declared.case.Case.TheVariants.{C5, C6}
 use Rattle.spec.specs.declared.wrapper.Cbw.{Cbw}
 use Rattle.wrappers.proofs.CommandWrappers.{one_wrapper}
+use Rattle.window.specs.Seen.{spares}
 use Rattle.window.specs.Window.{Window, state_of, is_in_sight, ComesAfter, IsServed}
 use Rattle.window.specs.Looks.{near_in_sight, shown_in_sight, none_refused, none_kept_out}
 use Rattle.scsi_unit.specs.Reading.{first_home_of}
@@ -172,7 +174,7 @@ module _ {D : Type 0} where
     taken_if : (old new : DiskOn D) (home : HomeSectors) (first count : ℕ) → IsReady old → AreMissing (window_of old) home first count
         → (sees : SeesRead told holds refuses old first count new) → sees.taken ≡ true
     taken_if old new home first count ready missing sees = sees.shown.shown.fits.1 (
-      ap (λ l. length l) ready.empty,
+      ap (λ l. list_all (spares first (length sees.bytes / 512)) l) ready.empty,
       omega (arith, sees.whole),
       omega (arith, sees.whole, missing.few, ready.span),
       omega (arith, missing.begin),
