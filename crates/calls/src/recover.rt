@@ -4,7 +4,7 @@ ghost use Rattle.calls.specs.Recovers.{IsFirst, RecoversOn, ComesBehind, behind}
 
 use crate::held::{Held, Stage};
 use bot_machine::StartFault;
-use opening::{Opening, Reach, Recovering};
+use opening::{Opening, Reach, Recovering, Run};
 use recovery::Recovered;
 use std::alloc::Global;
 use std::mem;
@@ -19,8 +19,8 @@ pub(crate) fn first_call(alloc: Global, sectors: u64) -> Option<Stage>
     if sectors == 0 {
         return Some(Stage::Failed(StartFault::BadSuper));
     }
-    let recovering = Recovering::new(alloc, sectors)?;
-    match Box::new(alloc, recovering) {
+    let run = Run::new(alloc)?;
+    match Box::new(alloc, Recovering::new(run, sectors)) {
         Ok(recovering) => Some(Stage::Recovering(recovering, sectors)),
         Err(_) => None,
     }

@@ -1,5 +1,5 @@
 //! What the device of a machine is asked for: runs of neighbouring sectors.
-ghost use Rattle.std.specs.Prelude.{◌≡◌, ◌≤◌, ◌+◌, ◌/◌, ◌*◌, [], length, IfSome, true};
+ghost use Rattle.std.specs.Prelude.{◌≡◌, ◌≤◌, ◌+◌, ◌/◌, ◌*◌, [], length, true};
 ghost use Rattle.machine_calls.specs.Running.{BeginsRunning, RunAsks, AsksNext, HasAnswered};
 ghost use Rattle.machine_calls.specs.Running.{Hands, HandsFor, IsAtRest, AsksToRead, GathersOn};
 ghost use Rattle.machine_calls.specs.Running.{HasGathered, PutsNext, gathered};
@@ -12,22 +12,21 @@ use crate::running::Running;
 use device_calls::{DeviceAsk, DeviceRead};
 use medium::Machine;
 use mirror::{SECTOR, put_sector};
-use std::alloc::Global;
 use window::WindowMedium;
 
 impl<T: Machine<WindowMedium> + Drop> Running<T> {
-    /// A machine of which the device was asked nothing. None where there is no memory for what is
-    /// read: 32 KB. No later call takes memory.
-    pub fn new(alloc: Global, machine: T) -> Option<Running<T>>
-        ensures { IfSome result (λ s. BeginsRunning T.fits T.holds T.may T.reads T.ends T.cost
-            T.exact T.due T.after T.gone machine s) }
+    /// A machine of which the device was asked nothing, and room for what is read. What that holds
+    /// is let go of. It takes no memory, so that it is made where it is to lie.
+    pub fn new(mut run: Run, machine: T) -> Running<T>
+        ensures { BeginsRunning T.fits T.holds T.may T.reads T.ends T.cost T.exact T.due T.after
+            T.gone machine result }
     {
-        let run = Run::new(alloc)?;
-        Some(Running {
+        run.held = 0;
+        Running {
             carried: Carried::new(machine),
             run,
             reading: 1,
-        })
+        }
     }
 }
 

@@ -7,8 +7,8 @@ use mirror::{SECTOR, Sectors};
 use std::alloc::Global;
 
 impl Run {
-    /// Room for a run, which holds nothing. None where there is no memory.
-    pub(crate) fn new(alloc: Global) -> Option<Run>
+    /// Room for a run, which holds nothing: 32 KB. None where there is no memory.
+    pub fn new(alloc: Global) -> Option<Run>
         ensures { IfSome result (λ run. run.held ≡ 0) }
     {
         let Ok(bytes) = vec![in alloc; 0u8; MOST * SECTOR] else {

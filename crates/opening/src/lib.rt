@@ -7,6 +7,7 @@ mod reach;
 mod read_end;
 mod recovering;
 
+pub use machine_calls::Run;
 pub use near::near_of;
 pub use opening::Opening;
 pub use reach::Reach;

@@ -1,15 +1,14 @@
 //! The recovery of an image, which a device carries out in runs of neighbouring sectors.
-ghost use Rattle.std.specs.Prelude.{◌≡◌, ◌≤◌, ◌/◌, length, IfSome};
+ghost use Rattle.std.specs.Prelude.{◌≡◌, ◌≤◌, ◌/◌, length};
 ghost use Rattle.opening.specs.Recovering.{BeginsRecovery, AsksToRecover, GoesOnAsked};
 ghost use Rattle.opening.specs.Recovering.{HearsOfRecovery, GoesOnHeard, IsSafe, ReachesTo};
 ghost use Rattle.opening.specs.Recovering.{IsOver, TellsOver, Ends};
 
 use crate::near::near_in;
 use device_calls::{DeviceAsk, DoneFault};
-use machine_calls::Running;
+use machine_calls::{Run, Running};
 use mirror::device_laws;
 use recovery::{Recovered, StartFault, Starting};
-use std::alloc::Global;
 use window::WindowMedium;
 
 const SECTOR: usize = 512;
@@ -27,16 +26,16 @@ pub struct Recovering {
 
 impl Recovering {
     /// The recovery of the image on a device of `sectors` sectors, of which nothing is read yet.
-    /// None where there is no memory.
-    pub fn new(alloc: Global, sectors: u64) -> Option<Recovering>
-        ensures { IfSome result (BeginsRecovery sectors) }
+    /// The run has room for what it reads. It takes no memory, so that it is made where it is to
+    /// lie.
+    pub fn new(run: Run, sectors: u64) -> Recovering
+        ensures { BeginsRecovery sectors result }
     {
-        let running = Running::new(alloc, Starting::begin::<WindowMedium>(sectors))?;
-        Some(Recovering {
-            running,
+        Recovering {
+            running: Running::new(run, Starting::begin::<WindowMedium>(sectors)),
             sectors,
             until: 1,
-        })
+        }
     }
 
     /// What the device is to do next: nothing while it is at a call, or refused one, or where the

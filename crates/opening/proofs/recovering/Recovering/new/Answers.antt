@@ -4,13 +4,13 @@ use Rattle.opening.proofs.recovering.Recovering.new.Goals as goal
 pub returns : goal.returns
 returns c =
     let begun = c.begin.ensures in
-    let starts = c.in_ok-running.ensures {u = tt} in record {
+    let starts = c.new.ensures in record {
       sectors_are = refl;
       until_is = refl;
       begins = λ m sized whole. record {
         first = c.begin.result;
-        began = c.in_ok-running.running.carried.sector;
+        began = c.new.result.carried.sector;
         running = starts.begins m (begun.of.0 ∙ sym sized) whole;
-        held = (begun.of.1, begun.held m c.in_ok-running.running.carried.sector);
+        held = (begun.of.1, begun.held m c.new.result.carried.sector);
       };
     }
