@@ -1,6 +1,6 @@
 //! What a store is made of.
 ghost use Rattle.std.specs.Prelude.{◌≡◌, ◌↔◌, ◌<◌, ◌≤◌, ◌+◌, ◌/◌, ℕ, true, false, length, IsTrue};
-ghost use Rattle.inlet.specs.Inlet.{AreHeld};
+ghost use Rattle.medium.specs.Inlet.{AreHeld};
 ghost use Rattle.medium.specs.Moments.{EachCut};
 ghost use Rattle.journal.specs.Places.{first_home, sectors_of};
 ghost use Rattle.spec.specs.Book.{Book};
@@ -12,9 +12,8 @@ ghost use Rattle.blocks.specs.Passing.{IsUntouched};
 ghost use Rattle.blocks.specs.Written.{IsWritten};
 
 use cache::{Batch, Frozen};
-use inlet::Inlet;
 use journal::Super;
-use medium::{Medium, Outlet, Switch};
+use medium::{Inlet, Medium, Outlet, Switch};
 use redo_log::Log;
 use std::marker::Model;
 

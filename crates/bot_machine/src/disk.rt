@@ -1,7 +1,7 @@
 //! A disk: the transport over a logical unit.
 ghost use Rattle.std.specs.Prelude.{⊤, ◌↔◌, ◌≡◌, ◌⊎◌, ◌≤◌, ◌<◌, ◌/◌, ℕ, false, true, length};
 ghost use Rattle.std.specs.Prelude.{IsTrue};
-ghost use Rattle.inlet.specs.Inlet.{AreHeld};
+ghost use Rattle.medium.specs.Inlet.{AreHeld};
 ghost use Rattle.std.specs.Borrow.{sem, follows_so};
 ghost use mathlib.Core.Option.{none};
 ghost use Rattle.medium.specs.Moments.{EachCut, IsUnchanged};
@@ -27,8 +27,7 @@ use crate::bulk_out::{open, take_data};
 use crate::bulk_state::{BulkState, Phase};
 use crate::event::{InAnswer, OutAnswer, SetupAnswer};
 use crate::request::{ControlRequest, read_request};
-use inlet::Inlet;
-use medium::{Medium, Outlet, Switch};
+use medium::{Inlet, Medium, Outlet, Switch};
 use scsi_unit::{Unit, Work};
 use std::marker::Model;
 

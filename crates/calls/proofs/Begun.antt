@@ -2,17 +2,17 @@
 use Rattle.std.proofs.Common.{◌≡◌, ◌≤◌, ℕ, List, length, inr, sym, subst, ap, arith}
 use Rattle.medium.specs.Writes.{sector_of}
 use Rattle.window.specs.Window.{Window, state_of, mirror_of, ComesAfter, CoversDevice, IsServed}
-use Rattle.mirror.specs.OutboxMedium.{sent}
+use Rattle.window.specs.OutboxMedium.{sent}
 use Rattle.window.proofs.Kept.{opened_front}
 use Rattle.journal.specs.Sectors.{IsSuper}
 use Rattle.recovery.specs.declared.start_fault.StartFault.{StartFault}
 use Rattle.store_calls.specs.Starts.{IsNoLength}
 use Rattle.bot_machine.specs.Device.{Device}
 use Rattle.bot_machine.specs.Opening.{StartsDisk, RefusesDisk}
-use Rattle.disk_calls.specs.Parts.{CoversParts}
-use Rattle.disk_calls.specs.Plays.{Disk, medium_of, layout_on, Begins}
-use Rattle.disk_calls.proofs.Refusals.{ends_in}
-use Rattle.disk_calls.proofs.Rooms.{IsEnough, start_refuses, holds_log, roomy}
+use Rattle.disk_machine.specs.Parts.{CoversParts}
+use Rattle.disk_machine.specs.Plays.{Disk, medium_of, layout_on, Begins}
+use Rattle.disk_machine.proofs.Refusals.{ends_in}
+use Rattle.disk_machine.proofs.Rooms.{IsEnough, start_refuses, holds_log, roomy}
 use Rattle.disk_machine.specs.Machine.{Machine}
 use Rattle.disk_machine.specs.Moves.{begun, ServesAtRest, BeginsBehind, HasRoomBeside}
 use Rattle.calls.specs.Reserve.{IsReserve, AHEAD}

@@ -6,7 +6,7 @@ use Rattle.journal.specs.Sectors.{IsSuper}
 use Rattle.window.specs.Window.{Window, mirror_of, fresh}
 use Rattle.window.proofs.Kept.{opened_front, opened_length}
 use Rattle.bot_machine.specs.Device.{Device}
-use Rattle.disk_calls.specs.Refusals.{HoldsImageLog, HoldsLog}
+use Rattle.disk_machine.specs.Refusals.{HoldsImageLog, HoldsLog}
 use Rattle.disk_machine.specs.Machine.{Machine}
 use Rattle.store_calls.specs.Starts.{IsNoLength}
 use Rattle.opening.specs.Reading.{Reading, IsSound, IsWhole, IsUntil}

@@ -1,12 +1,12 @@
 -- What the device is to do next.
 use Rattle.std.specs.Prelude.{◌≡◌, ◌⊎◌, ℕ, ◌/◌, List, length}
 use Rattle.store_calls.specs.Outbox.{IsNoRoom}
-use Rattle.device_calls.specs.declared.ask.DeviceAsk.{DeviceAsk}
-use Rattle.device_calls.specs.declared.ask.DeviceAsk.TheVariants as ask
+use Rattle.window.specs.declared.ask.DeviceAsk.{DeviceAsk}
+use Rattle.window.specs.declared.ask.DeviceAsk.TheVariants as ask
 use Rattle.opening.specs.Reading.{Reading, AsksToRead}
 use Rattle.opening.specs.Recovering.{AsksToRecover, GoesOnAsked}
 use Rattle.opening.specs.declared.recovering.Recovering.{Recovering}
-use Rattle.disk_calls.specs.Codes.{BAD_LENGTH}
+use Rattle.disk_machine.specs.Codes.{BAD_LENGTH}
 use Rattle.disk_machine.specs.Machine.{Machine}
 use Rattle.disk_machine.specs.Asking.{AsksFor}
 use Rattle.disk_machine.specs.Idling.{WorksAhead}

@@ -1,6 +1,6 @@
 -- What a device is to do next, as C is told it.
-use Rattle.device_calls.specs.declared.ask.DeviceAsk.{DeviceAsk}
-use Rattle.device_calls.specs.declared.ask.DeviceAsk.TheVariants as ask
+use Rattle.window.specs.declared.ask.DeviceAsk.{DeviceAsk}
+use Rattle.window.specs.declared.ask.DeviceAsk.TheVariants as ask
 use Rattle.calls.specs.declared.asks.UsbDiskCall.{UsbDiskCall}
 
 -- 0 is nothing, 1 writes, 2 a flush, 3 a read; of nothing and a flush no sectors are told

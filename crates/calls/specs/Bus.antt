@@ -1,7 +1,7 @@
 -- What transfers, tokens and requests of the bus do.
 use Rattle.std.specs.Prelude.{◌≡◌, ◌⊎◌, ℕ, ◌<◌, ◌≤◌, List, length}
 use Rattle.spec.specs.Packets.{bytes_of}
-use Rattle.disk_calls.specs.Codes.{BAD_LENGTH}
+use Rattle.disk_machine.specs.Codes.{BAD_LENGTH}
 use Rattle.disk_machine.specs.Machine.{Machine}
 use Rattle.disk_machine.specs.Packets as machine
 use Rattle.disk_machine.specs.Transfers.{TakesTransfer, SendsInto}

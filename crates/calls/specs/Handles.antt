@@ -1,6 +1,6 @@
 -- What a call does to what a handle holds.
 use Rattle.std.specs.Prelude.{◌≡◌, ℕ, Option, Some, None}
-use Rattle.disk_calls.specs.Codes.{EMPTY}
+use Rattle.disk_machine.specs.Codes.{EMPTY}
 use Rattle.calls.specs.HeldRow.{held_row}
 
 -- what a handle holds

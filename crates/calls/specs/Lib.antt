@@ -1,5 +1,6 @@
 pub mod HeldRow
 pub mod Owned
+pub mod Lending
 pub mod Codes
 pub mod Asks
 pub mod Handles

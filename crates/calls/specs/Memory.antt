@@ -2,8 +2,8 @@
 use Rattle.std.specs.Prelude.{ℕ, ◌+◌, ◌*◌}
 use Rattle.journal.specs.Places.{limit_of, slot_sectors_of}
 use Rattle.journal.specs.declared.log_format.LogFormat.{LogFormat}
-use Rattle.disk_calls.specs.Room as disk
-use Rattle.disk_calls.specs.Room.{room_of, Tells, TellsNone}
+use Rattle.disk_machine.specs.Room as disk
+use Rattle.disk_machine.specs.Room.{room_of, Tells, TellsNone}
 use Rattle.calls.specs.Reserve.{AHEAD}
 
 -- By measure: the first sectors, what the disk keeps in view, the outbox, and 120 bytes more than

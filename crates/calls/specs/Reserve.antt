@@ -3,7 +3,7 @@ use Rattle.std.specs.Prelude.{◌≡◌, ℕ, ◌+◌, ◌≤◌, List, length}
 use Rattle.medium.specs.Writes.{sector_of}
 use Rattle.journal.specs.Places.{Shape, limit_of}
 use Rattle.journal.specs.Sectors.{IsSuper}
-use Rattle.disk_calls.specs.Room.{room_for}
+use Rattle.disk_machine.specs.Room.{room_for}
 
 -- so many calls may wait when a packet is taken
 abbrev pub AHEAD : ℕ

@@ -8,10 +8,10 @@ use Rattle.spec.specs.Identification.{IsLegible}
 use Rattle.spec.specs.declared.packet_size.PacketSize.{PacketSize}
 use Rattle.spec.specs.Packets.{bytes_of}
 use Rattle.bot_machine.specs.Device.{Device, device_by, Ahead}
-use Rattle.disk_calls.specs.Codes.{EMPTY, STARTED, BAD_IDENTITY, BAD_PACKET_SIZE}
-use Rattle.disk_calls.specs.Plays.{Disk, Begins, EndsIn}
-use Rattle.disk_calls.specs.Refusals.{HoldsLog}
-use Rattle.disk_calls.specs.Starting.{identity_of}
+use Rattle.disk_machine.specs.Codes.{EMPTY, STARTED, BAD_IDENTITY, BAD_PACKET_SIZE}
+use Rattle.disk_machine.specs.Plays.{Disk, Begins, EndsIn}
+use Rattle.disk_machine.specs.Refusals.{HoldsLog}
+use Rattle.disk_machine.specs.Starting.{identity_of}
 use Rattle.disk_machine.specs.Machine.{Machine}
 use Rattle.disk_machine.specs.Moves.{begun, ServesAtRest, LeavesOfStart, HasRoomBeside}
 use Rattle.opening.specs.Reading.{Reading, unread, IsWhole}

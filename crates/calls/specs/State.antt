@@ -1,8 +1,8 @@
 -- What a handle is at.
 use Rattle.std.specs.Prelude.{◌≡◌, ℕ}
-use Rattle.device_calls.specs.declared.state.MachineState.{MachineState}
-use Rattle.device_calls.specs.declared.state.MachineState.TheVariants as state
-use Rattle.disk_calls.specs.Codes.{number_of}
+use Rattle.window.specs.declared.state.MachineState.{MachineState}
+use Rattle.window.specs.declared.state.MachineState.TheVariants as state
+use Rattle.disk_machine.specs.Codes.{number_of}
 use Rattle.disk_machine.specs.Moves.{state_of}
 use Rattle.store_calls.specs.StoreMachine as store
 use Rattle.image_calls.specs.Machines as images

@@ -5,7 +5,7 @@ use Rattle.store_calls.specs.StoreMachine.{Machine}
 use Rattle.store_calls.specs.Transfers.{Reads, Writes, Syncs}
 use Rattle.store_calls.specs.declared.store_fault.StoreFault.{StoreFault}
 use Rattle.store_calls.specs.declared.store_fault.StoreFault.TheVariants as fault
-use Rattle.disk_calls.specs.Codes.{number_of, BAD_LENGTH}
+use Rattle.disk_machine.specs.Codes.{number_of, BAD_LENGTH}
 use Rattle.calls.specs.Codes.{BUSY, OTHER_KIND}
 use Rattle.calls.specs.Handles.{Held}
 use Rattle.calls.specs.declared.held.Purpose.{Purpose}

@@ -1,14 +1,14 @@
 -- What the device tells of what it was asked for.
 use Rattle.std.specs.Prelude.{◌≡◌, ℕ, Bool, List, Result, Ok, Err}
-use Rattle.device_calls.specs.declared.done_fault.DoneFault.{DoneFault}
-use Rattle.device_calls.specs.declared.done_fault.DoneFault.TheVariants as fault
+use Rattle.window.specs.declared.done_fault.DoneFault.{DoneFault}
+use Rattle.window.specs.declared.done_fault.DoneFault.TheVariants as fault
 use Rattle.opening.specs.Reading.{Reading, HasRead}
 use Rattle.opening.specs.Recovering.{HearsOfRecovery, GoesOnHeard}
 use Rattle.opening.specs.declared.recovering.Recovering.{Recovering}
 use Rattle.opening.specs.declared.read_end.ReadEnd.{ReadEnd}
 use Rattle.opening.specs.declared.read_end.ReadEnd.TheVariants as end
 use Rattle.recovery.specs.declared.start_fault.StartFault.TheVariants as start
-use Rattle.disk_calls.specs.Codes.{BAD_LENGTH}
+use Rattle.disk_machine.specs.Codes.{BAD_LENGTH}
 use Rattle.disk_machine.specs.Machine.{Machine}
 use Rattle.disk_machine.specs.Asking as machine
 use Rattle.disk_machine.specs.Asking.{IsHonest}

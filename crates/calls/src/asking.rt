@@ -7,24 +7,21 @@ ghost use Rattle.calls.specs.Asking.{HandsOut, Asks};
 use crate::asks::{UsbDiskCall, told};
 use crate::handle::UsbDisk;
 use crate::held::{Held, Stage};
-use crate::moves::{adopt, reclaim};
-use device_calls::DeviceAsk;
-use disk_calls::{ACK, BAD_LENGTH, EMPTY};
-use std::alloc::Global;
+use crate::lending::held_in;
+use disk_machine::{ACK, BAD_LENGTH, EMPTY};
+use window::DeviceAsk;
 
 const SECTOR: usize = 512;
 
 /// The next call of the device, of which the bytes of writes go to the front of the buffer.
-pub fn next_call(alloc: Global, h: &mut UsbDisk, call: &mut UsbDiskCall, buffer: &mut [u8]) -> u32
+pub fn next_call(h: &mut UsbDisk, call: &mut UsbDiskCall, buffer: &mut [u8]) -> u32
     ensures { InHandle (HandsOut call.old buffer.old call.new buffer.new)
         ((call.new ≡ call.old) × (buffer.new ≡ buffer.old)) h.old.held h.new.held result }
 {
-    let Some(mut held) = reclaim(h, alloc) else {
+    let Some(held) = held_in(h) else {
         return EMPTY;
     };
-    let code = held.hand_out(call, buffer);
-    adopt(h, alloc, held);
-    code
+    held.hand_out(call, buffer)
 }
 
 impl Held {

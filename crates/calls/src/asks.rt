@@ -2,7 +2,7 @@
 ghost use Rattle.std.specs.Prelude.{◌≡◌};
 ghost use Rattle.calls.specs.Asks.{told_as};
 
-use device_calls::DeviceAsk;
+use window::DeviceAsk;
 
 /// C's `struct usbdisk_call`.
 #[repr(C)]

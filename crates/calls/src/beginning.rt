@@ -13,10 +13,9 @@ use crate::reserve::{AHEAD, reserve_for};
 use crate::work::{begin_format, begin_log, begin_migration, begin_store};
 use bot_machine::{Disk, Identity, PacketSize, Retiring, StartFault};
 use disk_machine::DiskMachine;
-use mirror::device_laws;
 use opening::Opening;
 use std::alloc::Global;
-use window::{WindowError, WindowMedium};
+use window::{WindowError, WindowMedium, device_laws};
 
 impl Purpose {
     /// What was started begins, where all is read. It stands apart, so that an event does not take

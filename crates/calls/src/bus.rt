@@ -7,53 +7,40 @@ ghost use Rattle.calls.specs.Bus.{WaitsOut, WaitsIn, IsStalled};
 use crate::codes::OTHER_KIND;
 use crate::handle::UsbDisk;
 use crate::held::{Held, Purpose, Stage};
-use crate::moves::{adopt, reclaim};
-use disk_calls::{BAD_LENGTH, EMPTY, NAK, STALL};
-use std::alloc::Global;
+use crate::lending::held_in;
+use disk_machine::{BAD_LENGTH, EMPTY, NAK, STALL};
 
 /// Bytes to Bulk-Out: a transfer of the host, or a part of one that ends where a packet does.
-pub fn take_out(alloc: Global, h: &mut UsbDisk, bytes: &[u8], taken: &mut usize) -> u32
+pub fn take_out(h: &mut UsbDisk, bytes: &[u8], taken: &mut usize) -> u32
     ensures { InHandle (TakesOut bytes.now taken.old taken.new) (taken.new ≡ taken.old)
         h.old.held h.new.held result }
 {
-    let Some(mut held) = reclaim(h, alloc) else {
+    let Some(held) = held_in(h) else {
         return EMPTY;
     };
-    let code = held.take(bytes, taken);
-    adopt(h, alloc, held);
-    code
+    held.take(bytes, taken)
 }
 
 /// Tokens to Bulk-In, whose packets lie one behind the other in the room.
-pub fn send_in(alloc: Global, h: &mut UsbDisk, room: &mut [u8], given: &mut usize) -> u32
+pub fn send_in(h: &mut UsbDisk, room: &mut [u8], given: &mut usize) -> u32
     ensures { InHandle (SendsIn room.old given.old room.new given.new)
         ((room.new ≡ room.old) × (given.new ≡ given.old)) h.old.held h.new.held result }
 {
-    let Some(mut held) = reclaim(h, alloc) else {
+    let Some(held) = held_in(h) else {
         return EMPTY;
     };
-    let code = held.send(room, given);
-    adopt(h, alloc, held);
-    code
+    held.send(room, given)
 }
 
 /// A control request.
-pub fn answer_setup(
-    alloc: Global,
-    h: &mut UsbDisk,
-    packet: &[u8; 8],
-    to: &mut [u8; 2],
-    size: &mut u32,
-) -> u32
+pub fn answer_setup(h: &mut UsbDisk, packet: &[u8; 8], to: &mut [u8; 2], size: &mut u32) -> u32
     ensures { InHandle (AnswersSetup packet.now to.old size.old to.new size.new)
         ((to.new ≡ to.old) × (size.new ≡ size.old)) h.old.held h.new.held result }
 {
-    let Some(mut held) = reclaim(h, alloc) else {
+    let Some(held) = held_in(h) else {
         return EMPTY;
     };
-    let code = held.answer(packet, to, size);
-    adopt(h, alloc, held);
-    code
+    held.answer(packet, to, size)
 }
 
 impl Held {

@@ -1,4 +1,4 @@
-//! The numbers that C sees, beside those of `disk_calls`. include/usbdisk.h has the same.
+//! The numbers that C sees, beside those of `disk_machine`. include/usbdisk.h has the same.
 
 /// The device has to carry out something before.
 pub(crate) const BUSY: u32 = 12;

@@ -6,32 +6,27 @@ ghost use Rattle.calls.specs.Idling.{MakesSteps, ReadsAhead, Rests, ReadsNone, c
 use crate::codes::OTHER_KIND;
 use crate::handle::UsbDisk;
 use crate::held::{Held, Purpose, Stage};
-use crate::moves::{adopt, reclaim};
-use disk_calls::EMPTY;
-use std::alloc::Global;
+use crate::lending::held_in;
+use disk_machine::EMPTY;
 
 /// Steps in the background.
-pub fn make_steps(alloc: Global, h: &mut UsbDisk) -> u32
+pub fn make_steps(h: &mut UsbDisk) -> u32
     ensures { InHandle MakesSteps (Unit {0}) h.old.held h.new.held result }
 {
-    let Some(mut held) = reclaim(h, alloc) else {
+    let Some(held) = held_in(h) else {
         return EMPTY;
     };
-    let code = held.idle();
-    adopt(h, alloc, held);
-    code
+    held.idle()
 }
 
 /// The device is to read these sectors when it is free.
-pub fn look_ahead(alloc: Global, h: &mut UsbDisk, first: u64, count: u32) -> u32
+pub fn look_ahead(h: &mut UsbDisk, first: u64, count: u32) -> u32
     ensures { InHandle (ReadsAhead first count) (Unit {0}) h.old.held h.new.held result }
 {
-    let Some(mut held) = reclaim(h, alloc) else {
+    let Some(held) = held_in(h) else {
         return EMPTY;
     };
-    let code = held.wish(first, count);
-    adopt(h, alloc, held);
-    code
+    held.wish(first, count)
 }
 
 impl Held {

@@ -7,7 +7,7 @@ use crate::held::Purpose;
 use crate::moves::holds_any;
 use crate::options::UsbDiskPlan;
 use crate::starting::open;
-use disk_calls::{BAD_SIZES, STARTED};
+use disk_machine::{BAD_SIZES, STARTED};
 use image_calls::ImagePlan;
 use journal::LogFormat;
 use opening::Reach;
@@ -17,7 +17,7 @@ use std::alloc::Global;
 pub fn format(alloc: Global, h: &mut UsbDisk, plan: &UsbDiskPlan) -> u32
     ensures { Formats plan.now h.old.held h.new.held result }
 {
-    if holds_any(h, alloc) {
+    if holds_any(h) {
         return STARTED;
     }
     let Some(fits) = plan_of(plan) else {
@@ -30,7 +30,7 @@ pub fn format(alloc: Global, h: &mut UsbDisk, plan: &UsbDiskPlan) -> u32
 pub fn lay_log(alloc: Global, h: &mut UsbDisk, plan: &UsbDiskPlan) -> u32
     ensures { LaysLog plan.now h.old.held h.new.held result }
 {
-    if holds_any(h, alloc) {
+    if holds_any(h) {
         return STARTED;
     }
     let Some(fits) = plan_of(plan) else {
@@ -43,7 +43,7 @@ pub fn lay_log(alloc: Global, h: &mut UsbDisk, plan: &UsbDiskPlan) -> u32
 pub fn migrate(alloc: Global, h: &mut UsbDisk, plan: &UsbDiskPlan) -> u32
     ensures { Migrates plan.now h.old.held h.new.held result }
 {
-    if holds_any(h, alloc) {
+    if holds_any(h) {
         return STARTED;
     }
     open(alloc, h, Purpose::Migration, plan.sectors, Reach::Near)

@@ -12,6 +12,7 @@ mod handle;
 mod held;
 mod idling;
 mod imaging;
+mod lending;
 mod memory;
 mod moves;
 mod options;

@@ -1,10 +1,10 @@
 //! How much memory a disk takes.
 ghost use Rattle.std.specs.Prelude.{◌≡◌, ◌≤◌};
 ghost use Rattle.calls.specs.Memory.{TellsMemory, memory_on};
-ghost use Rattle.disk_calls.specs.Room.{slot_memory};
+ghost use Rattle.disk_machine.specs.Room.{slot_memory};
 
 use crate::reserve::AHEAD;
-use disk_calls::room_for;
+use disk_machine::room_for;
 use journal::LogFormat;
 
 // What the box behind a handle takes.

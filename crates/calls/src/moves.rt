@@ -1,8 +1,9 @@
-//! A box goes into a handle, and comes back.
+//! A box goes into a handle where something starts, and comes back where it stops.
 ghost use Rattle.std.specs.Prelude.{◌≡◌, true, false, Some, None, IsSome, MatchOption};
 
 use crate::handle::UsbDisk;
 use crate::held::Held;
+use crate::lending::held_in;
 use crate::turns::{empty, handle_of, parts_of};
 use std::alloc::Global;
 use std::mem;
@@ -30,16 +31,13 @@ pub(crate) fn adopt(h: &mut UsbDisk, alloc: Global, held: Box<Held>)
 }
 
 /// Whether the handle holds something, which stays there.
-pub(crate) fn holds_any(h: &mut UsbDisk, alloc: Global) -> bool
+pub(crate) fn holds_any(h: &mut UsbDisk) -> bool
     ensures stays { h.new.held ≡ h.old.held }
     ensures some { result ≡ true → IsSome h.old.held }
     ensures none { result ≡ false → h.old.held ≡ None }
 {
-    match reclaim(h, alloc) {
-        Some(there) => {
-            adopt(h, alloc, there);
-            true
-        }
+    match held_in(h) {
+        Some(_) => true,
         None => false,
     }
 }

@@ -1,5 +1,5 @@
 //! What C gives to a start.
-use disk_calls::UsbDiskIdentity;
+use disk_machine::UsbDiskIdentity;
 
 /// C's `struct usbdisk_options`.
 #[repr(C)]

@@ -3,7 +3,7 @@ ghost use Rattle.std.specs.Prelude.{◌≡◌, MatchOption};
 ghost use Rattle.calls.specs.Reserve.{IsReserve, HasSuper, IsTheSuper};
 ghost use Rattle.journal.specs.Formats.{shape_of};
 
-use disk_calls::room_for;
+use disk_machine::room_for;
 use journal::Super;
 
 const SECTOR: usize = 512;

@@ -3,7 +3,7 @@ ghost use Rattle.std.specs.Prelude.{◌≡◌, ◌≢◌, ◌⊎◌, MatchOption
 ghost use Rattle.std.specs.Option.{SomeIff};
 ghost use Rattle.spec.specs.Packets.{bytes_of};
 ghost use Rattle.spec.specs.Identification.{IsLegible};
-ghost use Rattle.disk_calls.specs.Starting.{identity_of};
+ghost use Rattle.disk_machine.specs.Starting.{identity_of};
 ghost use Rattle.calls.specs.Starting.{StartsDisk, StartsStore, Opens, Stops, started, first_stage};
 ghost use Rattle.calls.specs.Starting.{Recovers};
 
@@ -13,7 +13,9 @@ use crate::moves::{adopt, holds_any, reclaim};
 use crate::options::UsbDiskOptions;
 use crate::recover::first_call;
 use bot_machine::{Identity, PacketSize, StartFault};
-use disk_calls::{ACK, BAD_IDENTITY, BAD_PACKET_SIZE, EMPTY, STARTED, UsbDiskIdentity, number_of};
+use disk_machine::{
+    ACK, BAD_IDENTITY, BAD_PACKET_SIZE, EMPTY, STARTED, UsbDiskIdentity, number_of,
+};
 use opening::{Opening, Reach};
 use std::alloc::Global;
 
@@ -21,7 +23,7 @@ use std::alloc::Global;
 pub fn start_disk(alloc: Global, h: &mut UsbDisk, options: &UsbDiskOptions) -> u32
     ensures { StartsDisk options.now h.old.held h.new.held result }
 {
-    if holds_any(h, alloc) {
+    if holds_any(h) {
         return STARTED;
     }
     let Some(size) = packet_size(options.packet) else {
@@ -38,7 +40,7 @@ pub fn start_disk(alloc: Global, h: &mut UsbDisk, options: &UsbDiskOptions) -> u
 pub fn start_store(alloc: Global, h: &mut UsbDisk, options: &UsbDiskOptions) -> u32
     ensures { StartsStore options.now h.old.held h.new.held result }
 {
-    if holds_any(h, alloc) {
+    if holds_any(h) {
         return STARTED;
     }
     recover(alloc, h, Purpose::Store, options.sectors)

@@ -5,12 +5,11 @@ ghost use Rattle.calls.specs.State.{TellsState, IsAt, IsImageAt, code_of_state};
 
 use crate::handle::UsbDisk;
 use crate::held::{Held, Stage};
-use crate::moves::{adopt, reclaim};
+use crate::lending::held_in;
 use bot_machine::StartFault;
-use device_calls::MachineState;
-use disk_calls::{EMPTY, number_of};
+use disk_machine::{EMPTY, number_of};
 use image_calls::{ImageCall, ImageState};
-use std::alloc::Global;
+use window::MachineState;
 
 // The work on an image is done.
 const DONE: u32 = 3;
@@ -19,16 +18,14 @@ const DONE: u32 = 3;
 const FAILED: u32 = 4;
 
 /// What a handle is at, and why there is nothing.
-pub fn tell_state(alloc: Global, h: &mut UsbDisk, fault: &mut u32) -> u32
+pub fn tell_state(h: &mut UsbDisk, fault: &mut u32) -> u32
     ensures { InHandle (TellsState fault.new) (fault.new ≡ fault.old)
         h.old.held h.new.held result }
 {
-    let Some(held) = reclaim(h, alloc) else {
+    let Some(held) = held_in(h) else {
         return EMPTY;
     };
-    let code = held.state(fault);
-    adopt(h, alloc, held);
-    code
+    held.state(fault)
 }
 
 impl Held {

@@ -7,59 +7,50 @@ ghost use Rattle.calls.specs.Storing.{code_before, code_of_fault, code_of_done};
 use crate::codes::{BUSY, OTHER_KIND};
 use crate::handle::UsbDisk;
 use crate::held::{Held, Purpose, Stage};
-use crate::moves::{adopt, reclaim};
-use disk_calls::{ACK, BAD_LENGTH, BAD_RANGE, DEAD, EMPTY, UNREAD, number_of};
-use std::alloc::Global;
+use crate::lending::held_in;
+use disk_machine::{ACK, BAD_LENGTH, BAD_RANGE, DEAD, EMPTY, UNREAD, number_of};
 use store_calls::StoreFault;
 
 /// How many blocks there are, and how many of them a read or a write has at most.
-pub fn tell_sizes(alloc: Global, h: &mut UsbDisk, blocks: &mut u64, limit: &mut u32) -> u32
+pub fn tell_sizes(h: &mut UsbDisk, blocks: &mut u64, limit: &mut u32) -> u32
     ensures { InHandle (TellsSizes blocks.old limit.old blocks.new limit.new)
         ((blocks.new ≡ blocks.old) × (limit.new ≡ limit.old)) h.old.held h.new.held result }
 {
-    let Some(held) = reclaim(h, alloc) else {
+    let Some(held) = held_in(h) else {
         return EMPTY;
     };
-    let code = held.sizes(blocks, limit);
-    adopt(h, alloc, held);
-    code
+    held.sizes(blocks, limit)
 }
 
 /// Reads whole blocks, as they are after all accepted writes.
-pub fn read_blocks(alloc: Global, h: &mut UsbDisk, block: u64, to: &mut [u8]) -> u32
+pub fn read_blocks(h: &mut UsbDisk, block: u64, to: &mut [u8]) -> u32
     ensures { InHandle (ReadsBlocks block to.old to.new) (to.new ≡ to.old)
         h.old.held h.new.held result }
 {
-    let Some(mut held) = reclaim(h, alloc) else {
+    let Some(held) = held_in(h) else {
         return EMPTY;
     };
-    let code = held.read(block, to);
-    adopt(h, alloc, held);
-    code
+    held.read(block, to)
 }
 
 /// Writes whole blocks, as one write.
-pub fn write_blocks(alloc: Global, h: &mut UsbDisk, block: u64, bytes: &[u8]) -> u32
+pub fn write_blocks(h: &mut UsbDisk, block: u64, bytes: &[u8]) -> u32
     ensures { InHandle (WritesBlocks block bytes.now) (Unit {0}) h.old.held h.new.held result }
 {
-    let Some(mut held) = reclaim(h, alloc) else {
+    let Some(held) = held_in(h) else {
         return EMPTY;
     };
-    let code = held.write(block, bytes);
-    adopt(h, alloc, held);
-    code
+    held.write(block, bytes)
 }
 
 /// Makes every accepted write durable.
-pub fn sync(alloc: Global, h: &mut UsbDisk) -> u32
+pub fn sync(h: &mut UsbDisk) -> u32
     ensures { InHandle SyncsStore (Unit {0}) h.old.held h.new.held result }
 {
-    let Some(mut held) = reclaim(h, alloc) else {
+    let Some(held) = held_in(h) else {
         return EMPTY;
     };
-    let code = held.sync();
-    adopt(h, alloc, held);
-    code
+    held.sync()
 }
 
 impl Held {

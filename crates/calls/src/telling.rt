@@ -7,13 +7,13 @@ ghost use Rattle.calls.specs.Telling.{code_of_fault, code_of_done};
 use crate::codes::NOT_ASKED;
 use crate::handle::UsbDisk;
 use crate::held::{Held, Stage};
-use crate::moves::{adopt, reclaim};
+use crate::lending::held_in;
 use bot_machine::StartFault;
-use device_calls::DoneFault;
-use disk_calls::{ACK, BAD_LENGTH, EMPTY};
+use disk_machine::{ACK, BAD_LENGTH, EMPTY};
 use opening::ReadEnd;
 use std::alloc::Global;
 use std::mem;
+use window::DoneFault;
 
 /// The call that was told last has ended. Of a read these are the bytes. Whatever the device holds
 /// behind the first sectors, for which the ghost value stands, a disk that begins is that of it.
@@ -21,12 +21,10 @@ pub fn tell_done(alloc: Global, h: &mut UsbDisk, ok: bool, bytes: &[u8]) -> u32
     ghost content: { List ℕ }
     ensures { InHandle (TellsDone content ok bytes.now) (Unit {0}) h.old.held h.new.held result }
 {
-    let Some(mut held) = reclaim(h, alloc) else {
+    let Some(held) = held_in(h) else {
         return EMPTY;
     };
-    let code = held.hear(alloc, ok, bytes);
-    adopt(h, alloc, held);
-    code
+    held.hear(alloc, ok, bytes)
 }
 
 impl Held {

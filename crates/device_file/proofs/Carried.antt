@@ -6,8 +6,8 @@ use Rattle.medium.specs.FileStory as file
 use Rattle.medium.specs.declared.file_call.Access.{Access}
 use Rattle.medium.specs.declared.file_call.FileCall.{FileCall}
 use Rattle.medium.specs.declared.file_call.FileCall.TheVariants.{Sync}
-use Rattle.mirror.specs.declared.call.DeviceCall.{DeviceCall}
-use Rattle.mirror.specs.declared.call.DeviceCall.TheVariants.{Flush}
+use Rattle.window.specs.declared.call.DeviceCall.{DeviceCall}
+use Rattle.window.specs.declared.call.DeviceCall.TheVariants.{Flush}
 use Rattle.device_file.specs.Asked.{Opening, Told, begun, writes_of}
 use Rattle.device_file.specs.Carried.{AsksPart, IsCarried, IsOpening, IsPart, Part, asked_in, calls_in}
 use Rattle.device_file.specs.FileValue.{PutsRun}

@@ -1,7 +1,7 @@
 -- Copies that go on.
 use Rattle.std.proofs.Common.{◌≡◌, ℕ, ◌+◌, ◌/◌, ◌≤◌, List, [], ◌++◌, length, refl, sym, ◌∙◌, ap, subst, arith}
 use Rattle.std.proofs.Common.{length-append, Result, Ok, Err, OnOk, IfErr}
-use Rattle.mirror.specs.declared.call.DeviceCall.{DeviceCall}
+use Rattle.window.specs.declared.call.DeviceCall.{DeviceCall}
 use Rattle.device_file.specs.Asked.{Told, asked_for, refused}
 use Rattle.device_file.specs.Reads.{AreRead, AreReadFrom, sectors_in}
 use Rattle.device_file.specs.Copied.{Puts, PutsSome, some_writes, asked_until, IsCopied, IsCopying, IsCopiedFrom, IsCopiedInPart}

@@ -1,11 +1,11 @@
 -- Outboxes of which first parts are taken out, one after the other.
 use Rattle.std.proofs.Common.{◌≡◌, ℕ, ◌+◌, ◌<◌, Bool, true, List, [], ◌∷◌, ◌++◌, length, refl, sym, ◌∙◌, ap, append_assoc, arith, None}
 use Rattle.std.proofs.Common.{if◌then◌else◌, length-append, false, Some, Result, Ok, Err, OnOk, IfErr}
-use Rattle.mirror.specs.OutboxMedium.{first_of}
-use Rattle.mirror.specs.declared.call.DeviceCall.{DeviceCall}
+use Rattle.window.specs.OutboxMedium.{first_of}
+use Rattle.window.specs.declared.call.DeviceCall.{DeviceCall}
 use Rattle.window.specs.Window.{Window, take_first, without_first}
-use Rattle.mirror.specs.declared.call.DeviceCall.TheVariants.{Write, Flush}
-use Rattle.mirror.specs.declared.call.SectorWrite.{SectorWrite}
+use Rattle.window.specs.declared.call.DeviceCall.TheVariants.{Write, Flush}
+use Rattle.window.specs.declared.call.SectorWrite.{SectorWrite}
 use Rattle.device_file.specs.Asked.{writes_of, answered}
 use Rattle.device_file.specs.Asked as file
 use Rattle.device_file.specs.Outbox.{taken_out, LetsGo, IsCarriedOut, EndIn, Begins}

@@ -1,10 +1,10 @@
 -- Calls that a file is asked in runs.
 use Rattle.std.proofs.Common.{◌≡◌, ◌≢◌, ◌<◌, ℕ, ◌+◌, List, [], ◌∷◌, ◌++◌, length, length-append, Some, None, refl}
 use Rattle.std.proofs.Common.{sym, ◌∙◌, ap, subst, arith, inl, inr, ◌≤◌}
-use Rattle.mirror.specs.OutboxMedium.{first_of}
-use Rattle.mirror.specs.declared.call.DeviceCall.{DeviceCall}
-use Rattle.mirror.specs.declared.call.DeviceCall.TheVariants.{Write, Flush}
-use Rattle.mirror.specs.declared.call.SectorWrite.{SectorWrite}
+use Rattle.window.specs.OutboxMedium.{first_of}
+use Rattle.window.specs.declared.call.DeviceCall.{DeviceCall}
+use Rattle.window.specs.declared.call.DeviceCall.TheVariants.{Write, Flush}
+use Rattle.window.specs.declared.call.SectorWrite.{SectorWrite}
 use Rattle.device_file.specs.Asked.{writes_of}
 use Rattle.device_file.specs.declared.run.Run.{Run}
 use Rattle.device_file.specs.Outbox.{LetsGo}

@@ -2,10 +2,10 @@
 use Rattle.std.proofs.Common.{◌≡◌, ◌<◌, ◌≤◌, ◌+◌, ℕ, zero, suc, List, [], ◌∷◌, ◌++◌, length, refl, sym, ◌∙◌, ap, subst, inl, inr}
 use Rattle.std.proofs.Common.{append_assoc, ⊎_elim, Result, Ok, Err, true, false, Bool, arith}
 use Rattle.std.proofs.lemmas.List.{append-nil, append_cancel_right}
-use Rattle.mirror.specs.declared.call.DeviceCall.{DeviceCall}
-use Rattle.mirror.specs.declared.call.DeviceCall.TheVariants.{Write, Flush}
+use Rattle.window.specs.declared.call.DeviceCall.{DeviceCall}
+use Rattle.window.specs.declared.call.DeviceCall.TheVariants.{Write, Flush}
 use Rattle.device_file.specs.Asked.{Told, answered, writes_of}
-use Rattle.mirror.specs.declared.call.SectorWrite.{SectorWrite}
+use Rattle.window.specs.declared.call.SectorWrite.{SectorWrite}
 use Rattle.std.specs.Bool.{OnTrue}
 use Rattle.device_file.specs.declared.run.Run.{Run}
 use Rattle.device_file.specs.Copied.{moved_call, moved_calls, some_write, some_writes, waiting_in}

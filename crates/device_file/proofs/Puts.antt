@@ -5,9 +5,9 @@ use Rattle.std.proofs.Common.{length-append, inl, inr, Some, true, false}
 use Rattle.std.proofs.lemmas.Bool.{cases_lt}
 use Rattle.std.proofs.lemmas.List.{append-nil}
 use Rattle.medium.specs.Writes.{sector_of}
-use Rattle.mirror.specs.OutboxMedium.{first_of}
-use Rattle.mirror.specs.declared.call.DeviceCall.{DeviceCall}
-use Rattle.mirror.specs.declared.call.DeviceCall.TheVariants.{Write}
+use Rattle.window.specs.OutboxMedium.{first_of}
+use Rattle.window.specs.declared.call.DeviceCall.{DeviceCall}
+use Rattle.window.specs.declared.call.DeviceCall.TheVariants.{Write}
 use Rattle.device_file.specs.Asked.{Told, asked_for, refused}
 use Rattle.device_file.specs.Reads.{AreReadFrom, sectors_in}
 use Rattle.device_file.specs.Copied.{Puts, PutsSome, is_zeros, some_write, some_writes, moved_call, moved_calls, IsAskedInPart}

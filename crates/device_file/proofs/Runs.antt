@@ -1,8 +1,8 @@
 -- What a run writes.
 use Rattle.std.proofs.Common.{◌≡◌, ℕ, ◌+◌, List, [], ◌∷◌, ◌++◌, length, inl, inr, sym, ◌∙◌, ap, arith}
-use Rattle.mirror.specs.declared.call.SectorWrite.{SectorWrite}
-use Rattle.mirror.specs.declared.call.DeviceCall.{DeviceCall}
-use Rattle.mirror.specs.declared.call.DeviceCall.TheVariants.{Write}
+use Rattle.window.specs.declared.call.SectorWrite.{SectorWrite}
+use Rattle.window.specs.declared.call.DeviceCall.{DeviceCall}
+use Rattle.window.specs.declared.call.DeviceCall.TheVariants.{Write}
 use Rattle.device_file.specs.Asked.{writes_of, GoesOn}
 
 -- a block behind the others is the last that is written

@@ -2,8 +2,8 @@
 use Rattle.std.specs.Prelude.{◌≡◌, ◌⊎◌, ℕ, ◌+◌, Bool, List, [], ◌∷◌, ◌++◌, length, if◌then◌else◌}
 use Rattle.std.specs.Prelude.{Result, IfErr, is_ok}
 use Rattle.medium.specs.declared.file_call.Access.{Access}
-use Rattle.mirror.specs.declared.call.DeviceCall.{DeviceCall}
-use Rattle.mirror.specs.declared.call.DeviceCall.TheVariants.{Write}
+use Rattle.window.specs.declared.call.DeviceCall.{DeviceCall}
+use Rattle.window.specs.declared.call.DeviceCall.TheVariants.{Write}
 use Rattle.device_file.specs.declared.fault.FileCall.{FileCall}
 use Rattle.device_file.specs.declared.fault.FileFault.{FileFault}
 

@@ -6,8 +6,8 @@ use Rattle.medium.specs.FileStory.{IsWriteWithin}
 use Rattle.medium.specs.declared.file_call.Access.{Access}
 use Rattle.medium.specs.declared.file_call.FileCall.{FileCall}
 use Rattle.medium.specs.declared.file_call.FileCall.TheVariants.{Open, Lock, Measure, Resize, Sync}
-use Rattle.mirror.specs.declared.call.DeviceCall.{DeviceCall}
-use Rattle.mirror.specs.declared.call.DeviceCall.TheVariants.{Flush}
+use Rattle.window.specs.declared.call.DeviceCall.{DeviceCall}
+use Rattle.window.specs.declared.call.DeviceCall.TheVariants.{Flush}
 use Rattle.device_file.specs.Asked.{Told, writes_of}
 
 -- It was opened for this, locked, and only then measured, or emptied and given a length.

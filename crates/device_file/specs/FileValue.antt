@@ -1,5 +1,5 @@
 -- A file of sectors, and what it was asked.
-use Rattle.std.specs.Prelude.{◌≡◌, ◌<◌, ◌*◌, ℕ, Bool, true, false, List, [], ◌∷◌}
+use Rattle.std.specs.Prelude.{◌≡◌, ◌<◌, ◌*◌, ℕ, true, List, [], ◌∷◌}
 use Rattle.std.specs.Prelude.{length, Result, OnOk, OnErr}
 use Rattle.std.specs.List.{flat_map}
 use Rattle.medium.specs.FileStory as file
@@ -8,6 +8,8 @@ use Rattle.medium.specs.declared.file_call.Access.{Access}
 use Rattle.medium.specs.declared.file_call.Access.TheVariants.{Make, Replace}
 use Rattle.medium.specs.declared.file_call.FileCall.TheVariants.{Open, Lock, Measure, Resize}
 use Rattle.device_file.specs.Asked.{Told, begun}
+use Rattle.device_file.specs.declared.existing.Existing.{Existing}
+use Rattle.device_file.specs.declared.existing.Existing.TheVariants as there
 use Rattle.device_file.specs.declared.fault.FileFault.{FileFault}
 use Rattle.device_file.specs.declared.run.Run.{Run}
 
@@ -31,17 +33,17 @@ pub record IsOpened (path : List ℕ) (access : Access) (v : FileValue) : Type 0
   pub size_is : v.file.size ≡ 512 * v.size
 
 -- what a file is opened for that is made, or that may be there and is replaced
-abbrev pub made_for : Bool → Access
-made_for true = Replace
-made_for false = Make
+abbrev pub made_for : Existing → Access
+made_for there.Keep = Make
+made_for there.Replace = Replace
 
 -- The file at this path was made now, or, where it may be replaced, was there. It was locked, only
 -- then emptied, given the length of this many sectors, and asked for nothing else: it has zeros.
-pub record IsMade (path : List ℕ) (replace : Bool) (sectors : ℕ) (v : FileValue) : Type 0 where
-  pub told_is : v.told ≡ begun path (made_for replace)
+pub record IsMade (path : List ℕ) (existing : Existing) (sectors : ℕ) (v : FileValue) : Type 0 where
+  pub told_is : v.told ≡ begun path (made_for existing)
   pub path_is : v.file.path ≡ path
   pub asked : v.file.asked
-      ≡ Open (made_for replace) ∷ Lock ∷ Resize 0 ∷ Resize (512 * sectors) ∷ []
+      ≡ Open (made_for existing) ∷ Lock ∷ Resize 0 ∷ Resize (512 * sectors) ∷ []
   pub sectors_are : v.size ≡ sectors
   pub size_is : v.file.size ≡ 512 * sectors
   pub zeros : (p : ℕ) → p < 512 * sectors → holds v.file p ≡ 0

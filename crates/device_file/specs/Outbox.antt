@@ -1,9 +1,9 @@
 -- An outbox of which a first part was taken out.
 use Rattle.std.specs.Prelude.{◌≡◌, ℕ, ◌+◌, Bool, List, [], ◌∷◌, ◌++◌, if◌then◌else◌}
 use Rattle.std.specs.Prelude.{Result, OnOk, IfErr, is_ok, length, ◌<◌}
-use Rattle.mirror.specs.Story.{Told}
-use Rattle.mirror.specs.declared.call.DeviceCall.{DeviceCall}
-use Rattle.mirror.specs.declared.call.DeviceCall.TheVariants.{Write, Flush}
+use Rattle.window.specs.Story.{Told}
+use Rattle.window.specs.declared.call.DeviceCall.{DeviceCall}
+use Rattle.window.specs.declared.call.DeviceCall.TheVariants.{Write, Flush}
 use Rattle.window.specs.Window.{Window}
 use Rattle.device_file.specs.Asked as file
 use Rattle.device_file.specs.declared.fault.FileCall.{FileCall}

@@ -1,7 +1,7 @@
 //! The carrying out of an outbox by a file.
 ghost use Rattle.std.specs.Prelude.{◌≡◌, ◌<◌, [], ◌∷◌, Some, length};
-ghost use Rattle.mirror.specs.declared.call.DeviceCall.TheVariants.{Write, Flush};
-ghost use Rattle.mirror.specs.OutboxMedium.{first_of};
+ghost use Rattle.window.specs.declared.call.DeviceCall.TheVariants.{Write, Flush};
+ghost use Rattle.window.specs.OutboxMedium.{first_of};
 ghost use Rattle.window.specs.Window.{without_first};
 ghost use Rattle.device_file.specs.Asked.{AsksFor, writes_of};
 ghost use Rattle.device_file.specs.Outbox.{LetsGo, CarriesOut, CarriesSome, Begins};
@@ -10,8 +10,7 @@ ghost use Rattle.device_file.specs.InRuns.{AsksInRuns, AsksRun, IsLongest};
 use crate::fault::{FileCall, FileFault};
 use crate::file::DeviceFile;
 use crate::run::{RUN_SECTORS, Run};
-use mirror::{DeviceCall, SectorWrite};
-use window::WindowMedium;
+use window::{DeviceCall, SectorWrite, WindowMedium};
 
 /// Has a file carry out all that waits in the outbox of a window, in order, neighbouring sectors by
 /// one write. It takes no memory.

@@ -1,7 +1,7 @@
 //! What is asked of a device that is a file.
 ghost use Rattle.std.specs.Prelude.{◌≡◌, ◌/◌, ℕ, List, [], ◌∷◌, IfErr, OnOk, OnErr, length};
-ghost use Rattle.mirror.specs.declared.call.DeviceCall.{DeviceCall};
-ghost use Rattle.mirror.specs.declared.call.DeviceCall.TheVariants.{Flush};
+ghost use Rattle.window.specs.declared.call.DeviceCall.{DeviceCall};
+ghost use Rattle.window.specs.declared.call.DeviceCall.TheVariants.{Flush};
 ghost use Rattle.device_file.specs.Reads.{AreRead};
 ghost use Rattle.device_file.specs.Asked.{Told, AsksFor, writes_of};
 

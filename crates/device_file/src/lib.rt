@@ -3,6 +3,7 @@
 
 mod carrying;
 mod copying;
+mod existing;
 mod fault;
 mod file;
 mod meter;
@@ -15,6 +16,7 @@ mod system;
 
 pub use carrying::{carry_out, write_sector};
 pub use copying::{CopyFault, copy_sectors};
+pub use existing::Existing;
 pub use fault::{FileCall, FileFault};
 pub use file::DeviceFile;
 pub use meter::Meter;

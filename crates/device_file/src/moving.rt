@@ -8,8 +8,7 @@ use crate::fault::FileFault;
 use crate::file::DeviceFile;
 use crate::putting::{put_block, put_rest};
 use crate::run::Run;
-use mirror::{DeviceCall, SectorWrite};
-use window::WindowMedium;
+use window::{DeviceCall, SectorWrite, WindowMedium};
 
 /// Takes all that waits out of the outbox of a window, and has a file carry out those writes of it
 /// that go to `count` sectors from `first` on: in order, to its own sectors from 0 on,

@@ -2,7 +2,7 @@
 ghost use Rattle.std.specs.Prelude.{◌≡◌, ◌+◌, ◌*◌, ◌/◌, ◌<◌, ◌≤◌, ◌^◌, ◌∷◌};
 ghost use Rattle.std.specs.Prelude.{[], ◌++◌, length};
 ghost use Rattle.medium.specs.Writes.{sector_of};
-ghost use Rattle.mirror.specs.declared.call.DeviceCall.TheVariants.{Write};
+ghost use Rattle.window.specs.declared.call.DeviceCall.TheVariants.{Write};
 ghost use Rattle.device_file.specs.Reads.{sectors_in};
 ghost use Rattle.device_file.specs.Copied.{TakesCalls, is_zeros, some_write, some_writes};
 ghost use Rattle.device_file.specs.Copied.{waiting_in};
@@ -11,7 +11,7 @@ ghost use Rattle.device_file.specs.InRuns.{AsksInRuns, TakesInRuns};
 use crate::fault::FileFault;
 use crate::file::DeviceFile;
 use crate::run::Run;
-use mirror::SectorWrite;
+use window::SectorWrite;
 
 const SECTOR: usize = 512;
 

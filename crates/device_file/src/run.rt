@@ -4,10 +4,10 @@ ghost use Rattle.std.specs.Prelude.{length, [], true, IfSome, IsSome, IsNone, Is
 ghost use Rattle.std.specs.Bool.{OnTrue, OnFalse};
 ghost use Rattle.device_file.specs.Asked.{writes_of, GoesOn};
 ghost use Rattle.device_file.specs.InRuns.{IsNoMore};
-ghost use Rattle.mirror.specs.declared.call.DeviceCall.TheVariants.{Write};
+ghost use Rattle.window.specs.declared.call.DeviceCall.TheVariants.{Write};
 
-use mirror::SectorWrite;
 use std::alloc::{AllocError, Global};
+use window::SectorWrite;
 
 /// The most sectors of a run.
 pub(crate) const RUN_SECTORS: usize = 256;

@@ -5,8 +5,8 @@ ghost use Rattle.device_file.specs.Asked.{Told, begun, wrote, called, refused};
 
 use crate::run::Run;
 use medium::Access;
-use mirror::DeviceCall;
 use std::marker::Model;
+use window::DeviceCall;
 
 /// What a file was opened for.
 #[derive(Clone, Copy, Drop)]

@@ -7,15 +7,16 @@ ghost use Rattle.device_file.specs.FileValue.{made_for};
 ghost use Rattle.device_file.specs.Reads.{AreRead};
 ghost use Rattle.device_file.specs.Asked.{begun};
 
+use crate::existing::Existing;
 use crate::fault::{FileCall, FileFault};
 use crate::file::DeviceFile;
 use crate::run::Run;
 use crate::story::{Story, Use};
 use medium::{Access, OpenedFile, SectorFile, ToldFile, look_whole, put};
-use mirror::DeviceCall;
 use std::fs::Files;
 use std::io::ErrorKind;
 use std::marker::Model;
+use window::DeviceCall;
 
 const SECTOR: u64 = 512;
 
@@ -82,14 +83,14 @@ pub fn create<F: SectorFile + Drop, R: Files<File = F>>(
     rt: &R,
     path: &str,
     sectors: u64,
-    replace: bool,
+    existing: Existing,
 ) -> Result<SystemFile<OpenedFile<F>>, FileFault>
-    ensures { IfOk result (IsMade path.now replace sectors) }
+    ensures { IfOk result (IsMade path.now existing sectors) }
 {
     let Some(length) = sectors.checked_mul(SECTOR) else {
         return Err(FileCall::Length.refused_for(ErrorKind::InvalidInput));
     };
-    let access = access_for(replace);
+    let access = access_for(existing);
     let mut file = open_plain(rt, path, access)?;
     lock(&mut file)?;
     resize(&mut file, 0)?;
@@ -98,13 +99,12 @@ pub fn create<F: SectorFile + Drop, R: Files<File = F>>(
 }
 
 // What a file is opened for that is made, or that may be replaced.
-fn access_for(replace: bool) -> Access
-    ensures { result ≡ made_for replace }
+fn access_for(existing: Existing) -> Access
+    ensures { result ≡ made_for existing }
 {
-    if replace {
-        Access::Replace
-    } else {
-        Access::Make
+    match existing {
+        Existing::Keep => Access::Make,
+        Existing::Replace => Access::Replace,
     }
 }
 
@@ -190,7 +190,7 @@ fn resize<S: ToldFile>(file: &mut S, length: u64) -> Result<(), FileFault>
 
 impl<S: ToldFile> DeviceFile for SystemFile<S> {
     ghost use Rattle.std.specs.Prelude.{◌≡◌, [], ◌∷◌, is_ok};
-    ghost use Rattle.mirror.specs.declared.call.DeviceCall.TheVariants.{Flush};
+    ghost use Rattle.window.specs.declared.call.DeviceCall.TheVariants.{Flush};
     ghost use Rattle.medium.specs.FileStory.{answered};
     ghost use Rattle.medium.specs.declared.file_call.FileCall.TheVariants.{Sync};
     ghost use Rattle.device_file.specs.Asked.{AsksFor, writes_of};

@@ -3,15 +3,15 @@ use Rattle.std.proofs.Common.{◌≡◌, ◌≤◌, inl, true, length, arith, ap
 use Rattle.std.specs.Prelude.{List}
 use Rattle.medium.specs.Medium.{Image}
 use Rattle.medium.specs.Moments.{EachCut}
-use Rattle.mirror.specs.OutboxMedium.{sent}
-use Rattle.mirror.specs.declared.call.DeviceCall.{DeviceCall}
+use Rattle.window.specs.OutboxMedium.{sent}
+use Rattle.window.specs.declared.call.DeviceCall.{DeviceCall}
 use Rattle.window.specs.Window.{Window, state_of, mirror_of, ComesAfter}
 use Rattle.window.specs.WindowLaws.{is_sound, comes_after_itself}
 use Rattle.spec.specs.Book.{Book}
 use Rattle.scsi_unit.specs.Books.{MayFind}
 use Rattle.bot_machine.specs.Disk.{FitsDisk}
-use Rattle.disk_calls.specs.Parts.{CoversParts}
-use Rattle.disk_calls.specs.Plays.{medium_of}
+use Rattle.disk_machine.specs.Parts.{CoversParts}
+use Rattle.disk_machine.specs.Plays.{medium_of}
 use Rattle.disk_machine.specs.Machine.{Machine, MayLeave, Keeps, IsCaughtUp}
 use Rattle.disk_machine.specs.Moves.{ServesAtRest, BeginsBehind}
 

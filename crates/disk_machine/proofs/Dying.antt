@@ -1,22 +1,22 @@
 -- A faulted disk asks its device for nothing, and stays faulted.
 use Rattle.std.proofs.Common.{◌≡◌, inl, inr, ◌++◌, List, ℕ, zero, suc, Bool, true, false, length, refl, sym, ◌∙◌, ap, subst, arith}
 use Rattle.std.specs.Prelude.{Result}
-use Rattle.mirror.specs.declared.call.DeviceCall.{DeviceCall}
+use Rattle.window.specs.declared.call.DeviceCall.{DeviceCall}
 use Rattle.spec.specs.declared.event.Event.{Event}
 use Rattle.spec.specs.declared.event.Answer.{Answer}
 use Rattle.scsi_unit.specs.Background.{Work, Settle, Ahead, is_dead}
-use Rattle.device_calls.specs.declared.ask.DeviceRead.{DeviceRead}
-use Rattle.disk_calls.specs.Plays.{Disk, medium_of, PlaysBy}
+use Rattle.window.specs.declared.ask.DeviceRead.{DeviceRead}
+use Rattle.disk_machine.specs.Plays.{Disk, medium_of, PlaysBy}
 use Rattle.disk_machine.specs.Asking.{AsksFor, IsDone, HasRead, HasEnded}
 use Rattle.disk_machine.specs.Idling.{IsShort, HasGoneAhead, HasStepped}
 use Rattle.disk_machine.specs.Steps.{StepsWhile}
 use Rattle.disk_machine.specs.Machine.{Machine, under_way}
 use Rattle.disk_machine.specs.Moves.{LeavesNoMore, IsDead}
-use Rattle.device_calls.specs.declared.ask.DeviceAsk.{DeviceAsk}
-use Rattle.device_calls.specs.declared.ask.DeviceAsk.TheVariants as ask
+use Rattle.window.specs.declared.ask.DeviceAsk.{DeviceAsk}
+use Rattle.window.specs.declared.ask.DeviceAsk.TheVariants as ask
 use Rattle.disk_machine.specs.declared.asked.Asked.{Asked}
 use Rattle.disk_machine.specs.declared.asked.Asked.TheVariants as asked
-use Rattle.device_calls.specs.declared.done_fault.DoneFault.{DoneFault}
+use Rattle.window.specs.declared.done_fault.DoneFault.{DoneFault}
 use Rattle.disk_machine.proofs.Handing.{IsSentStill, leaves_no_more}
 
 -- a faulted disk stays so

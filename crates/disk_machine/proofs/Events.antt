@@ -4,11 +4,11 @@ use Rattle.std.proofs.Common.{append_assoc}
 use Rattle.std.proofs.lemmas.Bool.{cases_lt}
 use Rattle.std.proofs.lemmas.List.{take-append-le}
 use Rattle.medium.specs.Medium.{Image, CutLeaves}
-use Rattle.mirror.specs.Device.{durable, after}
-use Rattle.mirror.specs.OutboxMedium.{sent}
-use Rattle.mirror.specs.Parts.{AreCarriedOut}
-use Rattle.mirror.specs.Story.{given}
-use Rattle.mirror.specs.declared.call.DeviceCall.{DeviceCall}
+use Rattle.window.specs.Device.{durable, after}
+use Rattle.window.specs.OutboxMedium.{sent}
+use Rattle.window.specs.Parts.{AreCarriedOut}
+use Rattle.window.specs.Story.{given}
+use Rattle.window.specs.declared.call.DeviceCall.{DeviceCall}
 use Rattle.window.specs.Window.{state_of, mirror_of}
 use Rattle.spec.specs.Book.{Book}
 use Rattle.spec.specs.Conversation.{Conversation}
@@ -20,7 +20,7 @@ use Rattle.scsi_unit.specs.Serving as serving
 use Rattle.bot_machine.specs.Disk.{FitsDisk, over}
 use Rattle.bot_machine.specs.Promising.{PromisesNone}
 use Rattle.scsi_unit.specs.Background.{Work}
-use Rattle.disk_calls.specs.Plays.{medium_of, PlaysBy}
+use Rattle.disk_machine.specs.Plays.{medium_of, PlaysBy}
 use Rattle.disk_machine.specs.Machine.{Machine, MayLeave, Finds, Keeps, has_refused, under_way, carried}
 use Rattle.disk_machine.specs.Moves.{ServesEvent}
 use Rattle.disk_machine.specs.declared.asked.Asked.{Asked}

@@ -1,23 +1,22 @@
 -- What the device was asked for has ended.
-use Rattle.std.proofs.Common.{◌≡◌, ◌⊎◌, ◌+◌, ◌≤◌, ◌/◌, inl, inr, [], ◌∷◌, List, ℕ, Bool, true, false, length, refl, sym, ◌∙◌}
+use Rattle.std.proofs.Common.{◌≡◌, ◌⊎◌, ◌≤◌, ◌/◌, inl, inr, [], ◌∷◌, List, ℕ, Bool, true, false, length, refl, sym, ◌∙◌}
 use Rattle.std.proofs.Common.{ap, subst, arith}
 use Rattle.std.specs.Prelude.{Result}
 use Rattle.std.proofs.lemmas.Bool.{false≢true}
-use Rattle.std.proofs.lemmas.Bool.Decides.{nat_tests}
-use Rattle.mirror.specs.declared.call.DeviceCall.{DeviceCall}
-use Rattle.window.specs.Window.{Window, state_of, moved, device_so_far, IsShown}
-use Rattle.inlet.specs.Inlet.{AreHeld}
+use Rattle.window.specs.declared.call.DeviceCall.{DeviceCall}
+use Rattle.window.specs.Window.{Window, state_of, moved, device_so_far}
+use Rattle.medium.specs.Inlet.{AreHeld}
 use Rattle.spec.specs.Book.{Book}
 use Rattle.scsi_unit.specs.UnitValue.{state_of as unit_state}
-use Rattle.device_calls.specs.declared.ask.DeviceRead.{DeviceRead}
+use Rattle.window.specs.declared.ask.DeviceRead.{DeviceRead}
 use Rattle.store_calls.specs.Outbox.{without}
-use Rattle.disk_calls.specs.Plays.{Disk, medium_of, Sees}
+use Rattle.disk_machine.specs.Plays.{Disk, medium_of, Sees}
 use Rattle.disk_machine.specs.Asking.{counted, waits_behind, IsGivenUp, IsShownTo, IsDone, HasRead, HasEnded, IsHonest}
 use Rattle.disk_machine.specs.Machine.{Machine, Finds, has_refused, under_way, carried}
 use Rattle.disk_machine.specs.Moves.{ServesAtRest, ServesOn, LeavesNoMore}
 use Rattle.disk_machine.specs.declared.asked.Asked.{Asked}
 use Rattle.disk_machine.specs.declared.asked.Asked.TheVariants as asked
-use Rattle.device_calls.specs.declared.done_fault.DoneFault.{DoneFault}
+use Rattle.window.specs.declared.done_fault.DoneFault.{DoneFault}
 use Rattle.disk_machine.specs.declared.waiting.Waiting.{Waiting}
 use Rattle.disk_machine.specs.declared.waiting.Waiting.TheVariants as waiting
 use Rattle.disk_machine.proofs.Standing.{Stands, keeps_all, serves_still}
@@ -115,12 +114,6 @@ same_sent old new first count moves = (
   ap (λ (w : Window). w.seen.told.taken) moves,
 )
 
--- and what the device held the medium did
-held_too : (old new : Window) (first : ℕ) (bytes : List ℕ) → IsShown first bytes true old new
-    → AreHeld (device_so_far old).content first (length bytes / 512) bytes
-    → AreHeld (state_of old).content first (length bytes / 512) bytes
-held_too old new first bytes shown held i lt = held i lt ∙ shown.agrees refl (first + i) (grind (arith, nat_tests, lt))
-
 -- where it took none of them it is as it was
 not_taken : (old new : Disk) (first : ℕ) (bytes : List ℕ) → Sees old first bytes new false → new ≡ old
 not_taken old new first bytes sees = sees.others ∙ (λ i. record old {
@@ -133,11 +126,11 @@ taken_stands old new home bytes false was now sees read =
     let same = not_taken old.disk new.disk home.first bytes sees in
     stays old new same (as_far old new home was now (ap (λ (d : Disk). (medium_of d).seen.told.taken) same))
 taken_stands old new home bytes true was now sees read =
-    let held = held_too (medium_of old.disk) (medium_of new.disk) home.first bytes sees.shown read in
-    let sent = same_sent (medium_of old.disk) (medium_of new.disk) home.first (length bytes / 512) (sees.shown.honest refl held) in
+    let sent = same_sent (medium_of old.disk) (medium_of new.disk) home.first (length bytes / 512)
+    (sees.shown.honest refl (inl read)) in
     record {
       others = sees.others;
-      fits = sees.fits held;
+      fits = sees.fits (inl read);
       size = sent.0.size;
       leaves = leaves_no_more old new sent.0 (as_far old new home was now sent.1);
     }

@@ -2,25 +2,25 @@
 use Rattle.std.proofs.Common.{◌≡◌, ◌≢◌, ◌⊎◌, inl, inr, [], ◌∷◌, ◌++◌, ◌&&◌, List, ℕ, zero, suc, Bool, true, false}
 use Rattle.std.proofs.Common.{refl, sym, ◌∙◌, ap, subst}
 use Rattle.std.specs.Prelude.{Result}
-use Rattle.mirror.specs.Story.{given}
-use Rattle.mirror.specs.declared.call.DeviceCall.{DeviceCall}
+use Rattle.window.specs.Story.{given}
+use Rattle.window.specs.declared.call.DeviceCall.{DeviceCall}
 use Rattle.window.specs.Window.{Window}
 use Rattle.spec.specs.declared.event.Event.{Event}
 use Rattle.spec.specs.declared.event.Answer.{Answer}
-use Rattle.device_calls.specs.declared.ask.DeviceRead.{DeviceRead}
+use Rattle.window.specs.declared.ask.DeviceRead.{DeviceRead}
 use Rattle.scsi_unit.specs.Background.{Work, Settle, Ahead}
-use Rattle.disk_calls.specs.Plays.{Disk, medium_of, PlaysBy}
+use Rattle.disk_machine.specs.Plays.{Disk, medium_of, PlaysBy}
 use Rattle.disk_machine.specs.Asking.{AsksFor, HandsOut, IsDone, HasRead, HasEnded, waits_behind}
 use Rattle.disk_machine.specs.Idling.{IsShort, HasGoneAhead, HasStepped}
 use Rattle.disk_machine.specs.Steps.{StepsWhile}
 use Rattle.disk_machine.specs.Machine.{Machine}
 use Rattle.disk_machine.specs.Moves.{WaitsForDevice, is_behind, waiting_for, begun}
 use Rattle.disk_machine.specs.Packets.{PlaysOut, waits_for}
-use Rattle.device_calls.specs.declared.ask.DeviceAsk.{DeviceAsk}
-use Rattle.device_calls.specs.declared.ask.DeviceAsk.TheVariants as ask
+use Rattle.window.specs.declared.ask.DeviceAsk.{DeviceAsk}
+use Rattle.window.specs.declared.ask.DeviceAsk.TheVariants as ask
 use Rattle.disk_machine.specs.declared.asked.Asked.{Asked}
 use Rattle.disk_machine.specs.declared.asked.Asked.TheVariants as asked
-use Rattle.device_calls.specs.declared.done_fault.DoneFault.{DoneFault}
+use Rattle.window.specs.declared.done_fault.DoneFault.{DoneFault}
 use Rattle.disk_machine.specs.declared.waiting.Waiting.{Waiting}
 use Rattle.disk_machine.specs.declared.waiting.Waiting.TheVariants as waiting
 

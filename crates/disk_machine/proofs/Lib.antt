@@ -1,3 +1,7 @@
+pub mod Refusals
+pub mod Rooms
+pub mod OutboxTaken
+pub mod Shown
 pub mod Standing
 pub mod AtRest
 pub mod Handing

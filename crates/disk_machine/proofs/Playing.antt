@@ -1,7 +1,7 @@
 -- Packets, tokens, requests and steps, wherever the device is.
 use Rattle.std.proofs.Common.{◌≡◌, ◌⊎◌, inl, inr, [], ◌∷◌, List, ℕ, zero, suc, Bool, true, false, ◌&&◌, length}
 use Rattle.std.proofs.Common.{refl, sym, ◌∙◌, ap, subst, arith}
-use Rattle.mirror.specs.declared.call.DeviceCall.{DeviceCall}
+use Rattle.window.specs.declared.call.DeviceCall.{DeviceCall}
 use Rattle.window.specs.Window.{Window, state_of}
 use Rattle.spec.specs.Book.{Book}
 use Rattle.spec.specs.Conversation.{Conversation}
@@ -16,8 +16,8 @@ use Rattle.bot_machine.specs.Disk.{FitsDisk, over}
 use Rattle.scsi_unit.specs.Background.{Work, Settle, Ahead}
 use Rattle.scsi_unit.specs.Calls.{SendsOneBatch}
 use Rattle.bot_machine.proofs.UnitLaws.{fits_size}
-use Rattle.disk_calls.specs.Plays.{Disk, medium_of, PlaysBy, Plays, AnswersRequest}
-use Rattle.disk_calls.proofs.Rooms.{one_if_ready}
+use Rattle.disk_machine.specs.Plays.{Disk, medium_of, PlaysBy, Plays, AnswersRequest}
+use Rattle.disk_machine.proofs.Rooms.{one_if_ready}
 use Rattle.disk_machine.specs.Machine.{Machine, Serves, has_refused, under_way}
 use Rattle.disk_machine.specs.Idling.{IsShort, HasGoneAhead, HasStepped}
 use Rattle.disk_machine.specs.Moves.{is_behind, ServesAtRest, LeavesNoMore, ServesOn, ServesEvent, ServesToken}

@@ -2,7 +2,7 @@
 use Rattle.std.proofs.Common.{◌≡◌, ◌⊎◌, ◌<◌, ◌≤◌, ◌+◌, ◌∙◌, ℕ, zero, suc, true, false, inl, inr, ap, sym, subst, arith}
 use Rattle.std.proofs.lemmas.Bool.{cases_Bool, false≢true}
 use Rattle.scsi_unit.specs.Background.{Work, WriteBack, is_dead, steps_left}
-use Rattle.disk_calls.specs.Plays.{Disk}
+use Rattle.disk_machine.specs.Plays.{Disk}
 use Rattle.disk_machine.specs.Machine.{Machine}
 use Rattle.disk_machine.specs.Moves.{ServesOn}
 use Rattle.disk_machine.specs.PuttingOff.{HasWrittenOn, MayWriteOn, WritesOn}

@@ -6,7 +6,7 @@ use Rattle.spec.specs.Book.{Book}
 use Rattle.spec.specs.Rules.{UnitState}
 use Rattle.scsi_unit.specs.UnitValue.{state_of as unit_state}
 use Rattle.bot_machine.specs.Disk.{FitsDisk, IsRearmed}
-use Rattle.disk_calls.specs.Plays.{Disk, medium_of}
+use Rattle.disk_machine.specs.Plays.{Disk, medium_of}
 use Rattle.disk_machine.specs.Machine.{Machine, MayLeave, Finds, Keeps, IsCaughtUp, has_refused}
 use Rattle.disk_machine.specs.Moves.{ServesAtRest, ServesOn}
 use Rattle.disk_machine.specs.declared.waiting.Waiting.TheVariants as waiting

@@ -3,16 +3,16 @@ use Rattle.std.proofs.Common.{◌≤◌, ◌≡◌, inl, inr, [], ◌∷◌, Lis
 use Rattle.std.specs.Prelude.{Result}
 use Rattle.std.proofs.lemmas.Bool.{cases_lt}
 use Rattle.journal.specs.Places.{Shape}
-use Rattle.mirror.specs.declared.call.DeviceCall.{DeviceCall}
+use Rattle.window.specs.declared.call.DeviceCall.{DeviceCall}
 use Rattle.window.specs.Window.{Window, take_first}
 use Rattle.spec.specs.declared.event.Event.{Event}
 use Rattle.spec.specs.declared.event.Answer.{Answer}
-use Rattle.device_calls.specs.declared.ask.DeviceRead.{DeviceRead}
+use Rattle.window.specs.declared.ask.DeviceRead.{DeviceRead}
 use Rattle.store_calls.specs.Outbox.{without}
 use Rattle.scsi_unit.specs.Background.{Work, Settle, Ahead, WriteBack}
-use Rattle.disk_calls.specs.Plays.{Disk, medium_of, layout_on, PlaysBy}
-use Rattle.disk_calls.specs.Refusals.{HasRoom}
-use Rattle.disk_calls.specs.Room.{room_for}
+use Rattle.disk_machine.specs.Plays.{Disk, medium_of, layout_on, PlaysBy}
+use Rattle.disk_machine.specs.Refusals.{HasRoom}
+use Rattle.disk_machine.specs.Room.{room_for}
 use Rattle.disk_machine.specs.Asking.{AsksFor, HandsOut, IsDone, HasRead, HasEnded, IsGivenUp, IsShownTo, IsHonest}
 use Rattle.disk_machine.specs.Idling.{IsShort, HasGoneAhead, HasStepped}
 use Rattle.disk_machine.specs.PuttingOff.{HasWrittenOn, MayWriteOn}
@@ -20,12 +20,12 @@ use Rattle.disk_machine.specs.Steps.{StepsWhile}
 use Rattle.disk_machine.specs.Machine.{Machine}
 use Rattle.disk_machine.specs.Moves.{ServesAtRest, StaysSafe, KeepsGoing, HasRoomBeside}
 use Rattle.disk_machine.specs.Packets.{HoldsBack, PlaysOut}
-use Rattle.device_calls.specs.declared.ask.DeviceAsk.{DeviceAsk}
-use Rattle.device_calls.specs.declared.ask.DeviceAsk.TheVariants as ask
+use Rattle.window.specs.declared.ask.DeviceAsk.{DeviceAsk}
+use Rattle.window.specs.declared.ask.DeviceAsk.TheVariants as ask
 use Rattle.disk_machine.specs.declared.asked.Asked.{Asked}
 use Rattle.disk_machine.specs.declared.asked.Asked.TheVariants as asked
 use Rattle.disk_machine.specs.declared.lack.Lack.{Lack}
-use Rattle.device_calls.specs.declared.done_fault.DoneFault.{DoneFault}
+use Rattle.window.specs.declared.done_fault.DoneFault.{DoneFault}
 use Rattle.disk_machine.proofs.Handing.{asks_serves, asks_leave}
 use Rattle.disk_machine.proofs.Dying.{asks_dead, done_dead, event_dead, idle_dead, ahead_dead, steps_dead}
 use Rattle.disk_machine.proofs.Lagging.{asks_wait, done_wait, event_waits, out_waits, idle_waits, ahead_waits, steps_wait}

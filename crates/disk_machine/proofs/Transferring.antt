@@ -8,7 +8,7 @@ use borrow.Rule.Slice.PartMut.{put_mid}
 use Rattle.spec.specs.declared.event.Answer.{Answer}
 use Rattle.spec.specs.declared.event.Answer.TheVariants as answer
 use Rattle.scsi_unit.specs.Background.{WriteBack}
-use Rattle.disk_calls.specs.Codes.{code_of}
+use Rattle.disk_machine.specs.Codes.{code_of}
 use Rattle.disk_machine.specs.Machine.{Machine}
 use Rattle.disk_machine.specs.Packets.{TakesOne, TakesOut, SendsIn}
 use Rattle.disk_machine.specs.PuttingOff.{MayWriteOn}

@@ -1,9 +1,9 @@
 -- Turns, one after the other, by the rules.
 use Rattle.std.proofs.Common.{◌≡◌, ◌++◌, inl, inr, [], ◌∷◌, List, ℕ, zero, suc, Bool, true, false, refl, ap, subst}
 use Rattle.std.specs.Prelude.{Result}
-use Rattle.device_calls.specs.declared.ask.DeviceAsk.{DeviceAsk}
-use Rattle.device_calls.specs.declared.ask.DeviceAsk.TheVariants as ask
-use Rattle.device_calls.specs.declared.done_fault.DoneFault.{DoneFault}
+use Rattle.window.specs.declared.ask.DeviceAsk.{DeviceAsk}
+use Rattle.window.specs.declared.ask.DeviceAsk.TheVariants as ask
+use Rattle.window.specs.declared.done_fault.DoneFault.{DoneFault}
 use Rattle.spec.specs.Book.{Book}
 use Rattle.spec.specs.Conversation.{Conversation}
 use Rattle.spec.specs.Rules.{UnitState}
@@ -12,7 +12,7 @@ use Rattle.spec.specs.declared.event.Answer.TheVariants as answer
 use Rattle.bot_machine.specs.Disk.{over}
 use Rattle.bot_machine.specs.Faulting.{faulted_over}
 use Rattle.scsi_unit.specs.Background.{Work}
-use Rattle.disk_calls.specs.Plays.{Disk}
+use Rattle.disk_machine.specs.Plays.{Disk}
 use Rattle.disk_machine.specs.Asking.{AsksFor, IsDone}
 use Rattle.disk_machine.specs.Steps.{StepsWhile}
 use Rattle.disk_machine.specs.Machine.{Machine, Serves}

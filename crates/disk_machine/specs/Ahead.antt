@@ -3,7 +3,7 @@ use Rattle.std.specs.Prelude.{◌≡◌, ℕ, Bool, true, false, []}
 use Rattle.window.specs.Window.{state_of}
 use Rattle.scsi_unit.specs.Reading.{AreHome}
 use Rattle.scsi_unit.specs.UnitValue.{unit_limit}
-use Rattle.disk_calls.specs.Plays.{Disk, medium_of}
+use Rattle.disk_machine.specs.Plays.{Disk, medium_of}
 use Rattle.disk_machine.specs.Machine.{Machine}
 use Rattle.disk_machine.specs.Moves.{StaysSafe}
 use Rattle.disk_machine.specs.declared.asked.Asked.TheVariants as asked

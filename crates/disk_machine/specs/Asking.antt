@@ -1,23 +1,23 @@
 -- What the device is asked for, and what it tells.
 use Rattle.std.specs.Prelude.{◌≡◌, ◌≢◌, ◌⊎◌, ℕ, ◌*◌, ◌/◌, ◌<◌, Bool, true, false, List, [], ◌∷◌}
 use Rattle.std.specs.Prelude.{length, Option, Some, None, Result, Ok, Err, if◌then◌else◌, ◌||◌}
-use Rattle.inlet.specs.Inlet.{AreHeld}
-use Rattle.mirror.specs.OutboxMedium.{first_of}
-use Rattle.mirror.specs.declared.call.DeviceCall.{DeviceCall}
-use Rattle.mirror.specs.declared.call.DeviceCall.TheVariants as call
-use Rattle.window.specs.Window.{Window, device_so_far, are_spared}
+use Rattle.medium.specs.Inlet.{AreHeld}
+use Rattle.window.specs.OutboxMedium.{first_of}
+use Rattle.window.specs.declared.call.DeviceCall.{DeviceCall}
+use Rattle.window.specs.declared.call.DeviceCall.TheVariants as call
+use Rattle.window.specs.Window.{device_so_far}
 use Rattle.store_calls.specs.Outbox.{without, IsLongestRun}
-use Rattle.device_calls.specs.declared.ask.DeviceRead.{DeviceRead}
-use Rattle.disk_calls.specs.Plays.{medium_of, Sees}
-use Rattle.disk_calls.specs.Refused.{IsRefused}
-use Rattle.disk_calls.specs.Runs.{KeepsRest}
+use Rattle.window.specs.declared.ask.DeviceRead.{DeviceRead}
+use Rattle.disk_machine.specs.Plays.{medium_of, Sees}
+use Rattle.disk_machine.specs.Refused.{IsRefused}
+use Rattle.disk_machine.specs.Runs.{KeepsRest}
 use Rattle.disk_machine.specs.Machine.{Machine}
-use Rattle.device_calls.specs.declared.ask.DeviceAsk.{DeviceAsk}
-use Rattle.device_calls.specs.declared.ask.DeviceAsk.TheVariants as ask
+use Rattle.window.specs.declared.ask.DeviceAsk.{DeviceAsk}
+use Rattle.window.specs.declared.ask.DeviceAsk.TheVariants as ask
 use Rattle.disk_machine.specs.declared.asked.Asked.{Asked}
 use Rattle.disk_machine.specs.declared.asked.Asked.TheVariants as asked
-use Rattle.device_calls.specs.declared.done_fault.DoneFault.{DoneFault}
-use Rattle.device_calls.specs.declared.done_fault.DoneFault.TheVariants as fault
+use Rattle.window.specs.declared.done_fault.DoneFault.{DoneFault}
+use Rattle.window.specs.declared.done_fault.DoneFault.TheVariants as fault
 use Rattle.disk_machine.specs.declared.lack.Lack.{Lack}
 use Rattle.disk_machine.specs.declared.lack.Lack.TheVariants as lack
 use Rattle.disk_machine.specs.declared.waiting.Waiting.{Waiting}
@@ -45,21 +45,20 @@ abbrev pub IsAtRest : Machine → Type 0
 IsAtRest s = (s.asked ≢ asked.Nothing)
     ⊎ (((medium_of s.disk).outbox ≡ []) × (to_read s.lack ≡ None))
 
--- A READ lacks sectors that no waiting call writes: they are read before these calls, as the device
--- holds in them what the medium does. What is read ahead waits for the calls.
-abbrev pub overtakes : Window → Lack → Bool
-overtakes m lack.Nothing = false
-overtakes m (lack.Wanted home) = are_spared m home.first home.count
-overtakes m (lack.Ahead home) = false
-overtakes m lack.Ended = false
-overtakes m (lack.Unread home) = false
+-- A READ lacks sectors: they are read before the calls that wait, even where one of these writes
+-- them. What is read ahead waits for the calls.
+abbrev pub overtakes : Lack → Bool
+overtakes lack.Nothing = false
+overtakes (lack.Wanted home) = true
+overtakes (lack.Ahead home) = false
+overtakes lack.Ended = false
+overtakes (lack.Unread home) = false
 
 abbrev pub IsOvertaken : Machine → Type 0
-IsOvertaken s = overtakes (medium_of s.disk) s.lack ≡ true
+IsOvertaken s = overtakes s.lack ≡ true
 
--- The sectors that a READ lacks, where no waiting call writes one of them. Else the next of the
--- outbox: a flush, or the longest run of writes for which the buffer has room. Where none waits,
--- the sectors that are to be read.
+-- The sectors that a READ lacks. Else the next of the outbox: a flush, or the longest run of writes
+-- for which the buffer has room. Where none waits, the sectors that are to be read.
 abbrev pub AsksFor : Machine → List ℕ → DeviceAsk → Machine → List ℕ → Type 0
 AsksFor old room ask.Nothing new filled = IsAtRest old × (new ≡ old) × (filled ≡ room)
 AsksFor old room (ask.Write first count) new filled =

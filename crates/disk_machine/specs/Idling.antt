@@ -2,7 +2,7 @@
 use Rattle.std.specs.Prelude.{◌≡◌, ◌⊎◌, ◌↔◌, ℕ, zero, suc, ◌<◌, ◌≤◌, Bool, true, false, [], length}
 use Rattle.scsi_unit.specs.Background.{Work, Settle, Ahead, WriteBack, is_dead, steps_left}
 use Rattle.bot_machine.specs.Turns.{owes_status}
-use Rattle.disk_calls.specs.Plays.{Disk, medium_of}
+use Rattle.disk_machine.specs.Plays.{Disk, medium_of}
 use Rattle.disk_machine.specs.Machine.{Machine}
 use Rattle.disk_machine.specs.Moves.{ServesOn, KeepsGoing}
 use Rattle.disk_machine.specs.Packets.{is_reading}

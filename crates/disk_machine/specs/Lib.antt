@@ -1,3 +1,15 @@
+pub mod Codes
+pub mod DiskRow
+pub mod Parts
+pub mod Seen
+pub mod Wanted
+pub mod Refusals
+pub mod Plays
+pub mod Room
+pub mod Runs
+pub mod Refused
+pub mod Layouts
+pub mod Starting
 pub mod Ahead
 pub mod Asking
 pub mod Idling

@@ -2,10 +2,10 @@
 -- handed while packets come.
 use Rattle.std.specs.Prelude.{◌≡◌, ◌⊎◌, ℕ, ◌+◌, ◌-◌, ◌≤◌, Bool, true, false, List, [], length, take}
 use Rattle.medium.specs.Medium.{Image, CutLeaves}
-use Rattle.mirror.specs.Device.{durable, after}
-use Rattle.mirror.specs.OutboxMedium.{sent}
-use Rattle.mirror.specs.Parts.{AreCarriedOut}
-use Rattle.mirror.specs.declared.call.DeviceCall.{DeviceCall}
+use Rattle.window.specs.Device.{durable, after}
+use Rattle.window.specs.OutboxMedium.{sent}
+use Rattle.window.specs.Parts.{AreCarriedOut}
+use Rattle.window.specs.declared.call.DeviceCall.{DeviceCall}
 use Rattle.window.specs.Window.{state_of, mirror_of}
 use Rattle.spec.specs.Blocks.{Write}
 use Rattle.spec.specs.Book.{Book, with_write}
@@ -13,7 +13,7 @@ use Rattle.spec.specs.Rules.{UnitState}
 use Rattle.scsi_unit.specs.Books.{MayFind}
 use Rattle.scsi_unit.specs.UnitValue.{state_of as unit_state}
 use Rattle.bot_machine.specs.Disk.{FitsDisk}
-use Rattle.disk_calls.specs.Plays.{medium_of}
+use Rattle.disk_machine.specs.Plays.{medium_of}
 use Rattle.disk_machine.specs.declared.asked.Asked.{Asked}
 use Rattle.disk_machine.specs.declared.asked.Asked.TheVariants as asked
 use Rattle.disk_machine.specs.declared.machine.DiskMachine.{DiskMachine}

@@ -2,8 +2,8 @@
 use Rattle.std.specs.Prelude.{◌≡◌, ◌≢◌, ◌≤◌, ◌+◌, ℕ, Bool, true, false, List, [], ◌∷◌}
 use Rattle.std.specs.Prelude.{if◌then◌else◌}
 use Rattle.medium.specs.Medium.{Image}
-use Rattle.mirror.specs.declared.call.DeviceCall.{DeviceCall}
-use Rattle.mirror.specs.OutboxMedium.{sent}
+use Rattle.window.specs.declared.call.DeviceCall.{DeviceCall}
+use Rattle.window.specs.OutboxMedium.{sent}
 use Rattle.window.specs.Window as window
 use Rattle.window.specs.Window.{Window}
 use Rattle.spec.specs.Book.{Book}
@@ -13,14 +13,14 @@ use Rattle.spec.specs.declared.event.Event.TheVariants as event
 use Rattle.spec.specs.declared.event.Answer.{Answer}
 use Rattle.scsi_unit.specs.Background.{is_dead}
 use Rattle.bot_machine.specs.Disk.{FitsDisk, over}
-use Rattle.disk_calls.specs.Parts.{CoversParts}
-use Rattle.disk_calls.specs.Plays.{Disk, medium_of, layout_on}
-use Rattle.disk_calls.specs.Room.{room_for}
+use Rattle.disk_machine.specs.Parts.{CoversParts}
+use Rattle.disk_machine.specs.Plays.{Disk, medium_of, layout_on}
+use Rattle.disk_machine.specs.Room.{room_for}
 use Rattle.disk_machine.specs.Machine.{Machine, MayLeave, Serves, IsCaughtUp, has_refused}
 use Rattle.disk_machine.specs.declared.asked.Asked.{Asked}
 use Rattle.disk_machine.specs.declared.asked.Asked.TheVariants as asked
-use Rattle.device_calls.specs.declared.state.MachineState.{MachineState}
-use Rattle.device_calls.specs.declared.state.MachineState.TheVariants as state
+use Rattle.window.specs.declared.state.MachineState.{MachineState}
+use Rattle.window.specs.declared.state.MachineState.TheVariants as state
 use Rattle.disk_machine.specs.declared.waiting.Waiting.{Waiting}
 use Rattle.disk_machine.specs.declared.waiting.Waiting.TheVariants as waiting
 use Rattle.disk_machine.specs.declared.lack.Lack.TheVariants as lack

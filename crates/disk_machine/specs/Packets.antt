@@ -5,15 +5,15 @@ use Rattle.window.specs.Window.{state_of}
 use Rattle.spec.specs.Book.{Book}
 use Rattle.spec.specs.declared.event.Event.TheVariants as event
 use Rattle.spec.specs.declared.event.Answer.{Answer}
-use Rattle.device_calls.specs.declared.ask.DeviceRead.{DeviceRead}
+use Rattle.window.specs.declared.ask.DeviceRead.{DeviceRead}
 use Rattle.bot_machine.specs.Disk.{FitsDisk, over}
 use Rattle.bot_machine.specs.Promising.{PromisesIn, PromisesNone}
 use Rattle.scsi_unit.specs.Calls.{SendsOneBatch}
 use Rattle.scsi_unit.specs.UnitValue.{IsOfSize}
-use Rattle.disk_calls.specs.Codes.{TOO_LONG, code_of}
-use Rattle.disk_calls.specs.Plays.{medium_of, Plays, Tells}
-use Rattle.disk_calls.specs.Refusals.{HasRoom, HasRoomFor}
-use Rattle.disk_calls.specs.Wanted.{Wants, WantsNone}
+use Rattle.disk_machine.specs.Codes.{TOO_LONG, code_of}
+use Rattle.disk_machine.specs.Plays.{medium_of, Plays, Tells}
+use Rattle.disk_machine.specs.Refusals.{HasRoom, HasRoomFor}
+use Rattle.disk_machine.specs.Wanted.{Wants, WantsNone}
 use Rattle.disk_machine.specs.Machine.{Machine}
 use Rattle.disk_machine.specs.Moves.{ServesEvent, ServesToken, StaysSafe, LeavesNoMore}
 use Rattle.disk_machine.specs.Moves.{KeepsGoing, HasRoomBeside, is_behind}

@@ -6,8 +6,8 @@ use Rattle.scsi_unit.specs.Background.{WriteBack, IsWritten, is_dead, steps_left
 use Rattle.scsi_unit.specs.UnitValue.{IsOfSize}
 use Rattle.bot_machine.specs.Disk.{over}
 use Rattle.bot_machine.specs.Promising.{PromisesIn}
-use Rattle.disk_calls.specs.Plays.{Disk, medium_of}
-use Rattle.disk_calls.specs.Refusals as calls
+use Rattle.disk_machine.specs.Plays.{Disk, medium_of}
+use Rattle.disk_machine.specs.Refusals as calls
 use Rattle.disk_machine.specs.Machine.{Machine}
 use Rattle.disk_machine.specs.Moves.{ServesOn, KeepsGoing}
 use Rattle.disk_machine.specs.Steps.{StepsWhile}

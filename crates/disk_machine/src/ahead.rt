@@ -5,8 +5,8 @@ ghost use Rattle.disk_machine.specs.Ahead.{AreReadable, IsFree, LooksAhead};
 use crate::asked::Asked;
 use crate::lack::Lack;
 use crate::machine::DiskMachine;
-use device_calls::DeviceRead;
 use medium::Medium;
+use window::DeviceRead;
 
 impl DiskMachine {
     /// The device is to read these sectors before a READ lacks them, as many as one READ moves at

@@ -1,5 +1,5 @@
 //! What the device was asked for last.
-use device_calls::DeviceRead;
+use window::DeviceRead;
 
 /// What the device was asked for last, and has not told done.
 #[derive(Clone, Copy, Debug, PartialEq, Eq)]

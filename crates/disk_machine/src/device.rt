@@ -1,7 +1,7 @@
 //! What the device is asked for.
 ghost use Rattle.std.specs.Prelude.{◌≡◌, ◌⊎◌, ◌↔◌, List, [], ℕ, length, IsTrue};
 ghost use Rattle.store_calls.specs.Outbox.{IsNoRoom};
-ghost use Rattle.disk_calls.specs.Plays.{medium_of};
+ghost use Rattle.disk_machine.specs.Plays.{medium_of};
 ghost use Rattle.disk_machine.specs.Asking.{AsksFor, IsOvertaken};
 ghost use Rattle.disk_machine.specs.Moves.{StaysSafe};
 ghost use Rattle.disk_machine.specs.declared.asked.Asked.TheVariants as asked;
@@ -9,14 +9,13 @@ ghost use Rattle.disk_machine.specs.declared.asked.Asked.TheVariants as asked;
 use crate::asked::Asked;
 use crate::lack::Lack;
 use crate::machine::DiskMachine;
-use device_calls::DeviceAsk;
-use disk_calls::gather;
-use mirror::DeviceCall;
+use crate::run::gather;
+use window::{DeviceAsk, DeviceCall};
 
 impl DiskMachine {
     /// What the device is to do next: nothing as long as it has not told the last call done. The
-    /// sectors that a READ lacks are read before the calls that wait, where none of these writes
-    /// one of them. The bytes of writes go to the front of the buffer, which has room for some
+    /// sectors that a READ lacks are read before the calls that wait, even where one of these
+    /// writes them. The bytes of writes go to the front of the buffer, which has room for some
     /// whole sectors.
     pub fn next(&mut self, buffer: &mut [u8]) -> DeviceAsk
         requires { ¬ IsNoRoom (length buffer.old) }
@@ -41,12 +40,12 @@ impl DiskMachine {
         }
     }
 
-    // Whether a READ lacks sectors that none of the calls that wait writes.
+    // Whether a READ lacks sectors.
     fn is_overtaken(&self) -> bool
         ensures { IsTrue result ↔ IsOvertaken self.now }
     {
         match self.lack {
-            Lack::Wanted(home) => self.disk.medium().spares(home.first, u64::from(home.count)),
+            Lack::Wanted(_) => true,
             Lack::Nothing | Lack::Ahead(_) | Lack::Ended | Lack::Unread(_) => false,
         }
     }

@@ -6,9 +6,9 @@ ghost use Rattle.disk_machine.specs.Idling.{is_waiting, is_wanted};
 
 use crate::lack::Lack;
 use crate::machine::DiskMachine;
+use crate::play::make_step;
 use crate::waiting::Waiting;
 use bot_machine::{Disk, Work};
-use disk_calls::make_step;
 use window::WindowMedium;
 
 // How many steps are made at most, so that their writes come in long runs.

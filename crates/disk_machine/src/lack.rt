@@ -1,5 +1,5 @@
 //! What the device is to read, and what became of it.
-use device_calls::DeviceRead;
+use window::DeviceRead;
 
 /// The sectors that the device is to read, or was asked to, since a packet was played.
 #[derive(Clone, Copy, Debug, PartialEq, Eq)]

@@ -7,10 +7,8 @@ use crate::asked::Asked;
 use crate::lack::Lack;
 use crate::waiting::Waiting;
 use bot_machine::Disk;
-use device_calls::MachineState;
 use medium::Medium;
-use mirror::device_laws;
-use window::WindowMedium;
+use window::{MachineState, WindowMedium, device_laws};
 
 /// A disk that says what its device is to do next, one call at a time, and takes packets while the
 /// device does it.

@@ -1,17 +1,19 @@
 //! What a machine does with a packet to Bulk-Out.
 ghost use Rattle.std.specs.Prelude.{◌≡◌, ◌≤◌, ◌⊎◌, ◌↔◌, IsTrue, MatchOption, length};
-ghost use Rattle.disk_calls.specs.Plays.{medium_of};
+ghost use Rattle.disk_machine.specs.Plays.{medium_of};
 ghost use Rattle.disk_machine.specs.Packets.{HoldsBack, Lacks, LacksNone, PlaysOut, TakesOut};
 ghost use Rattle.disk_machine.specs.Packets.{is_reading, is_starting};
 ghost use Rattle.disk_machine.specs.Moves.{is_behind};
 ghost use Rattle.disk_machine.specs.declared.lack.Lack.TheVariants as lack;
 
 use crate::asked::Asked;
+use crate::codes::{NAK, TOO_LONG};
 use crate::lack::Lack;
 use crate::machine::DiskMachine;
+use crate::play::play_packet;
 use crate::waiting::Waiting;
-use device_calls::DeviceRead;
-use disk_calls::{NAK, TOO_LONG, play_packet, unseen};
+use crate::wanted::unseen;
+use window::DeviceRead;
 
 impl DiskMachine {
     /// A packet to Bulk-Out, and the number of its answer. It is told to come again while the

@@ -4,8 +4,8 @@ ghost use Rattle.disk_machine.specs.PuttingOff.{IsPutOff, IsReady, MayWriteOn, W
 ghost use Rattle.disk_machine.specs.PuttingOff.{HasWrittenOn};
 
 use crate::machine::DiskMachine;
+use crate::play::make_step;
 use bot_machine::{Disk, Work};
-use disk_calls::make_step;
 use medium::Medium;
 use window::WindowMedium;
 

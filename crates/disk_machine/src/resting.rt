@@ -4,8 +4,8 @@ ghost use Rattle.disk_machine.specs.Idling.{HasGoneAhead, IsResting, MakesAhead,
 
 use crate::asked::Asked;
 use crate::machine::DiskMachine;
+use crate::play::make_step;
 use bot_machine::{Disk, Work};
-use disk_calls::make_step;
 use medium::Medium;
 use window::WindowMedium;
 

@@ -3,13 +3,13 @@ ghost use Rattle.std.specs.Prelude.{◌≤◌, length};
 ghost use Rattle.disk_machine.specs.Packets.{SendsIn, AnswersSetup};
 ghost use Rattle.disk_machine.specs.Transfers.{GivesPacket};
 
+use crate::codes::{ACK, NAK, STALL};
 use crate::machine::DiskMachine;
+use crate::play::{answer_request, send_packet};
 use crate::waiting::Waiting;
 use bot_machine::{Disk, InAnswer};
-use disk_calls::{ACK, NAK, STALL, answer_request, send_packet};
 use medium::Medium;
-use mirror::device_laws;
-use window::WindowMedium;
+use window::{WindowMedium, device_laws};
 
 impl DiskMachine {
     /// A token to Bulk-In: the packet to send, how many bytes it has, and the number of the answer.

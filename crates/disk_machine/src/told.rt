@@ -7,9 +7,10 @@ ghost use Rattle.disk_machine.specs.Moves.{StaysSafe, ServesAtRest};
 use crate::asked::Asked;
 use crate::lack::Lack;
 use crate::machine::DiskMachine;
+use crate::play::show_sectors;
+use crate::refused::refuse;
 use crate::waiting::Waiting;
-use device_calls::{DeviceRead, DoneFault};
-use disk_calls::{refuse, show_sectors};
+use window::{DeviceRead, DoneFault};
 
 const SECTOR: usize = 512;
 

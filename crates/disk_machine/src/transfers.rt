@@ -3,10 +3,10 @@ ghost use Rattle.std.specs.Prelude.{◌≡◌, ◌⊎◌, ◌↔◌, ℕ, ◌*�
 ghost use Rattle.disk_machine.specs.Transfers.{TakesTransfer, SendsToken, SendsTransfer};
 ghost use Rattle.disk_machine.specs.Transfers.{SendsInto};
 
+use crate::codes::{ACK, BAD_LENGTH, NAK};
 use crate::machine::DiskMachine;
 use crate::tokens::give_packet;
 use crate::waiting::Waiting;
-use disk_calls::{ACK, BAD_LENGTH, NAK};
 
 impl DiskMachine {
     /// A transfer to Bulk-Out, or a part of one that ends where a packet does: each packet as many

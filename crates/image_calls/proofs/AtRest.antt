@@ -2,9 +2,9 @@
 use Rattle.std.proofs.Common.{◌≡◌, length, arith, ap, sym, subst, List, []}
 use Rattle.std.proofs.Common.{length-append}
 use Rattle.std.specs.Prelude.{Option}
-use Rattle.mirror.specs.OutboxMedium.{sent}
-use Rattle.mirror.specs.Parts.{PartsFollow}
-use Rattle.mirror.specs.declared.call.DeviceCall.{DeviceCall}
+use Rattle.window.specs.OutboxMedium.{sent}
+use Rattle.window.specs.Parts.{PartsFollow}
+use Rattle.window.specs.declared.call.DeviceCall.{DeviceCall}
 use Rattle.window.specs.Window.{Window, mirror_of, ComesAfter, CoversDevice}
 use Rattle.window.specs.WindowLaws.{is_sound, comes_after_itself}
 use Rattle.image_calls.specs.Images.{WaitFor}

@@ -4,16 +4,16 @@ use Rattle.std.proofs.Common.{length-append}
 use Rattle.std.specs.Prelude.{Bool, true, false, take, Option, Result}
 use Rattle.std.proofs.lemmas.Bool.{cases_lt}
 use Rattle.medium.specs.Medium.{Image, CutLeaves}
-use Rattle.mirror.specs.Device.{durable, after}
-use Rattle.mirror.specs.OutboxMedium.{sent}
-use Rattle.mirror.specs.Parts.{AreCarriedOut, PartsFollow}
-use Rattle.mirror.specs.declared.call.DeviceCall.{DeviceCall}
+use Rattle.window.specs.Device.{durable, after}
+use Rattle.window.specs.OutboxMedium.{sent}
+use Rattle.window.specs.Parts.{AreCarriedOut, PartsFollow}
+use Rattle.window.specs.declared.call.DeviceCall.{DeviceCall}
 use Rattle.window.specs.Window.{Window, state_of, mirror_of}
 use Rattle.journal.specs.Places.{Shape}
 use Rattle.store_calls.specs.Outbox.{without}
-use Rattle.device_calls.specs.declared.ask.DeviceAsk.{DeviceAsk}
-use Rattle.device_calls.specs.declared.ask.DeviceAsk.TheVariants as ask
-use Rattle.device_calls.specs.declared.done_fault.DoneFault.{DoneFault}
+use Rattle.window.specs.declared.ask.DeviceAsk.{DeviceAsk}
+use Rattle.window.specs.declared.ask.DeviceAsk.TheVariants as ask
+use Rattle.window.specs.declared.done_fault.DoneFault.{DoneFault}
 use Rattle.image_calls.specs.Formats.{IsFormatting, MakesParts}
 use Rattle.image_calls.specs.Machines.{Machine, begun, carried, under_way, MayLeave, LeavesSince, LeavesAtRest, CarriesOut, GoesOn}
 use Rattle.image_calls.specs.Machines.{Asks, AsksBy, AsksForNext, IsDone}

@@ -4,8 +4,8 @@ use Rattle.std.proofs.Common.{length-append}
 use Rattle.std.specs.Prelude.{Bool, true, false, Option, Some, None}
 use Rattle.medium.specs.Medium.{Image, State}
 use Rattle.medium.specs.Moments.{IsFlushed}
-use Rattle.mirror.specs.OutboxMedium.{sent}
-use Rattle.mirror.specs.declared.call.DeviceCall.{DeviceCall}
+use Rattle.window.specs.OutboxMedium.{sent}
+use Rattle.window.specs.declared.call.DeviceCall.{DeviceCall}
 use Rattle.window.specs.Window as window
 use Rattle.window.specs.Window.{Window}
 use Rattle.journal.specs.Places.{Shape}
@@ -20,7 +20,7 @@ use Rattle.image_calls.specs.Lives.{Call, IsMade, AreMade, LeavesImage, LeavesMi
 use Rattle.image_calls.specs.Lives.Call.{next, done}
 use Rattle.image_calls.specs.Machines.{Machine, MayLeave, LeavesAtRest, Begins, GoesOn, CarriesOut, state_of, state_by, state_at_rest}
 use Rattle.image_calls.specs.Machines.{AsksBy, carried, under_way}
-use Rattle.device_calls.specs.declared.ask.DeviceAsk.TheVariants as ask
+use Rattle.window.specs.declared.ask.DeviceAsk.TheVariants as ask
 use Rattle.image_calls.specs.Parts.{IsMadeAnew, IsOnWay}
 use Rattle.image_calls.specs.declared.work.Work.{Work}
 use Rattle.image_calls.specs.declared.asked.ImageAsked.{ImageAsked}

@@ -5,7 +5,7 @@ use Rattle.medium.specs.Medium.{State, Image}
 use Rattle.medium.specs.Moments.{IsUnchanged}
 use Rattle.medium.proofs.Moments.{then_unchanged}
 use Rattle.medium.proofs.SparedSectors.{spared_joined, spared_unchanged}
-use Rattle.mirror.specs.declared.call.DeviceCall.{DeviceCall}
+use Rattle.window.specs.declared.call.DeviceCall.{DeviceCall}
 use Rattle.window.specs.Window.{Window, state_of, take_first, ComesAfter, CoversDevice}
 use Rattle.window.specs.WindowLaws.{is_sound, comes_after_through}
 use Rattle.journal.specs.Places.{Shape, sectors_of}

@@ -4,9 +4,9 @@ use Rattle.std.proofs.Common.{append_assoc, length-append}
 use Rattle.medium.specs.Moments.{IsUnchanged}
 use Rattle.medium.specs.Writes.{sector_of}
 use Rattle.medium.proofs.Moments.{unchanged, unchanged_through}
-use Rattle.mirror.specs.OutboxMedium.{sent, first_of}
-use Rattle.mirror.specs.declared.call.DeviceCall.{DeviceCall}
-use Rattle.mirror.specs.declared.call.DeviceCall.TheVariants.{Write}
+use Rattle.window.specs.OutboxMedium.{sent, first_of}
+use Rattle.window.specs.declared.call.DeviceCall.{DeviceCall}
+use Rattle.window.specs.declared.call.DeviceCall.TheVariants.{Write}
 use Rattle.window.specs.Window.{Window, state_of, mirror_of, take_first}
 use Rattle.store_calls.specs.Outbox.{without, writes_of, IsRun}
 

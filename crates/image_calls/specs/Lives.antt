@@ -11,10 +11,10 @@ use Rattle.recovery.specs.Calls.{IsMidway}
 use Rattle.recovery.specs.Recovered.{IsOursForSome, IsOursInEither, StandsForSome}
 use Rattle.window.specs.Window as window
 use Rattle.window.specs.Window.{Window}
-use Rattle.mirror.specs.OutboxMedium.{sent}
-use Rattle.device_calls.specs.declared.ask.DeviceAsk.{DeviceAsk}
-use Rattle.device_calls.specs.declared.ask.DeviceAsk.TheVariants as ask
-use Rattle.device_calls.specs.declared.done_fault.DoneFault.{DoneFault}
+use Rattle.window.specs.OutboxMedium.{sent}
+use Rattle.window.specs.declared.ask.DeviceAsk.{DeviceAsk}
+use Rattle.window.specs.declared.ask.DeviceAsk.TheVariants as ask
+use Rattle.window.specs.declared.done_fault.DoneFault.{DoneFault}
 use Rattle.image_calls.specs.Formats.{BeginsFormat, IsFormatting}
 use Rattle.image_calls.specs.Images.{IsLaidOn, IsMigratedOn, IsWhole}
 use Rattle.image_calls.specs.Machines.{Machine, Asks, Hears, MayLeave, Begins, GoesOn}

@@ -3,19 +3,19 @@
 use Rattle.std.specs.Prelude.{◌≡◌, ℕ, ◌-◌, ◌<◌, ◌≤◌, Bool, true, false}
 use Rattle.std.specs.Prelude.{List, [], ◌∷◌, length, take, Option, Some, None, Result, Ok, Err}
 use Rattle.medium.specs.Medium.{Image, CutLeaves}
-use Rattle.mirror.specs.Device.{durable, after}
-use Rattle.mirror.specs.OutboxMedium.{first_of, sent}
-use Rattle.mirror.specs.Parts.{AreCarriedOut}
-use Rattle.mirror.specs.declared.call.DeviceCall.{DeviceCall}
-use Rattle.mirror.specs.declared.call.DeviceCall.TheVariants as call
+use Rattle.window.specs.Device.{durable, after}
+use Rattle.window.specs.OutboxMedium.{first_of, sent}
+use Rattle.window.specs.Parts.{AreCarriedOut}
+use Rattle.window.specs.declared.call.DeviceCall.{DeviceCall}
+use Rattle.window.specs.declared.call.DeviceCall.TheVariants as call
 use Rattle.window.specs.Window as window
 use Rattle.window.specs.Window.{Window, mirror_of}
 use Rattle.journal.specs.Places.{Shape}
 use Rattle.store_calls.specs.Outbox.{without, IsLongestRun}
-use Rattle.device_calls.specs.declared.ask.DeviceAsk.{DeviceAsk}
-use Rattle.device_calls.specs.declared.ask.DeviceAsk.TheVariants as ask
-use Rattle.device_calls.specs.declared.done_fault.DoneFault.{DoneFault}
-use Rattle.device_calls.specs.declared.done_fault.DoneFault.TheVariants as fault
+use Rattle.window.specs.declared.ask.DeviceAsk.{DeviceAsk}
+use Rattle.window.specs.declared.ask.DeviceAsk.TheVariants as ask
+use Rattle.window.specs.declared.done_fault.DoneFault.{DoneFault}
+use Rattle.window.specs.declared.done_fault.DoneFault.TheVariants as fault
 use Rattle.image_calls.specs.Formats.{IsFormatting, MakesParts}
 use Rattle.image_calls.specs.declared.work.Work.{Work}
 use Rattle.image_calls.specs.declared.asked.ImageAsked.{ImageAsked}

@@ -7,11 +7,8 @@ ghost use Rattle.image_calls.specs.declared.asked.ImageAsked.TheVariants as aske
 use crate::asked::{ImageAsked, ImageCall};
 use crate::going::go_on;
 use crate::machine::ImageMachine;
-use device_calls::DeviceAsk;
 use medium::Outlet;
-use mirror::{DeviceCall, device_laws, put_sector};
-use store_calls::block_for;
-use window::WindowMedium;
+use window::{DeviceAsk, DeviceCall, WindowMedium, device_laws};
 
 const SECTOR: usize = 512;
 
@@ -75,10 +72,9 @@ fn gather(medium: &mut WindowMedium, first: u64, to: &mut [u8]) -> usize
 {
     let most = to.len() / SECTOR;
     for at in 0..most {
-        let Some(block) = block_for(medium.first(), first, at as u64) else {
+        if !medium.copy_first(first, at as u64, to) {
             return at;
-        };
-        put_sector(to, at as u64, &block);
+        }
         medium.pop();
     }
     most

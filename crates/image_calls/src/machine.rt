@@ -1,6 +1,6 @@
 //! Work on an image, and the device behind it.
 ghost use Rattle.std.specs.Prelude.{◌≡◌, MatchResult, List, []};
-ghost use Rattle.mirror.specs.OutboxMedium.{sent};
+ghost use Rattle.window.specs.OutboxMedium.{sent};
 ghost use Rattle.window.specs.Window.{Window, mirror_of};
 ghost use Rattle.image_calls.specs.Images.{IsLaidOn, IsWhole, WaitFor};
 ghost use Rattle.image_calls.specs.Formats.{BeginsFormat};
@@ -15,9 +15,8 @@ use crate::making::{begin_on, lay_on, migrate_on, window_of};
 use crate::room::room_to_migrate;
 use crate::state::ImageState;
 use crate::work::Work;
-use mirror::device_laws;
 use std::alloc::Global;
-use window::DeviceHolds;
+use window::{DeviceHolds, device_laws};
 
 /// Work on an image that says what its device is to do next, one call at a time.
 #[derive(Drop)]

@@ -3,7 +3,7 @@ ghost use Rattle.image_calls.specs.Machines.{IsDone, Hears, GoesOn};
 
 use crate::asked::ImageAsked;
 use crate::machine::ImageMachine;
-use device_calls::DoneFault;
+use window::DoneFault;
 
 impl ImageMachine {
     /// What the device was asked for last has ended, good or not. Writes that ended good need not

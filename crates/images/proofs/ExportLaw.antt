@@ -6,11 +6,11 @@ use Rattle.std.proofs.lemmas.List.{length-take-le}
 use Rattle.std.proofs.lemmas.List.Elements.{All-from_get_or}
 use Rattle.medium.specs.Medium.{Image}
 use Rattle.medium.specs.Writes.{sector_of}
-use Rattle.mirror.specs.Device.{Device, durable, carried_out, after}
-use Rattle.mirror.specs.Story.{given, are_whole}
-use Rattle.mirror.specs.declared.call.DeviceCall.{DeviceCall}
-use Rattle.mirror.specs.declared.call.DeviceCall.TheVariants.{Flush}
-use Rattle.mirror.proofs.Asked.{after-append}
+use Rattle.window.specs.Device.{Device, durable, carried_out, after}
+use Rattle.window.specs.Story.{given, are_whole}
+use Rattle.window.specs.declared.call.DeviceCall.{DeviceCall}
+use Rattle.window.specs.declared.call.DeviceCall.TheVariants.{Flush}
+use Rattle.window.proofs.OutboxCalls.{after-append}
 use Rattle.journal.specs.declared.super_sector.Super.{Super}
 use Rattle.window.specs.Window.{Window, state_of}
 use Rattle.device_file.specs.Copied.{some_writes, moved_calls}

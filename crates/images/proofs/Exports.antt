@@ -1,8 +1,8 @@
 -- An export, call by call.
 use Rattle.std.proofs.Common.{◌≡◌, ℕ, List, [], ◌∷◌, ◌++◌, sym, ◌∙◌, ap, arith, append_assoc, Result, Ok, Err, OnOk}
 use Rattle.std.proofs.lemmas.List.{append-nil}
-use Rattle.mirror.specs.declared.call.DeviceCall.{DeviceCall}
-use Rattle.mirror.specs.declared.call.DeviceCall.TheVariants.{Flush}
+use Rattle.window.specs.declared.call.DeviceCall.{DeviceCall}
+use Rattle.window.specs.declared.call.DeviceCall.TheVariants.{Flush}
 use Rattle.journal.specs.declared.super_sector.Super.{Super}
 use Rattle.std.specs.Prelude.{OnErr, is_ok}
 use Rattle.device_file.specs.Asked.{Told, asked_for, answered, refused}

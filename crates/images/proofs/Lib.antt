@@ -8,3 +8,4 @@ pub mod Exports
 pub mod Imports
 pub mod Misses
 pub mod Statuses
+pub mod Bytes

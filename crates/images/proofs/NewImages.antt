@@ -3,9 +3,9 @@ use Rattle.std.proofs.Common.{◌+◌, ◌≡◌, ◌⊎◌, ℕ, ◌<◌, ◌�
 use Rattle.std.specs.Prelude.{replicate, take, All}
 use Rattle.medium.specs.Medium.{Image, CutLeaves}
 use Rattle.spec.specs.Blocks.{Array}
-use Rattle.mirror.specs.Device.{Device, put, after}
-use Rattle.mirror.specs.declared.call.DeviceCall.{DeviceCall}
-use Rattle.mirror.proofs.Asked.{after-append}
+use Rattle.window.specs.Device.{Device, put, after}
+use Rattle.window.specs.declared.call.DeviceCall.{DeviceCall}
+use Rattle.window.proofs.OutboxCalls.{after-append}
 use Rattle.journal.specs.Places.{Shape, first_home, sectors_of}
 use Rattle.journal.specs.Sectors.{IsSuper, IsHead}
 use Rattle.journal.specs.Standing.{IsOurs}

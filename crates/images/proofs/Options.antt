@@ -7,6 +7,11 @@ pub none_weaker : {T P Q : Type 0} (r : Option T) → (P → Q) → IfNone r P �
 none_weaker None weaker holds = weaker holds
 none_weaker (Some x) weaker holds = tt
 
+-- what holds anyway
+pub none_so : {T Q : Type 0} (r : Option T) → Q → IfNone r Q
+none_so None holds = holds
+none_so (Some x) holds = tt
+
 -- what follows for each value, and for each error
 pub if_ok : {T E : Type 0} {P Q : T → Type 0} (r : Result T E) → ((x : T) → P x → Q x) → IfOk r P → IfOk r Q
 if_ok (Ok x) follows holds = follows x holds

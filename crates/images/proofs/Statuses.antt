@@ -47,6 +47,7 @@ start_never_0 start.LogTooSmall = λ none. omega (arith, none)
 pub at_most_5 : (refusal : Refusal) → status_of refusal ≤ 5
 at_most_5 refused.Words = omega arith
 at_most_5 refused.Sizes = omega arith
+at_most_5 refused.Align = omega arith
 at_most_5 (refused.Image fault) = start_at_most_5 fault
 at_most_5 (refused.File fault) = low _ (three_or_four fault.call fault.cause)
 at_most_5 (refused.Plain fault) = omega arith
@@ -57,6 +58,7 @@ at_most_5 refused.NoMemory = omega arith
 pub never_0 : (refusal : Refusal) → status_of refusal ≢ 0
 never_0 refused.Words = λ none. omega (arith, none)
 never_0 refused.Sizes = λ none. omega (arith, none)
+never_0 refused.Align = λ none. omega (arith, none)
 never_0 (refused.Image fault) = start_never_0 fault
 never_0 (refused.File fault) = some _ (three_or_four fault.call fault.cause)
 never_0 (refused.Plain fault) = λ none. omega (arith, none)

@@ -5,9 +5,9 @@ use Rattle.std.specs.Prelude.{replicate, get_or, All}
 use Rattle.std.proofs.lemmas.Bool.Decides.{eqb_tells}
 use Rattle.std.proofs.lemmas.List.Elements.{All-head, All-tail}
 use Rattle.medium.specs.Medium.{Image}
-use Rattle.mirror.specs.Device.{Device, put, carried_out, after}
-use Rattle.mirror.specs.declared.call.DeviceCall.{DeviceCall}
-use Rattle.mirror.specs.declared.call.DeviceCall.TheVariants.{Write, Flush}
+use Rattle.window.specs.Device.{Device, put, carried_out, after}
+use Rattle.window.specs.declared.call.DeviceCall.{DeviceCall}
+use Rattle.window.specs.declared.call.DeviceCall.TheVariants.{Write, Flush}
 use Rattle.window.specs.Seen.{lies_in}
 use Rattle.window.proofs.Shown.{lies}
 use Rattle.device_file.specs.Copied.{is_zeros, some_writes, moved_calls}

@@ -3,7 +3,7 @@ use Rattle.std.specs.Prelude.{◌≡◌, ℕ, List, Result, OnOk, IfErr}
 use Rattle.device_file.specs.Asked.{Told}
 use Rattle.device_file.specs.Copied.{IsCopied, IsCopiedInPart}
 use Rattle.device_file.specs.InRuns.{IsAskedInRuns}
-use Rattle.mirror.specs.declared.call.DeviceCall.{DeviceCall}
+use Rattle.window.specs.declared.call.DeviceCall.{DeviceCall}
 use Rattle.device_file.specs.declared.copying.CopyFault.{CopyFault}
 
 -- All count sectors were copied, or a file refused a call. The file written is as large as before,

@@ -1,5 +1,5 @@
 -- Files that were opened or made, and a window over that of an image.
-use Rattle.std.specs.Prelude.{◌≡◌, ◌⊎◌, ◌*◌, ◌+◌, ◌≤◌, ℕ, Bool, List, length, min, Option, Some}
+use Rattle.std.specs.Prelude.{◌≡◌, ◌⊎◌, ◌*◌, ◌+◌, ◌≤◌, ℕ, List, length, min, Option, Some}
 use Rattle.std.specs.Prelude.{IfSome}
 use Rattle.medium.specs.Writes.{sector_of}
 use Rattle.journal.specs.Sectors.{IsSuper}
@@ -14,6 +14,7 @@ use Rattle.device_file.specs.FileValue.{FileValue, made_for}
 use Rattle.device_file.specs.FileValue as file
 use Rattle.device_file.specs.First.{IsUnopened, SpellsSuper, near_of}
 use Rattle.device_file.specs.Reads.{AreRead}
+use Rattle.device_file.specs.declared.existing.Existing.{Existing}
 use Rattle.device_file.specs.declared.fault.FileFault.{FileFault}
 use Rattle.device_file.specs.declared.opening.FirstSectors.{FirstSectors}
 use Rattle.device_file.specs.declared.opening.OpenFault.{OpenFault}
@@ -67,8 +68,8 @@ pub record IsOpened (path : List ℕ) (access : Access) (back : Option FileValue
   pub opened : file.IsOpened path access v
 
 -- what a file was asked that was made at this path, or emptied where it may be replaced: nothing
-abbrev pub made_at : List ℕ → Bool → Told
-made_at path replace = begun path (made_for replace)
+abbrev pub made_at : List ℕ → Existing → Told
+made_at path existing = begun path (made_for existing)
 
 -- of a file that comes back, the calls of the system carried out what it was asked
 abbrev pub AreCalls : Option FileValue → Type 0

@@ -3,7 +3,7 @@ use Rattle.std.specs.Prelude.{◌≡◌, ◌⊎◌, ℕ, Bool, true, false, List
 use Rattle.std.specs.Prelude.{Option, Some, None}
 use Rattle.std.specs.Io.KnownBytes.{Appends, Keeps}
 use Rattle.journal.specs.declared.log_format.LogFormat.{LogFormat}
-use Rattle.journal.specs.Places.{Shape, new_shape, sectors_of}
+use Rattle.journal.specs.Places.{Shape, sectors_of}
 use Rattle.medium.specs.declared.file_call.Access.TheVariants.{Look, Change}
 use Rattle.device_file.specs.Asked.{Told, begun}
 use Rattle.device_file.specs.FileValue.{FileValue, GivesBlock}
@@ -13,7 +13,7 @@ use Rattle.console.specs.declared.words.ArgumentFault.{ArgumentFault}
 use Rattle.console.specs.declared.words.ArgumentFault.TheVariants as argument
 use Rattle.images.specs.NewImage.{IsAskedToBe}
 use Rattle.images.specs.Texts.{ended}
-use Rattle.images.specs.Limits.{AreLimits}
+use Rattle.images.specs.Limits.{IsSizesRefusal, MayHave, shape_wanted}
 use Rattle.images.specs.Opened.{IsOpened, IsPlainUnopened, IsUnmade, made_at}
 use Rattle.images.specs.Showing.{IsShownOf, IsNotShownOf}
 use Rattle.images.specs.Migrating.{IsMigratedOf, IsNotMigratedOf, migration_text}
@@ -22,17 +22,19 @@ use Rattle.images.specs.Exported.{IsExportedOf, IsNotExportedOf}
 use Rattle.images.specs.Imported.{IsImage, IsImportUnbegun, IsNoImage}
 use Rattle.images.specs.Task.{Wanted, Asks}
 use Rattle.images.specs.Task.Wanted.{Help, Version, Show, Migrate, Make, Import, Export}
+use Rattle.images.specs.declared.task.NewSizes.{NewSizes}
 use Rattle.images.specs.declared.refusal.Refusal.{Refusal}
 use Rattle.images.specs.declared.refusal.Refusal.TheVariants as refused
 
 abbrev pub help_text : List ℕ
-help_text = ended (codes "usbdisk_image make IMAGE --blocks N --slots K --format 1|2 [--replace]")
+help_text = ended (codes "usbdisk_image make IMAGE --blocks N --slots K --format 1|2"
+    ++ codes " [--align SIZE] [--replace]")
     ++ ended (codes "usbdisk_image show IMAGE") ++ ended (codes "usbdisk_image migrate IMAGE")
     ++ ended (codes "usbdisk_image import RAW IMAGE --slots K --format 1|2 [--replace]")
     ++ ended (codes "usbdisk_image export IMAGE RAW [--replace]")
 
 abbrev pub version_text : List ℕ
-version_text = ended (codes "usbdisk_image 1.3")
+version_text = ended (codes "usbdisk_image 1.4")
 
 abbrev pub made_text : List ℕ
 made_text = ended (codes "made")
@@ -97,20 +99,18 @@ module _ (was now : Option (List ℕ)) (back : Option FileValue) where
     pub refused_is : refusal ≡ refused.NoMemory
     pub kept : Keeps was now
 
-  -- nor was one: the sizes are out of their limits
-  pub record HasNoLimits (refusal : Refusal) : Type 0 where
+  -- nor was one: the image may not have these sizes
+  pub record HasNoSizes (sizes : NewSizes) (refusal : Refusal) : Type 0 where
     pub none : back ≡ None
-    pub refused_is : refusal ≡ refused.Sizes
+    pub refused_is : IsSizesRefusal sizes refusal
     pub kept : Keeps was now
 
-  abbrev pub IsMake : Told → LogFormat → ℕ → ℕ → Type 0
-  IsMake made format blocks slots =
-      AreLimits blocks slots × IsMadeAs made (new_shape format blocks slots)
+  abbrev pub IsMake : Told → NewSizes → Type 0
+  IsMake made sizes = MayHave sizes × IsMadeAs made (shape_wanted sizes)
 
-  abbrev pub IsMakeRefused : Told → LogFormat → ℕ → ℕ → Refusal → Type 0
-  IsMakeRefused made format blocks slots refusal = (¬ AreLimits blocks slots × HasNoLimits refusal)
-      ⊎ (AreLimits blocks slots
-      × (HasNoMemory refusal ⊎ IsNotMade made (new_shape format blocks slots) refusal))
+  abbrev pub IsMakeRefused : Told → NewSizes → Refusal → Type 0
+  IsMakeRefused made sizes refusal = HasNoSizes sizes refusal
+      ⊎ (MayHave sizes × (HasNoMemory refusal ⊎ IsNotMade made (shape_wanted sizes) refusal))
 
 -- Looks at a file gave the bytes of a block. Of a file of the system no bytes are named, so nothing
 -- is known of what one look gave, or refused.
@@ -229,12 +229,12 @@ module _ (device : List ℕ) (was now : Option (List ℕ)) (back raw : Option Fi
   HasDone Version = (raw ≡ None) × IsTold was now back version_text
   HasDone (Show image) = (raw ≡ None) × IsShow image device was now back
   HasDone (Migrate image) = (raw ≡ None) × IsMigration image device was now back
-  HasDone (Make image format blocks slots replace) =
-      (raw ≡ None) × IsMake was now back (made_at image replace) format blocks slots
-  HasDone (Import plain image format slots replace) =
-      IsImport plain (made_at image replace) was now back raw format slots
-  HasDone (Export image plain replace) =
-      IsExport image device (made_at plain replace) was now back raw
+  HasDone (Make image sizes existing) =
+      (raw ≡ None) × IsMake was now back (made_at image existing) sizes
+  HasDone (Import plain image format slots existing) =
+      IsImport plain (made_at image existing) was now back raw format slots
+  HasDone (Export image plain existing) =
+      IsExport image device (made_at plain existing) was now back raw
 
   -- it was not, and this is why
   abbrev pub HasNotDone : Wanted → Refusal → Type 0
@@ -243,12 +243,12 @@ module _ (device : List ℕ) (was now : Option (List ℕ)) (back raw : Option Fi
   HasNotDone (Show image) refusal = (raw ≡ None) × IsShowRefused image device was now back refusal
   HasNotDone (Migrate image) refusal =
       (raw ≡ None) × IsMigrationRefused image device was now back refusal
-  HasNotDone (Make image format blocks slots replace) refusal = (raw ≡ None)
-      × IsMakeRefused was now back (made_at image replace) format blocks slots refusal
-  HasNotDone (Import plain image format slots replace) refusal =
-      IsImportRefused plain (made_at image replace) was now back raw format slots refusal
-  HasNotDone (Export image plain replace) refusal =
-      IsExportRefused image device (made_at plain replace) was now back raw refusal
+  HasNotDone (Make image sizes existing) refusal =
+      (raw ≡ None) × IsMakeRefused was now back (made_at image existing) sizes refusal
+  HasNotDone (Import plain image format slots existing) refusal =
+      IsImportRefused plain (made_at image existing) was now back raw format slots refusal
+  HasNotDone (Export image plain existing) refusal =
+      IsExportRefused image device (made_at plain existing) was now back raw refusal
 
   -- these words ask for nothing
   pub record AreNoWords (words : List (List ℕ)) (refusal : Refusal) : Type 0 where

@@ -31,6 +31,7 @@ status_of_start _ = 3
 abbrev pub status_of : Refusal → ℕ
 status_of refused.Words = 2
 status_of refused.Sizes = 3
+status_of refused.Align = 3
 status_of (refused.Image fault) = status_of_start fault
 status_of (refused.File fault) = status_of_fault fault
 status_of (refused.Plain fault) = 4

@@ -1,6 +1,6 @@
 //! The blocks of an image are copied to a plain file.
 ghost use Rattle.std.specs.Prelude.{◌≡◌, ◌⊎◌, ◌≤◌, [], ◌∷◌, Some, length, OnOk, IfOk, IfErr};
-ghost use Rattle.mirror.specs.declared.call.DeviceCall.TheVariants.{Flush};
+ghost use Rattle.window.specs.declared.call.DeviceCall.TheVariants.{Flush};
 ghost use Rattle.device_file.specs.Asked.{AsksFor};
 ghost use Rattle.images.specs.Copying.{Copies};
 ghost use Rattle.images.specs.Exported.{
@@ -30,7 +30,8 @@ use crate::image::new_target;
 use crate::opening::{first_of, open_file, window_over};
 use crate::refusal::Refusal;
 use device_file::{
-    CopyFault, DeviceFile, FileCall, FileFault, FirstSectors, Meter, Run, carry_moved, copy_sectors,
+    CopyFault, DeviceFile, Existing, FileCall, FileFault, FirstSectors, Meter, Run, carry_moved,
+    copy_sectors,
 };
 use journal::Super;
 use medium::Access;
@@ -46,19 +47,19 @@ pub(crate) fn export<R: Files<File = File> + AllocGlobal, O: Write, E: Write + I
     rt: &R,
     image: &str,
     raw: &str,
-    replace: bool,
+    existing: Existing,
     device: &DeviceHolds,
     out: &mut O,
     err: &mut E,
 ) -> Result<LeftFiles, Refused>
     ensures done { IfOk result (λ left. IsExport image.now device.now.bytes
-        (made_at raw.now replace) (O.contents out.old) (O.contents out.new) left.file left.raw) }
+        (made_at raw.now existing) (O.contents out.old) (O.contents out.new) left.file left.raw) }
     ensures refused { IfErr result (λ refused. IsExportRefused image.now device.now.bytes
-        (made_at raw.now replace) (O.contents out.old) (O.contents out.new) refused.files.file
+        (made_at raw.now existing) (O.contents out.old) (O.contents out.new) refused.files.file
         refused.files.raw refused.refusal) }
 {
     let file = open_file(rt, image, Access::Look)?;
-    match export_file(rt, &file, device, raw, replace, out, err) {
+    match export_file(rt, &file, device, raw, existing, out, err) {
         Ok(plain) => Ok(both(file, plain)),
         Err(stopped) => Err(Refused {
             refusal: stopped.refusal,
@@ -98,19 +99,19 @@ pub fn export_file<
     image: &S,
     device: &DeviceHolds,
     raw: &str,
-    replace: bool,
+    existing: Existing,
     out: &mut O,
     err: &mut E,
 ) -> Result<LockedFile, Stopped>
     ensures ok { IfOk result (λ plain. IsExportedOf (S.holds image.now) (S.refuses image.now)
         (S.size image.now) device.now.bytes (O.contents out.old) (O.contents out.new)
-        (made_at raw.now replace) (Some plain)) }
+        (made_at raw.now existing) (Some plain)) }
     ensures err { IfErr result (λ stopped. IsNotExportedOf (S.holds image.now)
         (S.refuses image.now) (S.size image.now) device.now.bytes (O.contents out.old)
-        (O.contents out.new) (made_at raw.now replace) stopped.file stopped.refusal) }
+        (O.contents out.new) (made_at raw.now existing) stopped.file stopped.refusal) }
 {
     match ready_to_copy(rt.alloc(), image, device) {
-        Ok(mut ready) => make_copy(rt, image, &mut ready, raw, replace, out, err),
+        Ok(mut ready) => make_copy(rt, image, &mut ready, raw, existing, out, err),
         Err(refusal) => Err(Stopped::from(refusal)),
     }
 }
@@ -162,19 +163,19 @@ fn make_copy<R: Files<File = File>, S: DeviceFile, O: Write, E: Write + IsTermin
     image: &S,
     ready: &mut Ready,
     raw: &str,
-    replace: bool,
+    existing: Existing,
     out: &mut O,
     err: &mut E,
 ) -> Result<LockedFile, Stopped>
     requires { ready.old.room.line.items ≡ exported_text ready.old.sizes.blocks }
     ensures ok { IfOk result (λ copied. IsPlainCopy (S.holds image.now) (S.refuses image.now)
         ready.old.sizes ready.old.window.outbox (O.contents out.old) (O.contents out.new)
-        (made_at raw.now replace) (Some copied)) }
+        (made_at raw.now existing) (Some copied)) }
     ensures err { IfErr result (λ stopped. IsNoCopyMade (S.holds image.now) (S.refuses image.now)
         ready.old.sizes ready.old.window.outbox (O.contents out.old) (O.contents out.new)
-        (made_at raw.now replace) stopped.file stopped.refusal) }
+        (made_at raw.now existing) stopped.file stopped.refusal) }
 {
-    let mut plain = new_target(rt, raw, ready.sizes.blocks, replace)?;
+    let mut plain = new_target(rt, raw, ready.sizes.blocks, existing)?;
     match export_watched(image, ready, &mut plain, err) {
         Ok(()) => tell_of(plain, out, &ready.room),
         Err(fault) => Err(Stopped::with(refusal_of(fault), plain)),

@@ -17,7 +17,7 @@ use crate::making::ask_to_be;
 use crate::opening::open_plain;
 use crate::refusal::Refusal;
 use crate::task::ImageOptions;
-use device_file::{CopyFault, DeviceFile, Meter, Run, copy_sectors};
+use device_file::{CopyFault, DeviceFile, Existing, Meter, Run, copy_sectors};
 use journal::Super;
 use std::fs::{File, Files};
 use std::io::{IsTerminal, Write};
@@ -32,11 +32,11 @@ pub(crate) fn import<R: Files<File = File> + AllocGlobal, O: Write, E: Write + I
     out: &mut O,
     err: &mut E,
 ) -> Result<LeftFiles, Refused>
-    ensures done { IfOk result (λ left. IsImport raw.now (made_at image.now options.now.replace)
+    ensures done { IfOk result (λ left. IsImport raw.now (made_at image.now options.now.existing)
         (O.contents out.old) (O.contents out.new) left.file left.raw options.now.format
         options.now.slots) }
     ensures refused { IfErr result (λ refused. IsImportRefused raw.now
-        (made_at image.now options.now.replace) (O.contents out.old) (O.contents out.new)
+        (made_at image.now options.now.existing) (O.contents out.old) (O.contents out.new)
         refused.files.file refused.files.raw options.now.format options.now.slots
         refused.refusal) }
 {
@@ -84,16 +84,16 @@ fn import_from<R: Files<File = File>, S: DeviceFile, O: Write, E: Write + IsTerm
     requires { room.old.line.items ≡ imported_text (S.size plain.now) }
     ensures ok { IfOk result (λ file. IsImage (S.holds plain.now) (S.refuses plain.now)
         options.now.format (S.size plain.now) options.now.slots (O.contents out.old)
-        (O.contents out.new) (made_at image.now options.now.replace) (Some file)) }
+        (O.contents out.new) (made_at image.now options.now.existing) (Some file)) }
     ensures err { IfErr result (λ stopped. IsNoImage (S.holds plain.now) (S.refuses plain.now)
         options.now.format (S.size plain.now) options.now.slots (O.contents out.old)
-        (O.contents out.new) (made_at image.now options.now.replace) stopped.file
+        (O.contents out.new) (made_at image.now options.now.existing) stopped.file
         stopped.refusal) }
 {
     let Some(sizes) = sizes_of(options.format, plain.sectors(), options.slots) else {
         return Err(Stopped::from(Refusal::Sizes));
     };
-    let mut file = new_image(rt, image, &sizes, options.replace)?;
+    let mut file = new_image(rt, image, &sizes, options.existing)?;
     match import_watched(plain, &sizes, &mut file, room, err) {
         Ok(()) => tell_of(file, out, room),
         Err(fault) => Err(Stopped::with(refusal_of(fault), file)),
@@ -105,13 +105,13 @@ fn new_image<R: Files<File = File>>(
     rt: &R,
     path: &str,
     sizes: &Super,
-    replace: bool,
+    existing: Existing,
 ) -> Result<LockedFile, Refusal>
     ensures ok { IfOk result
-        (λ image. IsMade path.now replace (sectors_of (shape_of sizes.now)) image) }
+        (λ image. IsMade path.now existing (sectors_of (shape_of sizes.now)) image) }
     ensures err { IfErr result (λ refusal. IsTargetUnmade refusal) }
 {
-    new_target(rt, path, sizes.sectors(), replace)
+    new_target(rt, path, sizes.sectors(), existing)
 }
 
 // Has a file become an image with the blocks of a plain one, and tells on the way how far it is.

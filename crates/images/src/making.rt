@@ -1,6 +1,6 @@
 //! The making of an image in a file of zeros.
 ghost use Rattle.std.specs.Prelude.{[], ◌∷◌};
-ghost use Rattle.mirror.specs.declared.call.DeviceCall.TheVariants.{Write, Flush};
+ghost use Rattle.window.specs.declared.call.DeviceCall.TheVariants.{Write, Flush};
 ghost use Rattle.journal.specs.Sectors.{IsHead};
 ghost use Rattle.journal.specs.Formats.{shape_of};
 ghost use Rattle.images.specs.NewImage.{BecomesImage, GoesThrough};

@@ -26,35 +26,37 @@ ghost use Rattle.journal.specs.Formats.{shape_of};
 
 use crate::ended::{Ended, LeftFile, LeftFiles, Refused, Stopped};
 use crate::exporting::export;
-use crate::image::{new_file, sizes_of};
+use crate::image::{new_file, super_of};
 use crate::importing::import;
 use crate::making::ask_to_be;
 use crate::migrating::migrate;
 use crate::refusal::Refusal;
 use crate::showing::show;
-use crate::task::{ImageOptions, ImageTask, Task, read_words};
+use crate::task::{ImageTask, NewSizes, Task, read_words};
 use console::{ArgumentFault, words_of, write_out};
-use device_file::Run;
+use device_file::{Existing, Run};
 use journal::Super;
 use std::fs::{File, Files};
 use std::io::{IsTerminal, Write};
 use window::DeviceHolds;
 
-const HELP: &[u8] = b"usbdisk_image make IMAGE --blocks N --slots K --format 1|2 [--replace]\n\
+const HELP: &[u8] = b"usbdisk_image make IMAGE --blocks N --slots K --format 1|2 \
+[--align SIZE] [--replace]\n\
 usbdisk_image show IMAGE\nusbdisk_image migrate IMAGE\n\
 usbdisk_image import RAW IMAGE --slots K --format 1|2 [--replace]\n\
 usbdisk_image export IMAGE RAW [--replace]\n";
 
-const VERSION: &[u8] = b"usbdisk_image 1.3\n";
+const VERSION: &[u8] = b"usbdisk_image 1.4\n";
 
 /// Does what the words after the program's name ask for, and gives the exit status.
 ///
 /// `make IMAGE --blocks N --slots K --format F` makes an image file, of which no zeros are
-/// written, and prints `made`. `show IMAGE` tells what is in an image, and writes nothing to it.
-/// `migrate IMAGE` brings it to format 2, and prints `migrated` or `already format 2`. `import RAW
-/// IMAGE --slots K --format F` makes an image of the blocks of a plain file, and `export IMAGE
-/// RAW` copies those of an image to one: they print `imported N blocks` and `exported N blocks`.
-/// Where `err` is a terminal, they tell on it how far they are, each 256 MiB.
+/// written, and prints `made`. With `--align A` behind the format its blocks begin at the first
+/// multiple of A bytes behind the log. `show IMAGE` tells what is in an image, and writes nothing
+/// to it. `migrate IMAGE` brings it to format 2, and prints `migrated` or `already format 2`.
+/// `import RAW IMAGE --slots K --format F` makes an image of the blocks of a plain file, and
+/// `export IMAGE RAW` copies those of an image to one: they print `imported N blocks` and `exported
+/// N blocks`. Where `err` is a terminal, they tell on it how far they are, each 256 MiB.
 /// A new file is refused where one is there, but where `--replace` stands behind the words.
 /// `--help` prints the commands, and `--version` a line.
 pub fn command<R: Files<File = File> + AllocGlobal, O: Write, E: Write + IsTerminal>(
@@ -147,8 +149,8 @@ fn do_task<R: Files<File = File> + AllocGlobal, O: Write, E: Write + IsTerminal>
         Task::Export {
             image,
             raw,
-            replace,
-        } => export(rt, image, raw, replace, device, out, err),
+            existing,
+        } => export(rt, image, raw, existing, device, out, err),
     }
 }
 
@@ -171,9 +173,9 @@ fn do_image<R: Files<File = File> + AllocGlobal, O: Write>(
         ImageTask::Migrate { image } => migrate(rt, image, device, out),
         ImageTask::Make {
             image,
-            blocks,
-            options,
-        } => make(rt, image, blocks, &options, out),
+            sizes,
+            existing,
+        } => make(rt, image, &sizes, existing, out),
     }
 }
 
@@ -220,21 +222,19 @@ fn say_version<O: Write>(out: &mut O) -> Result<LeftFile, Stopped>
 fn make<R: Files<File = File> + AllocGlobal, O: Write>(
     rt: &R,
     image: &str,
-    blocks: u64,
-    options: &ImageOptions,
+    wanted: &NewSizes,
+    existing: Existing,
     out: &mut O,
 ) -> Result<LeftFile, Stopped>
     ensures done { IfOk result (λ back. IsMake (O.contents out.old) (O.contents out.new) back
-        (made_at image.now options.now.replace) options.now.format blocks options.now.slots) }
+        (made_at image.now existing) wanted.now) }
     ensures refused { IfErr result (λ stopped. IsMakeRefused (O.contents out.old)
-        (O.contents out.new) stopped.file (made_at image.now options.now.replace)
-        options.now.format blocks options.now.slots stopped.refusal) }
+        (O.contents out.new) stopped.file (made_at image.now existing) wanted.now
+        stopped.refusal) }
 {
-    let Some(sizes) = sizes_of(options.format, blocks, options.slots) else {
-        return Err(Stopped::from(Refusal::Sizes));
-    };
+    let sizes = super_of(wanted)?;
     match Run::new(rt.alloc()) {
-        Ok(mut run) => make_with(rt, image, &sizes, options.replace, &mut run, out),
+        Ok(mut run) => make_with(rt, image, &sizes, existing, &mut run, out),
         Err(_) => Err(Stopped::from(Refusal::NoMemory)),
     }
 }
@@ -244,17 +244,17 @@ fn make_with<R: Files<File = File>, O: Write>(
     rt: &R,
     image: &str,
     sizes: &Super,
-    replace: bool,
+    existing: Existing,
     run: &mut Run,
     out: &mut O,
 ) -> Result<LeftFile, Stopped>
     ensures done { IfOk result (λ back. IsMadeAs (O.contents out.old) (O.contents out.new) back
-        (made_at image.now replace) (shape_of sizes.now)) }
+        (made_at image.now existing) (shape_of sizes.now)) }
     ensures refused { IfErr result (λ stopped. IsNotMade (O.contents out.old)
-        (O.contents out.new) stopped.file (made_at image.now replace) (shape_of sizes.now)
+        (O.contents out.new) stopped.file (made_at image.now existing) (shape_of sizes.now)
         stopped.refusal) }
 {
-    let mut file = match new_file(rt, image, sizes.sectors(), replace) {
+    let mut file = match new_file(rt, image, sizes.sectors(), existing) {
         Ok(file) => file,
         Err(refusal) => return Err(Stopped::from(refusal)),
     };

@@ -15,6 +15,8 @@ pub enum Refusal {
     Words,
     /// The image would have a size out of its limits.
     Sizes,
+    /// The blocks of the image would begin where they cannot.
+    Align,
     /// The image has a fault.
     Image(StartFault),
     /// The file of the image refused a call.
@@ -39,6 +41,7 @@ impl Refusal {
         match self {
             Refusal::Words => 2,
             Refusal::Sizes => 3,
+            Refusal::Align => 3,
             Refusal::Image(fault) => status_of_image(fault),
             Refusal::File(fault) => status_of_refused(fault),
             Refusal::Plain(_) => 4,
@@ -53,6 +56,8 @@ impl Refusal {
         match self {
             Refusal::Words => "bad command line",
             Refusal::Sizes => "the sizes are out of their limits",
+            Refusal::Align =>
+                "no blocks begin at a multiple of --align behind a log of so many slots",
             Refusal::Image(fault) => image_text(fault),
             Refusal::File(fault) => text_of(fault),
             Refusal::Plain(fault) => plain_text(fault),

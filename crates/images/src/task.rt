@@ -1,31 +1,51 @@
 //! The words of a command line.
-ghost use Rattle.std.specs.Prelude.{◌≡◌, [], ◌∷◌, IfSome, IfNone, Bool, map, codes};
+ghost use Rattle.std.specs.Prelude.{◌≡◌, ◌≢◌, ◌≤◌, ◌*◌, ◌^◌, [], ◌∷◌, ℕ, map, codes};
+ghost use Rattle.std.specs.Prelude.{Some, IfSome, IfNone, MatchOption};
+ghost use Rattle.console.specs.Numbers.{SpellsNumber};
 ghost use Rattle.images.specs.Task.{
+  AreAlignWords,
+  AreNewOptions,
   AreOptions,
   Asks,
+  HasNewOptions,
   HasOptions,
   IsExportLine,
   IsImportLine,
   IsMakeLine,
+  IsUnit,
+  SpellsBytes,
   Wanted,
   format_word,
   replace_words,
   wanted_of,
 };
+ghost use Rattle.device_file.specs.declared.existing.Existing.{Existing};
 ghost use Rattle.journal.specs.declared.log_format.LogFormat.{LogFormat};
 
 use console::{is_file_word, read_number};
+use device_file::Existing;
 use journal::LogFormat;
 
 // The greatest size that a word may tell.
 const MOST: u64 = 4_294_967_295;
 
-/// What an image is made with: the slots of its log, its format, and whether a file is replaced.
+/// What an image is made with: the slots of its log, its format, and what is done with a file that
+/// is there.
 #[derive(Clone, Copy)]
 pub(crate) struct ImageOptions {
     pub(crate) slots: u64,
     pub(crate) format: LogFormat,
-    pub(crate) replace: bool,
+    pub(crate) existing: Existing,
+}
+
+/// The sizes of a new image.
+#[derive(Clone, Copy)]
+pub(crate) struct NewSizes {
+    pub(crate) format: LogFormat,
+    pub(crate) blocks: u64,
+    pub(crate) slots: u64,
+    /// The bytes of a page of its device, where its blocks are to begin at one.
+    pub(crate) align: Option<u64>,
 }
 
 /// What a command line asks for.
@@ -43,7 +63,7 @@ pub(crate) enum Task<'a> {
     Export {
         image: &'a str,
         raw: &'a str,
-        replace: bool,
+        existing: Existing,
     },
 }
 
@@ -62,18 +82,18 @@ pub(crate) enum ImageTask<'a> {
     Migrate {
         image: &'a str,
     },
-    /// To make an image of `blocks` blocks of zeros.
+    /// To make an image whose blocks are zeros.
     Make {
         image: &'a str,
-        blocks: u64,
-        options: ImageOptions,
+        sizes: NewSizes,
+        existing: Existing,
     },
 }
 
 /// Reads the words after the program's name: `--help`, `--version`, `show IMAGE`, `migrate IMAGE`,
-/// `make IMAGE --blocks N --slots K --format F`, `import RAW IMAGE --slots K --format F`, or
-/// `export IMAGE RAW`. Behind the last three `--replace` may stand. No file word begins with a
-/// hyphen.
+/// `make IMAGE --blocks N --slots K --format F`, perhaps with `--align A`, `import RAW IMAGE
+/// --slots K --format F`, or `export IMAGE RAW`. Behind the last three `--replace` may stand. No
+/// file word begins with a hyphen.
 pub(crate) fn read_words<'a>(words: &'a [&'a str]) -> Option<Task<'a>>
     ensures task { IfSome result
         (λ task. Asks (map (λ word. word.now) words.entry.now) (wanted_of task)) }
@@ -156,12 +176,84 @@ fn sized_task<'a>(image: &'a str, first: &str, blocks: &str, options: &[&str]) -
         return None;
     }
     let blocks = read_number(blocks.as_bytes(), 0, MOST)?;
-    let options = read_options(options)?;
+    let (options, align) = read_new_options(options)?;
     Some(Task::Image(ImageTask::Make {
         image,
-        blocks,
-        options,
+        sizes: NewSizes {
+            format: options.format,
+            blocks,
+            slots: options.slots,
+            align,
+        },
+        existing: options.existing,
     }))
+}
+
+// What an image is made with, from the words at the end, and the page at which its blocks begin,
+// where one is told.
+fn read_new_options(words: &[&str]) -> Option<(ImageOptions, Option<u64>)>
+    ensures some { IfSome result (λ found. AreNewOptions (map (λ word. word.now) words.now)
+        found.0.format found.0.slots found.1 found.0.existing) }
+    ensures none { IfNone result (HasNewOptions (map (λ word. word.now) words.now) → ⊥) }
+{
+    match words {
+        [first, slots, second, format, third, align, ending @ ..] => {
+            let options = options_of(first, slots, second, format, ending)?;
+            let align = read_align(third, align)?;
+            Some((options, Some(align)))
+        }
+        _ => Some((read_options(words)?, None)),
+    }
+}
+
+// The bytes of a page, behind their name.
+fn read_align(name: &str, word: &str) -> Option<u64>
+    ensures some { IfSome result
+        (λ bytes. AreAlignWords (name.now ∷ word.now ∷ []) (Some bytes)) }
+    ensures none { IfNone result ((bytes : ℕ)
+        → AreAlignWords (name.now ∷ word.now ∷ []) (Some bytes) → ⊥) }
+{
+    if name != "--align" {
+        return None;
+    }
+    read_bytes(word.as_bytes())
+}
+
+// A number of bytes, perhaps in units of a power of 1024.
+fn read_bytes(word: &[u8]) -> Option<u64>
+    ensures some { IfSome result (SpellsBytes word.now) }
+    ensures none { IfNone result ((bytes : ℕ) → SpellsBytes word.now bytes → ⊥) }
+{
+    let Some((last, digits)) = word.split_last() else {
+        return None;
+    };
+    match unit_of(*last) {
+        Some(unit) => read_units(digits, unit),
+        None => read_number(word, 0, MOST),
+    }
+}
+
+// The bytes of a unit, by the letter behind a number.
+fn unit_of(letter: u8) -> Option<u64>
+    ensures { MatchOption result ((letter ≢ 75) × (letter ≢ 77))
+        (λ unit. IsUnit (letter ∷ []) unit × (unit ≤ 2 ^ 20)) }
+{
+    match letter {
+        b'K' => Some(1024),
+        b'M' => Some(1_048_576),
+        _ => None,
+    }
+}
+
+// A number of units of so many bytes.
+fn read_units(digits: &[u8], unit: u64) -> Option<u64>
+    requires { unit ≤ 2 ^ 20 }
+    ensures some { IfSome result (λ bytes. (number : ℕ)
+        × SpellsNumber 0 4294967295 digits.now number × (bytes ≡ number * unit)) }
+    ensures none { IfNone result ((number : ℕ) → SpellsNumber 0 4294967295 digits.now number → ⊥) }
+{
+    let number = read_number(digits, 0, MOST)?;
+    Some(number * unit)
 }
 
 // What the words behind `import` ask for.
@@ -185,7 +277,7 @@ fn import_task<'a>(raw: &'a str, image: &'a str, rest: &[&str]) -> Option<Task<'
 // What an image is made with, from the words at the end.
 fn read_options(words: &[&str]) -> Option<ImageOptions>
     ensures some { IfSome result (λ options. AreOptions (map (λ word. word.now) words.now)
-        options.format options.slots options.replace) }
+        options.format options.slots options.existing) }
     ensures none { IfNone result (HasOptions (map (λ word. word.now) words.now) → ⊥) }
 {
     match words {
@@ -206,7 +298,7 @@ fn options_of(
 ) -> Option<ImageOptions>
     ensures some { IfSome result (λ options. AreOptions (first.now ∷ slots.now ∷ second.now
         ∷ format.now ∷ map (λ word. word.now) ending.now)
-        options.format options.slots options.replace) }
+        options.format options.slots options.existing) }
     ensures none { IfNone result (HasOptions (first.now ∷ slots.now ∷ second.now ∷ format.now
         ∷ map (λ word. word.now) ending.now) → ⊥) }
 {
@@ -215,11 +307,11 @@ fn options_of(
     }
     let slots = read_number(slots.as_bytes(), 0, MOST)?;
     let format = read_format(format)?;
-    let replace = read_replace(ending)?;
+    let existing = read_replace(ending)?;
     Some(ImageOptions {
         slots,
         format,
-        replace,
+        existing,
     })
 }
 
@@ -233,11 +325,11 @@ fn export_task<'a>(image: &'a str, raw: &'a str, ending: &[&str]) -> Option<Task
     if !is_file_word(image) || !is_file_word(raw) {
         return None;
     }
-    let replace = read_replace(ending)?;
+    let existing = read_replace(ending)?;
     Some(Task::Export {
         image,
         raw,
-        replace,
+        existing,
     })
 }
 
@@ -253,27 +345,28 @@ fn read_format(number: &str) -> Option<LogFormat>
     }
 }
 
-// Whether a file is to be replaced, from the words at the end.
-fn read_replace(ending: &[&str]) -> Option<bool>
+// What is done with a file that is there, from the words at the end.
+fn read_replace(ending: &[&str]) -> Option<Existing>
     ensures some { IfSome result
-        (λ replace. map (λ word. word.now) ending.now ≡ replace_words replace) }
-    ensures none { IfNone result ((replace : Bool)
-        → map (λ word. word.now) ending.now ≡ replace_words replace → ⊥) }
+        (λ existing. map (λ word. word.now) ending.now ≡ replace_words existing) }
+    ensures none { IfNone result ((existing : Existing)
+        → map (λ word. word.now) ending.now ≡ replace_words existing → ⊥) }
 {
     match ending {
-        [] => Some(false),
+        [] => Some(Existing::Keep),
         [word] => named_replace(word),
         _ => None,
     }
 }
 
-// Whether one word says that a file is to be replaced.
-fn named_replace(word: &str) -> Option<bool>
-    ensures some { IfSome result (λ replace. word.now ∷ [] ≡ replace_words replace) }
-    ensures none { IfNone result ((replace : Bool) → word.now ∷ [] ≡ replace_words replace → ⊥) }
+// What is done with it, by one word.
+fn named_replace(word: &str) -> Option<Existing>
+    ensures some { IfSome result (λ existing. word.now ∷ [] ≡ replace_words existing) }
+    ensures none { IfNone result ((existing : Existing)
+        → word.now ∷ [] ≡ replace_words existing → ⊥) }
 {
     match word {
-        "--replace" => Some(true),
+        "--replace" => Some(Existing::Replace),
         _ => None,
     }
 }

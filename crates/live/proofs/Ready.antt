@@ -1,18 +1,16 @@
 -- A disk over a file that was ready is ready again, and what an event reads is in sight.
 use Rattle.std.proofs.Common.{◌≡◌, ◌⊎◌, ◌<◌, ◌≤◌, ◌+◌, ◌/◌, ℕ, true, List, length, inl, inr, arith, sym, ◌∙◌, ap, subst}
 use Rattle.std.specs.Prelude.{Option, Some, None}
-use Rattle.std.specs.List.{list_all}
 use Rattle.std.proofs.lemmas.Bool.{cases_Bool, cases_lt}
 use Rattle.medium.specs.Sent.{sent}
 use Rattle.journal.specs.Places.{Shape}
 use Rattle.journal.specs.Standing.{HasShape}
 use Rattle.journal.proofs.SectorNumbers.{IsSuper-one}
-use Rattle.mirror.specs.Story as story
+use Rattle.window.specs.Story as story
 use Rattle.spec.specs.declared.case.Case.{Case}
 use Rattle.spec.specs.declared.case.Case.TheVariants.{C5, C6}
 use Rattle.spec.specs.declared.wrapper.Cbw.{Cbw}
 use Rattle.wrappers.proofs.CommandWrappers.{one_wrapper}
-use Rattle.window.specs.Seen.{spares}
 use Rattle.window.specs.Window.{Window, state_of, is_in_sight, ComesAfter, IsServed}
 use Rattle.window.specs.Looks.{near_in_sight, shown_in_sight, none_refused, none_kept_out}
 use Rattle.scsi_unit.specs.Reading.{first_home_of}
@@ -25,7 +23,7 @@ use Rattle.spec.specs.declared.event.Event.{Event}
 use Rattle.spec.specs.declared.event.Event.TheVariants as event
 use Rattle.spec.specs.declared.event.Answer.{Answer}
 use Rattle.device_file.specs.Asked.{Told}
-use Rattle.file_window.specs.FileWindows.{Carries}
+use Rattle.live.specs.FileWindows.{Carries}
 use Rattle.live.specs.Missing.{DiskOn, medium_of, window_of, AreMissing, Wants, WantsNone}
 use Rattle.live.specs.Playing.{SeesRead, Prepares, PlaysReady, MissesNothing}
 use Rattle.live.specs.Ready.{room_of, RefusesNone, KeepsAll, IsReadyToStart, HasRoomToStart, layout_on, IsReady, SeesHome}
@@ -174,7 +172,6 @@ module _ {D : Type 0} where
     taken_if : (old new : DiskOn D) (home : HomeSectors) (first count : ℕ) → IsReady old → AreMissing (window_of old) home first count
         → (sees : SeesRead told holds refuses old first count new) → sees.taken ≡ true
     taken_if old new home first count ready missing sees = sees.shown.shown.fits.1 (
-      ap (λ l. list_all (spares first (length sees.bytes / 512)) l) ready.empty,
       omega (arith, sees.whole),
       omega (arith, sees.whole, missing.few, ready.span),
       omega (arith, missing.begin),

@@ -1,3 +1,5 @@
+pub mod FileWindows
+pub mod FileWindowLaws
 pub mod Missing
 pub mod Ready
 pub mod Playing

@@ -4,7 +4,7 @@ use Rattle.scsi_unit.specs.declared.reading.HomeSectors.{HomeSectors}
 use Rattle.bot_machine.specs.DiskValue.{DiskValue}
 use Rattle.bot_machine.specs.Reading.{ReadsHome}
 use Rattle.window.specs.Window.{Window, state_of, is_in_sight}
-use Rattle.file_window.specs.declared.file.FileWindow.{FileWindow}
+use Rattle.live.specs.declared.file.FileWindow.{FileWindow}
 
 -- what is seen of a disk over a window and its file
 abbrev pub DiskOn : Type 0 → Type 0

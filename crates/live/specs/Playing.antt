@@ -1,8 +1,8 @@
 -- How a disk over a file goes through events.
 use Rattle.std.specs.Prelude.{◌≡◌, ◌⊎◌, ℕ, ◌*◌, ◌/◌, Bool, true, false, List, [], ◌∷◌, length, None}
-use Rattle.inlet.specs.Inlet.{AreHeld}
+use Rattle.medium.specs.Inlet.{AreHeld}
 use Rattle.window.specs.Window.{Window, mirror_of, ComesAfter, CoversDevice, IsServed}
-use Rattle.mirror.specs.Parts as mirror
+use Rattle.window.specs.Parts as mirror
 use Rattle.spec.specs.Book.{Book}
 use Rattle.bot_machine.specs.Disk.{FitsDisk, IsStep, IsRearmed}
 use Rattle.spec.specs.declared.event.Event.{Event}
@@ -10,7 +10,7 @@ use Rattle.spec.specs.declared.event.Event.TheVariants as event
 use Rattle.spec.specs.declared.event.Answer.{Answer}
 use Rattle.device_file.specs.Asked.{Told}
 use Rattle.device_file.specs.Reads.{AreRead}
-use Rattle.file_window.specs.FileWindows.{state_of, is_well, GoesOn, Shows, Carries}
+use Rattle.live.specs.FileWindows.{state_of, is_well, GoesOn, Shows, Carries}
 use Rattle.live.specs.Missing.{DiskOn, medium_of, window_of, Wants, WantsNone}
 use Rattle.live.specs.Ready.{IsReady, SeesHome, RefusesNone, KeepsAll}
 

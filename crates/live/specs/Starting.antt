@@ -10,8 +10,8 @@ use Rattle.device_file.specs.Reads.{AreRead}
 use Rattle.device_file.specs.declared.fault.FileFault.{FileFault}
 use Rattle.device_file.specs.declared.opening.FirstSectors.{FirstSectors}
 use Rattle.device_file.specs.declared.opening.OpenFault.{OpenFault}
-use Rattle.file_window.specs.declared.file.FileWindow.{FileWindow}
-use Rattle.file_window.specs.FileWindows.{state_of, GoesOn, Carries, IsOver}
+use Rattle.live.specs.declared.file.FileWindow.{FileWindow}
+use Rattle.live.specs.FileWindows.{state_of, GoesOn, Carries, IsOver}
 use Rattle.bot_machine.specs.Device.{Device, Ahead}
 use Rattle.bot_machine.specs.Disk.{IsRearmed}
 use Rattle.bot_machine.specs.Opening.{IsOpened, IsNotOpened, StartLeaves}

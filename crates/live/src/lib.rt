@@ -2,6 +2,7 @@
 #![tactic(auto)]
 
 mod ended;
+mod file;
 mod missing;
 mod player;
 mod program;
@@ -10,6 +11,7 @@ mod serving;
 mod starting;
 
 pub use ended::{Ended, Stopped};
+pub use file::FileWindow;
 pub use player::{FileDisk, TRANSFER};
 pub use program::{live_command, run_live};
 pub use refusal::Refusal;

@@ -4,9 +4,9 @@ ghost use Rattle.scsi_unit.specs.Reading.{AreHome};
 ghost use Rattle.window.specs.Window.{state_of};
 ghost use Rattle.live.specs.Missing.{AreMissing, AreInSight, Wants, WantsNone};
 
+use crate::file::FileWindow;
 use bot_machine::{Disk, HomeSectors};
 use device_file::DeviceFile;
-use file_window::FileWindow;
 use medium::Medium;
 use window::WindowMedium;
 

@@ -5,13 +5,13 @@ ghost use Rattle.live.specs.Missing.{medium_of, window_of};
 ghost use Rattle.live.specs.Playing.{Foresees, SeesRead, MissesRead, PreparesPacket, Prepares};
 ghost use Rattle.live.specs.Playing.{PlaysReady, Plays, IsUnanswered};
 
+use crate::file::FileWindow;
 use crate::missing::missing_for;
 use bot_machine::{Answer, Disk, Event, PacketSize, answer_to};
 use device_file::{DeviceFile, FileFault};
-use file_window::FileWindow;
-use mirror::device_laws;
 use runner::Player;
 use std::marker::Model;
+use window::device_laws;
 
 const SECTOR: usize = 512;
 

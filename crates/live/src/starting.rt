@@ -9,11 +9,11 @@ ghost use Rattle.live.specs.Ready.{IsReadyToStart, room_of};
 ghost use Rattle.live.specs.Status.{refusal_of_open};
 
 use crate::ended::Stopped;
+use crate::file::FileWindow;
 use crate::player::{FileDisk, TRANSFER, foresee_window};
 use crate::refusal::Refusal;
 use bot_machine::{Disk, PacketSize, Retiring};
 use device_file::{DeviceFile, FirstSectors, OpenFault, Run};
-use file_window::FileWindow;
 use journal::Super;
 use medium::Outlet;
 use runner::disk_identity;

@@ -3,6 +3,7 @@ pub mod FileStory
 pub mod ImageFile
 pub mod ImageFileLaws
 pub mod ImageFileView
+pub mod Inlet
 pub mod Lengths
 pub mod Machine
 pub mod Medium

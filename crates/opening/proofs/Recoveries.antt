@@ -2,9 +2,9 @@
 use Rattle.std.proofs.Common.{◌≡◌, ℕ, List, Result, None}
 use Rattle.medium.specs.Tally.{none}
 use Rattle.window.specs.Window.{Window, state_of}
-use Rattle.machine_calls.specs.Carried.{refusal_of}
-use Rattle.machine_calls.specs.declared.asked.Asked.{Asked}
-use Rattle.machine_calls.specs.declared.asked.Asked.TheVariants as asked
+use Rattle.opening.specs.Carried.{refusal_of}
+use Rattle.opening.specs.declared.asked.Asked.{Asked}
+use Rattle.opening.specs.declared.asked.Asked.TheVariants as asked
 use Rattle.recovery.specs.HoldsStart.{HoldsStart}
 use Rattle.recovery.specs.Starting.{EndsStart, start_left}
 use Rattle.recovery.specs.declared.recovered.Recovered.{Recovered}

@@ -1,3 +1,7 @@
+pub mod Carried
+pub mod Runs
+pub mod Stepping
+pub mod Running
 pub mod Near
 pub mod Reading
 pub mod Room

@@ -2,10 +2,10 @@
 use Rattle.std.specs.Prelude.{◌≡◌, ◌≢◌, ◌⊎◌, ℕ, ◌+◌, ◌-◌, ◌*◌, ◌/◌, ◌%◌, ◌≤◌, min, Bool, true}
 use Rattle.std.specs.Prelude.{false, List, [], ◌∷◌, ◌++◌, length, Result, Ok, Err}
 use Rattle.medium.specs.Writes.{sector_of}
-use Rattle.device_calls.specs.declared.ask.DeviceAsk.{DeviceAsk}
-use Rattle.device_calls.specs.declared.ask.DeviceAsk.TheVariants as ask
-use Rattle.device_calls.specs.declared.done_fault.DoneFault.{DoneFault}
-use Rattle.device_calls.specs.declared.done_fault.DoneFault.TheVariants as fault
+use Rattle.window.specs.declared.ask.DeviceAsk.{DeviceAsk}
+use Rattle.window.specs.declared.ask.DeviceAsk.TheVariants as ask
+use Rattle.window.specs.declared.done_fault.DoneFault.{DoneFault}
+use Rattle.window.specs.declared.done_fault.DoneFault.TheVariants as fault
 use Rattle.opening.specs.declared.reach.Reach.{Reach}
 use Rattle.opening.specs.declared.reach.Reach.TheVariants as reach
 use Rattle.opening.specs.declared.read_end.ReadEnd.{ReadEnd}

@@ -4,18 +4,18 @@ use Rattle.std.specs.Prelude.{length, Result, Ok, Err}
 use Rattle.medium.specs.Medium.{Image}
 use Rattle.medium.specs.Tally.{Tally, none}
 use Rattle.medium.specs.Writes.{sector_of}
-use Rattle.mirror.specs.Story.{given, are_whole}
-use Rattle.mirror.specs.OutboxMedium.{sent}
-use Rattle.mirror.specs.OutboxMedium as outbox
-use Rattle.mirror.specs.Parts.{CoversParts}
+use Rattle.window.specs.Story.{given, are_whole}
+use Rattle.window.specs.OutboxMedium.{sent}
+use Rattle.window.specs.OutboxMedium as outbox
+use Rattle.window.specs.Parts.{CoversParts}
 use Rattle.window.specs.Window.{Window, state_of, mirror_of}
-use Rattle.device_calls.specs.declared.ask.DeviceAsk.{DeviceAsk}
-use Rattle.device_calls.specs.declared.done_fault.DoneFault.{DoneFault}
-use Rattle.machine_calls.specs.Carried.{ended_by}
-use Rattle.machine_calls.specs.Running.{IsRunning, RunAsks, RunEnds, HandedOut, handed, AreHonest}
-use Rattle.machine_calls.specs.Running.{IsReading}
-use Rattle.machine_calls.specs.declared.asked.Asked.{Asked}
-use Rattle.machine_calls.specs.declared.asked.Asked.TheVariants as asked
+use Rattle.window.specs.declared.ask.DeviceAsk.{DeviceAsk}
+use Rattle.window.specs.declared.done_fault.DoneFault.{DoneFault}
+use Rattle.opening.specs.Carried.{ended_by}
+use Rattle.opening.specs.Running.{IsRunning, RunAsks, RunEnds, HandedOut, handed, AreHonest}
+use Rattle.opening.specs.Running.{IsReading}
+use Rattle.opening.specs.declared.asked.Asked.{Asked}
+use Rattle.opening.specs.declared.asked.Asked.TheVariants as asked
 use Rattle.recovery.specs.Causes.{start_fault_of}
 use Rattle.recovery.specs.HoldsStart.{HoldsStart, StartView, MayStart}
 use Rattle.recovery.specs.Recovered.{RecoveryLeaves}

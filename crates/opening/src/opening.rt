@@ -8,9 +8,9 @@ ghost use Rattle.opening.specs.Room.{MakesRoom};
 use crate::near::near_in;
 use crate::reach::Reach;
 use crate::read_end::ReadEnd;
-use device_calls::{DeviceAsk, DeviceRead, DoneFault};
 use std::alloc::Global;
 use std::marker::Model;
+use window::{DeviceAsk, DeviceRead, DoneFault};
 
 const SECTOR: usize = 512;
 

@@ -5,11 +5,10 @@ ghost use Rattle.opening.specs.Recovering.{HearsOfRecovery, GoesOnHeard, IsSafe,
 ghost use Rattle.opening.specs.Recovering.{IsOver, TellsOver, Ends};
 
 use crate::near::near_in;
-use device_calls::{DeviceAsk, DoneFault};
-use machine_calls::{Run, Running};
-use mirror::device_laws;
+use crate::run::Run;
+use crate::running::Running;
 use recovery::{Recovered, StartFault, Starting};
-use window::WindowMedium;
+use window::{DeviceAsk, DoneFault, WindowMedium, device_laws};
 
 const SECTOR: usize = 512;
 

@@ -6,13 +6,13 @@ use Rattle.std.proofs.lemmas.Bool.{cases_eq}
 use Rattle.std.proofs.lemmas.List.{length-map}
 use Rattle.medium.specs.Medium.{State, Image, Sets, CutLeaves, Within, IsSound, LooksOnly, Holds, Stays, Passes}
 use Rattle.medium.specs.Moments.{LeavesOnly, StaysWithin, SparesFrom, IsQuiet, EachCut}
-use Rattle.medium.proofs.Moments.{at_exit, updated, updated_here, updated_elsewhere, quiet_joined, quiet_leaves}
+use Rattle.medium.proofs.Moments.{at_exit, updated, updated_here, updated_elsewhere, quiet_leaves}
 use Rattle.medium.proofs.Moments.{joined_same, weaker, quiet_call}
 use Rattle.medium.proofs.SparedSectors.{HasSpared, spared_joined, spared_behind, spared_quiet}
 use Rattle.spec.specs.Blocks.{Array}
 use Rattle.journal.specs.Places.{Shape, first_home, sectors_of, IsFirstHome}
 use Rattle.journal.specs.Record.{Entry, numbers_of, with_records, home_of, Hides}
-use Rattle.journal.specs.Formats.{layout_of, IsWhole, HasWhole, CarriesBelow, shape_of}
+use Rattle.journal.specs.Formats.{layout_of, IsWhole, HasWhole, CarriesBelow}
 use Rattle.journal.proofs.Formats.{laws_of, sectors_are}
 use Rattle.journal.proofs.Wholeness.{IsWhole-one, IsWhole-same, slot_inside, CarriesBelow-agree}
 use Rattle.journal.specs.Sectors.{IsSuper, IsHead}
@@ -21,17 +21,15 @@ use Rattle.journal.proofs.Wholeness.{in_log}
 use Rattle.journal.specs.Staged.{View, Resting}
 use Rattle.journal.proofs.Engine.{rests_found, none_carried}
 use Rattle.journal.proofs.Wholeness.{with_records-same, records-hide}
-use Rattle.recovery.specs.Calls.{IsHomeOf, IsHomeInRecords, most_reads_of, LooksAtLog, WritesAllPass}
+use Rattle.recovery.specs.Calls.{IsHomeOf, IsHomeInRecords, LooksAtLog, WritesAllPass}
 use Rattle.recovery.specs.Calls.{FollowsBy, Writes, cleared_at, WithOrWithout, IsBetween, IsNoneOrNew, ImageLeaves}
 use Rattle.recovery.specs.Calls.{IsMade, IsWritten, IsNoneOrWritten, WritesImage}
 use Rattle.recovery.specs.Recovered.{IsFresh, HasNoneWaiting}
 use Rattle.medium.specs.declared.fault.MediumFault.{MediumFault}
-use Rattle.medium.proofs.SectorsRead.{looks_joined, looks_below, look_below}
-use Rattle.journal.specs.declared.super_sector.Super.{Super}
+use Rattle.medium.proofs.SectorsRead.{looks_joined, looks_below}
 use Rattle.journal.specs.Standing.{HasShape}
-use Rattle.journal.specs.Reading.{IsRefusedCall, LooksUp}
-use Rattle.recovery.specs.Causes.{SurveysAtMost, LooksAtFirst}
-use Rattle.journal.proofs.SectorNumbers.{IsSuper-one, IsHead-one}
+use Rattle.journal.specs.Reading.{IsRefusedCall}
+use Rattle.journal.proofs.SectorNumbers.{IsHead-one}
 use Rattle.std.proofs.lemmas.Result.{on_ok_weaker}
 use Rattle.medium.specs.declared.fault.MediumFault.TheVariants.{Read, Flush}
 
@@ -184,33 +182,6 @@ pub looked_on : (shape : Shape) (old mid new : State) → HasShape old.size shap
 looked_on shape old mid new has first last near holds =
     looks_joined (λ s. s < near) old mid new (first near holds)
     (looks_below (first_home shape) near mid new (holds.log shape has) last)
-
--- the super is read
-pub super_looked : (old new : State) → LooksOnly (λ s. s ≡ 0) old new → LooksAtLog old new
-super_looked old new look near holds = look_below near old new 0 holds.some look
-
--- and behind it the head
-pub head_looked : {old mid new : State} {result : Result (Unit {0}) MediumFault} (sizes : Super)
-    → HasShape old.size (shape_of sizes) old.content → IsQuiet old mid → LooksAtLog old mid → Passes Read result mid new
-    → Stays mid.content new.content → Within new.may_leave mid.may_leave → LooksOnly (λ s. s ≡ 1) mid new
-    → IsQuiet old new × LooksAtLog old new
-head_looked {old} {mid} {new} sizes has quiet looks passes content sets head =
-    let home = sizes.home_is.0 in
-    let read = look_below (first_home (shape_of sizes)) mid new 1 (omega (arith, home)) head in
-    (quiet_joined old mid new quiet (quiet_call mid new passes content sets), looked_on (shape_of sizes) old mid new has looks read)
-
--- the super and the head are read, and then what shows whether records are whole
-pub records_read : {M X Y : Type 0} {state : M → State} {Follows : M → M → Type 0} {Has : State → Y → Type 0}
-    {F : State → State → X → Type 0} {old mid new : M} {first : Result Y _} {result : Result X MediumFault} (sizes : Super)
-    → HasShape (state old).size (shape_of sizes) (state old).content → LooksAtFirst state Follows Has 2 old mid first
-    → LooksUp state Follows (most_reads_of sizes.format * sizes.slots) (λ s. s < first_home (shape_of sizes)) F mid new result
-    → SurveysAtMost (state old) (state new)
-records_read {state = state} {old = old} sizes has before rest =
-    let one = λ (other : Shape) (is : HasShape (state old).size other (state old).content).
-    IsSuper-one other (shape_of sizes) _ is.super has.super in
-    let quiet = quiet_joined _ _ _ before.quiet rest.passes.quiet in
-    let looks = looked_on (shape_of sizes) _ _ _ has before.looks rest.follows.1 in
-    search (rules, quiet, rest.passes.reads, before.reads, one, sizes.most_slots, looks)
 
 -- a write reads nothing, and a flush neither
 pub reads_none : (old new : State) {fault : MediumFault} {result : Result (Unit {0}) MediumFault} → Passes fault result old new

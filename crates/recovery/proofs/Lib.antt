@@ -8,6 +8,7 @@ pub mod WholeRecovery
 pub mod Tries
 pub mod SurveyedRecords
 pub mod SurveyTally
+pub mod Looks
 pub mod StartBegins
 pub mod StartTally
 pub mod StartTold

@@ -12,7 +12,7 @@ use Rattle.journal.specs.Reading.{record_reads_of}
 use Rattle.recovery.specs.Calls.{most_reads_of}
 use Rattle.recovery.specs.Surveying.{surveys_left}
 use Rattle.recovery.specs.Copying.{copies_left}
-use Rattle.recovery.specs.Starting.{both, head_calls, home_calls, all_calls, start_left, IsReadFirst, FindsSuper, FindsHead}
+use Rattle.recovery.specs.Starting.{both, head_calls, home_calls, all_calls, start_left, look_left, IsReadFirst, FindsSuper, FindsHead}
 use Rattle.recovery.specs.Starting.{IsCopiedOn, IsFoundOn, IsSurveyedOn}
 use Rattle.journal.specs.declared.reader.RecordReader.{RecordReader}
 use Rattle.recovery.specs.declared.copy_step.CopyStep.{CopyStep}
@@ -20,6 +20,7 @@ use Rattle.recovery.specs.Copying.{Copying}
 use Rattle.recovery.specs.declared.surveying.Surveying.{Surveying}
 use Rattle.recovery.specs.declared.found.Found.{Found}
 use Rattle.recovery.specs.Stages.{StartStage}
+use Rattle.recovery.specs.Stages as stage
 
 -- no more of each kind
 pub few_left : {left rest : Tally} → left.reads ≤ rest.reads → left.writes ≤ rest.writes → left.flushes ≤ rest.flushes
@@ -124,3 +125,10 @@ pub survey_goes_left : {head : ℕ} {survey : Surveying} {sizes : Super} {rest :
     → IsLeft ⊥ (start_left next) (both rest (home_calls sizes.format sizes.slots))
 survey_goes_left {survey = survey} same goes is = rw (← same)
     (left_through (surveyed_left goes) (both_left (home_calls survey.reader.sizes.format survey.reader.sizes.slots) is))
+
+-- a look makes no more calls than a start that stands there
+pub look_few : (at : StartStage) → IsLeft ⊥ (look_left at) (start_left at)
+look_few stage.ReadSuper = few_left (omega arith) (omega arith) (omega arith)
+look_few (stage.ReadHead sizes) = few_left (omega arith) (omega arith) (omega arith)
+look_few (stage.Survey head survey) = few_left (omega arith) (omega arith) (omega arith)
+look_few at = none_left_of

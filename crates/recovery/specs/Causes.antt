@@ -1,6 +1,6 @@
 -- What is found of an image before the first write, by how many reads, and why a start is refused.
 use Rattle.std.specs.Prelude.{◌≡◌, ◌⊎◌, ℕ, ◌+◌, ◌*◌, ◌^◌, ◌<◌, ◌≤◌, min, List, length, sum}
-use Rattle.std.specs.Prelude.{slice_index, Result, IfOk, IfErr, map, OnOk}
+use Rattle.std.specs.Prelude.{slice_index, map}
 use Rattle.medium.specs.Medium.{State, Image}
 use Rattle.medium.specs.Moments.{IsQuiet}
 use Rattle.journal.specs.declared.log_format.LogFormat.{LogFormat}
@@ -179,20 +179,6 @@ IsLookCause old new BadVersion = image.HasFault old.size old.content image.BadVe
 IsLookCause old new BadSize = image.HasFault old.size old.content image.BadSize
 IsLookCause old new BadHead = image.HasFault old.size old.content image.BadHead
 IsLookCause old new fault = ⊥
-
--- The first sectors are looked at, by this many reads where Ok, and no more than that where
--- refused: what they have, and why not.
-pub record LooksAtFirst {M X : Type 0} (state : M → State) (Follows : M → M → Type 0)
-    (Has : State → X → Type 0) (count : ℕ) (old new : M) (result : Result X StartFault)
-    : Type 0 where
-  pub quiet : IsQuiet (state old) (state new)
-  pub reads : MakesReadsAlone (state old) (state new)
-  pub calls : (state new).calls ≤ (state old).calls + count
-  pub exact : OnOk result ((state new).calls ≡ (state old).calls + count)
-  pub looks : LooksAtLog (state old) (state new)
-  pub ok : IfOk result (Has (state old))
-  pub err : IfErr result (IsLookCause (state old) (state new))
-  pub follows : Follows old new
 
 -- what is wrong with a super on a medium of `size` sectors
 abbrev pub IsSuperCause : ℕ → List ℕ → StartFault → Type 0

@@ -1,8 +1,8 @@
 -- What a start and a medium hold between two calls.
-use Rattle.std.specs.Prelude.{◌≡◌, ◌⊎◌, ℕ, ◌+◌, ◌*◌, ◌<◌, ◌≤◌, List, length, get_or, []}
+use Rattle.std.specs.Prelude.{◌≡◌, ◌≢◌, ◌⊎◌, ℕ, ◌+◌, ◌*◌, ◌<◌, ◌≤◌, List, length, get_or, []}
 use Rattle.std.specs.Prelude.{Result, Ok, Err}
 use Rattle.medium.specs.Medium.{State, Image, CutLeaves, Only, Stays, Within, Passes, IsSound}
-use Rattle.medium.specs.Moments.{EachCut}
+use Rattle.medium.specs.Moments.{EachCut, IsQuiet}
 use Rattle.medium.specs.Machine.{Driven, TellsCall}
 use Rattle.medium.specs.declared.medium_call.Call.{Call}
 use Rattle.medium.specs.declared.fault.MediumFault.{MediumFault}
@@ -14,14 +14,16 @@ use Rattle.journal.specs.Record.{Entry}
 use Rattle.journal.specs.Sectors.{IsHead}
 use Rattle.journal.specs.Standing.{HasShape}
 use Rattle.recovery.specs.Calls.{IsHomeInRecords, freed_at, Copies, AreCopied, most_calls_of}
-use Rattle.recovery.specs.Calls.{HasNewHead, Writes}
-use Rattle.recovery.specs.Causes.{LooksAtFirst, SurveysAtMost, IsSurvey, HasFewSlots}
+use Rattle.recovery.specs.Calls.{HasNewHead, Writes, LooksAtLog}
+use Rattle.recovery.specs.Causes.{SurveysAtMost, IsSurvey, HasFewSlots, MakesReadsAlone}
+use Rattle.recovery.specs.Causes.{IsRefusalBy}
 use Rattle.recovery.specs.Copying.{Copying, CopyView, HoldsCopied, copies_left}
 use Rattle.recovery.specs.Surveying.{SurveyView, HoldsSurveyed, surveys_left, IsSurveyStep}
 use Rattle.recovery.specs.Surveying.{IsRefusedSurvey}
 use Rattle.recovery.specs.Recovered.{LeavesAtLeast, IsOursForSome, StandsForOneOf}
 use Rattle.recovery.specs.Starting.{EndsStart, IsStarting, IsNewSurvey, IsNewCopying}
 use Rattle.recovery.specs.declared.surveying.Surveying.{Surveying}
+use Rattle.recovery.specs.declared.start_fault.StartFault.TheVariants.{StampsUsedUp}
 use Rattle.recovery.specs.declared.found.Found.{Found}
 use Rattle.recovery.specs.Stages.{StartStage}
 use Rattle.recovery.specs.Stages as stage
@@ -44,11 +46,17 @@ pub record IsFlushedFirst (old mid : State) : Type 0 where
   pub sound_mid : IsSound mid
   pub only : Only old.content mid.may_leave
 
--- so many reads have found a super of these sizes, or it and the head
-abbrev pub LooksThere : {M : Type 0} → (M → State) → Super → ℕ → M → M → Type 0
-LooksThere state sizes count mid now =
-    LooksAtFirst {X = Unit {0}} state (λ a b. Unit {0})
-    (λ s done. HasShape s.size (shape_of sizes) s.content) count mid now (Ok tt)
+-- reads alone were made, so many, and of no sector that is no part of the log
+pub record HasReadFirst (count : ℕ) (mid now : State) : Type 0 where
+  pub quiet : IsQuiet mid now
+  pub reads : MakesReadsAlone mid now
+  pub calls : now.calls ≡ mid.calls + count
+  pub looks : LooksAtLog mid now
+
+-- they have found a super of these sizes, or it and the head
+pub record HasFound (sizes : Super) (count : ℕ) (mid now : State) : Type 0 where
+  pub read : HasReadFirst count mid now
+  pub has : HasShape mid.size (shape_of sizes) mid.content
 
 -- the calls of a survey so far, the last of which may have been refused
 abbrev pub IsSurveyedSoFar : {M : Type 0} → (M → State) → Surveying → List ℕ → M
@@ -96,14 +104,12 @@ abbrev pub HasMovedHead : Found → State → State → Type 0
 HasMovedHead found old new = HasNewHead (found.head + found.count + 1) old.content new.content
 
 module _ {M : Type 0} (state : M → State) (least : ℕ) where
-  -- the survey goes on
-  pub record IsSurveying (head : ℕ) (survey : Surveying) (had : List ℕ) (start m : M)
+  -- the records are surveyed, of a medium that was looked at from there on
+  pub record IsSurveying (head : ℕ) (survey : Surveying) (had : List ℕ) (mid m : M)
       : Type 0 where
     pub sizes : Super
-    pub mid : M
-    pub flushed : IsFlushedFirst (state start) (state mid)
     pub began : M
-    pub looked : LooksThere state sizes 2 mid began
+    pub found : HasFound sizes 2 (state mid) (state began)
     pub head_is : IsHead head ((state mid).content 1)
     pub room : ¬ HasFewSlots least (state mid).size (state mid).content
     pub first : Surveying
@@ -111,7 +117,28 @@ module _ {M : Type 0} (state : M → State) (least : ℕ) where
     pub new : IsNewSurvey sizes head first
     pub so_far : IsSurveyedSoFar state first first_had began (Ok tt) survey had m
 
-  -- it came to its end, and found this
+  -- what is so before the next read of a look, or why it was refused
+  abbrev pub HasLooked : StartStage → List ℕ → M → M → Type 0
+  HasLooked stage.ReadSuper had mid m = m ≡ mid
+  HasLooked (stage.ReadHead sizes) had mid m = HasFound sizes 1 (state mid) (state m)
+  HasLooked (stage.Survey head survey) had mid m = IsSurveying head survey had mid m
+  HasLooked (stage.Refused fault) had mid m =
+      IsRefusalBy least IsQuiet (state mid) (state m) fault × (fault ≢ StampsUsedUp)
+  HasLooked at had mid m = ⊥
+
+  -- What a look and a medium hold, which stood so when the look began: reads alone were made, and
+  -- none was refused while one is left.
+  pub record HoldsLook (at : StartStage) (had : List ℕ) (mid m : M) : Type 0 where
+    pub reads : SurveysAtMost (state mid) (state m)
+    pub well : IsStarting at → (state m).failures ≡ (state mid).failures
+    pub midway : HasLooked at had mid m
+
+  -- behind a good flush it looks
+  abbrev pub LooksBehind : StartStage → List ℕ → M → M → Type 0
+  LooksBehind at had start m =
+      (mid : M) × IsFlushedFirst (state start) (state mid) × HoldsLook at had mid m
+
+  -- the survey came to its end, and found this
   pub record HasSurveyed (found : Found) (start seen : M) : Type 0 where
     pub mid : M
     pub flushed : IsFlushedFirst (state start) (state mid)
@@ -158,10 +185,6 @@ module _ {M : Type 0} (state : M → State) (least : ℕ) where
   -- what is so before the next call
   abbrev pub IsMidstart : StartStage → List ℕ → M → M → Type 0
   IsMidstart stage.FlushFirst had start m = m ≡ start
-  IsMidstart stage.ReadSuper had start m = IsFlushedFirst (state start) (state m)
-  IsMidstart (stage.ReadHead sizes) had start m =
-      (mid : M) × IsFlushedFirst (state start) (state mid) × LooksThere state sizes 1 mid m
-  IsMidstart (stage.Survey head survey) had start m = IsSurveying head survey had start m
   IsMidstart (stage.Copy found copying) had start m = IsCopying found copying had start m
   IsMidstart (stage.FlushCopies found) had start m = HasCopied found start m
   IsMidstart (stage.WriteHead found) had start m = IsMovingHead 1 IsFlushedAgain found start m
@@ -170,6 +193,7 @@ module _ {M : Type 0} (state : M → State) (least : ℕ) where
       EndsStart least (state start) (state m) (Ok answer)
   IsMidstart (stage.Refused fault) had start m =
       EndsStart least (state start) (state m) (Err fault)
+  IsMidstart at had start m = LooksBehind at had start m
 
   -- What a start and a medium hold, which stood so when it began: at each moment so far a cut has
   -- left what a recovery promises, and no call was refused while one is left.

@@ -19,12 +19,14 @@ use Rattle.journal.specs.Sectors.{IsSuper, IsHead}
 use Rattle.journal.specs.Standing.{IsOurs}
 use Rattle.recovery.specs.Calls.{most_reads_of}
 use Rattle.recovery.specs.Causes.{IsSuperCause}
-use Rattle.recovery.specs.Causes.{HasFewSlots, IsRefusalBy, WritesNothing}
+use Rattle.recovery.specs.Causes.{HasFewSlots, IsRefusalBy, WritesNothing, IsInspected, OnlyLooks}
+use Rattle.recovery.specs.Causes.{IsLookRefusal}
 use Rattle.recovery.specs.Copying.{Copying, CanCopy, copies_left, copy_kind, IsCopyStep}
 use Rattle.recovery.specs.Surveying.{surveys_left, IsSurveyStep}
 use Rattle.recovery.specs.Recovered.{LeavesAtLeast, IsRecoveredFrom, IsFresh, HasNoneWaiting}
 use Rattle.recovery.specs.declared.surveying.Surveying.{Surveying}
 use Rattle.recovery.specs.declared.found.Found.{Found}
+use Rattle.recovery.specs.declared.inspection.Inspection.{Inspection}
 use Rattle.recovery.specs.declared.recovered.Recovered.{Recovered}
 use Rattle.recovery.specs.declared.start_fault.StartFault.{StartFault}
 use Rattle.recovery.specs.declared.start_fault.StartFault.TheVariants as fault
@@ -240,3 +242,48 @@ start_kind (stage.Survey head survey) = medium.Read
 start_kind (stage.Copy found copying) = copy_kind copying.reader copying.step
 start_kind (stage.WriteHead found) = medium.Write
 start_kind at = medium.Flush
+
+-- ---- the reading half alone
+
+-- what it holds, whatever it read
+pub record CanLook (sectors : ℕ) (at : StartPoint) (survey : Surveying) : Type 0 where
+  pub super : at ≡ point.ReadSuper → 0 < sectors
+  pub head : (sizes : Super) → at ≡ point.ReadHead sizes → sectors_of (shape_of sizes) ≤ sectors
+  pub fits : (head : ℕ) → at ≡ point.Survey head
+      → sectors_of (shape_of survey.reader.sizes) ≤ sectors
+
+-- where it is, which copies nothing
+abbrev pub no_step : CopyStep
+no_step = record { left = 0; i = 0; has_bytes = false }
+
+abbrev pub look_at : StartPoint → Surveying → StartStage
+look_at at survey = stage_at at survey no_step
+
+-- a read is left
+abbrev pub IsLooking : StartStage → Type 0
+IsLooking stage.ReadSuper = Unit {0}
+IsLooking (stage.ReadHead sizes) = Unit {0}
+IsLooking (stage.Survey head survey) = 0 < survey.left
+IsLooking at = ⊥
+
+-- those that are left: at most as many as of a start, of which none behind the survey
+abbrev pub look_left : StartStage → Tally
+look_left stage.ReadSuper = start_left stage.ReadSuper
+look_left (stage.ReadHead sizes) = start_left (stage.ReadHead sizes)
+look_left (stage.Survey head survey) = surveys_left survey.reader survey.left survey.place
+look_left at = none
+
+-- the next read was made: behind the last record it stays
+abbrev pub IsLookStep : ℕ → StartStage → List ℕ → StartStage → Type 0
+IsLookStep sectors stage.ReadSuper got next = FindsSuper sectors got next
+IsLookStep sectors (stage.ReadHead sizes) got next = FindsHead 0 sizes got next
+IsLookStep sectors (stage.Survey head survey) got next = (after : Surveying)
+    × IsSurveyStep survey.reader survey.left survey.place survey.waiting.items got after.reader
+    after.left after.place after.waiting.items × (next ≡ stage.Survey head after)
+IsLookStep sectors at got next = ⊥
+
+-- An inspection came to its end, good or refused.
+pub record EndsLook (old new : State) (result : Result Inspection StartFault) : Type 0 where
+  pub ok : IfOk result (IsInspected old)
+  pub err : IfErr result (IsLookRefusal old new)
+  pub looks : OnlyLooks old new

@@ -3,11 +3,10 @@ ghost use Rattle.std.specs.Prelude.{IfOk, IfErr};
 ghost use Rattle.recovery.specs.Causes.{IsInspected, OnlyLooks, IsLookRefusal};
 
 use crate::StartFault;
-use crate::record::count_waiting;
-use crate::survey::read_head;
+use crate::inspecting::Inspecting;
 use arrayvec::ArrayVec;
 use journal::Super;
-use medium::Medium;
+use medium::{Medium, drive};
 
 /// What an image holds beside its blocks at home.
 #[derive(Drop)]
@@ -27,18 +26,13 @@ pub struct Inspection {
 /// # Errors
 /// The faults of the image that `recover` names, in the same order. That no stamp is left is none
 /// here: it says nothing of what the image stands for.
-#[tactic(auto, using(crate::proofs::WholeRecovery::served_look))]
 pub fn inspect<M: Medium>(m: &mut M) -> Result<Inspection, StartFault>
     ensures ok { IfOk result (IsInspected (M.state m.old)) }
     ensures err { IfErr result (IsLookRefusal (M.state m.old) (M.state m.new)) }
     ensures looks { OnlyLooks (M.state m.old) (M.state m.new) }
     ensures follows { M.follows m.old m.new }
 {
-    let (sizes, head) = read_head(m)?;
-    let waiting = count_waiting(m, &sizes, head)?;
-    Ok(Inspection {
-        sizes,
-        head,
-        waiting,
-    })
+    let mut inspecting = Inspecting::begin::<M>(m.sectors());
+    let _ = drive(m, &mut inspecting, &mut [0; 512]);
+    inspecting.end::<M>()
 }

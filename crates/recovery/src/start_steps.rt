@@ -1,19 +1,19 @@
 //! What a start does behind each of its calls.
-ghost use Rattle.std.specs.Prelude.{◌≡◌, ◌<◌, ◌≤◌, ◌+◌, ◌^◌, ℕ};
+ghost use Rattle.std.specs.Prelude.{◌≡◌, ◌<◌, ◌≤◌, ◌+◌, ◌^◌, ◌↔◌, ℕ, IfOk, IfErr, IsTrue};
 ghost use Rattle.journal.specs.Places.{sectors_of};
 ghost use Rattle.journal.specs.Formats.{shape_of};
-ghost use Rattle.journal.specs.Sectors.{IsHead};
+ghost use Rattle.journal.specs.Sectors.{IsHead, IsSuper};
+ghost use Rattle.recovery.specs.Causes.{IsSuperCause};
 ghost use Rattle.recovery.specs.Starting.{IsReadFirst, FindsSuper, FindsHead, IsFoundOn, found_by};
-ghost use Rattle.recovery.specs.Starting.{CanStart, stage_at};
+ghost use Rattle.recovery.specs.Starting.{CanStart, stage_at, IsSmall};
 
 use crate::copy_step::CopyStep;
 use crate::copying::first_step;
 use crate::found::Found;
 use crate::start_point::StartPoint;
-use crate::survey::{has_few_slots, sizes_in};
 use crate::surveying::Surveying;
 use crate::{Recovered, StartFault};
-use journal::{Head, Super};
+use journal::{Head, Super, SuperFault};
 
 /// Behind the first flush: there is a super to be read, unless there are no sectors.
 pub(crate) fn first_read(sectors: u64) -> StartPoint
@@ -40,6 +40,27 @@ pub(crate) fn behind_super(sector: &[u8; 512], sectors: u64) -> StartPoint
     }
 }
 
+// The sizes in a super on a medium of `sectors` sectors, or what is wrong with it.
+fn sizes_in(sector: &[u8; 512], sectors: u64) -> Result<Super, StartFault>
+    ensures ok { IfOk result (λ sizes. IsSuper (shape_of sizes) sector.now
+        × (sectors_of (shape_of sizes) ≤ sectors)) }
+    ensures err { IfErr result (IsSuperCause sectors sector.now) }
+{
+    match Super::decode(sector) {
+        Err(SuperFault::Magic) => Err(StartFault::BadSuper),
+        Err(SuperFault::Version) => Err(StartFault::BadVersion),
+        Err(SuperFault::Rest) => Err(StartFault::BadSuper),
+        Err(SuperFault::Sizes) => Err(StartFault::BadSize),
+        Ok(sizes) => {
+            if sizes.sectors() <= sectors {
+                Ok(sizes)
+            } else {
+                Err(StartFault::BadSize)
+            }
+        }
+    }
+}
+
 /// Behind the read of the head: the survey begins. It stands apart, so that the head does not lie
 /// on the stack under the reading of the records.
 #[inline(never)]
@@ -62,6 +83,13 @@ pub(crate) fn behind_head(
     }
     survey.begin(sizes, head.stamp);
     StartPoint::Survey(head.stamp)
+}
+
+// Whether the log is of format 1 and has fewer slots than these.
+fn has_few_slots(sizes: &Super, least: u64) -> bool
+    ensures { IsTrue result ↔ IsSmall least sizes.now }
+{
+    sizes.format.migrates() && sizes.slots < least
 }
 
 /// Behind the last read of the survey: the copying begins, by the same reader.

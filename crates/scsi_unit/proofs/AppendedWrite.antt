@@ -12,7 +12,7 @@ use Rattle.spec.specs.Sense.{Sense}
 use Rattle.spec.specs.declared.command.Command.{Command}
 use Rattle.spec.specs.declared.command.Command.TheVariants as command
 use Rattle.spec.specs.declared.command.Transfer.{Transfer}
-use Rattle.cdb.specs.Supported.{IsSupported, IsWithin}
+use Rattle.scsi_commands.specs.Supported.{IsSupported, IsWithin}
 use Rattle.spec.specs.declared.intent.Intent.TheVariants as intent
 use Rattle.spec.specs.Rules.{UnitState, checked, moves, moves_after, takes, moves_blocks, write_after, write_of_command, some_write}
 use Rattle.spec.specs.Rules.{write_by}

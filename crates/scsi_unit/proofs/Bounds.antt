@@ -6,7 +6,7 @@ use Rattle.blocks.specs.Calls.{reads_of}
 use Rattle.blocks.proofs.ReadCalls.{reads_few}
 use Rattle.blocks.proofs.Limits.{few_batch_steps}
 use Rattle.spec.specs.Sense.{Sense}
-use Rattle.cdb.specs.Supported.{IsSupported}
+use Rattle.scsi_commands.specs.Supported.{IsSupported}
 use Rattle.spec.specs.declared.command.Command.{Command}
 use Rattle.spec.specs.declared.command.Command.TheVariants as command
 use Rattle.spec.specs.declared.command.Transfer.{Transfer}

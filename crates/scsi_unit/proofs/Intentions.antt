@@ -12,9 +12,9 @@ use Rattle.spec.specs.Waiting.{reported}
 use Rattle.spec.specs.declared.command.Command.{Command}
 use Rattle.spec.specs.declared.command.Command.TheVariants as command
 use Rattle.spec.specs.declared.command.Transfer.{Transfer}
-use Rattle.cdb.specs.Supported.{IsSupported, IsWithin}
+use Rattle.scsi_commands.specs.Supported.{IsSupported, IsWithin}
 use Rattle.spec.specs.Commands.{is_one_of}
-use Rattle.cdb.proofs.Laws.{supported}
+use Rattle.scsi_commands.proofs.RowLaws.{supported}
 use Rattle.spec.specs.Inquiry.{inquiry_data, inquiry_size}
 use Rattle.spec.specs.ModePage.{mode_data}
 use Rattle.spec.specs.declared.intent.Intent.TheVariants as intent

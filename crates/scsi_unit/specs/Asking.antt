@@ -1,7 +1,7 @@
 -- What the parts of carrying out a command ask for.
 use Rattle.std.specs.Prelude.{◌≡◌, ◌<◌, ◌≤◌, ◌*◌, ◌&&◌, ℕ, false, List, length}
 use Rattle.blocks.specs.StoreValue.{Cached, blocks_of, transfer_limit, is_dead}
-use Rattle.cdb.specs.Supported.{IsSupported, IsWithin}
+use Rattle.scsi_commands.specs.Supported.{IsSupported, IsWithin}
 use Rattle.spec.specs.declared.command.Command.{Command}
 use Rattle.spec.specs.declared.command.Transfer.{Transfer}
 use Rattle.spec.specs.declared.intent.Intent.TheVariants as intent

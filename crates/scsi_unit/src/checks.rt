@@ -1,7 +1,7 @@
 //! The checks of a command, and what it is about to move.
 ghost use Rattle.std.specs.Prelude.{◌≡◌, ◌<◌, ◌≤◌, ◌*◌, ℕ, List, length, unwrap_or, IfOk};
 ghost use Rattle.blocks.specs.StoreValue.{blocks_of, is_dead};
-ghost use Rattle.cdb.specs.Supported.{IsSupported};
+ghost use Rattle.scsi_commands.specs.Supported.{IsSupported};
 ghost use Rattle.spec.specs.Inquiry.{inquiry_size};
 ghost use Rattle.spec.specs.Rules.{passes_attention, needs_medium, sends, takes, moves};
 ghost use Rattle.scsi_unit.specs.UnitValue.{unit_limit};
@@ -9,10 +9,8 @@ ghost use Rattle.scsi_unit.specs.Calls.{calls_after, most_calls};
 ghost use Rattle.scsi_unit.specs.Serving.{command_for};
 
 use crate::{Intent, Unit};
-use cdb::{Command, parse};
 use medium::Medium;
-use pages::Identity;
-use sense::Sense;
+use scsi_commands::{Command, Identity, Sense, parse};
 
 /// The bytes of a logical block.
 pub const BLOCK: u32 = 512;

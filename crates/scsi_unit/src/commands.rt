@@ -3,7 +3,7 @@ ghost use Rattle.std.specs.Prelude.{◌≡◌, ◌≤◌, ◌*◌, ℕ, List, []
 ghost use Rattle.std.specs.Prelude.{take, min, unwrap_or, IfOk, Ok};
 ghost use Rattle.spec.specs.FixedSense.{fixed_sense};
 ghost use Rattle.spec.specs.Waiting.{reported, after_report};
-ghost use Rattle.cdb.specs.Supported.{HasModePage};
+ghost use Rattle.scsi_commands.specs.Supported.{HasModePage};
 ghost use Rattle.spec.specs.Inquiry.{inquiry_data, inquiry_size};
 ghost use Rattle.spec.specs.ModePage.{mode_data};
 ghost use Rattle.spec.specs.Capacity.{capacity_10, capacity_16};
@@ -19,10 +19,8 @@ ghost use Rattle.scsi_unit.specs.Promising.{promises};
 use crate::Unit;
 use crate::checks::BLOCK;
 use byteorder::{BigEndian, ByteOrder};
-use cdb::Command;
 use medium::Medium;
-use pages::mode_sense;
-use sense::Sense;
+use scsi_commands::{Command, Sense, mode_sense};
 
 // Sends data, of which an allocation length cuts what is behind it.
 fn send(bytes: &[u8], allocation: usize, out: &mut [u8]) -> usize

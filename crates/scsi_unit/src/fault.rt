@@ -6,7 +6,7 @@ ghost use Rattle.scsi_unit.specs.Faulting.{faulted_unit, faulted_state, IsSteady
 
 use crate::Unit;
 use medium::Medium;
-use sense::Sense;
+use scsi_commands::Sense;
 
 impl<M: Medium> Unit<M> {
     /// Faults the unit: the device behind its medium refused a call that it had taken. Commands

@@ -20,10 +20,9 @@ mod unit;
 
 pub use blocks::{StartError, StartFault, Work};
 pub use laws::unit_laws;
-pub use pages::Identity;
 pub use reading::HomeSectors;
 pub use retiring::Retiring;
-pub use sense::Sense;
+pub use scsi_commands::{Identity, Sense};
 pub use unit::Unit;
 
 /// What a command is about to move, or the sense with which it is refused.

@@ -7,8 +7,8 @@ ghost use Rattle.scsi_unit.specs.Serving.{command_for};
 ghost use Rattle.scsi_unit.specs.Promising.{forces_writing, promises, promises_for};
 
 use crate::Unit;
-use cdb::{Command, Transfer};
 use medium::Medium;
+use scsi_commands::{Command, Transfer};
 
 impl<M: Medium> Unit<M> {
     /// Whether a command block, of 1 to 16 bytes, is one that is good only when all accepted writes

@@ -5,8 +5,8 @@ ghost use Rattle.scsi_unit.specs.Serving.{command_for};
 ghost use Rattle.scsi_unit.specs.Reading.{first_home_of, home_sectors_of, read_of, AreHome};
 
 use crate::Unit;
-use cdb::{Command, Transfer};
 use medium::Medium;
+use scsi_commands::{Command, Transfer};
 
 /// Home sectors, one behind the other: the first, and how many.
 #[derive(Clone, Copy, Debug, PartialEq, Eq)]

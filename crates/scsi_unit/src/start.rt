@@ -9,7 +9,7 @@ ghost use Rattle.scsi_unit.specs.Starting.{StartsUnit, RefusesUnit, StoreStartsB
 use crate::{Retiring, Unit};
 use blocks::{StartError, Store};
 use medium::Medium;
-use pages::Identity;
+use scsi_commands::Identity;
 use std::alloc::Global;
 
 impl<M: Medium> Unit<M> {

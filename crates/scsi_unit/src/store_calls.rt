@@ -7,9 +7,8 @@ ghost use Rattle.scsi_unit.specs.StoreCalls.{StepsBehind, PassesDurable, PassesR
 
 use crate::checks::BLOCK;
 use blocks::{Store, Work};
-use cdb::Transfer;
 use medium::Medium;
-use sense::Sense;
+use scsi_commands::{Sense, Transfer};
 
 /// Makes all accepted writes durable, where that is wanted.
 pub(crate) fn make_durable<M: Medium>(store: &mut Store<M>, wanted: bool) -> Result<(), Sense>

@@ -15,10 +15,8 @@ ghost use Rattle.scsi_unit.specs.StoreCalls.{SendsRead};
 
 use crate::Unit;
 use crate::store_calls::{make_durable, read_blocks, write_blocks};
-use cdb::Transfer;
 use medium::Medium;
-use pages::mode_select;
-use sense::Sense;
+use scsi_commands::{Sense, Transfer, mode_select};
 
 impl<M: Medium> Unit<M> {
     /// READ: with FUA all accepted writes are made durable first.

@@ -1,7 +1,7 @@
 //! A unit over its store.
 ghost use Rattle.std.specs.Prelude.{◌≡◌, ◌<◌, ◌≤◌, ◌*◌, ◌/◌, ℕ, List, None, false, true, length};
 ghost use Rattle.std.specs.Prelude.{◌↔◌, IsTrue};
-ghost use Rattle.inlet.specs.Inlet.{AreHeld};
+ghost use Rattle.medium.specs.Inlet.{AreHeld};
 ghost use Rattle.medium.specs.Moments.{EachCut, IsUnchanged};
 ghost use Rattle.spec.specs.Book.{Book};
 ghost use Rattle.blocks.specs.Finding.{MayFind};
@@ -23,10 +23,8 @@ use crate::Intent;
 use crate::checks::moves;
 use crate::store_calls::step;
 use blocks::{Store, Work};
-use inlet::Inlet;
-use medium::{Medium, Outlet, Switch};
-use pages::Identity;
-use sense::{Kept, Sense};
+use medium::{Inlet, Medium, Outlet, Switch};
+use scsi_commands::{Identity, Kept, Sense};
 use std::marker::Model;
 
 /// A logical unit whose blocks are in a store. No call takes memory.

@@ -2,8 +2,8 @@
 use Rattle.std.proofs.Common.{◌≡◌, ◌≤◌, inl, true, length, arith, ap, length-append, List}
 use Rattle.medium.specs.Medium.{Image}
 use Rattle.medium.specs.Moments.{EachCut}
-use Rattle.mirror.specs.OutboxMedium.{sent}
-use Rattle.mirror.specs.declared.call.DeviceCall.{DeviceCall}
+use Rattle.window.specs.OutboxMedium.{sent}
+use Rattle.window.specs.declared.call.DeviceCall.{DeviceCall}
 use Rattle.window.specs.Window.{Window, state_of, mirror_of, ComesAfter}
 use Rattle.window.specs.WindowLaws.{is_sound, comes_after_itself}
 use Rattle.spec.specs.Book.{Book}

@@ -4,8 +4,8 @@ use Rattle.std.proofs.Common.{arith, length-append}
 use Rattle.std.specs.Prelude.{◌≢◌, ◌+◌, Option, if◌then◌else◌, not, Result, Ok, Err, OnOk, IfErr}
 use Rattle.std.proofs.lemmas.List.{take-append-le, append-nil}
 use Rattle.medium.specs.Medium.{Image}
-use Rattle.mirror.specs.Story.{given}
-use Rattle.mirror.specs.declared.call.DeviceCall.{DeviceCall}
+use Rattle.window.specs.Story.{given}
+use Rattle.window.specs.declared.call.DeviceCall.{DeviceCall}
 use Rattle.window.specs.Window as window
 use Rattle.window.specs.Window.{Window, mirror_of, ComesAfter, kept_out}
 use Rattle.spec.specs.Blocks.{Write, after}
@@ -18,7 +18,7 @@ use Rattle.store_calls.specs.Rooms.{Appends}
 use Rattle.store_calls.specs.Serving.{StaysSafe, LeavesSince, ServesAtRest, ServesOn, WaitsForDevice}
 use Rattle.store_calls.specs.StoreMachine.{Machine, IsCaughtUp, Finds, is_behind, under_way}
 use Rattle.store_calls.specs.Stores.{Store}
-use Rattle.device_calls.specs.declared.ask.DeviceRead.{DeviceRead}
+use Rattle.window.specs.declared.ask.DeviceRead.{DeviceRead}
 use Rattle.store_calls.specs.Transfers.{IsDoneFree, Accepts, Waits, Syncs}
 use Rattle.store_calls.specs.declared.store_fault.StoreFault.{StoreFault}
 use Rattle.store_calls.specs.declared.store_fault.StoreFault.TheVariants as fault

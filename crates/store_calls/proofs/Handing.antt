@@ -4,14 +4,14 @@ use Rattle.std.proofs.Common.{append_assoc, length-append}
 use Rattle.std.specs.Prelude.{Some, None}
 use Rattle.medium.specs.Moments.{IsUnchanged}
 use Rattle.medium.specs.Writes.{sector_of}
-use Rattle.mirror.specs.OutboxMedium.{sent, first_of}
-use Rattle.mirror.specs.declared.call.DeviceCall.{DeviceCall}
-use Rattle.mirror.specs.declared.call.DeviceCall.TheVariants.{Write, Flush}
+use Rattle.window.specs.OutboxMedium.{sent, first_of}
+use Rattle.window.specs.declared.call.DeviceCall.{DeviceCall}
+use Rattle.window.specs.declared.call.DeviceCall.TheVariants.{Write, Flush}
 use Rattle.window.specs.Window.{Window, state_of, mirror_of, take_first}
 use Rattle.blocks.specs.StoreValue.{Cached, is_dead, layout_of}
-use Rattle.device_calls.specs.declared.ask.DeviceAsk.{DeviceAsk}
-use Rattle.device_calls.specs.declared.ask.DeviceAsk.TheVariants as ask
-use Rattle.device_calls.specs.declared.ask.DeviceRead.{DeviceRead}
+use Rattle.window.specs.declared.ask.DeviceAsk.{DeviceAsk}
+use Rattle.window.specs.declared.ask.DeviceAsk.TheVariants as ask
+use Rattle.window.specs.declared.ask.DeviceRead.{DeviceRead}
 use Rattle.store_calls.specs.Asking.{AsksFor, HandsOut}
 use Rattle.store_calls.specs.Outbox.{without, writes_of, IsRun}
 use Rattle.store_calls.specs.Serving.{StaysSafe}
@@ -152,4 +152,4 @@ asks_safe old new room (ask.Write first count) filled asks =
     (run_waits old.store.medium new.store.medium first count room filled asks.2.run))
 asks_safe old new room ask.Flush filled asks =
     stays_safe old new (handed_stands old new 1 asks.0 (some_first old.store.medium.outbox Flush asks.1))
-asks_safe old new room (ask.Read home) filled asks = stays_safe old new (reads_stand old new home asks.0 asks.3)
+asks_safe old new room (ask.Read home) filled asks = stays_safe old new (reads_stand old new home asks.0 asks.2)

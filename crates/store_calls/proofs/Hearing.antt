@@ -2,12 +2,11 @@
 use Rattle.std.proofs.Common.{◌≡◌, ◌⊎◌, ◌≤◌, ◌/◌, inl, inr, [], ◌∷◌, List, ℕ, Bool, true, false, length, refl, sym, ◌∙◌, ap, subst, arith}
 use Rattle.std.specs.Prelude.{Result}
 use Rattle.std.proofs.lemmas.Bool.{false≢true}
-use Rattle.mirror.specs.declared.call.DeviceCall.{DeviceCall}
-use Rattle.window.specs.Window.{Window, state_of, moved}
-use Rattle.inlet.specs.Inlet.{AreHeld}
+use Rattle.window.specs.declared.call.DeviceCall.{DeviceCall}
+use Rattle.window.specs.Window.{Window, AreOnDevice, moved}
 use Rattle.blocks.specs.StoreValue.{Cached, is_dead, layout_of}
-use Rattle.device_calls.specs.declared.ask.DeviceRead.{DeviceRead}
-use Rattle.device_calls.specs.declared.done_fault.DoneFault.{DoneFault}
+use Rattle.window.specs.declared.ask.DeviceRead.{DeviceRead}
+use Rattle.window.specs.declared.done_fault.DoneFault.{DoneFault}
 use Rattle.store_calls.specs.Asking.{carried_out, starts_behind, read_ended, EndsRefused, IsShownBy, EndsAs, EndsRead, EndsCalls, IsHonest}
 use Rattle.store_calls.specs.Calls.{Sees}
 use Rattle.store_calls.specs.Serving.{StaysSafe, WaitsForDevice}
@@ -73,7 +72,7 @@ unread_safe old new home was is =
 
 -- the window has moved, or stayed
 shown_medium : (old new : Store) (first : ℕ) (bytes : List ℕ) (taken : Bool) → Sees first bytes taken old new
-    → AreHeld (state_of old.medium).content first (length bytes / 512) bytes
+    → AreOnDevice first bytes old.medium
     → (new.medium ≡ old.medium) ⊎ (new.medium ≡ moved old.medium first (length bytes / 512))
 shown_medium old new first bytes false sees held = inl (sees.shown.refused refl)
 shown_medium old new first bytes true sees held = inr (sees.shown.honest refl held)
@@ -90,7 +89,7 @@ alike old new first count (inr moves) = subst (λ (w : Window). IsSentAlike old 
 )
 
 shown_safe : (old new : Machine) (home : DeviceRead) (bytes : List ℕ) → old.asked ≡ asked.Read home → IsShownBy old home bytes new
-    → AreHeld (state_of old.store.medium).content home.first (length bytes / 512) bytes → StaysSafe old new
+    → AreOnDevice home.first bytes old.store.medium → StaysSafe old new
 shown_safe old new home bytes was shown held =
     let now : new.asked ≡ asked.Nothing = ap (λ (s : Machine). s.asked) shown.others in
     let sent = alike old.store.medium new.store.medium home.first (length bytes / 512)

@@ -3,10 +3,10 @@ use Rattle.std.proofs.Common.{◌≡◌, ◌≤◌, ◌++◌, ℕ, Bool, true, L
 use Rattle.std.specs.Prelude.{take, Option}
 use Rattle.std.proofs.lemmas.List.{take-append-le}
 use Rattle.medium.specs.Medium.{Image}
-use Rattle.mirror.specs.Device.{durable, after}
-use Rattle.mirror.specs.OutboxMedium.{sent, LeftSince}
-use Rattle.mirror.specs.Story.{Told, given}
-use Rattle.mirror.specs.declared.call.DeviceCall.{DeviceCall}
+use Rattle.window.specs.Device.{durable, after}
+use Rattle.window.specs.OutboxMedium.{sent, LeftSince}
+use Rattle.window.specs.Story.{Told, given}
+use Rattle.window.specs.declared.call.DeviceCall.{DeviceCall}
 use Rattle.window.specs.Window as window
 use Rattle.window.specs.Window.{Window, mirror_of}
 use Rattle.journal.specs.Places.{Shape, first_home}

@@ -1,13 +1,16 @@
 -- Calls that are none of the medium follow one another.
-use Rattle.std.proofs.Common.{◌≡◌, refl, sym, ◌∙◌, ap, subst}
+use Rattle.std.proofs.Common.{◌≡◌, inl, inr, ℕ, Bool, List, refl, sym, ◌∙◌, ap, subst}
+use Rattle.std.proofs.lemmas.Bool.{cases_Bool}
+use Rattle.medium.specs.Medium.{State}
 use Rattle.medium.specs.Moments.{IsUnchanged}
 use Rattle.medium.proofs.Moments.{unchanged, unchanged_through}
-use Rattle.window.specs.Window.{Window, state_of}
+use Rattle.window.specs.Window.{Window, state_of, AreOnDevice, IsShown}
 use Rattle.window.specs.WindowLaws.{is_sound}
 use Rattle.spec.specs.Book.{Book}
 use Rattle.blocks.specs.Passing.{IsUntouched}
 use Rattle.blocks.specs.Stopping.{stopped, stopped_store}
-use Rattle.blocks.specs.StoreValue.{FitsBook}
+use Rattle.blocks.specs.StoreValue.{Cached, FitsBook}
+use Rattle.blocks.specs.Turns.{IsTurn}
 use Rattle.blocks.proofs.TurnsJoined.{stays, turns}
 use Rattle.store_calls.specs.Outbox.{IsEmptied}
 use Rattle.store_calls.specs.Refused.{IsDrained, IsRefused}
@@ -45,4 +48,20 @@ is_refused old mid new drained is fits =
       others = is ∙ stops;
       unchanged = subst (λ (w : Window). IsUnchanged (state_of old.medium) (state_of w)) (sym same) drained.untouched.unchanged;
       fits = λ book f. fits book (drained.untouched.turn.fits book f);
+    }
+
+-- a store to whose medium sectors were shown as the device holds them
+pub shown_untouched : (old new : Store) (first : ℕ) (bytes : List ℕ) (taken : Bool) → IsShown first bytes taken old.medium new.medium
+    → new.cached ≡ old.cached → new.goes_ahead ≡ old.goes_ahead → AreOnDevice first bytes old.medium → IsUntouched state_of old new
+shown_untouched old new first bytes taken shown cached policy on =
+    let same : state_of new.medium ≡ state_of old.medium = elim (cases_Bool taken) [
+      | inl took ↦ ap (λ (w : Window). state_of w) (shown.honest took on)
+      | inr not ↦ ap (λ (w : Window). state_of w) (shown.refused not)
+    ] in
+    record {
+      unchanged = subst (λ (m : State). IsUnchanged (state_of old.medium) m) (sym same) (none_yet old).unchanged;
+      cached = cached;
+      policy = policy;
+      turn = subst (λ (m : State). IsTurn (state_of old.medium) m old.cached new.cached) (sym same)
+          (subst (λ (c : Cached). IsTurn (state_of old.medium) (state_of old.medium) old.cached c) (sym cached) (none_yet old).turn);
     }

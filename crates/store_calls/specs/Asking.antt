@@ -1,17 +1,16 @@
 -- What the device of a store is asked for, and what it tells.
-use Rattle.std.specs.Prelude.{◌≡◌, ◌≢◌, ◌⊎◌, ℕ, ◌*◌, ◌/◌, ◌<◌, Bool, true, false, List, [], ◌∷◌}
+use Rattle.std.specs.Prelude.{◌≡◌, ◌≢◌, ◌⊎◌, ℕ, ◌*◌, ◌<◌, Bool, true, false, List, [], ◌∷◌}
 use Rattle.std.specs.Prelude.{length, Option, Some, None, Result, Ok, Err}
-use Rattle.inlet.specs.Inlet.{AreHeld}
-use Rattle.mirror.specs.OutboxMedium.{first_of}
-use Rattle.mirror.specs.declared.call.DeviceCall.{DeviceCall}
-use Rattle.mirror.specs.declared.call.DeviceCall.TheVariants as call
-use Rattle.window.specs.Window.{state_of}
+use Rattle.window.specs.OutboxMedium.{first_of}
+use Rattle.window.specs.declared.call.DeviceCall.{DeviceCall}
+use Rattle.window.specs.declared.call.DeviceCall.TheVariants as call
+use Rattle.window.specs.Window.{state_of, AreOnDevice}
 use Rattle.blocks.specs.Passing.{IsUntouched}
-use Rattle.device_calls.specs.declared.ask.DeviceRead.{DeviceRead}
-use Rattle.device_calls.specs.declared.ask.DeviceAsk.{DeviceAsk}
-use Rattle.device_calls.specs.declared.ask.DeviceAsk.TheVariants as ask
-use Rattle.device_calls.specs.declared.done_fault.DoneFault.{DoneFault}
-use Rattle.device_calls.specs.declared.done_fault.DoneFault.TheVariants as fault
+use Rattle.window.specs.declared.ask.DeviceRead.{DeviceRead}
+use Rattle.window.specs.declared.ask.DeviceAsk.{DeviceAsk}
+use Rattle.window.specs.declared.ask.DeviceAsk.TheVariants as ask
+use Rattle.window.specs.declared.done_fault.DoneFault.{DoneFault}
+use Rattle.window.specs.declared.done_fault.DoneFault.TheVariants as fault
 use Rattle.store_calls.specs.Calls.{Sees}
 use Rattle.store_calls.specs.Outbox.{without, IsLongestRun, IsNoRoom}
 use Rattle.store_calls.specs.Refused.{IsRefused}
@@ -46,19 +45,19 @@ abbrev pub IsAtRest : Machine → Type 0
 IsAtRest s = (s.asked ≢ asked.Nothing)
     ⊎ ((s.store.medium.outbox ≡ []) × (to_read s.lack ≡ None))
 
--- The next of the outbox: a flush, or the longest run of writes for which the buffer has room.
--- Where none waits, the sectors that are to be read.
+-- The sectors that are to be read, before the calls that wait, even where one of these writes them.
+-- Else the next of the outbox: a flush, or the longest run of writes for which the buffer has room.
 abbrev pub AsksFor : Machine → List ℕ → DeviceAsk → Machine → List ℕ → Type 0
 AsksFor old room ask.Nothing new filled = IsAtRest old × (new ≡ old) × (filled ≡ room)
 AsksFor old room (ask.Write first count) new filled =
     HandsOut old count new × (0 < count)
     × IsLongestRun old.store.medium new.store.medium first count room filled
+    × (to_read old.lack ≡ None)
 AsksFor old room ask.Flush new filled =
     HandsOut old 1 new × (first_of old.store.medium.outbox ≡ Some call.Flush)
-    × (filled ≡ room)
+    × (filled ≡ room) × (to_read old.lack ≡ None)
 AsksFor old room (ask.Read home) new filled =
-    (old.asked ≡ asked.Nothing) × (old.store.medium.outbox ≡ [])
-    × (to_read old.lack ≡ Some home)
+    (old.asked ≡ asked.Nothing) × (to_read old.lack ≡ Some home)
     × (new ≡ record old { asked = asked.Read home }) × (filled ≡ room)
 
 -- so a device that is at no call is asked, for a buffer with room for some whole sectors
@@ -139,10 +138,11 @@ EndsAs (asked.Read home) ok old bytes result new = EndsRead home ok old bytes re
 EndsAs (asked.Refused count behind) ok old bytes result new =
     IsNotDone fault.NothingAsked old result new
 
--- the bytes are those that the device holds, where it read some
+-- the bytes are those that the device holds, where it read some: it has carried out all that left
+-- the outbox and nothing of what waits there, or all
 abbrev pub IsHonest : Machine → Bool → List ℕ → Type 0
 IsHonest s ok bytes = ok ≡ true → (home : DeviceRead) → s.asked ≡ asked.Read home
-    → AreHeld (state_of s.store.medium).content home.first (length bytes / 512) bytes
+    → AreOnDevice home.first bytes s.store.medium
 
 -- The call has ended, and each life is served on. Where the device has carried out all, each
 -- promise stands.

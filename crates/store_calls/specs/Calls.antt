@@ -1,10 +1,9 @@
 -- What each call does to a store.
 use Rattle.std.specs.Prelude.{◌≡◌, ◌≢◌, ◌⊎◌, ℕ, ◌+◌, ◌*◌, ◌/◌, ◌%◌, ◌<◌, Bool, true, false}
-use Rattle.std.specs.Prelude.{not, List, length, Result, Ok, Err}
-use Rattle.inlet.specs.Inlet.{AreHeld}
+use Rattle.std.specs.Prelude.{not, List, Result, Ok, Err}
 use Rattle.spec.specs.Blocks.{Write}
 use Rattle.journal.specs.Places.{first_home}
-use Rattle.window.specs.Window.{state_of, ComesAfter, IsShown}
+use Rattle.window.specs.Window.{state_of, ComesAfter, AreOnDevice, IsShown}
 use Rattle.spec.specs.Book.{Book, array_of, blocks_at, promised}
 use Rattle.blocks.specs.Book.{IsTransfer}
 use Rattle.blocks.specs.Passing.{KeepsStore, PassesOn, PassesPaid, IsUntouched}
@@ -135,10 +134,9 @@ pub record IsStep (work : Work) (old new : Store) : Type 0 where
 
 -- ---- the device
 
--- Sectors are shown, and taken or not. Where they are what the medium holds, the store fits what it
+-- Sectors are shown, and taken or not. Where they are what the device holds, the store fits what it
 -- fitted; where they are not, nothing but the medium has changed.
 pub record Sees (first : ℕ) (bytes : List ℕ) (taken : Bool) (old new : Store) : Type 0 where
   pub shown : IsShown first bytes taken old.medium new.medium
   pub cached : new.cached ≡ old.cached
-  pub untouched : AreHeld (state_of old.medium).content first (length bytes / 512) bytes
-      → IsUntouched state_of old new
+  pub untouched : AreOnDevice first bytes old.medium → IsUntouched state_of old new

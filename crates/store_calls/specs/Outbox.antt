@@ -2,9 +2,10 @@
 use Rattle.std.specs.Prelude.{◌≡◌, ◌≢◌, ◌⊎◌, ℕ, zero, suc, ◌+◌, ◌/◌, ◌%◌, ◌≤◌, List, [], ◌∷◌}
 use Rattle.std.specs.Prelude.{◌++◌, length, Option, Some, None}
 use Rattle.medium.specs.Writes.{sector_of}
-use Rattle.mirror.specs.declared.call.DeviceCall.{DeviceCall}
-use Rattle.mirror.specs.declared.call.DeviceCall.TheVariants.{Write, Flush}
-use Rattle.mirror.specs.OutboxMedium.{first_of}
+use Rattle.window.specs.declared.call.DeviceCall.{DeviceCall}
+use Rattle.window.specs.declared.call.DeviceCall.TheVariants.{Write}
+use Rattle.window.specs.OutboxMedium.{first_of}
+use Rattle.window.specs.Runs.{IsTo}
 use Rattle.window.specs.Window.{Window, without_first}
 
 -- this many calls leave the outbox, one by one
@@ -24,12 +25,6 @@ abbrev pub writes_of : ℕ → ℕ → List ℕ → List DeviceCall
 writes_of zero sector bytes = []
 writes_of (suc count) sector bytes = writes_of count sector bytes
     ++ Write (record { sector = sector + count; block = sector_of bytes count }) ∷ []
-
--- the call that waits first is a write to this sector
-abbrev pub IsTo : ℕ → Option DeviceCall → Type 0
-IsTo sector (Some (Write w)) = w.sector ≡ sector
-IsTo sector (Some Flush) = ⊥
-IsTo sector None = ⊥
 
 -- Of the calls count leave the outbox, one by one: writes to neighbouring sectors from this one on.
 -- Their bytes lie one behind the other, and the others in the room stay.

@@ -7,7 +7,7 @@ use Rattle.journal.specs.declared.log_format.LogFormat.{LogFormat}
 use Rattle.journal.specs.declared.log_format.LogFormat.TheVariants.{Two}
 use Rattle.medium.specs.Medium.{State}
 use Rattle.medium.specs.Writes.{sector_of}
-use Rattle.mirror.specs.Parts as mirror
+use Rattle.window.specs.Parts as mirror
 use Rattle.recovery.specs.Calls.{most_start_sends}
 use Rattle.recovery.specs.Calls as recovery
 use Rattle.recovery.specs.Recovered.{HasNoneWaiting}

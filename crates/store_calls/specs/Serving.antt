@@ -1,7 +1,7 @@
 -- What each call of a machine keeps.
 use Rattle.std.specs.Prelude.{◌≡◌, true, []}
 use Rattle.medium.specs.Medium.{Image}
-use Rattle.mirror.specs.OutboxMedium.{sent}
+use Rattle.window.specs.OutboxMedium.{sent}
 use Rattle.window.specs.Window as window
 use Rattle.window.specs.Window.{Window}
 use Rattle.spec.specs.Book.{Book}

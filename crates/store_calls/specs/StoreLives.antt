@@ -1,8 +1,8 @@
 -- Calls of a machine, one after the other, and what they keep of a life.
 use Rattle.std.specs.Prelude.{◌≡◌, ℕ, Bool, List, [], ◌∷◌, Result, Ok, Err}
 use Rattle.spec.specs.Book.{Book, with_write, write_of, promised}
-use Rattle.device_calls.specs.declared.ask.DeviceAsk.{DeviceAsk}
-use Rattle.device_calls.specs.declared.done_fault.DoneFault.{DoneFault}
+use Rattle.window.specs.declared.ask.DeviceAsk.{DeviceAsk}
+use Rattle.window.specs.declared.done_fault.DoneFault.{DoneFault}
 use Rattle.store_calls.specs.Asking.{TellsNext, Ends, IsHonest}
 use Rattle.store_calls.specs.StoreMachine.{Machine, Serves}
 use Rattle.store_calls.specs.Transfers.{Reads, Writes, Syncs, IdlesStore}

@@ -3,18 +3,18 @@
 use Rattle.std.specs.Prelude.{◌≡◌, ◌⊎◌, ℕ, ◌+◌, ◌-◌, ◌≤◌, Bool, true, false, List, [], ◌∷◌}
 use Rattle.std.specs.Prelude.{length, take, if◌then◌else◌}
 use Rattle.medium.specs.Medium.{Image, CutLeaves}
-use Rattle.mirror.specs.Device.{durable, after}
-use Rattle.mirror.specs.OutboxMedium.{sent}
-use Rattle.mirror.specs.Parts.{AreCarriedOut}
-use Rattle.mirror.specs.declared.call.DeviceCall.{DeviceCall}
+use Rattle.window.specs.Device.{durable, after}
+use Rattle.window.specs.OutboxMedium.{sent}
+use Rattle.window.specs.Parts.{AreCarriedOut}
+use Rattle.window.specs.declared.call.DeviceCall.{DeviceCall}
 use Rattle.window.specs.Window as window
 use Rattle.window.specs.Window.{mirror_of}
 use Rattle.spec.specs.Blocks.{Write}
 use Rattle.spec.specs.Book.{Book, with_write}
 use Rattle.blocks.specs.Finding.{MayFind}
 use Rattle.blocks.specs.StoreValue.{FitsBook, is_dead}
-use Rattle.device_calls.specs.declared.state.MachineState.{MachineState}
-use Rattle.device_calls.specs.declared.state.MachineState.TheVariants as state
+use Rattle.window.specs.declared.state.MachineState.{MachineState}
+use Rattle.window.specs.declared.state.MachineState.TheVariants as state
 use Rattle.store_calls.specs.Stores.{Store}
 use Rattle.store_calls.specs.declared.asked.Asked.{Asked}
 use Rattle.store_calls.specs.declared.asked.Asked.TheVariants as asked

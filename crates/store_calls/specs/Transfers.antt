@@ -6,7 +6,7 @@ use Rattle.spec.specs.Book.{Book, with_write, write_of, promised}
 use Rattle.blocks.specs.Book.{IsTransfer}
 use Rattle.blocks.specs.StoreValue.{Cached, blocks_of, transfer_limit, is_dead}
 use Rattle.blocks.specs.StoreValue.{steps_left}
-use Rattle.device_calls.specs.declared.ask.DeviceRead.{DeviceRead}
+use Rattle.window.specs.declared.ask.DeviceRead.{DeviceRead}
 use Rattle.store_calls.specs.Calls.{MayMove, IsNoSize, home_of, IsRead, IsUnread}
 use Rattle.store_calls.specs.Calls.{IsWritten, CostsWrite, SyncsStore}
 use Rattle.store_calls.specs.Asking.{to_read}

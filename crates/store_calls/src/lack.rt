@@ -1,5 +1,5 @@
 //! What the device of a store is to read, and what became of it.
-use device_calls::DeviceRead;
+use window::DeviceRead;
 
 /// The sectors that a read lacks.
 #[derive(Clone, Copy, Debug, PartialEq, Eq)]

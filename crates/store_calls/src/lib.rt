@@ -31,6 +31,5 @@ pub use laws::store_laws;
 pub use machine::StoreMachine;
 pub use machine_start::begin_machine;
 pub use parts::Parts;
-pub use run::block_for;
 pub use sizes::Sizes;
 pub use store_fault::StoreFault;

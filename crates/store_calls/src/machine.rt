@@ -8,9 +8,7 @@ use crate::asked::Asked;
 use crate::lack::Lack;
 use crate::sizes::Sizes;
 use blocks::Store;
-use device_calls::MachineState;
-use mirror::device_laws;
-use window::WindowMedium;
+use window::{MachineState, WindowMedium, device_laws};
 
 /// A store that says what its device is to do next, one call at a time. What it is asked for is
 /// done where the device has carried out all that it was told, or needs no call of it.

@@ -9,8 +9,7 @@ ghost use Rattle.store_calls.specs.Calls.{IsRead, IsUnread, home_of};
 use crate::CallFault;
 use blocks::Store;
 use medium::Medium;
-use mirror::device_laws;
-use window::WindowMedium;
+use window::{WindowMedium, device_laws};
 
 /// How many bytes a block has.
 pub(crate) const BLOCK: usize = 512;

@@ -9,9 +9,8 @@ ghost use Rattle.window.specs.declared.window.WindowError.TheVariants as error;
 use crate::CallFault;
 use crate::room::has_little_room;
 use blocks::{StartFault, Store};
-use mirror::device_laws;
 use std::alloc::Global;
-use window::{DeviceHolds, WindowError, WindowMedium};
+use window::{DeviceHolds, WindowError, WindowMedium, device_laws};
 
 /// A medium of a device of `sectors` sectors, of which these are the first.
 ///

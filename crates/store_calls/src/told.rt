@@ -9,7 +9,7 @@ use crate::machine::StoreMachine;
 use crate::outbox::show_sectors;
 use crate::reading::BLOCK;
 use crate::refused::refuse;
-use device_calls::{DeviceRead, DoneFault};
+use window::{DeviceRead, DoneFault};
 
 impl StoreMachine {
     /// What the device was asked for last has ended, good or not; of a read these are the bytes of

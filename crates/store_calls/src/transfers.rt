@@ -2,7 +2,7 @@
 ghost use Rattle.std.specs.Prelude.{◌≡◌, ◌≢◌, ◌↔◌, ◌/◌, true, [], length};
 ghost use Rattle.std.specs.Prelude.{IsTrue, OnOk, IfErr, MatchResult};
 ghost use Rattle.spec.specs.Book.{write_of};
-ghost use Rattle.device_calls.specs.declared.ask.DeviceRead.{DeviceRead};
+ghost use Rattle.window.specs.declared.ask.DeviceRead.{DeviceRead};
 ghost use Rattle.store_calls.specs.Calls.{MayMove, CostsWrite, home_of};
 ghost use Rattle.store_calls.specs.Rooms.{AreInSight};
 ghost use Rattle.store_calls.specs.Serving.{Rests};
@@ -19,7 +19,7 @@ use crate::machine::StoreMachine;
 use crate::reading::{BLOCK, may_move, read_seen, unseen};
 use crate::store_fault::StoreFault;
 use crate::writing::{put_blocks, sync_store};
-use device_calls::DeviceRead;
+use window::DeviceRead;
 
 impl StoreMachine {
     /// Reads 1 to `limit` blocks from a block on, as they are after all accepted writes.

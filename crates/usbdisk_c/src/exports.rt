@@ -41,16 +41,11 @@ pub extern "C" fn usbdisk_stop(alloc: Global, disk: &mut UsbDisk) -> u32
 }
 
 #[unsafe(no_mangle)]
-pub extern "C" fn usbdisk_next(
-    alloc: Global,
-    disk: &mut UsbDisk,
-    call: &mut UsbDiskCall,
-    buffer: &mut [u8],
-) -> u32
+pub extern "C" fn usbdisk_next(disk: &mut UsbDisk, call: &mut UsbDiskCall, buffer: &mut [u8]) -> u32
     ensures { InHandle (HandsOut call.old buffer.old call.new buffer.new)
         ((call.new ≡ call.old) × (buffer.new ≡ buffer.old)) disk.old.held disk.new.held result }
 {
-    calls::next_call(alloc, disk, call, buffer)
+    calls::next_call(disk, call, buffer)
 }
 
 // Whatever the device holds behind the first sectors: the contract holds for each content.
@@ -64,9 +59,9 @@ pub extern "C" fn usbdisk_done(alloc: Global, disk: &mut UsbDisk, ok: bool, byte
 }
 
 #[unsafe(no_mangle)]
-pub extern "C" fn usbdisk_state(alloc: Global, disk: &mut UsbDisk, fault: &mut u32) -> u32
+pub extern "C" fn usbdisk_state(disk: &mut UsbDisk, fault: &mut u32) -> u32
     ensures { InHandle (TellsState fault.new) (fault.new ≡ fault.old)
         disk.old.held disk.new.held result }
 {
-    calls::tell_state(alloc, disk, fault)
+    calls::tell_state(disk, fault)
 }

@@ -1,7 +1,7 @@
 //! The export that tells what image a device has, from its first sector.
-ghost use Rattle.disk_calls.specs.Layouts.{TellsLayout};
+ghost use Rattle.disk_machine.specs.Layouts.{TellsLayout};
 
-use disk_calls::{ACK, UsbDiskLayout, layout_of, super_code};
+use disk_machine::{ACK, UsbDiskLayout, layout_of, super_code};
 use journal::Super;
 
 #[unsafe(no_mangle)]

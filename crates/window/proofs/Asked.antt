@@ -8,12 +8,12 @@ use Rattle.medium.specs.Medium.{Passes, Stays, Within}
 use Rattle.medium.specs.Tally.{Tally, of_kind, one_more}
 use Rattle.medium.specs.declared.fault.MediumFault.{MediumFault}
 use Rattle.medium.specs.declared.fault.MediumFault.TheVariants as fault
-use Rattle.mirror.specs.OutboxMedium as mirror
-use Rattle.mirror.specs.OutboxMedium.{OutboxMedium}
-use Rattle.mirror.specs.Story as story
-use Rattle.mirror.specs.declared.call.DeviceCall.{DeviceCall}
-use Rattle.mirror.specs.declared.call.DeviceCall.TheVariants.{Write, Flush}
-use Rattle.mirror.proofs.Asked.{one_moment_more, read_passes, quiet_content, quiet_sets}
+use Rattle.window.specs.OutboxMedium as mirror
+use Rattle.window.specs.OutboxMedium.{OutboxMedium}
+use Rattle.window.specs.Story as story
+use Rattle.window.specs.declared.call.DeviceCall.{DeviceCall}
+use Rattle.window.specs.declared.call.DeviceCall.TheVariants.{Write, Flush}
+use Rattle.window.proofs.OutboxCalls.{one_moment_more, read_passes, quiet_content, quiet_sets}
 use Rattle.window.specs.Seen.{Seen, gave}
 use Rattle.window.proofs.SectorsRead.{as_seen}
 use Rattle.window.specs.Window.{Window, mirror_of, state_of, is_in_sight, reads, misses, gives, refuses, ComesAfter}

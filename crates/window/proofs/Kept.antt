@@ -4,18 +4,17 @@ use Rattle.std.proofs.Common.{replicate, refl, sym, ◌∙◌, ap, subst, arith}
 use Rattle.std.proofs.Common.{length-append, append_assoc, deque_capacity}
 use Rattle.std.proofs.lemmas.Bool.{cases_Bool, and_parts}
 use Rattle.std.proofs.lemmas.List.Folds.{list_all-append}
-use Rattle.std.specs.List.{list_all}
 use Rattle.std.proofs.lemmas.List.{length-take, length-replicate}
 use Rattle.medium.specs.Writes.{sector_of}
-use Rattle.mirror.specs.Device.{carried_out}
-use Rattle.mirror.specs.Story.{Told, given, is_whole, are_whole}
-use Rattle.mirror.specs.OutboxMedium.{device_of, size_of}
-use Rattle.mirror.specs.MirrorLaws.{is_sound, size_whole}
-use Rattle.mirror.specs.declared.call.DeviceCall.{DeviceCall}
-use Rattle.mirror.proofs.Asked.{given_some, whole_more, given_content}
-use Rattle.mirror.proofs.Kept.{IsQuiet, same_given, same_content}
-use Rattle.window.specs.Seen.{Seen, begun, gave, shown, opened, filled, agrees, spares, reborn}
-use Rattle.window.specs.Window.{mirror_of, lies_in}
+use Rattle.window.specs.Device.{carried_out}
+use Rattle.window.specs.Story.{Told, given, is_whole, are_whole}
+use Rattle.window.specs.OutboxMedium.{device_of, size_of}
+use Rattle.window.specs.MirrorLaws.{is_sound, size_whole}
+use Rattle.window.specs.declared.call.DeviceCall.{DeviceCall}
+use Rattle.window.proofs.OutboxCalls.{given_some, whole_more, given_content}
+use Rattle.window.proofs.Quiet.{IsQuiet, same_given, same_content}
+use Rattle.window.specs.Seen.{Seen, begun, gave, shown, opened, filled, agrees, reborn}
+use Rattle.window.specs.Window.{mirror_of, lies_in, laid_over}
 use Rattle.window.specs.WindowView.{view_of, Invariant}
 use Rattle.window.specs.declared.window.WindowMedium.TheInside.{Inside}
 use Rattle.window.proofs.Shown.{agrees_if, length_of_less, agrees_means, overlaid_there, overlaid_below, overlaid_beside}
@@ -117,7 +116,8 @@ sized m kept s lt =
 
 module _ (m n : Inside) (kept : Invariant m) (outbox : n.outbox ≡ m.outbox) (room : n.room ≡ m.room) (near : n.near ≡ m.near)
     (size : n.size ≡ m.size)
-    (spared : list_all (spares n.pane.from n.pane.held) m.outbox.items ≡ true)
+    (was : ℕ → List ℕ)
+    (laid : (i : ℕ) → i < n.pane.held → sector_of n.pane.sectors.bytes.items i ≡ laid_over m.outbox.items (n.pane.from + i) (was i))
     (seen : n.story.seen ≡ shown m.story.seen n.pane.from n.pane.held n.pane.sectors.bytes.items)
     (fits : 512 * n.pane.held ≤ length n.pane.sectors.bytes.items) (inside : n.pane.from + n.pane.held ≤ m.size)
     (after : length m.near.bytes.items / 512 ≤ n.pane.from) where
@@ -189,7 +189,7 @@ module _ (m n : Inside) (kept : Invariant m) (outbox : n.outbox ≡ m.outbox) (r
   there i lt = elim (cases_Bool (agrees (device_of old).content first count bytes)) [
     | inl alike ↦ agrees_means (device_of old).content first count bytes alike i lt
         ∙ ap (λ (t : Seen). (device_of t.told).content (first + i)) (sym (as_thought alike))
-    | inr unlike ↦ sym (reborn_content old m.outbox.items kept.well_formed.mirror.all_sent first count bytes spared whole
+    | inr unlike ↦ sym (reborn_content old m.outbox.items kept.well_formed.mirror.all_sent first count bytes was laid whole
         (sized m kept) fits (first + i)
         (omega (arith, kept.size_is, inside, lt)) ∙ overlaid_there (device_of old).content first count bytes i lt)
         ∙ ap (λ (t : Seen). (device_of t.told).content (first + i)) (sym (anew unlike))
@@ -201,7 +201,7 @@ module _ (m n : Inside) (kept : Invariant m) (outbox : n.outbox ≡ m.outbox) (r
   beside s lt other = elim (cases_Bool (agrees (device_of old).content first count bytes)) [
     | inl alike ↦ ap (λ (t : Seen). (device_of t.told).content s) (as_thought alike)
     | inr unlike ↦ ap (λ (t : Seen). (device_of t.told).content s) (anew unlike)
-        ∙ reborn_content old m.outbox.items kept.well_formed.mirror.all_sent first count bytes spared whole (sized m kept) fits s
+        ∙ reborn_content old m.outbox.items kept.well_formed.mirror.all_sent first count bytes was laid whole (sized m kept) fits s
         (omega (arith, size_whole old kept.well_formed.mirror.whole_writes, lt))
         ∙ overlaid_beside (device_of old).content first count bytes s other
   ]
@@ -211,16 +211,17 @@ module _ (m n : Inside) (kept : Invariant m) (outbox : n.outbox ≡ m.outbox) (r
     | inl alike ↦ kept_as old (ap (λ (t : Seen). t.told) (as_thought alike)) refl kept.well_formed.mirror.all_sent
         kept.well_formed.mirror.whole_writes (λ s lt. refl) (agrees_means (device_of old).content first count bytes alike)
     | inr unlike ↦ kept_as (reborn old first count bytes) (ap (λ (t : Seen). t.told) (anew unlike))
-        (reborn_length old m.outbox.items kept.well_formed.mirror.all_sent first count bytes spared whole (sized m kept) fits)
-        (reborn_given old m.outbox.items kept.well_formed.mirror.all_sent first count bytes spared whole (sized m kept) fits)
-        (ap are_whole (reborn_given old m.outbox.items kept.well_formed.mirror.all_sent first count bytes spared whole (sized m kept) fits)
+        (reborn_length old m.outbox.items kept.well_formed.mirror.all_sent first count bytes was laid whole (sized m kept) fits)
+        (reborn_given old m.outbox.items kept.well_formed.mirror.all_sent first count bytes was laid whole (sized m kept) fits)
+        (ap are_whole
+        (reborn_given old m.outbox.items kept.well_formed.mirror.all_sent first count bytes was laid whole (sized m kept) fits)
         ∙ (and_parts (are_whole old.taken) (are_whole m.outbox.items)
         (sym (list_all-append is_whole old.taken m.outbox.items) ∙ ap are_whole (sym kept.well_formed.mirror.all_sent)
         ∙ kept.well_formed.mirror.whole_writes)).1)
-        (λ s lt. reborn_content old m.outbox.items kept.well_formed.mirror.all_sent first count bytes spared whole (sized m kept) fits s
+        (λ s lt. reborn_content old m.outbox.items kept.well_formed.mirror.all_sent first count bytes was laid whole (sized m kept) fits s
         (omega (arith, lt, kept.well_formed.near))
         ∙ overlaid_below (device_of old).content first count bytes s (omega (arith, lt, after)))
-        (λ i lt. sym (reborn_content old m.outbox.items kept.well_formed.mirror.all_sent first count bytes spared whole
+        (λ i lt. sym (reborn_content old m.outbox.items kept.well_formed.mirror.all_sent first count bytes was laid whole
         (sized m kept) fits (first + i)
         (omega (arith, kept.size_is, inside, lt)) ∙ overlaid_there (device_of old).content first count bytes i lt))
   ]

@@ -4,10 +4,10 @@ use Rattle.std.proofs.lemmas.List.Elements.{All-nil, All-cons}
 use Rattle.medium.specs.Medium.{Passes, LooksOnly}
 use Rattle.medium.specs.declared.fault.MediumFault.{MediumFault}
 use Rattle.medium.specs.declared.fault.MediumFault.TheVariants as fault
-use Rattle.mirror.specs.OutboxMedium as mirror
-use Rattle.mirror.specs.Story.{kind_of, given, are_whole, is_whole}
-use Rattle.mirror.specs.declared.call.DeviceCall.{DeviceCall}
-use Rattle.mirror.proofs.Asked as asked
+use Rattle.window.specs.OutboxMedium as mirror
+use Rattle.window.specs.Story.{kind_of, given, are_whole, is_whole}
+use Rattle.window.specs.declared.call.DeviceCall.{DeviceCall}
+use Rattle.window.proofs.OutboxCalls as asked
 use Rattle.window.specs.Window.{Window, mirror_of, state_of, reads, misses, gives, refuses}
 
 -- what a call is counted as does not depend on what reads name

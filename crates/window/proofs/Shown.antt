@@ -3,19 +3,19 @@ use Rattle.std.proofs.Common.{◌≡◌, ◌⊎◌, inl, inr, ℕ, zero, suc, �
 use Rattle.std.proofs.Common.{◌++◌}
 use Rattle.std.proofs.Common.{length, take, drop, refl, sym, ◌∙◌, ap, subst, arith, length-append, ◌==◌}
 use Rattle.std.proofs.Common.{min, Option, Some, None}
-use Rattle.std.specs.List.{list_all}
 use Rattle.std.proofs.lemmas.Bool.{cases_lt, and_parts}
 use Rattle.std.proofs.lemmas.Bool.Decides.{eqb_tells, nat_tests}
 use Rattle.std.proofs.lemmas.List.{take_all, drop_all, take-append-le, drop-append-le, length-take, length-drop}
-use Rattle.medium.specs.Medium.{Image, Holds}
+use Rattle.medium.specs.Medium.{Image}
 use Rattle.medium.specs.Writes.{sector_of}
-use Rattle.mirror.specs.Device.{Device, put, durable, carried_out, after}
-use Rattle.mirror.specs.Story.{Told, given}
-use Rattle.mirror.specs.OutboxMedium.{device_of}
-use Rattle.mirror.specs.declared.call.DeviceCall.{DeviceCall}
-use Rattle.mirror.specs.declared.call.DeviceCall.TheVariants.{Write, Flush}
-use Rattle.mirror.proofs.Asked.{after-append}
-use Rattle.window.specs.Seen.{same, agrees, overlaid, lies_in, bytes_of, spares, with_less, reborn}
+use Rattle.window.specs.Device.{Device, durable, carried_out, after}
+use Rattle.window.specs.Story.{Told, given}
+use Rattle.window.specs.OutboxMedium.{device_of}
+use Rattle.window.specs.declared.call.DeviceCall.{DeviceCall}
+use Rattle.window.specs.declared.call.DeviceCall.TheVariants.{Write, Flush}
+use Rattle.window.proofs.OutboxCalls.{after-append}
+use Rattle.window.specs.Seen.{same, agrees, overlaid, lies_in, bytes_of, with_less, reborn}
+use Rattle.window.specs.Window.{holding, laid_over}
 
 same_self : (xs : List ℕ) → same xs xs ≡ true
 same_self [] = refl
@@ -112,26 +112,15 @@ lies first count s = elim (cases_lt s first) [
   ]
 ]
 
-pub lies_from : (first count s : ℕ) → lies_in first count s ≡ true → (first ≤ s) × (s < first + count)
-lies_from first count s is = elim (lies first count s) [
-  | inl here ↦ (here.1, here.2)
-  | inr other ↦ absurd (cc (is, other.0))
-]
-
--- a sector of a window that was written is as the device has it
-pub shifted : (from s : ℕ) (block : List ℕ) (old new image : Image) → from ≤ s → Holds (s - from) block old new
-    → (i : ℕ) → old i ≡ image (from + i) → new i ≡ put s block image (from + i)
-shifted from s block old new image le holds i same = elim (eqb_tells (from + i) s) [
-  | inl here ↦ let e : i ≡ s - from = omega (arith, le, here.1) in rw here.0 (ap new e ∙ holds.here)
-  | inr other ↦ rw other.0 (holds.elsewhere i (λ e. other.1 (omega (arith, le, e))) ∙ same)
-]
-
 module _ (image : Image) (first count : ℕ) (bytes : List ℕ) where
   pub overlaid_there : (i : ℕ) → i < count → overlaid image first count bytes (first + i) ≡ sector_of bytes i
   overlaid_there i lt = elim (lies first count (first + i)) [
     | inl here ↦ rw here.0 (ap (sector_of bytes) (omega arith))
     | inr other ↦ absurd (elim other.1 [ inl below ↦ omega (arith, below) | inr above ↦ omega (arith, lt, above) ])
   ]
+
+  overlaid_here : (s : ℕ) → lies_in first count s ≡ true → overlaid image first count bytes s ≡ sector_of bytes (s - first)
+  overlaid_here s here = rw here refl
 
   pub overlaid_beside : (s : ℕ) → lies_in first count s ≡ false → overlaid image first count bytes s ≡ image s
   overlaid_beside s other = rw other refl
@@ -152,24 +141,7 @@ module _ (image : Image) (first count : ℕ) (bytes : List ℕ) where
 
 -- ---- calls that are carried out
 
--- where none is a write to some sectors, they stay as they are
-pub stay_as_they_are : (d : Device) (calls : List DeviceCall) (first count s : ℕ) → list_all (spares first count) calls ≡ true
-    → lies_in first count s ≡ true → (after d calls).content s ≡ d.content s
-stay_as_they_are d [] first count s spared is = refl
-stay_as_they_are d (Write w ∷ calls) first count s spared is =
-    let parts = and_parts (spares first count (Write w)) (list_all (spares first count) calls) spared in
-    elim (eqb_tells s w.sector) [
-      | inl here ↦
-          let touched : spares first count (Write w) ≡ false = rw (sym here.1) (rw is refl) in
-          absurd (cc (parts.0, touched))
-      | inr other ↦
-          let beside : (carried_out d (Write w)).content s ≡ d.content s = rw other.0 refl in
-          stay_as_they_are (carried_out d (Write w)) calls first count s parts.1 is ∙ beside
-    ]
-stay_as_they_are d (Flush ∷ calls) first count s spared is =
-    stay_as_they_are (carried_out d Flush) calls first count s
-    (and_parts (spares first count Flush) (list_all (spares first count) calls) spared).1 is
-
+-- a sector is as they leave it, whatever the others are
 same_behind : (d e : Device) (calls : List DeviceCall) (s : ℕ) → e.content s ≡ d.content s
     → (after e calls).content s ≡ (after d calls).content s
 same_behind d e [] s same = same
@@ -187,19 +159,31 @@ carried_out_again d e (Write w ∷ calls) s same = elim (eqb_tells s w.sector) [
 ]
 carried_out_again d e (Flush ∷ calls) s same = carried_out_again (carried_out d Flush) (carried_out e Flush) calls s same
 
+-- one call more
+pub laid_on : (calls : List DeviceCall) (call : DeviceCall) (s : ℕ) (bytes : List ℕ)
+    → laid_over (calls ++ call ∷ []) s bytes ≡ laid_over (call ∷ []) s (laid_over calls s bytes)
+laid_on calls call s bytes =
+    ap (λ (d : Device). d.content s) (after-append (holding bytes) calls (call ∷ []))
+    ∙ sym (same_behind (after (holding bytes) calls) (holding (laid_over calls s bytes)) (call ∷ []) s refl)
+
 module _ (t : Told) (waits : List DeviceCall) (sent : given t.asked ≡ t.taken ++ waits) where
   thought : (s : ℕ) → (device_of t).content s ≡ (after (after (durable t.opening) t.taken) waits).content s
   thought s = ap (λ (calls : List DeviceCall). (after (durable t.opening) calls).content s) sent
       ∙ ap (λ (d : Device). d.content s) (after-append (durable t.opening) t.taken waits)
 
-  -- a device that has carried out what was taken holds what the medium does, where no write waits
-  pub holds_already : (first count s : ℕ) → list_all (spares first count) waits ≡ true → lies_in first count s ≡ true
-      → (after (durable t.opening) t.taken).content s ≡ (device_of t).content s
-  holds_already first count s spared is =
-      sym (thought s ∙ stay_as_they_are (after (durable t.opening) t.taken) waits first count s spared is)
+  -- what waits laid over what a device holds that has carried out what was taken
+  pub laid_so_far : (s : ℕ) (bytes : List ℕ) → bytes ≡ (after (durable t.opening) t.taken).content s
+      → laid_over waits s bytes ≡ (device_of t).content s
+  laid_so_far s bytes same = same_behind (after (durable t.opening) t.taken) (holding bytes) waits s same ∙ sym (thought s)
+
+  -- and over what one holds that has carried out all
+  pub laid_again : (s : ℕ) (bytes : List ℕ) → bytes ≡ (device_of t).content s → laid_over waits s bytes ≡ (device_of t).content s
+  laid_again s bytes same =
+      carried_out_again (after (durable t.opening) t.taken) (holding bytes) waits s (same ∙ thought s) ∙ sym (thought s)
 
 module _ (t : Told) (waits : List DeviceCall) (sent : given t.asked ≡ t.taken ++ waits)
-    (first count : ℕ) (bytes : List ℕ) (spared : list_all (spares first count) waits ≡ true) (whole : length t.opening % 512 ≡ 0)
+    (first count : ℕ) (bytes : List ℕ) (was : ℕ → List ℕ)
+    (laid : (i : ℕ) → i < count → sector_of bytes i ≡ laid_over waits (first + i) (was i)) (whole : length t.opening % 512 ≡ 0)
     (sized : AreWhole (length t.opening / 512) (device_of t).content) (fits : 512 * count ≤ length bytes) where
   abbrev image : Image
   image = overlaid (device_of t).content first count bytes
@@ -222,8 +206,12 @@ module _ (t : Told) (waits : List DeviceCall) (sent : given t.asked ≡ t.taken 
   reborn_content s lt =
       ap (λ calls. (after (durable (reborn t first count bytes).opening) calls).content s) reborn_given
       ∙ elim (lies first count s) [
-        | inl here ↦ stay_as_they_are (durable (reborn t first count bytes).opening) waits first count s spared here.0
-            ∙ opened s lt
+        | inl here ↦
+            let before : image s ≡ laid_over waits s (was (s - first)) =
+            overlaid_here (device_of t).content first count bytes s here.0 ∙ laid (s - first) (omega (arith, here.1, here.2))
+            ∙ ap (λ (k : ℕ). laid_over waits k (was (s - first))) (omega (arith, here.1)) in
+            carried_out_again (holding (was (s - first))) (durable (reborn t first count bytes).opening) waits s
+            (opened s lt ∙ before) ∙ sym before
         | inr other ↦
             let before = overlaid_beside (device_of t).content first count bytes s other.0 ∙ thought t waits sent s in
             carried_out_again (after (durable t.opening) t.taken) (durable (reborn t first count bytes).opening) waits s

@@ -8,11 +8,10 @@ use Rattle.medium.specs.Medium.{Image}
 use Rattle.medium.specs.Tally.{one_more}
 use Rattle.medium.specs.Writes.{sector_of}
 use Rattle.medium.specs.declared.fault.MediumFault.TheVariants as fault
-use Rattle.mirror.specs.Story as story
-use Rattle.mirror.specs.Story.{Told}
-use Rattle.mirror.specs.OutboxMedium.{device_of}
-use Rattle.mirror.specs.declared.call.DeviceCall.{DeviceCall}
-use Rattle.mirror.specs.declared.call.DeviceCall.TheVariants.{Write, Flush}
+use Rattle.window.specs.Story as story
+use Rattle.window.specs.Story.{Told}
+use Rattle.window.specs.OutboxMedium.{device_of}
+use Rattle.window.specs.declared.call.DeviceCall.{DeviceCall}
 
 pub record Seen : Type 0 where
   -- as a medium that has all bytes in memory tells it
@@ -76,11 +75,6 @@ abbrev pub bytes_of : ℕ → Image → List ℕ
 bytes_of zero image = []
 bytes_of (suc count) image = bytes_of count image ++ image count
 
--- whether a call is no write to one of these sectors
-abbrev pub spares : ℕ → ℕ → DeviceCall → Bool
-spares first count (Write w) = if lies_in first count w.sector then false else true
-spares first count Flush = true
-
 -- these calls, of which so many that gave something to the device gave nothing
 abbrev pub with_less : ℕ → List (Option DeviceCall) → List (Option DeviceCall)
 with_less count [] = []
@@ -88,8 +82,9 @@ with_less count (None ∷ calls) = None ∷ with_less count calls
 with_less zero (Some call ∷ calls) = Some call ∷ with_less zero calls
 with_less (suc count) (Some call ∷ calls) = None ∷ with_less count calls
 
--- A device that holds what is shown, and else what was thought: it begins anew, and is still to
--- carry out what waits. Of a device that keeps what it holds it is never made.
+-- A device that holds these bytes, and else what was thought: it begins anew, and is still to carry
+-- out what waits. The bytes are those that were shown with what waits laid over, so that it holds
+-- the same when it has. Of a device that keeps what it holds it is never made.
 abbrev pub reborn : Told → ℕ → ℕ → List ℕ → Told
 reborn t first count bytes = record t {
   opening = bytes_of (length t.opening / 512) (overlaid (device_of t).content first count bytes);
@@ -97,7 +92,8 @@ reborn t first count bytes = record t {
   taken = [];
 }
 
--- Sectors that were shown change nothing, where the device holds what was thought.
+-- Sectors that were shown change nothing, where they hold, with what waits laid over, what was
+-- thought.
 abbrev pub shown : Seen → ℕ → ℕ → List ℕ → Seen
 shown t first count bytes =
     if agrees (device_of t.told).content first count bytes then t

@@ -3,15 +3,16 @@ use Rattle.std.specs.Prelude.{◌+◌, ◌*◌, ◌/◌, ◌%◌, ◌≡◌, ◌
 use Rattle.std.specs.Prelude.{List, [], ◌∷◌, ◌++◌}
 use Rattle.std.specs.Prelude.{length, Option, ◌||◌, nat_lt, IsTrue}
 use Rattle.std.specs.List.{list_all}
-use Rattle.medium.specs.Medium.{State}
+use Rattle.medium.specs.Medium.{State, Image}
 use Rattle.medium.specs.Sent.{sent}
 use Rattle.medium.specs.Tally.{Tally}
-use Rattle.inlet.specs.Inlet.{AreHeld}
-use Rattle.mirror.specs.OutboxMedium as mirror
-use Rattle.mirror.specs.OutboxMedium.{OutboxMedium}
-use Rattle.mirror.specs.Device.{Device, durable, after}
-use Rattle.mirror.specs.Story.{given}
-use Rattle.mirror.specs.declared.call.DeviceCall.{DeviceCall}
+use Rattle.medium.specs.Writes.{sector_of}
+use Rattle.medium.specs.Inlet.{AreHeld}
+use Rattle.window.specs.OutboxMedium as mirror
+use Rattle.window.specs.OutboxMedium.{OutboxMedium}
+use Rattle.window.specs.Device.{Device, durable, after}
+use Rattle.window.specs.Story.{given}
+use Rattle.window.specs.declared.call.DeviceCall.{DeviceCall}
 use Rattle.window.specs.Seen as seen
 use Rattle.window.specs.Seen.{Seen}
 
@@ -131,40 +132,48 @@ pub record IsWellFormed (w : Window) : Type 0 where
   pub held : w.held ≤ w.span
   pub behind : w.near ≤ w.from ⊎ (w.held ≡ 0)
 
--- no write to one of these sectors waits in the outbox
-abbrev pub are_spared : Window → ℕ → ℕ → Bool
-are_spared m first count = list_all (seen.spares first count) m.outbox
-
 -- the device as it is when it has carried out what was taken out of the outbox, and nothing else
 abbrev pub device_so_far : Window → Device
 device_so_far m = after (durable m.seen.told.opening) m.seen.told.taken
 
--- it holds in these sectors what the medium does
-abbrev pub AgreesOn : ℕ → ℕ → Window → Type 0
-AgreesOn first count m = (s : ℕ) → lies_in first count s ≡ true
-    → (device_so_far m).content s ≡ (state_of m).content s
+-- the device holds these bytes from this sector on: it has carried out what was taken out of the
+-- outbox and nothing else, or all
+abbrev pub AreOnDevice : ℕ → List ℕ → Window → Type 0
+AreOnDevice first bytes m = AreHeld (device_so_far m).content first (length bytes / 512) bytes
+    ⊎ AreHeld (state_of m).content first (length bytes / 512) bytes
 
--- these bytes may be shown from this sector on: no write to one of the sectors waits in the outbox,
--- and they are whole sectors, no more than there is room for, all of the device and behind the
--- first ones
+-- a device that holds these bytes in each sector
+abbrev pub holding : List ℕ → Device
+holding bytes = record { content = λ s. bytes; may_leave = λ s c. c ≡ bytes }
+
+-- what a sector that held these bytes holds when these calls are carried out
+abbrev pub laid_over : List DeviceCall → ℕ → List ℕ → List ℕ
+laid_over calls s bytes = (after (holding bytes) calls).content s
+
+-- the image is what count sectors from `first` on hold, which held these bytes, when these calls
+-- are carried out
+abbrev pub AreLaidOver : List DeviceCall → ℕ → ℕ → List ℕ → Image → Type 0
+AreLaidOver calls first count bytes image = (i : ℕ) → i < count
+    → image (first + i) ≡ laid_over calls (first + i) (sector_of bytes i)
+
+-- these bytes may be shown from this sector on: they are whole sectors, no more than there is room
+-- for, all of the device and behind the first ones
 abbrev pub HasPlace : ℕ → List ℕ → Window → Type 0
 HasPlace first bytes m =
-    (are_spared m first (length bytes / 512) ≡ true)
-    × (length bytes % 512 ≡ 0) × (length bytes / 512 ≤ m.span)
+    (length bytes % 512 ≡ 0) × (length bytes / 512 ≤ m.span)
     × (m.near ≤ first) × (512 * first + length bytes ≤ length m.seen.told.opening)
 
--- Sectors were shown, and taken or not. Where they are what was thought, nothing but the window has
--- changed; where they are not, the medium is one of a device that holds them. Whatever they are,
--- each other sector, those of the log among them, holds what it held, and what waits for the device
--- stays.
+-- Sectors were shown, and taken or not. Where they are what the device holds, nothing but the
+-- window has changed; where they are not, the medium is one of a device that held them, and has
+-- carried out what waits. Whatever they are, each other sector, those of the log among them, holds
+-- what it held, and what waits for the device stays.
 pub record IsShown (first : ℕ) (bytes : List ℕ) (taken : Bool) (old new : Window) : Type 0 where
   pub refused : taken ≡ false → new ≡ old
   pub fits : IsTrue taken ↔ HasPlace first bytes old
-  pub honest : taken ≡ true → AreHeld (state_of old).content first (length bytes / 512) bytes
+  pub honest : taken ≡ true → AreOnDevice first bytes old
       → new ≡ moved old first (length bytes / 512)
-  -- what was thought is what the device held before it carries out what waits
-  pub agrees : taken ≡ true → AgreesOn first (length bytes / 512) old
-  pub content : taken ≡ true → AreHeld (state_of new).content first (length bytes / 512) bytes
+  pub content : taken ≡ true
+      → AreLaidOver old.outbox first (length bytes / 512) bytes (state_of new).content
   pub beside : taken ≡ true → (s : ℕ) → s < (state_of old).size
       → lies_in first (length bytes / 512) s ≡ false
       → (state_of new).content s ≡ (state_of old).content s

@@ -7,10 +7,10 @@ use Rattle.std.proofs.lemmas.List.{append-nil}
 use Rattle.std.proofs.lemmas.Bool.{and_parts, cases_lt}
 use Rattle.std.proofs.lemmas.List.Folds.{list_all-append}
 use Rattle.medium.specs.Medium.{IsSound}
-use Rattle.mirror.specs.MirrorLaws as mirror
-use Rattle.mirror.specs.MirrorLaws.{given-append}
-use Rattle.mirror.specs.Story.{given}
-use Rattle.mirror.specs.declared.call.DeviceCall.{DeviceCall}
+use Rattle.window.specs.MirrorLaws as mirror
+use Rattle.window.specs.MirrorLaws.{given-append}
+use Rattle.window.specs.Story.{given}
+use Rattle.window.specs.declared.call.DeviceCall.{DeviceCall}
 use Rattle.window.specs.Window.{Window, mirror_of, state_of, is_in_sight, kept_out, ComesAfter}
 
 pub is_sound : (w : Window) → IsSound (state_of w)

@@ -2,7 +2,7 @@
 use Rattle.std.specs.Prelude.{◌≡◌, ◌≤◌, ◌<◌, ◌*◌, ◌/◌, ◌+◌, ℕ, length}
 use Rattle.std.specs.VecDeque.{deque_capacity}
 use Rattle.medium.specs.Writes.{sector_of}
-use Rattle.mirror.specs.OutboxMedium.{device_of}
+use Rattle.window.specs.OutboxMedium.{device_of}
 use Rattle.window.specs.Window.{Window, IsWellFormed}
 use Rattle.window.specs.declared.window.WindowMedium.TheInside.{Inside}
 

@@ -3,19 +3,18 @@ ghost use Rattle.std.specs.Prelude.{◌≡◌, ◌≢◌, ◌⊎◌, ◌+◌, �
 ghost use Rattle.std.specs.Prelude.{true, false, IfOk, IsErrOf, IsTrue};
 ghost use Rattle.medium.specs.Moments.{IsFlushed};
 ghost use Rattle.medium.specs.Writes.{sector_of};
-ghost use Rattle.mirror.specs.OutboxMedium.{first_of};
+ghost use Rattle.window.specs.OutboxMedium.{first_of};
+ghost use Rattle.window.specs.Runs.{CopiesFirst};
 ghost use Rattle.window.specs.Window.{Window, state_of, fresh, without_first, ComesAfter};
-ghost use Rattle.window.specs.Seen.{spares};
 ghost use Rattle.window.specs.Window.{CoversDevice, IsServed, HasPlace, IsShown, is_in_sight};
-ghost use Rattle.window.specs.Window.{AgreesOn, are_spared};
 
+use crate::call::{DeviceCall, SectorWrite};
 use crate::holds::DeviceHolds;
 use crate::look::Look;
-use crate::pane::{Pane, keep, load};
+use crate::pane::{Pane, keep, lay_over, load};
+use crate::sectors::{SECTOR, Sectors, put as put_sector};
 use crate::story::{Opening, Story};
-use inlet::Inlet;
-use medium::{Medium, MediumFault, Outlet};
-use mirror::{DeviceCall, SECTOR, SectorWrite, Sectors};
+use medium::{Inlet, Medium, MediumFault, Outlet};
 use std::alloc::Global;
 use std::collections::VecDeque;
 use std::marker::Model;
@@ -107,12 +106,12 @@ impl WindowMedium {
         })
     }
 
-    /// Shows these sectors as the device holds them, in place of those that were shown before.
-    /// Where they are as it held them, nothing else changes. It is no call of a medium.
+    /// Shows these sectors as the device holds them, in place of those that were shown before. What
+    /// waits in the outbox is laid over: a read finds what the device holds when it has carried out
+    /// all. Where the bytes are as it held them, nothing else changes. It is no call of a medium.
     ///
-    /// It answers false, and nothing changes, where a write to one of them waits in the outbox, or
-    /// the bytes are no whole sectors, more than there is room for, or not all of them of the
-    /// device and behind the first ones.
+    /// It answers false, and nothing changes, where the bytes are no whole sectors, more than there
+    /// is room for, or not all of them of the device and behind the first ones.
     pub fn fill(&mut self, first: u64, bytes: &[u8]) -> bool
         ensures { IsShown first bytes.now result self.old self.new }
     {
@@ -120,41 +119,21 @@ impl WindowMedium {
             return false;
         }
         self.pane.fill(first, bytes);
+        lay_over(&self.outbox, &mut self.pane);
         self.story = self.story.shown(&self.pane);
         true
     }
 
-    // Whether these bytes may be shown from this sector on: no write to one of the sectors waits in
-    // the outbox, and they are whole sectors, no more than there is room for, all of the device and
-    // behind the first ones.
+    // Whether these bytes may be shown from this sector on: they are whole sectors, no more than
+    // there is room for, all of the device and behind the first ones.
     fn has_place_for(&self, first: u64, bytes: &[u8]) -> bool
         ensures { IsTrue result ↔ HasPlace first bytes.now self.now }
     {
+        if bytes.len() % SECTOR != 0 || bytes.len() > self.pane.sectors.bytes.len() {
+            return false;
+        }
         let count = (bytes.len() / SECTOR) as u64;
-        if bytes.len() % SECTOR != 0 || !self.spares(first, count) {
-            return false;
-        }
-        if bytes.len() > self.pane.sectors.bytes.len() || first < self.near() {
-            return false;
-        }
-        count <= self.size && first <= self.size - count
-    }
-
-    /// Whether no write to one of these sectors waits in the outbox. A device that has carried out
-    /// what was taken out of it holds then what the medium does in them.
-    pub fn spares(&self, first: u64, count: u64) -> bool
-        ensures is { result ≡ are_spared self.now first count }
-        ensures agrees { result ≡ true → AgreesOn first count self.now }
-    {
-        for place in 0..self.outbox.len() {
-            let Some(call) = self.outbox.get(place) else {
-                return true;
-            };
-            if !spares(call, first, count) {
-                return false;
-            }
-        }
-        true
+        self.near() <= first && count <= self.size && first <= self.size - count
     }
 
     /// How many of the first sectors lie in memory.
@@ -199,6 +178,22 @@ impl WindowMedium {
         self.outbox.front().copied()
     }
 
+    /// Copies what the call writes that waits first to its place in the room, where that is a write
+    /// to the sector `behind` sectors behind this one. Whether it is.
+    pub fn copy_first(&self, first: u64, behind: u64, to: &mut [u8]) -> bool
+        requires { 512 * (behind + 1) ≤ length to.old }
+        ensures { CopiesFirst self.now (first + behind) behind result to.old to.new }
+    {
+        let Some(DeviceCall::Write(write)) = self.outbox.front() else {
+            return false;
+        };
+        if write.sector < first || write.sector - first != behind {
+            return false;
+        }
+        put_sector(to, behind, &write.block);
+        true
+    }
+
     /// How many calls wait in the outbox.
     ///
     /// Whatever calls of a medium are made from here on: a device that has carried out what was
@@ -216,16 +211,6 @@ impl WindowMedium {
     }
 }
 
-// Whether this call is no write to one of these sectors.
-fn spares(call: &DeviceCall, first: u64, count: u64) -> bool
-    ensures { result ≡ spares first count call.now }
-{
-    match call {
-        DeviceCall::Write(write) => write.sector < first || write.sector - first >= count,
-        DeviceCall::Flush => true,
-    }
-}
-
 impl Medium for WindowMedium {
     ghost use Rattle.std.specs.Prelude.{◌≡◌, ◌⊎◌, ◌<◌, IsOk, is_ok, OnOk, OnErr};
     ghost use Rattle.medium.specs.Medium.{Stays, Holds, Within, Gains, Only, Passes, LooksOnly};
@@ -233,7 +218,7 @@ impl Medium for WindowMedium {
     ghost use Rattle.window.specs.Window.{state_of, fits, reads, misses, gives, refuses};
     ghost use Rattle.window.specs.Window.{ComesAfter, is_in_sight};
     ghost use Rattle.window.specs.WindowLaws.{is_sound, comes_after_itself, comes_after_through};
-    ghost use Rattle.mirror.specs.declared.call.DeviceCall.TheVariants as call;
+    ghost use Rattle.window.specs.declared.call.DeviceCall.TheVariants as call;
 
     ghost state = { state_of };
 

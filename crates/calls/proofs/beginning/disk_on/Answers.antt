@@ -1,6 +1,6 @@
 use Rattle.window.specs.Window.{mirror_of}
 use Rattle.bot_machine.specs.Device.{device_by, Ahead}
-use Rattle.disk_calls.specs.Plays.{medium_of}
+use Rattle.disk_machine.specs.Plays.{medium_of}
 use Rattle.calls.proofs.Begun.{refused, begins}
 use Rattle.calls.proofs.beginning.disk_on.Goals as goal
 

@@ -1,6 +1,6 @@
 use Rattle.std.proofs.Common.{◌<◌, ◌∙◌, List, [], ◌∷◌, Some, length, refl, ap, arith, is_ok, inl, inr}
-use Rattle.mirror.specs.declared.call.DeviceCall.{DeviceCall}
-use Rattle.mirror.specs.declared.call.DeviceCall.TheVariants.{Flush}
+use Rattle.window.specs.declared.call.DeviceCall.{DeviceCall}
+use Rattle.window.specs.declared.call.DeviceCall.TheVariants.{Flush}
 use Rattle.device_file.specs.Asked.{writes_of}
 use Rattle.device_file.specs.declared.fault.FileCall.TheVariants as call
 use Rattle.device_file.proofs.FirstParts.{begins, some_writes_end, lets_first, carried_at, named_at, on_ok}

@@ -1,6 +1,6 @@
 use Rattle.std.proofs.Common.{◌≡◌, ◌∙◌, Some, ap, sym, inr, rules}
-use Rattle.mirror.specs.declared.call.DeviceCall.{DeviceCall}
-use Rattle.mirror.specs.declared.call.DeviceCall.TheVariants.{Flush}
+use Rattle.window.specs.declared.call.DeviceCall.{DeviceCall}
+use Rattle.window.specs.declared.call.DeviceCall.TheVariants.{Flush}
 use Rattle.device_file.proofs.InRuns.{all_waited, flush_waits, write_waits, is_full, one_taken}
 use Rattle.device_file.proofs.carrying.gather.Goals as goal
 

@@ -1,7 +1,7 @@
 use Rattle.std.proofs.Common.{◌≡◌, ◌++◌, List, [], Ok, length}
 use Rattle.device_file.specs.declared.fault.FileFault.{FileFault}
 use Rattle.device_file.specs.InRuns.{TakesInRuns}
-use Rattle.mirror.specs.declared.call.DeviceCall.{DeviceCall}
+use Rattle.window.specs.declared.call.DeviceCall.{DeviceCall}
 use Rattle.device_file.specs.Copied.{Puts, moved_calls, waiting_in}
 use Rattle.device_file.proofs.moving.move_all.Given as goal
 

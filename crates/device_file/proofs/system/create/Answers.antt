@@ -31,7 +31,7 @@ returns g c =
           ∙ ap (λ (t : Told). t.path) c.in_ok-lock.ensures.ok ∙ c.in_ok-file.ensures.path_is;
       asked = calls g (goal.at.returns g c).In_ok-resize-2
           ∙ ap (λ (a : Access). Open a ∷ Lock ∷ Resize 0 ∷ Resize c.in-Some.length ∷ []) c.access_for-access.ensures
-          ∙ ap (λ (n : ℕ). Open (made_for c.args.replace) ∷ Lock ∷ Resize 0 ∷ Resize n ∷ []) length_is;
+          ∙ ap (λ (n : ℕ). Open (made_for c.args.existing) ∷ Lock ∷ Resize 0 ∷ Resize n ∷ []) length_is;
       sectors_are = refl;
       size_is = given.size_is ∙ length_is;
       zeros = λ p below. given.grown p (omega (arith, emptied.size_is)) (omega (arith, length_is));

@@ -1,6 +1,6 @@
 use Rattle.std.proofs.Common.{◌≤◌, ◌∙◌, suc, length, inl, inr, sym, ap, arith}
 use Rattle.window.specs.Window.{Window}
-use Rattle.disk_calls.specs.Plays.{medium_of}
+use Rattle.disk_machine.specs.Plays.{medium_of}
 use Rattle.disk_machine.proofs.resting.steps_ahead.Goals as goal
 
 pub returns-then-waiting-before : goal.returns-then-waiting-before

@@ -4,11 +4,11 @@ use Rattle.spec.specs.declared.event.Answer.TheVariants.{Data, Nak, Stall}
 use Rattle.spec.specs.declared.event.Event.TheVariants as event
 use Rattle.spec.specs.Exchange.{in_answer, after_in}
 use Rattle.bot_machine.proofs.OutPackets.{token}
-use Rattle.mirror.specs.Parts.{PartsFollow}
+use Rattle.window.specs.Parts.{PartsFollow}
 use Rattle.window.specs.Window.{Window, state_of, mirror_of, ComesAfter, CoversDevice, IsServed}
 use Rattle.window.specs.WindowLaws.{is_sound, comes_after_itself}
-use Rattle.disk_calls.specs.Plays.{Disk, medium_of, Plays, Foresees}
-use Rattle.disk_calls.proofs.Rooms.{played}
+use Rattle.disk_machine.specs.Plays.{Disk, medium_of, Plays, Foresees}
+use Rattle.disk_machine.proofs.Rooms.{played}
 use Rattle.disk_machine.proofs.tokens.give_packet.Goals as goal
 
 -- a token is one step, over a medium that stays as it is

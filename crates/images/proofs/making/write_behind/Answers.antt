@@ -1,6 +1,6 @@
 use Rattle.std.proofs.Common.{◌≡◌, ◌⊎◌, ◌∙◌, [], ◌∷◌, inl, Result, Ok, Err, IfErr, true}
 use Rattle.std.specs.Prelude.{is_ok}
-use Rattle.mirror.specs.declared.call.DeviceCall.TheVariants.{Write, Flush}
+use Rattle.window.specs.declared.call.DeviceCall.TheVariants.{Write, Flush}
 use Rattle.device_file.specs.declared.fault.FileCall.TheVariants as call
 use Rattle.device_file.specs.declared.fault.FileFault.{FileFault}
 use Rattle.images.proofs.InOrder.{one_call, goes_on}

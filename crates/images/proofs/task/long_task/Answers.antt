@@ -15,13 +15,13 @@ module _ (verb first second : List ℕ) (rest : List (List ℕ)) where
   words = verb ∷ first ∷ second ∷ rest
 
   not_make : (letter words ≡ 109 → ⊥) → IsMakeLine words → ⊥
-  not_make other (image, format, blocks, slots, replace, are) = other (ap letter are.words_are)
+  not_make other (image, sizes, existing, are) = other (ap letter are.words_are)
 
   not_import : (letter words ≡ 105 → ⊥) → IsImportLine words → ⊥
-  not_import other (raw, image, format, slots, replace, are) = other (ap letter are.words_are)
+  not_import other (raw, image, format, slots, existing, are) = other (ap letter are.words_are)
 
   not_export : (letter words ≡ 101 → ⊥) → IsExportLine words → ⊥
-  not_export other (image, raw, replace, are) = other (ap letter are.words_are)
+  not_export other (image, raw, existing, are) = other (ap letter are.words_are)
 
   -- three words ask for nothing else
   no_other : (IsMakeLine words → ⊥) → (IsImportLine words → ⊥) → (IsExportLine words → ⊥)
@@ -30,9 +30,9 @@ module _ (verb first second : List ℕ) (rest : List (List ℕ)) where
   no_other make import export Version same = omega (arith, ap length same)
   no_other make import export (Show image) are = omega (arith, ap length are.words_are)
   no_other make import export (Migrate image) are = omega (arith, ap length are.words_are)
-  no_other make import export (Make image format blocks slots replace) are = make (image, format, blocks, slots, replace, are)
-  no_other make import export (Import raw image format slots replace) are = import (raw, image, format, slots, replace, are)
-  no_other make import export (Export image raw replace) are = export (image, raw, replace, are)
+  no_other make import export (Make image sizes existing) are = make (image, sizes, existing, are)
+  no_other make import export (Import raw image format slots existing) are = import (raw, image, format, slots, existing, are)
+  no_other make import export (Export image raw existing) are = export (image, raw, existing, are)
 
   -- the letter of a word that is another
   apart : (word : List ℕ) (m : ℕ) → verb ≡ word → (get_or word 0 0 ≡ m → ⊥) → letter words ≡ m → ⊥

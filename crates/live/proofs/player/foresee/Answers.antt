@@ -1,5 +1,5 @@
 use Rattle.std.proofs.Common.{subst}
-use Rattle.file_window.specs.declared.file.FileWindow.{FileWindow}
+use Rattle.live.specs.declared.file.FileWindow.{FileWindow}
 use Rattle.live.specs.Playing.{Foresees}
 use Rattle.live.proofs.player.foresee.Goals as goal
 

@@ -1,5 +1,5 @@
 use Rattle.std.proofs.Common.{subst}
-use Rattle.mirror.specs.Parts.{PartsFollow}
+use Rattle.window.specs.Parts.{PartsFollow}
 use Rattle.window.specs.Window.{Window, mirror_of, ComesAfter, CoversDevice, IsServed}
 use Rattle.live.specs.Playing.{Foresees}
 use Rattle.live.proofs.player.foresee_window.Goals as goal

@@ -1,6 +1,6 @@
 use Rattle.std.proofs.Common.{◌≡◌, ◌*◌, ◌/◌, ◌∙◌, ℕ, inl, inr, refl, subst, length, arith}
 use Rattle.device_file.specs.Reads.{AreRead}
-use Rattle.file_window.specs.declared.file.FileWindow.{FileWindow}
+use Rattle.live.specs.declared.file.FileWindow.{FileWindow}
 use Rattle.live.proofs.player.show_read.Goals as goal
 
 -- the bytes of count sectors are count whole ones

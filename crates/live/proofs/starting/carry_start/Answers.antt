@@ -1,5 +1,5 @@
 use Rattle.std.proofs.Common.{◌∙◌, refl, sym, ap}
-use Rattle.file_window.specs.declared.file.FileWindow.{FileWindow}
+use Rattle.live.specs.declared.file.FileWindow.{FileWindow}
 use Rattle.live.proofs.starting.carry_start.Goals as goal
 
 pub returns-in-None-clause-ok : goal.returns-in-None-clause-ok

@@ -1,5 +1,5 @@
 use Rattle.std.proofs.Common.{subst}
-use Rattle.mirror.specs.Parts.{PartsFollow}
+use Rattle.window.specs.Parts.{PartsFollow}
 use Rattle.window.specs.Window.{Window, mirror_of, ComesAfter, CoversDevice, IsServed}
 use Rattle.store_calls.specs.Rooms.{Foresees}
 use Rattle.store_calls.proofs.reading.foresee.Goals as goal

@@ -32,7 +32,7 @@ use Rattle.device_file.specs.contracts.story.Story.asked as f
 use Rattle.device_file.proofs.story.Story.asked.Statement as stated
 use Rattle.device_file.proofs.story.Story.asked.Code as code
 use Rattle.device_file.specs.contracts.story.Story as story
-use Rattle.mirror.specs.contracts.call.DeviceCall as call
+use Rattle.window.specs.contracts.call.DeviceCall as call
 use Rattle.device_file.specs.Asked.{called}
 
 abbrev stayed : Stays (f.ended).signature.params (f.ended).kept

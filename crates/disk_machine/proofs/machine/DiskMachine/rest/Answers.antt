@@ -1,7 +1,7 @@
 use Rattle.std.proofs.Common.{subst}
-use Rattle.mirror.specs.Parts.{PartsFollow}
+use Rattle.window.specs.Parts.{PartsFollow}
 use Rattle.window.specs.Window.{Window, mirror_of, ComesAfter, CoversDevice}
-use Rattle.disk_calls.specs.Parts.{CoversParts}
+use Rattle.disk_machine.specs.Parts.{CoversParts}
 use Rattle.disk_machine.proofs.AtRest.{begins_behind, serves_at_rest}
 use Rattle.disk_machine.proofs.machine.DiskMachine.rest.Goals as goal
 

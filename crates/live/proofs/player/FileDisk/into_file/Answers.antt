@@ -1,5 +1,5 @@
 use Rattle.std.proofs.Common.{◌∙◌, ap}
-use Rattle.file_window.specs.declared.file.FileWindow.{FileWindow}
+use Rattle.live.specs.declared.file.FileWindow.{FileWindow}
 use Rattle.live.proofs.player.FileDisk.into_file.Goals as goal
 
 pub returns : goal.returns

@@ -1,20 +1,19 @@
-use Rattle.std.proofs.Common.{◌<◌, ◌≤◌, ◌+◌, ◌∙◌, ℕ, ap, refl, arith}
+use Rattle.std.proofs.Common.{◌<◌, ◌≤◌, ◌∙◌, ap, refl, arith}
 use Rattle.medium.specs.Tally.{Tally, none}
-use Rattle.medium.specs.Performed.{IsWithin, ReadsBefore, fault_of}
-use Rattle.medium.specs.declared.medium_call.Call.{Call}
-use Rattle.medium.specs.declared.medium_call.Call.TheVariants.{Read, Write, Flush}
+use Rattle.medium.specs.Performed.{fault_of}
 use Rattle.journal.specs.declared.log_format.LogFormat.TheVariants.{Two}
 use Rattle.journal.specs.Places.{sectors_of, first_home}
 use Rattle.journal.specs.Formats.{shape_of}
 use Rattle.recovery.specs.Starting.{head_calls, all_calls, home_calls, both}
-use Rattle.recovery.proofs.StartBegins.{flushed_first, first_made, super_leaves, super_made, head_leaves, head_made}
-use Rattle.recovery.proofs.StartSurvey.{survey_made, survey_refused}
+use Rattle.recovery.proofs.Looks.{super_read, super_looked, head_read, head_looked, survey_read, survey_looked}
+use Rattle.recovery.proofs.StartBegins.{flushed_first, first_made, looked_start, reads_leave}
+use Rattle.recovery.proofs.StartSurvey.{survey_on}
 use Rattle.recovery.proofs.StartCopy.{copy_made, copy_refused}
 use Rattle.recovery.proofs.StartHead.{copies_flush_made, copies_flush_leaves, head_write_made, head_write_leaves, head_flush_made}
 use Rattle.recovery.proofs.StartHead.{head_flush_leaves}
 use Rattle.recovery.proofs.StartTally.{all_more, first_left, super_left, head_left, few_left, none_left_of, both_more, both_left}
 use Rattle.recovery.proofs.StartTally.{left_through, survey_goes_left, copied_left, reads_only}
-use Rattle.recovery.proofs.StartTold.{told, told_by, both_told}
+use Rattle.recovery.proofs.StartTold.{told, told_by, both_told, within_more, reads_more}
 use Rattle.recovery.proofs.SurveyTally.{no_tries_left}
 use Rattle.recovery.proofs.CopyTally.{none_left}
 use Rattle.recovery.proofs.starting.StartingMachine.next.Goals as goal
@@ -34,8 +33,9 @@ returns-in-ReadSuper g c =
     let sound = g.met.M.Medium.sound in
     let some = c.args.self.now.goes.super c.in-ReadSuper.is in
     told S c.args.self.now c.in-ReadSuper.is tt some some refl
-    (λ m n start got least next fits held performed after. super_made S sound least fits some held performed after)
-    (λ m n start got least e held performed. super_leaves S sound least held performed)
+    (λ m n start got least next fits held performed after. looked_start S least held.midway.1 next
+    (super_looked S sound least fits some held.midway.2 performed after))
+    (λ m n start got least e held performed. reads_leave least held.midway.1 (super_read S sound least held.midway.2 performed))
     (all_calls 1 Two 64) refl (λ got next after. super_left after)
 
 pub returns-in-ReadHead : goal.returns-in-ReadHead
@@ -46,20 +46,10 @@ returns-in-ReadHead g c =
     let sizes = c.in-ReadHead.field-0 in
     let some : 1 < s.sectors = omega (arith, s.goes.head sizes c.in-ReadHead.is, sizes.home_is.0) in
     told S s c.in-ReadHead.is tt some some refl
-    (λ m n start got least next fits held performed after. head_made S sound least held performed after)
-    (λ m n start got least e held performed. head_leaves S sound least held performed)
+    (λ m n start got least next fits held performed after. looked_start S least held.midway.1 next
+    (head_looked S sound least held.midway.2 performed after))
+    (λ m n start got least e held performed. reads_leave least held.midway.1 (head_read S sound least held.midway.2 performed))
     (all_calls 0 sizes.format sizes.slots) (all_more 0 sizes.format sizes.slots) (λ got next after. head_left after)
-
--- a call before the end of some sectors is one before the end of more
-within_more : (few many : ℕ) → few ≤ many → (call : Call) → IsWithin few call → IsWithin many call
-within_more few many le (Read place) below = omega (arith, le, below)
-within_more few many le (Write place) below = omega (arith, le, below)
-within_more few many le Flush below = tt
-
-reads_more : (few many : ℕ) → few ≤ many → (call : Call) → ReadsBefore few call → ReadsBefore many call
-reads_more few many le (Read place) below = omega (arith, le, below)
-reads_more few many le (Write place) below = tt
-reads_more few many le Flush below = tt
 
 -- each call of the survey
 pub returns-in-Survey : goal.returns-in-Survey
@@ -76,8 +66,8 @@ returns-in-Survey g c =
     (reads_more (first_home (shape_of survey.reader.sizes)) s.sectors (omega (arith, can.fits)) call tells.looks)
     (reads_only tells.rest (fault_of call) tells.pays)
     (λ m n start got least next fits held performed after.
-    survey_made S sound least held.midway tells (held.well tt) performed after.1 after.2)
-    (λ m n start got least e held performed. survey_refused S sound least held.midway tells performed)
+    survey_on S sound least held.midway.1 (survey_looked S sound least held.midway.2 tells performed after.1) after.2)
+    (λ m n start got least e held performed. reads_leave least held.midway.1 (survey_read S sound least held.midway.2 tells performed))
     (both tells.rest others) (ap (λ (t : Tally). both t others) tells.pays ∙ both_more tells.rest others (fault_of call))
     (λ got next after. survey_goes_left after.1.sizes_stay after.2 (tells.rests got after.0 after.1))) c.next.ensures
 

@@ -1,6 +1,6 @@
 use Rattle.std.proofs.Common.{sym, ◌∙◌}
 use Rattle.std.proofs.lemmas.Result.{err_from_is_err_and, IfOk-at_ok}
-use Rattle.cdb.specs.Supported.{IsSupported}
+use Rattle.scsi_commands.specs.Supported.{IsSupported}
 use Rattle.blocks.specs.StoreValue.{blocks_of, is_dead}
 use Rattle.scsi_unit.specs.UnitValue.{unit_limit}
 use Rattle.scsi_unit.specs.Calls.{most_calls}

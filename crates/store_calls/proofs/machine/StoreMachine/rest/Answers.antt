@@ -1,5 +1,5 @@
 use Rattle.std.proofs.Common.{subst}
-use Rattle.mirror.specs.Parts.{PartsFollow}
+use Rattle.window.specs.Parts.{PartsFollow}
 use Rattle.window.specs.Window.{Window, mirror_of, ComesAfter, CoversDevice}
 use Rattle.store_calls.specs.Rooms.{CoversParts}
 use Rattle.store_calls.proofs.AtRest.{begins_behind, serves_at_rest}

@@ -3,8 +3,8 @@ use Rattle.std.proofs.Common.{subst, arith, rules}
 use Rattle.std.specs.List.{list_all}
 use Rattle.std.proofs.lemmas.Bool.{cases_lt}
 use Rattle.std.proofs.lemmas.List.{drop_at}
-use Rattle.mirror.specs.OutboxMedium as mirror
-use Rattle.mirror.proofs.Devices.{covers}
+use Rattle.window.specs.OutboxMedium as mirror
+use Rattle.window.proofs.Devices.{covers}
 use Rattle.window.specs.Window.{Window, mirror_of, is_in_sight, kept_out, ComesAfter, CoversDevice, IsServed}
 use Rattle.window.proofs.window.WindowMedium.waiting.Goals as goal
 

@@ -20,7 +20,7 @@ same w = record {
 
 pub returns-clause-unchanged : goal.returns-clause-unchanged
 returns-clause-unchanged c = λ held. elim (cases_Bool c.fill.result) [
-  | inl took ↦ subst (λ (w : Window). IsUnchanged (state_of c.args.self.now) (state_of w)) (sym (c.fill.ensures.honest took held))
+  | inl took ↦ subst (λ (w : Window). IsUnchanged (state_of c.args.self.now) (state_of w)) (sym (c.fill.ensures.honest took (inr held)))
       (same c.args.self.now)
   | inr refused ↦ subst (λ (w : Window). IsUnchanged (state_of c.args.self.now) (state_of w)) (sym (c.fill.ensures.refused refused))
       (same c.args.self.now)

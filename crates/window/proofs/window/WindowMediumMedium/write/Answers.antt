@@ -1,8 +1,8 @@
 use Rattle.std.proofs.Common.{length, ◌≤◌, ◌≡◌, ◌/◌, inl, true, refl, ap, subst, arith}
-use Rattle.mirror.specs.declared.call.DeviceCall.TheVariants.{Write}
-use Rattle.mirror.specs.Story.{given, are_whole}
-use Rattle.mirror.specs.OutboxMedium.{device_of}
-use Rattle.mirror.proofs.Asked.{content_refused, sets_refused, sets_given, holds_given}
+use Rattle.window.specs.declared.call.DeviceCall.TheVariants.{Write}
+use Rattle.window.specs.Story.{given, are_whole}
+use Rattle.window.specs.OutboxMedium.{device_of}
+use Rattle.window.proofs.OutboxCalls.{content_refused, sets_refused, sets_given, holds_given}
 use Rattle.window.specs.Seen.{Seen, refused}
 use Rattle.window.specs.Window.{Window, mirror_of}
 use Rattle.window.proofs.Asked.{seen_on, given_on, follows_refused, follows_given}

@@ -1,2 +1,0 @@
-pub mod Supported
-pub mod Written

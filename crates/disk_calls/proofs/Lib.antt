@@ -1,3 +1,0 @@
-pub mod Refusals
-pub mod Rooms
-pub mod OutboxTaken

@@ -1,9 +1,0 @@
-use Rattle.std.proofs.Common.{◌≡◌}
-use Rattle.store_calls.specs.Outbox.{without}
-use Rattle.disk_calls.specs.Plays.{medium_of}
-use Rattle.disk_calls.specs.Runs.{KeepsRest}
-use Rattle.disk_calls.proofs.refused.drain.Given as goal
-
--- `_gone` calls left the outbox
-abbrev pub invariant-loop-gone : goal.invariant-loop-gone
-invariant-loop-gone l = (medium_of l.disk ≡ without l._gone (medium_of l.fn.disk)) × KeepsRest l.fn.disk l.disk

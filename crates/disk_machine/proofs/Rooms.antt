@@ -1,0 +1,150 @@
+-- The room of a disk is enough, and what is read is in sight.
+use Rattle.std.proofs.Common.{◌≡◌, ◌⊎◌, ◌<◌, ◌≤◌, ◌+◌, ◌++◌, ◌∷◌, [], ℕ, true, List, length, inl, inr, arith, refl, sym, ◌∙◌, ap, subst}
+use Rattle.std.proofs.Common.{false, length-append}
+use Rattle.std.specs.Prelude.{Option}
+use Rattle.std.proofs.lemmas.List.{append-nil}
+use Rattle.journal.specs.Places.{Shape}
+use Rattle.journal.specs.Sectors.{IsSuper}
+use Rattle.medium.specs.Medium.{LooksOnly}
+use Rattle.medium.specs.Sent.{sent}
+use Rattle.medium.specs.Writes.{sector_of}
+use Rattle.window.specs.Story.{given}
+use Rattle.window.specs.declared.call.DeviceCall.{DeviceCall}
+use Rattle.window.specs.Window.{Window, fresh, state_of, is_in_sight, ComesAfter, IsServed}
+use Rattle.window.specs.Looks.{near_in_sight, none_refused, none_missed, none_kept_out}
+use Rattle.scsi_unit.specs.Background.{Work}
+use Rattle.scsi_unit.specs.Calls.{SendsOneBatch}
+use Rattle.scsi_unit.specs.Reading.{first_home_of}
+use Rattle.scsi_unit.specs.Starting.{blocks_of}
+use Rattle.spec.specs.Book.{Book, opened}
+use Rattle.bot_machine.specs.Device.{Device}
+use Rattle.bot_machine.specs.Disk.{IsStepBy}
+use Rattle.bot_machine.specs.Opening.{IsOpened, StartLeaves, LeavesMedium}
+use Rattle.bot_machine.specs.Reading.{ReadsAt}
+use Rattle.spec.specs.declared.event.Event.{Event}
+use Rattle.spec.specs.declared.event.Event.TheVariants as event
+use Rattle.spec.specs.declared.event.Answer.{Answer}
+use Rattle.disk_machine.specs.Plays.{Disk, medium_of, layout_on, Foresees, PlaysBy}
+use Rattle.disk_machine.specs.Refusals.{RefusesNothing, HasRoomFor, IsReady, IsRoomy, HoldsLog, SeesHome, HasRoomToStart, HoldsImageLog}
+use Rattle.disk_machine.specs.Refusals.{StartRefusesNothing}
+use Rattle.store_calls.proofs.Served.{fits_start}
+use Rattle.disk_machine.specs.Room.{room_for}
+use Rattle.window.proofs.Kept.{opened_front}
+
+-- a book of the disk's size
+abbrev some_book : Disk → Book
+some_book disk = opened (blocks_of disk.unit.store.cached) (λ _. []) 0 false
+
+-- one that is ready makes no more than one batch durable
+pub one_if_ready : {work : Work} → (old : Disk) (event : Event) (answer : Answer) (new : Disk) → IsReady old event
+    → IsStepBy work (state_of (medium_of old)) (state_of (medium_of new)) old event answer new
+    → SendsOneBatch old.unit.store.goes_ahead (state_of (medium_of old)) (state_of (medium_of new)) old.unit.store.cached.log
+one_if_ready old (event.Out packet) answer new (inl written) step = step.few.one_batch written
+one_if_ready old (event.Out packet) answer new (inr plain) step = step.plain (some_book old) refl (plain (some_book old) refl)
+one_if_ready old event.In answer new ready step = step.plain (some_book old) refl (λ block taken none. absurd none)
+one_if_ready old (event.Setup packet) answer new ready step = step.plain (some_book old) refl (λ block taken none. absurd none)
+one_if_ready old event.Tick answer new ready step = step.plain (some_book old) refl (λ block taken none. absurd none)
+
+-- its calls have room
+fits_event : {work : Work} → (old : Disk) (event : Event) (answer : Answer) (new : Disk)
+    → IsStepBy work (state_of (medium_of old)) (state_of (medium_of new)) old event answer new → HasRoomFor old event
+    → length (medium_of old).outbox + sent (state_of (medium_of new)) ≤ sent (state_of (medium_of old)) + (medium_of old).room
+fits_event old event answer new step (inl three) = omega (arith, step.few.sent, three)
+fits_event old event answer new step (inr (one, ready)) =
+    let few = (one_if_ready old event answer new ready step).most in omega (arith, few, one)
+
+-- what leaves no write, no flush and no read refused, where each named a sector that is in sight
+refuses_nothing : (P : ℕ → Type 0) (Room Sight : Type 0) (old new : Window) → ComesAfter old new → IsServed old new
+    → (Room → length old.outbox + sent (state_of new) ≤ sent (state_of old) + old.room) → LooksOnly P (state_of old) (state_of new)
+    → (Sight → (s : ℕ) → P s → is_in_sight old s ≡ true) → RefusesNothing Room Sight old new
+refuses_nothing P Room Sight old new follows served few named in_sight = record {
+  kept = λ room. none_kept_out old new follows (few room);
+  seen = λ sight. none_missed P old new follows (in_sight sight) named;
+  none = λ room sight. none_refused P old new served (in_sight sight) named (few room);
+}
+
+-- a sector that an event names is in sight
+named_in_sight : (old : Disk) (event : Event) → HoldsLog old → SeesHome old event → (s : ℕ)
+    → (s < first_home_of old.unit) ⊎ ReadsAt old event s → is_in_sight (medium_of old) s ≡ true
+named_in_sight old event log home s (inl low) = near_in_sight (medium_of old) s (omega (arith, low, log))
+named_in_sight old (event.Out packet) log home s (inr at) = home at.0 at.1 s at.2.0 at.2.1
+named_in_sight old event.In log home s (inr at) = absurd at
+named_in_sight old (event.Setup packet) log home s (inr at) = absurd at
+named_in_sight old event.Tick log home s (inr at) = absurd at
+
+-- where no call was made nothing was given to the device
+none_since : (asked since : List (Option DeviceCall)) → length (asked ++ since) ≡ length asked → since ≡ []
+none_since asked [] same = refl
+none_since asked (one ∷ since) same = absurd (omega (arith, same, length-append asked (one ∷ since)))
+
+asks_nothing : (old new : Window) → ComesAfter old new → (state_of new).calls ≡ (state_of old).calls → new.outbox ≡ old.outbox
+asks_nothing old new follows same =
+    let none = none_since old.seen.told.asked follows.since
+    (ap (λ (l : List (Option DeviceCall)). length l) (sym follows.asked) ∙ same) in
+    follows.outbox ∙ ap (λ (l : List (Option DeviceCall)). old.outbox ++ given l) none ∙ append-nil old.outbox
+
+-- the room and the layout stay
+stays_roomy : (old new : Disk) → layout_on new ≡ layout_on old → (medium_of new).room ≡ (medium_of old).room → IsRoomy old
+    → IsRoomy new
+stays_roomy old new layout room enough_room = omega (arith, ap (λ (s : Shape). room_for s) layout, room, enough_room)
+
+-- an event, with what the medium says of all that may come
+pub played : {work : Work} → (old : Disk) (event : Event) (answer : Answer) (new : Disk)
+    → Foresees (medium_of old)
+    → IsStepBy work (state_of (medium_of old)) (state_of (medium_of new)) old event answer new
+    → ComesAfter (medium_of old) (medium_of new) → PlaysBy work old event answer new
+played old event answer new sees step follows = record {
+  step = step;
+  follows = follows;
+  covers = sees.covers (medium_of new) follows;
+  parts = sees.parts (medium_of new) follows;
+  served = sees.served (medium_of new) follows;
+  refuses = refuses_nothing (λ s. (s < first_home_of old.unit) ⊎ ReadsAt old event s) (HasRoomFor old event)
+      (HoldsLog old × SeesHome old event) (medium_of old) (medium_of new) follows (sees.served (medium_of new) follows)
+      (fits_event old event answer new step) step.looks (λ sight. named_in_sight old event sight.0 sight.1);
+  faulted = λ dead. (asks_nothing (medium_of old) (medium_of new) follows (step.few.faulted dead).0, (step.few.faulted dead).1);
+  roomy = stays_roomy old new step.few.layout_stays follows.room_stays;
+}
+
+-- ---- a start, good or refused, on a medium that was asked nothing yet
+
+module _ (first after : Window) (empty : length first.outbox ≡ 0) (leaves : StartLeaves (state_of first) (state_of after)) where
+  fits : HasRoomToStart first → length first.outbox + sent (state_of after) ≤ sent (state_of first) + first.room
+  fits = fits_start first after empty leaves.bounded.sends
+
+  pub start_refuses : LeavesMedium state_of ComesAfter first after → IsServed first after → StartRefusesNothing first after
+  start_refuses medium served =
+      let near = first.near in record {
+        kept = λ room. none_kept_out first after medium.follows (fits room);
+        seen = λ log. none_missed (λ s. s < near) first after medium.follows (near_in_sight first) (medium.looks near log);
+        none = λ room log. none_refused (λ s. s < near) first after served (near_in_sight first) (medium.looks near log)
+            (fits room);
+      }
+
+-- the first sectors that held the log hold it still
+pub holds_log : (first : Window) (new : Disk) (device : Device) → IsOpened (state_of first) (state_of (medium_of new)) device new
+    → ComesAfter first (medium_of new) → HoldsImageLog first → HoldsLog new
+holds_log first new device opened follows holds =
+    let stood = opened.store.stood in
+    let below = holds.log (layout_on new) (record { super = stood.keeps.super; fits = stood.fits }) in
+    omega (arith, below, follows.near_stays)
+
+-- ---- the room that an image wants
+
+-- whatever super the first sectors begin with, its image wants no more than this
+abbrev pub IsEnough : List ℕ → ℕ → Type 0
+IsEnough near room = (shape : Shape) → IsSuper shape (sector_of near 0) → room_for shape ≤ room
+
+-- a disk that was started where the room is enough has it
+pub roomy : (near holds : List ℕ) (sectors span room : ℕ) (m : Window) (new : Disk) (device : Device)
+    → m ≡ fresh sectors near holds span room → 512 ≤ length near → IsEnough near room
+    → IsOpened (state_of m) (state_of (medium_of new)) device new → ComesAfter m (medium_of new) → IsRoomy new
+roomy near holds sectors span room m new device on some enough opened follows =
+    let first : Window = fresh sectors near holds span room in
+    let stood = opened.store.stood in
+    let super : IsSuper (layout_on new) ((state_of first).content 0) =
+    subst (λ (w : Window). IsSuper (layout_on new) ((state_of w).content 0)) on stood.keeps.super in
+    let front : IsSuper (layout_on new) (sector_of near 0) =
+    subst (λ (b : List ℕ). IsSuper (layout_on new) b) (sym (opened_front sectors near holds 0 (omega (arith, some)))) super in
+    let stays : (medium_of new).room ≡ room = follows.room_stays ∙ ap (λ (w : Window). w.room) on in
+    omega (arith, stays, enough (layout_on new) front)

@@ -1,0 +1,83 @@
+-- Nothing that a disk asks of its medium is refused: no write and no flush for want of room, and no
+-- read of a sector that is not in sight.
+use Rattle.std.specs.Prelude.{⊤, ◌≡◌, ◌⊎◌, ◌+◌, ◌≤◌, length}
+use Rattle.journal.specs.Places.{first_home}
+use Rattle.recovery.specs.Calls as recovery
+use Rattle.window.specs.Window.{Window, state_of, kept_out}
+use Rattle.spec.specs.Book.{Book}
+use Rattle.spec.specs.declared.event.Event.{Event}
+use Rattle.spec.specs.declared.event.Event.TheVariants as event
+use Rattle.scsi_unit.specs.Background.{IsWritten}
+use Rattle.scsi_unit.specs.Calls.{most_sends_of}
+use Rattle.scsi_unit.specs.UnitValue.{IsOfSize}
+use Rattle.bot_machine.specs.Disk.{over}
+use Rattle.bot_machine.specs.Promising.{PromisesNone}
+pub use Rattle.store_calls.specs.Rooms.{HasRoomToStart}
+use Rattle.disk_machine.specs.Room.{room_for}
+use Rattle.disk_machine.specs.Seen.{Disk, medium_of, layout_on}
+use Rattle.disk_machine.specs.Wanted.{WantsNone}
+
+-- From one moment to another no write and no flush was refused, given this room; no read, given
+-- this sight; and given both, no call at all.
+pub record RefusesNothing (Room Sight : Type 0) (old new : Window) : Type 0 where
+  pub kept : Room → kept_out new.seen.told.refused ≡ kept_out old.seen.told.refused
+  pub seen : Sight → new.seen.told.refused.reads ≡ old.seen.told.refused.reads
+  pub none : Room → Sight → (state_of new).failures ≡ (state_of old).failures
+
+-- ---- an event
+
+-- The event makes one batch durable at most: no record is left to write, or no command is carried
+-- out that promises. A packet to Bulk-Out alone has any command carried out.
+abbrev pub IsReady : Disk → Event → Type 0
+IsReady disk (event.Out packet) = IsWritten disk.unit.store.cached
+    ⊎ ((book : Book) → IsOfSize disk.unit book
+    → PromisesNone (over disk book) (event.Out packet))
+IsReady disk event.In = ⊤
+IsReady disk (event.Setup packet) = ⊤
+IsReady disk event.Tick = ⊤
+
+-- the outbox has room, beside what waits, for as many calls as make one batch durable
+abbrev pub HasRoom : Disk → Type 0
+HasRoom disk = length (medium_of disk).outbox + room_for (layout_on disk) ≤ (medium_of disk).room
+
+-- The outbox has that room where nothing waits. So has that of each disk that was started
+-- (`Begins.roomy`), and each call keeps it: no event that is ready is refused for want of room
+-- where the outbox was carried out before.
+abbrev pub IsRoomy : Disk → Type 0
+IsRoomy disk = room_for (layout_on disk) ≤ (medium_of disk).room
+
+-- all sectors before the first home sector lie in memory
+abbrev pub HoldsLog : Disk → Type 0
+HoldsLog disk = first_home (layout_on disk) ≤ (medium_of disk).near
+
+-- whatever blocks an event has read, their home sectors are in sight: a packet to Bulk-Out alone
+-- has any read
+abbrev pub SeesHome : Disk → Event → Type 0
+SeesHome disk (event.Out packet) = WantsNone disk packet.items
+SeesHome disk event.In = ⊤
+SeesHome disk (event.Setup packet) = ⊤
+SeesHome disk event.Tick = ⊤
+
+-- the outbox has room for this event: for any, those calls that make three batches durable; for one
+-- that is ready, those of one batch
+abbrev pub HasRoomFor : Disk → Event → Type 0
+HasRoomFor disk event = (length (medium_of disk).outbox + most_sends_of (layout_on disk).format
+    ≤ (medium_of disk).room)
+    ⊎ (HasRoom disk × IsReady disk event)
+
+-- No event misses. With the room, the log in memory, and before a packet to Bulk-Out the home
+-- sectors in sight that `Disk::home_sectors` tells for it, an event has no call refused.
+abbrev pub EventRefusesNothing : Disk → Event → Disk → Type 0
+EventRefusesNothing old event new = RefusesNothing (HasRoomFor old event)
+    (HoldsLog old × SeesHome old event) (medium_of old) (medium_of new)
+
+-- ---- a start
+
+-- the first sectors are all before the first home sector, as `opening` reads them
+abbrev pub HoldsImageLog : Window → Type 0
+HoldsImageLog first = recovery.HoldsLog first.near (state_of first).size (state_of first).content
+
+-- No start misses: none has a call refused, good or refused itself.
+abbrev pub StartRefusesNothing : Window → Window → Type 0
+StartRefusesNothing first after =
+    RefusesNothing (HasRoomToStart first) (HoldsImageLog first) first after

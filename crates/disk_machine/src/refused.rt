@@ -1,0 +1,23 @@
+//! The device refused a call that was handed out.
+ghost use Rattle.disk_machine.specs.Refused.{IsRefused, IsDrained};
+
+use bot_machine::Disk;
+use window::WindowMedium;
+
+/// The device refused the call that was handed out last.
+pub fn refuse(disk: &mut Disk<WindowMedium>)
+    ensures { IsRefused disk.old disk.new }
+{
+    drain(disk);
+    disk.fault();
+}
+
+// All that waits leaves the outbox.
+fn drain(disk: &mut Disk<WindowMedium>)
+    ensures { IsDrained disk.old disk.new }
+{
+    let waiting = disk.medium().waiting();
+    for _gone in 0..waiting {
+        disk.pop();
+    }
+}

@@ -1,0 +1,13 @@
+//! How much room an outbox must have.
+ghost use Rattle.std.specs.Prelude.{◌≡◌};
+ghost use Rattle.disk_machine.specs.Room.{room_of};
+
+use journal::LogFormat;
+
+/// How many writes and flushes an outbox must have room for beside those that wait, for a disk in
+/// this format.
+pub fn room_for(log: LogFormat) -> u64
+    ensures { result ≡ room_of log }
+{
+    log.record_calls()
+}

@@ -1,2 +1,0 @@
-pub mod FileWindows
-pub mod FileWindowLaws

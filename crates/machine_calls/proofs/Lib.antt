@@ -1,4 +1,0 @@
-pub mod Performing
-pub mod Carrying
-pub mod Handing
-pub mod Stepped

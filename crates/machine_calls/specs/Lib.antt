@@ -1,4 +1,0 @@
-pub mod Carried
-pub mod Runs
-pub mod Stepping
-pub mod Running

@@ -1,4 +1,0 @@
-pub mod Asked
-pub mod Devices
-pub mod InFlight
-pub mod Kept

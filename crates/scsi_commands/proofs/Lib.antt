@@ -1,0 +1,6 @@
+pub mod ModeLists
+pub mod Judged
+pub mod Rows
+pub mod RowLaws
+pub mod Past
+pub mod WrittenBlocks

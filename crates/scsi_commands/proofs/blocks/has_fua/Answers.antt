@@ -1,0 +1,8 @@
+use Rattle.std.proofs.Common.{arith}
+use Rattle.std.proofs.lemmas.Bool.Decides.{nat_tests}
+use Rattle.std.proofs.lemmas.Nat.Bits.{and_pow}
+use Rattle.spec.specs.Commands.{byte_at}
+use Rattle.scsi_commands.proofs.blocks.has_fua.Goals as goal
+
+pub returns : goal.returns
+returns c = let bit = and_pow (byte_at 1 c.args.block.now) 3 in grind (arith, nat_tests)

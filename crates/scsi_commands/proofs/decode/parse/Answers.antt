@@ -1,0 +1,31 @@
+use Rattle.std.proofs.Common.{subst, sym, ap, ◌∙◌}
+use Rattle.std.specs.Prelude.{Result, IfOk, IfErr}
+use Rattle.spec.specs.Sense.{Sense}
+use Rattle.spec.specs.declared.command.Command.{Command}
+use Rattle.scsi_commands.specs.Supported.{IsSupported, IsRefusal}
+use Rattle.scsi_commands.proofs.RowLaws.{supported, refused}
+use Rattle.scsi_commands.proofs.Past.{past}
+use Rattle.scsi_commands.proofs.WrittenBlocks.{written}
+use Rattle.spec.specs.Commands.{command_of}
+use Rattle.scsi_commands.proofs.decode.parse.Goals as goal
+
+pub returns-clause-supported : goal.returns-clause-supported
+returns-clause-supported c =
+    subst (λ (outcome : Result Command Sense). IfOk outcome (IsSupported c.args.n c.args.limit))
+    (sym c.by_operation_code.ensures) (supported c.args.n c.args.limit c.args.block.now)
+
+pub returns-clause-refusal : goal.returns-clause-refusal
+returns-clause-refusal c =
+    subst (λ (outcome : Result Command Sense). IfErr outcome IsRefusal)
+    (sym c.by_operation_code.ensures) (refused c.args.n c.args.limit c.args.block.now)
+
+pub returns-clause-past : goal.returns-clause-past
+returns-clause-past c =
+    λ more enough. past c.args.n c.args.limit c.args.block.now more c.requires enough
+    ∙ sym c.by_operation_code.ensures
+
+pub returns-clause-written : goal.returns-clause-written
+returns-clause-written c =
+    λ command supported fits same. c.by_operation_code.ensures
+    ∙ ap (command_of c.args.n c.args.limit) same
+    ∙ written c.args.n c.args.limit command supported fits
