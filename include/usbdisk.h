@@ -50,9 +50,9 @@
 extern "C" {
 #endif
 
-/* The version, 1.3.0: two bytes hold the first number, and one byte each of the others. The library
+/* The version, 1.4.0: two bytes hold the first number, and one byte each of the others. The library
  * tells its own. Where the two differ, header and library are not of one version. */
-#define USBDISK_VERSION 0x010300u
+#define USBDISK_VERSION 0x010400u
 
 uint32_t usbdisk_version(void);
 
@@ -191,10 +191,9 @@ uint32_t usbdisk_stop(struct usbdisk *disk);
  * and as it has room for: one write of the device. FLUSH: all writes that were told done are to be
  * made durable. READ: `count` sectors are to be read, into any place: before it serves, at most as
  * many as the buffer has room for; then at most 240, in format 1 at most 48. A READ that the host
- * waits for is told before the calls that wait, where none of them writes one of its sectors: what
- * the device holds there is good, whatever it has not carried out yet. The buffer is the
- * program's, who may have the device read it until usbdisk_done: the library writes it in this call
- * alone, and never keeps its address.
+ * waits for, or a read of the store, is told before the calls that wait: what these write is laid
+ * over what the device gives. The buffer is the program's, who may have the device read it until
+ * usbdisk_done: the library writes it in this call alone, and never keeps its address.
  *
  * Where nothing else is to be done, and no status is still to be told, it also tells WRITEs that
  * bring blocks of a disk home, 241 sectors at a time at most, so that the next forced WRITE finds

@@ -18,6 +18,7 @@ CAUSES = {
     "the file system has no files of this length": 4,
     "its length is no multiple of 512 bytes": 4,
     "the sizes are out of their limits": 3,
+    "no blocks begin at a multiple of --align behind a log of so many slots": 3,
     "not an image: no whole sectors": 3,
     "not an image": 3,
     "an image of a later version": 3,

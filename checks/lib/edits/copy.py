@@ -89,6 +89,7 @@ class Copy:
         asks = self.search_nothing(function, edits[0].spans[0])
         lines, left = answers.alone(text, {it.asked for it in edits}) if asks else (text.split("\n"), ())
         lines = answers.without_searches(lines, {it.asked for it in edits if it.is_by_terms})
+        lines = answers.with_short_searches(lines, {it.asked for it in edits if it.only and it.is_short})
         lines = answers.with_tries(lines, function, [it.tried for it in edits if it.tried])
         self.texts[path] = "\n".join(lines + answers.left_open(left, lines))
         self.narrowed[function] = Narrowed(path, math.inf)
@@ -104,6 +105,7 @@ class Copy:
         else:
             lines, left = answers.without_answers(text, edit.untried), edit.untried
         lines = answers.without_searches(lines, {edit.asked}) if edit.is_by_terms else lines
+        lines = answers.with_short_searches(lines, {edit.asked}) if edit.only and edit.is_short else lines
         lines = answers.with_tries(lines, function, [edit.tried] if edit.tried else [])
         # (where one goal is asked for, the others may be gone: nothing is said of them)
         self.narrowed[function] = Narrowed(path, math.inf if asks else len(lines))

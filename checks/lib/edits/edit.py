@@ -14,6 +14,8 @@ INSIDE = ("src/", "specs/", "proofs/")
 NOTES = ("untried:", "tried:", "only:")
 # The word of a line `only:` that an answer is tried without its searches.
 TERMS = "terms"
+# The last word of a line `tried:` or `only:` whose searches end early.
+SHORT = "short"
 
 
 @dataclasses.dataclass(frozen=True)
@@ -53,7 +55,7 @@ class Edit:
     text: sources.Function
     spans: tuple
     # the goals of the function that its check does not try; the one that is tried by an answer, with the arguments of that; the one that is tried
-    # by the function's own answer, and TERMS where that is without its searches
+    # by the function's own answer, and TERMS where that is without its searches, SHORT where those end early
     untried: tuple
     tried: tuple
     only: tuple
@@ -81,6 +83,11 @@ class Edit:
     def is_by_terms(self):
         """Whether the answer of its line `only:` is tried without its searches."""
         return self.only[1:] == (TERMS,)
+
+    @property
+    def is_short(self):
+        """Whether the searches of the answer of its line `only:` or `tried:` end early."""
+        return SHORT in (*self.only, *self.tried)
 
     @property
     def is_of_body(self):

@@ -4,7 +4,7 @@ import dataclasses
 
 from lib import sources
 from lib.edits import answers, twins
-from lib.edits.edit import NOTES, TERMS
+from lib.edits.edit import NOTES, SHORT, TERMS
 
 
 @dataclasses.dataclass(frozen=True)
@@ -54,22 +54,36 @@ def write_notes(edit, marks, lines):
 
 
 def without_wrong(edits, report):
-    """The edits whose line `tried:` or `only:` stands, by the report on their functions as they are with these answers alone. Beside one that stands
-    nothing has to be left open. The lines of the others go, and a line `only:` of a goal to which the function has no answer. One whose answer is
-    not proved without its searches is tried with them."""
-    kept = []
+    """The edits whose line `tried:` or `only:` stands, by the report on their functions as they are with these answers alone, and those that are to
+    be asked again, with longer searches. Beside one that stands nothing has to be left open. The lines of the others go, and a line `only:` of a
+    goal to which the function has no answer."""
+    kept, longer = [], []
     for edit in edits:
-        has_answer = not edit.only or edit.asked in answers.goals_among(edit, edit.only)
-        is_proved = bool(report.proves_answers(edit.function, [edit.asked]))
-        if has_answer and edit.is_by_terms and report.has_verdict and not is_proved:
-            write_notes(edit, ("only:",), [f"only: {edit.asked}"])
-            print(f"{edit.name}: `{edit.asked}` is not proved without the searches of its answer, which stay", flush=True)
-            is_proved = True
-        if has_answer and is_proved:
+        mark, has_answer = "only:" if edit.only else "tried:", not edit.only or edit.asked in answers.goals_among(edit, edit.only)
+        if has_answer and report.proves_answers(edit.function, [edit.asked]):
             kept.append(edit)
-            if edit.untried and is_alone(edit):
-                write_notes(edit, ("untried:",), [])
-            continue
-        write_notes(edit, ("only:",) if edit.only else ("tried:",), [])
-        print(f"{edit.name}: `{edit.asked}` of its function is not proved by the answer that its line asks for, which goes", flush=True)
-    return kept
+            marks = (mark, "untried:") if edit.untried and is_alone(edit) else (mark,)
+            write_notes(edit, marks, [f"{mark} {' '.join([*edit.only, *edit.tried])}"])
+        elif has_answer and report.has_verdict and (edit.is_by_terms or edit.is_short):
+            longer.append(with_longer(edit))
+        else:
+            write_notes(edit, (mark,), [])
+            print(f"{edit.name}: `{edit.asked}` of its function is not proved by the answer that its line asks for, which goes", flush=True)
+    return kept, longer
+
+
+def with_longer(edit):
+    """The edit with short searches in its answer where it had none, and with searches as long as the prover has them where they were short."""
+    print(f"{edit.name}: `{edit.asked}` is not proved {'without searches' if edit.is_by_terms else 'by short searches'}", flush=True)
+    return with_words(edit, [TERMS, SHORT], [SHORT] * edit.is_by_terms)
+
+
+def with_short(edit):
+    """The edit with short searches in its answer, or with none, as it has it."""
+    return edit if edit.is_by_terms else with_words(edit, [SHORT], [SHORT])
+
+
+def with_words(edit, without, words):
+    """The edit whose line `only:` or `tried:` has not those words, and ends in these."""
+    found = tuple([it for it in (*edit.only, *edit.tried) if it not in without] + words)
+    return dataclasses.replace(edit, **{"only" if edit.only else "tried": found})

@@ -167,10 +167,15 @@ class Trial:
             notes.note(edit, notes.Open(refused, held, report.searched_goals(name, copy.spans[edit]), known, by_terms))
 
     def confirmed(self, edits, shuts):
-        """Gives each function as it is the answers by which edits of it are tried, and no other. The lines of those go that are not proved, and of
-        those whose goal it does not have, since it is one of the edited function alone. Returns how many are left and how many went."""
-        asking, copy = [it for it in edits if it.asked and it.function and not it.is_control], Copy(self.crate)
-        for function in dict.fromkeys(it.function for it in asking):
-            copy.ask_goals([it for it in asking if it.function == function])
-        left = notes.without_wrong(asking, self.report(copy, shuts)) if asking else []
-        return len(left), len(asking) - len(left)
+        """Gives each function as it is the answers by which edits of it are tried, and no other. The lines of those go that are not proved, by longer
+        searches neither, and of those whose goal it does not have, since it is one of the edited function alone. Those that are proved by short ones
+        are told so. Returns how many are left and how many went."""
+        asking = [it for it in edits if it.asked and it.function and not it.is_control]
+        left, next_to_ask = 0, [*map(notes.with_short, asking)]
+        while next_to_ask:
+            copy = Copy(self.crate)
+            for function in dict.fromkeys(it.function for it in next_to_ask):
+                copy.ask_goals([it for it in next_to_ask if it.function == function])
+            kept, next_to_ask = notes.without_wrong(next_to_ask, self.report(copy, shuts))
+            left += len(kept)
+        return left, len(asking) - left

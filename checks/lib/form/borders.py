@@ -7,8 +7,8 @@ import sys
 from lib import sources
 from lib.form.functions import bodies, paths
 
-# The crate that alone knows where each byte of the log lies, the one that hands its names on, and the judges, which reckon for themselves.
-OWNERS = {"journal", "log_layout"}
+# The crate that alone knows where each byte of the log lies, and the judges, which reckon for themselves.
+OWNERS = {"journal"}
 JUDGES = {"abstract_disk", "judging", "hosting", "power_loss", "random_lives", "late_lives", "damage", "worked", "bench"}
 # It tells a reader what a sector of either format is, and serves no device.
 SHOWS = {"scenes"}

@@ -9,6 +9,17 @@ from lib.programs import contents, copy, part_of, remove, write_file
 # How many forced writes are laid over each other, so that records wait in every slot and the ring is wrapped.
 FORCED = 14
 BLOCKS = 1021
+# Slots, format, a multiple, and the first sector behind the log that is one.
+ALIGNED = (
+    (6, 2, "512", 1496),
+    (6, 2, "4096", 1496),
+    (6, 2, "16K", 1504),
+    (6, 2, "65536", 1536),
+    (6, 2, "128K", 1536),
+    (8, 2, "1M", 2048),
+    (64, 2, "64K", 16000),
+    (3, 1, "4K", 152),
+)
 
 
 def make_small(tool):
@@ -24,6 +35,27 @@ def make_small(tool):
         tool.refused("small.img", "it is there; --replace replaces it", *words)
         tool.stays("small.img", "wanted.img", "make of a file that is there")
         remove("small.img")
+
+
+def make_aligned(tool):
+    """Home begins at a multiple: the super tells it, the head is that of any new image, and each other byte is zero. With records, its blocks are
+    those of an image whose home begins where its log ends."""
+    for slots, kind, size, first in ALIGNED:
+        name = f"make --align {size}, format {kind}, {slots} slots"
+        tool.makes("plain.img", 900, slots, kind)
+        tool.makes("page.img", 900, slots, kind, "--align", size)
+        tool.expect(os.stat("page.img").st_size == 512 * (first + 900), f"{name}: length")
+        front = bytearray(part_of("plain.img", 0, 1024))
+        front[40:48] = first.to_bytes(8, "little")
+        tool.expect(contents("page.img") == bytes(front) + bytes(512 * (first + 898)), f"{name}: other bytes")
+        tool.shows("page.img", f"format {kind}", "blocks 900", f"slots {slots}", f"home {first}", "head 1", kib=None)
+        for path in ("plain", "page"):
+            tool.plays(f"{path}.img", RECORDS)
+            tool.exports(f"{path}.img", f"{path}.raw", 900, kib=None)
+        tool.same("page.raw", "plain.raw", f"{name}: other blocks")
+        tool.makes("page.img", 900, slots, kind, "--align", size, "--replace")
+        tool.expect(contents("page.img") == bytes(front) + bytes(512 * (first + 898)), f"{name} in place of another file: other bytes")
+        remove("plain.img", "page.img", "plain.raw", "page.raw")
 
 
 def show_and_migrate(tool):

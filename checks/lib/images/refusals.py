@@ -8,6 +8,7 @@ from lib.told import by_file
 ALL = ("show", "migrate", "export")
 NO_SECTORS, NO_IMAGE, NO_SIZES = "not an image: no whole sectors", "not an image", "the sizes in sector 0 do not fit the file"
 PLAIN, LOCKED, NO_FILE = "it is no plain file", "another program has it locked", "no such file"
+ALIGN = "no blocks begin at a multiple of --align behind a log of so many slots"
 LIMITS, NO_ANSWER, IS_THERE = "the sizes are out of their limits", "the answer was not written", "it is there; --replace replaces it"
 # A byte of a small image, what stands there in its place, the cause, and the commands that it stops.
 FAULTS = (
@@ -19,12 +20,22 @@ FAULTS = (
 )
 # The length of a small image that is cut, in sectors.
 CUT = (1, 2, 205)
+# Slots, formats and multiples at which no blocks begin: too far behind the log, or no page.
+NO_PAGES = (
+    *(f"6 --format 2 --align {it}" for it in ("1M", "512K", "0", "256", "511", "513", "1000", "1536", "96K", "3M", "4294967295M")),
+    "6 --format 1 --align 2K",
+    "3 --format 1 --align 64K",
+)
 # Words to make, show, migrate, import and export, and the file and the cause that they end with. None of these makes a file.
 REFUSED = (
     ("make old.img --blocks 0 --slots 1 --format 2 --replace", "old.img", LIMITS),
     ("make old.img --blocks 2147483649 --slots 1 --format 2 --replace", "old.img", LIMITS),
     ("make old.img --blocks 9 --slots 0 --format 2 --replace", "old.img", LIMITS),
     ("make old.img --blocks 9 --slots 65 --format 2 --replace", "old.img", LIMITS),
+    ("make old.img --blocks 0 --slots 6 --format 2 --align 1000 --replace", "old.img", LIMITS),
+    *((f"make old.img --blocks 9 --slots {words} --replace", "old.img", ALIGN) for words in NO_PAGES),
+    ("make none.img --blocks 9 --slots 6 --format 2 --align 1M", "none.img", ALIGN),
+    ("make pipe --blocks 9 --slots 6 --format 2 --align 64K --replace", "pipe", PLAIN),
     ("make pipe --blocks 9 --slots 1 --format 2 --replace", "pipe", PLAIN),
     ("make /dev/null --blocks 9 --slots 1 --format 2 --replace", "/dev/null", PLAIN),
     ("make none/a.img --blocks 9 --slots 1 --format 2", "none/a.img", NO_FILE),

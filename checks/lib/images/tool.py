@@ -44,10 +44,10 @@ class Tool(Trial):
         self.ends([self.image, "export", path, raw, *words], wanted, kib=kib)
         self.expect(os.stat(raw).st_size == 512 * blocks, f"export {path} {raw}: length")
 
-    def shows(self, path, *lines):
+    def shows(self, path, *lines, kib=SMALL):
         """`show` tells exactly these lines, and changes nothing."""
         copy(path, "before.img")
-        self.ends([self.image, "show", path], Ran(0, "".join(f"{it}\n" for it in lines).encode(), b""), kib=SMALL)
+        self.ends([self.image, "show", path], Ran(0, "".join(f"{it}\n" for it in lines).encode(), b""), kib=kib)
         self.same(path, "before.img", f"show {path}: a byte was changed")
 
     def migrates(self, path, line):

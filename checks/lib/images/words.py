@@ -16,6 +16,14 @@ REFUSED = (
     "make a.img --blocks 09 --slots 1 --format 2",
     "make a.img --blocks 9 --slots 1 --format 3",
     "make a.img --blocks 9 --slots 1 --format 2 --force",
+    "make a.img --blocks 9 --slots 1 --format 2 --align",
+    "make a.img --blocks 9 --slots 1 --format 2 --align --replace",
+    "make a.img --blocks 9 --slots 1 --format 2 --replace --align 4K",
+    "make a.img --blocks 9 --slots 1 --align 4K --format 2",
+    "make a.img --blocks 9 --slots 1 --format 2 --align 4K --force",
+    "make a.img --blocks 9 --slots 1 --format 2 --align 4K --align 4K",
+    *(f"make a.img --blocks 9 --slots 1 --format 2 --align {it}" for it in ("K", "4k", "4KB", "4G", "04K", "0.5K", "-4K", "4KK", "4294967296")),
+    "import a b --slots 1 --format 1 --align 4K",
     "--help me",
     "show",
     "show -a",
@@ -46,8 +54,10 @@ GOOD = (
     "import no.raw no.img --slots 6 --format 2 --replace",
     "make no/a.img --blocks 9 --slots 1 --format 1",
     "make no/a.img --blocks 0 --slots 6 --format 2 --replace",
+    "make no/a.img --blocks 9 --slots 6 --format 2 --align 4096",
+    "make no/a.img --blocks 9 --slots 6 --format 2 --align 64K --replace",
 )
-OTHERS = ("-x", "--replace", "--slots", "--format", "0", "3", "09", "1x")
+OTHERS = ("-x", "--replace", "--slots", "--format", "--align", "0", "3", "09", "1x", "4K", "K")
 # The status of what the launcher is given in place of the program.
 HANDED_ON = 77
 

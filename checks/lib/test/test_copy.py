@@ -101,6 +101,23 @@ class Copies(unittest.TestCase):
         both = answers.without_searches([*lines, *others], {"one", "two"})
         self.assertEqual(both, [*answers.HOLE, *lines[:2], *wanted, *others[:2], "two c = not_tried"])
 
+    def test_each_search_of_an_answer_has_a_limit(self):
+        lines = ["pub one : goal.one", "one c ="]
+        lines += ["  let a : b = omega (arith, (f c).g) in"]
+        other = ["", "pub two : goal.two", "two c = search rules"]
+        text = "  record { x = f (search (rules, g (grind arith)) depth 7); y = first_of (grind (a, b) steps 20, search c); }"
+        wanted = "  record { x = f (search (rules, g (grind arith steps 400000)) depth 7 steps 300000); "
+        wanted += "y = first_of (grind (a, b) steps 20, search c steps 300000); }"
+        self.assertEqual(answers.with_short_searches([*lines, text, *other], {"one"}), [*lines, wanted, *other])
+        both = "first_of (search tried_rules.rules, grind (tried_omega.arith, tried_grind.common_steps))"
+        self.assertEqual(answers.with_limits(both), answers.SHORT_TRIED)
+
+    def test_a_goal_is_tried_by_a_short_search(self):
+        tries = [("one", "g", "c"), ("three", "c", answers.SHORT), ("two", "c", answers.SHORT), ("three", "c")]
+        lines = answers.with_tries([], "toy::other", tries)
+        wanted = [f"one g c = {answers.TRIED}", f"two c = {answers.SHORT_TRIED}", f"three c = {answers.SHORT_TRIED}"]
+        self.assertEqual({it for it in lines if " c = " in it}, {*wanted})
+
     def test_a_function_as_it_is_answers_what_its_edits_ask_for(self):
         copy = Copy(self.crate)
         copy.ask_goals(self.edits("one_is_three.edit", "two_is_six.edit"))

@@ -155,8 +155,12 @@ class Notes(OfToy):
         self.assertEqual(sources.text_of(found.path), f"{text}only: {goal} terms\n")
         said = [f"./proofs/proved/Answers.antt:7:1: error: `{goal}`: expected type `a`", "fn toy::proved: not proved", "only=1"]
         with contextlib.redirect_stdout(io.StringIO()):
-            self.assertEqual(notes.without_wrong([found], Report(Output(1, "\n".join(said)))), [found])
-        self.assertEqual(sources.text_of(found.path), f"{text}only: {goal}\n")
+            kept, (again,) = notes.without_wrong([notes.with_short(found)], Report(Output(1, "\n".join(said))))
+            self.assertEqual((kept, again.only), ([], (goal, "short")))
+            kept, (again,) = notes.without_wrong([again], Report(Output(1, "\n".join(said))))
+            self.assertEqual((kept, again.only), ([], (goal,)))
+            self.assertEqual(notes.without_wrong([again], Report(Output(1, "\n".join(said)))), ([], []))
+        self.assertEqual(sources.text_of(found.path), text)
 
     def test_an_answer_that_names_what_is_gone_is_not_asked_for(self):
         text = "file: src/lib.rt\nold: { 2 } else\nnew: { 3 } else\n"
@@ -172,11 +176,13 @@ class Notes(OfToy):
         found = [self.read(f"{text}untried: a\ntried: {it} c\n", it) for it in ("one", "two")]
         found += [self.read(own, "own"), self.read(f"{text}only: none\n", "none")]
         said = ["fn toy::other: not proved", "fn toy::proved: not proved", "only=2"]
-        error = "./proofs/other/Answers.antt:7:1: error: `two`: `search`: no proof"
+        report = Report(Output(1, "\n".join(["./proofs/other/Answers.antt:7:1: error: `two`: `search`: no proof", *said])))
         with contextlib.redirect_stdout(io.StringIO()):
-            left = notes.without_wrong(found, Report(Output(1, "\n".join([error, *said]))))
+            left, longer = notes.without_wrong([*map(notes.with_short, found)], report)
+            self.assertEqual(notes.without_wrong(longer, report), ([], []))
         self.assertEqual([it.name for it in left], ["toy/one.edit", "toy/own.edit"])
-        wanted = [f"{text}tried: one c\n", f"{text}untried: a\n", own, text]
+        self.assertEqual([(it.name, it.tried) for it in longer], [("toy/two.edit", ("two", "c"))])
+        wanted = [f"{text}tried: one c short\n", f"{text}untried: a\n", f"{own.rstrip()} short\n", text]
         self.assertEqual([sources.text_of(it.path) for it in found], wanted)
 
 
