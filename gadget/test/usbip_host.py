@@ -203,7 +203,8 @@ class Host:
 
 def attached(port, address="127.0.0.1"):
     """A host that has the device attached. The one before it may still be on its way out."""
-    for _ in range(2000):
+    until = time.monotonic() + 60
+    while time.monotonic() < until:
         host = Host(port, address)
         status, _ = host.attach()
         if status == 0:

@@ -15,7 +15,7 @@ import sys
 import time
 
 from usbip_host import IN, OUT, Gone, Host, Server, attached, make_image
-from usbip_run import BLOCKS, PROGRAM, SLOTS, again, ends_well, pattern, play, refused, served
+from usbip_run import BLOCKS, PROGRAM, SLOTS, OffTime, again, ends_well, in_time, pattern, play, refused, served
 
 ENDS = (signal.SIGHUP, signal.SIGINT, signal.SIGQUIT, signal.SIGTERM)
 
@@ -90,7 +90,8 @@ def it_gives_a_place_to_the_owner_among_silent_strangers():
     silent = [Host(server.port) for _ in range(40)]
     begun = time.monotonic()
     host = attached(server.port).set_up()
-    assert time.monotonic() < begun + 5 and host.write(0, pattern(1, 8)) == 0
+    in_time(begun, 5, "the owner has a place")
+    assert host.write(0, pattern(1, 8)) == 0
     more = [Host(server.port) for _ in range(40)]
     assert Host(server.port).list()[8:12] == struct.pack(">I", 1) and host.synchronize() == 0
     assert silent and more
@@ -131,7 +132,8 @@ def it_lets_the_owner_in_among_strangers_that_come_again():
             pass
     flood.kill()
     flood.wait()
-    assert attachments >= 20, f"{attachments} of {tries} imports are answered"
+    if attachments < 20:
+        raise OffTime(f"{attachments} of {tries} imports are answered")
     ends_well(server)
 
 
@@ -152,16 +154,17 @@ def it_serves_others_while_a_host_reads_nothing():
     time.sleep(0.2)
     begun = time.monotonic()
     assert Host(server.port).list()[8:12] == struct.pack(">I", 1)
-    assert time.monotonic() < begun + 5, "others are served"
+    in_time(begun, 5, "others are served")
     found = b""
     while found != data and time.monotonic() < begun + 5:
         time.sleep(0.05)
         with open("disk.img", "rb") as file:
             file.seek((server.home + 500) * 512)
             found = file.read(len(data))
-    assert found == data, "steps in the background are made"
+    if found != data:
+        raise OffTime("steps in the background are made")
     other = attached(server.port).set_up()
-    assert 5 < time.monotonic() - begun < 20, "who takes no answers is let go"
+    in_time(begun, 20, "who takes no answers is let go", least=5)
     assert other.read_blocks(500, 100) == data
     ends_well(server)
 
@@ -291,11 +294,12 @@ def it_serves_while_the_device_works():
     status = host.submit(IN, size=13)
     assert host.control(0x82, 0, 0, 0x81, 2) == (0, b"\0\0"), "a request is answered"
     assert Host(server.port).list()[8:12] == struct.pack(">I", 1), "others are served"
-    assert time.monotonic() - begun < 0.8, "none of these waits for a flush"
-    assert host.wait_for(status)[1][12] == 0 and time.monotonic() - begun > 0.9, "what is promised does"
+    in_time(begun, 0.8, "none of these waits for a flush")
+    assert host.wait_for(status)[1][12] == 0
+    assert time.monotonic() - begun > 0.9, "what is promised does"
     begun = time.monotonic()
     assert host.write(300, pattern(2, 240)) == 0
-    assert time.monotonic() - begun < 0.8, "a plain WRITE waits for no flush"
+    in_time(begun, 0.8, "a plain WRITE waits for no flush")
     # (until that WRITE is in the log, what promises is put off)
     assert host.command(bytes([0x35]) + bytes(9))[0] == 0
     host.out(host.wrapper(struct.pack(">BBIxHx", 0x2A, 8, 0, 8), 4096, False))
@@ -303,7 +307,7 @@ def it_serves_while_the_device_works():
     begun = time.monotonic()
     assert host.control(0x21, 0xFF)[0] == 0, "a class reset is answered"
     assert host.control(0x02, 1, 0, 0x81)[0] == 0 and host.control(0x02, 1, 0, 0x02)[0] == 0
-    assert time.monotonic() - begun < 0.8, "a reset waits for no flush"
+    in_time(begun, 0.8, "a reset waits for no flush")
     assert host.read_blocks(300, 240) == pattern(2, 240)
     ends_well(server)
 

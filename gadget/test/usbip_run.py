@@ -15,6 +15,17 @@ MESSAGES = sys.argv[3] if len(sys.argv) > 3 else "100000"
 BLOCKS, SLOTS = 2000, 6
 
 
+class OffTime(AssertionError):
+    """What the clock alone says. A machine that stands still for some seconds says it too, so that the test is played again."""
+
+
+def in_time(begun, most, what, least=0.0):
+    """This came between these numbers of seconds behind `begun`."""
+    took = time.monotonic() - begun
+    if not least <= took < most:
+        raise OffTime(f"{what}: {took:.1f} s, for {least:g} to {most:g}")
+
+
 def pattern(number, count):
     return random.Random(number).randbytes(count * 512)
 
@@ -47,6 +58,21 @@ def refused(status, text, path="disk.img", *words):
     assert run.returncode == status and f"{path}: " in said and text in said, (run.returncode, said)
 
 
+def play_in_time(it, tries=3):
+    """Plays a test, again where it is off its time, and tells how long it took."""
+    begun = time.monotonic()
+    try:
+        it()
+    except OffTime as error:
+        if tries == 1:
+            raise
+        print(f"{it.__name__.replace('_', ' ')}: {error}; once more", flush=True)
+        Server.end_all()
+        play_in_time(it, tries - 1)
+    else:
+        print(f"{it.__name__.replace('_', ' ')}: {time.monotonic() - begun:.1f} s", flush=True)
+
+
 def play(tests):
     """Plays the tests without arguments, or those whose names have a word of the command line in them, in a folder of their own."""
     words = sys.argv[4:]
@@ -58,8 +84,6 @@ def play(tests):
                 name = it.__name__.replace("_", " ")
                 if it.__code__.co_argcount or (words and not any(word in name for word in words)):
                     continue
-                begun = time.monotonic()
-                it()
-                print(f"{name}: {time.monotonic() - begun:.1f} s", flush=True)
+                play_in_time(it)
         finally:
             Server.end_all()

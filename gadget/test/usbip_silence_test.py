@@ -14,7 +14,7 @@ import threading
 import time
 
 from usbip_host import IN, OUT, Server, attached, make_image
-from usbip_run import BLOCKS, PROGRAM, SLOTS, play
+from usbip_run import BLOCKS, PROGRAM, SLOTS, in_time, play
 
 NEWNET, TUNSETIFF, TUN_WITHOUT_HEAD, MOST = 0x40000000, 0x400454CA, 0x1001, 75
 LIBRARY = ctypes.CDLL(None, use_errno=True)
@@ -70,7 +70,7 @@ def it_lets_hosts_go_whose_packets_vanish():
     wire.is_cut[host_end] = True
     begun = time.monotonic()
     while any("detached" not in server.text() for server in servers):
-        assert time.monotonic() < begun + MOST, [server.text() for server in servers]
+        in_time(begun, MOST, str([server.text() for server in servers]))
         time.sleep(0.1)
     for server in servers:
         assert server.end() == 0
