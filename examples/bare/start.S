@@ -1,7 +1,7 @@
 /* The first lines of a firmware with the library, for AArch64 at EL1, where `-M virt` starts it. One
  * that starts at EL2 or EL3 goes down to EL1 before, and lets it use SIMD (CPTR_EL2, CPTR_EL3).
  *
- *   a stack   64 KB, of which a start takes 38 or 46 KB: link.ld
+ *   a stack   64 KB, of which a start takes 16 or 20 KB: link.ld
  *   SIMD      the library's code uses the SIMD registers: CPACR_EL1
  *   memory    it loads and stores at addresses that are not aligned, for which the memory has to be
  *             normal: without a map of addresses (MMU) it is device memory, where these trap
