@@ -15,15 +15,15 @@ MESSAGES = sys.argv[3] if len(sys.argv) > 3 else "100000"
 BLOCKS, SLOTS = 2000, 6
 
 
-class OffTime(AssertionError):
-    """What the clock alone says. A machine that stands still for some seconds says it too, so that the test is played again."""
+class TooLate(AssertionError):
+    """It came too late. That a machine stood still for some seconds looks the same, so such a test is played again."""
 
 
-def in_time(begun, most, what, least=0.0):
-    """This came between these numbers of seconds behind `begun`."""
+def in_time(begun, most, what):
+    """This came within so many seconds behind `begun`."""
     took = time.monotonic() - begun
-    if not least <= took < most:
-        raise OffTime(f"{what}: {took:.1f} s, for {least:g} to {most:g}")
+    if took >= most:
+        raise TooLate(f"{what}: {took:.1f} s, for {most:g}")
 
 
 def pattern(number, count):
@@ -59,11 +59,11 @@ def refused(status, text, path="disk.img", *words):
 
 
 def play_in_time(it, tries=3):
-    """Plays a test, again where it is off its time, and tells how long it took."""
+    """Plays a test, again where something came too late, and tells how long it took."""
     begun = time.monotonic()
     try:
         it()
-    except OffTime as error:
+    except TooLate as error:
         if tries == 1:
             raise
         print(f"{it.__name__.replace('_', ' ')}: {error}; once more", flush=True)

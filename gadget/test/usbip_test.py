@@ -406,7 +406,8 @@ def it_lets_go_of_clients_that_ask_nothing():
     assert Host(server.port).list()[8:12] == struct.pack(">I", 1)
     for host in silent:
         assert host.socket.recv(1) == b""
-    in_time(begun, 20, "who asks nothing is let go", least=4)
+    assert time.monotonic() > begun + 4, "who asks nothing yet is let in"
+    in_time(begun, 20, "who asks nothing is let go")
     ends_well(server)
 
 
