@@ -1,6 +1,7 @@
 -- What a machine does in the background.
 use Rattle.std.specs.Prelude.{◌≡◌, ◌⊎◌, ◌↔◌, ℕ, zero, suc, ◌<◌, ◌≤◌, Bool, true, false, [], length}
-use Rattle.scsi_unit.specs.Background.{Work, Settle, Ahead, WriteBack, is_dead, steps_left}
+use Rattle.window.specs.Window.{state_of}
+use Rattle.scsi_unit.specs.Background.{Work, Settle, Ahead, WriteBack, IsSettled, is_dead, steps_left}
 use Rattle.bot_machine.specs.Turns.{owes_status}
 use Rattle.disk_machine.specs.Plays.{Disk, medium_of}
 use Rattle.disk_machine.specs.Machine.{Machine}
@@ -61,10 +62,13 @@ HasStepped old new = (IsHeld old × (new ≡ old))
     ⊎ ((¬ IsHeld old) × MakesSteps old.most old.disk new.disk
     × (new ≡ record old { disk = new.disk }))
 
--- and whether some are left is told
+-- And whether some are left is told: where none is, every accepted write is durable and at home,
+-- once the device has carried out what waits.
 pub record Idles (old new : Machine) (left : Bool) : Type 0 where
   pub stepped : HasStepped old new
   pub none_left : (left ≡ false) ↔ IsAllDone new.disk
+  pub at_home : left ≡ false
+      → IsSettled (state_of (medium_of new.disk)) new.disk.unit.store.cached
   pub serves : ServesOn old new
   pub goes_on : KeepsGoing old new
 

@@ -9,10 +9,15 @@ told : (settled : Bool) (P : Type 0) → IsTrue settled ↔ P → (not settled �
 told true P is = (λ none. is.0 refl, λ all. refl)
 told false P is = (λ some. absurd (false≢true (sym some)), λ all. absurd (false≢true (is.1 all)))
 
+settled : (all : Bool) → not all ≡ false → all ≡ true
+settled true none = refl
+settled false none = absurd (false≢true (sym none))
+
 pub returns : goal.returns
 returns c = record {
   stepped = c.step.ensures;
   none_left = told _ _ c.is_settled.ensures.steps;
+  at_home = λ none. c.is_settled.ensures.settled (settled _ none);
   serves = idle_serves _ _ c.step.ensures;
   goes_on = idle_goes_on _ _ c.step.ensures;
 }
