@@ -1,7 +1,8 @@
 -- What a machine does in the background.
 use Rattle.std.specs.Prelude.{◌≡◌, ◌⊎◌, ◌↔◌, ℕ, zero, suc, ◌<◌, ◌≤◌, Bool, true, false, [], length}
 use Rattle.window.specs.Window.{state_of}
-use Rattle.scsi_unit.specs.Background.{Work, Settle, Ahead, WriteBack, IsSettled, is_dead, steps_left}
+use Rattle.scsi_unit.specs.Background.{Work, Settle, Ahead, WriteBack, is_dead, steps_left}
+use Rattle.scsi_unit.specs.Background.{IsSettled}
 use Rattle.bot_machine.specs.Turns.{owes_status}
 use Rattle.disk_machine.specs.Plays.{Disk, medium_of}
 use Rattle.disk_machine.specs.Machine.{Machine}
