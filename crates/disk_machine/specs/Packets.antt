@@ -55,6 +55,13 @@ LacksNone s packet = WantsNone s.disk packet
     ⊎ ((home : DeviceRead) × Wants s.disk packet home.first home.count
     × (s.lack ≡ lack.Unread home))
 
+-- whether it has a command carried out that promises, as `Disk::promises` tells
+pub record IsPromise (s : Machine) (packet : List ℕ) (promises : Bool) : Type 0 where
+  pub none : promises ≡ false → (book : Book) → IsOfSize s.disk.unit book
+      → PromisesNone (over s.disk book) (event.Out (record { items = packet }))
+  pub some : promises ≡ true → (book : Book) → IsOfSize s.disk.unit book
+      → PromisesIn (over s.disk book) (event.Out (record { items = packet }))
+
 -- ---- what a packet does
 
 -- a status that promises waits where the device is behind

@@ -1,7 +1,8 @@
 //! What a machine does with a packet to Bulk-Out.
 ghost use Rattle.std.specs.Prelude.{◌≡◌, ◌≤◌, ◌⊎◌, ◌↔◌, IsTrue, MatchOption, length};
 ghost use Rattle.disk_machine.specs.Plays.{medium_of};
-ghost use Rattle.disk_machine.specs.Packets.{HoldsBack, Lacks, LacksNone, PlaysOut, TakesOut};
+ghost use Rattle.disk_machine.specs.Packets.{HoldsBack, IsPromise, Lacks, LacksNone};
+ghost use Rattle.disk_machine.specs.Packets.{PlaysOut, TakesOut};
 ghost use Rattle.disk_machine.specs.Packets.{is_reading, is_starting};
 ghost use Rattle.disk_machine.specs.Moves.{is_behind};
 ghost use Rattle.disk_machine.specs.declared.lack.Lack.TheVariants as lack;
@@ -29,7 +30,8 @@ impl DiskMachine {
         if self.holds_back() {
             return NAK;
         }
-        if self.puts_off(packet) {
+        let promises = self.disk.promises(packet);
+        if self.puts_off(promises) {
             self.write_on();
             return NAK;
         }
@@ -39,19 +41,20 @@ impl DiskMachine {
                 NAK
             }
             None => {
-                let code = self.play(packet);
+                let code = self.play(packet, promises);
                 self.rest();
                 code
             }
         }
     }
 
-    // Plays a packet. A status that promises waits for a device that is behind.
-    fn play(&mut self, packet: &[u8]) -> u32
-        requires { length packet.now ≤ self.old.disk.line.packet_size }
+    // Plays a packet, of which is known whether it promises. A status that does waits for a device
+    // that is behind.
+    fn play(&mut self, packet: &[u8], promises: bool) -> u32
+        requires fits { length packet.now ≤ self.old.disk.line.packet_size }
+        requires told { IsPromise self.old packet.now promises }
         ensures { PlaysOut self.old packet.now self.new result }
     {
-        let promises = self.disk.promises(packet);
         let code = play_packet(&mut self.disk, packet);
         self.lack = Lack::Nothing;
         if promises && self.is_behind() {

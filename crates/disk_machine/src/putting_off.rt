@@ -1,6 +1,6 @@
 //! What a machine does with a packet that promises while a record is left to write.
-ghost use Rattle.std.specs.Prelude.{◌≡◌, ◌↔◌, true, false, IsTrue};
-ghost use Rattle.disk_machine.specs.PuttingOff.{IsPutOff, IsReady, MayWriteOn, WritesOn};
+ghost use Rattle.std.specs.Prelude.{◌≡◌, ◌↔◌, ◌⊎◌, true, false, IsTrue};
+ghost use Rattle.disk_machine.specs.PuttingOff.{HasWritten, MayWriteOn, WritesOn};
 ghost use Rattle.disk_machine.specs.PuttingOff.{HasWrittenOn};
 
 use crate::machine::DiskMachine;
@@ -14,14 +14,11 @@ const MOST_WRITTEN: u32 = 256;
 
 impl DiskMachine {
     // Whether a packet is put off: it promises, and a record is left to write.
-    pub(crate) fn puts_off(&self, packet: &[u8]) -> bool
-        ensures put_off { result ≡ true → IsPutOff self.now packet.now }
-        ensures ready { result ≡ false → IsReady self.now packet.now }
+    pub(crate) fn puts_off(&self, promises: bool) -> bool
+        ensures put_off { result ≡ true → (promises ≡ true) × (¬ HasWritten self.now.disk) }
+        ensures ready { result ≡ false → HasWritten self.now.disk ⊎ (promises ≡ false) }
     {
-        if self.disk.is_written() {
-            return false;
-        }
-        self.disk.promises(packet)
+        promises && !self.disk.is_written()
     }
 
     // Steps that write what is left to write, so that the packet makes one batch durable at most.
