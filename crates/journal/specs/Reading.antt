@@ -1,8 +1,7 @@
 -- What is read of a record, and by how many reads.
-use Rattle.std.specs.Prelude.{◌≡◌, ◌≢◌, ℕ, ◌+◌, ◌<◌, ◌≤◌, Result, IfOk, IfErr, ◌⊎◌, ◌*◌, List}
+use Rattle.std.specs.Prelude.{◌≡◌, ◌≢◌, ℕ, ◌+◌, ◌<◌, ◌⊎◌, ◌*◌, List}
 use Rattle.std.specs.Prelude.{length, take, drop, All, [], ◌++◌, get_or, Option, Some, None}
-use Rattle.medium.specs.Medium.{State, LooksOnly, Image}
-use Rattle.medium.specs.Moments.{IsQuiet}
+use Rattle.medium.specs.Medium.{State, Image}
 use Rattle.medium.specs.declared.fault.MediumFault.{MediumFault}
 use Rattle.medium.specs.declared.fault.MediumFault.TheVariants as medium
 use Rattle.journal.specs.declared.record.Record.{Record}
@@ -24,23 +23,6 @@ pub record IsRefusedCall (old new : State) (kind : MediumFault) : Type 0 where
 -- no call but reads was made
 abbrev pub MakesReadsAlone : State → State → Type 0
 MakesReadsAlone old new = (kind : MediumFault) → kind ≢ medium.Read → new.made kind ≡ old.made kind
-
--- No call but reads was made, at most this many. An error is a call that the medium refused.
-pub record ReadsPass {X : Type 0} (most : ℕ) (old new : State) (result : Result X MediumFault)
-    : Type 0 where
-  pub quiet : IsQuiet old new
-  pub reads : MakesReadsAlone old new
-  pub calls : new.calls ≤ old.calls + most
-  pub cause : IfErr result (IsRefusedCall old new)
-
--- The medium comes after what it was, by reads alone, at most this many, and of these sectors. What
--- they find is so.
-pub record LooksUp {M X : Type 0} (state : M → State) (Follows : M → M → Type 0) (most : ℕ)
-    (places : ℕ → Type 0) (Finds : State → State → X → Type 0) (old new : M)
-    (result : Result X MediumFault) : Type 0 where
-  pub passes : ReadsPass most (state old) (state new) result
-  pub finds : IfOk result (Finds (state old) (state new))
-  pub follows : Follows old new × LooksOnly places (state old) (state new)
 
 -- ---- what the sectors of a slot of format 2 say, and how many are read to find the record in it
 

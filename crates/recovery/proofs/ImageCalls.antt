@@ -1,18 +1,28 @@
 -- The calls that write a new image, and what each leaves of what was shown before it.
-use Rattle.std.proofs.Common.{◌≡◌, ◌<◌, ◌≤◌, ◌⊎◌, ◌+◌, ℕ, List, Ok, Err, OnOk, Result, refl, ◌∙◌, sym, ap, inl, inr, ⊎_elim}
+use Rattle.std.proofs.Common.{◌≡◌, ◌≢◌, ◌<◌, ◌≤◌, ◌⊎◌, ◌+◌, ℕ, List, Ok, Err, OnOk, Result, refl, ◌∙◌, sym, ap, inl, inr, ⊎_elim}
 use Rattle.std.proofs.Common.{arith, replicate}
 use Rattle.std.proofs.lemmas.Bool.{cases_eq}
 use Rattle.medium.specs.Medium.{State, Image, Holds, IsSound, Passes}
 use Rattle.medium.specs.Moments.{EachCut, IsFlushed}
+use Rattle.medium.specs.Machine.{TellsCall, Driven, Tallied}
 use Rattle.medium.specs.Performed.{Performed}
 use Rattle.medium.specs.declared.fault.MediumFault.{MediumFault}
+use Rattle.medium.specs.declared.fault.MediumFault.TheVariants as fault
+use Rattle.medium.specs.declared.medium_call.Call.{Call}
 use Rattle.medium.specs.declared.medium_call.Call.TheVariants.{Write, Flush}
-use Rattle.medium.proofs.Moments.{after_write, shrunk}
-use Rattle.journal.specs.Places.{Shape}
+use Rattle.medium.specs.Tally.{Tally, none, of_all, one_more}
+use Rattle.medium.proofs.Driving.{left_all}
+use Rattle.medium.proofs.Moments.{after_write, shrunk, weaker}
+use Rattle.medium.proofs.Tallies.{calls_most, calls_all, sends_most}
+use Rattle.std.proofs.lemmas.Result.{on_ok_weaker}
 use Rattle.journal.specs.Sectors.{IsHead, IsSuper}
-use Rattle.recovery.specs.Calls.{IsWritten, IsNoneOrWritten}
-use Rattle.recovery.specs.NewImage.{ImageView, Shows, IsBlank, IsHeaded, HasImage, MidwayImage, HoldsImage, IsLive, image_left, MayBeImage}
-use Rattle.medium.specs.Tally.{Tally, none, of_all}
+use Rattle.journal.specs.Formats.{shape_of}
+use Rattle.recovery.specs.NewImage.{ImageView, Under, Shows, IsBlank, IsHeaded, IsPart, IsPartAt, IsNew, IsPartOrNew, HasImage, MidwayImage}
+use Rattle.recovery.specs.Calls.{Writes}
+use Rattle.recovery.proofs.DrivenCalls.{refused_call, none_read}
+use Rattle.recovery.specs.NewImage.{HoldsImage, MayBeImage, IsLive, IsAfter, image_left, each_midway}
+use Rattle.recovery.specs.declared.image_plan.ImagePlan.{ImagePlan}
+use Rattle.recovery.specs.declared.new_image.NewImage.{NewImage}
 use Rattle.recovery.specs.declared.image_stage.ImageStage.{ImageStage}
 use Rattle.recovery.specs.declared.image_stage.ImageStage.TheVariants as stage
 
@@ -25,28 +35,15 @@ module _ {K : Image → Type 0} {old new : State} {bytes got : List ℕ} where
       ⊎_elim (λ was. stays image (cuts image was)) (λ w. writes w.0 image (cuts w.0 w.1) w.2)
       (after_write old sound new.may_leave place bytes performed.adds image cut)
 
-  -- a good one: the contents have that sector written
-  pub write_shows : {D : Image → Type 0} {place : ℕ} (E L : Image → Type 0) → IsSound old → Shows D K old
-      → Performed (Write place) bytes got (Ok tt) old new → ((before image : Image) → D before → Holds place bytes before image → E image)
-      → ((image : Image) → K image → L image) → ((before image : Image) → K before → Holds place bytes before image → L image)
-      → Shows E L new
-  write_shows E L sound shows performed changes stays writes = record {
-    content = changes old.content new.content shows.content performed.done;
-    cuts = write_leaves L sound shows.cuts performed stays writes;
-  }
-
-  -- a flush that is refused
-  pub flush_leaves : {result : Result (Unit {0}) MediumFault} (L : Image → Type 0) → EachCut K old
-      → Performed Flush bytes got result old new → ((image : Image) → K image → L image) → EachCut L new
-  flush_leaves L cuts performed stays image cut = stays image (shrunk K old new performed.adds cuts image cut)
-
-  -- a good one: a cut leaves what a read gives
-  pub flush_shows : {D : Image → Type 0} → Shows D K old → Performed Flush bytes got (Ok tt) old new → Shows D D new
-  flush_shows shows performed =
+  -- a good flush: a cut leaves what a read gives
+  pub flush_shows : {D : Image → Type 0} (E L : Image → Type 0) → IsSound old → Shows D K old
+      → Performed Flush bytes got (Ok tt) old new → (D old.content → K old.content → E old.content × L old.content) → Shows E L new
+  flush_shows E L sound shows performed becomes =
+      let both = becomes shows.content (shows.cuts old.content sound.holds_content) in
       let same : new.content ≡ old.content = λ i s. performed.done.0 s i in
       record {
-        content = rw same shows.content;
-        cuts = λ image cut. let is : image ≡ old.content = λ i s. performed.done.1 s (image s) (cut s) i in rw is shows.content;
+        content = rw same both.0;
+        cuts = λ image cut. let is : image ≡ old.content = λ i s. performed.done.1 s (image s) (cut s) i in rw is both.1;
       }
 
 pub flush_only : {old new : State} {bytes got : List ℕ} → Performed Flush bytes got (Ok tt) old new → IsFlushed new
@@ -55,129 +52,182 @@ flush_only performed s c left = performed.done.1 s c left ∙ sym (performed.don
 more_or_here : {few many : ℕ} → few ≤ many → (few + 1 ≤ many) ⊎ (many ≡ few)
 more_or_here {few} {many} le = elim (cases_eq many few) [ inl same ↦ inr same | inr not ↦ inl (omega (arith, le, not)) ]
 
-module _ {end : ℕ} {start : Image} (before image : Image) where
+module _ {plan : ImagePlan} {under : Under} {before image : Image} where
   -- one sector more has zeros
-  pub blank_on : {at : ℕ} → at < end → IsBlank at end start before → Holds at (replicate 512 0) before image
-      → IsBlank (at + 1) end start image
+  pub blank_on : {at : ℕ} → at < plan.end → IsBlank plan under at before → Holds at (replicate 512 0) before image
+      → IsBlank plan under (at + 1) image
   blank_on {at = at} below is holds = record {
-    some = omega arith;
+    some = omega (arith, is.some);
     inside = omega (arith, below);
-    zeros = λ x low. elim (cases_eq x at) [
+    zeros = λ x low high. elim (cases_eq x at) [
       | inl same ↦ rw same holds.here
-      | inr not ↦ holds.elsewhere x not ∙ is.zeros x (omega (arith, low, not))
+      | inr not ↦ holds.elsewhere x not ∙ is.zeros x low (omega (arith, high, not))
     ];
-    behind = λ x past. holds.elsewhere x (λ e. omega (arith, e, past, below)) ∙ is.behind x past;
+    elsewhere = λ x not. holds.elsewhere x (λ e. not (omega (arith, e, is.some), omega (arith, e)))
+        ∙ is.elsewhere x (λ b. not (b.0, omega (arith, b.1)));
   }
 
   -- all have, and the head is there
-  pub headed : {at : ℕ} {head : List ℕ} → end ≤ at → 2 ≤ end → IsHead 1 head → IsBlank at end start before → Holds 1 head before image
-      → IsHeaded end start image
-  headed full long head is holds = record {
-    blank = holds.elsewhere 0 (λ e. omega arith) ∙ is.zeros 0 (omega (arith, is.some));
+  pub headed : {at : ℕ} {head : List ℕ} → plan.end ≤ at → IsHead plan.head.stamp head → IsBlank plan under at before
+      → Holds 1 head before image → IsHeaded plan under image
+  headed full head is holds = record {
     head = rw holds.here head;
-    zeros = λ x low high. holds.elsewhere x (λ e. omega (arith, e, low)) ∙ is.zeros x (omega (arith, high, full));
-    behind = λ x past. holds.elsewhere x (λ e. omega (arith, e, past, long)) ∙ is.behind x past;
+    zeros = λ x low high. holds.elsewhere x (λ e. omega (arith, e, low))
+        ∙ is.zeros x (omega (arith, low, under.most)) (omega (arith, high, full));
+    elsewhere = λ x apart not. holds.elsewhere x apart
+        ∙ is.elsewhere x (λ b. not (omega (arith, b.0, apart, under.some), omega (arith, b.1, is.inside)));
   }
 
   -- the super is there too
-  pub written : {shape : Shape} {super : List ℕ} → 2 ≤ end → IsSuper shape super → IsHeaded end start before → Holds 0 super before image
-      → IsWritten shape end start image
+  pub written : {super : List ℕ} → 2 ≤ plan.end → IsSuper (shape_of plan.sizes) super → IsHeaded plan under before
+      → Holds 0 super before image → IsNew plan under image
   written long super is holds = record {
     super = rw holds.here super;
     head = rw (holds.elsewhere 1 (λ e. omega arith)) is.head;
     zeros = λ x low high. holds.elsewhere x (λ e. omega (arith, e, low)) ∙ is.zeros x low high;
-    behind = λ x past. holds.elsewhere x (λ e. omega (arith, e, past, long)) ∙ is.behind x past;
+    behind = λ x past. holds.elsewhere x (λ e. omega (arith, e, past, long))
+        ∙ is.elsewhere x (λ e. omega (arith, e, past, long)) (λ b. omega (arith, b.1, past));
   }
 
--- the flushed wipe
-pub wiped : {end : ℕ} {start : Image} {m : State} → 2 ≤ end → Shows (Holds 0 (replicate 512 0) start) (Holds 0 (replicate 512 0) start) m
-    → Shows (IsBlank 1 end start) (λ image. image 0 ≡ replicate 512 0) m
-wiped {m = m} long shows = record {
-  content = record {
-    some = omega arith;
-    inside = omega (arith, long);
-    zeros = λ x low. ap m.content (omega (arith, low)) ∙ shows.content.here;
-    behind = λ x past. shows.content.elsewhere x (λ e. omega (arith, e, past, long));
-  };
-  cuts = λ image cut. (shows.cuts image cut).here;
-}
+  -- what is a part stays one where this sector is one
+  pub part_on : {place : ℕ} {bytes : List ℕ} → IsPart plan under before → Holds place bytes before image
+      → IsPartAt plan under image place → IsPart plan under image
+  part_on {place = place} is holds here = record {
+    each = λ x. elim (cases_eq x place) [
+      | inl same ↦ rw same here
+      | inr not ↦ rw (holds.elsewhere x not) (is.each x)
+    ];
+  }
 
--- once less is left than behind the first good flush there is none, or the new image
-late : (at : ImageStage) (shape : Shape) (end : ℕ) (old : State) (image : Image) → IsLive at → of_all (image_left at end) ≤ end + 3
-    → MidwayImage at shape end old image → IsNoneOrWritten shape end old.content image
-late stage.Wipe shape end old image live few is = absurd (omega (arith, few))
-late stage.FlushWipe shape end old image live few is = absurd (omega (arith, few))
-late (stage.Zeros at) shape end old image live few is = inl is
-late stage.FlushHead shape end old image live few is = inl is
-late stage.Super shape end old image live few is = inl is.blank
-late stage.FlushSuper shape end old image live few is = is
-late stage.Made shape end old image live few is = inr is
-late stage.Refused shape end old image live few is = elim live [ ]
+-- once less is left than behind the first good flush there is a part of the new image, or it
+late : (plan : ImagePlan) (under : Under) (at : ImageStage) (old : State) (image : Image) → IsLive at
+    → of_all (image_left at plan.end) ≤ plan.end + 3 → MidwayImage plan under at old image → IsPartOrNew plan under image
+late plan under stage.Wipe old image live few is = absurd (omega (arith, few))
+late plan under stage.FlushWipe old image live few is = absurd (omega (arith, few))
+late plan under (stage.Zeros at flush) old image live few is = inl is
+late plan under stage.FlushHead old image live few is = inl is
+late plan under stage.Super old image live few is = inl is.1
+late plan under stage.FlushSuper old image live few is = is
+late plan under stage.Made old image live few is = inr is
+late plan under stage.Refused old image live few is = elim live [ ]
 
-module _ {M : Type 0} {state : M → State} {at : ImageStage} {shape : Shape} {end : ℕ} {view : ImageView M} {m n : M}
+module _ {M : Type 0} {state : M → State} {at : ImageStage} {plan : ImagePlan} {view : ImageView M} {m n : M}
     {kind : MediumFault} {result : Result (Unit {0}) MediumFault} (sound : IsSound (state m))
-    (held : HoldsImage state at shape end view m) (live : IsLive at) (passes : Passes kind result (state m) (state n)) where
-  -- none, or the new image
-  abbrev pub NoneOrNew : Image → Type 0
-  NoneOrNew = IsNoneOrWritten view.shape view.end (state view.start).content
-
+    (held : HoldsImage state at plan view m) (live : IsLive at) (passes : Passes kind result (state m) (state n))
+    (next : ImageStage) (lives : IsLive next) (fewer : of_all (image_left next plan.end) ≤ of_all (image_left at plan.end)) where
   -- one moment more, after the first good flush
-  since_on : ((state view.start).calls + 2 ≤ (state m).calls → EachCut NoneOrNew (state n))
-      → (state view.start).calls + 3 ≤ (state n).calls → (image : Image)
-      → (state n).left_since ((state view.start).calls + 2) image
-      → NoneOrNew image
-  since_on now more image since =
-      let moment = (state view.start).calls + 2 in
-      let past : moment ≤ (state m).calls = omega (arith, more, passes.calls_are) in
+  since_on : EachCut (MidwayImage plan view.under next (state view.start)) (state n) → view.since + 1 ≤ (state n).calls → (image : Image)
+      → (state n).left_since view.since image → IsPartOrNew plan view.under image
+  since_on cuts more image since =
+      let past : view.since ≤ (state m).calls = omega (arith, more, passes.calls_are) in
       ⊎_elim (λ was. ⊎_elim
-      (λ later. held.after_flush (omega (arith, later)) image was)
-      (λ (here : (state m).calls ≡ moment). late at view.shape view.end (state view.start) image live
-      (rw held.end_is (omega (arith, held.calls live, here)))
-      (held.shows.cuts image (sound.only_now image (rw (← here) at was))))
+      (λ later. held.after_flush later image was)
+      (λ (here : (state m).calls ≡ view.since). late plan view.under at (state view.start) image live
+      (omega (arith, held.calls live, here)) (held.shows.cuts image (sound.only_now image (rw (← here) at was))))
       (more_or_here past))
-      (now past image) (passes.nothing_else moment image past since)
+      (λ now. late plan view.under next (state view.start) image lives (omega (arith, held.calls live, past, fewer)) (cuts image now))
+      (passes.nothing_else view.since image past since)
 
   -- the next call comes, or none
-  pub moved : (next : ImageStage) → IsLive next → of_all (image_left at end) ≡ of_all (image_left next end) + 1
-      → Shows (HasImage next view.shape view.end (state view.start).content)
-      (MidwayImage next view.shape view.end (state view.start)) (state n)
-      → (next ≡ stage.Made → IsFlushed (state n)) → HoldsImage state next shape end view n
-  moved next lives one shows flushed =
-      let calls : (state n).calls + of_all (image_left next end) ≡ (state view.start).calls + (end + 5) =
-      omega (arith, held.calls live, passes.calls_are, one) in
-      record {
-        shape_is = held.shape_is;
-        end_is = held.end_is;
-        shows = shows;
-        flushed = flushed;
-        calls = λ still. calls;
-        after_flush = since_on (λ past image cut. late next view.shape view.end (state view.start) image lives
-            (rw held.end_is (omega (arith, calls, past, passes.calls_are))) (shows.cuts image cut));
-      }
-
-  -- one was refused
-  pub stopped : EachCut (MayBeImage view.shape view.end (state view.start)) (state n)
-      → ((state view.start).calls + 2 ≤ (state m).calls → EachCut NoneOrNew (state n))
-      → HoldsImage state stage.Refused shape end view n
-  stopped cuts now = record {
-    shape_is = held.shape_is;
-    end_is = held.end_is;
-    shows = record { content = tt; cuts = cuts };
-    flushed = λ e. cc e;
-    calls = λ still. elim still [ ];
-    after_flush = since_on now;
+  moved : of_all (image_left at plan.end) ≡ of_all (image_left next plan.end) + 1
+      → Shows (HasImage plan view.under next) (MidwayImage plan view.under next (state view.start)) (state n)
+      → (next ≡ stage.Made → IsFlushed (state n)) → HoldsImage state next plan view n
+  moved one shows flushed = record {
+    plan_is = held.plan_is;
+    shows = shows;
+    flushed = flushed;
+    calls = λ still. omega (arith, held.calls live, passes.calls_are, one);
+    after_flush = since_on shows.cuts;
   }
 
-  -- behind the first good flush
-  pub stopped_late : EachCut NoneOrNew (state n)
-      → HoldsImage state stage.Refused shape end view n
-  stopped_late cuts = stopped (λ image cut. inr (cuts image cut)) (λ past. cuts)
+  -- one was refused
+  stopped : EachCut (MidwayImage plan view.under next (state view.start)) (state n) → HoldsImage state stage.Refused plan view n
+  stopped cuts = record {
+    plan_is = held.plan_is;
+    shows = record {
+      content = tt;
+      cuts = λ image cut. each_midway plan view.under next (state view.start) image (cuts image cut);
+    };
+    flushed = λ e. cc e;
+    calls = λ still. elim still [ ];
+    after_flush = since_on cuts;
+  }
+
+-- this is the next call of a new image
+abbrev pub TellsImage : {M : Type 0} → (M → State) → NewImage → List ℕ → Call → List ℕ → Type 0
+TellsImage {M = M} state s had call bytes =
+    TellsCall {M = M} {S = NewImage} {V = ImageView M} state (λ s size. (s.plan.end ≤ size) × IsLive s.stage)
+    (λ s had m view. HoldsImage state s.stage s.plan view m) (λ s. 0) (λ s. s.plan.end) (λ s. image_left s.stage s.plan.end) (Unit {0})
+    (λ s. 0 < (image_left s.stage s.plan.end).flushes)
+    (λ s got t. (t.plan ≡ s.plan) × IsAfter s.stage s.plan.end t.stage × IsLive t.stage)
+    (λ s t. (t.plan ≡ s.plan) × (t.stage ≡ stage.Refused)) s had call bytes
+
+module _ {M : Type 0} {state : M → State} (sound : (m : M) → IsSound (state m)) (s : NewImage) {had bytes : List ℕ}
+    (at next : ImageStage) (is : s.stage ≡ at) (lives : IsLive next)
+    (leads : (t : ImageStage) → IsAfter at s.plan.end t → t ≡ next) (due : 0 < (image_left at s.plan.end).flushes) where
+  -- A write: the contents, and what a cut leaves, are those of the next stage, with that sector written.
+  pub tells_write : (place : ℕ) → place < s.plan.end → next ≢ stage.Made
+      → image_left at s.plan.end ≡ one_more (image_left next s.plan.end) fault.Write
+      → ((view : ImageView M) (now : Image) → HasImage s.plan view.under at now
+      → ((image : Image) → Holds place bytes now image → HasImage s.plan view.under next image)
+      × ((image : Image) → MidwayImage s.plan view.under at (state view.start) image
+      → MidwayImage s.plan view.under next (state view.start) image)
+      × ((before image : Image) → MidwayImage s.plan view.under at (state view.start) before → Holds place bytes before image
+      → MidwayImage s.plan view.under next (state view.start) image))
+      → TellsImage state s had (Write place) bytes
+  tells_write place below more one becomes = record {
+    due = rw is due;
+    within = below;
+    looks = tt;
+    made = λ m n got view t fits held performed after.
+        let h = rw is at held in
+        let b = becomes view (state m).content h.shows.content in
+        rw (after.0, leads t.stage (rw is at after.1)) (moved (sound m) h (rw is at fits.1) performed.passes next lives
+        (omega (arith, ap of_all one)) (omega (arith, ap of_all one))
+        (record {
+          content = b.0 (state n).content performed.done;
+          cuts = write_leaves (MidwayImage s.plan view.under next (state view.start)) (sound m) h.shows.cuts performed b.1 b.2;
+        }) (λ e. absurd (more e)));
+    refused = λ m n got view t e fits held performed gone.
+        let h = rw is at held in
+        let b = becomes view (state m).content h.shows.content in
+        rw (gone.0, gone.1) (stopped (sound m) h (rw is at fits.1) performed.passes next lives (omega (arith, ap of_all one))
+        (write_leaves (MidwayImage s.plan view.under next (state view.start)) (sound m) h.shows.cuts performed b.1 b.2));
+    rest = image_left next s.plan.end;
+    pays = rw is one;
+    rests = λ got t after. left_all (rw (after.0, leads t.stage (rw is at after.1)) refl);
+  }
+
+  -- A flush: what the contents are, and what a cut may leave of them, is so of the next stage.
+  pub tells_flush : image_left at s.plan.end ≡ one_more (image_left next s.plan.end) fault.Flush
+      → ((view : ImageView M) (now : Image) → HasImage s.plan view.under at now
+      → MidwayImage s.plan view.under at (state view.start) now
+      → HasImage s.plan view.under next now × MidwayImage s.plan view.under next (state view.start) now)
+      → IsLive at → TellsImage state s had Flush bytes
+  tells_flush one becomes live = record {
+    due = rw is due;
+    within = tt;
+    looks = tt;
+    made = λ m n got view t fits held performed after.
+        let h = rw is at held in
+        rw (after.0, leads t.stage (rw is at after.1)) (moved (sound m) h live performed.passes next lives
+        (omega (arith, ap of_all one)) (omega (arith, ap of_all one))
+        (flush_shows (HasImage s.plan view.under next) (MidwayImage s.plan view.under next (state view.start)) (sound m) h.shows performed
+        (becomes view (state m).content)) (λ e. flush_only performed));
+    refused = λ m n got view t e fits held performed gone.
+        let h = rw is at held in
+        rw (gone.0, gone.1) (stopped (sound m) h live performed.passes at live (omega arith)
+        (shrunk (MidwayImage s.plan view.under at (state view.start)) (state m) (state n) performed.adds h.shows.cuts));
+    rest = image_left next s.plan.end;
+    pays = rw is one;
+    rests = λ got t after. left_all (rw (after.0, leads t.stage (rw is at after.1)) refl);
+  }
 
 -- where none is left and none was refused it is made
 ends_made : (at : ImageStage) (end : ℕ) → IsLive at → image_left at end ≡ none → at ≡ stage.Made
 ends_made stage.Wipe end live left = absurd (omega (arith, ap (λ (t : Tally). t.flushes) left))
 ends_made stage.FlushWipe end live left = absurd (omega (arith, ap (λ (t : Tally). t.flushes) left))
-ends_made (stage.Zeros at) end live left = absurd (omega (arith, ap (λ (t : Tally). t.flushes) left))
+ends_made (stage.Zeros at flush) end live left = absurd (omega (arith, ap (λ (t : Tally). t.flushes) left))
 ends_made stage.FlushHead end live left = absurd (omega (arith, ap (λ (t : Tally). t.flushes) left))
 ends_made stage.Super end live left = absurd (omega (arith, ap (λ (t : Tally). t.flushes) left))
 ends_made stage.FlushSuper end live left = absurd (omega (arith, ap (λ (t : Tally). t.flushes) left))
@@ -185,11 +235,50 @@ ends_made stage.Made end live left = refl
 ends_made stage.Refused end live left = elim live [ ]
 
 -- the image is there where Ok, and a cut leaves no other
-pub image_ended : {M : Type 0} {state : M → State} (result : Result (Unit {0}) MediumFault) (at : ImageStage) (end : ℕ) {shape : Shape}
-    {view : ImageView M} {m : M} → OnOk result (IsLive at) → OnOk result (image_left at end ≡ none)
-    → HoldsImage state at shape end view m
-    → OnOk result (IsWritten view.shape view.end (state view.start).content (state m).content × IsFlushed (state m))
-image_ended (Ok done) at end live left held =
-    let is = ends_made at end live left in
+image_ended : {M : Type 0} {state : M → State} (result : Result (Unit {0}) MediumFault) {at : ImageStage} {plan : ImagePlan}
+    {view : ImageView M} {m : M} → OnOk result (IsLive at) → OnOk result (image_left at plan.end ≡ none)
+    → HoldsImage state at plan view m → OnOk result (IsNew plan view.under (state m).content × IsFlushed (state m))
+image_ended (Ok done) {at} {plan} live left held =
+    let is = ends_made at plan.end live left in
     let made = rw is at held in (made.shows.content, held.flushed is)
-image_ended (Err e) at end live left held = tt
+image_ended (Err e) live left held = tt
+
+-- An image was written over these contents, good or refused: its calls, how it ended, and what a cut leaves from this moment on.
+pub image_driven : {M : Type 0} {state : M → State} {first now : NewImage} {began had : List ℕ} {m n : M}
+    {result : Result (Unit {0}) MediumFault} (P : Image → Type 0) (count since : ℕ) (under : Under)
+    → Driven {M = M} {S = NewImage} {V = ImageView M} state (λ s size. (s.plan.end ≤ size) × IsLive s.stage)
+    (λ s had m view. HoldsImage state s.stage s.plan view m)
+    (λ view image. MayBeImage view.plan view.under (state view.start) image) (λ s. 0) (λ s. s.plan.end)
+    (λ s. image_left s.stage s.plan.end) (Unit {0}) first began m result now had n
+    → OnOk result ((image_left now.stage now.plan.end ≡ none)
+    × Tallied (Unit {0}) (image_left first.stage first.plan.end) none result (state m) (state n))
+    → first.plan.end ≤ (state m).size → IsLive first.stage → first.stage ≢ stage.Made
+    → (image_left first.stage first.plan.end).reads ≡ 0
+    → Shows (HasImage first.plan under first.stage) (MidwayImage first.plan under first.stage (state m)) (state m)
+    → of_all (image_left first.stage first.plan.end) ≡ count → (state m).calls ≤ since
+    → (state m).calls + count ≡ since + (first.plan.end + 3) → ((image : Image) → MayBeImage first.plan under (state m) image → P image)
+    → Writes P first.plan.end count (state m) (state n) result
+    × OnOk result (IsNew first.plan under (state n).content × IsFlushed (state n))
+    × (since + 1 ≤ (state n).calls → (image : Image) → (state n).left_since since image → IsPartOrNew first.plan under image)
+image_driven {first = first} {m = m} {result = result} P count since under drove done fits live begins no_read shows counts later
+    counted may =
+    let run = drove.runs (record { start = m; plan = first.plan; under = under; since = since }) (record {
+      plan_is = refl;
+      shows = shows;
+      flushed = λ e. absurd (begins e);
+      calls = λ still. omega (arith, counted, counts);
+      after_flush = λ more. absurd (omega (arith, more, later));
+    }) in (
+      record {
+        moments = weaker _ P _ _ may run.0;
+        spares = drove.spares;
+        calls = omega (arith, calls_most drove.tallied, counts);
+        exact = on_ok_weaker result (λ end. omega (arith, calls_all end.1 tt refl, counts)) done;
+        sent = omega (arith, sends_most drove.tallied, no_read, counts);
+        reads = none_read drove.tallied no_read drove.looks;
+        cause = refused_call result drove.tallied;
+      },
+      rw run.1.plan_is (image_ended result (on_ok_weaker result (λ on. (on.0.fits_still _ (fits, live)).1) drove.on)
+          (on_ok_weaker result (λ end. end.0) done) run.1),
+      rw run.1.plan_is run.1.after_flush,
+    )

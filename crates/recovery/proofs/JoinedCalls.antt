@@ -1,14 +1,14 @@
 -- Calls, and then others: what they are together, and what is left at each moment of them; and records that are copied home.
 use Rattle.std.proofs.Common.{◌≡◌, inl, inr, ℕ, ◌+◌, ◌*◌, ◌<◌, ◌≤◌, List, [], length, get_or, refl, ◌∙◌, ap, subst, ◌⊎◌}
-use Rattle.std.proofs.Common.{⊎_elim, replicate, sym, arith, rules, Result, mul-le-mul_left, ◌≢◌, ◌-◌, IfErr, OnOk}
+use Rattle.std.proofs.Common.{⊎_elim, replicate, sym, arith, rules, Result, mul-le-mul_left, ◌≢◌, IfErr, OnOk}
 use Rattle.std.proofs.Math.ListN.{get_or-map}
 use Rattle.std.proofs.lemmas.Bool.{cases_eq}
 use Rattle.std.proofs.lemmas.List.{length-map}
-use Rattle.medium.specs.Medium.{State, Image, Sets, CutLeaves, Within, IsSound, LooksOnly, Holds, Stays, Passes}
+use Rattle.medium.specs.Medium.{State, Image, Sets, CutLeaves, Within, IsSound, LooksOnly, Stays, Passes}
 use Rattle.medium.specs.Moments.{LeavesOnly, StaysWithin, SparesFrom, IsQuiet, EachCut}
 use Rattle.medium.proofs.Moments.{at_exit, updated, updated_here, updated_elsewhere, quiet_leaves}
 use Rattle.medium.proofs.Moments.{joined_same, weaker, quiet_call}
-use Rattle.medium.proofs.SparedSectors.{HasSpared, spared_joined, spared_behind, spared_quiet}
+use Rattle.medium.proofs.SparedSectors.{HasSpared, spared_joined, spared_quiet}
 use Rattle.spec.specs.Blocks.{Array}
 use Rattle.journal.specs.Places.{Shape, first_home, sectors_of, IsFirstHome}
 use Rattle.journal.specs.Record.{Entry, numbers_of, with_records, home_of, Hides}
@@ -21,8 +21,8 @@ use Rattle.journal.proofs.Wholeness.{in_log}
 use Rattle.journal.specs.Staged.{View, Resting}
 use Rattle.journal.proofs.Engine.{rests_found, none_carried}
 use Rattle.journal.proofs.Wholeness.{with_records-same, records-hide}
-use Rattle.recovery.specs.Calls.{IsHomeOf, IsHomeInRecords, LooksAtLog, WritesAllPass}
-use Rattle.recovery.specs.Calls.{FollowsBy, Writes, cleared_at, WithOrWithout, IsBetween, IsNoneOrNew, ImageLeaves}
+use Rattle.recovery.specs.Calls.{IsHomeOf, IsHomeInRecords, LooksAtLog}
+use Rattle.recovery.specs.Calls.{Writes, cleared_at, WithOrWithout, IsBetween, IsNoneOrNew, ImageLeaves}
 use Rattle.recovery.specs.Calls.{IsMade, IsWritten, IsNoneOrWritten, WritesImage}
 use Rattle.recovery.specs.Recovered.{IsFresh, HasNoneWaiting}
 use Rattle.medium.specs.declared.fault.MediumFault.{MediumFault}
@@ -207,11 +207,6 @@ clear_spares first end old new sound elsewhere within =
     (λ image cut s le. ⊎_elim (λ was. was) (λ zeros. absurd (omega (arith, le, zeros.0.1))) (cut s)) within)
 
 module _ {P : Image → Type 0} where
-  -- what is weaker is left too, and sectors behind those that are spared are spared
-  pub wider : {X : Type 0} {end count : ℕ} {old new : State} {result : Result X MediumFault} (Q : Image → Type 0) (far : ℕ)
-      → ((image : Image) → P image → Q image) → end ≤ far → Writes P end count old new result → Writes Q far count old new result
-  wider Q far f le so = search (rules, weaker _ _ _ _ f so.moments, spared_behind _ far _ _ le so.spares)
-
   -- some calls, and then others
   pub writes_on : {X Y Z : Type 0} {end few many most : ℕ} {old mid new : State} {one : Result X MediumFault}
       {two : Result Y MediumFault} {result : Result Z MediumFault} → Writes P end few old mid one → Writes P end many mid new two
@@ -228,37 +223,15 @@ module _ {P : Image → Type 0} where
       let quiet = quiet_call old new passes content sets in
       search (rules, quiet_leaves P _ _ sound each quiet, spared_quiet end _ _ sound quiet, passes.looked_stays (λ e. cc e))
 
-  module _ {M : Type 0} {state : M → State} {Follows : M → M
-      → Type 0} {end : ℕ} {old new : M} {result : Result (Unit {0}) MediumFault}
-      (sound : IsSound (state new)) where
-    -- a sector is written and flushed: it leaves P where each image had P before, and each has it with that sector written
-    pub through_writes : {place : ℕ} {bytes : List ℕ} → place < end
-        → WritesAllPass (λ x. x ≡ place) (WithOrWithout place bytes (state old).may_leave) 2 (state old) (state new) result
-        → FollowsBy state Follows 2 old new → EachCut P (state old)
-        → ((before image : Image) → CutLeaves (state old).may_leave before → Holds place bytes before image → P image)
-        → Writes P end 2 (state old) (state new) result
-    through_writes below wrote follows stays changes =
-        let each = weaker _ P _ _ (λ image either. ⊎_elim (stays image) (λ w. changes w.0 image w.1 w.2) either) wrote.moments in
-        search (rules, each, through_spares _ _ _ _ _ below sound wrote.elsewhere wrote.moments)
-
-    -- sectors are cleared
-    pub clear_writes : {first : ℕ} → WritesAllPass (IsBetween first end)
-        (CutLeaves (cleared_at (IsBetween first end) (state old).may_leave)) (end - first) (state old) (state new) result
-        → FollowsBy state Follows (end - first) old new
-        → ((image : Image) → CutLeaves (cleared_at (IsBetween first end) (state old).may_leave) image → P image)
-        → Writes P end (end - first) (state old) (state new) result
-    clear_writes clears follows each =
-        search (rules, weaker _ P _ _ each clears.moments, clear_spares _ _ _ _ sound clears.elsewhere clears.moments)
-
 -- an image was written, good or refused, that is ours for this array
 pub image_made : {shape : Shape} {end : ℕ} {old new : State} {result : Result (Unit {0}) MediumFault} (array : Array)
     → WritesImage shape end old new result
     → sectors_of shape ≤ old.size → first_home shape ≤ end
-    → ((image : Image) → IsWritten shape end old.content image → AreSame shape (home_of shape image) array)
+    → ((image : Image) → IsWritten shape 1 end old.content image → AreSame shape (home_of shape image) array)
     → OnOk result (IsMade shape array end old new) × ImageLeaves shape array end old new
 image_made {shape = shape} {end = end} {old = old} {new = new} {result = result} array wrote fits log home =
     let size = wrote.writes.moments.size_stays in
-    let ours : (size : ℕ) (image : Image) → sectors_of shape ≤ size → IsWritten shape end old.content image
+    let ours : (size : ℕ) (image : Image) → sectors_of shape ≤ size → IsWritten shape 1 end old.content image
     → IsOurs size shape image array 2 = λ size image fits is. zeros_ours size shape array image fits is.super is.head
     (λ x low high. is.zeros x low (omega (arith, high, log))) (home image is) in
     let new_or_none : (image : Image) → IsNoneOrWritten shape end old.content image → IsNoneOrNew old.size shape array image =

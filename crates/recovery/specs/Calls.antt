@@ -219,24 +219,24 @@ pub record ImageLeaves (shape : Shape) (array : Array) (end : ℕ) (old new : St
   -- nothing is read
   pub looked_stays : new.looked ≡ old.looked
 
--- Behind this super and a head at stamp 1 the image has zeros up to the end, and from there on what
--- it held.
-pub record IsWritten (shape : Shape) (end : ℕ) (before image : Image) : Type 0 where
+-- Behind this super and a head at this stamp the image has zeros up to the end, and from there on
+-- what it held.
+pub record IsWritten (shape : Shape) (stamp end : ℕ) (before image : Image) : Type 0 where
   pub super : IsSuper shape (image 0)
-  pub head : IsHead 1 (image 1)
+  pub head : IsHead stamp (image 1)
   pub zeros : (x : ℕ) → 2 ≤ x → x < end → image x ≡ replicate 512 0
   pub behind : (x : ℕ) → end ≤ x → image x ≡ before x
 
 -- so, or with zeros in place of a super
 abbrev pub IsNoneOrWritten : Shape → ℕ → Image → Image → Type 0
 IsNoneOrWritten shape end before image =
-    (image 0 ≡ replicate 512 0) ⊎ IsWritten shape end before image
+    (image 0 ≡ replicate 512 0) ⊎ IsWritten shape 1 end before image
 
 -- An image of this shape is written with zeros up to this end. From the first good flush on, the
 -- second call, no old image is left.
 pub record WritesImage (shape : Shape) (end : ℕ) (old new : State)
     (result : Result (Unit {0}) MediumFault) : Type 0 where
-  pub done : OnOk result (IsWritten shape end old.content new.content × IsFlushed new)
+  pub done : OnOk result (IsWritten shape 1 end old.content new.content × IsFlushed new)
   pub writes : Writes (λ image. CutLeaves old.may_leave image
       ⊎ IsNoneOrWritten shape end old.content image) end (end + 5) old new result
   pub after_flush : old.calls + 3 ≤ new.calls → (image : Image)

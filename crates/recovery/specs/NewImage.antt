@@ -1,85 +1,115 @@
 -- What a new image and a medium hold while it is written.
-use Rattle.std.specs.Prelude.{◌≡◌, ◌⊎◌, ℕ, ◌+◌, ◌-◌, ◌≤◌, ◌<◌, replicate}
-use Rattle.std.proofs.Common.{inl, inr, ⊎_elim}
-use Rattle.medium.specs.Medium.{State, Image, CutLeaves, Holds}
+use Rattle.std.specs.Prelude.{◌≡◌, ◌≢◌, ◌⊎◌, ℕ, ◌+◌, ◌-◌, ◌≤◌, ◌<◌, false}
+use Rattle.std.specs.Prelude.{if◌then◌else◌, replicate}
+use Rattle.std.proofs.Common.{inl, inr}
+use Rattle.medium.specs.Medium.{State, Image, CutLeaves, Holds, Stays}
 use Rattle.medium.specs.Moments.{EachCut, IsFlushed}
 use Rattle.medium.specs.Tally.{Tally, none, of_all}
-use Rattle.journal.specs.Places.{Shape}
+use Rattle.journal.specs.Formats.{shape_of}
 use Rattle.journal.specs.Sectors.{IsHead}
-use Rattle.recovery.specs.Calls.{IsWritten, IsNoneOrWritten}
+use Rattle.recovery.specs.Calls.{IsBetween, IsWritten, WithOrWithout}
+use Rattle.recovery.specs.declared.image_plan.ImagePlan.{ImagePlan}
 use Rattle.recovery.specs.declared.image_stage.ImageStage.{ImageStage}
 use Rattle.recovery.specs.declared.image_stage.ImageStage.TheVariants as stage
 
--- the medium when an image of this shape began to be written, with zeros up to this end
+-- the first sector that gets zeros behind the super, and the contents under these
+pub record Under : Type 0 where
+  pub first : ℕ
+  pub image : Image
+  pub some : 1 ≤ first
+  pub most : first ≤ 2
+
+-- The medium when an image of this plan began to be written, over these contents; and the moment
+-- from which on a cut leaves a part of it, or it.
 pub record ImageView (M : Type 0) : Type 0 where
   pub start : M
-  pub shape : Shape
-  pub end : ℕ
+  pub plan : ImagePlan
+  pub under : Under
+  pub since : ℕ
 
 -- the contents have D, and each image that a cut now may leave has K
 pub record Shows (D K : Image → Type 0) (m : State) : Type 0 where
   pub content : D m.content
   pub cuts : EachCut K m
 
--- zeros before this sector, and from the end on what was there
-pub record IsBlank (at end : ℕ) (before image : Image) : Type 0 where
-  pub some : 1 ≤ at
-  pub inside : at ≤ end
-  pub zeros : (x : ℕ) → x < at → image x ≡ replicate 512 0
-  pub behind : (x : ℕ) → end ≤ x → image x ≡ before x
+module _ (plan : ImagePlan) (under : Under) where
+  -- zeros from the first sector up to this one, over what was there
+  pub record IsBlank (at : ℕ) (image : Image) : Type 0 where
+    pub some : under.first ≤ at
+    pub inside : at ≤ plan.end
+    pub zeros : (x : ℕ) → under.first ≤ x → x < at → image x ≡ replicate 512 0
+    pub elsewhere : (x : ℕ) → ¬ IsBetween under.first at x → image x ≡ under.image x
 
--- zeros in place of a super, the head at stamp 1, and zeros up to the end
-pub record IsHeaded (end : ℕ) (before image : Image) : Type 0 where
-  pub blank : image 0 ≡ replicate 512 0
-  pub head : IsHead 1 (image 1)
-  pub zeros : (x : ℕ) → 2 ≤ x → x < end → image x ≡ replicate 512 0
-  pub behind : (x : ℕ) → end ≤ x → image x ≡ before x
+  -- the head, and zeros up to the end
+  pub record IsHeaded (image : Image) : Type 0 where
+    pub head : IsHead plan.head.stamp (image 1)
+    pub zeros : (x : ℕ) → 2 ≤ x → x < plan.end → image x ≡ replicate 512 0
+    pub elsewhere : (x : ℕ) → x ≢ 1 → ¬ IsBetween 2 plan.end x → image x ≡ under.image x
 
--- what a read gives before the next call
-abbrev pub HasImage : ImageStage → Shape → ℕ → Image → Image → Type 0
-HasImage stage.Wipe shape end before image = image ≡ before
-HasImage stage.FlushWipe shape end before image = Holds 0 (replicate 512 0) before image
-HasImage (stage.Zeros at) shape end before image = IsBlank at end before image
-HasImage stage.FlushHead shape end before image = IsHeaded end before image
-HasImage stage.Super shape end before image = IsHeaded end before image
-HasImage stage.FlushSuper shape end before image = IsWritten shape end before image
-HasImage stage.Made shape end before image = IsWritten shape end before image
-HasImage stage.Refused shape end before image = Unit {0}
+  -- in this sector what was there, zeros or the head
+  abbrev pub IsPartAt : Image → ℕ → Type 0
+  IsPartAt image x = (image x ≡ under.image x)
+      ⊎ ((IsBetween under.first plan.end x × (image x ≡ replicate 512 0))
+      ⊎ ((x ≡ 1) × IsHead plan.head.stamp (image x)))
 
--- what a cut may leave at any moment: what it could leave before, none, or the new image
-abbrev pub MayBeImage : Shape → ℕ → State → Image → Type 0
-MayBeImage shape end old image =
-    CutLeaves old.may_leave image ⊎ IsNoneOrWritten shape end old.content image
+  -- so in each
+  pub record IsPart (image : Image) : Type 0 where
+    pub each : (x : ℕ) → IsPartAt image x
 
--- what it leaves before the next call
-abbrev pub MidwayImage : ImageStage → Shape → ℕ → State → Image → Type 0
-MidwayImage stage.Wipe shape end old image = CutLeaves old.may_leave image
-MidwayImage stage.FlushWipe shape end old image =
-    CutLeaves old.may_leave image ⊎ (image 0 ≡ replicate 512 0)
-MidwayImage (stage.Zeros at) shape end old image = image 0 ≡ replicate 512 0
-MidwayImage stage.FlushHead shape end old image = image 0 ≡ replicate 512 0
-MidwayImage stage.Super shape end old image = IsHeaded end old.content image
-MidwayImage stage.FlushSuper shape end old image = IsNoneOrWritten shape end old.content image
-MidwayImage stage.Made shape end old image = IsWritten shape end old.content image
-MidwayImage stage.Refused shape end old image = MayBeImage shape end old image
+  -- the new image
+  abbrev pub IsNew : Image → Type 0
+  IsNew image = IsWritten (shape_of plan.sizes) plan.head.stamp plan.end under.image image
 
--- that is one of these
-pub each_midway : (at : ImageStage) (shape : Shape) (end : ℕ) (old : State) (image : Image)
-    → MidwayImage at shape end old image → MayBeImage shape end old image
-each_midway stage.Wipe shape end old image is = inl is
-each_midway stage.FlushWipe shape end old image is = ⊎_elim inl (λ none. inr (inl none)) is
-each_midway (stage.Zeros at) shape end old image is = inr (inl is)
-each_midway stage.FlushHead shape end old image is = inr (inl is)
-each_midway stage.Super shape end old image is = inr (inl is.blank)
-each_midway stage.FlushSuper shape end old image is = inr is
-each_midway stage.Made shape end old image is = inr (inr is)
-each_midway stage.Refused shape end old image is = is
+  -- it, or still a part of it
+  abbrev pub IsPartOrNew : Image → Type 0
+  IsPartOrNew image = IsPart image ⊎ IsNew image
 
--- the calls that are left: zeros and a flush, zeros, the head and a flush, the super and a flush
+  -- what a read gives before the next call
+  abbrev pub HasImage : ImageStage → Image → Type 0
+  HasImage stage.Wipe image = (under.first ≡ 1) × Holds 0 (replicate 512 0) image under.image
+  HasImage stage.FlushWipe image = (under.first ≡ 1) × Stays under.image image
+  HasImage (stage.Zeros at flush) image = IsBlank at image
+  HasImage stage.FlushHead image = IsHeaded image
+  HasImage stage.Super image = IsHeaded image
+  HasImage stage.FlushSuper image = IsNew image
+  HasImage stage.Made image = IsNew image
+  HasImage stage.Refused image = Unit {0}
+
+  -- what a cut may leave at any moment: what it could leave before, perhaps with what is under the
+  -- zeros in place of the super, or a part of the new image, or it
+  abbrev pub MayBeImage : State → Image → Type 0
+  MayBeImage old image = WithOrWithout 0 (under.image 0) old.may_leave image ⊎ IsPartOrNew image
+
+  -- what it leaves before the next call
+  abbrev pub MidwayImage : ImageStage → State → Image → Type 0
+  MidwayImage stage.Wipe old image = CutLeaves old.may_leave image
+  MidwayImage stage.FlushWipe old image = WithOrWithout 0 (under.image 0) old.may_leave image
+  MidwayImage (stage.Zeros at flush) old image = IsPart image
+  MidwayImage stage.FlushHead old image = IsPart image
+  MidwayImage stage.Super old image = IsHeaded image × IsPart image
+  MidwayImage stage.FlushSuper old image = IsPartOrNew image
+  MidwayImage stage.Made old image = IsNew image
+  MidwayImage stage.Refused old image = MayBeImage old image
+
+  -- that is one of these
+  pub each_midway : (at : ImageStage) (old : State) (image : Image) → MidwayImage at old image
+      → MayBeImage old image
+  each_midway stage.Wipe old image is = inl (inl is)
+  each_midway stage.FlushWipe old image is = inl is
+  each_midway (stage.Zeros at flush) old image is = inr (inl is)
+  each_midway stage.FlushHead old image is = inr (inl is)
+  each_midway stage.Super old image is = inr (inl is.1)
+  each_midway stage.FlushSuper old image is = inr is
+  each_midway stage.Made old image is = inr (inr is)
+  each_midway stage.Refused old image is = is
+
+-- the calls that are left: zeros and a flush, zeros, perhaps a flush, the head and a flush, the
+-- super and a flush
 abbrev pub image_left : ImageStage → ℕ → Tally
 image_left stage.Wipe end = record { reads = 0; writes = end + 2; flushes = 3 }
 image_left stage.FlushWipe end = record { reads = 0; writes = end + 1; flushes = 3 }
-image_left (stage.Zeros at) end = record { reads = 0; writes = end - at + 2; flushes = 2 }
+image_left (stage.Zeros at flush) end =
+    record { reads = 0; writes = end - at + 2; flushes = (if flush then 1 else 0) + 2 }
 image_left stage.FlushHead end = record { reads = 0; writes = 1; flushes = 2 }
 image_left stage.Super end = record { reads = 0; writes = 1; flushes = 1 }
 image_left stage.FlushSuper end = record { reads = 0; writes = 0; flushes = 1 }
@@ -90,7 +120,7 @@ image_left stage.Refused end = none
 abbrev pub IsLive : ImageStage → Type 0
 IsLive stage.Wipe = Unit {0}
 IsLive stage.FlushWipe = Unit {0}
-IsLive (stage.Zeros at) = Unit {0}
+IsLive (stage.Zeros at flush) = Unit {0}
 IsLive stage.FlushHead = Unit {0}
 IsLive stage.Super = Unit {0}
 IsLive stage.FlushSuper = Unit {0}
@@ -100,25 +130,23 @@ IsLive stage.Refused = ⊥
 -- the call is made
 abbrev pub IsAfter : ImageStage → ℕ → ImageStage → Type 0
 IsAfter stage.Wipe end next = next ≡ stage.FlushWipe
-IsAfter stage.FlushWipe end next = next ≡ stage.Zeros 1
-IsAfter (stage.Zeros at) end next =
-    (at < end → next ≡ stage.Zeros (at + 1)) × (end ≤ at → next ≡ stage.FlushHead)
+IsAfter stage.FlushWipe end next = next ≡ stage.Zeros 1 false
+IsAfter (stage.Zeros at flush) end next = (at < end → next ≡ stage.Zeros (at + 1) flush)
+    × (end ≤ at → next ≡ (if flush then stage.Zeros at false else stage.FlushHead))
 IsAfter stage.FlushHead end next = next ≡ stage.Super
 IsAfter stage.Super end next = next ≡ stage.FlushSuper
 IsAfter stage.FlushSuper end next = next ≡ stage.Made
 IsAfter stage.Made end next = ⊥
 IsAfter stage.Refused end next = ⊥
 
--- From the first good flush on, the second call, a cut at any moment leaves none or the new image.
-pub record HoldsImage {M : Type 0} (state : M → State) (at : ImageStage) (shape : Shape) (end : ℕ)
+-- what the two hold
+pub record HoldsImage {M : Type 0} (state : M → State) (at : ImageStage) (plan : ImagePlan)
     (view : ImageView M) (m : M) : Type 0 where
-  pub shape_is : view.shape ≡ shape
-  pub end_is : view.end ≡ end
-  pub shows : Shows (HasImage at view.shape view.end (state view.start).content)
-      (MidwayImage at view.shape view.end (state view.start)) (state m)
+  pub plan_is : view.plan ≡ plan
+  pub shows : Shows (HasImage plan view.under at)
+      (MidwayImage plan view.under at (state view.start)) (state m)
   pub flushed : at ≡ stage.Made → IsFlushed (state m)
-  pub calls : IsLive at → (state m).calls + of_all (image_left at end)
-      ≡ (state view.start).calls + (end + 5)
-  pub after_flush : (state view.start).calls + 3 ≤ (state m).calls → (image : Image)
-      → (state m).left_since ((state view.start).calls + 2) image
-      → IsNoneOrWritten view.shape view.end (state view.start).content image
+  pub calls : IsLive at
+      → (state m).calls + of_all (image_left at plan.end) ≡ view.since + (plan.end + 3)
+  pub after_flush : view.since + 1 ≤ (state m).calls → (image : Image)
+      → (state m).left_since view.since image → IsPartOrNew plan view.under image

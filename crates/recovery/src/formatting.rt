@@ -7,9 +7,10 @@ ghost use Rattle.recovery.specs.Calls.{CallsUpTo, AreSizes, IsFormatted, FormatL
 ghost use Rattle.recovery.specs.Calls.{IsFormatCause, Formats, WritesImage};
 
 use crate::FormatFault;
+use crate::image_plan::ImagePlan;
 use crate::image_stage::ImageStage;
 use crate::new_image::NewImage;
-use journal::{LogFormat, Super};
+use journal::{Head, LogFormat, Super};
 use medium::{Medium, MediumFault, drive};
 
 /// The super of a new image of these sizes, where they are in their limits and this many sectors
@@ -64,9 +65,13 @@ pub(crate) fn write_image<M: Medium>(m: &mut M, sizes: &Super, end: u64) -> Resu
     ensures image { WritesImage (shape_of sizes.now) end (M.state m.old) (M.state m.new) result }
     ensures follows { M.follows m.old m.new }
 {
-    let mut image = NewImage {
+    let plan = ImagePlan {
         sizes: *sizes,
+        head: Head::new(1),
         end,
+    };
+    let mut image = NewImage {
+        plan,
         stage: ImageStage::Wipe,
     };
     drive(m, &mut image, &mut [0; 512])

@@ -7,8 +7,8 @@ pub(crate) enum ImageStage {
     Wipe,
     /// The flush of these.
     FlushWipe,
-    /// Zeros to this sector; at the end of the image the head.
-    Zeros(u64),
+    /// Zeros to this sector; at the end a flush, where one is wanted, and then the head.
+    Zeros(u64, bool),
     /// The flush of the head.
     FlushHead,
     /// The super.

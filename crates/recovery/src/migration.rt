@@ -9,11 +9,13 @@ ghost use Rattle.recovery.specs.Recovered.{IsFresh, CanMigrate, IsMigrationBy, I
 ghost use Rattle.recovery.specs.Recovered.{MigrationLeaves, IsMadeTwo, StaysFresh};
 ghost use Rattle.recovery.specs.Calls.{Writes};
 
-use crate::new_head::move_head;
+use crate::image_plan::ImagePlan;
+use crate::image_stage::ImageStage;
+use crate::new_image::NewImage;
 use crate::recovery::recover_at_least;
-use crate::sectors::{clear, write_through};
 use crate::{Recovered, StartFault};
-use medium::{Medium, MediumFault};
+use journal::Head;
+use medium::{Medium, MediumFault, drive};
 
 /// Recovers an image and, where it is of format 1, makes it one of format 2 with the same blocks:
 /// zeros to each sector of its log, a flush, the head, a flush, the super and a flush. It answers
@@ -68,9 +70,16 @@ fn make_two<M: Medium>(m: &mut M, found: &Recovered) -> Result<Recovered, Medium
     ensures follows { M.follows m.old m.new }
 {
     let sizes = found.sizes.migrated();
-    clear(m, 2, sizes.home)?;
-    move_head(m, found.next)?;
-    write_through(m, 0, &sizes.encode())?;
+    let plan = ImagePlan {
+        sizes,
+        head: Head::new(found.next),
+        end: found.sizes.home,
+    };
+    let mut image = NewImage {
+        plan,
+        stage: ImageStage::Zeros(2, true),
+    };
+    drive(m, &mut image, &mut [0; 512])?;
     Ok(Recovered {
         sizes,
         next: found.next,

@@ -1,47 +1,45 @@
 //! The writing of a new image, call by call.
 ghost use Rattle.std.specs.Prelude.{◌≡◌, ◌<◌, ◌≤◌};
-ghost use Rattle.journal.specs.Formats.{shape_of};
 ghost use Rattle.recovery.specs.NewImage.{ImageView, HoldsImage, image_left, IsAfter, IsLive};
-ghost use Rattle.recovery.specs.NewImage.{each_midway, MayBeImage};
+ghost use Rattle.recovery.specs.NewImage.{MayBeImage, each_midway};
 ghost use Rattle.recovery.specs.declared.image_stage.ImageStage.TheVariants.{Refused};
 
+use crate::image_plan::ImagePlan;
 use crate::image_stage::ImageStage;
-use journal::{Head, Super};
 use medium::{Call, Machine, Medium};
 
-/// An image of these sizes is to be written: zeros in place of the super and a flush, zeros up to
-/// the end, the head and a flush, the super and a flush.
+/// An image is to be written: zeros in place of the super and a flush, zeros up to the end, the
+/// head and a flush, the super and a flush. In place of another image, whose super stays for so
+/// long, it begins with the zeros, and flushes these too.
 #[derive(Drop)]
 pub(crate) struct NewImage {
-    pub sizes: Super,
-    pub end: u64,
+    pub plan: ImagePlan,
     pub stage: ImageStage,
-    ghost long: { sizes.home ≤ end },
 }
 
 impl<M: Medium> Machine<M> for NewImage {
     ghost View = { ImageView M };
 
-    ghost fits = { λ s size. (s.end ≤ size) × IsLive s.stage };
+    ghost fits = { λ s size. (s.plan.end ≤ size) × IsLive s.stage };
 
-    ghost holds = { λ s had m view. HoldsImage M.state s.stage (shape_of s.sizes) s.end view m };
+    ghost holds = { λ s had m view. HoldsImage M.state s.stage s.plan view m };
 
-    ghost may = { λ view image. MayBeImage view.shape view.end (M.state view.start) image };
+    ghost may = { λ view image. MayBeImage view.plan view.under (M.state view.start) image };
 
     ghost reads = { λ s. 0 };
 
-    ghost ends = { λ s. s.end };
+    ghost ends = { λ s. s.plan.end };
 
-    ghost cost = { λ s. image_left s.stage s.end };
+    ghost cost = { λ s. image_left s.stage s.plan.end };
 
     ghost exact = { Unit {0} };
 
-    ghost due = { λ s. 0 < (image_left s.stage s.end).flushes };
+    ghost due = { λ s. 0 < (image_left s.stage s.plan.end).flushes };
 
-    ghost after = { λ s got t. (t.sizes ≡ s.sizes) × (t.end ≡ s.end) × IsAfter s.stage s.end t.stage
+    ghost after = { λ s got t. (t.plan ≡ s.plan) × IsAfter s.stage s.plan.end t.stage
         × IsLive t.stage };
 
-    ghost gone = { λ s t. (t.sizes ≡ s.sizes) × (t.end ≡ s.end) × (t.stage ≡ Refused) };
+    ghost gone = { λ s t. (t.plan ≡ s.plan) × (t.stage ≡ Refused) };
 
     fn next(&self, sector: &mut [u8; 512]) -> Option<Call> {
         match self.stage {
@@ -50,17 +48,18 @@ impl<M: Medium> Machine<M> for NewImage {
                 Some(Call::Write(0))
             }
             ImageStage::FlushWipe => Some(Call::Flush),
-            ImageStage::Zeros(at) => {
-                if at < self.end {
-                    *sector = [0; 512];
-                    return Some(Call::Write(at));
-                }
-                *sector = Head::new(1).encode();
+            ImageStage::Zeros(at, _) if at < self.plan.end => {
+                *sector = [0; 512];
+                Some(Call::Write(at))
+            }
+            ImageStage::Zeros(_, flush) if flush => Some(Call::Flush),
+            ImageStage::Zeros(_, _) => {
+                *sector = self.plan.head.encode();
                 Some(Call::Write(1))
             }
             ImageStage::FlushHead => Some(Call::Flush),
             ImageStage::Super => {
-                *sector = self.sizes.encode();
+                *sector = self.plan.sizes.encode();
                 Some(Call::Write(0))
             }
             ImageStage::FlushSuper => Some(Call::Flush),
@@ -72,14 +71,10 @@ impl<M: Medium> Machine<M> for NewImage {
     fn made(&mut self, _: &[u8; 512]) {
         self.stage = match self.stage {
             ImageStage::Wipe => ImageStage::FlushWipe,
-            ImageStage::FlushWipe => ImageStage::Zeros(1),
-            ImageStage::Zeros(at) => {
-                if at < self.end {
-                    ImageStage::Zeros(at + 1)
-                } else {
-                    ImageStage::FlushHead
-                }
-            }
+            ImageStage::FlushWipe => ImageStage::Zeros(1, false),
+            ImageStage::Zeros(at, flush) if at < self.plan.end => ImageStage::Zeros(at + 1, flush),
+            ImageStage::Zeros(at, true) => ImageStage::Zeros(at, false),
+            ImageStage::Zeros(_, false) => ImageStage::FlushHead,
             ImageStage::FlushHead => ImageStage::Super,
             ImageStage::Super => ImageStage::FlushSuper,
             ImageStage::FlushSuper => ImageStage::Made,
@@ -92,14 +87,14 @@ impl<M: Medium> Machine<M> for NewImage {
         self.stage = ImageStage::Refused;
     }
 
-    ghost leaves = { λ s had m view holds image cut. each_midway s.stage view.shape view.end
-        (M.state view.start) image (holds.shows.cuts image cut) };
+    ghost leaves = { λ s had m view holds image cut. rw holds.plan_is (each_midway s.plan view.under
+        s.stage (M.state view.start) image (holds.shows.cuts image cut)) };
 
     ghost room = { λ s size fits. fits.0 };
 
     ghost goes_on = { λ s t got due after. record {
       reads_stay = λ i. 0;
-      ends_stay = after.1;
-      fits_still = λ size fits. (rw after.1 fits.0, after.3);
+      ends_stay = rw after.0 (λ i. s.plan.end);
+      fits_still = λ size fits. (rw after.0 fits.0, after.2);
     } };
 }

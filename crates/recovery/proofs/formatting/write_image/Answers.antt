@@ -1,47 +1,51 @@
-use Rattle.std.proofs.Common.{◌≤◌, refl, arith}
+use Rattle.std.proofs.Common.{◌≡◌, ◌≤◌, ℕ, ◌⊎◌, ◌+◌, inl, inr, ⊎_elim, refl, ◌∙◌, arith, replicate}
 use Rattle.std.proofs.lemmas.Result.{on_ok_weaker}
-use Rattle.medium.specs.Moments.{LeavesOnly}
-use Rattle.medium.proofs.Tallies.{calls_most, calls_all, sends_most}
+use Rattle.medium.specs.Medium.{Image, Holds, CutLeaves}
+use Rattle.medium.proofs.Moments.{updated, updated_here, updated_elsewhere}
+use Rattle.journal.specs.Places.{Shape}
 use Rattle.journal.specs.Formats.{shape_of}
-use Rattle.recovery.specs.NewImage.{HoldsImage, MayBeImage}
-use Rattle.recovery.proofs.DrivenCalls.{refused_call, none_read}
-use Rattle.recovery.proofs.ImageCalls.{image_ended}
+use Rattle.recovery.specs.Calls.{IsWritten, IsNoneOrWritten}
+use Rattle.recovery.specs.NewImage.{Under, IsPart}
+use Rattle.recovery.specs.declared.image_plan.ImagePlan.{ImagePlan}
+use Rattle.recovery.proofs.ImageCalls.{image_driven}
 use Rattle.recovery.proofs.formatting.write_image.Goals as goal
 use Rattle.recovery.proofs.formatting.write_image.Goals.{After-drive}
 
--- no call was made before
-driven : (g : _) (c : After-drive g)
-    → LeavesOnly (MayBeImage (shape_of c.args.sizes.now) c.args.end (g.M.Medium.state c.args.m.now)) (g.M.Medium.state c.args.m.now)
-    (g.M.Medium.state c.drive.new.m)
-    × HoldsImage g.M.Medium.state c.drive.new.machine.stage (shape_of c.drive.new.machine.sizes) c.drive.new.machine.end
-    (record { start = c.args.m.now; shape = shape_of c.args.sizes.now; end = c.args.end }) c.drive.new.m
-driven g c = c.drive.ensures.driven.runs (record { start = c.args.m.now; shape = shape_of c.args.sizes.now; end = c.args.end }) (record {
-  shape_is = refl;
-  end_is = refl;
-  shows = record { content = refl; cuts = λ image cut. cut };
-  flushed = λ e. cc e;
-  calls = λ live. omega arith;
-  after_flush = λ more. absurd (omega (arith, more));
-})
+-- the new image is that of a format
+new_written : {shape : Shape} {stamp end : ℕ} {start under image : Image} → stamp ≡ 1 → Holds 0 (replicate 512 0) start under → 2 ≤ end
+    → IsWritten shape stamp end under image → IsWritten shape 1 end start image
+new_written one wiped long is = record {
+  super = is.super;
+  head = rw one at is.head;
+  zeros = is.zeros;
+  behind = λ x past. is.behind x past ∙ wiped.elsewhere x (λ e. omega (arith, e, past, long));
+}
+
+-- and a part of it has no super
+none_or_written : {plan : ImagePlan} {under : Under} {shape : Shape} {stamp end : ℕ} {start image : Image} → stamp ≡ 1
+    → Holds 0 (replicate 512 0) start under.image → 2 ≤ end → IsPart plan under image ⊎ IsWritten shape stamp end under.image image
+    → IsNoneOrWritten shape end start image
+none_or_written one wiped long either = ⊎_elim (λ part. inl (⊎_elim (λ was. was ∙ wiped.here) (λ other. ⊎_elim
+    (λ zeros. zeros.1) (λ head. absurd (omega (arith, head.0))) other) (part.each 0)))
+    (λ new. inr (new_written one wiped long new)) either
 
 pub returns-clause-image : goal.returns-clause-image
 returns-clause-image g c =
-    let run = driven g c in
-    let drove = c.drive.ensures.driven in
-    let result = c.drive.result in
-    let inside : c.args.end ≤ (g.M.Medium.state c.args.m.now).size = omega (arith, c.requires.inside, c.requires.fits) in
+    let old = g.M.Medium.state c.args.m.now in
+    let under = updated old.content 0 (replicate 512 0) in
+    let wiped : Holds 0 (replicate 512 0) old.content under = record {
+      here = updated_here old.content 0 (replicate 512 0) 0 refl;
+      elsewhere = updated_elsewhere old.content 0 (replicate 512 0);
+    } in
+    let long : 2 ≤ c.args.end = omega (arith, c.args.sizes.now.home_is.0, c.requires.log) in
+    let d = image_driven (λ image. CutLeaves old.may_leave image ⊎ IsNoneOrWritten (shape_of c.args.sizes.now) c.args.end old.content image)
+    (c.args.end + 5) (old.calls + 2) (record { first = 1; image = under; some = omega arith; most = omega arith })
+    c.drive.ensures.driven c.drive.ensures.done (omega (arith, c.requires.inside, c.requires.fits)) tt (λ e. cc e) refl
+    (record { content = (refl, wiped); cuts = λ image cut. cut }) (omega arith) (omega arith) (omega arith)
+    (λ image either. ⊎_elim (λ may. ⊎_elim inl (λ w. inr (inl (w.2.here ∙ wiped.here))) may)
+    (λ is. inr (none_or_written c.new.ensures wiped long is)) either) in
     record {
-      done = image_ended result c.drive.new.machine.stage c.drive.new.machine.end
-          (on_ok_weaker result (λ on. (on.0.fits_still (g.M.Medium.state c.args.m.now).size (inside, tt)).1) drove.on)
-          (on_ok_weaker result (λ end. end.0) c.drive.ensures.done) run.1;
-      writes = record {
-        moments = run.0;
-        spares = drove.spares;
-        calls = omega (arith, calls_most drove.tallied);
-        exact = on_ok_weaker result (λ end. omega (arith, calls_all end.1 tt refl)) c.drive.ensures.done;
-        sent = omega (arith, sends_most drove.tallied);
-        reads = none_read drove.tallied refl drove.looks;
-        cause = refused_call result drove.tallied;
-      };
-      after_flush = run.1.after_flush;
+      done = on_ok_weaker c.drive.result (λ is. (new_written c.new.ensures wiped long is.0, is.1)) d.1;
+      writes = d.0;
+      after_flush = λ more image since. none_or_written c.new.ensures wiped long (d.2 (omega (arith, more)) image since);
     }

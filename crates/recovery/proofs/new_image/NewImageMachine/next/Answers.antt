@@ -1,202 +1,97 @@
-use Rattle.std.proofs.Common.{◌≡◌, ◌≤◌, ◌+◌, ◌-◌, inl, inr, refl, ◌∙◌, ⊎_elim, arith, replicate}
-use Rattle.medium.specs.Medium.{Image, Holds}
-use Rattle.recovery.specs.Calls.{IsWritten, IsNoneOrWritten}
-use Rattle.recovery.specs.NewImage.{IsBlank, IsHeaded, MidwayImage, MayBeImage}
-use Rattle.recovery.specs.declared.image_stage.ImageStage.TheVariants.{FlushWipe, Zeros, FlushHead, Super, FlushSuper, Made}
-use Rattle.medium.proofs.Driving.{left_all}
-use Rattle.recovery.proofs.ImageCalls.{write_leaves, write_shows, flush_leaves, flush_shows, flush_only, moved, stopped, stopped_late}
-use Rattle.recovery.proofs.ImageCalls.{blank_on, headed, written, wiped}
+use Rattle.std.proofs.Common.{◌≡◌, true, false, ◌≤◌, ◌+◌, ◌-◌, inl, inr, refl, ◌∙◌, sym, arith}
+use Rattle.std.proofs.lemmas.Bool.{cases_eq}
+use Rattle.recovery.specs.declared.image_stage.ImageStage.TheVariants as stage
+use Rattle.recovery.proofs.ImageCalls.{tells_write, tells_flush, blank_on, headed, written, part_on}
 use Rattle.recovery.proofs.new_image.NewImageMachine.next.Goals as goal
-
-abbrev NoSuper : Image → Type 0
-NoSuper image = image 0 ≡ replicate 512 0
 
 pub returns-in-Wipe : goal.returns-in-Wipe
 returns-in-Wipe g c =
     let s = c.args.self.now in
-    let is = c.in-Wipe.is in
-    let two : s.end + 2 ≡ s.end + 1 + 1 = omega arith in
-    let home = s.sizes.home_is.0 in
-    let long : 2 ≤ s.end = omega (arith, home, s.long) in
-    record {
-      due = rw is (omega arith);
-      within = omega (arith, long);
-      looks = tt;
-      made = λ m n got view next fits held performed after.
-          let h = rw is at held in
-          let old = g.M.Medium.state view.start in
-          rw (after.0, after.1, rw is at after.2) (moved (g.met.M.Medium.sound m) h tt performed.passes FlushWipe tt (omega arith)
-          (write_shows (Holds 0 (replicate 512 0) old.content) (MidwayImage FlushWipe view.shape view.end old) (g.met.M.Medium.sound m)
-          h.shows performed (λ b i same holds. rw (← same) holds) (λ i cut. inl cut) (λ b i cut holds. inr holds.here)) (λ e. cc e));
-      refused = λ m n got view next e fits held performed gone.
-          let h = rw is at held in
-          let old = g.M.Medium.state view.start in
-          rw (gone.0, gone.1, gone.2) (stopped (g.met.M.Medium.sound m) h tt performed.passes
-          (write_leaves (MayBeImage view.shape view.end old) (g.met.M.Medium.sound m) h.shows.cuts performed
-          (λ i cut. inl cut) (λ b i cut holds. inr (inl holds.here))) (λ past. absurd (omega (arith, past, h.calls tt, h.end_is))));
-      rest = record { reads = 0; writes = s.end + 1; flushes = 3 };
-      pays = rw is (rw two refl);
-      rests = λ got next after. left_all (rw (after.1, rw is at after.2) refl);
-    }
+    let long : 2 ≤ s.plan.end = omega (arith, s.plan.sizes.home_is.0, s.plan.long) in
+    let one : s.plan.end + 2 ≡ s.plan.end + 1 + 1 = omega arith in
+    tells_write g.met.M.Medium.sound s stage.Wipe stage.FlushWipe c.in-Wipe.is tt (λ t is. is) (omega arith) 0 (omega (arith, long))
+    (λ e. cc e) (rw one refl) (λ view now has. (
+      λ image holds. (
+        has.0,
+        λ x. elim (cases_eq x 0) [
+          | inl same ↦ rw same (holds.here ∙ sym has.1.here)
+          | inr not ↦ holds.elsewhere x not ∙ sym (has.1.elsewhere x not)
+        ],
+      ),
+      λ image cut. inl cut,
+      λ before image cut holds. inr (before, cut, rw has.1.here holds),
+    ))
 
 pub returns-in-FlushWipe : goal.returns-in-FlushWipe
 returns-in-FlushWipe g c =
     let s = c.args.self.now in
-    let is = c.in-FlushWipe.is in
-    let home = s.sizes.home_is.0 in
-    let long : 2 ≤ s.end = omega (arith, home, s.long) in
-    let one : s.end + 1 ≡ s.end - 1 + 2 = omega (arith, long) in
-    record {
-      due = rw is (omega arith);
-      within = tt;
-      looks = tt;
-      made = λ m n got view next fits held performed after.
-          let h = rw is at held in
-          rw (after.0, after.1, rw is at after.2) (moved (g.met.M.Medium.sound m) h tt performed.passes (Zeros 1) tt (omega (arith, one))
-          (wiped (omega (arith, long, h.end_is)) (flush_shows h.shows performed)) (λ e. cc e));
-      refused = λ m n got view next e fits held performed gone.
-          let h = rw is at held in
-          let old = g.M.Medium.state view.start in
-          rw (gone.0, gone.1, gone.2) (stopped (g.met.M.Medium.sound m) h tt performed.passes
-          (flush_leaves (MayBeImage view.shape view.end old) h.shows.cuts performed
-          (λ i either. ⊎_elim inl (λ none. inr (inl none)) either)) (λ past. absurd (omega (arith, past, h.calls tt, h.end_is))));
-      rest = record { reads = 0; writes = s.end - 1 + 2; flushes = 2 };
-      pays = rw is (rw one refl);
-      rests = λ got next after. left_all (rw (after.1, rw is at after.2) refl);
-    }
+    let long : 2 ≤ s.plan.end = omega (arith, s.plan.sizes.home_is.0, s.plan.long) in
+    let one : s.plan.end + 1 ≡ s.plan.end - 1 + 2 = omega (arith, long) in
+    tells_flush g.met.M.Medium.sound s stage.FlushWipe (stage.Zeros 1 false) c.in-FlushWipe.is tt (λ t is. is) (omega arith)
+    (rw one refl) (λ view now has cut. (
+      record {
+        some = omega (arith, has.0);
+        inside = omega (arith, long);
+        zeros = λ x low high. absurd (omega (arith, low, high, view.under.some));
+        elsewhere = λ x not. has.1 x;
+      },
+      record { each = λ x. inl (has.1 x) },
+    )) tt
 
-pub returns-then-at-self : goal.returns-then-at-self
-returns-then-at-self g c =
+pub returns-in-Zeros : goal.returns-in-Zeros
+returns-in-Zeros g c =
     let s = c.args.self.now in
     let at = c.in-Zeros.at in
-    let is = c.in-Zeros.is in
     let below = c.if-at-self.true in
-    let one : s.end - at + 2 ≡ s.end - (at + 1) + 2 + 1 = omega (arith, below) in
-    record {
-      due = rw is (omega arith);
-      within = below;
-      looks = tt;
-      made = λ m n got view next fits held performed after.
-          let h = rw is at held in
-          let old = g.M.Medium.state view.start in
-          rw (after.0, after.1, (rw is at after.2).0 below) (moved (g.met.M.Medium.sound m) h tt performed.passes
-          (Zeros (at + 1)) tt (omega (arith, below))
-          (write_shows (IsBlank (at + 1) view.end old.content) NoSuper (g.met.M.Medium.sound m) h.shows performed
-          (λ b i blank holds. blank_on b i (omega (arith, below, h.end_is)) blank holds) (λ i none. none)
-          (λ b i none holds. holds.elsewhere 0 (λ e. omega (arith, e, h.shows.content.some)) ∙ none)) (λ e. cc e));
-      refused = λ m n got view next e fits held performed gone.
-          let h = rw is at held in
-          let old = g.M.Medium.state view.start in
-          rw (gone.0, gone.1, gone.2) (stopped_late (g.met.M.Medium.sound m) h tt performed.passes
-          (write_leaves (IsNoneOrWritten view.shape view.end old.content) (g.met.M.Medium.sound m) h.shows.cuts performed
-          (λ i none. inl none)
-          (λ b i none holds. inl (holds.elsewhere 0 (λ e. omega (arith, e, h.shows.content.some)) ∙ none))));
-      rest = record { reads = 0; writes = s.end - (at + 1) + 2; flushes = 2 };
-      pays = rw is (rw one refl);
-      rests = λ got next after. left_all (rw (after.1, (rw is at after.2).0 below) refl);
-    }
+    let one : s.plan.end - at + 2 ≡ s.plan.end - (at + 1) + 2 + 1 = omega (arith, below) in
+    tells_write g.met.M.Medium.sound s (stage.Zeros at c.in-Zeros.field-1) (stage.Zeros (at + 1) c.in-Zeros.field-1) c.in-Zeros.is tt
+    (λ t is. is.0 below) (omega arith) at below (λ e. cc e) (rw one refl) (λ view now has. (
+      λ image holds. blank_on below has holds,
+      λ image is. is,
+      λ before image is holds. part_on is holds (inr (inl ((has.some, below), holds.here))),
+    ))
 
-pub returns-else-at-self : goal.returns-else-at-self
-returns-else-at-self g c =
+pub returns-in-Zeros-2 : goal.returns-in-Zeros-2
+returns-in-Zeros-2 g c =
     let s = c.args.self.now in
     let at = c.in-Zeros.at in
-    let is = c.in-Zeros.is in
+    let is : s.stage ≡ stage.Zeros at true = cc (c.in-Zeros.is, c.in-Zeros-2.is, c.if-flush.true) in
+    tells_flush g.met.M.Medium.sound s (stage.Zeros at true) (stage.Zeros at false) is tt (λ t is. is.1 c.if-at-self.false) (omega arith)
+    refl (λ view now has cut. (has, cut)) tt
+
+pub returns-in-Zeros-3 : goal.returns-in-Zeros-3
+returns-in-Zeros-3 g c =
+    let s = c.args.self.now in
+    let at = c.in-Zeros.at in
+    let is : s.stage ≡ stage.Zeros at false = cc (c.in-Zeros.is, c.in-Zeros-2.is, c.if-flush.false) in
     let full = c.if-at-self.false in
-    let home = s.sizes.home_is.0 in
-    let long : 2 ≤ s.end = omega (arith, home, s.long) in
-    let two : s.end - at + 2 ≡ 2 = omega (arith, full) in
-    let head = rw c.new.ensures at c.encode.ensures in
-    record {
-      due = rw is (omega arith);
-      within = omega (arith, long);
-      looks = tt;
-      made = λ m n got view next fits held performed after.
-          let h = rw is at held in
-          let old = g.M.Medium.state view.start in
-          rw (after.0, after.1, (rw is at after.2).1 full) (moved (g.met.M.Medium.sound m) h tt performed.passes
-          FlushHead tt (omega (arith, two))
-          (write_shows (IsHeaded view.end old.content) NoSuper (g.met.M.Medium.sound m) h.shows performed
-          (λ b i blank holds. headed b i (omega (arith, full, h.end_is)) (omega (arith, long, h.end_is)) head blank holds)
-          (λ i none. none) (λ b i none holds. holds.elsewhere 0 (λ e. omega arith) ∙ none)) (λ e. cc e));
-      refused = λ m n got view next e fits held performed gone.
-          let h = rw is at held in
-          let old = g.M.Medium.state view.start in
-          rw (gone.0, gone.1, gone.2) (stopped_late (g.met.M.Medium.sound m) h tt performed.passes
-          (write_leaves (IsNoneOrWritten view.shape view.end old.content) (g.met.M.Medium.sound m) h.shows.cuts performed
-          (λ i none. inl none) (λ b i none holds. inl (holds.elsewhere 0 (λ e. omega arith) ∙ none))));
-      rest = record { reads = 0; writes = 1; flushes = 2 };
-      pays = rw is (rw two refl);
-      rests = λ got next after. left_all (rw (after.1, (rw is at after.2).1 full) refl);
-    }
+    let long : 2 ≤ s.plan.end = omega (arith, s.plan.sizes.home_is.0, s.plan.long) in
+    let two : s.plan.end - at + 2 ≡ 2 = omega (arith, full) in
+    tells_write g.met.M.Medium.sound s (stage.Zeros at false) stage.FlushHead is tt (λ t is. is.1 full) (omega arith) 1
+    (omega (arith, long)) (λ e. cc e) (rw two refl) (λ view now has. (
+      λ image holds. headed full c.encode.ensures has holds,
+      λ image is. is,
+      λ before image is holds. part_on is holds (inr (inr (refl, rw holds.here c.encode.ensures))),
+    ))
 
 pub returns-in-FlushHead : goal.returns-in-FlushHead
 returns-in-FlushHead g c =
-    let is = c.in-FlushHead.is in
-    record {
-      due = rw is (omega arith);
-      within = tt;
-      looks = tt;
-      made = λ m n got view next fits held performed after.
-          let h = rw is at held in rw (after.0, after.1, rw is at after.2)
-          (moved (g.met.M.Medium.sound m) h tt performed.passes Super tt (omega arith) (flush_shows h.shows performed) (λ e. cc e));
-      refused = λ m n got view next e fits held performed gone.
-          let h = rw is at held in
-          let old = g.M.Medium.state view.start in
-          rw (gone.0, gone.1, gone.2) (stopped_late (g.met.M.Medium.sound m) h tt performed.passes
-          (flush_leaves (IsNoneOrWritten view.shape view.end old.content) h.shows.cuts performed (λ i none. inl none)));
-      rest = record { reads = 0; writes = 1; flushes = 1 };
-      pays = rw is refl;
-      rests = λ got next after. left_all (rw (after.1, rw is at after.2) refl);
-    }
+    tells_flush g.met.M.Medium.sound c.args.self.now stage.FlushHead stage.Super c.in-FlushHead.is tt (λ t is. is) (omega arith) refl
+    (λ view now has cut. (has, (has, cut))) tt
 
 pub returns-in-Super : goal.returns-in-Super
 returns-in-Super g c =
     let s = c.args.self.now in
-    let is = c.in-Super.is in
-    let home = s.sizes.home_is.0 in
-    let long : 2 ≤ s.end = omega (arith, home, s.long) in
-    record {
-      due = rw is (omega arith);
-      within = omega (arith, long);
-      looks = tt;
-      made = λ m n got view next fits held performed after.
-          let h = rw is at held in
-          let old = g.M.Medium.state view.start in
-          let super = rw (← h.shape_is) at c.encode-in-Super.ensures in
-          rw (after.0, after.1, rw is at after.2) (moved (g.met.M.Medium.sound m) h tt performed.passes FlushSuper tt (omega arith)
-          (write_shows (IsWritten view.shape view.end old.content) (IsNoneOrWritten view.shape view.end old.content)
-          (g.met.M.Medium.sound m) h.shows performed
-          (λ b i has holds. written b i (omega (arith, long, h.end_is)) super has holds) (λ i has. inl has.blank)
-          (λ b i has holds. inr (written b i (omega (arith, long, h.end_is)) super has holds))) (λ e. cc e));
-      refused = λ m n got view next e fits held performed gone.
-          let h = rw is at held in
-          let old = g.M.Medium.state view.start in
-          let super = rw (← h.shape_is) at c.encode-in-Super.ensures in
-          rw (gone.0, gone.1, gone.2) (stopped_late (g.met.M.Medium.sound m) h tt performed.passes
-          (write_leaves (IsNoneOrWritten view.shape view.end old.content) (g.met.M.Medium.sound m) h.shows.cuts performed
-          (λ i has. inl has.blank) (λ b i has holds. inr (written b i (omega (arith, long, h.end_is)) super has holds))));
-      rest = record { reads = 0; writes = 0; flushes = 1 };
-      pays = rw is refl;
-      rests = λ got next after. left_all (rw (after.1, rw is at after.2) refl);
-    }
+    let long : 2 ≤ s.plan.end = omega (arith, s.plan.sizes.home_is.0, s.plan.long) in
+    let super = c.encode-in-Super.ensures in
+    tells_write g.met.M.Medium.sound s stage.Super stage.FlushSuper c.in-Super.is tt (λ t is. is) (omega arith) 0 (omega (arith, long))
+    (λ e. cc e) refl (λ view now has. (
+      λ image holds. written long super has holds,
+      λ image is. inl is.1,
+      λ before image is holds. inr (written long super is.0 holds),
+    ))
 
 pub returns-in-FlushSuper : goal.returns-in-FlushSuper
 returns-in-FlushSuper g c =
-    let is = c.in-FlushSuper.is in
-    record {
-      due = rw is (omega arith);
-      within = tt;
-      looks = tt;
-      made = λ m n got view next fits held performed after.
-          let h = rw is at held in rw (after.0, after.1, rw is at after.2)
-          (moved (g.met.M.Medium.sound m) h tt performed.passes Made tt (omega arith) (flush_shows h.shows performed)
-          (λ e. flush_only performed));
-      refused = λ m n got view next e fits held performed gone.
-          let h = rw is at held in
-          let old = g.M.Medium.state view.start in
-          rw (gone.0, gone.1, gone.2) (stopped_late (g.met.M.Medium.sound m) h tt performed.passes
-          (flush_leaves (IsNoneOrWritten view.shape view.end old.content) h.shows.cuts performed (λ i either. either)));
-      rest = record { reads = 0; writes = 0; flushes = 0 };
-      pays = rw is refl;
-      rests = λ got next after. left_all (rw (after.1, rw is at after.2) refl);
-    }
+    tells_flush g.met.M.Medium.sound c.args.self.now stage.FlushSuper stage.Made c.in-FlushSuper.is tt (λ t is. is) (omega arith) refl
+    (λ view now has cut. (has, has)) tt
