@@ -1,5 +1,6 @@
 use Rattle.std.proofs.Common.{sym, refl}
-use Rattle.disk_machine.proofs.machine.DiskMachine.play.Goals.{else-promises-via-then-promises+else-is_behind, else-promises-via-else-promises}
+use Rattle.disk_machine.proofs.machine.DiskMachine.play.Goals.{else-promises-via-then-promises+else-is_behind}
+use Rattle.disk_machine.proofs.machine.DiskMachine.play.Goals.{else-promises-via-else-promises}
 use Rattle.disk_machine.proofs.machine.DiskMachine.play.Goals as goal
 
 pub returns-then-is_behind : goal.returns-then-is_behind
