@@ -4,10 +4,10 @@ use Rattle.std.proofs.Common.{Option, Some, None, inl, inr}
 use Rattle.std.proofs.Common.{if◌then◌else◌, nat_lt, refl, sym, subst, ◌∙◌, ap, arith}
 use Rattle.std.proofs.lemmas.Bool.{cases_Bool, false≢true, lt-ltb, le-ltb, cases_lt, and_parts}
 use Rattle.std.proofs.lemmas.Bool.Decides.{nat_tests}
-use Rattle.medium.specs.Arming.{changes, FuseFalls, FailureCountsDown, RefusesNothing, UnarmedRefusesNothing}
+use Rattle.medium.specs.Arming.{changes, FuseFalls, FailureCountsDown, UnarmedRefusesNothing}
 use Rattle.medium.specs.Power as power
 use Rattle.medium.specs.Power.{is_fused, is_used_up, is_failing, burnt, counted_down, admits, is_armed, faults_in}
-use Rattle.medium.specs.Sim.{Sim, SimCall, reading, writing, flushing, fits, after_call, after_write, Flushes, Makes, MakeAll, ComesAfter}
+use Rattle.medium.specs.Sim.{Sim, SimCall, reading, writing, flushing, fits, after_write, Flushes, Makes, MakeAll}
 use Rattle.medium.specs.Tally.{Tally, of_all, one_more}
 use Rattle.medium.specs.declared.fault.MediumFault.{MediumFault}
 use Rattle.medium.specs.declared.fault.MediumFault.TheVariants.{Read, Write, Flush}

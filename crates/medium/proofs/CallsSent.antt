@@ -1,7 +1,6 @@
 -- How many writes and flushes a call is.
-use Rattle.std.proofs.Common.{◌≡◌, ◌≢◌, ◌+◌, ℕ, arith, Result}
+use Rattle.std.proofs.Common.{◌≡◌, ◌≢◌, ◌+◌, arith, Result}
 use Rattle.medium.specs.Medium.{State, Passes}
-use Rattle.medium.specs.Moments.{IsUnchanged}
 use Rattle.medium.specs.Sent.{sent}
 use Rattle.medium.specs.declared.fault.MediumFault.{MediumFault}
 use Rattle.medium.specs.declared.fault.MediumFault.TheVariants.{Read, Write, Flush}

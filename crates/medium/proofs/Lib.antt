@@ -11,7 +11,6 @@ pub mod Looks
 pub mod Rows
 pub mod CallsSent
 pub mod SparedSectors
-pub mod Walks
 pub mod SimCalls
 pub mod ArmedCalls
 pub mod Driving

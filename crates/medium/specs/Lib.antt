@@ -1,4 +1,5 @@
 pub mod Arming
+pub mod Counting
 pub mod FileStory
 pub mod ImageFile
 pub mod ImageFileLaws
@@ -16,4 +17,5 @@ pub mod Sim
 pub mod SimLaws
 pub mod SimView
 pub mod Tally
+pub mod Telling
 pub mod Writes

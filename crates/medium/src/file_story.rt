@@ -4,11 +4,10 @@ ghost use Rattle.std.specs.Borrow.{ftrue};
 ghost use Rattle.medium.specs.FileStory.{Told, noted};
 
 use crate::file_call::Answered;
-use std::marker::{Model, PhantomData};
+use std::marker::Model;
 
 #[derive(Drop)]
 pub(crate) struct Story {
-    marker: PhantomData<u8>,
     pub ghost told: { Told },
 }
 
@@ -16,18 +15,35 @@ impl Model for Story {
     ghost also_owns = { λ _. ftrue };
 }
 
+// What a story tells.
+#[derive(Drop)]
+enum Telling<'a> {
+    Nothing,
+    /// A call behind this story, and the bytes that it read or wrote.
+    Noted(&'a Story, &'a Answered, &'a [u8]),
+}
+
 impl Story {
+    ghost use Rattle.medium.specs.Telling.{IsToldBy};
+
     /// Nothing was asked yet. What the file holds is not known.
     pub(crate) fn new() -> Story
         ensures { result.told.asked ≡ [] }
     {
-        Story {
-            marker: PhantomData,
-        }
+        Story::of(&Telling::Nothing)
     }
 
     /// Notes a call, and the bytes that it read or wrote.
-    pub(crate) fn note(&mut self, _answered: &Answered, _bytes: &[u8])
-        ensures { self.new.told ≡ noted _answered.now _bytes.now self.old.told }
-    {}
+    pub(crate) fn note(&mut self, answered: &Answered, bytes: &[u8])
+        ensures { self.new.told ≡ noted answered.now bytes.now self.old.told }
+    {
+        *self = Story::of(&Telling::Noted(self, answered, bytes));
+    }
+
+    // The story that tells this.
+    fn of(_telling: &Telling) -> Story
+        ensures { IsToldBy _telling.now result.told }
+    {
+        Story {}
+    }
 }

@@ -1,8 +1,7 @@
 -- Devices that have carried out a first part of what was sent.
 use Rattle.std.proofs.Common.{◌≡◌, ℕ, ◌+◌, ◌-◌, ◌≤◌, zero, suc, List, [], ◌∷◌, ◌++◌, length, take, Option, Some, None, refl, sym, ◌∙◌, ap}
-use Rattle.std.proofs.Common.{subst, arith, length-append, append_assoc}
+use Rattle.std.proofs.Common.{arith, length-append, append_assoc}
 use Rattle.std.proofs.Math.Seq.{take-nil, take-append-add}
-use Rattle.window.specs.Device.{durable, after}
 use Rattle.window.specs.Story.{given}
 use Rattle.window.specs.OutboxMedium.{OutboxMedium, sent, CoversDevice, ComesAfter}
 use Rattle.window.specs.MirrorLaws.{given-append}
@@ -22,46 +21,23 @@ first_part (Some call ∷ calls) zero = record { at = 0; inside = omega arith; g
 first_part (Some call ∷ calls) (suc count) = let rest = first_part calls count in
     record { at = suc rest.at; inside = omega (arith, rest.inside); gives = ap (λ (l : List DeviceCall). call ∷ l) rest.gives }
 
--- calls, and a first part of those after them
-record LaterPart (before since : List (Option DeviceCall)) (count : ℕ) : Type 0 where
-  at : ℕ
-  later : length before ≤ at
-  inside : at ≤ length (before ++ since)
-  gives : given (take at (before ++ since)) ≡ take count (given (before ++ since))
-
-later_part : (before since : List (Option DeviceCall)) (count : ℕ) → length (given before) ≤ count → LaterPart before since count
-later_part before since count le =
-    let more = count - length (given before) in
-    let part = first_part since more in
-    let sum : count ≡ length (given before) + more = omega (arith, le) in
-    record {
-      at = length before + part.at;
-      later = omega arith;
-      inside = simp length-append (omega (arith, part.inside));
-      gives = ap given (take-append-add before since part.at) ∙ given-append before (take part.at since)
-          ∙ ap (λ (l : List DeviceCall). given before ++ l) part.gives
-          ∙ sym (take-append-add (given before) (given since) more)
-          ∙ (λ i. take (sym sum i) (sym (given-append before since) i));
-    }
-
 -- what was sent is what was given, as long as only calls of a medium are made
 still_sent : (old new : OutboxMedium) → given old.story.asked ≡ sent old → ComesAfter old new → given new.story.asked ≡ sent new
-still_sent old new all follows =
-    ap given follows.asked ∙ given-append old.story.asked follows.since
-    ∙ ap (λ (l : List DeviceCall). l ++ given follows.since) all ∙ append_assoc old.story.taken old.outbox (given follows.since)
-    ∙ (λ i. sym follows.taken_stays i ++ sym follows.outbox i)
+still_sent old new all follows = simp (follows.asked, given-append, all, follows.taken_stays, follows.outbox, append_assoc)
 
 pub covers : (old new : OutboxMedium) → given old.story.asked ≡ sent old → ComesAfter old new → CoversDevice old new
 covers old new all follows count image le left =
-    let part = later_part old.story.asked follows.since count (omega (arith, le, ap (λ (l : List DeviceCall). length l) all)) in
-    let gives : given (take part.at new.story.asked) ≡ take count (sent new) =
-    ap (λ (l : List (Option DeviceCall)). given (take part.at l)) follows.asked
-    ∙ part.gives
-    ∙ ap (λ (l : List (Option DeviceCall)). take count (given l)) (sym follows.asked)
-    ∙ ap (λ (l : List DeviceCall). take count l) (still_sent old new all follows) in
+    let long = ap (λ (l : List DeviceCall). length l) all in
+    let more = count - length (given old.story.asked) in
+    let part = first_part follows.since more in
+    let sum : count ≡ length (given old.story.asked) + more = omega arith in
+    let gives : given (take (length old.story.asked + part.at) new.story.asked) ≡ take count (sent new) =
+    rw (follows.asked, take-append-add, given-append, part.gives, ← still_sent old new all follows, follows.asked, given-append)
+    (sym (take-append-add (given old.story.asked) (given follows.since) more)
+    ∙ ap (λ k. take k (given old.story.asked ++ given follows.since)) (sym sum)) in
     record {
-      at = part.at;
-      later = part.later;
-      past = omega (arith, part.inside, ap (λ (l : List (Option DeviceCall)). length l) follows.asked);
-      cut = λ s. subst (λ (calls : List DeviceCall). (after (durable new.story.opening) calls).may_leave s (image s)) (sym gives) (left s);
+      at = length old.story.asked + part.at;
+      later = omega arith;
+      past = rw follows.asked (simp length-append (omega (arith, part.inside)));
+      cut = λ s. rw gives (left s);
     }

@@ -1,15 +1,15 @@
 -- What holds of a medium with an outbox at each moment.
-use Rattle.std.specs.Prelude.{◌≡◌, ◌⊎◌, ℕ, ◌/◌, ◌<◌, ◌≤◌, true, false, List, [], ◌∷◌, ◌++◌}
-use Rattle.std.specs.Prelude.{length, Option, Some, None, ◌==◌}
-use Rattle.std.proofs.Common.{inl, inr, ⊎_elim, refl, sym, ◌∙◌, ap, subst, arith}
+use Rattle.std.specs.Prelude.{◌≡◌, ℕ, ◌/◌, ◌<◌, ◌≤◌, true, List, [], ◌∷◌, ◌++◌}
+use Rattle.std.specs.Prelude.{length, Option, Some, None}
+use Rattle.std.proofs.Common.{inl, inr, ⊎_elim, refl, ◌∙◌, ap, arith}
 use Rattle.std.proofs.lemmas.List.{take_all}
 use Rattle.std.proofs.lemmas.Bool.{cases_Bool, and_parts}
 use Rattle.std.proofs.lemmas.Bool.Decides.{eqb_tells, nat_tests}
 use Rattle.medium.specs.Medium.{Image, IsSound}
 use Rattle.medium.specs.SimLaws.{whole_sector}
-use Rattle.window.specs.Device.{Device, put, durable, carried_out, after}
+use Rattle.window.specs.Device.{Device, durable, carried_out, after}
 use Rattle.window.specs.Story.{Told, given, is_whole, are_whole}
-use Rattle.window.specs.OutboxMedium.{OutboxMedium, device_of, device_at, LeftSince}
+use Rattle.window.specs.OutboxMedium.{OutboxMedium, device_of, device_at}
 use Rattle.window.specs.OutboxMedium.{size_of, state_of}
 use Rattle.window.specs.declared.call.DeviceCall.{DeviceCall}
 use Rattle.window.specs.declared.call.DeviceCall.TheVariants.{Write, Flush}
@@ -18,17 +18,12 @@ use Rattle.window.specs.declared.call.DeviceCall.TheVariants.{Write, Flush}
 abbrev HoldsContent : Device → Type 0
 HoldsContent device = (s : ℕ) → device.may_leave s (device.content s)
 
-put_left : (device : Device) (t : ℕ) (block : List ℕ) (s : ℕ) → HoldsContent device
-    → (((s == t) ≡ true) × (s ≡ t)) ⊎ (((s == t) ≡ false) × (s ≡ t → ⊥))
-    → device.may_leave s (put t block device.content s)
-    ⊎ ((s ≡ t) × (put t block device.content s ≡ block))
-put_left device t block s holds (inl here) = inr (here.1, rw here.0 refl)
-put_left device t block s holds (inr other) = inl (rw other.0 (holds s))
-
-carried_holds : (device : Device) (call : DeviceCall) → HoldsContent device → HoldsContent
-    (carried_out device call)
-carried_holds device (Write w) holds s = put_left device w.sector w.block s holds
-    (eqb_tells s w.sector)
+carried_holds : (device : Device) (call : DeviceCall) → HoldsContent device
+    → HoldsContent (carried_out device call)
+carried_holds device (Write w) holds s = elim (eqb_tells s w.sector) [
+  | inl here ↦ inr (here.1, rw here.0 refl)
+  | inr other ↦ inl (rw other.0 (holds s))
+]
 carried_holds device Flush holds s = refl
 
 after_holds : (device : Device) (calls : List DeviceCall) → HoldsContent device → HoldsContent
@@ -60,9 +55,6 @@ after_sized size device (call ∷ calls) whole holds sized =
 pub size_whole : (t : Told) → are_whole (given t.asked) ≡ true → size_of t ≡ length t.opening / 512
 size_whole t whole = rw whole refl
 
-none_of_no_sectors : (t : Told) → are_whole (given t.asked) ≡ false → size_of t ≡ 0
-none_of_no_sectors t not = rw not refl
-
 durable_sized : (bytes : List ℕ) → Sized (length bytes / 512) (durable bytes)
 durable_sized bytes s c inside left = ap (λ (l : List ℕ). length l) left
     ∙ whole_sector bytes s inside
@@ -72,34 +64,24 @@ sized t s c inside left = elim (cases_Bool (are_whole (given t.asked))) [
   | inl whole ↦ after_sized (length t.opening / 512) (durable t.opening) (given t.asked) whole
       (λ u. refl)
       (durable_sized t.opening) s c (rw (size_whole t whole) at inside) left
-  | inr not ↦ absurd (omega (arith, inside, none_of_no_sectors t not))
+  | inr not ↦ absurd (grind (arith, inside, not))
 ]
 
 -- the last moment is that of all calls
 pub at_last : (t : Told) (image : Image) (at : ℕ) → length t.asked ≤ at
     → ((s : ℕ) → (device_at t at).may_leave s (image s)) → (s : ℕ) → (device_of t).may_leave s
     (image s)
-at_last t image at le left s = subst
-    (λ (calls : List (Option DeviceCall)). (after (durable t.opening) (given calls)).may_leave s
-    (image s))
-    (take_all at t.asked le) (left s)
-
-pub now_left : (t : Told) (image : Image) (moment : ℕ) → moment ≤ length t.asked
-    → ((s : ℕ) → (device_of t).may_leave s (image s)) → LeftSince t moment image
-now_left t image moment le left = record {
-  at = length t.asked;
-  later = le;
-  past = omega arith;
-  cut = λ s. subst
-      (λ (calls : List (Option DeviceCall)).
-      (after (durable t.opening) (given calls)).may_leave s (image s))
-      (sym (take_all (length t.asked) t.asked (omega arith))) (left s);
-}
+at_last t image at le left s = rw (take_all at t.asked le) at (left s)
 
 pub is_sound : (m : OutboxMedium) → IsSound (state_of m)
 is_sound m = record {
   holds_content = after_holds (durable m.story.opening) (given m.story.asked) (λ s. refl);
-  counts_now = λ moment image le left. now_left m.story image moment le left;
+  counts_now = λ moment image le left. record {
+    at = length m.story.asked;
+    later = le;
+    past = omega arith;
+    cut = λ s. rw (take_all (length m.story.asked) m.story.asked (omega arith)) (left s);
+  };
   only_now = λ image since. at_last m.story image since.at since.later since.cut;
   sized = sized m.story;
 }
@@ -108,5 +90,4 @@ pub given-append : (first last : List (Option DeviceCall)) → given
     (first ++ last) ≡ given first ++ given last
 given-append [] last = refl
 given-append (None ∷ calls) last = given-append calls last
-given-append (Some call ∷ calls) last = ap (λ (l : List DeviceCall). call ∷ l)
-    (given-append calls last)
+given-append (Some call ∷ calls) last = rw (given-append calls last) refl

@@ -1,9 +1,10 @@
 -- What a medium that reads on demand was asked since the beginning.
-use Rattle.std.specs.Prelude.{◌+◌, ◌-◌, ◌*◌, ◌/◌, ℕ, zero, suc, Bool, true, false, List, [], ◌∷◌}
+use Rattle.std.specs.Prelude.{◌+◌, ◌-◌, ◌*◌, ◌/◌, ℕ, zero, suc, Bool, true, List, [], ◌∷◌}
 use Rattle.std.specs.Prelude.{◌++◌}
-use Rattle.std.specs.Prelude.{length, take, replicate, Option, Some, None, if◌then◌else◌, ◌==◌}
+use Rattle.std.specs.Prelude.{length, take, replicate, Option, Some, None, if◌then◌else◌}
 use Rattle.std.specs.Prelude.{◌&&◌}
 use Rattle.std.specs.Prelude.{nat_lt, nat_le}
+use Rattle.std.specs.Str.{bytes_eq}
 use Rattle.medium.specs.Medium.{Image}
 use Rattle.medium.specs.Tally.{one_more}
 use Rattle.medium.specs.Writes.{sector_of}
@@ -52,18 +53,11 @@ refused t call = record t { told = story.refused t.told call }
 abbrev pub took : Seen → DeviceCall → Seen
 took t call = record t { told = story.took t.told call }
 
--- whether two lists are the same
-abbrev pub same : List ℕ → List ℕ → Bool
-same [] [] = true
-same [] (y ∷ ys) = false
-same (x ∷ xs) [] = false
-same (x ∷ xs) (y ∷ ys) = (x == y) && same xs ys
-
 -- whether each of a number of sectors from the first on is in the image as it is shown
 abbrev pub agrees : Image → ℕ → ℕ → List ℕ → Bool
 agrees image first zero bytes = true
 agrees image first (suc count) bytes =
-    same (sector_of bytes count) (image (first + count)) && agrees image first count bytes
+    bytes_eq (sector_of bytes count) (image (first + count)) && agrees image first count bytes
 
 -- the image with these sectors as they are shown
 abbrev pub overlaid : Image → ℕ → ℕ → List ℕ → Image

@@ -10,10 +10,10 @@ ghost use Rattle.window.specs.Window.{CoversDevice, IsServed, HasPlace, IsShown,
 
 use crate::call::{DeviceCall, SectorWrite};
 use crate::holds::DeviceHolds;
-use crate::look::Look;
-use crate::pane::{Pane, keep, lay_over, load};
+use crate::memory::{keep, load};
+use crate::pane::Pane;
 use crate::sectors::{SECTOR, Sectors, put as put_sector};
-use crate::story::{Opening, Story};
+use crate::story::{Event, Opening, Story};
 use medium::{Inlet, Medium, MediumFault, Outlet};
 use std::alloc::Global;
 use std::collections::VecDeque;
@@ -91,7 +91,7 @@ impl WindowMedium {
         };
         let near = Sectors { bytes: near };
         let opening = Opening { near, size };
-        let story = Story::new(&opening, device);
+        let story = Story::of(&Event::Began(&opening, device));
         Ok(WindowMedium {
             near: opening.near,
             size,
@@ -119,8 +119,8 @@ impl WindowMedium {
             return false;
         }
         self.pane.fill(first, bytes);
-        lay_over(&self.outbox, &mut self.pane);
-        self.story = self.story.shown(&self.pane);
+        self.pane.lay_over(&self.outbox);
+        self.story = Story::of(&Event::Shown(&self.story, &self.pane));
         true
     }
 
@@ -167,7 +167,7 @@ impl WindowMedium {
         ensures rest { self.new ≡ without_first self.old }
     {
         let call = self.outbox.pop_front()?;
-        self.story = self.story.took(&call);
+        self.story = Story::of(&Event::Took(&self.story, &call));
         Some(call)
     }
 
@@ -246,12 +246,11 @@ impl Medium for WindowMedium {
         ensures follows { ComesAfter self.old self.new
             × LooksOnly (λ s. s ≡ sector) (state_of self.old) (state_of self.new) }
     {
-        let look = Look { sector };
         if !self.has(sector) {
-            self.story = self.story.missed(&look);
+            self.story = Story::of(&Event::Missed(&self.story, sector));
             return Err(MediumFault::Read);
         }
-        self.story = self.story.read(&look);
+        self.story = Story::of(&Event::Read(&self.story, sector));
         load(&self.near, &self.pane, sector, to);
         Ok(())
     }
@@ -278,7 +277,7 @@ impl Medium for WindowMedium {
                 sector,
                 block: *from,
             });
-            self.story = self.story.refused(&call);
+            self.story = Story::of(&Event::Refused(&self.story, &call));
             return Err(MediumFault::Write);
         }
         keep(&mut self.near, &mut self.pane, sector, from);
@@ -287,7 +286,7 @@ impl Medium for WindowMedium {
             sector,
             block: *from,
         });
-        self.story = self.story.gave(&call);
+        self.story = Story::of(&Event::Gave(&self.story, &call));
         self.outbox.push_back_reserved(call);
         Ok(())
     }
@@ -303,10 +302,10 @@ impl Medium for WindowMedium {
         ensures follows { ComesAfter self.old self.new }
     {
         if self.outbox.len() >= self.room {
-            self.story = self.story.refused(&DeviceCall::Flush);
+            self.story = Story::of(&Event::Refused(&self.story, &DeviceCall::Flush));
             return Err(MediumFault::Flush);
         }
-        self.story = self.story.gave(&DeviceCall::Flush);
+        self.story = Story::of(&Event::Gave(&self.story, &DeviceCall::Flush));
         self.outbox.push_back_reserved(DeviceCall::Flush);
         Ok(())
     }
