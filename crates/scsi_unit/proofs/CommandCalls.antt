@@ -1,95 +1,220 @@
--- The calls that the parts of a command make, added up.
-use Rattle.std.proofs.Common.{◌≡◌, ◌≤◌, ◌+◌, ◌*◌, ℕ, Bool, true, false, arith, ap, refl, sym, subst}
-use Rattle.std.specs.Prelude.{◌&&◌, ◌||◌, not, if◌then◌else◌, OnOk, Result, Ok, List}
-use Rattle.std.proofs.lemmas.Bool.{false≢true}
-use Rattle.std.proofs.lemmas.Result.{IfOk-at_ok}
-use Rattle.blocks.specs.StoreValue.{Cached, batch_steps}
-use Rattle.blocks.specs.Calls.{reads_of}
+-- The calls that a command makes: how many, which sectors they name, how many batches they make durable, and what a record costs.
+use Rattle.std.proofs.Common.{◌≡◌, ◌≢◌, ◌≤◌, ◌<◌, ◌+◌, ℕ, Bool, false, List, [], None, Option, Some, Result, Ok, Err, arith, ap, refl, inl}
+use Rattle.std.proofs.Common.{true, length, ◌∙◌, ◌*◌}
+use Rattle.std.specs.Prelude.{◌||◌, not, if◌then◌else◌}
+use Rattle.std.proofs.lemmas.Bool.Decides.{nat_tests}
+use Rattle.medium.specs.Medium.{State}
+use Rattle.medium.specs.Sent.{sent, SendsUpTo}
+use Rattle.medium.proofs.SectorsRead.{no_looks, looks_joined, looks_wider}
+use Rattle.blocks.specs.Limit.{Shape}
+use Rattle.blocks.specs.Looks.{LooksAtLog, IsLogOrHome}
+use Rattle.blocks.specs.OneBatch.{SendsOneBatch}
+use Rattle.blocks.specs.Sent.{most_sent}
+use Rattle.blocks.specs.StoreValue.{StoreValue, is_dead, layout_of, transfer_limit, active_of, firsts_in, wants, Cached, HasLimits}
+use Rattle.blocks.specs.StoreValue.{blocks_of, slots_of, batch_steps, steps_left}
+use Rattle.blocks.proofs.EmptyBatches.{both_empty, fits_alone, frozen_as, step_sent}
+use Rattle.blocks.proofs.OneBatchSent.{none_sent}
 use Rattle.blocks.proofs.ReadCalls.{reads_few}
+use Rattle.blocks.proofs.SectorsRead.{looks_on}
 use Rattle.spec.specs.Sense.{Sense}
-use Rattle.spec.specs.declared.command.Command.TheVariants as command
 use Rattle.spec.specs.declared.command.Transfer.{Transfer}
-use Rattle.spec.specs.Rules.{moves_blocks, wants_writing}
-use Rattle.scsi_unit.specs.Calls.{calls_of_sync, calls_of_read, calls_of_write, calls_of}
+use Rattle.spec.specs.Rules.{forces_reading, moves_blocks}
+use Rattle.scsi_unit.specs.UnitValue.{UnitValue, unit_limit}
+use Rattle.scsi_unit.specs.Calls.{calls_of_sync, calls_of_read, calls_of_write, MakesAtMost, PromisesFew, calls_of, most_calls_of}
+use Rattle.scsi_unit.specs.Calls.{most_calls}
+use Rattle.scsi_unit.specs.Promising.{forces_writing}
+use Rattle.scsi_unit.specs.Reading.{IsLogOr, LooksToRead, first_home_of, home_sectors_of, some_read}
+use Rattle.scsi_unit.specs.StoreCalls.{MakesDurable, ReadsBlocks, WritesBlocks}
+use Rattle.blocks.proofs.Headroom.{one_each, both_each, headroom_finished}
+use Rattle.blocks.proofs.Steady.{steady_sync}
+use Rattle.spec.specs.declared.command.Command.TheVariants as command
+use Rattle.scsi_unit.specs.Costs.{CostsFinishing, CostsWriting, SteadyIsCheap, RecordsFlushOnce}
+use Rattle.scsi_unit.specs.Performing.{Spares, silent}
+use Rattle.blocks.proofs.Limits.{few_batch_steps}
+use Rattle.scsi_commands.specs.Supported.{IsSupported}
+use Rattle.spec.specs.declared.command.Command.{Command}
 
--- ---- READ
+-- no call was made
+pub no_calls : {M : Type 0} (count : ℕ) (read : Option Transfer) (promising : Bool) (m : State) (unit : UnitValue M)
+    → MakesAtMost count read promising m m unit
+no_calls count read promising m unit =
+    let looks = no_looks (IsLogOr (first_home_of unit) (home_sectors_of (first_home_of unit) read)) m m refl in grind (arith, looks)
 
-stops_at : (fua moves : Bool) (sync count reads before after : ℕ) → moves ≡ true → after ≤ before + (if fua then sync else 0)
-    → after ≤ before + (if fua && moves then sync + count else reads)
-stops_at true true sync count reads before after moved calls = omega (arith, calls)
-stops_at true false sync count reads before after moved calls = absurd (false≢true moved)
-stops_at false moves sync count reads before after moved calls = omega (arith, calls)
+-- the log alone was read
+log_looked : {M : Type 0} (before after : State) (unit : UnitValue M) (read : Option Transfer)
+    → LooksAtLog before after unit.store.cached → LooksToRead before after unit read
+log_looked before after unit read looks = looks_wider (λ x. x < first_home_of unit) _ before after (λ x low. inl low) looks
 
--- a READ that failed before it read
-pub read_stops : (transfer : Transfer) (cached : Cached) (before after : ℕ) → moves_blocks transfer ≡ true
-    → after ≤ before + (if transfer.fua then calls_of_sync cached else 0) → after ≤ before + calls_of_read transfer cached
-read_stops transfer cached before after moved calls =
-    stops_at transfer.fua (moves_blocks transfer) (calls_of_sync cached) transfer.count
-    (reads_of cached transfer.address transfer.count) before after moved calls
+-- writes are made durable where something is promised, and then no more is sent
+synced_few : {M : Type 0} (promising : Bool) (before mid after : State) (unit : UnitValue M)
+    → is_dead unit.store.cached ≡ false → (promising ≡ false → sent mid ≡ sent before)
+    → (unit.store.cached.frozen.numbers ≡ [] → SendsOneBatch unit.store.goes_ahead before mid unit.store.cached.log)
+    → sent after ≤ sent mid + 0 → PromisesFew promising before after unit
+synced_few promising before mid after unit live unwanted one none = grind (arith, unwanted, one, none, live, both_empty unit.store.cached)
 
-ends_at : (fua moves : Bool) (sync count reads now before mid after : ℕ) → moves ≡ true → mid ≤ before + (if fua then sync else 0)
-    → (fua ≡ false → now ≡ reads) → now ≤ count → after ≤ mid + now
-    → after ≤ before + (if fua && moves then sync + count else reads)
-ends_at true true sync count reads now before mid after moved calls same few more = omega (arith, calls, few, more)
-ends_at true false sync count reads now before mid after moved calls same few more = absurd (false≢true moved)
-ends_at false moves sync count reads now before mid after moved calls same few more = omega (arith, calls, same refl, more)
+module _ {M : Type 0} {Follows : M → M → Type 0} {before after : State} {old : UnitValue M} {last : StoreValue M}
+    {done : Result (Unit {0}) Sense} (live : is_dead old.store.cached ≡ false) where
+  -- writes are made durable, if that is wanted
+  pub synced : {wanted : Bool} {count : ℕ} {read : Option Transfer} {promising : Bool}
+      → MakesDurable Follows wanted before after old.store last done → (promising ≡ false → wanted ≡ false)
+      → (if wanted then calls_of_sync old.store.cached else 0) ≤ count → MakesAtMost count read promising before after old
+  synced {read = read} {promising = promising} makes wants few = record {
+    calls = omega (arith, makes.calls, few);
+    sent = omega (arith, makes.sent);
+    one_batch = synced_few promising before after after old live (λ plain. grind (arith, wants, makes.unwanted)) makes.one_batch
+        (omega arith);
+    looks = log_looked before after old read makes.looks;
+  }
 
--- a READ that read
-pub read_ends : (transfer : Transfer) (old half : Cached) (before mid after : ℕ) → moves_blocks transfer ≡ true
-    → mid ≤ before + (if transfer.fua then calls_of_sync old else 0) → (transfer.fua ≡ false → half ≡ old)
-    → after ≤ mid + reads_of half transfer.address transfer.count → after ≤ before + calls_of_read transfer old
-read_ends transfer old half before mid after moved calls same more =
-    ends_at transfer.fua (moves_blocks transfer) (calls_of_sync old) transfer.count
-    (reads_of old transfer.address transfer.count) (reads_of half transfer.address transfer.count) before mid after moved calls
-    (λ plain. ap (λ (s : Cached). reads_of s transfer.address transfer.count) (same plain))
-    (reads_few half transfer.address transfer.count) more
+  module _ {half : StoreValue M} {mid : State} {transfer : Transfer} (some : transfer.count ≢ 0) where
+    -- and blocks are read behind that
+    pub read_on : {result : Result ℕ Sense} {out : List ℕ} → MakesDurable Follows transfer.fua before mid old.store half done
+        → ReadsBlocks Follows transfer mid after half last out result
+        → MakesAtMost (calls_of_read transfer old.store.cached) (some_read transfer) (forces_reading transfer) before after old
+    read_on makes reads =
+        let is : some_read transfer ≡ Some transfer = grind (arith, nat_tests) in
+        record {
+          calls = grind (arith, nat_tests, makes.calls, makes.unwanted, reads.calls, reads_few half.cached transfer.address transfer.count);
+          sent = omega (arith, makes.sent, reads.sent);
+          one_batch = synced_few (forces_reading transfer) before mid after old live (λ plain. grind (arith, nat_tests, makes.unwanted))
+              makes.one_batch reads.sent;
+          looks = rw is (looks_joined _ before mid after (log_looked before mid old (Some transfer) makes.looks)
+              (looks_wider (IsLogOrHome (layout_of half.cached).home transfer.address transfer.count) _ mid after
+              (λ x named. rw makes.turn.goes_on.layout_stays at named) reads.looks));
+        }
 
--- ---- WRITE
+    -- they are accepted, and are made durable, if that is wanted
+    pub write_on : {value : Unit {0}} {taken : List ℕ} → WritesBlocks Follows transfer taken before mid old.store half (Ok value)
+        → MakesDurable Follows (transfer.fua || not old.write_cache) mid after half last done
+        → transfer.count ≤ transfer_limit old.store.cached
+        → MakesAtMost (calls_of_write transfer old.write_cache old.store.cached) None (forces_writing transfer old.write_cache) before after
+        old
+    write_on writes makes few =
+        let layout = writes.turn.goes_on.layout_stays in
+        record {
+          calls = grind (arith, nat_tests, writes.calls, writes.paid, makes.calls);
+          sent = omega (arith, writes.sent, makes.sent, ap (λ (s : Shape). most_sent s.format) layout);
+          one_batch = record {
+            plain = λ nothing. grind (arith, nat_tests, nothing, makes.unwanted, writes.one_batch);
+            written = λ all.
+                let none = both_empty old.store.cached live all in
+                let fits = fits_alone old.store.cached transfer.address transfer.count none.1 few in
+                let beside = writes.batches.beside fits in
+                let one = makes.one_batch (frozen_as old.store.cached half.cached beside.0 none.0) in
+                grind (arith, one, writes.follows.policy, (writes.quiet fits).1, beside);
+          };
+          looks = log_looked before after old None
+              (looks_on before mid after old.store.cached half.cached layout writes.looks makes.looks);
+        }
 
-write_at : (moves durable : Bool) (sync batch before after : ℕ) → moves ≡ true
-    → (durable ≡ false → after ≤ before + sync) → after ≤ before + (sync + batch)
-    → after ≤ before + (if not moves then 0 else if durable then sync + batch else sync)
-write_at true true sync batch before after moved plain most = most
-write_at true false sync batch before after moved plain most = plain refl
-write_at false durable sync batch before after moved plain most = absurd (false≢true moved)
+-- blocks are not accepted
+pub write_stops : {M : Type 0} {Follows : M → M → Type 0} {before after : State} {old : UnitValue M} {last : StoreValue M}
+    {transfer : Transfer} {taken : List ℕ} {sense : Sense} → transfer.count ≢ 0
+    → WritesBlocks Follows transfer taken before after old.store last (Err sense)
+    → MakesAtMost (calls_of_write transfer old.write_cache old.store.cached) None (forces_writing transfer old.write_cache) before after old
+write_stops {before = before} {after = after} {old = old} some writes =
+    let looks = log_looked before after old None writes.looks in grind (arith, nat_tests, writes, looks)
 
--- a WRITE that was not accepted
-pub write_stops : (transfer : Transfer) (write_cache : Bool) (cached : Cached) (before after : ℕ) → moves_blocks transfer ≡ true
-    → after ≤ before + calls_of_sync cached → after ≤ before + calls_of_write transfer write_cache cached
-write_stops transfer write_cache cached before after moved calls =
-    write_at (moves_blocks transfer) (transfer.fua || not write_cache) (calls_of_sync cached) (2 * batch_steps cached) before after moved
-    (λ plain. calls) (omega (arith, calls))
+-- ---- for the layers above: no call, or a step in the background
 
-durable_if_most : (durable : Bool) (sync batch half before mid after : ℕ) → mid ≤ before + sync → mid + half ≤ before + sync + batch
-    → after ≤ mid + (if durable then half else 0) → after ≤ before + (sync + batch)
-durable_if_most true sync batch half before mid after calls paid more = omega (arith, paid, more)
-durable_if_most false sync batch half before mid after calls paid more = omega (arith, calls, more)
+pub none_made : {M : Type 0} (m : State) (unit : UnitValue M) → SendsOneBatch unit.store.goes_ahead m m unit.store.cached.log
+none_made m unit = none_sent unit.store.goes_ahead m unit.store.cached.log m refl
 
-plain_if : (durable : Bool) (sync half before mid after : ℕ) → mid ≤ before + sync
-    → after ≤ mid + (if durable then half else 0) → durable ≡ false → after ≤ before + sync
-plain_if true sync half before mid after calls more plain = absurd (false≢true (sym plain))
-plain_if false sync half before mid after calls more plain = omega (arith, calls, more)
+pub step_made : {M : Type 0} (before after : State) (unit : UnitValue M) → SendsUpTo 2 before after
+    → SendsOneBatch unit.store.goes_ahead before after unit.store.cached.log
+step_made before after unit two = step_sent unit.store.goes_ahead before after unit.store.cached.log two
 
--- a WRITE that was, and was made durable if that was wanted
-pub write_ends : (transfer : Transfer) (write_cache : Bool) (old half : Cached) (before mid after : ℕ) → moves_blocks transfer ≡ true
-    → mid ≤ before + calls_of_sync old → mid + calls_of_sync half ≤ before + calls_of_sync old + 2 * batch_steps old
-    → after ≤ mid + (if transfer.fua || not write_cache then calls_of_sync half else 0)
-    → after ≤ before + calls_of_write transfer write_cache old
-write_ends transfer write_cache old half before mid after moved calls paid more =
-    write_at (moves_blocks transfer) (transfer.fua || not write_cache) (calls_of_sync old) (2 * batch_steps old) before after moved
-    (plain_if (transfer.fua || not write_cache) (calls_of_sync old) (calls_of_sync half) before mid after calls more)
-    (durable_if_most (transfer.fua || not write_cache) (calls_of_sync old) (2 * batch_steps old) (calls_of_sync half) before mid after
-    calls paid more)
+-- a WRITE that was accepted, and made durable if that was wanted
+module _ {M : Type 0} {Follows : M → M → Type 0} {before mid : State} {transfer : Transfer} {taken : List ℕ} {value : Unit {0}} where
+  -- the calls and the flushes of it
+  costs_by : {old half : StoreValue M} → WritesBlocks Follows transfer taken before mid old half (Ok value)
+      → (durable : Bool) (after : State) → CostsFinishing old.goes_ahead durable mid after half.cached
+      → CostsWriting old.goes_ahead true durable transfer before after old.cached
+  costs_by writes false after costs = λ not. let alone = writes.alone not in grind (arith, costs, alone)
+  costs_by {half = half} writes true after costs = record {
+    beside = λ fits.
+        let quiet = (writes.quiet fits).1 in
+        let turned = writes.batches.beside fits in
+        record { active = active_of half.cached; takes = writes.active; both = grind (arith, costs, quiet, turned) };
+    alone = λ not.
+        let alone = writes.alone not in
+        let turned = writes.batches.alone not in
+        record {
+          active = active_of half.cached;
+          takes = writes.active;
+          calls = grind (arith, costs, alone, turned);
+          flushes = grind (arith, costs, alone, turned);
+        };
+  }
 
--- what was told of a good call
-pub OnOk-at : {P : Type 0} (done : Result (Unit {0}) Sense) (value : Unit {0}) → done ≡ Ok value → OnOk done P → P
-OnOk-at {P} done value was told = IfOk-at_ok (λ _. P) was told
+  pub spares_writing : {after : State} {old : UnitValue M} {half last : StoreValue M} {done : Result (Unit {0}) Sense}
+      → WritesBlocks Follows transfer taken before mid old.store half (Ok value)
+      → MakesDurable Follows (transfer.fua || not old.write_cache) mid after half last done → transfer.count ≢ 0
+      → Spares before after (Ok (command.Write10 transfer)) taken old (silent done) (record old { store = last })
+  spares_writing {after = after} {old = old} {half = half} writes makes some =
+      let moves : moves_blocks transfer ≡ true = grind (arith, nat_tests) in
+      let policy = writes.follows.policy in
+      record {
+        untouched = λ none. grind (arith, nat_tests);
+        plain = λ t is fits. grind (arith, nat_tests, writes.quiet, makes.unwanted);
+        active = λ lives. grind (arith, nat_tests, writes.active, makes.active, makes.answer);
+        log = λ good. rw moves (record {
+          mid = half.cached;
+          turns = writes.batches;
+          takes = writes.active;
+          finishes = grind (arith, makes.log, policy, good);
+        });
+        cost = λ good. rw moves (costs_by writes (transfer.fua || not old.write_cache) after (grind (arith, makes.cost, policy, good)));
+        policy = makes.follows.policy ∙ policy;
+        headroom = λ on head. makes.follows.headroom (policy ∙ on) (writes.follows.headroom on head writes.answer);
+      }
 
--- ---- MODE SELECT
+some_wanted : (numbers : List ℕ) → wants numbers ≡ 1 → 0 < length numbers
+some_wanted numbers one = grind (arith, nat_tests)
 
-pub select_calls : (length : ℕ) (taken : List ℕ) (write_cache : Bool) (cached : Cached) (before after : ℕ) (wanted : Bool)
-    → wants_writing (command.ModeSelect length) taken write_cache ≡ wanted
-    → after ≤ before + (if wanted then calls_of_sync cached else 0)
-    → after ≤ before + calls_of (command.ModeSelect length) taken write_cache cached
-select_calls length taken write_cache cached before after wanted wants calls =
-    subst (λ (b : Bool). after ≤ before + (if b then calls_of_sync cached else 0)) (sym wants) calls
+pub records_flush_once : RecordsFlushOnce
+records_flush_once active old head under_way =
+    let some = λ (begun : 0 < old.log.steps_left). some_wanted old.frozen.numbers (under_way begun) in (
+      both_each old.frozen.numbers active old.log head some,
+      one_each old.frozen.numbers old.log head some,
+      headroom_finished old.frozen.numbers (firsts_in old.frozen) old.log head,
+    )
+
+pub steady_is_cheap : SteadyIsCheap
+steady_is_cheap active old still none some = steady_sync old.frozen.numbers active old.log still none some
+
+-- the steps that are left, and those of one batch more
+one_more : (slots width steps : ℕ) → steps ≤ (slots + 4) * width → 2 * steps + 2 * width ≤ 2 * (slots + 5) * width
+one_more slots width steps few = omega (arith, few)
+
+-- two calls for each step that is left, and `more` besides
+with_more : (slots limit steps more : ℕ) → steps ≤ (slots + 4) * (2 * limit + 16) → more ≤ 6 * limit + 32
+    → 2 * steps + more ≤ most_calls_of slots limit
+with_more slots limit steps more few few_more = omega (arith, few_more, one_more slots (2 * limit + 16) steps few)
+
+module _ (cached : Cached) (limits : HasLimits cached) where
+  abbrev most : ℕ
+  most = most_calls_of (slots_of cached) (transfer_limit cached)
+
+  sync_and : (more : ℕ) → more ≤ 6 * transfer_limit cached + 32 → calls_of_sync cached + more ≤ most
+  sync_and more few = with_more (slots_of cached) (transfer_limit cached) (steps_left cached) more limits.few_steps few
+
+  few_read : (transfer : Transfer) → transfer.count ≤ transfer_limit cached → calls_of_read transfer cached ≤ most
+  few_read transfer within =
+      let sum = sync_and transfer.count (omega (arith, within)) in
+      grind (arith, nat_tests, sum, reads_few cached transfer.address transfer.count)
+
+  few_write : (transfer : Transfer) (write_cache : Bool) → calls_of_write transfer write_cache cached ≤ most
+  few_write transfer write_cache =
+      let sum = sync_and (2 * batch_steps cached) (omega (arith, few_batch_steps cached)) in grind (arith, nat_tests, sum)
+
+  -- the calls of a command that is supported
+  pub calls_few : (told : Command) → IsSupported (blocks_of cached) (transfer_limit cached) told → (taken : List ℕ) (write_cache : Bool)
+      → calls_of told taken write_cache cached ≤ most
+  calls_few told supported taken write_cache =
+      let none = sync_and 0 (omega arith) in grind (arith, few_read, few_write, none)
+
+-- nor does a step in the background
+pub few_ticks : {M : Type 0} (before after : ℕ) (unit : UnitValue M) → after ≤ before + 2 → after ≤ before + most_calls unit
+few_ticks before after unit few =
+    omega (arith, few, one_more (slots_of unit.store.cached) (2 * unit_limit unit + 16) 0 (omega arith))

@@ -1,288 +1,163 @@
--- A command moves what it intended to.
-use Rattle.std.proofs.Common.{◌≡◌, ◌≢◌, ◌<◌, ◌≤◌, ◌*◌, ⊎_elim, ℕ, Bool, true, false, List, [], ◌∷◌, length, Some, None, Result, Ok, Err}
-use Rattle.std.proofs.Common.{refl, ap, sym, ◌∙◌, subst, arith}
-use Rattle.std.specs.Prelude.{IfOk, if◌then◌else◌, ◌||◌, ◌==◌, not, min, unwrap_or, IsTrue}
-use Rattle.std.proofs.lemmas.Result.{IfOk-at_ok}
-use Rattle.std.proofs.lemmas.Bool.{false≢true, eqb-true}
-use Rattle.std.proofs.lemmas.List.{length-take}
+-- A command moves what it intended to, and a write that it appends is one.
+use Rattle.std.proofs.Common.{◌≡◌, ◌≢◌, ◌<◌, ◌≤◌, ◌*◌, ◌+◌, ◌/◌, ℕ, zero, suc, Bool, List, [], length, take, drop, Some, None, Option}
+use Rattle.std.proofs.Common.{Result, Err, refl, arith, length-append}
+use Rattle.std.specs.Prelude.{All, IfOk, min, unwrap_or}
+use Rattle.std.proofs.lemmas.Bool.Decides.{nat_tests}
+use Rattle.std.proofs.lemmas.List.{length-take, length-drop}
+use Rattle.std.proofs.lemmas.List.Elements.{All-nil, All-cons}
+use Rattle.spec.specs.Blocks.{Array, Write, IsWrite, chunks}
 use Rattle.spec.specs.Book.{array_of, blocks_at}
 use Rattle.spec.specs.Sense.{Sense}
 use Rattle.spec.specs.FixedSense.{fixed_sense}
-use Rattle.spec.specs.Waiting.{reported}
+use Rattle.spec.specs.Identification.{Identification}
+use Rattle.spec.specs.Inquiry.{inquiry_data, inquiry_size, standard_data, supported_pages, unit_serial_number, device_identification}
+use Rattle.spec.specs.Inquiry.{block_limits}
+use Rattle.spec.specs.ModePage.{caching_page}
+use Rattle.spec.specs.Capacity.{capacity_10, capacity_16}
 use Rattle.spec.specs.declared.command.Command.{Command}
 use Rattle.spec.specs.declared.command.Command.TheVariants as command
 use Rattle.spec.specs.declared.command.Transfer.{Transfer}
-use Rattle.scsi_commands.specs.Supported.{IsSupported, IsWithin}
-use Rattle.spec.specs.Commands.{is_one_of}
-use Rattle.scsi_commands.proofs.RowLaws.{supported}
-use Rattle.spec.specs.Inquiry.{inquiry_data, inquiry_size}
-use Rattle.spec.specs.ModePage.{mode_data}
 use Rattle.spec.specs.declared.intent.Intent.TheVariants as intent
-use Rattle.spec.specs.Capacity.{capacity_16}
-use Rattle.spec.specs.Rules.{UnitState, checked, intention, moves, moves_after, sends, effect_of, moves_blocks, selected_by, selects}
-use Rattle.spec.specs.Rules.{write_after, write_of_command, some_write, write_by, IsOutcome}
-use Rattle.scsi_unit.specs.Laws.{IsSized, KeepsIntentions}
-use Rattle.scsi_unit.proofs.PassedChecks.{intention_is, passed_by}
-use Rattle.scsi_unit.proofs.WriteLines.{written}
-use Rattle.scsi_unit.proofs.DataSizes.{sends_is, takes_is, sends_no_out, takes_no_in, sends_nothing, takes_nothing, length-fixed_sense}
-use Rattle.scsi_unit.proofs.DataSizes.{length-mode_data, length-capacity_10, length-capacity_16, length-inquiry_data, inquiry_most}
-use Rattle.scsi_unit.proofs.DataSizes.{take_none, inquiry_none, length-blocks_at}
-use Rattle.scsi_unit.proofs.Directions.{in_or_none, out_or_none}
+use Rattle.spec.specs.Rules.{Intention, sends, UnitState, checked, command_by, intention_by, moves, moves_after, effect_of, write_after}
+use Rattle.spec.specs.Rules.{write_by, IsOutcome}
+use Rattle.scsi_commands.specs.Supported.{IsSupported, IsWithin}
+use Rattle.scsi_commands.proofs.RowLaws.{supported}
+use Rattle.scsi_unit.specs.Laws.{IsSized, KeepsIntentions, WritesAreWrites}
+use Rattle.blocks.specs.StoreValue.{layout_of}
+use Rattle.blocks.proofs.Limits.{limit_least}
+use Rattle.scsi_unit.specs.UnitValue.{UnitValue, unit_limit}
+use Rattle.scsi_unit.specs.Calls.{SendsAsMeant, SendsOver}
+
+-- ---- how many bytes are moved
+
+pub size_of : Intention → ℕ
+size_of (intent.In n) = n
+size_of (intent.Out n) = n
+size_of other = 0
+
+pub inquiry_most : (page : Option ℕ) → unwrap_or (inquiry_size page) 0 ≤ 64
+inquiry_most page = grind (arith, nat_tests)
+
+nothing_intended : (bytes : ℕ) → ((n : ℕ) → sends bytes ≢ intent.In n) → bytes ≡ 0
+nothing_intended bytes never = grind (arith, nat_tests, never bytes)
+
+-- as many bytes are sent as are intended
+pub meant_to_send : (bytes limit : ℕ) (result : Result ℕ Sense) → IfOk result (λ sent. sent ≡ bytes) → bytes ≤ 512 * limit
+    → SendsAsMeant (sends bytes) limit result
+meant_to_send bytes limit result is few = grind (arith, nat_tests, nothing_intended)
+
+pub data_sent : {M : Type 0} {Follows : M → M → Type 0} {new : M} (bytes : ℕ) (unit : UnitValue M) (result : Result ℕ Sense)
+    → IfOk result (λ sent. sent ≡ bytes) → bytes ≤ 64 → Follows unit.store.medium new
+    → SendsOver Follows (sends bytes) (unit_limit unit) result unit.store.medium new
+data_sent bytes unit result is few follows =
+    let least = limit_least (layout_of unit.store.cached).format in
+    record { sends = meant_to_send bytes (unit_limit unit) result is (omega (arith, least, few)); follows = follows }
 
 -- ---- command by command
 
-read_so : (unit : UnitState) (transfer : Transfer) (n : ℕ) → IsSized unit → IsWithin unit.book.blocks unit.limit transfer
-    → sends (512 * transfer.count) ≡ intent.In n → length (blocks_at (array_of unit.book) transfer.address transfer.count) ≡ n
-read_so unit transfer n sized within is =
+-- the blocks of a range, each of 512 bytes
+length-blocks_at : (array : Array) (address count : ℕ) → ((b : ℕ) → address ≤ b → b < address + count → length (array b) ≡ 512)
+    → length (blocks_at array address count) ≡ 512 * count
+length-blocks_at array address zero sized = refl
+length-blocks_at array address (suc count) sized =
+    let rest = length-blocks_at array (address + 1) count (λ b low high. sized b (omega (arith, low)) (omega (arith, high))) in
+    grind (arith, length-append {A = ℕ}, sized address, rest)
+
+read_so : (unit : UnitState) (transfer : Transfer) → IsSized unit → IsWithin unit.book.blocks unit.limit transfer
+    → length (blocks_at (array_of unit.book) transfer.address transfer.count) ≡ 512 * transfer.count
+read_so unit transfer sized within =
     length-blocks_at (array_of unit.book) transfer.address transfer.count
     (λ b low high. sized.blocks b (omega (arith, high, within.on_medium)))
-    ∙ (sends_is (512 * transfer.count) n is).0
-
-no_blocks : (count : ℕ) → 512 * count ≡ 0 → count ≡ 0
-no_blocks count none = omega (arith, none)
-
-selects_none : (unit : UnitState) (chosen : Result Bool Sense) → IfOk (selects chosen unit).answer (λ sent. sent ≡ [])
-selects_none unit (Ok enabled) = refl
-selects_none unit (Err sense) = tt
-
-writes_none : (unit : UnitState) (transfer : Transfer) (taken : List ℕ) (moves durable : Bool)
-    → IfOk (written moves durable (write_by transfer taken) unit).answer (λ sent. sent ≡ [])
-writes_none unit transfer taken false durable = refl
-writes_none unit transfer taken true true = refl
-writes_none unit transfer taken true false = refl
 
 -- what a command was intended to send it sends
 sends_so : (unit : UnitState) (command : Command) (taken : List ℕ) (n : ℕ) → IsSized unit → IsSupported unit.book.blocks unit.limit command
     → moves command ≡ intent.In n → IfOk (effect_of command taken unit).answer (λ sent. length sent ≡ n)
-sends_so unit command.TestUnitReady taken n sized served is = cc
-sends_so unit (command.RequestSense allocation) taken n sized served is =
-    length-take allocation (fixed_sense (reported unit.kept))
-    ∙ ap (min allocation) (length-fixed_sense (reported unit.kept))
-    ∙ (sends_is (min allocation 18) n is).0
-sends_so unit (command.Inquiry page allocation) taken n sized served is =
-    length-take allocation (unwrap_or (inquiry_data unit.identity unit.limit page) [])
-    ∙ ap (min allocation) (length-inquiry_data unit sized page)
-    ∙ (sends_is (min allocation (unwrap_or (inquiry_size page) 0)) n is).0
-sends_so unit (command.ModeSelect size) taken n sized served is = absurd (takes_no_in size n (size == 0) is)
-sends_so unit (command.ModeSense control page subpage allocation) taken n sized served is =
-    length-take allocation (mode_data control unit.write_cache)
-    ∙ ap (min allocation) (length-mode_data control unit.write_cache)
-    ∙ (sends_is (min allocation 24) n is).0
-sends_so unit command.ReadCapacity10 taken n sized served is = length-capacity_10 unit.book.blocks ∙ (sends_is 8 n is).0
-sends_so unit (command.Read10 transfer) taken n sized served is = read_so unit transfer n sized served is
-sends_so unit (command.Write10 transfer) taken n sized served is =
-    absurd (takes_no_in (512 * transfer.count) n (512 * transfer.count == 0) is)
-sends_so unit (command.SynchronizeCache10 range) taken n sized served is = cc
-sends_so unit (command.Read16 transfer) taken n sized served is = read_so unit transfer n sized served is
-sends_so unit (command.Write16 transfer) taken n sized served is =
-    absurd (takes_no_in (512 * transfer.count) n (512 * transfer.count == 0) is)
-sends_so unit (command.SynchronizeCache16 range) taken n sized served is = cc
-sends_so unit (command.ReadCapacity16 allocation) taken n sized served is =
-    length-take allocation (capacity_16 unit.book.blocks)
-    ∙ ap (min allocation) (length-capacity_16 unit.book.blocks)
-    ∙ (sends_is (min allocation 32) n is).0
+unfolding fixed_sense caching_page capacity_10 capacity_16 standard_data supported_pages unit_serial_number
+    device_identification block_limits
+sends_so unit command taken n sized served is =
+    grind (arith, nat_tests, length-take {A = ℕ}, length-append {A = ℕ}, sized, read_so unit)
 
 -- a command that was not intended to send anything sends nothing
+inquiry_none : (limit : ℕ) (who : Identification) (allocation : ℕ) (page : Option ℕ)
+    → min allocation (unwrap_or (inquiry_size page) 0) ≡ 0 → take allocation (unwrap_or (inquiry_data who limit page) []) ≡ []
+inquiry_none limit who allocation page none = grind (arith, nat_tests)
+
 sends_none : (unit : UnitState) (command : Command) (taken : List ℕ) → ((n : ℕ) → moves command ≢ intent.In n)
     → IfOk (effect_of command taken unit).answer (λ sent. sent ≡ [])
-sends_none unit command.TestUnitReady taken never = refl
-sends_none unit (command.RequestSense allocation) taken never =
-    take_none allocation _ (omega (arith, sends_nothing (min allocation 18) never))
 sends_none unit (command.Inquiry page allocation) taken never =
-    inquiry_none unit.limit unit.identity allocation page (sends_nothing (min allocation (unwrap_or (inquiry_size page) 0)) never)
-sends_none unit (command.ModeSelect size) taken never = selects_none unit (selected_by size taken unit.write_cache)
-sends_none unit (command.ModeSense control page subpage allocation) taken never =
-    take_none allocation _ (omega (arith, sends_nothing (min allocation 24) never))
-sends_none unit command.ReadCapacity10 taken never = absurd (never 8 refl)
-sends_none unit (command.Read10 transfer) taken never =
-    ap (λ (c : ℕ). blocks_at (array_of unit.book) transfer.address c)
-    (no_blocks transfer.count (sends_nothing (512 * transfer.count) never))
-sends_none unit (command.Write10 transfer) taken never =
-    writes_none unit transfer taken (moves_blocks transfer) (transfer.fua || not unit.write_cache)
-sends_none unit (command.SynchronizeCache10 range) taken never = refl
-sends_none unit (command.Read16 transfer) taken never =
-    ap (λ (c : ℕ). blocks_at (array_of unit.book) transfer.address c)
-    (no_blocks transfer.count (sends_nothing (512 * transfer.count) never))
-sends_none unit (command.Write16 transfer) taken never =
-    writes_none unit transfer taken (moves_blocks transfer) (transfer.fua || not unit.write_cache)
-sends_none unit (command.SynchronizeCache16 range) taken never = refl
-sends_none unit (command.ReadCapacity16 allocation) taken never =
-    take_none allocation _ (omega (arith, sends_nothing (min allocation 32) never))
+    inquiry_none unit.limit unit.identity allocation page
+    (grind (arith, nat_tests, never (min allocation (unwrap_or (inquiry_size page) 0))))
+sends_none unit other taken never = grind (arith, nat_tests, never (size_of (moves other)))
 
--- no more bytes are moved than the most blocks of a transfer have
-in_most : (blocks limit : ℕ) (command : Command) (n : ℕ) → 0 < limit → IsSupported blocks limit command → moves command ≡ intent.In n
-    → (0 < n) × (n ≤ 512 * limit)
-in_most blocks limit command.TestUnitReady n some served is = cc
-in_most blocks limit (command.RequestSense allocation) n some served is =
-    let so = sends_is (min allocation 18) n is in (so.1, omega (arith, so.0, some))
-in_most blocks limit (command.Inquiry page allocation) n some served is =
-    let so = sends_is (min allocation (unwrap_or (inquiry_size page) 0)) n is in (so.1, omega (arith, so.0, some, inquiry_most page))
-in_most blocks limit (command.ModeSelect size) n some served is = absurd (takes_no_in size n (size == 0) is)
-in_most blocks limit (command.ModeSense control page subpage allocation) n some served is =
-    let so = sends_is (min allocation 24) n is in (so.1, omega (arith, so.0, some))
-in_most blocks limit command.ReadCapacity10 n some served is = let so = sends_is 8 n is in (so.1, omega (arith, so.0, some))
-in_most blocks limit (command.Read10 transfer) n some served is =
-    let so = sends_is (512 * transfer.count) n is in (so.1, omega (arith, so.0, some, served.few))
-in_most blocks limit (command.Write10 transfer) n some served is =
-    absurd (takes_no_in (512 * transfer.count) n (512 * transfer.count == 0) is)
-in_most blocks limit (command.SynchronizeCache10 range) n some served is = cc
-in_most blocks limit (command.Read16 transfer) n some served is =
-    let so = sends_is (512 * transfer.count) n is in (so.1, omega (arith, so.0, some, served.few))
-in_most blocks limit (command.Write16 transfer) n some served is =
-    absurd (takes_no_in (512 * transfer.count) n (512 * transfer.count == 0) is)
-in_most blocks limit (command.SynchronizeCache16 range) n some served is = cc
-in_most blocks limit (command.ReadCapacity16 allocation) n some served is =
-    let so = sends_is (min allocation 32) n is in (so.1, omega (arith, so.0, some))
+-- a write of this many blocks, each of 512 bytes
+chunks_sized : (count : ℕ) (bytes : List ℕ) → 512 * count ≤ length bytes
+    → (length (chunks count bytes) ≡ count) × All (λ block. length block ≡ 512) (chunks count bytes)
+chunks_sized zero bytes enough = (refl, All-nil (λ (block : List ℕ). length block ≡ 512))
+chunks_sized (suc count) bytes enough =
+    let rest = chunks_sized count (drop 512 bytes) (omega (arith, length-drop 512 bytes)) in (
+      omega (arith, rest.0),
+      All-cons (λ (block : List ℕ). length block ≡ 512) (take 512 bytes) _ (omega (arith, length-take 512 bytes)) rest.1,
+    )
 
-one_of_three : (size : ℕ) (a b c : Bool) → (a ≡ true → 0 ≡ size) → (b ≡ true → 4 ≡ size) → (c ≡ true → 24 ≡ size)
-    → IsTrue (a || (b || (c || false))) → size ≤ 24
-one_of_three size true b c x y z one = omega (arith, x refl)
-one_of_three size false true c x y z one = omega (arith, y refl)
-one_of_three size false false true x y z one = omega (arith, z refl)
-one_of_three size false false false x y z one = absurd (false≢true one)
-
-list_most : (size : ℕ) → IsTrue (is_one_of (0 ∷ 4 ∷ 24 ∷ []) size) → size ≤ 24
-list_most size one = one_of_three size (0 == size) (4 == size) (24 == size) (eqb-true 0 size) (eqb-true 4 size) (eqb-true 24 size) one
-
-out_most : (blocks limit : ℕ) (command : Command) (n : ℕ) → 0 < limit → IsSupported blocks limit command → moves command ≡ intent.Out n
-    → (0 < n) × (n ≤ 512 * limit)
-out_most blocks limit command.TestUnitReady n some served is = cc
-out_most blocks limit (command.RequestSense allocation) n some served is =
-    absurd (sends_no_out (min allocation 18) n (min allocation 18 == 0) is)
-out_most blocks limit (command.Inquiry page allocation) n some served is =
-    absurd (sends_no_out (min allocation (unwrap_or (inquiry_size page) 0)) n (min allocation (unwrap_or (inquiry_size page) 0) == 0) is)
-out_most blocks limit (command.ModeSelect size) n some served is =
-    let so = takes_is size n is in (so.1, omega (arith, so.0, some, list_most size served))
-out_most blocks limit (command.ModeSense control page subpage allocation) n some served is =
-    absurd (sends_no_out (min allocation 24) n (min allocation 24 == 0) is)
-out_most blocks limit command.ReadCapacity10 n some served is = absurd (sends_no_out 8 n (8 == 0) is)
-out_most blocks limit (command.Read10 transfer) n some served is =
-    absurd (sends_no_out (512 * transfer.count) n (512 * transfer.count == 0) is)
-out_most blocks limit (command.Write10 transfer) n some served is =
-    let so = takes_is (512 * transfer.count) n is in (so.1, omega (arith, so.0, some, served.few))
-out_most blocks limit (command.SynchronizeCache10 range) n some served is = cc
-out_most blocks limit (command.Read16 transfer) n some served is =
-    absurd (sends_no_out (512 * transfer.count) n (512 * transfer.count == 0) is)
-out_most blocks limit (command.Write16 transfer) n some served is =
-    let so = takes_is (512 * transfer.count) n is in (so.1, omega (arith, so.0, some, served.few))
-out_most blocks limit (command.SynchronizeCache16 range) n some served is = cc
-out_most blocks limit (command.ReadCapacity16 allocation) n some served is =
-    absurd (sends_no_out (min allocation 32) n (min allocation 32 == 0) is)
-
--- a command that takes nothing writes nothing
-some_write_none : (transfer : Transfer) (taken : List ℕ) → 512 * transfer.count ≡ 0 → some_write transfer taken ≡ None
-some_write_none transfer taken none =
-    subst (λ (c : ℕ). (if not (c == 0) then Some (write_by transfer taken) else None) ≡ None) (sym (no_blocks transfer.count none)) refl
-
-writes_nothing : (command : Command) (taken : List ℕ) → ((n : ℕ) → moves command ≢ intent.Out n) → write_of_command command taken ≡ None
-writes_nothing command.TestUnitReady taken never = refl
-writes_nothing (command.RequestSense allocation) taken never = refl
-writes_nothing (command.Inquiry page allocation) taken never = refl
-writes_nothing (command.ModeSelect size) taken never = refl
-writes_nothing (command.ModeSense control page subpage allocation) taken never = refl
-writes_nothing command.ReadCapacity10 taken never = refl
-writes_nothing (command.Read10 transfer) taken never = refl
-writes_nothing (command.Write10 transfer) taken never = some_write_none transfer taken (takes_nothing (512 * transfer.count) never)
-writes_nothing (command.SynchronizeCache10 range) taken never = refl
-writes_nothing (command.Read16 transfer) taken never = refl
-writes_nothing (command.Write16 transfer) taken never = some_write_none transfer taken (takes_nothing (512 * transfer.count) never)
-writes_nothing (command.SynchronizeCache16 range) taken never = refl
-writes_nothing (command.ReadCapacity16 allocation) taken never = refl
+is_write_by : (blocks limit : ℕ) (transfer : Transfer) (taken : List ℕ) → IsWithin blocks limit transfer → transfer.count ≢ 0
+    → length taken ≡ 512 * transfer.count → IsWrite blocks (write_by transfer taken)
+is_write_by blocks limit transfer taken within some size =
+    let bytes = take (512 * transfer.count) taken in
+    let count : length bytes / 512 ≡ transfer.count = omega (arith, size, length-take (512 * transfer.count) taken) in
+    let are = chunks_sized (length bytes / 512) bytes (omega (arith, count)) in
+    record { some = omega (arith, are.0, count, some); sized = are.1; inside = omega (arith, are.0, count, within.on_medium) }
 
 -- ---- whatever the checks say
 
-of_in : (told : Result Command Sense) (n : ℕ) → moves_after told ≡ intent.In n
-    → (command : Command) × (told ≡ Ok command) × (moves command ≡ intent.In n)
-of_in (Ok command) n is = (command, refl, is)
-of_in (Err sense) n is = cc
-
-of_out : (told : Result Command Sense) (n : ℕ) → moves_after told ≡ intent.Out n
-    → (command : Command) × (told ≡ Ok command) × (moves command ≡ intent.Out n)
-of_out (Ok command) n is = (command, refl, is)
-of_out (Err sense) n is = cc
-
-sends_no_fail : (bytes : ℕ) (sense : Sense) (nothing : Bool) → in_or_none bytes nothing ≡ intent.Fail sense → ⊥
-sends_no_fail bytes sense true is = cc
-sends_no_fail bytes sense false is = cc
-
-takes_no_fail : (bytes : ℕ) (sense : Sense) (nothing : Bool) → out_or_none bytes nothing ≡ intent.Fail sense → ⊥
-takes_no_fail bytes sense true is = cc
-takes_no_fail bytes sense false is = cc
-
-no_fail : (command : Command) (sense : Sense) → moves command ≡ intent.Fail sense → ⊥
-no_fail command.TestUnitReady sense is = cc
-no_fail (command.RequestSense allocation) sense is = sends_no_fail (min allocation 18) sense (min allocation 18 == 0) is
-no_fail (command.Inquiry page allocation) sense is =
-    sends_no_fail (min allocation (unwrap_or (inquiry_size page) 0)) sense (min allocation (unwrap_or (inquiry_size page) 0) == 0) is
-no_fail (command.ModeSelect size) sense is = takes_no_fail size sense (size == 0) is
-no_fail (command.ModeSense control page subpage allocation) sense is = sends_no_fail (min allocation 24) sense (min allocation 24 == 0) is
-no_fail command.ReadCapacity10 sense is = sends_no_fail 8 sense (8 == 0) is
-no_fail (command.Read10 transfer) sense is = sends_no_fail (512 * transfer.count) sense (512 * transfer.count == 0) is
-no_fail (command.Write10 transfer) sense is = takes_no_fail (512 * transfer.count) sense (512 * transfer.count == 0) is
-no_fail (command.SynchronizeCache10 range) sense is = cc
-no_fail (command.Read16 transfer) sense is = sends_no_fail (512 * transfer.count) sense (512 * transfer.count == 0) is
-no_fail (command.Write16 transfer) sense is = takes_no_fail (512 * transfer.count) sense (512 * transfer.count == 0) is
-no_fail (command.SynchronizeCache16 range) sense is = cc
-no_fail (command.ReadCapacity16 allocation) sense is = sends_no_fail (min allocation 32) sense (min allocation 32 == 0) is
-
-is_err : (a b : Sense) → (let r : Result Command Sense = Err a in r ≡ Err b) → (let r : Result (List ℕ) Sense = Err a in r ≡ Err b)
-is_err a b e = let same : a ≡ b = cc in ap Err same
-
-of_fail : (told : Result Command Sense) (sense : Sense) → moves_after told ≡ intent.Fail sense → told ≡ Err sense
-of_fail (Ok command) sense is = absurd (no_fail command sense is)
-of_fail (Err other) sense is = cc
-
 -- a command that passed the checks is one that the unit carries out
-pub served_by : (unit : UnitState) (block : List ℕ) (command : Command) → checked unit block ≡ Ok command
-    → IsSupported unit.book.blocks unit.limit command
-served_by unit block command passed =
-    IfOk-at_ok (IsSupported unit.book.blocks unit.limit)
-    (passed_by unit.book.blocks unit.limit unit.kept.attention unit.faulted block command passed).0
-    (supported unit.book.blocks unit.limit block)
+served : (unit : UnitState) (block : List ℕ) → IfOk (checked unit block) (IsSupported unit.book.blocks unit.limit)
+unfolding command_by
+served unit block = grind (arith, supported unit.book.blocks unit.limit block)
 
-pub moved_by : (unit : UnitState) (block : List ℕ) → intention unit block ≡ moves_after (checked unit block)
-moved_by unit block = intention_is unit.book.blocks unit.limit unit.kept.attention unit.faulted block
+module _ (refused : Bool) (told : Result Command Sense) (taken : List ℕ) (old new : UnitState) (answer : Result (List ℕ) Sense)
+    (outcome : IsOutcome refused told taken old answer new) where
+  told_sent : (n : ℕ) → IsSized old → IfOk told (IsSupported old.book.blocks old.limit) → moves_after told ≡ intent.In n
+      → IfOk answer (λ sent. length sent ≡ n)
+  told_sent n sized can is = grind (arith, sends_so old)
 
--- the data of each outcome, if there are any
-sent_outcome : (P : List ℕ → Type 0) (refused : Bool) (told : Result Command Sense) (taken : List ℕ) (old new : UnitState)
-    (answer : Result (List ℕ) Sense) → ((command : Command) → told ≡ Ok command → IfOk (effect_of command taken old).answer P)
-    → IsOutcome refused told taken old answer new → IfOk answer P
-sent_outcome P refused (Ok command) taken old new answer good outcome = ⊎_elim
-    (λ o. subst (λ (a : Result (List ℕ) Sense). IfOk a P) (sym o.answered) (good command refl))
-    (λ bad. ⊎_elim
-    (λ o. subst (λ (a : Result (List ℕ) Sense). IfOk a P) (sym o.answered) tt)
-    (λ o. subst (λ (a : Result (List ℕ) Sense). IfOk a P) (sym o.answered) tt)
-    bad)
-    outcome
-sent_outcome P refused (Err sense) taken old new answer good outcome =
-    subst (λ (a : Result (List ℕ) Sense). IfOk a P) (sym outcome.answered) tt
+  told_none : ((n : ℕ) → moves_after told ≢ intent.In n) → IfOk answer (λ sent. sent ≡ [])
+  told_none never = grind (arith, sends_none old)
 
-refused_outcome : (refused : Bool) (told : Result Command Sense) (taken : List ℕ) (old new : UnitState) (answer : Result (List ℕ) Sense)
-    (sense : Sense) → told ≡ Err sense → IsOutcome refused told taken old answer new → answer ≡ Err sense
-refused_outcome refused (Ok command) taken old new answer sense is outcome = cc
-refused_outcome refused (Err other) taken old new answer sense is outcome = outcome.answered ∙ is_err other sense is
+  told_refused : (sense : Sense) → moves_after told ≡ intent.Fail sense → answer ≡ Err sense
+  told_refused sense is = grind (arith, nat_tests)
+
+told_in : (blocks limit : ℕ) (told : Result Command Sense) (n : ℕ) → 0 < limit → IfOk told (IsSupported blocks limit)
+    → moves_after told ≡ intent.In n → (0 < n) × (n ≤ 512 * limit)
+told_in blocks limit told n some can is = grind (arith, nat_tests, inquiry_most)
+
+told_out : (blocks limit : ℕ) (told : Result Command Sense) (n : ℕ) → 0 < limit → IfOk told (IsSupported blocks limit)
+    → moves_after told ≡ intent.Out n → (0 < n) × (n ≤ 512 * limit)
+told_out blocks limit told n some can is = grind (arith, nat_tests)
 
 unwritten_by : (told : Result Command Sense) (taken : List ℕ) → ((n : ℕ) → moves_after told ≢ intent.Out n) → write_after told taken ≡ None
-unwritten_by (Ok command) taken never = writes_nothing command taken never
-unwritten_by (Err sense) taken never = refl
+unwritten_by told taken never = grind (arith, nat_tests, never (size_of (moves_after told)))
+
+written_by : (blocks limit : ℕ) (told : Result Command Sense) (taken : List ℕ) (write : Write) → IfOk told (IsSupported blocks limit)
+    → ((n : ℕ) → moves_after told ≡ intent.Out n → length taken ≡ n) → write_after told taken ≡ Some write → IsWrite blocks write
+written_by blocks limit told taken write can exact is =
+    grind (arith, nat_tests, is_write_by blocks limit, exact (size_of (moves_after told)))
 
 pub keeps_intentions : KeepsIntentions
+unfolding intention_by
 keeps_intentions = record {
-  most_in = λ unit block n some is. let found = of_in (checked unit block) n (sym (moved_by unit block) ∙ is) in
-      in_most unit.book.blocks unit.limit found.0 n some (served_by unit block found.0 found.1) found.2;
-  most_out = λ unit block n some is. let found = of_out (checked unit block) n (sym (moved_by unit block) ∙ is) in
-      out_most unit.book.blocks unit.limit found.0 n some (served_by unit block found.0 found.1) found.2;
+  most_in = λ unit block n some is. told_in unit.book.blocks unit.limit (checked unit block) n some (served unit block) is;
+  most_out = λ unit block n some is. told_out unit.book.blocks unit.limit (checked unit block) n some (served unit block) is;
   sent = λ refused block taken old new answer n sized is outcome.
-      sent_outcome (λ sent. length sent ≡ n) refused (checked old block) taken old new answer
-      (λ command passed. sends_so old command taken n sized (served_by old block command passed)
-      (ap moves_after (sym passed) ∙ sym (moved_by old block) ∙ is))
-      outcome;
-  not_sent = λ refused block taken old new answer never outcome.
-      sent_outcome (λ sent. sent ≡ []) refused (checked old block) taken old new answer
-      (λ command passed. sends_none old command taken (λ n is. never n (moved_by old block ∙ ap moves_after passed ∙ is)))
-      outcome;
+      told_sent refused (checked old block) taken old new answer outcome n sized (served old block) is;
+  not_sent = λ refused block taken old new answer never outcome. told_none refused (checked old block) taken old new answer outcome never;
   refused = λ refused block taken old new answer sense is outcome.
-      refused_outcome refused (checked old block) taken old new answer sense
-      (of_fail (checked old block) sense (sym (moved_by old block) ∙ is)) outcome;
-  unwritten = λ unit block taken never. unwritten_by (checked unit block) taken (λ n is. never n (moved_by unit block ∙ is));
+      told_refused refused (checked old block) taken old new answer outcome sense is;
+  unwritten = λ unit block taken never. unwritten_by (checked unit block) taken never;
+}
+
+pub writes_are_writes : WritesAreWrites
+unfolding intention_by
+writes_are_writes = record {
+  is_write = λ unit block taken write exact is.
+      written_by unit.book.blocks unit.limit (checked unit block) taken write (served unit block) exact is;
 }

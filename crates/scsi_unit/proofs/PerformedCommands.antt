@@ -1,373 +1,257 @@
 -- Commands performed by a unit: what its store did, as a line of the rules.
-use Rattle.std.proofs.Common.{◌≡◌, ◌≢◌, ◌<◌, ◌≤◌, ◌*◌, inl, inr, ℕ, Bool, true, false, List, [], length, None, Option, Result, Ok, Err}
-use Rattle.std.proofs.Common.{arith, refl, ap, sym, ◌∙◌, subst}
-use Rattle.std.proofs.lemmas.Result.{IfOk-at_ok, MatchResult-at_ok, MatchResult-at_err}
-use Rattle.std.specs.Prelude.{◌&&◌, ◌==◌, not, if◌then◌else◌, take, OnOk, IfOk, IfErr, MatchResult, is_ok}
-use Rattle.std.proofs.lemmas.Bool.{false≢true, eqb-true}
+use Rattle.std.proofs.Common.{◌≡◌, ◌≢◌, ◌⊎◌, ◌≤◌, inl, inr, ℕ, Bool, true, false, List, [], ◌∷◌, Some, None, Result, Ok, Err, arith, refl}
+use Rattle.std.proofs.Common.{length-append}
+use Rattle.std.specs.Prelude.{◌||◌, ◌&&◌, not, if◌then◌else◌, take}
 use Rattle.std.proofs.lemmas.Bool.Decides.{nat_tests}
 use Rattle.medium.specs.Medium.{State, IsSound}
-use Rattle.spec.specs.Blocks.{Array, Write}
 use Rattle.medium.specs.Moments.{LeavesOnly}
-use Rattle.spec.specs.Book.{Book, array_of, blocks_at, promised}
-use Rattle.blocks.specs.Finding.{FoundWith}
-use Rattle.blocks.specs.StoreValue.{StoreValue, FitsBook, layout_of, blocks_of, transfer_limit, is_dead}
+use Rattle.medium.proofs.Moments.{weaker, joined_same}
+use Rattle.spec.specs.Book.{Book, promised, with_write}
+use Rattle.blocks.specs.Finding.{MayFind, Found, FoundWith}
+use Rattle.blocks.specs.StoreValue.{Cached, StoreValue, FitsBook, is_dead, layout_of, blocks_of}
 use Rattle.blocks.specs.Turns.{IsTurn}
 use Rattle.blocks.proofs.TurnsJoined.{stays, turns}
 use Rattle.spec.specs.Sense.{Sense}
-use Rattle.spec.specs.SenseCodes.{unrecovered_read_error, write_error}
-use Rattle.spec.specs.FixedSense.{fixed_sense}
-use Rattle.spec.specs.Waiting.{after_failure, reported, after_report}
-use Rattle.spec.specs.declared.intent.Intent.TheVariants as intent
 use Rattle.spec.specs.declared.command.Command.{Command}
 use Rattle.spec.specs.declared.command.Command.TheVariants as command
 use Rattle.spec.specs.declared.command.Transfer.{Transfer}
 use Rattle.spec.specs.declared.command.BlockRange.{BlockRange}
-use Rattle.spec.specs.Rules.{UnitState, Effect, takes, gives, fails_with, made_durable, effect_of, moves_blocks, forces_reading}
-use Rattle.spec.specs.Rules.{write_of_command, write_after, wants_writing, with_progress, MayFault, IsByTable, IsOutcome}
+use Rattle.spec.specs.Rules.{effect_of, write_of_command, write_after, wants_writing, with_progress, write_by, some_write, moves_blocks}
+use Rattle.spec.specs.Rules.{MayFault, IsOutcome, IsByTable, selected_by}
 use Rattle.spec.specs.Capacity.{capacity_10}
-use Rattle.scsi_unit.specs.UnitValue.{UnitValue, unit_limit, state_of, answer_of}
-use Rattle.scsi_unit.specs.Serving.{has_refused}
-use Rattle.scsi_unit.specs.Performing.{settled, silent, Performs, Spares}
+use Rattle.scsi_unit.specs.UnitValue.{UnitValue, state_of, answer_of}
+use Rattle.scsi_unit.specs.Serving.{has_refused, command_for, Serves}
+use Rattle.scsi_unit.specs.Performing.{settled, silent, Performs, settled_kept}
+use Rattle.scsi_unit.specs.StoreCalls.{TellsDeath, MakesDurable, ReadsBlocks, WritesBlocks}
 use Rattle.scsi_unit.proofs.UnitTurns.{may_fault, refused_so, limit_stays}
-use Rattle.scsi_unit.proofs.Directions.{out_or_none}
 
--- a unit with this book, and faulted or not
-abbrev pub become : UnitState → Book → Bool → UnitState
-become unit book faulted = record unit { book = book; faulted = faulted }
+-- what a unit answers behind a turn of its store, for each book
+abbrev Lines : {M : Type 0} → State → State → Result Command Sense → List ℕ → UnitValue M → Result (List ℕ) Sense → UnitValue M → Type 0
+Lines before after told taken old answer new = (book : Book) → FitsBook before old.store.cached book
+    → (next : Book)
+    × IsOutcome (has_refused before after) told taken (state_of old book) answer (settled answer (state_of new next))
+    × FitsBook after new.store.cached next
 
--- a unit with this limit
-abbrev pub limited : ℕ → UnitState → UnitState
-limited limit unit = record unit { limit = limit }
+-- what stays, whatever a command does
+record Stays (before after : State) (old new : Cached) : Type 0 where
+  pub failures : before.failures ≤ after.failures
+  pub size : after.size ≡ before.size
+  pub layout : layout_of new ≡ layout_of old
+  pub blocks : blocks_of new ≡ blocks_of old
 
--- an outcome of a unit whose limit stays is that of the unit with the limit that it had
-pub outcome_as : {M : Type 0} (refused : Bool) (told : Result Command Sense) (taken : List ℕ) (unit : UnitState)
-    (answer : Result (List ℕ) Sense) (new : UnitValue M) (next : Book) (limit : ℕ) → unit_limit new ≡ limit
-    → IsOutcome refused told taken unit answer (settled answer (limited limit (state_of new next)))
-    → IsOutcome refused told taken unit answer (settled answer (state_of new next))
-outcome_as refused told taken unit answer new next limit same outcome =
-    subst (λ (n : ℕ). IsOutcome refused told taken unit answer (settled answer (limited n (state_of new next)))) (sym same) outcome
+module _ {M : Type 0} {before after : State} {old new : UnitValue M} {told : Result Command Sense} {taken : List ℕ}
+    {answer : Result (List ℕ) Sense} where
+  -- what it answers for each book, and what a cut leaves
+  performs_so : Stays before after old.store.cached new.store.cached → new.identity ≡ old.identity
+      → ((book : Book) → FitsBook before old.store.cached book → book.ours ≡ true
+      → LeavesOnly (FoundWith before.size book (write_after told taken)) before after)
+      → Lines before after told taken old answer new → Performs before after told taken old answer new
+  performs_so stay identity cuts line =
+      let limit = limit_stays old.store.cached new.store.cached stay.layout in grind (arith, stay, identity, cuts, line, limit)
 
--- where all accepted writes are promised, or nothing is changed
-abbrev pub durable_if : Bool → Book → Book
-durable_if wanted book = if wanted then promised book else book
-
-array_kept : (wanted : Bool) (book : Book) → array_of (durable_if wanted book) ≡ array_of book
-array_kept true book = refl
-array_kept false book = refl
-
-and_true : (a b : Bool) → b ≡ true → (a && b) ≡ a
-and_true true b h = h
-and_true false b h = refl
-
--- a good command that makes writes durable, or does not
-pub given : (wanted : Bool) (unit : UnitState) (bytes : List ℕ) (faulted : Bool) → faulted ≡ unit.faulted
-    → settled (Ok bytes) (become unit (durable_if wanted unit.book) faulted)
-    ≡ (gives bytes (if wanted then made_durable unit else unit)).after
-given true unit bytes faulted same = ap (λ (f : Bool). settled (Ok bytes) (become unit (promised unit.book) f)) same
-given false unit bytes faulted same = ap (λ (f : Bool). settled (Ok bytes) (become unit unit.book f)) same
-
--- a command that failed and faulted the unit
-pub died : (unit : UnitState) (book : Book) (faulted : Bool) → faulted ≡ true
-    → settled (Err write_error) (become unit book faulted)
-    ≡ record unit { book = book; kept = after_failure write_error unit.kept; faulted = true }
-died unit book faulted dead = ap (λ (f : Bool). settled (Err write_error) (become unit book f)) dead
-
--- a command that failed and left the unit as it was
-failed : (unit : UnitState) (sense : Sense) (faulted : Bool) → faulted ≡ unit.faulted
-    → settled (Err sense) (become unit unit.book faulted) ≡ (fails_with sense unit).after
-failed unit sense faulted same = ap (λ (f : Bool). settled (Err sense) (become unit unit.book f)) same
-
--- a command that moves nothing and answers nothing
-nothing_by_table : (unit : UnitState) (fua : Bool)
-    → IsByTable (gives [] (if fua && false then made_durable unit else unit)) (Ok []) (settled (Ok []) unit)
-nothing_by_table unit true = record { answered = refl; after = refl }
-nothing_by_table unit false = record { answered = refl; after = refl }
-
--- ---- a command that writes nothing
-
--- a turn of the store, where the rest of the unit keeps its identity
-module _ {M : Type 0} (before after : State) (old : UnitValue M) (last : StoreValue M)
-    (turn : IsTurn before after old.store.cached last.cached) where
-  -- the outcome is told for each book
-  pub performs_by : (new : UnitValue M) → new.store ≡ last → new.identity ≡ old.identity
-      → (told : Result Command Sense) (taken : List ℕ) (answer : Result (List ℕ) Sense) → write_after told taken ≡ None
-      → ((book : Book) → FitsBook before old.store.cached book
-      → (next : Book)
-      × IsOutcome (has_refused before after) told taken (state_of old book) answer
-      (settled answer (limited (unit_limit old) (state_of new next)))
-      × FitsBook after last.cached next)
-      → Performs before after told taken old answer new
-  performs_by new is identity told taken answer none line =
-      let limit : unit_limit new ≡ unit_limit old =
-      ap (λ (s : StoreValue M). transfer_limit s.cached) is ∙ limit_stays old.store.cached last.cached turn.goes_on.layout_stays in
-      record {
-        line = λ book fits.
-            let found = line book fits in (
-              found.0,
-              outcome_as (has_refused before after) told taken (state_of old book) answer new found.0 (unit_limit old) limit found.1,
-              subst (λ (s : StoreValue M). FitsBook after s.cached found.0) (sym is) found.2,
-            );
-        cuts = λ book fits ours.
-            subst (λ (w : Option Write). LeavesOnly (FoundWith before.size book w) before after) (sym none) (turn.cuts book fits ours);
-        failures_stay = turn.goes_on.failures_stay;
-        size_stays = turn.goes_on.size_stays;
-        layout_stays = ap (λ (s : StoreValue M). layout_of s.cached) is ∙ turn.goes_on.layout_stays;
-        blocks_stay = ap (λ (s : StoreValue M). blocks_of s.cached) is ∙ turn.goes_on.blocks_stay;
-        limit_stays = limit;
-        identity_stays = identity;
-      }
-
-  -- the store died while it made writes durable
-  pub dies_writing : (command : Command) (taken : List ℕ) (sense : Sense) → write_of_command command taken ≡ None
-      → wants_writing command taken old.write_cache ≡ true → is_dead old.store.cached ≡ false
-      → (sense ≡ write_error) × (is_dead last.cached ≡ true)
-      → Performs before after (Ok command) taken old (Err sense) (record old { store = last })
-  dies_writing command taken sense none writing live dead =
-      performs_by (record old { store = last }) refl refl (Ok command) taken (Err sense) none
-      (λ book fits. (
-        book,
-        inr (inr (record {
-          cause = subst (λ (w : Option Write). MayFault (has_refused before after) (with_progress book w)) (sym none)
-              (may_fault before after old.store.cached book (turn.goes_on.cause live dead.1) fits);
-          writes = writing;
-          answered = ap Err dead.0;
-          book = book;
-          accepted = inl refl;
-          after = subst
-              (λ (e : Sense). settled (Err e) (become (state_of old book) book (is_dead last.cached)) ≡ record (state_of old book) {
-                book = book;
-                kept = after_failure write_error old.kept;
-                faulted = true;
-              })
-              (sym dead.0) (died (state_of old book) book (is_dead last.cached) dead.1);
-        })),
-        turn.fits book fits,
-      ))
-
--- what was wanted where it failed
-wanted_so : {A : Type 0} (wanted : Bool) (done : Result (Unit {0}) Sense) (sense : Sense) → done ≡ Err sense
-    → (wanted ≡ false → A × (is_ok done ≡ true)) → wanted ≡ true
-wanted_so true done sense was unwanted = refl
-wanted_so false done sense was unwanted =
-    absurd (false≢true (subst (λ (r : Result (Unit {0}) Sense). is_ok r ≡ true) was (unwanted refl).1))
-
--- accepted writes were to be made durable, and were not
-pub durable_error : {M : Type 0} (before after : State) (old : UnitValue M) (last : StoreValue M)
-    → IsTurn before after old.store.cached last.cached → (wanted : Bool) (done : Result (Unit {0}) Sense) (sense : Sense) → done ≡ Err sense
-    → (wanted ≡ false → (last ≡ old.store) × (is_ok done ≡ true))
-    → MatchResult done (λ _. is_dead last.cached ≡ false) (λ sense. (sense ≡ write_error) × (is_dead last.cached ≡ true))
-    → is_dead old.store.cached ≡ false → (command : Command) (taken : List ℕ) → write_of_command command taken ≡ None
-    → wants_writing command taken old.write_cache ≡ wanted → Performs before after (Ok command) taken old (Err sense)
-    (record old { store = last })
-durable_error before after old last turn wanted done sense was unwanted answer live command taken none wants =
-    dies_writing before after old last turn command taken sense none (wants ∙ wanted_so wanted done sense was unwanted) live
-    (MatchResult-at_err (λ _. is_dead last.cached ≡ false) (λ sense. (sense ≡ write_error) × (is_dead last.cached ≡ true)) sense was answer)
-
--- a transfer of some blocks
-pub moves_some : (transfer : Transfer) → transfer.count ≢ 0 → moves_blocks transfer ≡ true
-moves_some transfer some = grind (arith, nat_tests)
-
-pub forces_as : (transfer : Transfer) → moves_blocks transfer ≡ true → forces_reading transfer ≡ transfer.fua
-forces_as transfer moves = and_true transfer.fua (moves_blocks transfer) moves
-
--- a command that makes no call of the store
-module _ {M : Type 0} (m : State) (sound : IsSound m) (old new : UnitValue M) (store : new.store ≡ old.store)
-    (identity : new.identity ≡ old.identity) where
-  pub performs_none : (told : Result Command Sense) (taken : List ℕ) (answer : Result (List ℕ) Sense) → write_after told taken ≡ None
-      → ((book : Book) → FitsBook m old.store.cached book
-      → IsOutcome (has_refused m m) told taken (state_of old book) answer
-      (settled answer (limited (unit_limit old) (state_of new book))))
-      → Performs m m told taken old answer new
-  performs_none told taken answer none outcome =
-      performs_by m m old old.store (stays m old.store.cached sound) new store identity told taken answer none
-      (λ book fits. (book, outcome book fits, fits))
-
--- ---- READ
-
--- a READ of no blocks
-pub reads_nothing : {M : Type 0} (m : State) → IsSound m → (old : UnitValue M) (transfer : Transfer) (taken : List ℕ) → transfer.count ≡ 0
-    → Performs m m (Ok (command.Read10 transfer)) taken old (Ok []) old
-reads_nothing m sound old transfer taken zero =
-    performs_none m sound old old refl refl (Ok (command.Read10 transfer)) taken (Ok []) refl
-    (λ book fits. inl (subst
-    (λ (n : ℕ). IsByTable
-    (gives (blocks_at (array_of book) transfer.address n)
-    (if transfer.fua && not (n == 0) then made_durable (state_of old book) else state_of old book))
-    (Ok []) (settled (Ok []) (state_of old book)))
-    (sym zero) (nothing_by_table (state_of old book) transfer.fua)))
-
-module _ {M : Type 0} (before mid after : State) (old : UnitValue M) (half last : StoreValue M) (live : is_dead old.store.cached ≡ false)
-    (turn : IsTurn before mid old.store.cached half.cached) (more : IsTurn mid after half.cached last.cached) where
-  -- all accepted writes are durable, if that was wanted; and the store was read
-  module _ (wanted : Bool) (done : Result (Unit {0}) Sense) (value : Unit {0}) (was : done ≡ Ok value)
-      (promises : (book : Book) → FitsBook before old.store.cached book → OnOk done (FitsBook mid half.cached (durable_if wanted book)))
-      (alive : MatchResult done (λ _. is_dead half.cached ≡ false) (λ sense. (sense ≡ write_error) × (is_dead half.cached ≡ true)))
-      (same : last.cached ≡ half.cached) where
-    durable : (book : Book) → FitsBook before old.store.cached book → FitsBook mid half.cached (durable_if wanted book)
-    durable book fits = IfOk-at_ok (λ _. FitsBook mid half.cached (durable_if wanted book)) was (promises book fits)
-
-    -- the unit is not faulted
-    lives : is_dead last.cached ≡ is_dead old.store.cached
-    lives =
-        ap is_dead same
-        ∙ MatchResult-at_ok (λ _. is_dead half.cached ≡ false) (λ sense. (sense ≡ write_error) × (is_dead half.cached ≡ true)) value was
-        alive
-        ∙ sym live
-
-    pub reads_blocks_of : (transfer : Transfer) (taken : List ℕ) → moves_blocks transfer ≡ true → transfer.fua ≡ wanted
-        → (result : Result ℕ Sense) (out : List ℕ)
-        → ((book : Book) → FitsBook mid half.cached book
-        → OnOk result (take (512 * transfer.count) out ≡ blocks_at (array_of book) transfer.address transfer.count))
-        → IfOk result (λ sent. sent ≡ 512 * transfer.count)
-        → IfErr result (λ sense. (sense ≡ unrecovered_read_error) × (mid.failures < after.failures))
-        → Performs before after (Ok (command.Read10 transfer)) taken old (answer_of result out) (record old { store = last })
-    reads_blocks_of transfer taken moves fua (Ok sent) out read size refused =
-        performs_by before after old last (turns before mid after old.store.cached half.cached last.cached turn more)
-        (record old { store = last }) refl refl (Ok (command.Read10 transfer)) taken (Ok (take sent out)) refl
-        (λ book fits.
-        let kept = durable book fits in (
-          durable_if wanted book,
-          inl (subst
-              (λ (b : Bool). IsByTable
-              (gives (blocks_at (array_of book) transfer.address transfer.count)
-              (if b then made_durable (state_of old book) else state_of old book))
-              (Ok (take sent out))
-              (settled (Ok (take sent out))
-              (limited (unit_limit old) (state_of (record old { store = last }) (durable_if wanted book)))))
-              (sym (and_true transfer.fua (moves_blocks transfer) moves ∙ fua))
-              (let bytes : take sent out ≡ blocks_at (array_of book) transfer.address transfer.count =
-              ap (λ (n : ℕ). take n out) size
-              ∙ read (durable_if wanted book) kept
-              ∙ ap (λ (a : Array). blocks_at a transfer.address transfer.count) (array_kept wanted book) in
-              record {
-                answered = ap Ok bytes;
-                after = given wanted (state_of old book) (blocks_at (array_of book) transfer.address transfer.count)
-                    (is_dead last.cached) lives;
-              })),
-          more.fits (durable_if wanted book) kept,
-        ))
-    reads_blocks_of transfer taken moves fua (Err sense) out read size refused =
-        performs_by before after old last (turns before mid after old.store.cached half.cached last.cached turn more)
-        (record old { store = last }) refl refl (Ok (command.Read10 transfer)) taken (Err sense) refl
-        (λ book fits. (
-          book,
-          inr (inl (record {
-            cause = refused_so before after (omega (arith, refused.1, turn.goes_on.failures_stay));
-            reads = moves;
-            answered = ap Err refused.0;
-            after = subst
-                (λ (e : Sense). settled (Err e) (become (state_of old book) book (is_dead last.cached))
-                ≡ (fails_with unrecovered_read_error (state_of old book)).after)
-                (sym refused.0) (failed (state_of old book) unrecovered_read_error (is_dead last.cached) lives);
-          })),
-          more.fits book (turn.fits book fits),
-        ))
-
--- ---- the same commands of 16 bytes
-
-pub reads_16 : {M : Type 0} (before after : State) (transfer : Transfer) (taken : List ℕ) (old : UnitValue M)
-    (answer : Result (List ℕ) Sense) (new : UnitValue M) → Performs before after (Ok (command.Read10 transfer)) taken old answer new
-    → Performs before after (Ok (command.Read16 transfer)) taken old answer new
-reads_16 before after transfer taken old answer new done = record {
-  line = done.line;
-  cuts = done.cuts;
-  failures_stay = done.failures_stay;
-  size_stays = done.size_stays;
-  layout_stays = done.layout_stays;
-  blocks_stay = done.blocks_stay;
-  limit_stays = done.limit_stays;
-  identity_stays = done.identity_stays;
-}
-
-pub writes_16 : {M : Type 0} (before after : State) (transfer : Transfer) (taken : List ℕ) (old : UnitValue M)
-    (answer : Result (List ℕ) Sense) (new : UnitValue M) → Performs before after (Ok (command.Write10 transfer)) taken old answer new
-    → Performs before after (Ok (command.Write16 transfer)) taken old answer new
-writes_16 before after transfer taken old answer new done = record {
-  line = done.line;
-  cuts = done.cuts;
-  failures_stay = done.failures_stay;
-  size_stays = done.size_stays;
-  layout_stays = done.layout_stays;
-  blocks_stay = done.blocks_stay;
-  limit_stays = done.limit_stays;
-  identity_stays = done.identity_stays;
-}
-
-pub synchronizes_16 : {M : Type 0} (before after : State) (range : BlockRange) (taken : List ℕ) (old : UnitValue M)
-    (answer : Result (List ℕ) Sense) (new : UnitValue M)
-    → Performs before after (Ok (command.SynchronizeCache10 range)) taken old answer new
-    → Performs before after (Ok (command.SynchronizeCache16 range)) taken old answer new
-synchronizes_16 before after range taken old answer new done = record {
-  line = done.line;
-  cuts = done.cuts;
-  failures_stay = done.failures_stay;
-  size_stays = done.size_stays;
-  layout_stays = done.layout_stays;
-  blocks_stay = done.blocks_stay;
-  limit_stays = done.limit_stays;
-  identity_stays = done.identity_stays;
-}
+  -- a turn of the store that accepts no write
+  performs_by : IsTurn before after old.store.cached new.store.cached → new.identity ≡ old.identity → write_after told taken ≡ None
+      → Lines before after told taken old answer new → Performs before after told taken old answer new
+  performs_by turn identity none line =
+      performs_so (grind (arith, turn.goes_on)) identity (λ book fits ours. rw none (turn.cuts book fits ours)) line
 
 -- ---- commands that use no blocks
 
--- a good command that changes nothing sends data
-pub sends_data : {M : Type 0} (m : State) → IsSound m
-    → (old : UnitValue M) (command : Command) (taken : List ℕ) (answer : Result (List ℕ) Sense) (bytes : List ℕ)
-    → write_of_command command taken ≡ None → answer ≡ Ok bytes
-    → ((book : Book) → FitsBook m old.store.cached book → effect_of command taken (state_of old book) ≡ gives bytes (state_of old book))
-    → Performs m m (Ok command) taken old answer old
-sends_data m sound old command taken answer bytes none answered effect =
-    subst (λ (a : Result (List ℕ) Sense). Performs m m (Ok command) taken old a old) (sym answered)
-    (performs_none m sound old old refl refl (Ok command) taken (Ok bytes) none
-    (λ book fits. inl (subst (λ (e : Effect). IsByTable e (Ok bytes) (settled (Ok bytes) (state_of old book)))
-    (sym (effect book fits)) (record { answered = refl; after = refl }))))
+-- a command that makes no call of the store
+performs_none : {M : Type 0} {m : State} {old new : UnitValue M} {told : Result Command Sense} {taken : List ℕ}
+    {answer : Result (List ℕ) Sense} → IsSound m → new.store ≡ old.store → new.identity ≡ old.identity → write_after told taken ≡ None
+    → ((book : Book) → FitsBook m old.store.cached book
+    → IsOutcome (has_refused m m) told taken (state_of old book) answer (settled answer (state_of new book)))
+    → Performs m m told taken old answer new
+performs_none {m = m} {old = old} sound store identity none outcome =
+    performs_by (rw store (stays m old.store.cached sound)) identity none (λ book fits. (book, outcome book fits, rw store fits))
 
--- REQUEST SENSE
-pub reports_sense : {M : Type 0} (m : State) → IsSound m → (old : UnitValue M) (allocation : ℕ) (taken : List ℕ) (bytes : List ℕ)
-    → bytes ≡ take allocation (fixed_sense (reported old.kept))
-    → Performs m m (Ok (command.RequestSense allocation)) taken old (Ok bytes) (record old { kept = after_report old.kept })
-reports_sense m sound old allocation taken bytes same =
-    performs_none m sound old (record old { kept = after_report old.kept }) refl refl (Ok (command.RequestSense allocation)) taken
-    (Ok bytes) refl (λ book fits. inl (record { answered = ap Ok same; after = refl }))
+-- one that does what the table says, and one that is refused
+pub by_table : {M : Type 0} {m : State} {old new : UnitValue M} {command : Command} {taken : List ℕ} {answer : Result (List ℕ) Sense}
+    → IsSound m → new.store ≡ old.store → new.identity ≡ old.identity → write_of_command command taken ≡ None
+    → ((book : Book) → FitsBook m old.store.cached book
+    → IsByTable (effect_of command taken (state_of old book)) answer (settled answer (state_of new book)))
+    → Performs m m (Ok command) taken old answer new
+by_table sound store identity none line = performs_none sound store identity none (λ book fits. inl (line book fits))
 
-takes_at : (bytes : ℕ) (taken : List ℕ) (nothing : Bool) → (nothing ≡ true → bytes ≡ 0)
-    → ((n : ℕ) → out_or_none bytes nothing ≡ intent.Out n → length taken ≡ n) → bytes ≤ length taken
-takes_at bytes taken true zero exact = omega (arith, zero refl)
-takes_at bytes taken false zero exact = omega (arith, exact bytes refl)
-
--- what a command takes is there
-pub takes_enough : (bytes : ℕ) (taken : List ℕ) → ((n : ℕ) → takes bytes ≡ intent.Out n → length taken ≡ n) → bytes ≤ length taken
-takes_enough bytes taken exact = takes_at bytes taken (bytes == 0) (λ zero. eqb-true bytes 0 zero) exact
-
--- what was told, where it is known
-pub answer_at : (result : Result ℕ Sense) (size : ℕ) (out bytes : List ℕ) → result ≡ Ok size → IfOk result (λ sent. take sent out ≡ bytes)
-    → answer_of result out ≡ Ok bytes
-answer_at (Ok sent) size out bytes told same = ap Ok same
-answer_at (Err sense) size out bytes told same = cc
+pub refuses : {M : Type 0} {m : State} {old : UnitValue M} {taken : List ℕ} {sense : Sense} → IsSound m
+    → Performs m m (Err sense) taken old (Err sense) old
+refuses sound = performs_none sound refl refl refl (λ book fits. record { answered = refl; after = refl })
 
 -- READ CAPACITY data are not cut by their own length
 pub take-capacity_10 : (n : ℕ) → take 8 (capacity_10 n) ≡ capacity_10 n
 unfolding capacity_10
 take-capacity_10 n = refl
 
--- a command that sends no data, as it was told
-module _ {M : Type 0} {told command : Command} {taken : List ℕ} {old new : UnitValue M} (done : Result (Unit {0}) Sense)
-    (result : Result ℕ Sense) (out : List ℕ) (is : told ≡ command) (answer : answer_of result out ≡ silent done) where
-  pub performs_silently : {before after : State} → Performs before after (Ok command) taken old (silent done) new
-      → Performs before after (Ok told) taken old (answer_of result out) new
-  performs_silently {before = before} {after = after} performed =
-      subst (λ (cmd : Command). Performs before after (Ok cmd) taken old (answer_of result out) new) (sym is)
-      (subst (λ (a : Result (List ℕ) Sense). Performs before after (Ok command) taken old a new) (sym answer) performed)
+-- ---- commands that make accepted writes durable
 
-  pub spares_silently : {before after : State} → Spares before after (Ok command) taken old (silent done) new
-      → Spares before after (Ok told) taken old (answer_of result out) new
-  spares_silently {before = before} {after = after} spared =
-      subst (λ (cmd : Command). Spares before after (Ok cmd) taken old (answer_of result out) new) (sym is)
-      (subst (λ (a : Result (List ℕ) Sense). Spares before after (Ok command) taken old a new) (sym answer) spared)
+-- the write of a WRITE of some blocks
+some_is : (transfer : Transfer) (taken : List ℕ) → transfer.count ≢ 0 → some_write transfer taken ≡ Some (write_by transfer taken)
+some_is transfer taken some = grind (arith, nat_tests)
 
--- a command that is refused
-pub refuses : {M : Type 0} (m : State) → IsSound m → (old : UnitValue M) (told : Result Command Sense) (taken : List ℕ) (sense : Sense)
-    → told ≡ Err sense → Performs m m told taken old (Err sense) old
-refuses m sound old told taken sense is =
-    subst (λ (t : Result Command Sense). Performs m m t taken old (Err sense) old) (sym is)
-    (performs_none m sound old old refl refl (Err sense) taken (Err sense) refl (λ book fits. record { answered = refl; after = refl }))
+some_wanted : (transfer : Transfer) → transfer.count ≢ 0 → moves_blocks transfer ≡ true
+some_wanted transfer some = grind (arith, nat_tests)
+
+-- a command that faulted the unit
+faults : {M : Type 0} (before after : State) (old : UnitValue M) (last : StoreValue M) (command : Command) (taken : List ℕ)
+    {sense : Sense} (book next : Book) → layout_of last.cached ≡ layout_of old.store.cached
+    → MayFault (has_refused before after) (with_progress book (write_of_command command taken))
+    → wants_writing command taken old.write_cache ≡ true → TellsDeath (Err sense) last.cached
+    → (next ≡ book) ⊎ (next ≡ with_progress book (write_of_command command taken))
+    → IsOutcome (has_refused before after) (Ok command) taken (state_of old book) (Err sense)
+    (settled (Err sense) (state_of (record old { store = last }) next))
+faults before after old last command taken book next layout cause writes dead accepted =
+    let limit = limit_stays old.store.cached last.cached layout in
+    inr (inr (record {
+      cause = cause;
+      writes = writes;
+      answered = grind (arith, dead);
+      book = next;
+      accepted = accepted;
+      after = grind (arith, limit, dead);
+    }))
+
+module _ {M : Type 0} {Follows : M → M → Type 0} {before after : State} {old : UnitValue M} {last : StoreValue M} {taken : List ℕ}
+    (live : is_dead old.store.cached ≡ false) where
+  -- they were to be, and were not
+  pub dies_writing : {wanted : Bool} {sense : Sense} (command : Command)
+      → MakesDurable Follows wanted before after old.store last (Err sense) → write_of_command command taken ≡ None
+      → wants_writing command taken old.write_cache ≡ true
+      → Performs before after (Ok command) taken old (Err sense) (record old { store = last })
+  dies_writing command makes none writes =
+      let on = makes.turn.goes_on in
+      performs_by makes.turn refl none
+      (λ book fits.
+      let cause = may_fault before after old.store.cached book (on.cause live makes.answer.1) fits in (
+        book,
+        faults before after old last command taken book book on.layout_stays (rw none cause) writes makes.answer (inl refl),
+        makes.turn.fits book fits,
+      ))
+
+  pub synchronizes : {range : BlockRange} (done : Result (Unit {0}) Sense) → MakesDurable Follows true before after old.store last done
+      → Performs before after (Ok (command.SynchronizeCache10 range)) taken old (silent done) (record old { store = last })
+  synchronizes (Ok value) makes =
+      let limit = limit_stays old.store.cached last.cached makes.turn.goes_on.layout_stays in
+      performs_by makes.turn refl refl (λ book fits. (promised book, inl (grind (arith, limit, live, makes.answer)), makes.ok book fits))
+  synchronizes (Err sense) makes = dies_writing _ makes refl refl
+
+  -- WCE changes, and they are, if that is wanted
+  pub selects_bit : {value : Unit {0}} {size : ℕ} {enabled : Bool}
+      → MakesDurable Follows (old.write_cache && not enabled) before after old.store last (Ok value)
+      → selected_by size taken old.write_cache ≡ Ok enabled
+      → Performs before after (Ok (command.ModeSelect size)) taken old (Ok []) (record old { store = last; write_cache = enabled })
+  selects_bit {enabled = enabled} makes chosen =
+      let limit = limit_stays old.store.cached last.cached makes.turn.goes_on.layout_stays in
+      performs_by makes.turn refl refl
+      (λ book fits. (
+        if old.write_cache && not enabled then promised book else book,
+        inl (grind (arith, limit, live, makes.answer, chosen)),
+        makes.ok book fits,
+      ))
+
+  -- a write is not accepted: the store died
+  pub write_refused : {sense : Sense} {transfer : Transfer} → WritesBlocks Follows transfer taken before after old.store last (Err sense)
+      → transfer.count ≢ 0
+      → Performs before after (Ok (command.Write10 transfer)) taken old (Err sense) (record old { store = last })
+  write_refused {transfer = transfer} writes some =
+      let write = write_by transfer taken in
+      let is = some_is transfer taken some in
+      let on = writes.turn.goes_on in
+      performs_so (grind (arith, on)) refl (λ book fits ours. rw is (writes.turn.cuts book fits ours))
+      (λ book fits.
+      let out = may_fault before after old.store.cached book (on.cause live writes.answer.1) fits in
+      let cause : MayFault (has_refused before after) (with_write book write) =
+      grind (arith, out, length-append book.writes (write ∷ [])) in (
+        book,
+        faults before after old last (command.Write10 transfer) taken book book on.layout_stays (rw is cause) (some_wanted transfer some)
+            writes.answer (inl refl),
+        writes.turn.fits book fits,
+      ))
+
+-- ---- commands that move blocks: a call of the store behind another
+
+module _ {M : Type 0} {Follows : M → M → Type 0} {before mid after : State} {old : UnitValue M} {half last : StoreValue M} {taken : List ℕ}
+    {value : Unit {0}} {transfer : Transfer} (live : is_dead old.store.cached ≡ false) (some : transfer.count ≢ 0) where
+  -- READ: accepted writes are durable, if that is wanted, and blocks are read
+  pub reads_blocks_of : (result : Result ℕ Sense) (out : List ℕ)
+      → MakesDurable Follows transfer.fua before mid old.store half (Ok value) → ReadsBlocks Follows transfer mid after half last out result
+      → Performs before after (Ok (command.Read10 transfer)) taken old (answer_of result out) (record old { store = last })
+  reads_blocks_of (Ok sent) out makes reads =
+      let turn = turns before mid after old.store.cached half.cached last.cached makes.turn reads.turn in
+      let limit = limit_stays old.store.cached last.cached turn.goes_on.layout_stays in
+      performs_by turn refl refl
+      (λ book fits.
+      let next = if transfer.fua then promised book else book in
+      let read = reads.ok next (makes.ok book fits) in (
+        next,
+        inl (grind (arith, nat_tests, limit, read, reads.sent_all, live, some, makes.answer, reads.stays)),
+        reads.turn.fits next (makes.ok book fits),
+      ))
+  reads_blocks_of (Err sense) out makes reads =
+      let turn = turns before mid after old.store.cached half.cached last.cached makes.turn reads.turn in
+      let limit = limit_stays old.store.cached last.cached turn.goes_on.layout_stays in
+      let grew = makes.turn.goes_on.failures_stay in
+      performs_by turn refl refl
+      (λ book fits. (
+        book,
+        inr (inl (grind (arith, nat_tests, limit, live, some, makes.answer, reads.stays, reads.err, grew, refused_so before after))),
+        turn.fits book fits,
+      ))
+
+  -- WRITE: the write is accepted, and all accepted writes are made durable, if that is wanted
+  module _ (writes : WritesBlocks Follows transfer taken before mid old.store half (Ok value)) where
+    accepted_line : (done : Result (Unit {0}) Sense)
+        → MakesDurable Follows (transfer.fua || not old.write_cache) mid after half last done
+        → Stays before after old.store.cached last.cached
+        → Lines before after (Ok (command.Write10 transfer)) taken old (silent done) (record old { store = last })
+    accepted_line (Ok v) makes stay book fits =
+        let next = with_write book (write_by transfer taken) in
+        let limit = limit_stays old.store.cached last.cached stay.layout in (
+          if transfer.fua || not old.write_cache then promised next else next,
+          inl (grind (arith, nat_tests, limit, live, some, makes.answer)),
+          makes.ok next (writes.turn.fits book fits),
+        )
+    accepted_line (Err sense) makes stay book fits =
+        let next = with_write book (write_by transfer taken) in
+        let is = some_is transfer taken some in
+        let fitted = writes.turn.fits book fits in
+        let cause = may_fault mid after half.cached next (makes.turn.goes_on.cause writes.answer makes.answer.1) fitted in (
+          next,
+          faults before after old last (command.Write10 transfer) taken book next stay.layout
+              (rw is (grind (arith, nat_tests, cause, writes.turn.goes_on.failures_stay))) (some_wanted transfer some) makes.answer
+              (inr (rw is refl)),
+          makes.turn.fits next fitted,
+        )
+
+    pub writes_blocks : (done : Result (Unit {0}) Sense)
+        → MakesDurable Follows (transfer.fua || not old.write_cache) mid after half last done
+        → Performs before after (Ok (command.Write10 transfer)) taken old (silent done) (record old { store = last })
+    writes_blocks done makes =
+        let write = write_by transfer taken in
+        let on = writes.turn.goes_on in
+        let further = makes.turn.goes_on in
+        let stay : Stays before after old.store.cached last.cached = grind (arith, on, further) in
+        performs_so stay refl
+        (λ book fits ours. rw (some_is transfer taken some)
+        (joined_same (Found before.size book write) before mid after (writes.turn.cuts book fits ours)
+        (weaker (MayFind mid.size (with_write book write)) (Found before.size book write) mid after
+        (λ image found. inr (rw on.size_stays at found))
+        (makes.turn.cuts (with_write book write) (writes.turn.fits book fits) ours))))
+        (accepted_line done makes stay)
+
+-- ---- a command that was performed, and whose sense is kept
+
+pub serves : {M : Type 0} {before after : State} {block taken : List ℕ} {old mid : UnitValue M} {answer : Result (List ℕ) Sense}
+    → Performs before after (command_for old block) taken old answer mid → mid.store.goes_ahead ≡ old.store.goes_ahead
+    → Serves before after block taken old answer (record mid { kept = settled_kept answer mid.kept })
+serves done policy = record {
+  line = λ book fits. let found = done.line book fits in (found.0, rw fits.blocks at found.1, found.2);
+  cuts = λ book fits ours. rw fits.blocks at (done.cuts book fits ours);
+  failures_stay = done.failures_stay;
+  size_stays = done.size_stays;
+  layout_stays = done.layout_stays;
+  blocks_stay = done.blocks_stay;
+  limit_stays = done.limit_stays;
+  policy_stays = policy;
+  identity_stays = done.identity_stays;
+}

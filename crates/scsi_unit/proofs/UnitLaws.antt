@@ -1,10 +1,58 @@
 -- The proofs for the layers above: of what the contract of `unit_laws` says, and of what those of `Unit::medium` and `Unit::intend`
 -- say of each book that a unit fits.
-pub use Rattle.scsi_unit.proofs.Intentions.{keeps_intentions}
-pub use Rattle.scsi_unit.proofs.AppendedWrite.{writes_are_writes}
+pub use Rattle.scsi_unit.proofs.Intentions.{keeps_intentions, writes_are_writes}
 pub use Rattle.scsi_unit.proofs.Outcomes.{is_function, keeps_writes, stays_faulted, ticks_only, keeps_limit}
-pub use Rattle.scsi_unit.proofs.Books.{knows_images, between_calls, limit_between_calls, start_keeps_limit, fits_size}
-pub use Rattle.scsi_unit.proofs.Books.{intends_by_book, promises_by_book}
-pub use Rattle.scsi_unit.proofs.Bounds.{few_ticks}
-pub use Rattle.scsi_unit.proofs.PromisedFew.{none_made, step_made}
+pub use Rattle.scsi_unit.proofs.CommandCalls.{none_made, step_made, few_ticks}
 pub use Rattle.blocks.proofs.EmptyBatches.{steps_to_write, written_live}
+use Rattle.std.proofs.Common.{◌≡◌, ℕ, List, true, ap}
+use Rattle.medium.specs.Medium.{State}
+use Rattle.medium.specs.Moments.{EachCut}
+use Rattle.spec.specs.Book.{Book}
+use Rattle.blocks.specs.Finding.{MayFind}
+use Rattle.blocks.specs.StoreValue.{is_dead}
+use Rattle.blocks.proofs.TurnsJoined.{exits}
+use Rattle.blocks.specs.Limit.{HasLimit}
+pub use Rattle.blocks.proofs.ImageLimit.{start_keeps_limit}
+use Rattle.blocks.proofs.ImageLimit.{some_limit, one_limit, cut_keeps_limit}
+use Rattle.blocks.proofs.KnownImages.{found_ours, ours_for_opening, stands_for_opening, stands_for_some}
+use Rattle.spec.specs.Rules.{intention, intention_by, checked, command_by}
+use Rattle.scsi_unit.specs.Promising.{promises_for}
+use Rattle.scsi_unit.specs.Serving.{command_for}
+use Rattle.scsi_unit.specs.UnitValue.{UnitValue, unit_limit, state_of, FitsUnit, IsOfSize, intention_of}
+use Rattle.scsi_unit.specs.Laws.{KnowsImages}
+
+pub knows_images : KnowsImages
+knows_images = record {
+  found_ours = found_ours;
+  ours_for = ours_for_opening;
+  stands_for = stands_for_opening;
+  stands = stands_for_some;
+  some_limit = some_limit;
+  one_limit = one_limit;
+}
+
+-- between two calls a cut leaves what may be found of each book that the unit fits
+pub between_calls : {M : Type 0} (m : State) (unit : UnitValue M) (book : Book) → FitsUnit m unit book
+    → book.ours ≡ true → EachCut (MayFind m.size book) m
+between_calls m unit book fits ours = exits m unit.store.cached book fits ours
+
+-- such a cut leaves what has the limit of the unit
+pub limit_between_calls : {M : Type 0} (m : State) (unit : UnitValue M) (book : Book) → FitsUnit m unit book
+    → book.ours ≡ true → EachCut (HasLimit m.size (unit_limit unit)) m
+limit_between_calls m unit book fits ours = cut_keeps_limit m unit.store.cached book fits ours
+
+-- a book that a unit fits has as many blocks
+pub fits_size : {M : Type 0} (m : State) (unit : UnitValue M) (book : Book) → FitsUnit m unit book → IsOfSize unit book
+fits_size m unit book fits = fits.blocks
+
+-- what a unit intends is what its state with such a book intends
+pub intends_by_book : {M : Type 0} (unit : UnitValue M) (book : Book) (block : List ℕ)
+    → IsOfSize unit book → intention_of unit block ≡ intention (state_of unit book) block
+intends_by_book unit book block size =
+    ap (λ n. intention_by n (unit_limit unit) unit.kept.attention (is_dead unit.store.cached) block) size
+
+-- whether it promises, too
+pub promises_by_book : {M : Type 0} (unit : UnitValue M) (book : Book) (block : List ℕ) → IsOfSize unit book
+    → promises_for (command_for unit block) unit.write_cache ≡ promises_for (checked (state_of unit book) block) unit.write_cache
+promises_by_book unit book block size =
+    ap (λ n. promises_for (command_by n (unit_limit unit) unit.kept.attention (is_dead unit.store.cached) block) unit.write_cache) size

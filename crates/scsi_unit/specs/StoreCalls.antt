@@ -4,10 +4,7 @@ use Rattle.std.specs.Prelude.{Result, OnOk, IfOk, IfErr, MatchResult, is_ok, if�
 use Rattle.medium.specs.Medium.{State}
 use Rattle.spec.specs.Book.{Book, array_of, blocks_at, promised, write_of}
 use Rattle.blocks.specs.Calls.{reads_of, TurnsBatches}
-use Rattle.blocks.specs.Flushing.{finish_flushes}
 use Rattle.blocks.specs.Headroom.{KeepsHeadroom}
-use Rattle.blocks.specs.Retiring.{finish_calls}
-use Rattle.medium.specs.declared.fault.MediumFault.TheVariants.{Flush}
 use Rattle.blocks.specs.Looks.{LooksAtLog, LooksAtBlocks}
 use Rattle.medium.specs.Sent.{SendsUpTo}
 use Rattle.blocks.specs.Passing.{MayEmpty}
@@ -23,7 +20,7 @@ use Rattle.spec.specs.SenseCodes.{unrecovered_read_error, write_error}
 use Rattle.spec.specs.declared.command.Transfer.{Transfer}
 use Rattle.scsi_unit.specs.Serving.{IsEmptied, IsFinished}
 use Rattle.scsi_unit.specs.Calls.{calls_of_sync}
-use Rattle.scsi_unit.specs.Costs.{CostsFinishing}
+use Rattle.scsi_unit.specs.Costs.{CostsFinishing, CostsAlone}
 
 -- the medium comes after what it was, by calls alone, the policy stays, and headroom is kept
 pub record ComesAfter {M : Type 0} (Follows : M → M → Type 0) (old new : StoreValue M)
@@ -32,95 +29,93 @@ pub record ComesAfter {M : Type 0} (Follows : M → M → Type 0) (old new : Sto
   pub policy : new.goes_ahead ≡ old.goes_ahead
   pub headroom : KeepsHeadroom old new
 
+-- no call was made
+pub record MakesNone (before after : State) : Type 0 where
+  pub calls : after.calls ≡ before.calls
+  pub made : after.made ≡ before.made
+
 -- the store is live behind a good answer, and dead behind a write error
 abbrev pub TellsDeath : Result (Unit {0}) Sense → Cached → Type 0
 TellsDeath result new = MatchResult result (λ _. is_dead new ≡ false)
     (λ sense. (sense ≡ write_error) × (is_dead new ≡ true))
 
--- All accepted writes are durable, where that is wanted and the answer is good.
-pub record MakesDurable (ahead wanted : Bool) (before after : State) (old new : Cached)
-    (result : Result (Unit {0}) Sense) : Type 0 where
-  pub turn : IsTurn before after old new
-  pub ok : (book : Book) → FitsBook before old book
-      → OnOk result (FitsBook after new (if wanted then promised book else book))
-  pub answer : TellsDeath result new
-  pub active : IsEmptied wanted (active_of old) (active_of new)
-  pub log : OnOk result (IsFinished ahead wanted old new)
-  pub cost : OnOk result (CostsFinishing ahead wanted before after old)
-  pub calls : after.calls ≤ before.calls + (if wanted then calls_of_sync old else 0)
-  pub sent : SendsUpTo (2 * batch_sends old) before after
+-- All accepted writes are durable, where that is wanted and the answer is good. Where it is not
+-- wanted, nothing is done and the answer is good.
+pub record MakesDurable {M : Type 0} (Follows : M → M → Type 0) (wanted : Bool)
+    (before after : State) (old new : StoreValue M) (result : Result (Unit {0}) Sense)
+    : Type 0 where
+  pub turn : IsTurn before after old.cached new.cached
+  pub ok : (book : Book) → FitsBook before old.cached book
+      → OnOk result (FitsBook after new.cached (if wanted then promised book else book))
+  pub answer : TellsDeath result new.cached
+  pub active : IsEmptied wanted (active_of old.cached) (active_of new.cached)
+  pub log : OnOk result (IsFinished old.goes_ahead wanted old.cached new.cached)
+  pub cost : OnOk result (CostsFinishing old.goes_ahead wanted before after old.cached)
+  pub calls : after.calls ≤ before.calls + (if wanted then calls_of_sync old.cached else 0)
+  pub sent : SendsUpTo (2 * batch_sends old.cached) before after
   -- those of one batch where the frozen one is empty
-  pub one_batch : old.frozen.numbers ≡ [] → SendsOneBatch ahead before after old.log
-  pub looks : LooksAtLog before after old
+  pub one_batch : old.cached.frozen.numbers ≡ []
+      → SendsOneBatch old.goes_ahead before after old.cached.log
+  pub looks : LooksAtLog before after old.cached
+  pub unwanted : wanted ≡ false → (new ≡ old) × MakesNone before after × (is_ok result ≡ true)
+  pub follows : ComesAfter Follows old new
 
--- The blocks of a transfer are at the front of a buffer, where the answer is good. The batches and
--- the log stay.
-pub record ReadsBlocks (transfer : Transfer) (before after : State) (old new : Cached)
-    (out : List ℕ) (result : Result ℕ Sense) : Type 0 where
-  pub ok : (book : Book) → FitsBook before old book → OnOk result (take (512 * transfer.count) out
+-- The blocks of a transfer are at the front of a buffer, all of them, where the answer is good. The
+-- batches and the log stay.
+pub record ReadsBlocks {M : Type 0} (Follows : M → M → Type 0) (transfer : Transfer)
+    (before after : State) (old new : StoreValue M) (out : List ℕ) (result : Result ℕ Sense)
+    : Type 0 where
+  pub ok : (book : Book) → FitsBook before old.cached book
+      → OnOk result (take (512 * transfer.count) out
       ≡ blocks_at (array_of book) transfer.address transfer.count)
+  pub sent_all : IfOk result (λ sent. sent ≡ 512 * transfer.count)
   pub err : IfErr result (λ sense. (sense ≡ unrecovered_read_error)
       × (before.failures < after.failures))
-  pub stays : new ≡ old
-  pub calls : after.calls ≤ before.calls + reads_of old transfer.address transfer.count
+  pub stays : new.cached ≡ old.cached
+  pub calls : after.calls ≤ before.calls + reads_of old.cached transfer.address transfer.count
   pub sent : SendsUpTo 0 before after
-  pub looks : LooksAtBlocks before after old transfer.address transfer.count
-  pub turn : IsTurn before after old new
+  pub looks : LooksAtBlocks before after old.cached transfer.address transfer.count
+  pub turn : IsTurn before after old.cached new.cached
+  pub follows : ComesAfter Follows old new
 
 -- The blocks at the front of what was taken are accepted, where the answer is good.
-pub record WritesBlocks (ahead : Bool) (transfer : Transfer) (taken : List ℕ)
-    (before after : State) (old new : Cached) (result : Result (Unit {0}) Sense) : Type 0 where
+pub record WritesBlocks {M : Type 0} (Follows : M → M → Type 0) (transfer : Transfer)
+    (taken : List ℕ) (before after : State) (old new : StoreValue M)
+    (result : Result (Unit {0}) Sense) : Type 0 where
   pub turn : IsWriteTurn (write_of transfer.address (take (512 * transfer.count) taken))
-      (is_ok result) before after old new
-  pub answer : TellsDeath result new
-  pub active : OnOk result (TakesRange (transfer_limit old) (active_of old) transfer.address
-      transfer.count (active_of new))
-  pub batches : OnOk result (TurnsBatches ahead old new transfer.address transfer.count)
-  pub calls : after.calls ≤ before.calls + calls_of_sync old
-  pub sent : SendsUpTo (batch_sends old) before after
-  pub one_batch : SendsOneBatch ahead before after old.log
-  pub looks : LooksAtLog before after old
-  pub paid : OnOk result (after.calls + calls_of_sync new
-      ≤ before.calls + calls_of_sync old + 2 * batch_steps old)
-  -- one that does not fit beside the active batch makes the frozen one durable
-  pub alone_calls
-      : ¬ FitsBeside (transfer_limit old) (active_of old) transfer.address transfer.count
-      → OnOk result (after.calls ≡ before.calls + finish_calls ahead old.frozen.numbers old.log)
-  pub alone_flushes
-      : ¬ FitsBeside (transfer_limit old) (active_of old) transfer.address transfer.count
-      → OnOk result (after.made Flush
-      ≡ before.made Flush + finish_flushes old.frozen.numbers old.log)
+      (is_ok result) before after old.cached new.cached
+  pub answer : TellsDeath result new.cached
+  pub active : OnOk result (TakesRange (transfer_limit old.cached) (active_of old.cached)
+      transfer.address transfer.count (active_of new.cached))
+  pub batches : OnOk result (TurnsBatches old.goes_ahead old.cached new.cached transfer.address
+      transfer.count)
+  pub calls : after.calls ≤ before.calls + calls_of_sync old.cached
+  pub sent : SendsUpTo (batch_sends old.cached) before after
+  pub one_batch : SendsOneBatch old.goes_ahead before after old.cached.log
+  pub looks : LooksAtLog before after old.cached
+  pub paid : OnOk result (after.calls + calls_of_sync new.cached
+      ≤ before.calls + calls_of_sync old.cached + 2 * batch_steps old.cached)
+  -- one that fits beside the active batch makes no call, and is good
+  pub quiet : FitsBeside (transfer_limit old.cached) (active_of old.cached) transfer.address
+      transfer.count
+      → (new.medium ≡ old.medium) × MakesNone before after × (is_ok result ≡ true)
+  -- one that does not makes the frozen batch durable
+  pub alone : ¬ FitsBeside (transfer_limit old.cached) (active_of old.cached) transfer.address
+      transfer.count
+      → OnOk result (CostsAlone old.goes_ahead before after old.cached)
+  pub follows : ComesAfter Follows old new
 
 -- One step in the background, by what it works towards: by the order of the store's work, of at
 -- most two calls, and with as many steps left behind it as such a step leaves.
-pub record StepsBehind (work : Work) (ahead : Bool) (before after : State) (old new : Cached)
-    : Type 0 where
-  pub turn : IsTurn before after old new
-  pub order : IsWork work ahead before after old new
+pub record StepsBehind {M : Type 0} (Follows : M → M → Type 0) (work : Work)
+    (before after : State) (old new : StoreValue M) : Type 0 where
+  pub turn : IsTurn before after old.cached new.cached
+  pub order : IsWork work old.goes_ahead before after old.cached new.cached
   pub calls : after.calls ≤ before.calls + 2
   pub sent : SendsUpTo 2 before after
-  pub looks : LooksAtLog before after old
-  pub left : LeavesBy work old new
-  pub active : MayEmpty (active_of old) (active_of new)
-
--- What each call of the store passes on: where it is not wanted it does nothing and is good; ..
-pub record PassesDurable {M : Type 0} (Follows : M → M → Type 0) (wanted : Bool)
-    (old new : StoreValue M) (result : Result (Unit {0}) Sense) : Type 0 where
-  pub unwanted : wanted ≡ false → (new ≡ old) × (is_ok result ≡ true)
-  pub follows : ComesAfter Follows old new
-
--- .. a good read gives all of its blocks; ..
-pub record PassesRead {M : Type 0} (Follows : M → M → Type 0) (transfer : Transfer)
-    (old new : StoreValue M) (result : Result ℕ Sense) : Type 0 where
-  pub sent : IfOk result (λ sent. sent ≡ 512 * transfer.count)
-  pub follows : ComesAfter Follows old new
-
--- .. and a write that fits beside the active batch makes no call, and is good.
-pub record PassesWrite {M : Type 0} (Follows : M → M → Type 0) (transfer : Transfer)
-    (old new : StoreValue M) (result : Result (Unit {0}) Sense) : Type 0 where
-  pub quiet : FitsBeside (transfer_limit old.cached) (active_of old.cached) transfer.address
-      transfer.count
-      → (new.medium ≡ old.medium) × (is_ok result ≡ true)
+  pub looks : LooksAtLog before after old.cached
+  pub left : LeavesBy work old.cached new.cached
+  pub active : MayEmpty (active_of old.cached) (active_of new.cached)
   pub follows : ComesAfter Follows old new
 
 -- a READ sends all of its blocks where it is good, and the medium comes after what it was

@@ -1,20 +1,16 @@
 -- A logical unit over its store.
-use Rattle.std.specs.Prelude.{◌≡◌, ◌≤◌, ℕ, Bool, List, take, Result, Ok, Err}
+use Rattle.std.specs.Prelude.{◌≡◌, ◌≤◌, ℕ, List, take, Result, Ok, Err}
 use Rattle.medium.specs.Medium.{State}
 use Rattle.medium.specs.Moments.{IsUnchanged}
-use Rattle.spec.specs.Waiting.{Waiting}
 use Rattle.spec.specs.Sense.{Sense}
-use Rattle.spec.specs.Identification.{Identification}
 use Rattle.spec.specs.Book.{Book}
-use Rattle.blocks.specs.StoreValue.{StoreValue, FitsBook, blocks_of, transfer_limit, is_dead}
+use Rattle.blocks.specs.StoreValue.{FitsBook, blocks_of, transfer_limit, is_dead}
 use Rattle.spec.specs.Rules.{Intention, UnitState, intention_by}
+use Rattle.scsi_unit.specs.declared.unit.Unit.{Unit}
 
--- what is seen of a unit over a medium
-pub record UnitValue (M : Type 0) : Type 0 where
-  pub store : StoreValue M
-  pub identity : Identification
-  pub kept : Waiting
-  pub write_cache : Bool
+-- what is seen of a unit over a medium: its fields
+abbrev pub UnitValue : Type 0 → Type 0
+UnitValue M = Unit M
 
 -- the most blocks of one READ or WRITE of a unit
 abbrev pub unit_limit : {M : Type 0} → UnitValue M → ℕ

@@ -92,7 +92,7 @@ impl<M: Medium> Unit<M> {
     }
 
     // Performs a command.
-    #[tactic(auto, using(crate::proofs::SectorsRead::no_calls))]
+    #[tactic(auto, using(crate::proofs::CommandCalls::no_calls))]
     fn perform(&mut self, command: Command, taken: &[u8], out: &mut [u8]) -> Result<usize, Sense>
         requires { CanPerform self.old command taken.now out.old }
         ensures performs { Performs (M.state self.old.store.medium)
@@ -123,12 +123,13 @@ impl<M: Medium> Unit<M> {
             Command::ReadCapacity16 { allocation } => {
                 Ok(send(&capacity_16(self.store.blocks()), allocation as usize, out))
             }
-            Command::Read10(transfer) => self.read(transfer, out),
-            Command::Read16(transfer) => self.read(transfer, out),
-            Command::Write10(transfer) => silent(self.write(transfer, taken)),
-            Command::Write16(transfer) => silent(self.write(transfer, taken)),
-            Command::SynchronizeCache10(_) => silent(self.synchronize()),
-            Command::SynchronizeCache16(_) => silent(self.synchronize()),
+            Command::Read10(transfer) | Command::Read16(transfer) => self.read(transfer, out),
+            Command::Write10(transfer) | Command::Write16(transfer) => {
+                silent(self.write(transfer, taken))
+            }
+            Command::SynchronizeCache10(_) | Command::SynchronizeCache16(_) => {
+                silent(self.synchronize())
+            }
         }
     }
 

@@ -2,8 +2,7 @@
 ghost use Rattle.std.specs.Prelude.{◌≡◌, ◌≤◌, ◌*◌, false, length};
 ghost use Rattle.blocks.specs.StoreValue.{transfer_limit, is_dead};
 ghost use Rattle.scsi_unit.specs.Asking.{CanTransfer};
-ghost use Rattle.scsi_unit.specs.StoreCalls.{ComesAfter, MakesDurable, ReadsBlocks, WritesBlocks};
-ghost use Rattle.scsi_unit.specs.StoreCalls.{StepsBehind, PassesDurable, PassesRead, PassesWrite};
+ghost use Rattle.scsi_unit.specs.StoreCalls.{MakesDurable, ReadsBlocks, WritesBlocks, StepsBehind};
 
 use crate::checks::BLOCK;
 use blocks::{Store, Work};
@@ -13,9 +12,8 @@ use scsi_commands::{Sense, Transfer};
 /// Makes all accepted writes durable, where that is wanted.
 pub(crate) fn make_durable<M: Medium>(store: &mut Store<M>, wanted: bool) -> Result<(), Sense>
     requires live { is_dead store.old.cached ≡ false }
-    ensures makes { MakesDurable store.old.goes_ahead wanted (M.state store.old.medium)
-        (M.state store.new.medium) store.old.cached store.new.cached result }
-    ensures passes { PassesDurable M.follows wanted store.old store.new result }
+    ensures { MakesDurable M.follows wanted (M.state store.old.medium) (M.state store.new.medium)
+        store.old store.new result }
 {
     if !wanted {
         return Ok(());
@@ -34,9 +32,8 @@ pub(crate) fn read_blocks<M: Medium>(
 ) -> Result<usize, Sense>
     requires can { CanTransfer store.old.cached transfer }
     requires room { 512 * transfer.count ≤ length out.old }
-    ensures reads { ReadsBlocks transfer (M.state store.old.medium) (M.state store.new.medium)
-        store.old.cached store.new.cached out.new result }
-    ensures passes { PassesRead M.follows transfer store.old store.new result }
+    ensures { ReadsBlocks M.follows transfer (M.state store.old.medium) (M.state store.new.medium)
+        store.old store.new out.new result }
 {
     let size = (BLOCK * transfer.count) as usize;
     match store.read(transfer.address, &mut out[..size]) {
@@ -53,10 +50,8 @@ pub(crate) fn write_blocks<M: Medium>(
 ) -> Result<(), Sense>
     requires can { CanTransfer store.old.cached transfer }
     requires taken { 512 * transfer.count ≤ length taken.now }
-    ensures writes { WritesBlocks store.old.goes_ahead transfer taken.now
-        (M.state store.old.medium) (M.state store.new.medium) store.old.cached store.new.cached
-        result }
-    ensures passes { PassesWrite M.follows transfer store.old store.new result }
+    ensures { WritesBlocks M.follows transfer taken.now (M.state store.old.medium)
+        (M.state store.new.medium) store.old store.new result }
 {
     let blocks = &taken[..(BLOCK * transfer.count) as usize];
     match store.write(transfer.address, blocks) {
@@ -67,9 +62,8 @@ pub(crate) fn write_blocks<M: Medium>(
 
 /// Makes a step in the background.
 pub(crate) fn step<M: Medium>(store: &mut Store<M>, work: Work)
-    ensures steps { StepsBehind work store.old.goes_ahead (M.state store.old.medium)
-        (M.state store.new.medium) store.old.cached store.new.cached }
-    ensures follows { ComesAfter M.follows store.old store.new }
+    ensures { StepsBehind M.follows work (M.state store.old.medium) (M.state store.new.medium)
+        store.old store.new }
 {
     store.work(work);
 }

@@ -20,7 +20,7 @@ use scsi_commands::{Sense, Transfer, mode_select};
 
 impl<M: Medium> Unit<M> {
     /// READ: with FUA all accepted writes are made durable first.
-    #[tactic(auto, using(crate::proofs::SectorsRead::no_calls))]
+    #[tactic(auto, using(crate::proofs::CommandCalls::no_calls))]
     pub(crate) fn read(&mut self, transfer: Transfer, out: &mut [u8]) -> Result<usize, Sense>
         requires { CanRead self.old transfer out.old }
         ensures performs { (taken : List ℕ) → Performs (M.state self.old.store.medium)
@@ -43,7 +43,7 @@ impl<M: Medium> Unit<M> {
     }
 
     /// WRITE: with FUA, or without the write cache, all accepted writes are made durable.
-    #[tactic(auto, using(crate::proofs::SectorsRead::no_calls))]
+    #[tactic(auto, using(crate::proofs::CommandCalls::no_calls))]
     pub(crate) fn write(&mut self, transfer: Transfer, taken: &[u8]) -> Result<(), Sense>
         requires { CanWrite self.old transfer taken.now }
         ensures performs { Performs (M.state self.old.store.medium)
@@ -83,7 +83,7 @@ impl<M: Medium> Unit<M> {
     }
 
     /// MODE SELECT: WCE goes from 1 to 0 when all accepted writes are durable.
-    #[tactic(auto, using(crate::proofs::SectorsRead::no_calls))]
+    #[tactic(auto, using(crate::proofs::CommandCalls::no_calls))]
     pub(crate) fn select(&mut self, list_len: u8, taken: &[u8]) -> Result<(), Sense>
         requires { CanSelect self.old list_len taken.now }
         ensures performs { Performs (M.state self.old.store.medium)

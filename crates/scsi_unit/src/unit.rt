@@ -25,7 +25,6 @@ use crate::store_calls::step;
 use blocks::{Store, Work};
 use medium::{Inlet, Medium, Outlet, Switch};
 use scsi_commands::{Identity, Kept, Sense};
-use std::marker::Model;
 
 /// A logical unit whose blocks are in a store. No call takes memory.
 #[derive(Drop)]
@@ -34,19 +33,6 @@ pub struct Unit<M: Medium> {
     pub(crate) identity: Identity,
     pub(crate) kept: Kept,
     pub(crate) write_cache: bool,
-}
-
-impl<M: Medium> Model for Unit<M> {
-    ghost use Rattle.scsi_unit.specs.UnitValue.{UnitValue};
-
-    ghost Value = { UnitValue M };
-
-    ghost view = { λ u. record {
-      store = u.store;
-      identity = u.identity;
-      kept = u.kept;
-      write_cache = u.write_cache;
-    } };
 }
 
 impl<M: Medium> Unit<M> {

@@ -1,4 +1,4 @@
-use Rattle.scsi_unit.proofs.Books.{limit_between_calls}
+use Rattle.scsi_unit.proofs.UnitLaws.{limit_between_calls}
 use Rattle.scsi_unit.proofs.unit.Unit.medium.Goals as goal
 
 pub returns-clause-limit : goal.returns-clause-limit

@@ -1,7 +1,8 @@
 use Rattle.std.proofs.Common.{refl}
 use Rattle.blocks.specs.StoreValue.{layout_of}
 use Rattle.std.proofs.lemmas.Result.{err_from_is_err_and}
-use Rattle.scsi_unit.proofs.StartedUnit.{leaves_started, not_started}
+use Rattle.blocks.proofs.KnownImages.{is_cause_for}
+use Rattle.scsi_unit.proofs.StartedUnit.{leaves_started}
 use Rattle.scsi_unit.proofs.unit.Unit.start_by.Goals as goal
 
 pub returns-in_err-store : goal.returns-in_err-store
@@ -11,7 +12,7 @@ returns-in_err-store g c =
     let error = c.in_err-store.field-0.0 in
     let refuses = c.in_err-store.ensures in
     rw (p.1, p.2) (record {
-      cause = not_started (state c.args.medium) (state error.medium) error.fault refuses.cause;
+      cause = record { cause = refuses.cause; possible = λ book on. is_cause_for _ _ book on _ refuses.cause };
       leaves = leaves_started state g.M.Medium.follows c.args.medium error.medium (g.met.M.Medium.sound error.medium) refuses.leaves;
     })
 
