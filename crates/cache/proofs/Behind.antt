@@ -1,210 +1,110 @@
--- Entries that were written behind all others, and their blocks in the row.
-use Rattle.std.proofs.Common.{◌≡◌, ◌⊎◌, inl, inr, ℕ, ◌+◌, ◌-◌, ◌<◌, ◌≤◌, List, [], length, take, get_or, sym, ◌∙◌, ap, arith}
-use Rattle.std.specs.Prelude.{◌*◌, slice_range, vec_capacity}
-use Rattle.std.proofs.lemmas.Bool.{cases_lt}
-use Rattle.std.proofs.lemmas.List.{ext_get_or, get_or-take, length-take-le, take_all}
+-- Entries that were laid behind all others, and their blocks in the row.
+use Rattle.std.proofs.Common.{◌≡◌, ℕ, zero, suc, ◌+◌, ◌*◌, ◌/◌, ◌<◌, ◌≤◌, drop, List, [], length, take, get_or, sym, refl, arith}
+use Rattle.std.specs.List.{insert}
+use Rattle.std.proofs.lemmas.Grind.{elements}
+use Rattle.std.proofs.lemmas.List.{ext_get_or, take_all, take_more, length-take-le, length-drop, map-append, take-map, drop-map}
+use Rattle.std.proofs.lemmas.List.Edits.{insert_end}
 use Rattle.cache.specs.Blocks.{block_at, blocks_of, with_range}
-use Rattle.cache.specs.Entries.{PutsBehind}
-use Rattle.cache.specs.Index.{no_entry, numbers_of, places_of, entries_of}
-use Rattle.cache.specs.Order.{gathered, ArePlaces}
-use Rattle.cache.specs.Places.{joined, ArePaired}
-use Rattle.cache.specs.View.{view_of, Invariant}
+use Rattle.cache.specs.Entries.{PutsOver}
+use Rattle.cache.specs.Index.{no_entry, numbers_of, places_of, entries_of, entry_after}
+use Rattle.cache.specs.Order.{gathered, IsWrittenFrom, ArePlaces}
+use Rattle.cache.specs.Places.{joined, ArePaired, WouldStandAt}
+use Rattle.cache.specs.View.{CanAppend, Becomes}
 use Rattle.cache.specs.declared.entry.Entry.{Entry}
-use Rattle.cache.specs.declared.index.Index.{Index}
 use Rattle.cache.specs.declared.parts.Parts.{Parts}
-use Rattle.cache.proofs.Appended.{appended}
-use Rattle.cache.proofs.Columns.{length-numbers, length-places, number_at, place_at}
-use Rattle.cache.proofs.Kept.{well_formed}
-use Rattle.cache.proofs.Swaps.{gathered_at, length-gathered}
+use Rattle.cache.proofs.Columns.{length-numbers, length-places, length_entries, numbers-insert, places-insert}
+use Rattle.cache.proofs.Kept.{keeps, well_formed}
+use Rattle.cache.proofs.Maps.{inserted}
+use Rattle.cache.proofs.Neighbours.{all_missing}
+use Rattle.cache.proofs.Order.{cells, ArePlaces-insert}
+use Rattle.cache.proofs.Ranges.{one_more}
 
--- the numbers and the blocks of entries, of which count were put behind the others
-pub record ArePutBehind (old new : List Entry) (row written : List (List ℕ)) (number count : ℕ) (bytes : List ℕ) : Type 0 where
-  pub paired : ArePaired (numbers_of new) (gathered (places_of new) written)
+-- the entries after count of them were laid behind the old ones
+pub record AreBehind (old new : List Entry) (row row' : List (List ℕ)) (number count : ℕ) (bytes : List ℕ) : Type 0 where
+  pub paired : ArePaired (numbers_of new) (gathered (places_of new) row')
   pub placed : ArePlaces (places_of new)
-  pub map : (b : ℕ) → blocks_of (numbers_of new) (joined (gathered (places_of new) written)) b
+  pub smaller : (k : ℕ) → k < length new → get_or (numbers_of new) k 0 < number + count
+  pub map : (b : ℕ) → blocks_of (numbers_of new) (joined (gathered (places_of new) row')) b
       ≡ with_range (blocks_of (numbers_of old) (joined (gathered (places_of old) row))) number count bytes b
-  pub more : length (numbers_of new) ≡ length (numbers_of old) + count
 
-module _ (old new : List Entry) (row written : List (List ℕ)) (number count : ℕ) (bytes : List ℕ)
-    (placed : ArePlaces (places_of old)) (long : length new ≡ length old + count)
+module _ (old new : List Entry) (row row' : List (List ℕ)) (number count : ℕ) (bytes : List ℕ)
+    (paired : ArePaired (numbers_of old) (gathered (places_of old) row)) (placed : ArePlaces (places_of old))
+    (smaller : (k : ℕ) → k < length (numbers_of old) → get_or (numbers_of old) k 0 < number) (long : length new ≡ length old + count)
     (stay : (k : ℕ) → k < length old → get_or new k no_entry ≡ get_or old k no_entry)
     (follow : (i : ℕ) → i < count → get_or new (length old + i) no_entry ≡ record { number = number + i; place = length old + i })
-    (row_stays : (k : ℕ) → k < length old → get_or written k [] ≡ get_or row k [])
-    (row_follows : (i : ℕ) → i < count → get_or written (length old + i) [] ≡ block_at bytes i) where
-  number_stays : (k : ℕ) → k < length old → get_or (numbers_of new) k 0 ≡ get_or (numbers_of old) k 0
-  number_stays k lt =
-      number_at new k no_entry (omega (arith, lt, long)) ∙ ap (λ (e : Entry). e.number) (stay k lt) ∙ sym (number_at old k no_entry lt)
+    (row_stays : (k : ℕ) → k < length old → get_or row' k [] ≡ get_or row k [])
+    (row_follows : (i : ℕ) → i < count → get_or row' (length old + i) [] ≡ block_at bytes i)
+    (sized : (i : ℕ) → i < count → length (block_at bytes i) ≡ 512) where
+  behind : (i : ℕ) → i ≤ count → AreBehind old (take (length old + i) new) row row' number i bytes
+  behind zero le =
+      let all : length old + 0 ≡ length old = omega arith in
+      let first : take (length old) new ≡ old =
+      ext_get_or no_entry _ _ (grind (arith, elements)) (λ k h. grind (arith, elements, stay k)) in
+      let n = length-places old in
+      let same : gathered (places_of old) row' ≡ gathered (places_of old) row =
+      ext_get_or [] _ _ (grind (arith, cells)) (λ k h. grind (arith, cells, placed.inside k, row_stays (get_or (places_of old) k 0))) in
+      rw (all, first) (record {
+        paired = rw same paired;
+        placed = placed;
+        smaller = λ k lt. omega (arith, smaller k, length-numbers old);
+        map = λ b. rw same (grind arith);
+      })
+  behind (suc i) le =
+      let was = behind i (omega arith) in
+      let n : ℕ = length old + i in
+      let entries : List Entry = take n new in
+      let all : length entries ≡ n = length-take-le n new (omega arith) in
+      let next : length old + suc i ≡ n + 1 = omega arith in
+      let entry : Entry = record { number = number + i; place = n } in
+      let more : take (n + 1) new ≡ insert entries n entry =
+      rw (take_more new n no_entry (omega arith), follow i le) (rw all at (sym (insert_end entries entry))) in
+      let would : WouldStandAt (numbers_of entries) (number + i) n = record {
+        inside = omega (arith, length-numbers entries);
+        before = λ k lt. was.smaller k (omega arith);
+        past = λ k from h. absurd (omega (arith, length-numbers entries));
+      } in
+      let put = inserted _ (gathered (places_of entries) row') (number + i) n (block_at bytes i) was.paired would (sized i le) in
+      let numbers = numbers-insert entries n entry in
+      let places = places-insert entries n entry in
+      let blocks : gathered (places_of (insert entries n entry)) row' ≡ insert (gathered (places_of entries) row') n (block_at bytes i) =
+      rw (places, ← row_follows i le) (simp (map-append, take-map, drop-map)) in
+      let one : suc i ≡ i + 1 = omega arith in
+      rw (next, more, one) (record {
+        paired = rw (blocks, numbers) put.paired;
+        placed = rw places (grind (arith, ArePlaces-insert, was.placed, length-places entries));
+        smaller = λ k lt. rw numbers (grind (arith, elements, was.smaller k));
+        map = λ b. rw (blocks, numbers) (one_more _ _ _ number i _ bytes refl was.map put.map b);
+      })
 
-  pub number_follows : (i : ℕ) → i < count → get_or (numbers_of new) (length old + i) 0 ≡ number + i
-  number_follows i lt =
-      number_at new (length old + i) no_entry (omega (arith, lt, long)) ∙ ap (λ (e : Entry). e.number) (follow i lt)
+  pub put_behind : AreBehind old new row row' number count bytes
+  put_behind = let all = take_all (length old + count) new (omega arith) in rw all at (behind count (omega arith))
 
-  place_stays : (k : ℕ) → k < length old → get_or (places_of new) k 0 ≡ get_or (places_of old) k 0
-  place_stays k lt =
-      place_at new k no_entry (omega (arith, lt, long)) ∙ ap (λ (e : Entry). e.place) (stay k lt) ∙ sym (place_at old k no_entry lt)
-
-  place_follows : (i : ℕ) → i < count → get_or (places_of new) (length old + i) 0 ≡ length old + i
-  place_follows i lt =
-      place_at new (length old + i) no_entry (omega (arith, lt, long)) ∙ ap (λ (e : Entry). e.place) (follow i lt)
-
-  -- a place is one of before, or its own
-  which : (k : ℕ) → k < length old + count
-      → ((k < length old) × (get_or (places_of new) k 0 ≡ get_or (places_of old) k 0)
-      × (get_or (places_of old) k 0 < length old))
-      ⊎ ((length old ≤ k) × (get_or (places_of new) k 0 ≡ k))
-  which k lt = elim (cases_lt k (length old)) [
-    | inl less ↦
-        let wide = length-places old in
-        let inside : get_or (places_of old) k 0 < length (places_of old) = placed.inside k (omega (arith, less, wide)) in
-        inl (less, place_stays k less, omega (arith, inside, wide))
-    | inr past ↦
-        let e : length old + (k - length old) ≡ k = omega (arith, past) in
-        inr (
-          past,
-          ap (λ (j : ℕ). get_or (places_of new) j 0) (sym e) ∙ place_follows (k - length old) (omega (arith, lt, past)) ∙ e,
-        )
-  ]
-
-  pub placed_too : ArePlaces (places_of new)
-  placed_too =
-      let wide = length-places new in
-      record {
-        inside = λ k lt. elim (which k (omega (arith, lt, wide, long))) [
-          | inl a ↦
-              let is : get_or (places_of new) k 0 ≡ get_or (places_of old) k 0 = a.1 in
-              let below : get_or (places_of old) k 0 < length old = a.2 in
-              omega (arith, is, below, wide, long)
-          | inr a ↦ let is : get_or (places_of new) k 0 ≡ k = a.1 in omega (arith, is, lt)
-        ];
-        distinct = λ k m lt_k lt_m e. elim (which k (omega (arith, lt_k, wide, long))) [
-          | inl a ↦ elim (which m (omega (arith, lt_m, wide, long))) [
-            | inl b ↦
-                let w = length-places old in
-                placed.distinct k m (omega (arith, a.0, w)) (omega (arith, b.0, w)) (sym a.1 ∙ e ∙ b.1)
-            | inr b ↦
-                let is : get_or (places_of new) k 0 ≡ get_or (places_of old) k 0 = a.1 in
-                let below : get_or (places_of old) k 0 < length old = a.2 in
-                let own : get_or (places_of new) m 0 ≡ m = b.1 in
-                absurd (omega (arith, is, below, own, b.0, e))
-          ]
-          | inr a ↦ elim (which m (omega (arith, lt_m, wide, long))) [
-            | inl b ↦
-                let own : get_or (places_of new) k 0 ≡ k = a.1 in
-                let is : get_or (places_of new) m 0 ≡ get_or (places_of old) m 0 = b.1 in
-                let below : get_or (places_of old) m 0 < length old = b.2 in
-                absurd (omega (arith, is, below, own, a.0, e))
-            | inr b ↦ sym a.1 ∙ e ∙ b.1
-          ]
-        ];
-      }
-
-  pub numbers_stay : take (length (numbers_of old)) (numbers_of new) ≡ numbers_of old
-  numbers_stay =
-      let n = length-numbers old in
-      let n' = length-numbers new in
-      let short : length (take (length (numbers_of old)) (numbers_of new)) ≡ length (numbers_of old) =
-      length-take-le (length (numbers_of old)) (numbers_of new) (omega (arith, n, n', long)) in
-      ext_get_or 0 (take (length (numbers_of old)) (numbers_of new)) (numbers_of old) short
-      (λ k lt. get_or-take (length (numbers_of old)) (numbers_of new) k 0 (omega (arith, lt, short))
-      ∙ number_stays k (omega (arith, lt, short, n)))
-
-  pub blocks_stay : take (length (numbers_of old)) (gathered (places_of new) written) ≡ gathered (places_of old) row
-  blocks_stay =
-      let n = length-numbers old in
-      let w = length-places old in
-      let w' = length-places new in
-      let g = length-gathered (places_of old) row in
-      let g' = length-gathered (places_of new) written in
-      let short : length (take (length (numbers_of old)) (gathered (places_of new) written)) ≡ length (numbers_of old) =
-      length-take-le (length (numbers_of old)) (gathered (places_of new) written) (omega (arith, n, w', g', long)) in
-      ext_get_or [] (take (length (numbers_of old)) (gathered (places_of new) written)) (gathered (places_of old) row)
-      (omega (arith, short, n, w, g))
-      (λ k lt.
-      let less : k < length old = omega (arith, lt, short, n) in
-      let inside : get_or (places_of old) k 0 < length (places_of old) = placed.inside k (omega (arith, less, w)) in
-      get_or-take (length (numbers_of old)) (gathered (places_of new) written) k [] (omega (arith, lt, short))
-      ∙ gathered_at (places_of new) written k (omega (arith, less, w', long))
-      ∙ ap (λ (p : ℕ). get_or written p []) (place_stays k less)
-      ∙ row_stays (get_or (places_of old) k 0) (omega (arith, inside, w))
-      ∙ sym (gathered_at (places_of old) row k (omega (arith, less, w))))
-
-  pub block_follows : (i : ℕ) → i < count → get_or (gathered (places_of new) written) (length old + i) [] ≡ block_at bytes i
-  block_follows i lt =
-      let w' = length-places new in
-      gathered_at (places_of new) written (length old + i) (omega (arith, lt, w', long))
-      ∙ ap (λ (p : ℕ). get_or written p []) (place_follows i lt)
-      ∙ row_follows i lt
-
-  pub put_behind : ArePaired (numbers_of old) (gathered (places_of old) row)
-      → ((k : ℕ) → k < length (numbers_of old) → get_or (numbers_of old) k 0 < number)
-      → ((i : ℕ) → i < count → length (block_at bytes i) ≡ 512) → ArePutBehind old new row written number count bytes
-  put_behind paired smaller sized =
-      let n = length-numbers old in
-      let n' = length-numbers new in
-      let w' = length-places new in
-      let g' = length-gathered (places_of new) written in
-      let more : length (numbers_of new) ≡ length (numbers_of old) + count = omega (arith, n, n', long) in
-      let alike : length (gathered (places_of new) written) ≡ length (numbers_of old) + count = omega (arith, n, w', g', long) in
-      let made = appended (numbers_of old) (gathered (places_of old) row) (numbers_of new) (gathered (places_of new) written) number count
-      bytes paired smaller more alike numbers_stay blocks_stay
-      (λ i lt. let e : length (numbers_of old) + i ≡ length old + i = omega (arith, n) in
-      ap (λ (j : ℕ). get_or (numbers_of new) j 0) e ∙ number_follows i lt)
-      (λ i lt. let e : length (numbers_of old) + i ≡ length old + i = omega (arith, n) in
-      ap (λ (j : ℕ). get_or (gathered (places_of new) written) j []) e ∙ block_follows i lt)
-      sized count (omega arith) in
-      let ns : take (length (numbers_of old) + count) (numbers_of new) ≡ numbers_of new =
-      take_all (length (numbers_of old) + count) (numbers_of new) (omega (arith, more)) in
-      let bs : take (length (numbers_of old) + count) (gathered (places_of new) written) ≡ gathered (places_of new) written =
-      take_all (length (numbers_of old) + count) (gathered (places_of new) written) (omega (arith, alike)) in
-      record {
-        paired = rw (ns, bs) at made.paired;
-        placed = placed_too;
-        map = λ b. ap (λ (l : List ℕ). blocks_of l (joined (gathered (places_of new) written)) b) (sym ns)
-            ∙ ap (λ (l : List (List ℕ)). blocks_of (take (length (numbers_of old) + count) (numbers_of new)) (joined l) b) (sym bs)
-            ∙ made.map b;
-        more = more;
-      }
-
--- the cells of an index and a row, of which count entries and blocks were put behind the others
-pub record AreLaidBehind (old : Parts) (index : Index) (cells : List Entry) (row : List (List ℕ)) (number count : ℕ)
-    (bytes : List ℕ) : Type 0 where
-  pub put : ArePutBehind (entries_of old.index) (slice_range cells index.start index.end) old.row.items row number count bytes
-  pub within : length (numbers_of (slice_range cells index.start index.end)) ≤ old.room
-  pub low : index.start ≤ old.room
-  pub high : old.room ≤ index.end
-  pub wide : index.end ≤ index.start + old.room
-  pub cells_stay : length cells ≡ 2 * old.room
-  pub row_stays : length row ≡ old.room
-
-module _ (old new : Parts) (cells : List Entry) (row : List (List ℕ)) (number count : ℕ) (bytes : List ℕ)
-    (laid : AreLaidBehind old new.index cells row number count bytes) (kept : Invariant old)
-    (cells_are : new.index.cells.items ≡ cells) (row_is : new.row.items ≡ row)
-    (room_stays : new.room ≡ old.room) (reserved : vec_capacity new.numbers ≡ vec_capacity old.numbers) where
-  pub kept_after : Invariant new
-  kept_after =
-      let put = laid.put in
-      record {
-        paired = rw (cells_are, row_is) put.paired;
-        placed = rw cells_are put.placed;
-        within = rw (cells_are, room_stays) laid.within;
-        centred = record {
-          low = omega (arith, laid.low, room_stays);
-          high = omega (arith, laid.high, room_stays);
-          within = omega (arith, laid.wide, room_stays);
-          wide = rw (cells_are, room_stays) laid.cells_stay;
-        };
-        reserved_numbers = omega (arith, room_stays, reserved, kept.reserved_numbers);
-        narrow = omega (arith, room_stays, kept.narrow);
-        whole_row = rw (row_is, room_stays) laid.row_stays;
-      }
-
-  pub appends_after : PutsBehind number count bytes (view_of old) (view_of new)
-  appends_after =
-      let put = laid.put in
-      let after = kept_after in
-      record {
-        well_formed = well_formed new after.paired after.within;
-        map = rw (cells_are, row_is) put.map;
-        more = rw cells_are put.more;
-        room_stays = room_stays;
-      }
+-- count blocks were put behind all others
+pub appends : (old new : Parts) (number : ℕ) (bytes : List ℕ) → CanAppend old number (length bytes / 512)
+    → IsWrittenFrom old.index.cells.items new.index.cells.items old.index.end (length bytes / 512)
+    (entry_after (record { number = number; place = length (entries_of old.index) })) no_entry
+    → IsWrittenFrom old.row.items new.row.items (length (entries_of old.index)) (length bytes / 512) (block_at bytes) []
+    → new.index.start ≡ old.index.start → new.index.end ≡ old.index.end + length bytes / 512
+    → length new.index.cells.items ≡ length old.index.cells.items → length new.row.items ≡ length old.row.items
+    → new.room ≡ old.room → new.numbers ≡ old.numbers → Becomes (PutsOver number (length bytes / 512) bytes) old new
+appends old new number bytes can entries blocks start_is end_is cells_stay row_stays room_is numbers_are =
+    let kept = can.kept in
+    let n = length_entries old.index in
+    let n' = length_entries new.index in
+    let m = length-numbers (entries_of old.index) in
+    let m' = length-numbers (entries_of new.index) in
+    let missing = all_missing _ number (length bytes / 512) kept.paired.rising can.behind in
+    let more : length (numbers_of (entries_of new.index)) ≡ length (numbers_of (entries_of old.index)) + length bytes / 512 =
+    omega (arith, kept, can.room) in
+    let put = put_behind (entries_of old.index) (entries_of new.index) old.row.items new.row.items number (length bytes / 512) bytes
+    kept.paired kept.placed can.behind.before (omega (arith, kept, can.room))
+    (λ k lt. grind (arith, elements, start_is, end_is, entries.before (old.index.start + k)))
+    (λ i lt. grind (arith, elements, start_is, end_is, entries.written i))
+    blocks.before blocks.written
+    (λ i lt. length-take-le 512 (drop (512 * i) bytes) (omega (arith, length-drop (512 * i) bytes))) in
+    let after = keeps old new kept room_is numbers_are (omega (arith, kept)) (grind (arith, kept, can.room)) put.paired put.placed
+    (omega (arith, more, can.room)) in
+    record {
+      kept = after;
+      puts = record { well_formed = well_formed new after; map = put.map; count = cc (more, missing); room_stays = room_is };
+    }

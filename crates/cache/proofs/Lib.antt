@@ -1,15 +1,9 @@
-pub mod Appended
 pub mod Arrays
 pub mod Behind
 pub mod Columns
-pub mod Cycles
-pub mod Edits
-pub mod HalvedSearch
 pub mod Kept
 pub mod Maps
 pub mod Neighbours
-pub mod Pairs
-pub mod Powers
+pub mod Order
 pub mod Ranges
-pub mod Swaps
-pub mod Windows
+pub mod Search

@@ -6,6 +6,12 @@ use Rattle.std.specs.Prelude.{slice_index, slice_index_or, if◌then◌else◌, 
 abbrev pub gathered : List ℕ → List (List ℕ) → List (List ℕ)
 gathered places row = map (λ (p : ℕ). slice_index_or row p []) places
 
+-- count elements were written from a place on, and those before it stay
+pub record IsWrittenFrom {X : Type 0} (old new : List X) (from count : ℕ) (each : ℕ → X) (none : X)
+    : Type 0 where
+  pub written : (i : ℕ) → i < count → slice_index_or new (from + i) none ≡ each i
+  pub before : (k : ℕ) → k < from → slice_index_or new k none ≡ slice_index_or old k none
+
 -- the places are those from 0 on, each of them once, in any order
 pub record ArePlaces (places : List ℕ) : Type 0 where
   pub inside : (i : ℕ) → i < length places → slice_index places i < length places
@@ -17,8 +23,9 @@ pub record ArePlacesOf (row : List (List ℕ)) (places : List ℕ) : Type 0 wher
   pub are : ArePlaces places
   pub room : length places ≤ length row
 
--- there is an i-th place, and it is not its own
-pub record IsAstray (i : ℕ) (places : List ℕ) : Type 0 where
+-- of the places of blocks of this row there is an i-th, and it is not its own
+pub record IsAstray (i : ℕ) (row : List (List ℕ)) (places : List ℕ) : Type 0 where
+  pub places_of : ArePlacesOf row places
   pub inside : i < length places
   pub astray : slice_index places i ≢ i
 

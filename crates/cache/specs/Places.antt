@@ -1,7 +1,7 @@
 -- Numbers that rise beside blocks in the same order, and the place of a number among them.
-use Rattle.std.specs.Prelude.{◌≡◌, ◌⊎◌, ◌<◌, ◌≤◌, ℕ, ◌+◌, ◌-◌, List, length, slice_index}
+use Rattle.std.specs.Prelude.{◌≡◌, ◌⊎◌, ◌<◌, ◌≤◌, ℕ, ◌+◌, ◌-◌, ◌^◌, List, length, slice_index}
 use Rattle.std.specs.List.{All, flat_map}
-use Rattle.cache.specs.Blocks.{blocks_of, with_block, IsRising, absent}
+use Rattle.cache.specs.Blocks.{IsRising, absent}
 
 -- blocks one after the other
 abbrev pub joined : List (List ℕ) → List ℕ
@@ -32,6 +32,21 @@ pub record HasPlace (numbers : List ℕ) (number place : ℕ) : Type 0 where
   pub before : (k : ℕ) → k < place → slice_index numbers k < number
   pub here : place < length numbers → number ≤ slice_index numbers place
 
+-- the same among numbers that rise
+pub record IsPlaceAmong (numbers : List ℕ) (number place : ℕ) : Type 0 where
+  pub rising : IsRising numbers
+  pub has : HasPlace numbers number place
+
+-- a range that ends at 2^31 or before, beside numbers that rise
+pub record IsRangeAmong (numbers : List ℕ) (address count : ℕ) : Type 0 where
+  pub rising : IsRising numbers
+  pub small : address + count ≤ 2 ^ 31
+
+-- there are as many numbers as `spare`, and they rise
+pub record CanSkip (numbers : List ℕ) (spare : ℕ) : Type 0 where
+  pub rising : IsRising numbers
+  pub inside : spare ≤ length numbers
+
 -- a number is read at its place, which is one step
 pub record ReadsNumber (numbers : List ℕ) (at number old new : ℕ) : Type 0 where
   pub value : number ≡ slice_index numbers at
@@ -51,11 +66,3 @@ pub record CanPutBlock (numbers : List ℕ) (most number at : ℕ) (block : List
   pub place : HasPlace numbers number at
   pub size : length block ≡ 512
   pub room : length numbers + absent numbers number ≤ most
-
--- one block was put at its number: in place of the one that was there, or as one more
-pub record PutsEntry (number : ℕ) (block : List ℕ) (old_numbers new_numbers : List ℕ)
-    (old_blocks new_blocks : List (List ℕ)) : Type 0 where
-  pub paired : ArePaired new_numbers new_blocks
-  pub map : (b : ℕ) → blocks_of new_numbers (joined new_blocks) b
-      ≡ with_block (blocks_of old_numbers (joined old_blocks)) number block b
-  pub count : length new_numbers ≡ length old_numbers + absent old_numbers number

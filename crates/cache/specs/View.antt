@@ -1,9 +1,9 @@
 -- How a batch is kept.
-use Rattle.std.specs.Prelude.{◌≡◌, ◌≤◌, ◌^◌, length, vec_capacity}
+use Rattle.std.specs.Prelude.{◌≡◌, ◌≤◌, ◌+◌, ◌^◌, ℕ, List, length, vec_capacity}
 use Rattle.cache.specs.Entries.{Entries}
 use Rattle.cache.specs.Index.{numbers_of, places_of, entries_of, IsCentred}
 use Rattle.cache.specs.Order.{gathered, ArePlaces, AreInOrder}
-use Rattle.cache.specs.Places.{ArePaired, joined}
+use Rattle.cache.specs.Places.{ArePaired, HasPlace, CanPutBlock, joined}
 use Rattle.cache.specs.declared.parts.Parts.{Parts}
 
 abbrev pub view_of : Parts → Entries
@@ -28,6 +28,24 @@ pub record Invariant (parts : Parts) : Type 0 where
 pub record Becomes (How : Entries → Entries → Type 0) (old new : Parts) : Type 0 where
   pub kept : Invariant new
   pub puts : How (view_of old) (view_of new)
+
+-- a number and its place
+pub record IsPlaced (parts : Parts) (number place : ℕ) : Type 0 where
+  pub kept : Invariant parts
+  pub has : HasPlace (numbers_of (entries_of parts.index)) number place
+
+-- a block of 512 bytes may be put at a number whose place is known
+pub record CanPutAt (parts : Parts) (number place : ℕ) (block : List ℕ) : Type 0 where
+  pub kept : Invariant parts
+  pub can : CanPutBlock (numbers_of (entries_of parts.index)) parts.room number place block
+
+-- count blocks may be put from this number on, which is greater than all others
+pub record CanAppend (parts : Parts) (number count : ℕ) : Type 0 where
+  pub kept : Invariant parts
+  pub behind : HasPlace (numbers_of (entries_of parts.index)) number
+      (length (numbers_of (entries_of parts.index)))
+  pub small : number + count ≤ 2 ^ 31
+  pub room : length (numbers_of (entries_of parts.index)) + count ≤ parts.room
 
 -- the blocks lie in the order of their numbers, which are told
 pub record IsArranged (parts : Parts) : Type 0 where

@@ -1,17 +1,15 @@
 //! Blocks that are put behind all others.
-ghost use Rattle.std.specs.Prelude.{◌≡◌, ◌+◌, ◌/◌, ◌^◌, ◌<◌, ◌≤◌, ℕ, [], length, slice_index_or};
+ghost use Rattle.std.specs.Prelude.{◌+◌, ◌/◌, ◌^◌, ◌≤◌, [], length};
 ghost use Rattle.cache.specs.Blocks.{block_at};
-ghost use Rattle.cache.specs.Index.{no_entry};
+ghost use Rattle.cache.specs.Index.{no_entry, entry_after};
+ghost use Rattle.cache.specs.Order.{IsWrittenFrom};
 
 use crate::entry::{BLOCK, Entry};
 
 /// Writes whole blocks to the cells of a row from this one on.
 pub(crate) fn write_blocks(row: &mut [[u8; BLOCK]], from: usize, bytes: &[u8])
-    requires inside { from + length bytes.now / 512 ≤ length row.old }
-    ensures written { (i : ℕ) → i < length bytes.now / 512
-        → slice_index_or row.new (from + i) [] ≡ block_at bytes.now i }
-    ensures before { (k : ℕ) → k < from
-        → slice_index_or row.new k [] ≡ slice_index_or row.old k [] }
+    requires { from + length bytes.now / 512 ≤ length row.old }
+    ensures { IsWrittenFrom row.old row.new from (length bytes.now / 512) (block_at bytes.now) [] }
 {
     for i in 0..bytes.len() / BLOCK {
         let at = i * BLOCK;
@@ -19,20 +17,17 @@ pub(crate) fn write_blocks(row: &mut [[u8; BLOCK]], from: usize, bytes: &[u8])
     }
 }
 
-/// Writes `count` entries from this cell on, whose numbers and places follow each other.
-pub(crate) fn write_entries(cells: &mut [Entry], from: usize, count: usize, number: u32, place: u32)
+/// Writes `count` entries from this cell on, whose numbers and places follow those of the first.
+pub(crate) fn write_entries(cells: &mut [Entry], from: usize, count: usize, first: Entry)
     requires inside { from + count ≤ length cells.old }
-    requires small { number + count ≤ 2 ^ 31 }
-    requires narrow { place + count ≤ 2 ^ 16 }
-    ensures written { (i : ℕ) → i < count → slice_index_or cells.new (from + i) no_entry
-        ≡ record { number = number + i; place = place + i } }
-    ensures before { (k : ℕ) → k < from
-        → slice_index_or cells.new k no_entry ≡ slice_index_or cells.old k no_entry }
+    requires small { first.number + count ≤ 2 ^ 31 }
+    requires narrow { first.place + count ≤ 2 ^ 16 }
+    ensures { IsWrittenFrom cells.old cells.new from count (entry_after first) no_entry }
 {
     for i in 0..count {
         cells[from + i] = Entry {
-            number: number + i as u32,
-            place: place + i as u32,
+            number: first.number + i as u32,
+            place: first.place + i as u32,
         };
     }
 }

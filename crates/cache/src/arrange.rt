@@ -7,9 +7,9 @@ ghost use Rattle.cache.specs.Order.{ArePlacesOf, IsAstray, IsOwnAt, astray};
 use crate::counter::Steps;
 use crate::entry::{BLOCK, Entry, row_place, set_row_place};
 
-// Puts the blocks of the entries into the order of the entries. It follows the cycles of their
-// places: one block of each cycle waits aside, and then each moves once. Blocks past them stay.
-fn arrange_row(row: &mut [[u8; BLOCK]], entries: &mut [Entry], moves: &mut Steps)
+/// Puts the blocks of the entries into the order of the entries. It follows the cycles of their
+/// places: one block of each cycle waits aside, and then each moves once. Blocks past them stay.
+pub(crate) fn arrange_row(row: &mut [[u8; BLOCK]], entries: &mut [Entry], moves: &mut Steps)
     requires { ArePlacesOf row.old (places_of entries.old) }
     ensures { PutsInOrder entries.old entries.new row.old row.new moves.old.count moves.new.count }
 {
@@ -20,28 +20,10 @@ fn arrange_row(row: &mut [[u8; BLOCK]], entries: &mut [Entry], moves: &mut Steps
     }
 }
 
-/// The same for the entries of an index, which stand from the start up to the end of its cells.
-pub(crate) fn arrange_cells(
-    row: &mut [[u8; BLOCK]],
-    cells: &mut [Entry],
-    start: usize,
-    end: usize,
-    moves: &mut Steps,
-)
-    requires ordered { start ≤ end }
-    requires inside { end ≤ length cells.old }
-    requires places { ArePlacesOf row.old (places_of (slice_range cells.old start end)) }
-    ensures { PutsInOrder (slice_range cells.old start end) (slice_range cells.new start end)
-        row.old row.new moves.old.count moves.new.count }
-{
-    arrange_row(row, &mut cells[start..end], moves);
-}
-
 // Moves each block of a cycle to its own place: that of the i-th number, and those that stand where
 // the others belong.
 fn turn_cycle(row: &mut [[u8; BLOCK]], entries: &mut [Entry], i: usize, moves: &mut Steps)
-    requires places { ArePlacesOf row.old (places_of entries.old) }
-    requires astray { IsAstray i (places_of entries.old) }
+    requires { IsAstray i row.old (places_of entries.old) }
     ensures keeps { KeepsBlocks entries.old entries.new row.old row.new }
     ensures own { IsOwnAt i (places_of entries.old) (places_of entries.new) }
     ensures few { moves.new.count + astray 0 (places_of entries.new)

@@ -1,16 +1,16 @@
 //! A bounded map from block numbers to blocks.
-ghost use Rattle.std.specs.Prelude.{◌≡◌, ◌↔◌, ◌+◌, ◌/◌, ◌^◌, ◌<◌, ◌≤◌};
+ghost use Rattle.std.specs.Prelude.{◌≡◌, ◌↔◌, ◌+◌, ◌^◌, ◌<◌, ◌≤◌};
 ghost use Rattle.std.specs.Prelude.{[], length, slice_index, IsTrue, IfOk, IfErr};
 ghost use Rattle.cache.specs.Blocks.{IsRising, unlisted};
 ghost use Rattle.cache.specs.Digits.{GrowsWithinDigits};
 ghost use Rattle.cache.specs.Entries.{MakesBatch, GetsBlock, GetsNext, Fits, CanPut, PutsBlock};
-ghost use Rattle.cache.specs.Entries.{PutsOver, PutsRange};
+ghost use Rattle.cache.specs.Entries.{PutsRange};
 ghost use Rattle.cache.specs.Places.{HasPlace, StandsAt, WouldStandAt, CanPutBlock};
 
 use crate::counter::Steps;
 use crate::entry::BLOCK;
 use crate::parts::Parts;
-use crate::place::{lower_bound, read_number, search_among};
+use crate::place::{listed_among, lower_bound, read_number, search_among};
 use crate::{BatchError, Frozen};
 use std::alloc::Global;
 use std::marker::Model;
@@ -101,8 +101,7 @@ impl Batch {
         requires { address + count ≤ 2 ^ 31 }
         ensures { IsTrue result ↔ (unlisted self.now.numbers address count ≡ count) }
     {
-        let entries = self.parts.index.entries();
-        lower_bound(entries, address) == lower_bound(entries, address + count as u64)
+        listed_among(self.parts.index.entries(), address, count) == 0
     }
 
     /// The place of a block's number among those that rise, or the one where it would stand.
@@ -135,8 +134,7 @@ impl Batch {
         if count <= free {
             return true;
         }
-        let present = lower_bound(entries, address + count as u64) - lower_bound(entries, address);
-        count - present <= free
+        count - listed_among(entries, address, count) <= free
     }
 
     /// Puts blocks at the numbers from the address on, each in place of the one that was there.
@@ -148,11 +146,14 @@ impl Batch {
         ensures { PutsRange address bytes.now self.old self.new }
     {
         let entries = self.parts.index.entries();
-        let place = lower_bound(entries, address);
+        let mut place = lower_bound(entries, address);
         if place == entries.len() {
             self.parts.append(address as u32, bytes);
-        } else {
-            self.put_among(place, address, bytes);
+            return;
+        }
+        for i in 0..bytes.len() / BLOCK {
+            let at = i * BLOCK;
+            place = self.put_block(place, address + i as u64, &bytes[at..at + BLOCK]);
         }
     }
 
@@ -173,20 +174,6 @@ impl Batch {
     {
         self.parts.arrange();
         frozen.swap(&mut self.parts);
-    }
-
-    // The same where the place of the address is known, block by block.
-    #[inline(always)]
-    fn put_among(&mut self, place: usize, address: u64, bytes: &[u8])
-        requires can { CanPut self.old address (length bytes.now) }
-        requires place { HasPlace self.old.numbers address place }
-        ensures { PutsOver address (length bytes.now / 512) bytes.now self.old self.new }
-    {
-        let mut place = place;
-        for i in 0..bytes.len() / BLOCK {
-            let at = i * BLOCK;
-            place = self.put_block(place, address + i as u64, &bytes[at..at + BLOCK]);
-        }
     }
 
     // Puts one block where the place of its number is known, and gives the place of the next

@@ -7,7 +7,7 @@ ghost use Rattle.cache.specs.View.{view_of, Invariant, IsArranged};
 
 use crate::BatchError;
 use crate::parts::Parts;
-use crate::place::lower_bound;
+use crate::place::{listed_among, lower_bound};
 use std::alloc::Global;
 use std::marker::Model;
 use std::mem;
@@ -80,8 +80,7 @@ impl Frozen {
         requires { address + count ≤ 2 ^ 31 }
         ensures { IsTrue result ↔ (unlisted self.now.numbers address count ≡ count) }
     {
-        let entries = self.parts.index.entries();
-        lower_bound(entries, address) == lower_bound(entries, address + count as u64)
+        listed_among(self.parts.index.entries(), address, count) == 0
     }
 
     /// The place of a block's number among those that rise, or the one where it would stand.

@@ -1,8 +1,7 @@
 //! An index that grows at both ends.
-ghost use Rattle.std.specs.Prelude.{◌≡◌, ◌+◌, ◌-◌, ◌*◌, ◌<◌, ◌≤◌, [], length, slice_set};
-ghost use Rattle.std.specs.Prelude.{slice_range, IfOk};
+ghost use Rattle.std.specs.Prelude.{◌≡◌, ◌*◌, ◌/◌, ◌<◌, ◌≤◌, [], length, IfOk};
 ghost use Rattle.std.specs.List.{insert};
-ghost use Rattle.cache.specs.Index.{entries_of, IsCentred, CanInsert, GrowsByOne};
+ghost use Rattle.cache.specs.Index.{entries_of, IsCentred};
 
 use crate::entry::Entry;
 use std::alloc::{AllocError, Global};
@@ -55,45 +54,23 @@ impl Index {
     }
 
     /// Inserts an entry at this place among the others.
+    #[inline]
     pub(crate) fn insert(&mut self, at: usize, entry: Entry)
-        requires { CanInsert self.old at }
+        requires centred { IsCentred self.old (length self.old.cells.items / 2) }
+        requires place { at ≤ length (entries_of self.old) }
+        requires room { length (entries_of self.old) < length self.old.cells.items / 2 }
         ensures entries { entries_of self.new ≡ insert (entries_of self.old) at entry }
-        ensures grows { GrowsByOne self.old self.new }
+        ensures centred { IsCentred self.new (length self.old.cells.items / 2) }
     {
         let count = self.end - self.start;
         if at < count - at {
-            insert_down(&mut self.cells, self.start, self.end, at, entry);
             self.start -= 1;
+            self.cells[self.start..].copy_within(1..at + 1, 0);
         } else {
-            insert_up(&mut self.cells, self.start, self.end, at, entry);
+            self.cells[self.start..].copy_within(at..count, at + 1);
             self.end += 1;
         }
+        let place = self.start + at;
+        self.cells[place] = entry;
     }
-}
-
-// Inserts an entry among those from the start up to the end. Those before it go one cell down.
-fn insert_down(cells: &mut [Entry], start: usize, end: usize, at: usize, entry: Entry)
-    requires ordered { start ≤ end }
-    requires place { at ≤ end - start }
-    requires before { 0 < start }
-    requires inside { end ≤ length cells.old }
-    ensures { slice_range cells.new (start - 1) end
-        ≡ insert (slice_range cells.old start end) at entry }
-{
-    let window = &mut cells[start - 1..end];
-    window.copy_within(1..at + 1, 0);
-    window[at] = entry;
-}
-
-// Inserts an entry among those from the start up to the end. Those from it on go one cell up.
-fn insert_up(cells: &mut [Entry], start: usize, end: usize, at: usize, entry: Entry)
-    requires ordered { start ≤ end }
-    requires place { at ≤ end - start }
-    requires inside { end < length cells.old }
-    ensures { slice_range cells.new start (end + 1)
-        ≡ insert (slice_range cells.old start end) at entry }
-{
-    let window = &mut cells[start..end + 1];
-    window.copy_within(at..end - start, at + 1);
-    window[at] = entry;
 }

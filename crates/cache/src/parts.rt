@@ -1,18 +1,19 @@
 //! What a batch is made of, in whichever order its blocks lie.
-ghost use Rattle.std.specs.Prelude.{◌≡◌, ◌↔◌, ◌+◌, ◌/◌, ◌^◌, ◌<◌, ◌≤◌, [], length};
+ghost use Rattle.std.specs.Prelude.{◌≡◌, ◌↔◌, ◌+◌, ◌/◌, ◌<◌, ◌≤◌, [], length};
 ghost use Rattle.std.specs.Prelude.{vec_capacity, IfOk, IsErrOf};
-ghost use Rattle.cache.specs.Entries.{GetsBlock, GetsNext, PutsBehind, PutsBlock};
+ghost use Rattle.cache.specs.Entries.{GetsBlock, GetsNext, PutsBlock, PutsOver};
 ghost use Rattle.cache.specs.Index.{numbers_of, entries_of};
-ghost use Rattle.cache.specs.Places.{HasPlace, CanPutBlock};
+ghost use Rattle.cache.specs.Places.{HasPlace};
 ghost use Rattle.cache.specs.View.{view_of, Invariant, Becomes, AreArranged};
+ghost use Rattle.cache.specs.View.{IsPlaced, CanPutAt, CanAppend};
 
 use crate::BatchError;
 use crate::append::{write_blocks, write_entries};
-use crate::arrange::arrange_cells;
+use crate::arrange::arrange_row;
 use crate::counter::Steps;
-use crate::entry::{BLOCK, Entry, number_of, put_entry, row_place};
+use crate::entry::{BLOCK, Entry, number_of, row_place};
 use crate::index::Index;
-use crate::place::lower_bound;
+use crate::place::{lower_bound, stands_at};
 use std::alloc::Global;
 
 // A batch has room for no more blocks than this.
@@ -64,47 +65,57 @@ impl Parts {
     /// The same where the block's place is known, which becomes the place of the next block.
     #[inline]
     pub(crate) fn get_at(&self, place: &mut usize, block: u64) -> Option<&[u8]>
-        requires kept { Invariant self.now }
-        requires place { HasPlace (numbers_of (entries_of self.now.index)) block place.old }
+        requires { IsPlaced self.now block place.old }
         ensures { GetsNext (view_of self.now) block result place.new }
     {
         let entries = self.index.entries();
         let at = *place;
-        if at < entries.len() && number_of(entries, at) == block {
+        if stands_at(entries, at, block) {
             *place = at + 1;
             return Some(&self.row[row_place(entries, at) as usize]);
         }
         None
     }
 
-    /// Puts one block where the place of its number is known.
+    /// Puts one block where the place of its number is known: over the one that was there, or else
+    /// behind the last of the row, so that no other block moves.
+    #[inline]
     pub(crate) fn put(&mut self, place: usize, number: u32, block: &[u8])
-        requires kept { Invariant self.old }
-        requires can { CanPutBlock (numbers_of (entries_of self.old.index)) self.old.room
-            number place block.now }
+        requires { CanPutAt self.old number place block.now }
         ensures put { Becomes (PutsBlock number block.now) self.old self.new }
         ensures next { HasPlace (numbers_of (entries_of self.new.index)) (number + 1) (place + 1) }
     {
-        put_entry(&mut self.index, &mut self.row, place, number, block);
+        let entries = self.index.entries();
+        let last = entries.len();
+        if stands_at(entries, place, u64::from(number)) {
+            let at = row_place(entries, place) as usize;
+            self.row[at].copy_from_slice(block);
+        } else {
+            let entry = Entry {
+                number,
+                place: last as u32,
+            };
+            self.index.insert(place, entry);
+            self.row[last].copy_from_slice(block);
+        }
     }
 
     /// Puts whole blocks at the numbers from this one on, where all others are smaller.
     #[inline]
     pub(crate) fn append(&mut self, number: u32, bytes: &[u8])
-        requires kept { Invariant self.old }
-        requires behind { HasPlace (numbers_of (entries_of self.old.index)) number
-            (length (numbers_of (entries_of self.old.index))) }
-        requires small { number + length bytes.now / 512 ≤ 2 ^ 31 }
-        requires room { length (numbers_of (entries_of self.old.index)) + length bytes.now / 512
-            ≤ self.old.room }
-        ensures { Becomes (PutsBehind number (length bytes.now / 512) bytes.now)
+        requires { CanAppend self.old number (length bytes.now / 512) }
+        ensures { Becomes (PutsOver number (length bytes.now / 512) bytes.now)
             self.old self.new }
     {
-        let first = self.index.entries().len();
+        let place = self.index.entries().len();
         let count = bytes.len() / BLOCK;
-        write_blocks(&mut self.row, first, bytes);
+        write_blocks(&mut self.row, place, bytes);
         let end = self.index.end;
-        write_entries(&mut self.index.cells, end, count, number, first as u32);
+        let first = Entry {
+            number,
+            place: place as u32,
+        };
+        write_entries(&mut self.index.cells, end, count, first);
         self.index.end = end + count;
     }
 
@@ -113,14 +124,8 @@ impl Parts {
         requires { Invariant self.old }
         ensures { AreArranged (view_of self.old) self.new }
     {
-        let (start, end) = (self.index.start, self.index.end);
-        arrange_cells(
-            &mut self.row,
-            &mut self.index.cells,
-            start,
-            end,
-            &mut Steps::new(),
-        );
+        let entries = &mut self.index.cells[self.index.start..self.index.end];
+        arrange_row(&mut self.row, entries, &mut Steps::new());
         tell_numbers(&mut self.numbers, self.index.entries());
     }
 

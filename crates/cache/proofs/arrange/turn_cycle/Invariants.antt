@@ -1,7 +1,7 @@
 use Rattle.std.proofs.Common.{◌≡◌, ◌+◌, ◌≤◌, set}
 use Rattle.cache.specs.Index.{numbers_of, places_of}
 use Rattle.cache.specs.Order.{away, astray}
-use Rattle.cache.proofs.Cycles.{IsTurning}
+use Rattle.cache.proofs.Order.{IsTurning}
 use Rattle.cache.proofs.arrange.turn_cycle.Given as goal
 
 -- the block aside is counted where its own place is the hole
