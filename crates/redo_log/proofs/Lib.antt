@@ -1,11 +1,7 @@
 pub mod RecordSteps
-pub mod NewestCopy
 pub mod StoreFacts
 pub mod RetireTurns
 pub mod SortedIndex
 pub mod LeavingIndex
-pub mod LogRules
 pub mod HeldLog
-pub mod StepCalls
-pub mod TurnCalls
 pub mod TurnLaws

@@ -1,6 +1,6 @@
 -- Each turn that retires the oldest durable record: what the log and its medium hold after it.
 use Rattle.std.proofs.Common.{⊎_elim, ◌⊎◌, ◌≡◌, ◌≢◌, ℕ, ◌+◌, ◌-◌, ◌<◌, ◌≤◌, List, [], ◌∷◌, length, get_or, drop, refl, arith, rules}
-use Rattle.std.proofs.Common.{ap, length-drop, add-zero, true, false, map, slice_index, drop-cons}
+use Rattle.std.proofs.Common.{length-drop, add-zero, true, false, map, slice_index, drop-cons}
 use Rattle.std.proofs.lemmas.Bool.{cases_eq, cases_lt}
 use Rattle.std.proofs.lemmas.List.{drop-map, length-map}
 use Rattle.std.proofs.Math.ListN.{get_or-map}
@@ -17,17 +17,22 @@ use Rattle.journal.proofs.Formats.{laws_of, most_is}
 use Rattle.journal.proofs.Wholeness.{records-hide}
 use Rattle.journal.proofs.Engine.{IsWholeIn-same, IsKept, kept_home, kept_head}
 use Rattle.redo_log.specs.declared.turn.Turn.{Turn}
-use Rattle.redo_log.specs.declared.turn.Turn.TheVariants.{Flush, Head}
-use Rattle.redo_log.specs.Value.{LogValue, Ahead, none_ahead, IsSentHome, IsRetireStepped, of_oldest, ahead_of, settled}
+use Rattle.redo_log.specs.declared.turn.Turn.TheVariants.{Copy, Flush, Head}
+use Rattle.redo_log.specs.Value.{LogValue, Ahead, IsSentHome, IsRetireStepped, of_oldest, ahead_of, settled}
 use Rattle.redo_log.specs.Calls.{WritesOnly}
-use Rattle.redo_log.specs.Turns.{head_bytes, MayTurn, IsTurned, IsNextTurn, IsHeadTurn}
+use Rattle.redo_log.specs.Halfway.{head_bytes, MayTurn, IsTurned, IsNextTurn, IsHeadTurn}
 use Rattle.redo_log.specs.Held.{View, with_record, view_retired, made_of, turned_of, needed_of, image_view, MayLeave, Safe, AreHome}
 use Rattle.redo_log.specs.Held.{HasHead, IsGuarded, HoldsView}
 use Rattle.redo_log.proofs.HeldLog.{moments_have, Stands, hides_behind, front, has_before, guard_logged, newest, with_newest, same_head}
 use Rattle.redo_log.proofs.HeldLog.{safe_here, guard_leaves, Stores-stays, many, named, count, under_count, stands_now, goes_on, counts_of}
-use Rattle.redo_log.proofs.LogRules.{needed_one, IsLog, retired_of, one_waits, nothing_home, not_homed}
-use Rattle.redo_log.proofs.NewestCopy.{kept_is, retired_kept}
-use Rattle.redo_log.proofs.RecordSteps.{head_turn}
+use Rattle.redo_log.proofs.HeldLog.{kept_is, retired_kept}
+use Rattle.redo_log.proofs.RecordSteps.{needed_one, IsLog, retired_of, one_waits, nothing_home, not_homed}
+
+-- a turn that writes the head has one
+pub head_turn : (stamp : ℕ) (turn : Turn) → IsHeadTurn stamp turn → (h : HeadOf) × (turn ≡ Head h) × (h.stamp ≡ stamp)
+head_turn stamp (Copy from to first) is = absurd is
+head_turn stamp Flush is = absurd is
+head_turn stamp (Head h) is = (h, refl, is)
 
 module _ {log : LogValue} (is : IsLog log) (live : log.dead ≡ false) (owed : 0 < of_oldest log) {old : State}
     (sound : IsSound old) {view : View} (hv : HoldsView log old view) where
@@ -92,7 +97,7 @@ module _ {log : LogValue} (is : IsLog log) (live : log.dead ≡ false) (owed : 0
 
     -- nothing of the next one is flushed at home yet
     needs_more : needed_of (retired_of log) ≢ 1
-    needs_more e = omega (arith, needed_one none_ahead (log.head + 1) _ (of_oldest (retired_of log)) e, not_homed log)
+    needs_more e = omega (arith, needed_one (retired_of log) e, not_homed log)
 
     -- where it is durable, the log has one record less
     pub flushed_held : new.size ≡ old.size → Holds 1 (head_bytes h.stamp) old.content new.content
@@ -200,27 +205,17 @@ module _ {log : LogValue} (is : IsLog log) (live : log.dead ≡ false) (owed : 0
     module _ (same_size : new.size ≡ old.size) (done : IsTurned turn old new) (then : LogValue) where
       -- a record whose blocks go home by retire steps needs its flush
       goes_home : 2 < of_oldest log → HoldsView (settled log) new view
-      goes_home below = home_held below log.ahead
-          (λ one. omega (
-            arith,
-            needed_one log.ahead log.head
-                (log.head + length log.waiting) _ one,
-            below,
-            is.away below,
-          )) same_size done
+      goes_home below = home_held below log.ahead (λ one. omega (arith, needed_one (settled log) one, below, is.away below)) same_size done
 
       -- so it does where a block went home
       pub sent_held : 2 < of_oldest log → IsSentHome log then → HoldsView then new view
       sent_held below home =
-          let ahead = λ (last : of_oldest log ≡ 3). home_held below (ahead_of log)
-          (λ one. omega (arith, needed_one (ahead_of log) log.head (log.head + length log.waiting) _ one, last)) same_size done in
+          let then : LogValue = record log { retire_steps_left = log.retire_steps_left - 1; ahead = ahead_of log } in
+          let ahead = λ (last : of_oldest log ≡ 3). home_held below (ahead_of log) (λ one. omega (arith, needed_one then one, last)) same_size done in
           grind (arith, cases_lt 3 (of_oldest log), home.more, home.last, ahead, goes_home below)
 
       sent_head : 2 < of_oldest log → IsSentHome log then → then.head ≡ log.head
-      sent_head below home = ⊎_elim
-          (λ more. ap (λ (l : LogValue). l.head) (home.more more))
-          (λ few. ap (λ (l : LogValue). l.head) (home.last (omega (arith, few, below))))
-          (cases_lt 3 (of_oldest log))
+      sent_head below home = grind (arith, cases_lt 3 (of_oldest log), home.more, home.last)
 
       -- and behind any retire step
       pub stepped_held : IsRetireStepped log then → HoldsView then new (view_retired (then.head - log.head) view)

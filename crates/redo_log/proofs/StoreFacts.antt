@@ -6,28 +6,27 @@ use Rattle.medium.specs.Medium.{State, Image, CutLeaves, IsSound, Holds, Gains}
 use Rattle.medium.specs.Moments.{EachCut, LeavesOnly}
 use Rattle.medium.proofs.Moments.{updated_elsewhere, shrunk, one_call, each_write, each_flush}
 use Rattle.spec.specs.Blocks.{Array}
-use Rattle.journal.specs.Places.{Shape, sectors_of}
+use Rattle.journal.specs.Places.{Shape, sectors_of, first_home}
 use Rattle.journal.specs.Format2.{firsts_of}
 use Rattle.journal.specs.Record.{Entry, with_blocks, entries_of, numbers_of}
 use Rattle.journal.specs.Standing.{Keeps, IsOurs}
 use Rattle.journal.proofs.BatchEntries.{numbers_of_batch, length_of_batch, sized_batch}
 use Rattle.journal.proofs.Engine.{rests_found, Guarded-lost, Guarded-write, Stored-write, other_written, Stored-durable, carries_below}
 use Rattle.journal.proofs.Formats.{laws_of}
-use Rattle.redo_log.specs.Value.{LogValue, of_oldest, HasRoom, IsCovered, retire_steps_of, behind_oldest, idle_from, begun, died, settled}
+use Rattle.redo_log.specs.Value.{LogValue, HasRoom, IsCovered, retire_steps_of, behind_oldest, idle_from, begun, died, settled}
 use Rattle.redo_log.specs.Value.{IsBatch, steps_of, steps_for, IsStepped}
 use Rattle.redo_log.specs.Shown.{flush_of}
 use Rattle.redo_log.specs.Held.{View, resting_view, IsStored, IsGuarded, HasNoRecord, with_begun, made_of, turned_of, needed_of, MayLeave}
 use Rattle.redo_log.specs.Held.{Safe, with_passed, image_view, HoldsView, with_record, view_stepped, written_of, HasDurable, HasHead}
 use Rattle.redo_log.specs.Held.{AreHome}
-use Rattle.redo_log.proofs.RecordSteps.{steps_some, steps_are, due_or_not, last_call, not_last, early_written, part_written}
-use Rattle.redo_log.proofs.LogRules.{needed_covered, needed_one, made_is, none_made, IsLog, durable_of, durable_alone, durable_more}
+use Rattle.redo_log.proofs.RecordSteps.{steps_some, steps_are, due_or_not, all_written, early_written, part_written, needed_covered}
+use Rattle.redo_log.proofs.RecordSteps.{needed_one, made_is, none_made, IsLog, durable_of, durable_alone, durable_more, step_flushed}
+use Rattle.redo_log.proofs.RecordSteps.{leaves_log, within_more, one_sent, few_sends, reads_nothing}
 use Rattle.redo_log.proofs.HeldLog.{rests_safe, safe_rests, keeps_stored, with_newest, same_head, put_head, put_safe, has_view}
 use Rattle.redo_log.proofs.HeldLog.{Stores-stays, count, under_count, going_held, Stands, stands_idle, same_stamp, stands_front}
 use Rattle.redo_log.proofs.HeldLog.{guard_logged, guard_leaves, safe_here, counts_of, many, stands_then, stands_now, goes_on}
-use Rattle.redo_log.proofs.HeldLog.{record_entries, before_home}
-use Rattle.redo_log.proofs.NewestCopy.{durable_kept}
-pub use Rattle.redo_log.proofs.HeldLog.{quiet_held, put_head}
-pub use Rattle.redo_log.proofs.NewestCopy.{home_is}
+use Rattle.redo_log.proofs.HeldLog.{record_entries, before_home, durable_kept, dead_held}
+pub use Rattle.redo_log.proofs.HeldLog.{quiet_held, put_head, home_is}
 use Rattle.std.proofs.lemmas.Result.{on_ok_weaker}
 use Rattle.std.proofs.lemmas.Bool.{cases_eq, cases_lt}
 use Rattle.medium.specs.declared.fault.MediumFault.{MediumFault}
@@ -37,7 +36,9 @@ use Rattle.redo_log.specs.declared.progress.Progress.{Progress}
 use Rattle.redo_log.specs.declared.progress.Progress.TheVariants.{More, Durable}
 use Rattle.redo_log.specs.Calls.{MakesNext, IsNextCall, IsFlushDue}
 use Rattle.medium.specs.declared.medium_call.Call.TheVariants.{Write, Flush}
-use Rattle.medium.specs.Performed.{IsDone}
+use Rattle.medium.specs.Performed.{IsDone, IsWithin, Performed}
+use Rattle.medium.specs.declared.medium_call.Call.{Call}
+use Rattle.redo_log.specs.Steps.{StepCalled}
 
 -- a new log holds a medium that has its head and its blocks at home, and whose log is fresh
 pub idle_holds : (shape : Shape) (next : ℕ) (array : Array) (ours : Bool) (m : State) → sectors_of shape ≤ m.size
@@ -62,8 +63,7 @@ died_holds log m view holds =
 pub settled_holds : (log : LogValue) (m : State) (view : View) → HoldsView log m view → IsCovered log
     → HoldsView (settled log) m view
 settled_holds log m view holds covered =
-    let covers = needed_covered log.ahead log.head (log.head + length log.waiting) covered.oldest covered.since in
-    let needs : needed_of log ≡ needed_of (settled log) = grind (arith, covered.flushes, covers) in
+    let needs = needed_covered log covered in
     going_held holds log.steps_left (log.retire_steps_left - 1) log.ahead log.dead m refl
     (λ ours image cut. grind (arith, covered.flushes, holds.leaves ours image cut))
     (λ live. Stores-stays (holds.stores live) _ _ m.content (λ s. refl) (omega arith)
@@ -172,22 +172,20 @@ module _ {log : LogValue} (is : IsLog log) (live : log.dead ≡ false) (some : 0
           → HoldsView more_log new view
       early_flushed more due done =
           let wrote = rw (flushes due) at done in
-          let few = not_last _ _ late (made_of log) (omega (arith, made_is log some, more, all_steps, is.most_left)) in
+          let few : k < L.parts n = omega (arith, all_written _ _ (made_of log) late, made_is log some, more, all_steps, is.most_left) in
           let early : (0 < L.early n) × (made_of log ≡ L.early n) = grind (arith, due, few) in
-          let after = early_written _ _ late (made_of log) (made_of more_log) (then_made more) early.0 early.1 in
+          let after = early_written _ (made_of log) (made_of more_log) (then_made more) early.0 early.1 in
           let s = hv.stores live in
           goes_on hv is (log.steps_left - 1) log.retire_steps_left log.ahead new (omega arith) here.makes.passes.size_stays live
           (Stores-stays s (made_of more_log) (turned_of log) new.content wrote.0 (omega (arith, after.0)) (λ i low high. low))
           (λ ours. each_flush _ old.content new wrote.1 (with_newest
           (rw (after.0, after.1) (record { stored = s.stored; carries = (safe_here sound s (hv.guards live ours)).carries }))
-          (λ one i inside. s.copied i (omega
-          (arith, inside, needed_one log.ahead log.head _ (of_oldest log) one, count hv 0)) inside)))
+          (λ one i inside. s.copied i (omega (arith, inside, needed_one log one, count hv 0)) inside)))
 
       -- ---- a flush of all parts: the record is durable
       all_flushed : log.steps_left ≡ 1 → IsDone here.call here.bytes here.after old new → HoldsView (durable_of log) new (with_record view)
       all_flushed last done =
-          let all = last_call _ _ late (made_of log) (omega (arith, made_is log some, is.most_left, some, all_steps))
-          (omega (arith, made_is log some, is.most_left, last, all_steps)) in
+          let all : L.parts n ≤ k = omega (arith, all_written _ _ (made_of log) late, made_is log some, is.most_left, last, all_steps) in
           let wrote = rw (flushes (inr all)) at done in
           let longer = length-append view.records (view.under_way ∷ []) in
           let fits : sectors_of log.shape ≤ new.size = omega (arith, here.makes.passes.size_stays, hv.fits) in
@@ -200,17 +198,13 @@ module _ {log : LogValue} (is : IsLog log) (live : log.dead ≡ false) (some : 0
           let first = get_or_append_left view.records (view.under_way ∷ []) [] 0 in λ i low high.
           grind (arith, cases_eq (length view.records) 0, durable_alone log is some, durable_more log, many hv, s.copied i, first) in
           let keeps = Stored-durable _ (laws_of _) _ (stands.slots some) all s.stored in
+          let counts = counts_of (view.records ++ view.under_way ∷ []) durable 0 in
           let guards : view.ours ≡ true → IsGuarded (durable_of log) (with_record view) new = λ ours.
           let carries = carries_below _ (laws_of _) _ (stands.slots some) old.content _ _
           (safe_here sound s (hv.guards live ours)) in
           each_flush _ old.content new wrote.1
           (with_newest (rests_safe (with_record view) refl (grind (arith, keeps, carries, longer)))
-          (λ one i inside. copied i (omega (
-            arith,
-            inside,
-            needed_one log.ahead log.head _ (of_oldest (durable_of log)) one,
-            counts_of (view.records ++ view.under_way ∷ []) durable 0,
-          )) inside)) in
+          (λ one i inside. copied i (omega (arith, inside, needed_one (durable_of log) one, counts)) inside)) in
           let few : length (view.records ++ view.under_way ∷ []) ≤ log.shape.slots =
           omega (arith, (stands.slots some).room, longer) in
           let some_blocks : 0 < length view.under_way = (stands.slots some).under_way.fit.some in
@@ -248,7 +242,7 @@ module _ {log : LogValue} (is : IsLog log) (live : log.dead ≡ false) (some : 0
         part_each : part ≡ L.part stamp view.under_way k → view.ours ≡ true → (then : ℕ) → then ≡ made_of log + 1
             → EachCut (HasHead log.shape log.head view then (needed_of log)) new
         part_each mine ours then one =
-            let now = part_written _ _ late (made_of log) then one (grind (arith, not)) in
+            let now = part_written (L.early n) (made_of log) then one (grind (arith, not)) in
             each_write _ _ old new place part sound adds (hv.guards live ours)
             (λ image g. same_head g (rw (now.0, now.1) (Guarded-lost k g.safe)) g.flushed)
             (λ before image write g. same_head g
@@ -278,7 +272,7 @@ module _ {log : LogValue} (is : IsLog log) (live : log.dead ≡ false) (some : 0
             let write = rw (writes.0, writes.1) at done in
             let s = hv.stores live in
             let mine : part ≡ L.part stamp view.under_way k = ap (λ (l : List Entry). L.part stamp l k) (sym named) in
-            let now = part_written _ _ late (made_of log) (made_of more_log) (then_made more) (grind (arith, not)) in
+            let now = part_written (L.early n) (made_of log) (made_of more_log) (then_made more) (grind (arith, not)) in
             goes_on hv is (log.steps_left - 1) log.retire_steps_left log.ahead new (omega arith) here.makes.passes.size_stays live
             (record {
               stored = Stored-write _ (laws_of _) _ (stands.slots some) k small (λ p low not. omega arith)
@@ -310,9 +304,32 @@ module _ {log : LogValue} (is : IsLog log) (live : log.dead ≡ false) (some : 0
             → OnOk result (EachCut (HasDurable new.size then (with_record view)) new)
         counted_whole ours stepped = rw stepped.1 (on_ok_weaker result (λ done image cut.
             let held = all_flushed stepped.0 done in
-            grind (
-              arith,
-              guard_logged (durable_of log) held.fits (stands_idle held.few refl refl)
-                  (held.guards live ours image cut),
-            ))
+            grind (arith, guard_logged (durable_of log) held.fits (stands_idle held.few refl refl) (held.guards live ours image cut)))
             here.makes.done)
+
+-- the next call of the record under way
+pub step_called : {log : LogValue} → IsLog log → log.dead ≡ false → 0 < log.steps_left → {numbers : List ℕ} (bytes : List ℕ)
+    → numbers ≡ log.under_way → length bytes ≡ 512 * length numbers → {call : Call} {sector : List ℕ}
+    → IsNextCall (layout_of log.shape.format) log.shape (log.head + length log.waiting) (entries_of numbers bytes) (made_of log) call sector
+    → IsWithin (first_home log.shape) call → (last : List ℕ) (result : Result (Unit {0}) MediumFault) (old new : State) → IsSound old
+    → IsSound new → Performed call sector last result old new → StepCalled (entries_of numbers bytes) result log old new
+step_called {log} is live some {numbers} bytes same size {call} {sector} next inside last result old new sound whole made =
+    let here : MakesNext log.shape (log.head + length log.waiting) (entries_of numbers bytes) (made_of log) result old new =
+    record { call = call; bytes = sector; after = last; next = next; inside = inside; makes = made } in
+    let left = leaves_log (λ view holds. step_leaves is live some sound holds bytes same size here)
+    (made.spares (sectors_of log.shape) (within_more (first_home log.shape) (sectors_of log.shape) (omega arith) call inside))
+    (made.looks (first_home log.shape) (reads_nothing (layout_of log.shape.format) log.shape (log.head + length log.waiting)
+    (entries_of numbers bytes) (made_of log) call sector next (first_home log.shape))) in
+    let flushed = step_flushed is some bytes same size call next made.passes in
+    let counts = one_sent call old new made.passes in
+    record {
+      counts = record { one = made.passes.calls_are; sent = omega (arith, counts.0, few_sends call); flushed = flushed };
+      failures = made.passes.failures_are;
+      size = made.passes.size_stays;
+      leaves = left;
+      dead = λ view holds. dead_held holds new whole made.passes.size_stays (left.cuts view holds);
+      counted = λ view holds entries progress next stepped.
+          counted_held is live some sound holds bytes same size here entries next progress stepped;
+      durable = λ view holds entries ours next stepped.
+          counted_whole is live some sound holds bytes same size here entries next ours stepped;
+    }

@@ -1,68 +1,46 @@
--- The calls of a turn, one by one: what each leaves of the log and its medium.
-use Rattle.std.proofs.Common.{subst, ◌≡◌, ◌⊎◌, inl, ⊎_elim, ℕ, ◌+◌, ◌-◌, ◌<◌, List, [], get_or, Some, None, Option, MatchOption}
-use Rattle.std.proofs.Common.{Result, Ok, Err, OnOk, ◌≤◌, refl, ◌≢◌, true, false, sym, ◌∙◌, arith, slice_index}
+-- The calls of a turn, one by one: what each leaves of the log and its medium, and how they are told.
+use Rattle.std.proofs.Common.{subst, ◌≡◌, ◌⊎◌, inl, ⊎_elim, ℕ, ◌+◌, ◌-◌, ◌<◌, List, [], get_or, Some, None, Option, MatchOption, Result, Ok}
+use Rattle.std.proofs.Common.{Err, OnOk, refl, ◌≢◌, true, false, sym, ◌∙◌, arith, slice_index}
 use Rattle.std.proofs.lemmas.Bool.{cases_lt}
 use Rattle.std.proofs.lemmas.Result.{on_ok_weaker}
-use Rattle.medium.specs.Medium.{State, IsSound, Stays, Within, Only, Passes}
+use Rattle.medium.specs.Medium.{State, IsSound, Stays, Only, Passes}
 use Rattle.medium.specs.Moments.{LeavesOnly, IsQuiet}
 use Rattle.medium.specs.declared.fault.MediumFault.{MediumFault}
-use Rattle.medium.specs.declared.fault.MediumFault.TheVariants as fault
 use Rattle.medium.specs.Sent.{sent}
 use Rattle.medium.proofs.SparedSectors.{spared_joined}
 use Rattle.medium.proofs.SectorsRead.{looks_joined}
 use Rattle.redo_log.specs.Steps.{CountsStep, LeavesLog}
-use Rattle.redo_log.proofs.StepCalls.{one_sent}
-use Rattle.medium.proofs.Moments.{quiet_call, quiet_leaves, shrunk, joined_same}
-use Rattle.journal.specs.Places.{first_home as home_of, sectors_of}
+use Rattle.redo_log.proofs.RecordSteps.{one_sent, IsLog, leaves_log}
+use Rattle.medium.proofs.Moments.{quiet_call, quiet_leaves, joined_same}
+use Rattle.journal.specs.Places.{first_home, sectors_of}
 use Rattle.journal.specs.declared.head.Head.{Head as HeadOf}
 use Rattle.medium.specs.declared.medium_call.Call.{Call}
-use Rattle.medium.specs.declared.medium_call.Call.TheVariants as medium_call
 use Rattle.redo_log.specs.declared.turn.Turn.{Turn}
 use Rattle.redo_log.specs.declared.turn.Turn.TheVariants.{Copy, Flush, Head}
-use Rattle.medium.specs.Performed.{IsWithin, IsDone, Performed, fault_of}
-use Rattle.redo_log.specs.Turns.{begun_with, head_bytes, IsFirst, IsSecond, IsInside, ReadsBefore, IsNextTurn, MayTurn, IsTurned}
+use Rattle.medium.specs.Performed.{IsWithin, IsDone, Performed, fault_of, ReadsBefore as CallReads}
+use Rattle.redo_log.specs.Halfway.{begun_with, head_bytes, IsFirst, IsSecond, IsInside, ReadsBefore, IsNextTurn, MayTurn, IsTurned}
+use Rattle.redo_log.specs.Halfway.{StaysInImage, IsHomeTurn, flushed, copy_of, Counts, HoldsHalf, TurnBegun, TurnEnded, TellsFirst}
+use Rattle.redo_log.specs.Halfway.{TellsSecond}
 use Rattle.redo_log.specs.Value.{LogValue, of_oldest, IsRetireStepped, IsSentHome, IsAway, next_calls, next_sends, next_turn_flushes}
+use Rattle.redo_log.specs.Value.{first_kept}
 use Rattle.redo_log.specs.Held.{View, HoldsView, MayLeave, turned_of, view_retired}
-use Rattle.redo_log.specs.Halfway.{flushed, copy_of, Counts, HoldsHalf, TurnBegun, TurnEnded}
-use Rattle.redo_log.proofs.LogRules.{IsLog}
-use Rattle.redo_log.proofs.HeldLog.{one_write, dead_held, quiet_held, going_held, Stores-stays}
-use Rattle.redo_log.proofs.RetireTurns.{turn_leaves, stepped_held, sent_held, retired_held, flushed_held}
-use Rattle.redo_log.proofs.RecordSteps.{leaves_log, head_turn}
-use Rattle.medium.specs.Performed.{ReadsBefore as CallReads}
+use Rattle.redo_log.proofs.HeldLog.{shrunk_held, one_write, dead_held, quiet_held}
+use Rattle.redo_log.proofs.RetireTurns.{head_turn, turn_leaves, stepped_held, sent_held, retired_held, flushed_held}
+use Rattle.medium.specs.declared.fault.MediumFault.TheVariants as fault
+use Rattle.medium.specs.declared.medium_call.Call.TheVariants as medium_call
 
 -- a turn inside the image makes calls inside it, and reads before home
-pub first_within : (size : ℕ) (turn : Turn) (call : Call) (bytes : List ℕ) → IsFirst turn call bytes → IsInside size turn
-    → IsWithin size call
-first_within size (Copy from to kept) call bytes is inside = rw is inside.0
-first_within size Flush call bytes is inside = rw is tt
-first_within size (Head head) call bytes is inside = rw is.0 inside
+pub first_stays : (size end : ℕ) (turn : Turn) (call : Call) (bytes : List ℕ) → IsFirst turn call bytes → IsInside size turn
+    → ReadsBefore end turn → IsWithin size call × CallReads end call
+first_stays size end (Copy from to kept) call bytes is inside low = rw is (inside.0, low)
+first_stays size end Flush call bytes is inside low = rw is (tt, tt)
+first_stays size end (Head head) call bytes is inside low = rw is.0 (inside, tt)
 
-pub second_within : (size : ℕ) (turn : Turn) (had bytes : List ℕ) (call : Call) → IsSecond turn had (Some call) bytes
-    → IsInside size turn → IsWithin size call
-second_within size (Copy from to kept) had bytes call is inside = let c : call ≡ medium_call.Write to = cc (is.0) in rw c inside.1
-second_within size Flush had bytes call is inside = absurd (cc is)
-second_within size (Head head) had bytes call is inside = let c : call ≡ medium_call.Flush = cc is in rw c tt
-
-pub first_reads : (end : ℕ) (turn : Turn) (call : Call) (bytes : List ℕ) → IsFirst turn call bytes → ReadsBefore end turn
-    → CallReads end call
-first_reads end (Copy from to kept) call bytes is low = rw is low
-first_reads end Flush call bytes is low = rw is tt
-first_reads end (Head head) call bytes is low = rw is.0 tt
-
-pub second_reads : (end : ℕ) (turn : Turn) (had bytes : List ℕ) (call : Call) → IsSecond turn had (Some call) bytes
-    → CallReads end call
-second_reads end (Copy from to kept) had bytes call is = let c : call ≡ medium_call.Write to = cc (is.0) in rw c tt
-second_reads end Flush had bytes call is = absurd (cc is)
-second_reads end (Head head) had bytes call is = let c : call ≡ medium_call.Flush = cc is in rw c tt
-
--- the same contents, of which a cut leaves no more, hold the same
-pub shrunk_held : (log : LogValue) (view : View) (old new : State) → new.size ≡ old.size → Stays old.content new.content
-    → Within new.may_leave old.may_leave → HoldsView log old view → HoldsView log new view
-shrunk_held log view old new size stays within holds =
-    going_held holds log.steps_left log.retire_steps_left log.ahead log.dead new size
-    (λ ours. shrunk (MayLeave old.size log view) old new within (holds.leaves ours))
-    (λ live. Stores-stays (holds.stores live) _ _ new.content stays (omega arith) (λ i low high. low))
-    (λ live ours. shrunk _ old new within (holds.guards live ours))
+pub second_stays : (size end : ℕ) (turn : Turn) (had bytes : List ℕ) (call : Call) → IsSecond turn had (Some call) bytes
+    → IsInside size turn → IsWithin size call × CallReads end call
+second_stays size end (Copy from to kept) had bytes call is inside = let c : call ≡ medium_call.Write to = cc (is.0) in rw c (inside.1, tt)
+second_stays size end Flush had bytes call is inside = absurd (cc is)
+second_stays size end (Head head) had bytes call is inside = let c : call ≡ medium_call.Flush = cc is in rw c (tt, tt)
 
 -- the first call, made or refused, adds no more than the turn
 pub first_adds : {old : State} → IsSound old → {first : Call} {bytes had : List ℕ} {one : Result (Unit {0}) MediumFault} {mid : State}
@@ -75,47 +53,46 @@ first_adds {old} sound {mid = mid} begun (Head head) is =
     let p = rw (is.0, is.1) at begun in one_write 1 (head_bytes head.stamp) old sound mid p.passes p.adds
 
 module _ {log : LogValue} (is : IsLog log) (owed : 0 < of_oldest log) (turn : Turn)
-    (next : IsNextTurn log.shape log.head (get_or log.waiting 0 []) log.firsts (turned_of log) turn) where
+    (next : StaysInImage (IsNextTurn log.shape log.head (get_or log.waiting 0 []) log.firsts (turned_of log) turn) log.shape turn) where
   -- a block goes home, the blocks are flushed, or the head goes past the record
   which : (2 < of_oldest log) ⊎ (of_oldest log ≡ 2) ⊎ (of_oldest log ≡ 1)
   which = grind (arith, cases_lt 2 (of_oldest log), owed)
 
+  home_is : 2 < of_oldest log
+      → IsHomeTurn log.shape log.head (get_or log.waiting 0 []) (first_kept log.firsts 0 (turned_of log)) (turned_of log) turn
+  home_is away = next.next.home (omega (arith, away, is.owed_most))
+
   flush_is : of_oldest log ≡ 2 → turn ≡ Flush
-  flush_is two = next.flush (omega (arith, two))
+  flush_is two = next.next.flush (omega (arith, two))
 
   head_is : of_oldest log ≡ 1 → (h : HeadOf) × (turn ≡ Head h) × (h.stamp ≡ log.head + 1)
-  head_is one = head_turn (log.head + 1) turn (next.head (omega (arith, one)))
+  head_is one = head_turn (log.head + 1) turn (next.next.head (omega (arith, one)))
+
+  -- where the block goes that goes home
+  abbrev to_home : ℕ
+  to_home = first_home log.shape + slice_index (get_or log.waiting 0 []) (turned_of log)
 
   -- how many writes and flushes its calls are
-  module _ (first : Call) (bytes : List ℕ) (first_is : IsFirst turn first bytes) where
-    pub first_home : 2 < of_oldest log → Counts first 0 0
-    first_home away = let reads = rw (next.home (omega (arith, away, is.owed_most))) at first_is in rw reads (refl, refl)
+  first_counts : (first : Call) (bytes : List ℕ) → IsFirst turn first bytes
+      → (2 < of_oldest log → Counts first 0 0) × (of_oldest log ≡ 2 → Counts first 1 1) × (of_oldest log ≡ 1 → Counts first 1 0)
+  first_counts first bytes is = (
+    λ away. let reads = rw (home_is away) at is in rw reads (refl, refl),
+    λ two. let flush = rw (flush_is two) at is in rw flush (refl, refl),
+    λ one. let write = rw (head_is one).1 at is in rw write.0 (refl, refl),
+  )
 
-    pub first_flush : of_oldest log ≡ 2 → Counts first 1 1
-    first_flush two = let flush = rw (flush_is two) at first_is in rw flush (refl, refl)
-
-    pub first_head : of_oldest log ≡ 1 → Counts first 1 0
-    first_head one = let write = rw (head_is one).1 at first_is in rw write.0 (refl, refl)
-
-  module _ (had : List ℕ) (second : Call) (bytes : List ℕ) (second_is : IsSecond turn had (Some second) bytes) where
-    pub second_home : 2 < of_oldest log → Counts second 1 0
-    second_home away =
-        let s = rw (next.home (omega (arith, away, is.owed_most))) at second_is in
-        let to = home_of log.shape + slice_index (get_or log.waiting 0 []) (turned_of log) in
-        let call : second ≡ medium_call.Write to = cc (s.0) in rw call (refl, refl)
-
-    pub second_flush : of_oldest log ≢ 2
-    second_flush two = let none = rw (flush_is two) at second_is in cc none
-
-    pub second_head : of_oldest log ≡ 1 → Counts second 1 1
-    second_head one =
-        let s = rw (head_is one).1 at second_is in
-        let call : second ≡ medium_call.Flush = cc s in rw call (refl, refl)
+  second_counts : (had : List ℕ) (second : Call) (bytes : List ℕ) → IsSecond turn had (Some second) bytes
+      → (2 < of_oldest log → Counts second 1 0) × (of_oldest log ≢ 2) × (of_oldest log ≡ 1 → Counts second 1 1)
+  second_counts had second bytes is = (
+    λ away. let s = rw (home_is away) at is in let call : second ≡ medium_call.Write to_home = cc (s.0) in rw call (refl, refl),
+    λ two. let none = rw (flush_is two) at is in cc none,
+    λ one. let s = rw (head_is one).1 at is in let call : second ≡ medium_call.Flush = cc s in rw call (refl, refl),
+  )
 
   -- there is no second one where the blocks are flushed
   pub none_flush : (had bytes : List ℕ) → IsSecond turn had None bytes → of_oldest log ≡ 2
   none_flush had bytes none = ⊎_elim
-      (λ away. let s = rw (next.home (omega (arith, away, is.owed_most))) at none in absurd (cc (s.0)))
+      (λ away. let s = rw (home_is away) at none in absurd (cc (s.0)))
       (⊎_elim (λ two. two) (λ one. let s = rw (head_is one).1 at none in absurd (cc s))) which
 
   -- ---- the first call
@@ -123,12 +100,12 @@ module _ {log : LogValue} (is : IsLog log) (owed : 0 < of_oldest log) (turn : Tu
       {one : Result (Unit {0}) MediumFault} {mid : State} (begun : Performed first bytes had one old mid)
       (first_is : IsFirst turn first bytes) (after : IsSound mid) where
     first_cuts : (view : View) → HoldsView log old view → view.ours ≡ true → LeavesOnly (MayLeave old.size log view) old mid
-    first_cuts view hv = turn_leaves is live owed sound hv turn next mid (first_adds sound begun turn first_is)
+    first_cuts view hv = turn_leaves is live owed sound hv turn next.next mid (first_adds sound begun turn first_is)
 
     module _ (view : View) (hv : HoldsView log old view) (done : IsDone first bytes had old mid) where
       half_home : 2 < of_oldest log → HoldsView log mid view × (had ≡ mid.content (copy_of log))
       half_home away =
-          let reads : first ≡ medium_call.Read (copy_of log) = rw (next.home (omega (arith, away, is.owed_most))) at first_is in
+          let reads : first ≡ medium_call.Read (copy_of log) = rw (home_is away) at first_is in
           let p = rw reads at begun in
           let got = rw reads at done in
           (quiet_held log view old mid (quiet_call old mid p.passes p.changes p.adds) hv, got ∙ sym (p.changes (copy_of log)))
@@ -138,7 +115,7 @@ module _ {log : LogValue} (is : IsLog log) (owed : 0 < of_oldest log) (turn : Tu
       half_flush two then stepped =
           let flush = flush_is two in
           let call : first ≡ medium_call.Flush = rw flush at first_is in
-          stepped_held is live owed sound hv turn next mid (first_adds sound begun turn first_is) begun.passes.size_stays
+          stepped_held is live owed sound hv turn next.next mid (first_adds sound begun turn first_is) begun.passes.size_stays
           (rw flush (rw call at done)) then stepped
 
       half_head : of_oldest log ≡ 1 → (then : LogValue) → IsRetireStepped log then
@@ -150,11 +127,10 @@ module _ {log : LogValue} (is : IsLog log) (owed : 0 < of_oldest log) (turn : Tu
           retired_held is live owed sound hv one_left h.0 h.2 (flushed mid) then stepped
           (flushed_held is live owed sound hv one_left h.0 h.2 (flushed mid) begun.passes.size_stays wrote (λ s c same. same))
 
-    pub turn_begun : IsInside (sectors_of log.shape) turn → ReadsBefore (home_of log.shape) turn → TurnBegun log had one old mid
-    turn_begun inside reads =
-        let within = first_within (sectors_of log.shape) turn first bytes first_is inside in
-        let left = leaves_log first_cuts (begun.spares (sectors_of log.shape) within)
-        (begun.looks (home_of log.shape) (first_reads (home_of log.shape) turn first bytes first_is reads)) in
+    turn_begun : TurnBegun log had one old mid
+    turn_begun =
+        let stays = first_stays (sectors_of log.shape) (first_home log.shape) turn first bytes first_is next.inside next.reads in
+        let left = leaves_log first_cuts (begun.spares (sectors_of log.shape) stays.0) (begun.looks (first_home log.shape) stays.1) in
         let dead = λ (view : View) (hv : HoldsView log old view). dead_held hv mid after begun.passes.size_stays (first_cuts view hv) in
         record {
           leaves = left;
@@ -171,18 +147,16 @@ module _ {log : LogValue} (is : IsLog log) (owed : 0 < of_oldest log) (turn : Tu
   module _ (live : log.dead ≡ false) {mid : State} (sound : IsSound mid) {second : Call} (had : List ℕ) {bytes last : List ℕ}
       {two : Result (Unit {0}) MediumFault} {new : State} (ended : Performed second bytes last two mid new)
       (second_is : IsSecond turn had (Some second) bytes) (after : IsSound new) where
-    no_second : of_oldest log ≡ 2 → ⊥
-    no_second = second_flush had second bytes second_is
+    no_second : of_oldest log ≢ 2
+    no_second = (second_counts had second bytes second_is).1
 
     module _ (view : View) (half : HoldsHalf log had mid view) where
       home_ended : 2 < of_oldest log → MayTurn turn mid new × OnOk two (IsTurned turn mid new)
       home_ended away =
-          let copies = next.home (omega (arith, away, is.owed_most)) in
-          let s = rw copies at second_is in
-          let to = home_of log.shape + slice_index (get_or log.waiting 0 []) (turned_of log) in
-          let call : second ≡ medium_call.Write to = cc (s.0) in
+          let s = rw (home_is away) at second_is in
+          let call : second ≡ medium_call.Write to_home = cc (s.0) in
           let e = rw (call, s.1, (half.home away).1) at ended in
-          (rw copies (one_write to _ mid sound new e.passes e.adds), rw copies e.done)
+          (rw (home_is away) (one_write to_home _ mid sound new e.passes e.adds), rw (home_is away) e.done)
 
       head_ended : of_oldest log ≡ 1 → IsQuiet mid new × OnOk two (Stays mid.content new.content × Only mid.content new.may_leave)
       head_ended one_left =
@@ -193,7 +167,7 @@ module _ {log : LogValue} (is : IsLog log) (owed : 0 < of_oldest log) (turn : Tu
 
       ended_cuts : view.ours ≡ true → LeavesOnly (MayLeave mid.size log view) mid new
       ended_cuts ours = ⊎_elim
-          (λ away. turn_leaves is live owed sound (half.home away).0 turn next new (home_ended away).0 ours)
+          (λ away. turn_leaves is live owed sound (half.home away).0 turn next.next new (home_ended away).0 ours)
           (⊎_elim (λ flush. absurd (no_second flush))
           (λ one_left. quiet_leaves (MayLeave mid.size log view) mid new sound (half.dead.leaves ours) (head_ended one_left).0)) which
 
@@ -202,7 +176,7 @@ module _ {log : LogValue} (is : IsLog log) (owed : 0 < of_oldest log) (turn : Tu
           (λ away.
           let h = home_ended away in
           on_ok_weaker two
-          (λ done. stepped_held is live owed sound (half.home away).0 turn next new h.0 ended.passes.size_stays done then stepped) h.1)
+          (λ done. stepped_held is live owed sound (half.home away).0 turn next.next new h.0 ended.passes.size_stays done then stepped) h.1)
           (⊎_elim (λ flush. absurd (no_second flush))
           (λ one_left. on_ok_weaker two
           (λ done. shrunk_held then (view_retired (then.head - log.head) view) (flushed mid) new ended.passes.size_stays done.0 done.1
@@ -213,29 +187,42 @@ module _ {log : LogValue} (is : IsLog log) (owed : 0 < of_oldest log) (turn : Tu
       ended_sent away then home =
           let h = home_ended away in
           on_ok_weaker two
-          (λ done. sent_held is live owed sound (half.home away).0 turn next new h.0 ended.passes.size_stays done then away home) h.1
+          (λ done. sent_held is live owed sound (half.home away).0 turn next.next new h.0 ended.passes.size_stays done then away home) h.1
 
-    pub turn_ended : IsInside (sectors_of log.shape) turn → TurnEnded log had two mid new
-    turn_ended inside = record {
-      spares = ended.spares (sectors_of log.shape) (second_within (sectors_of log.shape) turn had bytes second second_is inside);
-      looks = ended.looks (home_of log.shape) (second_reads (home_of log.shape) turn had bytes second second_is);
-      sent = ended_sent;
-      cuts = ended_cuts;
-      dead = λ view half. dead_held half.dead new after ended.passes.size_stays (ended_cuts view half);
-      done = ended_done;
-    }
+    turn_ended : TurnEnded log had two mid new
+    turn_ended =
+        let stays = second_stays (sectors_of log.shape) (first_home log.shape) turn had bytes second second_is next.inside in record {
+          spares = ended.spares (sectors_of log.shape) stays.0;
+          looks = ended.looks (first_home log.shape) stays.1;
+          sent = ended_sent;
+          cuts = ended_cuts;
+          dead = λ view half. dead_held half.dead new after ended.passes.size_stays (ended_cuts view half);
+          done = ended_done;
+        }
 
--- whatever the second call is
-pub match_second : (turn : Turn) (had bytes : List ℕ) (call : Option Call) {P : Type 0} {Q : Call → Type 0}
-    → (IsSecond turn had None bytes → P) → ((c : Call) → IsSecond turn had (Some c) bytes → Q c) → IsSecond turn had call bytes
-    → MatchOption call P Q
-match_second turn had bytes None none some is = none is
-match_second turn had bytes (Some c) none some is = some c is
+  -- ---- the calls as `turn_first` and `turn_second` tell them
+  module _ {M : Type 0} (state : M → State) (sound : (m : M) → IsSound (state m)) where
+    pub tells_first : (call : Call) (bytes : List ℕ) → IsFirst turn call bytes → TellsFirst state log call bytes
+    tells_first call bytes first =
+        let counts = first_counts call bytes first in record {
+          inside = (first_stays (sectors_of log.shape) (first_home log.shape) turn call bytes first next.inside next.reads).0;
+          home = counts.0;
+          flush = counts.1;
+          head = counts.2;
+          law = λ m n after result on made. turn_begun on.live (sound m) made first (sound n);
+        }
 
--- what holds anyway
-on_ok_same : (result : Result (Unit {0}) MediumFault) {P : Type 0} → P → OnOk result P
-on_ok_same (Ok x) p = p
-on_ok_same (Err e) p = tt
+    pub tells_second : (had bytes : List ℕ) (call : Option Call) → IsSecond turn had call bytes
+        → MatchOption call (of_oldest log ≡ 2) (λ second. TellsSecond state log had second bytes)
+    tells_second had bytes None none = none_flush had bytes none
+    tells_second had bytes (Some call) some =
+        let counts = second_counts had call bytes some in record {
+          inside = (second_stays (sectors_of log.shape) 0 turn had bytes call some next.inside).0;
+          home = counts.0;
+          flush = counts.1;
+          head = counts.2;
+          law = λ m n after result on made. turn_ended on.live (sound m) had made some (sound n);
+        }
 
 -- ---- both calls, of which the first is good
 
@@ -244,72 +231,49 @@ module _ {log : LogValue} {had : List ℕ} {old mid new : State} (begun : TurnBe
   two_cuts : (view : View) → HoldsView log old view → view.ours ≡ true → LeavesOnly (MayLeave old.size log view) old new
   two_cuts view holds ours =
       let first = begun.leaves.cuts view holds ours in
-      let Leaves : ℕ → Type 0 = λ size. LeavesOnly (MayLeave size log view) mid new in
       joined_same (MayLeave old.size log view) old mid new first
-      (subst Leaves first.size_stays (ended.cuts view (begun.half view holds) ours))
+      (subst (λ (size : ℕ). LeavesOnly (MayLeave size log view) mid new) first.size_stays (ended.cuts view (begun.half view holds) ours))
 
   pub two_leave : LeavesLog log old new
   two_leave = leaves_log two_cuts (spared_joined (sectors_of log.shape) old mid new begun.leaves.spares ended.spares)
-      (looks_joined (λ s. s < home_of log.shape) old mid new begun.leaves.looks ended.looks)
+      (looks_joined (λ s. s < first_home log.shape) old mid new begun.leaves.looks ended.looks)
 
 -- their calls are those of the next retire step
-pub two_counts : (log : LogValue) → 0 < of_oldest log → (first second : Call) → (2 < of_oldest log → Counts first 0 0)
-    → (of_oldest log ≡ 1 → Counts first 1 0) → (2 < of_oldest log → Counts second 1 0) → of_oldest log ≢ 2
-    → (of_oldest log ≡ 1 → Counts second 1 1) → {old mid new : State} {two : Result (Unit {0}) MediumFault}
-    → Passes (fault_of first) (Ok tt) old mid → Passes (fault_of second) two mid new
-    → CountsStep (next_calls log) (next_sends log) (next_turn_flushes log) two old new
-two_counts log owed first second home head home_then some head_then {old} {mid} {new} {two} a b =
-    let one = one_sent first old mid a in
-    let other = one_sent second mid new b in
-    let calls : new.calls ≡ old.calls + next_calls log = grind (arith, owed, some, a.calls_are, b.calls_are) in
-    let sends : sent new ≡ sent old + next_sends log = grind (
-      arith,
-      owed,
-      some,
-      cases_lt 2 (of_oldest log),
-      home,
-      head,
-      home_then,
-      head_then,
-      one.0,
-      other.0,
-    ) in
-    let flushes : new.made fault.Flush ≡ old.made fault.Flush + next_turn_flushes log = grind (
-      arith,
-      owed,
-      some,
-      cases_lt 2 (of_oldest log),
-      home,
-      head,
-      home_then,
-      head_then,
-      one.1,
-      other.1,
-    ) in
-    let two_calls : new.calls ≤ old.calls + 2 = omega (arith, a.calls_are, b.calls_are) in
-    record {
-      two = two_calls;
-      most = omega (arith, calls);
-      exact = on_ok_same two calls;
-      sent = omega (arith, sends);
-      flushed = record { later = omega (arith, flushes); most = omega (arith, flushes); exact = on_ok_same two flushes };
-    }
+module _ {M : Type 0} {state : M → State} {log : LogValue} (owed : 0 < of_oldest log) {first : Call} {bytes : List ℕ}
+    (f : TellsFirst state log first bytes) where
+  pub two_counts : {second : Call} {had with : List ℕ} → TellsSecond state log had second with
+      → {old mid new : State} {two : Result (Unit {0}) MediumFault}
+      → Passes (fault_of first) (Ok tt) old mid → Passes (fault_of second) two mid new
+      → CountsStep (next_calls log) (next_sends log) (next_turn_flushes log) two old new
+  two_counts {second} s {old} {mid} {new} {two} a b =
+      let one = one_sent first old mid a in
+      let other = one_sent second mid new b in
+      let which = cases_lt 2 (of_oldest log) in
+      let calls : new.calls ≡ old.calls + next_calls log = grind (arith, owed, s.flush, a.calls_are, b.calls_are) in
+      let sends : (sent new ≡ sent old + next_sends log) × (new.made fault.Flush ≡ old.made fault.Flush + next_turn_flushes log) =
+      grind (arith, owed, which, f.home, f.head, s.home, s.flush, s.head, one, other) in
+      record {
+        two = omega (arith, a.calls_are, b.calls_are);
+        most = omega (arith, calls);
+        exact = grind (arith, calls);
+        sent = omega (arith, sends);
+        flushed = record { later = omega (arith, sends); most = omega (arith, sends); exact = grind (arith, sends) };
+      }
 
--- a refused first call is no more than they are
-pub refused_counts : (log : LogValue) → 0 < of_oldest log → (first : Call) → (2 < of_oldest log → Counts first 0 0)
-    → (of_oldest log ≡ 2 → Counts first 1 1) → (of_oldest log ≡ 1 → Counts first 1 0) → {old new : State} {e : MediumFault}
-    → Passes (fault_of first) (Err e) old new
-    → CountsStep {X = Unit {0}} (next_calls log) (next_sends log) (next_turn_flushes log) (Err e) old new
-refused_counts log owed first home flush head {old} {new} a =
-    let one = one_sent first old new a in
-    record {
-      two = omega (arith, a.calls_are);
-      most = grind (arith, owed, a.calls_are);
-      exact = tt;
-      sent = grind (arith, owed, cases_lt 2 (of_oldest log), home, flush, head, one.0);
-      flushed = record {
-        later = omega (arith, one.1);
-        most = grind (arith, owed, cases_lt 2 (of_oldest log), home, flush, head, one.1);
+  -- a refused first call is no more than they are
+  pub refused_counts : {old new : State} {e : MediumFault} → Passes (fault_of first) (Err e) old new
+      → CountsStep {X = Unit {0}} (next_calls log) (next_sends log) (next_turn_flushes log) (Err e) old new
+  refused_counts {old} {new} a =
+      let one = one_sent first old new a in
+      let which = cases_lt 2 (of_oldest log) in
+      record {
+        two = omega (arith, a.calls_are);
+        most = grind (arith, owed, a.calls_are);
         exact = tt;
-      };
-    }
+        sent = grind (arith, owed, which, f.home, f.flush, f.head, one.0);
+        flushed = record {
+          later = omega (arith, one.1);
+          most = grind (arith, owed, which, f.home, f.flush, f.head, one.1);
+          exact = tt;
+        };
+      }

@@ -1,9 +1,7 @@
 pub mod Held
 pub mod Index
-pub mod Leaving
 pub mod Value
 pub mod Calls
-pub mod Turns
 pub mod Shown
 pub mod Steps
 pub mod Halfway

@@ -6,7 +6,7 @@ ghost use Rattle.redo_log.specs.Held.{turned_of};
 ghost use Rattle.redo_log.specs.Shown.{shown, Invariant};
 ghost use Rattle.redo_log.specs.declared.log.Log.TheInside.{Inside};
 ghost use Rattle.redo_log.specs.Steps.{CountsStep, IsOn, BringsOn, StaysSent};
-ghost use Rattle.redo_log.specs.Turns.{StaysInImage, IsNextTurn};
+ghost use Rattle.redo_log.specs.Halfway.{StaysInImage, IsNextTurn};
 ghost use Rattle.redo_log.specs.Halfway.{TellsFirst, TellsSecond};
 
 use crate::Log;

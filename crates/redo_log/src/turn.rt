@@ -2,8 +2,8 @@
 ghost use Rattle.std.specs.Prelude.{◌≡◌, ◌≤◌, ◌<◌, ◌+◌, ◌-◌, ◌*◌, ◌^◌, length};
 ghost use Rattle.journal.specs.Formats.{shape_of};
 ghost use Rattle.redo_log.specs.Shown.{IsRecord, lists_of};
-ghost use Rattle.redo_log.specs.Turns.{IsFirst, IsSecond};
-ghost use Rattle.redo_log.specs.Turns.{StaysInImage, IsHomeTurn, IsHeadTurn, IsNextTurn};
+ghost use Rattle.redo_log.specs.Halfway.{IsFirst, IsSecond};
+ghost use Rattle.redo_log.specs.Halfway.{StaysInImage, IsHomeTurn, IsHeadTurn, IsNextTurn};
 ghost use Rattle.redo_log.specs.Value.{first_kept};
 
 use crate::firsts::first_kept;

@@ -1,16 +1,9 @@
-use Rattle.std.proofs.Common.{◌≡◌, ◌≤◌, ◌-◌, length, take, drop}
-use Rattle.std.specs.List.{filter}
-use Rattle.redo_log.specs.Leaving.{is_outside}
+use Rattle.std.proofs.Common.{◌≤◌, ◌-◌}
+use Rattle.redo_log.proofs.LeavingIndex.{AreSeen}
 use Rattle.redo_log.proofs.index.keep_others.Given as goal
 
 abbrev pub invariant-loop-at : goal.invariant-loop-at
-invariant-loop-at l = record {
-  kept : take l.to l.index ≡ filter (is_outside l.slot) (take l.at l.fn.index);
-  rest : drop l.at l.index ≡ drop l.at l.fn.index;
-  behind : l.to ≤ l.at;
-  inside : l.at ≤ l.end;
-  size : length l.index ≡ length l.fn.index;
-}
+invariant-loop-at l = record { seen : AreSeen l.slot l.fn.index l.to l.at l.index; inside : l.at ≤ l.end }
 
 abbrev pub decreases-loop-at : goal.decreases-loop-at
 decreases-loop-at l = l.end - l.at

@@ -1,16 +1,10 @@
 use Rattle.std.proofs.Common.{length, arith}
 use Rattle.std.proofs.lemmas.List.{take_all}
 use Rattle.std.proofs.lemmas.List.Kept.{AllPairs-filter}
-use Rattle.redo_log.specs.Leaving.{is_outside}
+use Rattle.redo_log.specs.Index.{is_outside}
 use Rattle.redo_log.proofs.SortedIndex.{Above, look_filter}
 use Rattle.redo_log.proofs.LeavingIndex.{front_outside, back_outside, places_rise, kept_others}
 use Rattle.redo_log.proofs.index.part.Goals as goal
-
-pub below-from-requires-clause-sorted : goal.below-from-requires-clause-sorted
-below-from-requires-clause-sorted c = rw (take_all (length c.args.index.now) c.args.index.now (omega arith)) c.requires.sorted
-
-pub below-end-requires-clause-sorted : goal.below-end-requires-clause-sorted
-below-end-requires-clause-sorted c = rw (take_all (length c.args.index.now) c.args.index.now (omega arith)) c.requires.sorted
 
 pub keep_others-requires : goal.keep_others-requires
 keep_others-requires c =

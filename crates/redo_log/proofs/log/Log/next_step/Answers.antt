@@ -7,8 +7,8 @@ use Rattle.redo_log.specs.Calls.{IsNextCall}
 use Rattle.medium.specs.Performed.{IsWithin}
 use Rattle.redo_log.specs.Held.{made_of}
 use Rattle.redo_log.specs.Shown.{shown, lists_of}
-use Rattle.redo_log.proofs.StepCalls.{step_called, within_more}
-use Rattle.redo_log.proofs.LogRules.{log_is, many_lists}
+use Rattle.redo_log.proofs.StoreFacts.{step_called}
+use Rattle.redo_log.proofs.RecordSteps.{within_more, log_is, many_lists}
 use Rattle.redo_log.proofs.log.Log.next_step.Goals as goal
 
 pub returns : goal.returns
