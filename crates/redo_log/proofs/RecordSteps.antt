@@ -1,6 +1,6 @@
 -- What is true of every log, as a caller sees it, how its records come and go, and the calls of the record under way.
 use Rattle.std.proofs.Common.{◌≡◌, ◌⊎◌, ℕ, ◌+◌, ◌-◌, ◌%◌, ◌<◌, List, [], ◌∷◌, ◌++◌, length, drop, sym, ◌∙◌, arith, rules, ◌≢◌, suc, ◌*◌}
-use Rattle.std.proofs.Common.{◌≤◌, get_or, refl, ap, zero, Result, inl, inr}
+use Rattle.std.proofs.Common.{◌≤◌, get_or, refl, ap, zero, Result}
 use Rattle.std.proofs.Math.ListN.{set}
 use Rattle.std.proofs.Math.Seq.{set-append_seam}
 use Rattle.std.proofs.Math.Nat.{mod-add-mod, mod-eq-sub-mod, mod-eq_of_lt, mul-le-mul_left}
@@ -22,7 +22,7 @@ use Rattle.redo_log.specs.declared.log.Log.TheInside.{Inside}
 use Rattle.redo_log.specs.Held.{needed_of, made_of, turned_of, View, HoldsView, MayLeave}
 use Rattle.journal.specs.declared.log_format.LogFormat.{LogFormat}
 use Rattle.journal.specs.Layout.{Layout}
-use Rattle.redo_log.specs.Calls.{IsFlushDue, IsNextCall}
+use Rattle.redo_log.specs.Halfway.{IsFlushDue, IsNextCall}
 use Rattle.medium.specs.declared.medium_call.Call.{Call}
 use Rattle.medium.specs.Performed.{fault_of, IsWithin, ReadsBefore, sends_of, flushes_of}
 use Rattle.medium.specs.Medium.{State, Passes, LooksOnly}
@@ -271,8 +271,4 @@ few_sends call = grind arith
 -- the next call of a record is no read
 pub reads_nothing : (L : Layout) (shape : Shape) (stamp : ℕ) (entries : List Entry) (made : ℕ) (call : Call) (sector : List ℕ)
     → IsNextCall L shape stamp entries made call sector → (end : ℕ) → ReadsBefore end call
-reads_nothing L shape stamp entries made call sector next end =
-    elim (due_or_not L (length entries) made) [
-      | inl due ↦ rw (next.0 due) tt
-      | inr not ↦ let writes = next.1 not in rw writes.0 tt
-    ]
+reads_nothing L shape stamp entries made call sector next end = grind (arith, due_or_not L (length entries) made, next)

@@ -19,8 +19,7 @@ use Rattle.journal.proofs.Engine.{IsWholeIn-same, IsKept, kept_home, kept_head}
 use Rattle.redo_log.specs.declared.turn.Turn.{Turn}
 use Rattle.redo_log.specs.declared.turn.Turn.TheVariants.{Copy, Flush, Head}
 use Rattle.redo_log.specs.Value.{LogValue, Ahead, IsSentHome, IsRetireStepped, of_oldest, ahead_of, settled}
-use Rattle.redo_log.specs.Calls.{WritesOnly}
-use Rattle.redo_log.specs.Halfway.{head_bytes, MayTurn, IsTurned, IsNextTurn, IsHeadTurn}
+use Rattle.redo_log.specs.Halfway.{WritesOnly, head_bytes, MayTurn, IsTurned, IsNextTurn, IsHeadTurn}
 use Rattle.redo_log.specs.Held.{View, with_record, view_retired, made_of, turned_of, needed_of, image_view, MayLeave, Safe, AreHome}
 use Rattle.redo_log.specs.Held.{HasHead, IsGuarded, HoldsView}
 use Rattle.redo_log.proofs.HeldLog.{moments_have, Stands, hides_behind, front, has_before, guard_logged, newest, with_newest, same_head}
@@ -211,7 +210,8 @@ module _ {log : LogValue} (is : IsLog log) (live : log.dead ≡ false) (owed : 0
       pub sent_held : 2 < of_oldest log → IsSentHome log then → HoldsView then new view
       sent_held below home =
           let then : LogValue = record log { retire_steps_left = log.retire_steps_left - 1; ahead = ahead_of log } in
-          let ahead = λ (last : of_oldest log ≡ 3). home_held below (ahead_of log) (λ one. omega (arith, needed_one then one, last)) same_size done in
+          let ahead = λ (last : of_oldest log ≡ 3).
+          home_held below (ahead_of log) (λ one. omega (arith, needed_one then one, last)) same_size done in
           grind (arith, cases_lt 3 (of_oldest log), home.more, home.last, ahead, goes_home below)
 
       sent_head : 2 < of_oldest log → IsSentHome log then → then.head ≡ log.head

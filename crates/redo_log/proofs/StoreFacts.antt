@@ -13,8 +13,8 @@ use Rattle.journal.specs.Standing.{Keeps, IsOurs}
 use Rattle.journal.proofs.BatchEntries.{numbers_of_batch, length_of_batch, sized_batch}
 use Rattle.journal.proofs.Engine.{rests_found, Guarded-lost, Guarded-write, Stored-write, other_written, Stored-durable, carries_below}
 use Rattle.journal.proofs.Formats.{laws_of}
-use Rattle.redo_log.specs.Value.{LogValue, HasRoom, IsCovered, retire_steps_of, behind_oldest, idle_from, begun, died, settled}
-use Rattle.redo_log.specs.Value.{IsBatch, steps_of, steps_for, IsStepped}
+use Rattle.redo_log.specs.Value.{LogValue, HasRoom, IsCovered, retire_steps_of, behind_oldest, idle_from, begun, died, settled, IsBatch}
+use Rattle.redo_log.specs.Value.{steps_of, steps_for, IsStepped}
 use Rattle.redo_log.specs.Shown.{flush_of}
 use Rattle.redo_log.specs.Held.{View, resting_view, IsStored, IsGuarded, HasNoRecord, with_begun, made_of, turned_of, needed_of, MayLeave}
 use Rattle.redo_log.specs.Held.{Safe, with_passed, image_view, HoldsView, with_record, view_stepped, written_of, HasDurable, HasHead}
@@ -34,7 +34,7 @@ use Rattle.journal.specs.Layout.{Layout, part_at, IsRecordOf}
 use Rattle.journal.specs.Formats.{layout_of}
 use Rattle.redo_log.specs.declared.progress.Progress.{Progress}
 use Rattle.redo_log.specs.declared.progress.Progress.TheVariants.{More, Durable}
-use Rattle.redo_log.specs.Calls.{MakesNext, IsNextCall, IsFlushDue}
+use Rattle.redo_log.specs.Halfway.{MakesNext, IsNextCall, IsFlushDue}
 use Rattle.medium.specs.declared.medium_call.Call.TheVariants.{Write, Flush}
 use Rattle.medium.specs.Performed.{IsDone, IsWithin, Performed}
 use Rattle.medium.specs.declared.medium_call.Call.{Call}

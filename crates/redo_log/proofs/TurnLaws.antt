@@ -1,6 +1,6 @@
 -- The calls of a turn, one by one: what each leaves of the log and its medium, and how they are told.
 use Rattle.std.proofs.Common.{subst, ◌≡◌, ◌⊎◌, inl, ⊎_elim, ℕ, ◌+◌, ◌-◌, ◌<◌, List, [], get_or, Some, None, Option, MatchOption, Result, Ok}
-use Rattle.std.proofs.Common.{Err, OnOk, refl, ◌≢◌, true, false, sym, ◌∙◌, arith, slice_index}
+use Rattle.std.proofs.Common.{Err, OnOk, ◌≢◌, true, false, sym, ◌∙◌, arith, slice_index}
 use Rattle.std.proofs.lemmas.Bool.{cases_lt}
 use Rattle.std.proofs.lemmas.Result.{on_ok_weaker}
 use Rattle.medium.specs.Medium.{State, IsSound, Stays, Only, Passes}
@@ -32,15 +32,11 @@ use Rattle.medium.specs.declared.medium_call.Call.TheVariants as medium_call
 -- a turn inside the image makes calls inside it, and reads before home
 pub first_stays : (size end : ℕ) (turn : Turn) (call : Call) (bytes : List ℕ) → IsFirst turn call bytes → IsInside size turn
     → ReadsBefore end turn → IsWithin size call × CallReads end call
-first_stays size end (Copy from to kept) call bytes is inside low = rw is (inside.0, low)
-first_stays size end Flush call bytes is inside low = rw is (tt, tt)
-first_stays size end (Head head) call bytes is inside low = rw is.0 (inside, tt)
+first_stays size end turn call bytes is inside low = grind (arith, is, inside, low)
 
 pub second_stays : (size end : ℕ) (turn : Turn) (had bytes : List ℕ) (call : Call) → IsSecond turn had (Some call) bytes
     → IsInside size turn → IsWithin size call × CallReads end call
-second_stays size end (Copy from to kept) had bytes call is inside = let c : call ≡ medium_call.Write to = cc (is.0) in rw c (inside.1, tt)
-second_stays size end Flush had bytes call is inside = absurd (cc is)
-second_stays size end (Head head) had bytes call is inside = let c : call ≡ medium_call.Flush = cc is in rw c (tt, tt)
+second_stays size end turn had bytes call is inside = grind (arith, is, inside)
 
 -- the first call, made or refused, adds no more than the turn
 pub first_adds : {old : State} → IsSound old → {first : Call} {bytes had : List ℕ} {one : Result (Unit {0}) MediumFault} {mid : State}
@@ -75,19 +71,11 @@ module _ {log : LogValue} (is : IsLog log) (owed : 0 < of_oldest log) (turn : Tu
   -- how many writes and flushes its calls are
   first_counts : (first : Call) (bytes : List ℕ) → IsFirst turn first bytes
       → (2 < of_oldest log → Counts first 0 0) × (of_oldest log ≡ 2 → Counts first 1 1) × (of_oldest log ≡ 1 → Counts first 1 0)
-  first_counts first bytes is = (
-    λ away. let reads = rw (home_is away) at is in rw reads (refl, refl),
-    λ two. let flush = rw (flush_is two) at is in rw flush (refl, refl),
-    λ one. let write = rw (head_is one).1 at is in rw write.0 (refl, refl),
-  )
+  first_counts first bytes is = grind (arith, home_is, flush_is, head_is, is)
 
   second_counts : (had : List ℕ) (second : Call) (bytes : List ℕ) → IsSecond turn had (Some second) bytes
       → (2 < of_oldest log → Counts second 1 0) × (of_oldest log ≢ 2) × (of_oldest log ≡ 1 → Counts second 1 1)
-  second_counts had second bytes is = (
-    λ away. let s = rw (home_is away) at is in let call : second ≡ medium_call.Write to_home = cc (s.0) in rw call (refl, refl),
-    λ two. let none = rw (flush_is two) at is in cc none,
-    λ one. let s = rw (head_is one).1 at is in let call : second ≡ medium_call.Flush = cc s in rw call (refl, refl),
-  )
+  second_counts had second bytes is = grind (arith, home_is, flush_is, head_is, is)
 
   -- there is no second one where the blocks are flushed
   pub none_flush : (had bytes : List ℕ) → IsSecond turn had None bytes → of_oldest log ≡ 2

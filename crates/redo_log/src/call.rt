@@ -6,7 +6,7 @@ ghost use Rattle.journal.specs.Layout.{part_at};
 ghost use Rattle.journal.specs.Record.{entries_of};
 ghost use Rattle.redo_log.specs.Shown.{IsRecord, written_at};
 ghost use Rattle.medium.specs.Performed.{IsWithin};
-ghost use Rattle.redo_log.specs.Calls.{IsNextCall};
+ghost use Rattle.redo_log.specs.Halfway.{IsNextCall};
 
 use journal::{LogFormat, Super, early, parts, slot_of, slot_place, write_part};
 use medium::Call;

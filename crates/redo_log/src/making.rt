@@ -1,5 +1,5 @@
 //! The calls that a log makes of its medium.
-ghost use Rattle.redo_log.specs.Calls.{CanMake, Makes};
+ghost use Rattle.redo_log.specs.Halfway.{CanMake, Makes};
 
 use medium::{Call, Medium, MediumFault};
 

@@ -3,7 +3,7 @@ use Rattle.std.proofs.lemmas.Bool.Decides.{nat_tests}
 use Rattle.journal.specs.Formats.{layout_of}
 use Rattle.journal.specs.Places.{first_home, sectors_of}
 use Rattle.journal.specs.Record.{entries_of}
-use Rattle.redo_log.specs.Calls.{IsNextCall}
+use Rattle.redo_log.specs.Halfway.{IsNextCall}
 use Rattle.medium.specs.Performed.{IsWithin}
 use Rattle.redo_log.specs.Held.{made_of}
 use Rattle.redo_log.specs.Shown.{shown, lists_of}
