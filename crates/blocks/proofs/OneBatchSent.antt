@@ -3,25 +3,25 @@ use Rattle.std.proofs.Common.{◌≡◌, ◌≤◌, ◌+◌, Bool, subst, arith}
 use Rattle.medium.specs.Medium.{State}
 use Rattle.medium.specs.Sent.{sent}
 use Rattle.redo_log.specs.Value.{LogValue, most_steps, most_retire_sends}
-use Rattle.blocks.specs.Retiring.{IsRoomy}
+use Rattle.blocks.specs.Prepared.{IsPrepared}
 use Rattle.blocks.specs.OneBatch.{SendsOneBatch}
 
 module _ (ahead : Bool) (before : State) (log : LogValue) where
   -- nothing was sent
   pub none_sent : (after : State) → sent after ≡ sent before → SendsOneBatch ahead before after log
-  none_sent after same = record { most = omega (arith, same); roomy = λ roomy. omega (arith, same) }
+  none_sent after same = record { most = omega (arith, same); prepared = λ prepared. omega (arith, same) }
 
   -- a record alone
   pub record_sent : (after : State) → sent after ≤ sent before + most_steps log.shape.format → SendsOneBatch ahead before after log
-  record_sent after few = record { most = omega (arith, few); roomy = λ roomy. few }
+  record_sent after few = record { most = omega (arith, few); prepared = λ prepared. few }
 
   -- room for it, and then its record
   pub room_sent : (mid after : State) → sent mid ≤ sent before + most_retire_sends log.shape.format
-      → (IsRoomy ahead log → sent mid ≡ sent before) → sent after ≤ sent mid + most_steps log.shape.format
+      → (IsPrepared ahead log → sent mid ≡ sent before) → sent after ≤ sent mid + most_steps log.shape.format
       → SendsOneBatch ahead before after log
   room_sent mid after room quiet few = record {
     most = omega (arith, room, few);
-    roomy = λ roomy. let same = quiet roomy in omega (arith, same, few);
+    prepared = λ prepared. let same = quiet prepared in omega (arith, same, few);
   }
 
 -- the same of a store and a medium that are as they were before

@@ -1,6 +1,6 @@
 -- How room is made in the ring, and what that and a batch that becomes durable cost: calls, writes and flushes.
 use Rattle.std.specs.Prelude.{ℕ, suc, zero, List, length, nat_lt, Bool, if◌then◌else◌, []}
-use Rattle.std.proofs.Common.{◌≡◌, ◌⊎◌, ◌<◌, ◌≤◌, ◌+◌, ◌-◌, arith, refl, inl, []}
+use Rattle.std.proofs.Common.{◌≡◌, ◌⊎◌, ◌<◌, ◌≤◌, ◌+◌, ◌-◌, arith, refl, inl, inr, []}
 use Rattle.std.proofs.lemmas.Bool.Decides.{nat_tests}
 use Rattle.journal.specs.declared.log_format.LogFormat.TheVariants.{Two}
 use Rattle.journal.specs.Places.{limit_of}
@@ -12,6 +12,7 @@ use Rattle.blocks.specs.Flushing.{left_flushes, room_flushes, finish_flushes, bo
 use Rattle.blocks.specs.Retiring.{oldest_retired, with_room, written_out, finished_with, finish_calls, ready_calls, HasSlots, made_ready}
 use Rattle.blocks.specs.Retiring.{both_calls, record_calls, calls_from, to_begin, with_spare, room_calls}
 use Rattle.blocks.specs.Ahead.{passed, sent_home, passed_calls, sent_calls, ahead_room, ahead_room_calls, gone_home, going_calls}
+use Rattle.blocks.specs.Prepared.{NeedsNoneAhead}
 use Rattle.blocks.specs.StoreValue.{wants}
 
 -- ---- a count of calls, by how many each step makes
@@ -230,3 +231,13 @@ module _ {old mid : LogValue} {calls calls' sends sends' : ℕ} (so_far : GoesHo
 
   pub all_sends : sends_of_oldest old ≤ most_retire_sends old.shape.format → sends' ≤ sends + limit_of old.shape.format
   all_sends few = grind (arith, nat_tests, rest)
+
+-- where nothing is to be done ahead nothing is done, by no call
+pub record DoesNoneAhead (log : LogValue) : Type 0 where
+  pub is : sent_home (passed log) ≡ log
+  pub passing : passed_calls log ≡ 0
+  pub sending : sent_calls (passed log) ≡ 0
+
+pub none_ahead : (log : LogValue) → NeedsNoneAhead log → DoesNoneAhead log
+none_ahead log (inl slots) = grind (arith, nat_tests, slots)
+none_ahead log (inr rests) = grind (arith, nat_tests, rests.counted, rests.past, rests.home)

@@ -1,6 +1,6 @@
 -- How many calls of the medium a read of a store makes, and what a write does to the batches.
 use Rattle.std.specs.Prelude.{◌≡◌, ℕ, ◌+◌, ◌*◌, zero, suc, Bool, true, false, []}
-use Rattle.std.specs.Prelude.{◌≤◌, if◌then◌else◌, Result, OnOk, is_ok}
+use Rattle.std.specs.Prelude.{◌≤◌, if◌then◌else◌, Result, OnOk, is_ok, IsOk}
 use Rattle.medium.specs.Medium.{State}
 use Rattle.medium.specs.Sent.{SendsUpTo}
 use Rattle.medium.specs.declared.fault.MediumFault.TheVariants.{Flush}
@@ -89,6 +89,7 @@ pub record WritesAlone {M A : Type 0} (state : M → State) (Follows : M → M �
     : Type 0 where
   pub passes : PassesOn state Follows (IsWriteTurn write (is_ok result)) (2 * steps_left old.cached)
       (batch_sends old.cached) old new
+  pub quiet : old.cached.frozen.numbers ≡ [] → (new.medium ≡ old.medium) × IsOk result
   pub answers : Answers result old new
   pub batches : WritesRange old.goes_ahead result address count old.cached new.cached
 

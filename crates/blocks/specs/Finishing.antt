@@ -9,8 +9,9 @@ use Rattle.blocks.specs.declared.fault.StoreFault.{StoreFault}
 use Rattle.blocks.specs.StoreValue.{Cached, StoreValue, layout_of, active_of, unwritten, wants}
 use Rattle.blocks.specs.StoreValue.{steps_left}
 use Rattle.blocks.specs.OneBatch.{SendsOneBatch}
+use Rattle.blocks.specs.Prepared.{IsPrepared}
 use Rattle.blocks.specs.Passing.{MayEmpty, PassesPaid, TellsLife, Answers}
-use Rattle.blocks.specs.Retiring.{RetiresForRoom, finished, made_ready, written_out, IsRoomy}
+use Rattle.blocks.specs.Retiring.{RetiresForRoom, finished, made_ready, written_out}
 use Rattle.blocks.specs.Retiring.{HasSlots, with_spare, to_begin, record_calls, calls_from}
 use Rattle.blocks.specs.Retiring.{both_calls, ready_calls, room_calls}
 use Rattle.blocks.specs.Steady.{IsSteady, IsFilling, IsFuller, steady_calls}
@@ -49,7 +50,7 @@ pub record MakesRoom {M : Type 0} (ahead : Bool) (result : Answer) (old new : St
   pub retires : RetiresForRoom ahead old.cached.log new.cached.log
   pub room : OnOk result (HasRoom new.cached.log)
   pub made : OnOk result (new.cached.log ≡ made_ready ahead old.cached.log)
-  pub quiet : IsRoomy ahead old.cached.log → new.medium ≡ old.medium
+  pub quiet : IsPrepared ahead old.cached.log → new.medium ≡ old.medium
   pub active : new.cached.active ≡ old.cached.active
   pub frozen : new.cached.frozen ≡ old.cached.frozen
 

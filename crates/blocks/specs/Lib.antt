@@ -12,6 +12,7 @@ pub mod Looks
 pub mod OneBatch
 pub mod Opening
 pub mod Passing
+pub mod Prepared
 pub mod Reads
 pub mod Retiring
 pub mod Sent

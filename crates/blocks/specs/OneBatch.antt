@@ -3,11 +3,11 @@ use Rattle.std.specs.Prelude.{Bool}
 use Rattle.medium.specs.Medium.{State}
 use Rattle.medium.specs.Sent.{SendsUpTo}
 use Rattle.redo_log.specs.Value.{LogValue, most_steps}
-use Rattle.blocks.specs.Retiring.{IsRoomy}
+use Rattle.blocks.specs.Prepared.{IsPrepared}
 use Rattle.blocks.specs.Sent.{most_sent}
 
--- At most those of one batch: 103 in format 1, and 493 in format 2. Where nothing is retired for
--- its record, those of the record alone: 52, and 250.
+-- At most those of one batch: 103 in format 1, and 493 in format 2. Where no call is made for the
+-- room of its record, those of the record alone: 52, and 250.
 pub record SendsOneBatch (ahead : Bool) (before after : State) (log : LogValue) : Type 0 where
   pub most : SendsUpTo (most_sent log.shape.format) before after
-  pub roomy : IsRoomy ahead log → SendsUpTo (most_steps log.shape.format) before after
+  pub prepared : IsPrepared ahead log → SendsUpTo (most_steps log.shape.format) before after

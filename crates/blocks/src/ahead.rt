@@ -1,12 +1,12 @@
 //! What a store does ahead of the flush of the record that it is about to begin.
-ghost use Rattle.std.specs.Prelude.{◌≡◌, ◌+◌, false};
+ghost use Rattle.std.specs.Prelude.{◌≡◌, ◌↔◌, ◌+◌, false, IsTrue};
 ghost use Rattle.journal.specs.Places.{limit_of};
 ghost use Rattle.redo_log.specs.Value.{IsAway};
 ghost use Rattle.blocks.specs.StoreValue.{layout_of, is_dead};
 ghost use Rattle.blocks.specs.Passing.{PassesPaid};
 ghost use Rattle.blocks.specs.Ahead.{counted, gone_home, going_calls, passed, passed_calls};
 ghost use Rattle.blocks.specs.Ahead.{sent_home, sent_calls};
-ghost use Rattle.blocks.specs.Retiring.{HasSlots};
+ghost use Rattle.blocks.specs.Prepared.{NeedsNoneAhead};
 ghost use Rattle.blocks.specs.Background.{SettlesFlush, GoesPast, GoesHome, GoesAhead};
 
 use crate::{Store, StoreFault};
@@ -68,9 +68,21 @@ impl<M: Medium> Store<M> {
         Ok(())
     }
 
+    /// Whether nothing is to be done ahead of the next record: three slots are free, or no block of
+    /// the oldest record is away, and no flush lets the head go past it.
+    pub(crate) fn needs_none_ahead(&self) -> bool
+        ensures { IsTrue result ↔ NeedsNoneAhead self.now.cached.log }
+    {
+        if self.log.has_slots(3) {
+            return true;
+        }
+        !self.log.is_covered() && !self.log.can_pass() && !self.log.is_away()
+    }
+
     /// Makes a flush of the next record stand for those that retiring its oldest one would make:
     /// where fewer slots are free than three, the head goes past that record, if it is flushed at
-    /// home, and where they are still fewer, the oldest one goes home.
+    /// home, and where they are still fewer, the oldest one goes home. Nothing is done where that is
+    /// done already.
     pub(crate) fn go_ahead(&mut self) -> Result<(), StoreFault>
         requires live { is_dead self.old.cached ≡ false }
         requires idle { self.old.cached.log.steps_left ≡ 0 }
@@ -79,9 +91,9 @@ impl<M: Medium> Store<M> {
         ensures going { GoesAhead result (sent_home (passed self.old.cached.log))
             (passed_calls self.old.cached.log + sent_calls (passed self.old.cached.log)) 1
             (M.state self.old.medium) (M.state self.new.medium) self.old.cached self.new.cached }
-        ensures rests { HasSlots 3 self.old.cached.log → self.new ≡ self.old }
+        ensures rests { NeedsNoneAhead self.old.cached.log → self.new ≡ self.old }
     {
-        if self.log.has_slots(3) {
+        if self.needs_none_ahead() {
             return Ok(());
         }
         self.count_flush();

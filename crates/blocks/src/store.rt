@@ -1,5 +1,6 @@
 //! What a store is made of.
-ghost use Rattle.std.specs.Prelude.{◌≡◌, ◌↔◌, ◌<◌, ◌≤◌, ◌+◌, ◌/◌, ℕ, true, false, length, IsTrue};
+ghost use Rattle.std.specs.Prelude.{◌≡◌, ◌↔◌, ◌<◌, ◌≤◌, ◌+◌, ◌/◌, ℕ, true, false, []};
+ghost use Rattle.std.specs.Prelude.{length, IsTrue};
 ghost use Rattle.medium.specs.Inlet.{AreHeld};
 ghost use Rattle.medium.specs.Moments.{EachCut};
 ghost use Rattle.journal.specs.Places.{first_home, sectors_of};
@@ -9,6 +10,7 @@ ghost use Rattle.blocks.specs.StoreValue.{blocks_of, layout_of, transfer_limit, 
 ghost use Rattle.blocks.specs.StoreValue.{steps_left, HasLimits, FitsBook};
 ghost use Rattle.blocks.specs.Settled.{IsSettled};
 ghost use Rattle.blocks.specs.Passing.{IsUntouched};
+ghost use Rattle.blocks.specs.Prepared.{IsPrepared, IsTakenAtOnce};
 ghost use Rattle.blocks.specs.Written.{IsWritten};
 
 use cache::{Batch, Frozen};
@@ -104,6 +106,38 @@ impl<M: Medium> Store<M> {
         ensures { IsTrue result ↔ IsWritten self.now.cached }
     {
         self.is_dead() || (self.active.is_empty() && self.frozen.is_empty())
+    }
+
+    /// Whether the frozen batch is empty: a write that does not fit beside the active one makes no
+    /// call of the medium then.
+    pub fn has_free_batch(&self) -> bool
+        ensures { IsTrue result ↔ (self.now.cached.frozen.numbers ≡ []) }
+    {
+        self.frozen.is_empty()
+    }
+
+    /// Whether a write of `count` blocks from an address on, all of the store, makes no call of the
+    /// medium.
+    pub fn takes_at_once(&self, address: u64, count: usize) -> bool
+        requires { address + count ≤ blocks_of self.now.cached }
+        ensures { IsTrue result ↔ IsTakenAtOnce self.now.cached address count }
+    {
+        self.frozen.is_empty() || self.active.fits(address, count)
+    }
+
+    /// Whether it brings records home ahead of the flush of a later one.
+    pub fn goes_ahead(&self) -> bool
+        ensures { result ≡ self.now.goes_ahead }
+    {
+        self.goes_ahead
+    }
+
+    /// Whether the next record takes no call for its room: a slot is free, and where the store goes
+    /// ahead nothing is left to be done ahead of it.
+    pub fn is_prepared(&self) -> bool
+        ensures { IsTrue result ↔ IsPrepared self.now.goes_ahead self.now.cached.log }
+    {
+        self.log.has_room() && (!self.goes_ahead || self.needs_none_ahead())
     }
 
     /// The medium that the store stands on.

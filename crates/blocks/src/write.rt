@@ -8,6 +8,7 @@ ghost use Rattle.blocks.specs.StoreValue.{steps_left, FitsBeside};
 ghost use Rattle.blocks.specs.Turns.{IsWriteTurn};
 ghost use Rattle.blocks.specs.Sent.{batch_sends};
 ghost use Rattle.blocks.specs.Passing.{PassesOn, KeepsMedium, Answers};
+ghost use Rattle.blocks.specs.Prepared.{IsTakenAtOnce};
 ghost use Rattle.blocks.specs.Calls.{WritesRange, AppendsRange, CostsWrite};
 ghost use Rattle.blocks.specs.Calls.{WritesAlone, CostsAlone, CanBegin, BeginsBatch};
 
@@ -19,8 +20,9 @@ impl<M: Medium> Store<M> {
     /// Writes 1 to `limit` whole blocks from an address on. The next good `sync` promises the
     /// write.
     ///
-    /// It makes no call of the medium where its range fits beside the active batch. Otherwise the
-    /// frozen batch is first made durable, and the active one takes its place.
+    /// It makes no call of the medium where its range fits beside the active batch, or the frozen
+    /// one is empty. Otherwise the frozen batch is first made durable, and the active one takes its
+    /// place.
     ///
     /// # Errors
     ///
@@ -35,8 +37,7 @@ impl<M: Medium> Store<M> {
         ensures answers { Answers result self.old self.new }
         ensures batches { WritesRange self.old.goes_ahead result address (length bytes.now / 512)
             self.old.cached self.new.cached }
-        ensures quiet { FitsBeside (transfer_limit self.old.cached) (active_of self.old.cached)
-            address (length bytes.now / 512)
+        ensures quiet { IsTakenAtOnce self.old.cached address (length bytes.now / 512)
             → (self.new.medium ≡ self.old.medium)
             × (is_dead self.old.cached ≡ false → IsOk result) }
         // One that does not fit makes the calls for the batch before it, and no other.

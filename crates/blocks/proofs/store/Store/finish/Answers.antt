@@ -2,7 +2,7 @@ use Rattle.std.proofs.Common.{◌≡◌, ◌<◌, ◌≤◌, ◌+◌, ◌∙◌,
 use Rattle.std.specs.Prelude.{OnOk}
 use Rattle.std.proofs.lemmas.Bool.{cases_lt}
 use Rattle.std.proofs.lemmas.List.{nil_from_length}
-use Rattle.std.proofs.lemmas.Result.{on_ok_weaker}
+use Rattle.std.proofs.lemmas.Result.{on_ok_weaker, err_from_is_err_and}
 use Rattle.medium.specs.Medium.{State}
 use Rattle.medium.specs.Sent.{sent}
 use Rattle.medium.specs.declared.fault.MediumFault.TheVariants.{Flush}
@@ -82,6 +82,7 @@ returns-in_err-begin g c =
     let ready = c.make_ready.ensures.ready in
     let begins = c.begin.ensures in
     let quiet = ap (λ m. sent (g.M.Medium.state m)) begins.keeps.medium in
+    let failed = (err_from_is_err_and c.from_residual-in_err-begin.result c.from_residual-in_err-begin.ensures.1).1 in
     record {
       passes = paid_then {last = 0} g.met.M.Medium.follows_through ready.passes c.in_ok-make_ready.ensures.ready.answer
           (kept_paid g.met.M.Medium.follows_itself begins.keeps (λ live. omega (arith, begins.begins.falls live)))
@@ -94,8 +95,8 @@ returns-in_err-begin g c =
         finishes = search rules;
         retires = grind (arith, begins.begins.head, ready.room.retires);
         active = search rules;
-        fills = λ on filling listed. search rules;
-        stays = λ on steady. search rules;
+        fills = λ on filling listed. rw failed tt;
+        stays = λ on steady. rw failed tt;
         some = search rules;
       };
       cost = search rules;

@@ -1,19 +1,21 @@
-use Rattle.std.proofs.Common.{◌≡◌, ◌+◌, ◌∙◌, ap, arith}
+use Rattle.std.proofs.Common.{◌≡◌, ◌+◌, ◌∙◌, ap, arith, inl}
 use Rattle.std.proofs.lemmas.Bool.Decides.{nat_tests}
 use Rattle.journal.specs.Places.{Shape, limit_of}
 use Rattle.medium.specs.Sent.{sent}
 use Rattle.medium.specs.declared.fault.MediumFault.TheVariants.{Flush}
 use Rattle.blocks.specs.Ahead.{passed, passed_calls}
 use Rattle.blocks.specs.Passing.{PassesPaid}
+use Rattle.blocks.specs.Prepared.{NeedsNoneAhead}
 use Rattle.blocks.specs.Retiring.{HasSlots}
+use Rattle.blocks.proofs.Room.{none_ahead}
 use Rattle.blocks.proofs.Paid.{kept_paid, paid_more, paid_then, rested_paid}
 use Rattle.blocks.proofs.store.Store.go_ahead.Given.{Over}
 use Rattle.blocks.proofs.store.Store.go_ahead.Goals as goal
-use Rattle.blocks.proofs.store.Store.go_ahead.Goals.{Else-has_slots, After-pass_head, In_ok-pass_head}
+use Rattle.blocks.proofs.store.Store.go_ahead.Goals.{Else-needs_none_ahead, After-pass_head, In_ok-pass_head}
 
--- fewer slots are free than three
-few : (g : Over) (c : Else-has_slots g) → HasSlots 3 c.args.self.now.cached.log → ⊥
-few g c slots = grind (arith, c.has_slots.ensures, c.if-has_slots.false, c.self.view_is)
+-- something is to be done ahead
+few : (g : Over) (c : Else-needs_none_ahead g) → NeedsNoneAhead c.args.self.now.cached.log → ⊥
+few g c none = grind (arith, c.needs_none_ahead.ensures, c.if-needs_none_ahead.false)
 
 -- the flush is counted, and the head goes past
 passes : (g : Over) (c : After-pass_head g) → PassesPaid g.M.Medium.state g.M.Medium.follows 1 c.args.self.now c.pass_head.new.self
@@ -35,31 +37,30 @@ gone_past g c short =
     let passing = rw same at c.pass_head.ensures.passing in
     grind (arith, nat_tests, passing, c.in_ok-pass_head.ensures.answer, c.count_flush.ensures.counts.log, short)
 
-pub returns-then-has_slots-clause-passes : goal.returns-then-has_slots-clause-passes
-returns-then-has_slots-clause-passes g c = rested_paid g.met.M.Medium.follows_itself g.met.M.Medium.sound
+pub returns-then-needs_none_ahead-clause-passes : goal.returns-then-needs_none_ahead-clause-passes
+returns-then-needs_none_ahead-clause-passes g c = rested_paid g.met.M.Medium.follows_itself g.met.M.Medium.sound
 
-pub returns-then-has_slots-clause-going : goal.returns-then-has_slots-clause-going
-returns-then-has_slots-clause-going g c =
-    let slots : HasSlots 3 c.args.self.now.cached.log = rw (← c.self.view_is) (c.has_slots.ensures.0 c.if-has_slots.true) in
-    grind (arith, nat_tests, slots, c.requires.idle, c.requires.live)
+pub returns-then-needs_none_ahead-clause-going : goal.returns-then-needs_none_ahead-clause-going
+returns-then-needs_none_ahead-clause-going g c =
+    let none = none_ahead c.args.self.now.cached.log (c.needs_none_ahead.ensures.0 c.if-needs_none_ahead.true) in
+    grind (arith, none, c.requires.idle, c.requires.live)
 
 pub returns-in_err-pass_head : goal.returns-in_err-pass_head
 returns-in_err-pass_head g c =
     let all = passes g (goal.at.returns-in_err-pass_head g c).After-pass_head in
     let passing = rw c.count_flush.ensures.keeps.medium at c.pass_head.ensures.passing in
-    let short = few g (goal.at.returns-in_err-pass_head g c).Else-has_slots in
     record {
       passes = paid_more all (omega (arith, all.sent));
       going = grind (arith, c.in_err-pass_head.ensures.answer, c.count_flush.ensures.counts, passing);
-      rests = λ slots. absurd (short slots);
+      rests = λ none. absurd (few g (goal.at.returns-in_err-pass_head g c).Else-needs_none_ahead none);
     }
 
-pub returns-then-has_slots-2 : goal.returns-then-has_slots-2
-returns-then-has_slots-2 g c =
-    let all = passes g (goal.at.returns-then-has_slots-2 g c).After-pass_head in
-    let slots : HasSlots 3 c.pass_head.new.self.cached.log = rw (← c.self-2.view_is) (c.has_slots-2.ensures.0 c.if-has_slots-2.true) in
-    let short = few g (goal.at.returns-then-has_slots-2 g c).Else-has_slots in
-    let past = gone_past g (goal.at.returns-then-has_slots-2 g c).In_ok-pass_head short in
+pub returns-then-has_slots : goal.returns-then-has_slots
+returns-then-has_slots g c =
+    let all = passes g (goal.at.returns-then-has_slots g c).After-pass_head in
+    let slots : HasSlots 3 c.pass_head.new.self.cached.log = rw (← c.self.view_is) (c.has_slots.ensures.0 c.if-has_slots.true) in
+    let past = gone_past g (goal.at.returns-then-has_slots g c).In_ok-pass_head
+    (λ slots. few g (goal.at.returns-then-has_slots g c).Else-needs_none_ahead (inl slots)) in
     record {
       passes = paid_more all (omega (arith, all.sent));
       going = grind (
@@ -71,7 +72,7 @@ returns-then-has_slots-2 g c =
         c.count_flush.ensures.counts,
         c.pass_head.ensures.passing.stays,
       );
-      rests = λ spare. absurd (short spare);
+      rests = λ none. absurd (few g (goal.at.returns-then-has_slots g c).Else-needs_none_ahead none);
     }
 
 pub returns : goal.returns
@@ -79,13 +80,13 @@ returns g c =
     let first = passes g (goal.at.returns g c).After-pass_head in
     let last = c.go_home.ensures in
     let same = ap (λ (shape : Shape). limit_of shape.format) first.turn.goes_on.layout_stays in
-    let full = few g (goal.at.returns g c).Else-has_slots in
-    let past = gone_past g (goal.at.returns g c).In_ok-pass_head full in
+    let past = gone_past g (goal.at.returns g c).In_ok-pass_head
+    (λ slots. few g (goal.at.returns g c).Else-needs_none_ahead (inl slots)) in
     let short : HasSlots 3 c.pass_head.new.self.cached.log → ⊥ = λ (slots : HasSlots 3 c.pass_head.new.self.cached.log).
-    grind (arith, c.has_slots-2.ensures, c.if-has_slots-2.false, c.self-2.view_is) in
+    grind (arith, c.has_slots.ensures, c.if-has_slots.false, c.self.view_is) in
     record {
       passes = paid_then g.met.M.Medium.follows_through first c.in_ok-pass_head.ensures.answer last.passes
           (omega (arith, first.sent, last.passes.sent, same));
       going = grind (arith, nat_tests, short, past, last.going, c.count_flush.ensures.counts, c.pass_head.ensures.passing.stays);
-      rests = λ slots. absurd (full slots);
+      rests = λ none. absurd (few g (goal.at.returns g c).Else-needs_none_ahead none);
     }

@@ -11,6 +11,7 @@ returns-in_err-finish-clause-writes g c = record {
   passes = rw (err_from_is_err_and c.from_residual.result c.from_residual.ensures.1).1 (paid_refused c.finish.ensures.passes);
   answers = search rules;
   batches = search rules;
+  quiet = λ empty. grind (arith, c.finish.ensures.batch, c.requires.live, empty);
 }
 
 pub returns-clause-writes : goal.returns-clause-writes
@@ -21,6 +22,7 @@ returns-clause-writes g c =
     record {
       passes = paid_written c.finish.ensures.passes done.answers.answer begins.keeps;
       answers = search rules;
+      quiet = λ empty. grind (arith, c.finish.ensures.batch, begins.keeps.medium, empty);
       batches = record {
         active = search rules;
         batches = search rules;

@@ -1,0 +1,27 @@
+-- Which writes and records need no call of the medium before them.
+use Rattle.std.specs.Prelude.{◌≡◌, ◌⊎◌, ℕ, Bool, true, false, []}
+use Rattle.redo_log.specs.Value.{LogValue, HasRoom, IsCovered, CanPass, IsAway}
+use Rattle.blocks.specs.Retiring.{HasSlots}
+use Rattle.blocks.specs.StoreValue.{Cached, FitsBeside, transfer_limit, active_of}
+
+-- A write of this range is put into memory alone: it fits beside the active batch, or the frozen
+-- one is empty, whose place the active one takes.
+abbrev pub IsTakenAtOnce : Cached → ℕ → ℕ → Type 0
+IsTakenAtOnce s address count = FitsBeside (transfer_limit s) (active_of s) address count
+    ⊎ (s.frozen.numbers ≡ [])
+
+-- Nothing is left to be done ahead of the next record: no flush covers the oldest one, the head may
+-- not go past it, and none of its blocks is away.
+pub record RestsAhead (log : LogValue) : Type 0 where
+  pub counted : ¬ IsCovered log
+  pub past : ¬ CanPass log
+  pub home : ¬ IsAway log
+
+-- three slots are free, or nothing is left to be done
+abbrev pub NeedsNoneAhead : LogValue → Type 0
+NeedsNoneAhead log = HasSlots 3 log ⊎ RestsAhead log
+
+-- No call is made for the room of the next record.
+abbrev pub IsPrepared : Bool → LogValue → Type 0
+IsPrepared false log = HasRoom log
+IsPrepared true log = HasRoom log × NeedsNoneAhead log
