@@ -1,8 +1,9 @@
 -- A store whose batches are empty: what fits, what is sent, how many steps are left else, and that at rest everything is at home.
 use Rattle.std.specs.Prelude.{false}
-use Rattle.std.proofs.Common.{◌≡◌, ◌+◌, ◌<◌, ◌≤◌, ℕ, ◌∙◌, sym, ap, arith, true, false, List, [], length, ◌⊎◌, Bool}
+use Rattle.std.proofs.Common.{◌≡◌, ◌+◌, ◌<◌, ◌≤◌, ℕ, ◌∙◌, sym, ap, arith, true, false, List, [], length, ◌⊎◌, Bool, refl, inl, inr}
 use Rattle.std.proofs.lemmas.List.{nil_from_length}
-use Rattle.std.proofs.lemmas.Bool.{cases_lt}
+use Rattle.std.proofs.lemmas.Bool.{cases_lt, cases_Bool}
+use Rattle.std.proofs.lemmas.Bool.Decides.{nat_tests}
 use Rattle.medium.specs.Medium.{State, Image, IsSound}
 use Rattle.medium.specs.Moments.{EachCut}
 use Rattle.medium.specs.Sent.{SendsUpTo}
@@ -12,13 +13,18 @@ use Rattle.journal.specs.Standing.{Keeps}
 use Rattle.cache.specs.Blocks.{over}
 use Rattle.cache.specs.Entries.{map_of, Entries}
 use Rattle.cache.proofs.Arrays.{unlisted_empty}
-use Rattle.redo_log.specs.Value.{LogValue, Owes, retire_steps_of}
+use Rattle.std.specs.Prelude.{◌==◌}
+use Rattle.redo_log.specs.Value.{LogValue, Owes, retire_steps_of, of_oldest, pass_calls, CanPass, IsCovered}
 use Rattle.redo_log.proofs.HeldLog.{many}
 use Rattle.redo_log.proofs.StoreFacts.{home_is, blocks_guarded, put_head}
 use Rattle.blocks.specs.StoreValue.{Cached, layout_of, is_dead, steps_left, FitsBook, FitsBeside, active_of, transfer_limit, unwritten}
 use Rattle.blocks.specs.Settled.{IsAtHome, IsSettled}
 use Rattle.blocks.specs.OneBatch.{SendsOneBatch}
 use Rattle.blocks.specs.Written.{IsWritten}
+use Rattle.blocks.specs.Ahead.{is_covered, counted}
+use Rattle.blocks.specs.Prepared.{RestsAhead}
+use Rattle.blocks.specs.Background.{PassesHead}
+use Rattle.blocks.specs.Work.{IsAheadStep, GoesOnAhead, with_counted}
 use Rattle.blocks.proofs.BookTurns.{over_none}
 use Rattle.blocks.proofs.LogTurns.{nothing_left, settles_all}
 
@@ -112,3 +118,55 @@ frozen_as old new same none = ap (λ (batch : Entries). batch.numbers) same ∙ 
 -- two calls are no more than those of a batch
 pub step_sent : (ahead : Bool) (before after : State) (log : LogValue) → SendsUpTo 2 before after → SendsOneBatch ahead before after log
 step_sent ahead before after log two = grind (arith, two)
+
+-- the head may go past the oldest record where that is all that is to be done
+passes_alone : (log : LogValue) → is_covered log ≡ false → of_oldest log ≤ 2 → ¬ RestsAhead log → CanPass log
+passes_alone log not home some = elim (cases_Bool (pass_calls log == 1)) [
+  | inl one ↦ grind (arith, nat_tests, one)
+  | inr none ↦ absurd (some (record {
+    counted = λ (is : IsCovered log). grind (arith, nat_tests, not, is);
+    past = λ (can : CanPass log). grind (arith, nat_tests, none, can);
+    home = λ away. omega (arith, away, home);
+  }))
+]
+
+-- then a step ahead leaves one fewer at least
+fewer_past : (before after : State) (old new : Cached) → old.log.steps_left ≡ 0 → CanPass old.log → PassesHead before after old new
+    → is_dead new ≡ false → steps_left new < steps_left old
+fewer_past before after old new idle can passes lives =
+    let log = passes.log lives in let stays = passes.stays in grind (arith, nat_tests, log, can, stays, idle)
+
+-- the flush that is counted takes a step
+fewer_counted : (old : Cached) → old.log.steps_left ≡ 0 → is_covered old.log ≡ true → steps_left (with_counted old) < steps_left old
+fewer_counted old idle covered = grind (arith, nat_tests, covered, idle)
+
+-- and what a step ahead does behind it takes none back
+no_more_ahead : (before after : State) (old new : Cached) → GoesOnAhead before after old new → is_dead new ≡ false
+    → steps_left new ≤ steps_left old
+no_more_ahead before after old new goes lives = elim (cases_lt 2 (of_oldest old.log)) [
+  | inl away ↦ omega (arith, (goes.brings away).fewer lives)
+  | inr home ↦ elim (cases_Bool (pass_calls old.log == 1)) [
+    | inl one ↦ let can : CanPass old.log = grind (arith, nat_tests, one) in (goes.passes can).fewer lives
+    | inr none ↦
+        let rests = goes.rests (λ (can : CanPass old.log). grind (arith, nat_tests, none, can)) (λ away. omega (arith, away, home)) in
+        omega (arith, ap (λ (s : Cached). steps_left s) rests.0)
+  ]
+]
+
+-- a step ahead leaves fewer where something is to be done ahead of the next record
+pub ahead_fewer : (before after : State) (old new : Cached) → IsAheadStep true before after old new → is_dead old ≡ false
+    → old.log.steps_left ≡ 0 → ¬ RestsAhead old.log → is_dead new ≡ false → steps_left new < steps_left old
+ahead_fewer before after old new step live idle some lives =
+    let goes = step.goes refl live idle in
+    elim (cases_Bool (is_covered old.log)) [
+      | inl covered ↦ omega (arith, fewer_counted old idle covered, no_more_ahead before after (with_counted old) new goes lives)
+      | inr not ↦
+          let same : counted old.log ≡ old.log = rw not refl in
+          let on : GoesOnAhead before after old new = rw same at goes in
+          elim (cases_lt 2 (of_oldest old.log)) [
+            | inl away ↦ (on.brings away).fewer lives
+            | inr home ↦
+                let can = passes_alone old.log not home some in
+                fewer_past before after old new idle can (on.passes can) lives
+          ]
+    ]

@@ -1,7 +1,9 @@
 -- Which writes and records need no call of the medium before them.
-use Rattle.std.specs.Prelude.{◌≡◌, ◌⊎◌, ℕ, Bool, true, false, []}
+use Rattle.std.specs.Prelude.{◌≡◌, ◌⊎◌, ℕ, Bool, true, false, [], Option, Some, None}
 use Rattle.redo_log.specs.Value.{LogValue, HasRoom, IsCovered, CanPass, IsAway}
 use Rattle.blocks.specs.Retiring.{HasSlots}
+use Rattle.blocks.specs.declared.work.Work.{Work}
+use Rattle.blocks.specs.declared.work.Work.TheVariants.{Settle, Ahead, WriteBack}
 use Rattle.blocks.specs.StoreValue.{Cached, FitsBeside, transfer_limit, active_of}
 
 -- A write of this range is put into memory alone: it fits beside the active batch, or the frozen
@@ -25,3 +27,11 @@ NeedsNoneAhead log = HasSlots 3 log ⊎ RestsAhead log
 abbrev pub IsPrepared : Bool → LogValue → Type 0
 IsPrepared false log = HasRoom log
 IsPrepared true log = HasRoom log × NeedsNoneAhead log
+
+-- What a step has to work towards before that is so: it goes ahead where a slot is free, and else a
+-- record is retired.
+abbrev pub TellsWork : Bool → LogValue → Option Work → Type 0
+TellsWork ahead log None = IsPrepared ahead log
+TellsWork ahead log (Some Ahead) = (ahead ≡ true) × HasRoom log × (¬ NeedsNoneAhead log)
+TellsWork ahead log (Some Settle) = ¬ HasRoom log
+TellsWork ahead log (Some WriteBack) = ⊥
