@@ -2,7 +2,9 @@
 use Rattle.std.specs.Prelude.{Bool}
 use Rattle.medium.specs.Medium.{State}
 use Rattle.medium.specs.Sent.{SendsUpTo}
-use Rattle.redo_log.specs.Value.{LogValue, most_steps}
+-- handed on to the layers above
+pub use Rattle.redo_log.specs.Value.{most_steps}
+use Rattle.redo_log.specs.Value.{LogValue}
 use Rattle.blocks.specs.Prepared.{IsPrepared}
 use Rattle.blocks.specs.Sent.{most_sent}
 

@@ -1,6 +1,8 @@
 -- Which writes and records need no call of the medium before them.
-use Rattle.std.specs.Prelude.{◌≡◌, ◌⊎◌, ℕ, Bool, true, false, [], Option, Some, None}
-use Rattle.redo_log.specs.Value.{LogValue, HasRoom, IsCovered, CanPass, IsAway}
+use Rattle.std.specs.Prelude.{◌≡◌, ◌⊎◌, ◌+◌, ◌<◌, ℕ, Bool, true, false, [], Option, Some, None}
+-- handed on to the layers above
+pub use Rattle.redo_log.specs.Value.{HasRoom}
+use Rattle.redo_log.specs.Value.{LogValue, IsCovered, CanPass, IsAway}
 use Rattle.blocks.specs.Retiring.{HasSlots}
 use Rattle.blocks.specs.declared.work.Work.{Work}
 use Rattle.blocks.specs.declared.work.Work.TheVariants.{Settle, Ahead, WriteBack}
@@ -29,9 +31,10 @@ IsPrepared false log = HasRoom log
 IsPrepared true log = HasRoom log × NeedsNoneAhead log
 
 -- What a step has to work towards before that is so: it goes ahead where a slot is free, and else a
--- record is retired.
+-- record is retired, of which some step is left.
 abbrev pub TellsWork : Bool → LogValue → Option Work → Type 0
 TellsWork ahead log None = IsPrepared ahead log
 TellsWork ahead log (Some Ahead) = (ahead ≡ true) × HasRoom log × (¬ NeedsNoneAhead log)
-TellsWork ahead log (Some Settle) = ¬ HasRoom log
+TellsWork ahead log (Some Settle) = (¬ HasRoom log)
+    × (0 < log.steps_left + log.retire_steps_left)
 TellsWork ahead log (Some WriteBack) = ⊥

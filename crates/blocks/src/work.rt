@@ -6,7 +6,7 @@ use crate::{Store, StoreFault};
 use medium::Medium;
 
 /// What a step in the background works towards.
-#[derive(Clone, Copy)]
+#[derive(Clone, Copy, PartialEq, Eq)]
 pub enum Work {
     /// That each accepted write is at home and no record waits.
     Settle,

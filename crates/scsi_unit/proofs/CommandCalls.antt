@@ -1,17 +1,19 @@
 -- The calls that a command makes: how many, which sectors they name, how many batches they make durable, and what a record costs.
-use Rattle.std.proofs.Common.{◌≡◌, ◌≢◌, ◌≤◌, ◌<◌, ◌+◌, ℕ, Bool, false, List, [], None, Option, Some, Result, Ok, Err, arith, ap, refl, inl}
+use Rattle.std.proofs.Common.{◌≡◌, ◌≢◌, ◌≤◌, ◌<◌, ◌+◌, ℕ, Bool, false, List, [], None, Option, Some, Result, Ok, Err, arith, ap, refl, inl, inr}
 use Rattle.std.proofs.Common.{true, length, ◌∙◌, ◌*◌}
 use Rattle.std.specs.Prelude.{◌||◌, not, if◌then◌else◌}
 use Rattle.std.proofs.lemmas.Bool.Decides.{nat_tests}
 use Rattle.medium.specs.Medium.{State}
 use Rattle.medium.specs.Sent.{sent, SendsUpTo}
+use Rattle.medium.specs.declared.fault.MediumFault.{MediumFault}
+use Rattle.medium.specs.declared.fault.MediumFault.TheVariants.{Write, Flush}
 use Rattle.medium.proofs.SectorsRead.{no_looks, looks_joined, looks_wider}
 use Rattle.blocks.specs.Limit.{Shape}
 use Rattle.blocks.specs.Looks.{LooksAtLog, IsLogOrHome}
 use Rattle.blocks.specs.OneBatch.{SendsOneBatch}
 use Rattle.blocks.specs.Sent.{most_sent}
 use Rattle.blocks.specs.StoreValue.{StoreValue, is_dead, layout_of, transfer_limit, active_of, firsts_in, wants, Cached, HasLimits}
-use Rattle.blocks.specs.StoreValue.{blocks_of, slots_of, batch_steps, steps_left}
+use Rattle.blocks.specs.StoreValue.{blocks_of, slots_of, batch_steps, steps_left, unwritten, FitsBeside}
 use Rattle.blocks.proofs.EmptyBatches.{both_empty, fits_alone, frozen_as, step_sent}
 use Rattle.blocks.proofs.OneBatchSent.{none_sent}
 use Rattle.blocks.proofs.ReadCalls.{reads_few}
@@ -22,9 +24,9 @@ use Rattle.spec.specs.Rules.{forces_reading, moves_blocks}
 use Rattle.scsi_unit.specs.UnitValue.{UnitValue, unit_limit}
 use Rattle.scsi_unit.specs.Calls.{calls_of_sync, calls_of_read, calls_of_write, MakesAtMost, PromisesFew, calls_of, most_calls_of}
 use Rattle.scsi_unit.specs.Calls.{most_calls}
-use Rattle.scsi_unit.specs.Promising.{forces_writing}
+use Rattle.scsi_unit.specs.Promising.{forces_writing, IsQuietBy, IsQuietWrite}
 use Rattle.scsi_unit.specs.Reading.{IsLogOr, LooksToRead, first_home_of, home_sectors_of, some_read}
-use Rattle.scsi_unit.specs.StoreCalls.{MakesDurable, ReadsBlocks, WritesBlocks}
+use Rattle.scsi_unit.specs.StoreCalls.{MakesDurable, MakesNone, ReadsBlocks, WritesBlocks}
 use Rattle.blocks.proofs.Headroom.{one_each, both_each, headroom_finished}
 use Rattle.blocks.proofs.Steady.{steady_sync}
 use Rattle.spec.specs.declared.command.Command.TheVariants as command
@@ -35,9 +37,9 @@ use Rattle.scsi_commands.specs.Supported.{IsSupported}
 use Rattle.spec.specs.declared.command.Command.{Command}
 
 -- no call was made
-pub no_calls : {M : Type 0} (count : ℕ) (read : Option Transfer) (promising : Bool) (m : State) (unit : UnitValue M)
-    → MakesAtMost count read promising m m unit
-no_calls count read promising m unit =
+pub no_calls : {M : Type 0} (count : ℕ) (read : Option Transfer) (promising : Bool) (Quiet : Type 0) (m : State) (unit : UnitValue M)
+    → MakesAtMost count read promising Quiet m m unit
+no_calls count read promising Quiet m unit =
     let looks = no_looks (IsLogOr (first_home_of unit) (home_sectors_of (first_home_of unit) read)) m m refl in grind (arith, looks)
 
 -- the log alone was read
@@ -52,16 +54,29 @@ synced_few : {M : Type 0} (promising : Bool) (before mid after : State) (unit : 
     → sent after ≤ sent mid + 0 → PromisesFew promising before after unit
 synced_few promising before mid after unit live unwanted one none = grind (arith, unwanted, one, none, live, both_empty unit.store.cached)
 
+-- nothing is sent where nothing is promised, or no record is left to write
+synced_none : {M : Type 0} (promising : Bool) (before mid after : State) (unit : UnitValue M)
+    → is_dead unit.store.cached ≡ false → (promising ≡ false → sent mid ≡ sent before)
+    → (unwritten unit.store.cached ≡ 0 → MakesNone before mid)
+    → IsQuietBy promising unit.store.cached → sent after ≤ sent mid + 0 → SendsUpTo 0 before after
+synced_none promising before mid after unit live unwanted rests (inl plain) none = omega (arith, unwanted plain, none)
+synced_none promising before mid after unit live unwanted rests (inr (inl dead)) none = absurd (grind (arith, dead, live))
+synced_none promising before mid after unit live unwanted rests (inr (inr all)) none =
+    omega (arith, ap (λ (made : MediumFault → ℕ). made Write + made Flush) (rests all).made, none)
+
 module _ {M : Type 0} {Follows : M → M → Type 0} {before after : State} {old : UnitValue M} {last : StoreValue M}
     {done : Result (Unit {0}) Sense} (live : is_dead old.store.cached ≡ false) where
   -- writes are made durable, if that is wanted
   pub synced : {wanted : Bool} {count : ℕ} {read : Option Transfer} {promising : Bool}
       → MakesDurable Follows wanted before after old.store last done → (promising ≡ false → wanted ≡ false)
-      → (if wanted then calls_of_sync old.store.cached else 0) ≤ count → MakesAtMost count read promising before after old
+      → (if wanted then calls_of_sync old.store.cached else 0) ≤ count
+      → MakesAtMost count read promising (IsQuietBy promising old.store.cached) before after old
   synced {read = read} {promising = promising} makes wants few = record {
     calls = omega (arith, makes.calls, few);
     sent = omega (arith, makes.sent);
     one_batch = synced_few promising before after after old live (λ plain. grind (arith, wants, makes.unwanted)) makes.one_batch
+        (omega arith);
+    quiet = λ quiet. synced_none promising before after after old live (λ plain. grind (arith, wants, makes.unwanted)) makes.rests quiet
         (omega arith);
     looks = log_looked before after old read makes.looks;
   }
@@ -70,7 +85,8 @@ module _ {M : Type 0} {Follows : M → M → Type 0} {before after : State} {old
     -- and blocks are read behind that
     pub read_on : {result : Result ℕ Sense} {out : List ℕ} → MakesDurable Follows transfer.fua before mid old.store half done
         → ReadsBlocks Follows transfer mid after half last out result
-        → MakesAtMost (calls_of_read transfer old.store.cached) (some_read transfer) (forces_reading transfer) before after old
+        → MakesAtMost (calls_of_read transfer old.store.cached) (some_read transfer) (forces_reading transfer)
+        (IsQuietBy (forces_reading transfer) old.store.cached) before after old
     read_on makes reads =
         let is : some_read transfer ≡ Some transfer = grind (arith, nat_tests) in
         record {
@@ -78,6 +94,8 @@ module _ {M : Type 0} {Follows : M → M → Type 0} {before after : State} {old
           sent = omega (arith, makes.sent, reads.sent);
           one_batch = synced_few (forces_reading transfer) before mid after old live (λ plain. grind (arith, nat_tests, makes.unwanted))
               makes.one_batch reads.sent;
+          quiet = λ quiet. synced_none (forces_reading transfer) before mid after old live
+              (λ plain. grind (arith, nat_tests, makes.unwanted)) makes.rests quiet reads.sent;
           looks = rw is (looks_joined _ before mid after (log_looked before mid old (Some transfer) makes.looks)
               (looks_wider (IsLogOrHome (layout_of half.cached).home transfer.address transfer.count) _ mid after
               (λ x named. rw makes.turn.goes_on.layout_stays at named) reads.looks));
@@ -87,8 +105,8 @@ module _ {M : Type 0} {Follows : M → M → Type 0} {before after : State} {old
     pub write_on : {value : Unit {0}} {taken : List ℕ} → WritesBlocks Follows transfer taken before mid old.store half (Ok value)
         → MakesDurable Follows (transfer.fua || not old.write_cache) mid after half last done
         → transfer.count ≤ transfer_limit old.store.cached
-        → MakesAtMost (calls_of_write transfer old.write_cache old.store.cached) None (forces_writing transfer old.write_cache) before after
-        old
+        → MakesAtMost (calls_of_write transfer old.write_cache old.store.cached) None (forces_writing transfer old.write_cache)
+        (IsQuietWrite transfer old.write_cache old.store.cached) before after old
     write_on writes makes few =
         let layout = writes.turn.goes_on.layout_stays in
         record {
@@ -101,8 +119,9 @@ module _ {M : Type 0} {Follows : M → M → Type 0} {before after : State} {old
                 let fits = fits_alone old.store.cached transfer.address transfer.count none.1 few in
                 let beside = writes.batches.beside fits in
                 let one = makes.one_batch (frozen_as old.store.cached half.cached beside.0 none.0) in
-                grind (arith, one, writes.follows.policy, (writes.quiet fits).1, beside);
+                grind (arith, one, writes.follows.policy, (writes.quiet (inl fits)).1, beside);
           };
+          quiet = λ quiet. grind (arith, nat_tests, some, quiet, writes.quiet, makes.unwanted);
           looks = log_looked before after old None
               (looks_on before mid after old.store.cached half.cached layout writes.looks makes.looks);
         }
@@ -111,7 +130,8 @@ module _ {M : Type 0} {Follows : M → M → Type 0} {before after : State} {old
 pub write_stops : {M : Type 0} {Follows : M → M → Type 0} {before after : State} {old : UnitValue M} {last : StoreValue M}
     {transfer : Transfer} {taken : List ℕ} {sense : Sense} → transfer.count ≢ 0
     → WritesBlocks Follows transfer taken before after old.store last (Err sense)
-    → MakesAtMost (calls_of_write transfer old.write_cache old.store.cached) None (forces_writing transfer old.write_cache) before after old
+    → MakesAtMost (calls_of_write transfer old.write_cache old.store.cached) None (forces_writing transfer old.write_cache)
+    (IsQuietWrite transfer old.write_cache old.store.cached) before after old
 write_stops {before = before} {after = after} {old = old} some writes =
     let looks = log_looked before after old None writes.looks in grind (arith, nat_tests, writes, looks)
 
@@ -133,7 +153,7 @@ module _ {M : Type 0} {Follows : M → M → Type 0} {before mid : State} {trans
   costs_by writes false after costs = λ not. let alone = writes.alone not in grind (arith, costs, alone)
   costs_by {half = half} writes true after costs = record {
     beside = λ fits.
-        let quiet = (writes.quiet fits).1 in
+        let quiet = (writes.quiet (inl fits)).1 in
         let turned = writes.batches.beside fits in
         record { active = active_of half.cached; takes = writes.active; both = grind (arith, costs, quiet, turned) };
     alone = λ not.
@@ -156,7 +176,7 @@ module _ {M : Type 0} {Follows : M → M → Type 0} {before mid : State} {trans
       let policy = writes.follows.policy in
       record {
         untouched = λ none. grind (arith, nat_tests);
-        plain = λ t is fits. grind (arith, nat_tests, writes.quiet, makes.unwanted);
+        plain = λ t is fits. grind (arith, nat_tests, (λ (beside : FitsBeside _ _ _ _). writes.quiet (inl beside)), makes.unwanted);
         active = λ lives. grind (arith, nat_tests, writes.active, makes.active, makes.answer);
         log = λ good. rw moves (record {
           mid = half.cached;

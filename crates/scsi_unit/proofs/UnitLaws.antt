@@ -3,8 +3,12 @@
 pub use Rattle.scsi_unit.proofs.Intentions.{keeps_intentions, writes_are_writes}
 pub use Rattle.scsi_unit.proofs.Outcomes.{is_function, keeps_writes, stays_faulted, ticks_only, keeps_limit}
 pub use Rattle.scsi_unit.proofs.CommandCalls.{none_made, step_made, few_ticks}
-pub use Rattle.blocks.proofs.EmptyBatches.{steps_to_write, written_live}
-use Rattle.std.proofs.Common.{◌≡◌, ℕ, List, true, ap}
+pub use Rattle.blocks.proofs.EmptyBatches.{steps_to_write, written_live, ahead_fewer, both_empty}
+use Rattle.std.specs.Prelude.{Result}
+use Rattle.std.proofs.Common.{◌≡◌, ℕ, Bool, List, [], true, false, ap, sym, subst, arith}
+use Rattle.std.proofs.lemmas.Bool.Decides.{nat_tests}
+use Rattle.spec.specs.Sense.{Sense}
+use Rattle.spec.specs.declared.command.Command.{Command}
 use Rattle.medium.specs.Medium.{State}
 use Rattle.medium.specs.Moments.{EachCut}
 use Rattle.spec.specs.Book.{Book}
@@ -16,7 +20,8 @@ pub use Rattle.blocks.proofs.ImageLimit.{start_keeps_limit}
 use Rattle.blocks.proofs.ImageLimit.{some_limit, one_limit, cut_keeps_limit}
 use Rattle.blocks.proofs.KnownImages.{found_ours, ours_for_opening, stands_for_opening, stands_for_some}
 use Rattle.spec.specs.Rules.{intention, intention_by, checked, command_by}
-use Rattle.scsi_unit.specs.Promising.{promises_for}
+use Rattle.scsi_unit.specs.Calls.{Cached}
+use Rattle.scsi_unit.specs.Promising.{promises_for, IsQuietFor}
 use Rattle.scsi_unit.specs.Serving.{command_for}
 use Rattle.scsi_unit.specs.UnitValue.{UnitValue, unit_limit, state_of, FitsUnit, IsOfSize, intention_of}
 use Rattle.scsi_unit.specs.Laws.{KnowsImages}
@@ -56,3 +61,16 @@ pub promises_by_book : {M : Type 0} (unit : UnitValue M) (book : Book) (block : 
     → promises_for (command_for unit block) unit.write_cache ≡ promises_for (checked (state_of unit book) block) unit.write_cache
 promises_by_book unit book block size =
     ap (λ n. promises_for (command_by n (unit_limit unit) unit.kept.attention (is_dead unit.store.cached) block) unit.write_cache) size
+
+-- whether it is quiet, too
+pub quiet_by_book : {M : Type 0} (unit : UnitValue M) (book : Book) (block : List ℕ) → IsOfSize unit book
+    → IsQuietFor (checked (state_of unit book) block) unit.write_cache unit.store.cached
+    → IsQuietFor (command_for unit block) unit.write_cache unit.store.cached
+quiet_by_book unit book block size quiet =
+    subst (λ (n : ℕ). IsQuietFor (command_by n (unit_limit unit) unit.kept.attention (is_dead unit.store.cached) block) unit.write_cache
+    unit.store.cached) (sym size) quiet
+
+-- where the frozen batch is empty each command is quiet that promises nothing
+pub plain_quiet : (told : Result Command Sense) (write_cache : Bool) (cached : Cached) → promises_for told write_cache ≡ false
+    → cached.frozen.numbers ≡ [] → IsQuietFor told write_cache cached
+plain_quiet told write_cache cached plain empty = grind (arith, nat_tests, plain, empty)

@@ -4,10 +4,11 @@ use Rattle.std.specs.Prelude.{Ok, Err, IfOk, Option, if◌then◌else◌}
 use Rattle.medium.specs.Medium.{State}
 use Rattle.medium.specs.Sent.{SendsUpTo}
 -- handed on to the layers above
-pub use Rattle.blocks.specs.OneBatch.{SendsOneBatch}
+pub use Rattle.blocks.specs.OneBatch.{SendsOneBatch, most_steps}
 pub use Rattle.blocks.specs.Written.{IsWritten}
 use Rattle.blocks.specs.Sent.{LogFormat, most_sent}
-use Rattle.blocks.specs.StoreValue.{Cached, layout_of, slots_of, batch_steps, steps_left}
+pub use Rattle.blocks.specs.StoreValue.{Cached}
+use Rattle.blocks.specs.StoreValue.{layout_of, slots_of, batch_steps, steps_left}
 -- handed on to the layers above: one call for each block that no batch has
 pub use Rattle.blocks.specs.Calls.{reads_of}
 use Rattle.spec.specs.Sense.{Sense}
@@ -16,7 +17,7 @@ use Rattle.spec.specs.declared.command.Command.TheVariants as command
 use Rattle.spec.specs.declared.command.Transfer.{Transfer}
 use Rattle.spec.specs.Rules.{moves_blocks, forces_reading, clears, selected_by, Intention}
 use Rattle.scsi_unit.specs.UnitValue.{UnitValue, unit_limit, intention_of}
-use Rattle.scsi_unit.specs.Promising.{promises_for}
+use Rattle.scsi_unit.specs.Promising.{promises_for, IsQuietFor}
 use Rattle.scsi_unit.specs.Serving.{command_for}
 use Rattle.scsi_unit.specs.Reading.{read_of, LooksToRead}
 use Rattle.spec.specs.declared.intent.Intent.TheVariants as intent
@@ -67,14 +68,15 @@ pub record PromisesFew {M : Type 0} (promising : Bool) (before after : State) (o
   pub written : IsWritten old.store.cached
       → SendsOneBatch old.store.goes_ahead before after old.store.cached.log
 
--- A command block was carried out by no more calls than that. (A plain WRITE that fits beside the
--- batch that takes writes makes none at all.)
+-- A command block was carried out by no more calls than that, and by reads alone where it is quiet.
 pub record IsBounded {M : Type 0} (before after : State) (block taken : List ℕ) (old : UnitValue M)
     : Type 0 where
   pub most : after.calls
       ≤ before.calls + calls_after (command_for old block) taken old.write_cache old.store.cached
   pub one_batch : PromisesFew (promises_for (command_for old block) old.write_cache) before after
       old
+  pub quiet : IsQuietFor (command_for old block) old.write_cache old.store.cached
+      → SendsUpTo 0 before after
 
 -- The most that any command makes over `slots` slots, with at most `limit` blocks in a transfer:
 -- two for each step that may be left and for each of one more batch, and two for each block of one
@@ -96,12 +98,14 @@ abbrev pub most_sends : {M : Type 0} → UnitValue M → ℕ
 most_sends unit = most_sends_of (layout_of unit.store.cached).format
 
 -- A command that reads these blocks, or none, and that promises or does not, makes at most count
--- calls, and no more writes and flushes than any. Its reads name no home sector but theirs.
+-- calls, and no more writes and flushes than any, none where it is quiet. Its reads name no home
+-- sector but theirs.
 pub record MakesAtMost {M : Type 0} (count : ℕ) (read : Option Transfer) (promising : Bool)
-    (before after : State) (old : UnitValue M) : Type 0 where
+    (Quiet : Type 0) (before after : State) (old : UnitValue M) : Type 0 where
   pub calls : after.calls ≤ before.calls + count
   pub sent : SendsUpTo (most_sends old) before after
   pub one_batch : PromisesFew promising before after old
+  pub quiet : Quiet → SendsUpTo 0 before after
   pub looks : LooksToRead before after old read
 
 -- The calls of a command block: no more than its command makes, nor than any makes; and no more

@@ -11,7 +11,8 @@ use Rattle.blocks.specs.Passing.{MayEmpty}
 use Rattle.blocks.specs.OneBatch.{SendsOneBatch}
 use Rattle.blocks.specs.Sent.{batch_sends}
 use Rattle.blocks.specs.StoreValue.{Cached, StoreValue, transfer_limit, is_dead, active_of}
-use Rattle.blocks.specs.StoreValue.{batch_steps, FitsBook, FitsBeside, TakesRange}
+use Rattle.blocks.specs.Prepared.{IsTakenAtOnce}
+use Rattle.blocks.specs.StoreValue.{batch_steps, unwritten, FitsBook, FitsBeside, TakesRange}
 use Rattle.blocks.specs.Turns.{IsTurn, IsWriteTurn}
 use Rattle.blocks.specs.Work.{IsWork, LeavesBy}
 use Rattle.blocks.specs.declared.work.Work.{Work}
@@ -56,6 +57,8 @@ pub record MakesDurable {M : Type 0} (Follows : M → M → Type 0) (wanted : Bo
   -- those of one batch where the frozen one is empty
   pub one_batch : old.cached.frozen.numbers ≡ []
       → SendsOneBatch old.goes_ahead before after old.cached.log
+  -- none where no block is to be written
+  pub rests : unwritten old.cached ≡ 0 → MakesNone before after
   pub looks : LooksAtLog before after old.cached
   pub unwanted : wanted ≡ false → (new ≡ old) × MakesNone before after × (is_ok result ≡ true)
   pub follows : ComesAfter Follows old new
@@ -95,9 +98,8 @@ pub record WritesBlocks {M : Type 0} (Follows : M → M → Type 0) (transfer : 
   pub looks : LooksAtLog before after old.cached
   pub paid : OnOk result (after.calls + calls_of_sync new.cached
       ≤ before.calls + calls_of_sync old.cached + 2 * batch_steps old.cached)
-  -- one that fits beside the active batch makes no call, and is good
-  pub quiet : FitsBeside (transfer_limit old.cached) (active_of old.cached) transfer.address
-      transfer.count
+  -- one that is taken at once makes no call, and is good
+  pub quiet : IsTakenAtOnce old.cached transfer.address transfer.count
       → (new.medium ≡ old.medium) × MakesNone before after × (is_ok result ≡ true)
   -- one that does not makes the frozen batch durable
   pub alone : ¬ FitsBeside (transfer_limit old.cached) (active_of old.cached) transfer.address

@@ -1,10 +1,14 @@
-//! Which commands promise: they are good only when all accepted writes are durable.
-ghost use Rattle.std.specs.Prelude.{◌≡◌, ◌<◌, length};
+//! Which commands promise: they are good only when all accepted writes are durable. And which ask
+//! the medium for no write and no flush.
+ghost use Rattle.std.specs.Prelude.{◌≡◌, ◌↔◌, ◌<◌, ◌≤◌, ◌+◌, IsTrue, length};
+ghost use Rattle.blocks.specs.StoreValue.{blocks_of};
 ghost use Rattle.spec.specs.Book.{Book};
 ghost use Rattle.spec.specs.Rules.{checked, forces_reading};
-ghost use Rattle.scsi_unit.specs.UnitValue.{state_of, IsOfSize};
+ghost use Rattle.scsi_commands.specs.Supported.{IsSupported};
+ghost use Rattle.scsi_unit.specs.UnitValue.{unit_limit, state_of, IsOfSize};
 ghost use Rattle.scsi_unit.specs.Serving.{command_for};
 ghost use Rattle.scsi_unit.specs.Promising.{forces_writing, promises, promises_for};
+ghost use Rattle.scsi_unit.specs.Promising.{IsQuiet, IsQuietFor, IsQuietWrite};
 
 use crate::Unit;
 use medium::Medium;
@@ -26,6 +30,51 @@ impl<M: Medium> Unit<M> {
             Ok(command) => promises(&command, self.write_cache),
             Err(_) => false,
         }
+    }
+
+    /// Whether a command block, of 1 to 16 bytes, would be carried out by reads of the medium alone:
+    /// a WRITE that promises nothing and is taken at once, or another command that promises nothing
+    /// or finds no record left to write. So is one that is refused.
+    pub fn is_quiet(&self, block: &[u8]) -> bool
+        requires { 0 < length block.now }
+        ensures is { IsTrue result ↔ IsQuietFor (command_for self.now block.now)
+            self.now.write_cache self.now.store.cached }
+        ensures by_book { (book : Book) → IsOfSize self.now book
+            → IsTrue result ↔ IsQuietFor (checked (state_of self.now book) block.now)
+            self.now.write_cache self.now.store.cached }
+    {
+        match self.command(block) {
+            Ok(command) => self.asks_nothing(&command),
+            Err(_) => true,
+        }
+    }
+
+    // Whether a command would be carried out by reads alone.
+    fn asks_nothing(&self, command: &Command) -> bool
+        requires { IsSupported (blocks_of self.now.store.cached) (unit_limit self.now) command.now }
+        ensures { IsTrue result
+            ↔ IsQuiet command.now self.now.write_cache self.now.store.cached }
+    {
+        match command {
+            Command::Write10(transfer) | Command::Write16(transfer) => self.is_taken(transfer),
+            _ => !promises(command, self.write_cache) || self.store.is_written(),
+        }
+    }
+
+    // Whether a WRITE moves no blocks, or promises nothing and is taken at once.
+    fn is_taken(&self, transfer: &Transfer) -> bool
+        requires { transfer.now.address + transfer.now.count ≤ blocks_of self.now.store.cached }
+        ensures { IsTrue result
+            ↔ IsQuietWrite transfer.now self.now.write_cache self.now.store.cached }
+    {
+        if transfer.count == 0 {
+            return true;
+        }
+        if forces_writing(transfer, self.write_cache) {
+            return false;
+        }
+        self.store
+            .takes_at_once(transfer.address, transfer.count as usize)
     }
 }
 

@@ -9,7 +9,7 @@ ghost use Rattle.scsi_unit.specs.Asking.{CanRead, CanWrite, CanSelect};
 ghost use Rattle.scsi_unit.specs.Calls.{calls_of_sync, calls_of_read, calls_of_write, calls_of};
 ghost use Rattle.scsi_unit.specs.Calls.{MakesAtMost};
 ghost use Rattle.scsi_unit.specs.Performing.{Performs, Spares, silent};
-ghost use Rattle.scsi_unit.specs.Promising.{forces_writing};
+ghost use Rattle.scsi_unit.specs.Promising.{forces_writing, IsQuietBy, IsQuietWrite};
 ghost use Rattle.scsi_unit.specs.Reading.{some_read};
 ghost use Rattle.scsi_unit.specs.StoreCalls.{SendsRead};
 
@@ -30,8 +30,9 @@ impl<M: Medium> Unit<M> {
             (M.state self.new.store.medium) (Ok (command.Read10 transfer)) taken self.old
             (answer_of result out.new) self.new }
         ensures bounded { MakesAtMost (calls_of_read transfer self.old.store.cached)
-            (some_read transfer) (forces_reading transfer) (M.state self.old.store.medium)
-            (M.state self.new.store.medium) self.old }
+            (some_read transfer) (forces_reading transfer)
+            (IsQuietBy (forces_reading transfer) self.old.store.cached)
+            (M.state self.old.store.medium) (M.state self.new.store.medium) self.old }
         ensures sends { SendsRead M.follows transfer self.old.store.medium self.new.store.medium
             result }
     {
@@ -55,6 +56,7 @@ impl<M: Medium> Unit<M> {
         ensures bounded { MakesAtMost
             (calls_of_write transfer self.old.write_cache self.old.store.cached)
             None (forces_writing transfer self.old.write_cache)
+            (IsQuietWrite transfer self.old.write_cache self.old.store.cached)
             (M.state self.old.store.medium) (M.state self.new.store.medium) self.old }
         ensures follows { M.follows self.old.store.medium self.new.store.medium }
     {
@@ -76,7 +78,8 @@ impl<M: Medium> Unit<M> {
             → Spares (M.state self.old.store.medium) (M.state self.new.store.medium)
             (Ok (command.SynchronizeCache10 range)) taken self.old (silent result) self.new }
         ensures bounded { MakesAtMost (calls_of_sync self.old.store.cached)
-            None true (M.state self.old.store.medium) (M.state self.new.store.medium) self.old }
+            None true (IsQuietBy true self.old.store.cached) (M.state self.old.store.medium)
+            (M.state self.new.store.medium) self.old }
         ensures follows { M.follows self.old.store.medium self.new.store.medium }
     {
         make_durable(&mut self.store, true)
@@ -94,8 +97,9 @@ impl<M: Medium> Unit<M> {
             (silent result) self.new }
         ensures bounded { MakesAtMost (calls_of (command.ModeSelect list_len) taken.now
             self.old.write_cache self.old.store.cached)
-            None self.old.write_cache (M.state self.old.store.medium)
-            (M.state self.new.store.medium) self.old }
+            None self.old.write_cache
+            (IsQuietBy self.old.write_cache self.old.store.cached)
+            (M.state self.old.store.medium) (M.state self.new.store.medium) self.old }
         ensures follows { M.follows self.old.store.medium self.new.store.medium }
     {
         let enabled = mode_select(&taken[..usize::from(list_len)], self.write_cache)?;
