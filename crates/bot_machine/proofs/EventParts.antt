@@ -4,16 +4,16 @@ use Rattle.medium.specs.Medium.{State}
 use Rattle.medium.proofs.SectorsRead.{no_looks}
 use Rattle.scsi_unit.specs.Reading.{first_home_of}
 use Rattle.spec.specs.Book.{Book}
-use Rattle.scsi_unit.specs.Calls.{IsBounded, SendsOneBatch}
+use Rattle.scsi_unit.specs.Calls.{IsBounded}
 use Rattle.scsi_unit.specs.UnitValue.{UnitValue, unit_limit, state_of, IsOfSize, intention_of}
 use Rattle.bot_machine.specs.declared.bulk_state.BulkState.{BulkState}
 use Rattle.bot_machine.specs.Refinement.{IsInPhase}
-use Rattle.bot_machine.specs.Promising.{promises_by}
+use Rattle.bot_machine.specs.Promising.{SendsBy}
 use Rattle.bot_machine.specs.Reading.{LooksBesides}
 use Rattle.bot_machine.specs.Serving.{HandsOn}
 use Rattle.bot_machine.proofs.ReadAtOnce.{waits_to_send_none}
-use Rattle.bot_machine.proofs.OutPackets.{no_time, no_calls}
-use Rattle.bot_machine.proofs.UnitLaws.{none_made, promises_by_book}
+use Rattle.bot_machine.proofs.OutPackets.{no_time, no_calls, sends_none}
+use Rattle.bot_machine.proofs.UnitLaws.{promises_by_book, quiet_by_book}
 
 -- no read was made
 pub none_besides : {M : Type 0} (At : ℕ → Type 0) (m : State) (unit : UnitValue M) → LooksBesides At m m unit
@@ -34,12 +34,14 @@ unit_stays state Follows At unit from to itself phase size = record {
   follows = itself unit.store.medium;
 }
 
--- a command that promises nothing, over a book of the unit's size, makes one batch durable at most
-pub plainly : {M : Type 0} (before after : State) (unit : UnitValue M) (block taken : List ℕ) (book : Book) → IsOfSize unit book
-    → IsBounded before after block taken unit → promises_by (state_of unit book) block ≡ false
-    → SendsOneBatch unit.store.goes_ahead before after unit.store.cached.log
-plainly before after unit block taken book size bounded none =
-    bounded.one_batch.plain (promises_by_book unit book block size ∙ none)
+-- a command that is carried out, over a book of the unit's size, has as few calls made that write as it promises
+pub sends_so : {M : Type 0} (before after : State) (unit : UnitValue M) (block taken bytes : List ℕ) (book : Book) → IsOfSize unit book
+    → IsBounded before after block taken unit → (CarriedOut : List ℕ → List ℕ → Type 0) → CarriedOut block bytes
+    → SendsBy before after unit (state_of unit book) CarriedOut
+sends_so before after unit block taken bytes book size bounded CarriedOut carried = record {
+  plain = λ none. bounded.one_batch.plain (promises_by_book unit book block size ∙ none block bytes carried);
+  quiet = λ all. bounded.quiet (quiet_by_book unit book block size (all block bytes carried));
+}
 
 -- a command that waits for its data sends none, no read was made, and no other call
-pub ruleset nothing_read = (waits_to_send_none, none_besides, none_made)
+pub ruleset nothing_read = (waits_to_send_none, none_besides, sends_none)

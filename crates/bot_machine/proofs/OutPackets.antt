@@ -10,7 +10,7 @@ use Rattle.scsi_unit.specs.Background.{Work, is_dead}
 use Rattle.scsi_unit.specs.Reading.{first_home_of}
 use Rattle.spec.specs.Sense.{Sense}
 use Rattle.spec.specs.Book.{Book}
-use Rattle.spec.specs.Rules.{CarriesOut, Ticks, Intention}
+use Rattle.spec.specs.Rules.{UnitState, CarriesOut, Ticks, Intention}
 use Rattle.scsi_unit.specs.Calls.{IsBounded, SendsOneBatch}
 use Rattle.scsi_unit.specs.Serving.{has_refused, IsSparing, TicksOver}
 use Rattle.scsi_unit.specs.UnitValue.{UnitValue, unit_limit, state_of, IsOfSize}
@@ -29,11 +29,11 @@ use Rattle.spec.specs.UnitConversation.{Intends, write_of_packet, on_line}
 use Rattle.bot_machine.specs.Acts.{PacketCarriesOut}
 use Rattle.bot_machine.specs.Disk.{DiskValue, FitsDisk, Proceeds, Tells, IsStepBy, IsStep, Elapses, TakesFew}
 use Rattle.spec.specs.declared.intent.Intent.TheVariants as intent
-use Rattle.bot_machine.specs.Promising.{NonePromises}
+use Rattle.bot_machine.specs.Promising.{SendsBy}
 use Rattle.bot_machine.specs.Refinement.{taking_of, left_of, halt_of, IsInPhase, Invariant}
 use Rattle.spec.specs.Packets.{packets_of}
 use Rattle.bot_machine.specs.Reading.{LooksBesides, LooksIn, ReadsAt, WrapperReadsAt}
-use Rattle.bot_machine.specs.Serving.{BeginsOn, TakesOn, RestsOn, SparesOn, PlainOn}
+use Rattle.bot_machine.specs.Serving.{BeginsOn, TakesOn, RestsOn, SparesOn, SendsOn}
 use Rattle.bot_machine.proofs.UnitLaws.{few_ticks, none_made, step_made}
 use Rattle.bot_machine.proofs.ReadAtOnce.{besides}
 use Rattle.bot_machine.proofs.UnitMoments.{staying, proceeding, proceeding_so}
@@ -53,6 +53,11 @@ no_calls m unit =
       headroom = λ on head live. head;
       faulted = λ dead. (refl, dead);
     }
+
+-- nothing was written
+pub sends_none : {M : Type 0} (m : State) (unit : UnitValue M) (by : UnitState) (CarriedOut : List ℕ → List ℕ → Type 0)
+    → SendsBy m m unit by CarriedOut
+sends_none m unit by CarriedOut = record { plain = λ none. none_made m unit; quiet = λ all. omega arith }
 
 -- no read was made
 pub none_named : {M : Type 0} (m : State) (disk : DiskValue M) (happens : Event) → LooksIn m m disk happens
@@ -78,9 +83,8 @@ module _ {M : Type 0} (before after : State) (old new : DiskValue M) (packet : L
         → (answer : Result (List ℕ) Sense) × IsSparing before after block taken old.unit answer new.unit
         × IsBounded before after block taken old.unit × Tells answer new.line
     pub few : TakesFew before after old.unit new.unit
-    pub plain : (book : Book) → IsOfSize old.unit book
-        → NonePromises (state_of old.unit book) (PacketCarriesOut old.line.packet_size halted left packet (state_of old.unit book))
-        → SendsOneBatch old.unit.store.goes_ahead before after old.unit.store.cached.log
+    pub sends : (book : Book) → IsOfSize old.unit book → SendsBy before after old.unit (state_of old.unit book)
+        (PacketCarriesOut old.line.packet_size halted left packet (state_of old.unit book))
     pub looks : LooksIn before after old (event.Out (record { items = packet }))
     pub elapses : Elapses before after
     pub limit_stays : unit_limit new.unit ≡ unit_limit old.unit
@@ -94,7 +98,8 @@ module _ {M : Type 0} (before after : State) (old new : DiskValue M) (packet : L
     ticks = tt;
     spares = d.spares;
     few = d.few;
-    plain = d.plain;
+    plain = λ book size. (d.sends book size).plain;
+    quiet = λ book size. (d.sends book size).quiet;
     looks = d.looks;
     elapses = d.elapses;
     limit_stays = d.limit_stays;
@@ -115,7 +120,7 @@ stalled m disk packet sound halted =
       rests = λ book fits none. refl;
       spares = λ book fits block taken carries. absurd carries;
       few = no_calls m disk.unit;
-      plain = λ book size none. none_made m disk.unit;
+      sends = λ book size. sends_none m disk.unit _ _;
       looks = none_named m disk (event.Out (record { items = packet }));
       elapses = no_time m;
       limit_stays = refl;
@@ -132,7 +137,7 @@ not_ready m disk packet packets halt status sound halted left =
       rests = λ book fits none. refl;
       spares = λ book fits block taken carries. absurd carries;
       few = no_calls m disk.unit;
-      plain = λ book size none. none_made m disk.unit;
+      sends = λ book size. sends_none m disk.unit _ _;
       looks = none_named m disk (event.Out (record { items = packet }));
       elapses = no_time m;
       limit_stays = refl;
@@ -144,18 +149,18 @@ pub begins : {M : Type 0} (before after : State) (old new : DiskValue M) (packet
     → finished ≡ old.line.left → BeginsOn before after old.unit new.unit old.line new.line packet
     → RestsOn old.line.packet_size before old.unit new.unit finished packet
     → SparesOn old.line.packet_size before after old.unit new.unit new.line finished packet
-    → PlainOn old.line.packet_size before after old.unit finished packet → TakesFew before after old.unit new.unit
+    → SendsOn old.line.packet_size before after old.unit finished packet → TakesFew before after old.unit new.unit
     → LooksBesides (WrapperReadsAt old.unit packet) before after old.unit → Elapses before after
     → unit_limit new.unit ≡ unit_limit old.unit → new.line.packet_size ≡ old.line.packet_size
     → IsStep before after old (event.Out (record { items = packet })) answer.Ack new
-begins before after old new packet halted left opens rests spares plain few looks elapses limit size =
+begins before after old new packet halted left opens rests spares sends few looks elapses limit size =
     does_for before after old new packet answer.Ack false finished halted left (record {
       proceeds = λ book fits. proceeding_so before after old.unit new.unit _ _ None None book (opens book fits) refl
           (λ later moves. (refl, moves));
       rests = rests;
       spares = spares;
       few = few;
-      plain = plain;
+      sends = sends;
       looks = named_in before after old (event.Out (record { items = packet })) (WrapperReadsAt old.unit packet)
           (λ s at. (at.0, record { unhalted = sym halted; expected = sym left; wrapper = at.1 }, at.2)) looks;
       elapses = elapses;
@@ -169,18 +174,18 @@ pub goes_on : {M : Type 0} (before after : State) (old new : DiskValue M) (packe
     → TakesOn before after old.unit new.unit old.line new.line t taken packet
     → RestsOn old.line.packet_size before old.unit new.unit (taking_of t taken) packet
     → SparesOn old.line.packet_size before after old.unit new.unit new.line (taking_of t taken) packet
-    → PlainOn old.line.packet_size before after old.unit (taking_of t taken) packet
+    → SendsOn old.line.packet_size before after old.unit (taking_of t taken) packet
     → TakesFew before after old.unit new.unit → LooksBesides (λ _. ⊥) before after old.unit → Elapses before after
     → unit_limit new.unit ≡ unit_limit old.unit → new.line.packet_size ≡ old.line.packet_size
     → IsStep before after old (event.Out (record { items = packet })) answer.Ack new
-goes_on before after old new packet t taken halted left takes rests spares plain few looks elapses limit size =
+goes_on before after old new packet t taken halted left takes rests spares sends few looks elapses limit size =
     does_for before after old new packet answer.Ack false (taking_of t taken) halted left (record {
       proceeds = λ book fits. proceeding_so before after old.unit new.unit _ _ _ _ book (takes book fits) refl
           (λ later moves. (refl, moves));
       rests = rests;
       spares = spares;
       few = few;
-      plain = plain;
+      sends = sends;
       looks = named_in before after old (event.Out (record { items = packet })) (λ _. ⊥) (λ s at. absurd at) looks;
       elapses = elapses;
       limit_stays = limit;
@@ -208,6 +213,7 @@ ticked work before after old new ticks line = record {
     faulted = λ dead. ((ticks.faulted dead).1.calls_stay, ap is_dead (ticks.faulted dead).0 ∙ dead);
   };
   plain = λ book size none. step_made before after old.unit ticks.sent;
+  quiet = λ book size loud. absurd loud;
   looks = looks_wider (λ s. s < first_home_of old.unit) (λ s. (s < first_home_of old.unit) ⊎ ReadsAt old event.Tick s) before after
       (λ s low. inl low) ticks.looks;
   elapses = record {
@@ -265,6 +271,7 @@ token m disk sound = record {
   spares = λ book fits block taken carries. absurd carries;
   few = no_calls m disk.unit;
   plain = λ book size none. none_made m disk.unit;
+  quiet = λ book size all. omega arith;
   looks = none_named m disk event.In;
   elapses = no_time m;
   limit_stays = refl;
@@ -281,6 +288,7 @@ asked m disk packet told line sound step = record {
   spares = λ book fits block taken carries. absurd carries;
   few = no_calls m disk.unit;
   plain = λ book size none. none_made m disk.unit;
+  quiet = λ book size all. omega arith;
   looks = none_named m disk (event.Setup packet);
   elapses = no_time m;
   limit_stays = refl;

@@ -7,8 +7,8 @@ use Rattle.spec.specs.Sense.{Sense}
 use Rattle.spec.specs.Rules.{UnitState, intention, CarriesOut, Ticks, write_in_progress, with_progress}
 use Rattle.scsi_unit.proofs.UnitLaws.{is_function, keeps_writes, keeps_intentions, ticks_only}
 pub use Rattle.scsi_unit.proofs.UnitLaws.{between_calls, limit_between_calls, start_keeps_limit, fits_size, knows_images, few_ticks}
-pub use Rattle.scsi_unit.proofs.UnitLaws.{intends_by_book, promises_by_book}
-pub use Rattle.scsi_unit.proofs.UnitLaws.{none_made, step_made, steps_to_write, written_live}
+pub use Rattle.scsi_unit.proofs.UnitLaws.{intends_by_book, promises_by_book, quiet_by_book}
+pub use Rattle.scsi_unit.proofs.UnitLaws.{none_made, step_made, steps_to_write, written_live, ahead_fewer, both_empty, plain_quiet}
 
 -- a command leaves it as it was whether every image was ours when the life began
 pub ours_stay : (refused : Bool) (block taken : List ℕ) (old new : UnitState)

@@ -29,7 +29,7 @@ use Rattle.spec.specs.Conversation.{Conversation, refused_events, SetupStep}
 use Rattle.bot_machine.specs.Turns.{ByTurns, marks_in}
 use Rattle.spec.specs.UnitConversation.{Intends, write_of_event, UnitRun, UnitStep, on_line}
 use Rattle.bot_machine.specs.Acts.{EventCarriesOut, Acts}
-use Rattle.bot_machine.specs.Promising.{PromisesNone}
+use Rattle.bot_machine.specs.Promising.{PromisesNone, QuietIn}
 use Rattle.bot_machine.specs.Reading.{LooksIn}
 
 -- the conversation of a disk, with a book of its life
@@ -114,6 +114,9 @@ pub record IsStepBy {M : Type 0} (work : Work) (before after : State) (old : Dis
   -- where no command is carried out that promises, one batch at most is made durable
   pub plain : (book : Book) → IsOfSize old.unit book → PromisesNone (over old book) event
       → SendsOneBatch old.unit.store.goes_ahead before after old.unit.store.cached.log
+  -- where each command that is carried out is quiet, nothing is written or flushed
+  pub quiet : (book : Book) → IsOfSize old.unit book
+      → QuietIn (over old book) old.unit.store.cached event → SendsUpTo 0 before after
   -- each read names a sector of the log, or one that `Disk::home_sectors` tells for the packet
   pub looks : LooksIn before after old event
   pub elapses : Elapses before after

@@ -10,7 +10,7 @@ use Rattle.medium.specs.Medium.{State}
 use Rattle.spec.specs.Sense.{Sense}
 use Rattle.spec.specs.Book.{Book}
 use Rattle.spec.specs.Rules.{CarriesOut, Ticks, write_in_progress}
-use Rattle.scsi_unit.specs.Calls.{IsBounded, SendsOneBatch}
+use Rattle.scsi_unit.specs.Calls.{IsBounded}
 use Rattle.scsi_unit.specs.Serving.{has_refused, IsSparing}
 use Rattle.scsi_unit.specs.UnitValue.{UnitValue, unit_limit, state_of, FitsUnit, IsOfSize}
 use Rattle.scsi_unit.specs.UnitValue.{intention_of}
@@ -23,7 +23,7 @@ use Rattle.spec.specs.Exchange.{Line, Script, moment_of, at_once}
 use Rattle.spec.specs.Conversation.{IsCarriedOut, OpensExchange, Locks, Takes}
 use Rattle.spec.specs.UnitConversation.{way_of, Intends, write_of_packet, on_line}
 use Rattle.bot_machine.specs.Acts.{PacketCarriesOut}
-use Rattle.bot_machine.specs.Promising.{NonePromises}
+use Rattle.bot_machine.specs.Promising.{SendsBy}
 use Rattle.bot_machine.specs.Refinement.{taking_of, line_with, IsInPhase}
 use Rattle.bot_machine.specs.Disk.{Proceeds, Elapses, TakesFew, Tells}
 use Rattle.bot_machine.specs.Reading.{LooksBesides}
@@ -91,12 +91,11 @@ SparesOn most before after old new to left packet = (book : Book) → FitsUnit b
     → (answer : Result (List ℕ) Sense) × IsSparing before after block taken old answer new
     × IsBounded before after block taken old × Tells answer to
 
--- where a packet, of at most `most` bytes, has no command carried out that promises, one batch at
--- most is made durable
-abbrev pub PlainOn : {M : Type 0} → ℕ → State → State → UnitValue M → Script → List ℕ → Type 0
-PlainOn most before after old left packet = (book : Book) → IsOfSize old book
-    → NonePromises (state_of old book) (PacketCarriesOut most false left packet (state_of old book))
-    → SendsOneBatch old.store.goes_ahead before after old.store.cached.log
+-- a packet, of at most `most` bytes, has as few calls made that write as its command promises
+abbrev pub SendsOn : {M : Type 0} → ℕ → State → State → UnitValue M → Script → List ℕ → Type 0
+SendsOn most before after old left packet = (book : Book) → IsOfSize old book
+    → SendsBy before after old (state_of old book)
+    (PacketCarriesOut most false left packet (state_of old book))
 
 -- A packet takes data, of which the first bytes of this buffer came already: by the rules, and the
 -- unit rests where no command is carried out, and makes few calls where one is.
@@ -108,8 +107,8 @@ pub record TakesData {M : Type 0} (before after : State) (old new : UnitValue M)
       → RestsOn (bytes_of from.size) before old new (taking_of pending taken) packet
   pub spares : (pending : Taking) → from.phase ≡ DataOut pending
       → SparesOn (bytes_of from.size) before after old new to (taking_of pending taken) packet
-  pub plain : (pending : Taking) → from.phase ≡ DataOut pending
-      → PlainOn (bytes_of from.size) before after old (taking_of pending taken) packet
+  pub sends : (pending : Taking) → from.phase ≡ DataOut pending
+      → SendsOn (bytes_of from.size) before after old (taking_of pending taken) packet
 
 -- A part of an event passes these on: a phase that the unit allows, its limit and the size of a
 -- packet as they were, and the medium, which comes after what it was by few calls, and of which no

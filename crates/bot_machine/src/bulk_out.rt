@@ -15,7 +15,7 @@ ghost use Rattle.bot_machine.specs.Refinement.{IsTaking, line_of, line_with};
 ghost use Rattle.spec.specs.Packets.{bytes_of};
 ghost use Rattle.bot_machine.specs.Serving.{IsBegun, CarriesOutOn, BeginsOn, RestsOn, SparesOn};
 ghost use Rattle.bot_machine.specs.Serving.{TakesData, HandsOn, EndsData, CanCarryOut, LiesIn};
-ghost use Rattle.bot_machine.specs.Serving.{AwaitsWrapper, HasMoreDue, PlainOn};
+ghost use Rattle.bot_machine.specs.Serving.{AwaitsWrapper, HasMoreDue, SendsOn};
 ghost use Rattle.bot_machine.specs.LineChanges.{LaysOut};
 ghost use Rattle.scsi_unit.specs.Reading.{IsOneOf};
 ghost use Rattle.bot_machine.specs.Reading.{sectors_for, WrapperReadsAt};
@@ -93,7 +93,7 @@ pub(crate) fn open<M: Medium>(
     ensures spares { SparesOn (bytes_of bulk.old.size)
         (M.state unit.old.store.medium) (M.state unit.new.store.medium) unit.old unit.new
         (line_of bulk.new transfer.new) finished packet.now }
-    ensures plain { PlainOn (bytes_of bulk.old.size) (M.state unit.old.store.medium)
+    ensures sends { SendsOn (bytes_of bulk.old.size) (M.state unit.old.store.medium)
         (M.state unit.new.store.medium) unit.old finished packet.now }
     ensures passes { HandsOn M.state M.follows (WrapperReadsAt unit.old packet.now)
         unit.old unit.new bulk.old bulk.new }

@@ -1,13 +1,13 @@
 //! A disk: the transport over a logical unit.
 ghost use Rattle.std.specs.Prelude.{⊤, ◌↔◌, ◌≡◌, ◌⊎◌, ◌≤◌, ◌<◌, ◌/◌, ℕ, false, true, length};
-ghost use Rattle.std.specs.Prelude.{IsTrue};
+ghost use Rattle.std.specs.Prelude.{[], IsTrue, None};
 ghost use Rattle.medium.specs.Inlet.{AreHeld};
 ghost use Rattle.std.specs.Borrow.{sem, follows_so};
 ghost use mathlib.Core.Option.{none};
 ghost use Rattle.medium.specs.Moments.{EachCut, IsUnchanged};
 ghost use Rattle.spec.specs.Book.{Book};
 ghost use Rattle.scsi_unit.specs.Books.{MayFind};
-ghost use Rattle.scsi_unit.specs.Background.{IsSettled, IsWritten, HasLimits, Settle};
+ghost use Rattle.scsi_unit.specs.Background.{IsSettled, IsWritten, TellsWork, HasLimits, Settle};
 ghost use Rattle.scsi_unit.specs.Background.{is_dead, steps_left};
 ghost use Rattle.scsi_unit.specs.Serving.{TicksOver};
 ghost use Rattle.scsi_unit.specs.Starting.{HasLimit};
@@ -92,6 +92,23 @@ impl<M: Medium> Disk<M> {
         ensures { IsTrue result ↔ IsWritten self.now.unit.store.cached }
     {
         self.unit.is_written()
+    }
+
+    /// Whether the frozen batch of the store is empty: no WRITE that promises nothing asks the
+    /// medium for anything then.
+    pub fn has_free_batch(&self) -> bool
+        ensures { IsTrue result ↔ (self.now.unit.store.cached.frozen.numbers ≡ []) }
+    {
+        self.unit.has_free_batch()
+    }
+
+    /// What a step has to work towards so that the next record takes no call for its room, or none
+    /// where that is so already. Where no step is left none is told.
+    pub fn work_for_room(&self) -> Option<Work>
+        ensures is { TellsWork self.now.unit.store.goes_ahead self.now.unit.store.cached.log result }
+        ensures rests { steps_left self.now.unit.store.cached ≡ 0 → result ≡ None }
+    {
+        self.unit.work_for_room()
     }
 
     /// Whether the host is still to take a status wrapper, with or without data before it

@@ -9,8 +9,8 @@ use Rattle.bot_machine.proofs.FrontBytes.{last_packet, other_packet}
 use Rattle.bot_machine.proofs.Packets.{packets_of-none}
 use Rattle.bot_machine.proofs.Sizes.{some_bytes}
 use Rattle.bot_machine.proofs.UnitMoments.{staying_so, proceeding_so}
-use Rattle.bot_machine.proofs.EventParts.{unit_stays, plainly}
-use Rattle.bot_machine.proofs.UnitLaws.{none_made}
+use Rattle.bot_machine.proofs.EventParts.{unit_stays, sends_so}
+use Rattle.bot_machine.proofs.OutPackets.{sends_none}
 use Rattle.bot_machine.proofs.TakenData.{one_taking}
 use Rattle.bot_machine.proofs.DataPackets.{lies_after}
 use Rattle.bot_machine.proofs.bulk_out.end_data.Goals as goal
@@ -40,7 +40,7 @@ returns-then-packet-size_of_next g c = record {
             let last = carries.last in
             let more = other (omega (arith, due, size)) in
             absurd (omega (arith, more, due, last));
-        plain = λ pending is book size none. none_made _ unit;
+        sends = λ pending is book size. sends_none _ unit _ _;
       };
   passes =
       unit_stays _ _ _ c.args.unit.now c.args.bulk.now c.conclude_wrong_size.new.bulk g.met.M.Medium.follows_itself
@@ -83,10 +83,10 @@ returns g c =
                 let spared = rw bytes at c.carry_out.ensures.spares in
                 let last_one = rw (← same) at carries in
                 rw (last_one.block_is, last_one.taken_is) (spared.0, spared.1, spared.2, spared.3 c.fill.new.buffer lies);
-            plain = λ pending is book size none.
+            sends = λ pending is book size.
                 let same : d ≡ pending = one_taking d pending (c.in-DataOut.ensures.value ∙ is) in
-                plainly _ _ c.args.unit.now d.exchange.command.block.items _ book size c.carry_out.ensures.spares.2
-                ((rw (← same) at none) _ _ (record { size = whole; last = last; block_is = refl; taken_is = refl }));
+                rw (← same) (sends_so _ _ c.args.unit.now d.exchange.command.block.items _ _ book size c.carry_out.ensures.spares.2 _
+                (record { size = whole; last = last; block_is = refl; taken_is = refl }));
           };
       passes =
           let p = c.carry_out.ensures.passes in

@@ -6,7 +6,7 @@ use Rattle.spec.specs.Packets.{bytes_of}
 use Rattle.bot_machine.proofs.Packets.{packets_of-none}
 use Rattle.bot_machine.proofs.Sizes.{some_bytes}
 use Rattle.bot_machine.proofs.UnitMoments.{staying, proceeding_so}
-use Rattle.bot_machine.proofs.EventParts.{unit_stays, plainly}
+use Rattle.bot_machine.proofs.EventParts.{unit_stays, sends_so}
 use Rattle.bot_machine.proofs.UnitLaws.{fits_size}
 use Rattle.bot_machine.proofs.ExchangeStarts.{opens, no_write, carries_out, carried_at_once}
 use Rattle.spec.specs.Exchange.{finished, at_once, after_data, never}
@@ -48,11 +48,11 @@ returns-in-AtOnce-clause-spares g c = λ book fits block taken carries.
     let same = carried_at_once _ book (fits_size _ c.args.unit.now book fits) _ c.in-Some.exchange c.in-Some.ensures block taken carries in
     rw (same.1, same.2) (spared.0, spared.1, spared.2, spared.3 _ (λ once. refl))
 
-pub returns-in-AtOnce-clause-plain : goal.returns-in-AtOnce-clause-plain
-returns-in-AtOnce-clause-plain g c = λ book size none.
+pub returns-in-AtOnce-clause-sends : goal.returns-in-AtOnce-clause-sends
+returns-in-AtOnce-clause-sends g c = λ book size.
     let e = c.in-Some.exchange in
-    plainly _ _ c.args.unit.now e.command.block.items _ book size c.carry_out.ensures.spares.2
-    (none e.command.block.items [] (carries_out _ book size _ e c.in-Some.ensures c.in-AtOnce.ensures))
+    sends_so _ _ c.args.unit.now e.command.block.items _ [] book size c.carry_out.ensures.spares.2 _
+    (carries_out _ book size _ e c.in-Some.ensures c.in-AtOnce.ensures)
 
 pub returns-in-AfterData-clause-opens : goal.returns-in-AfterData-clause-opens
 returns-in-AfterData-clause-opens g c = λ book fits.

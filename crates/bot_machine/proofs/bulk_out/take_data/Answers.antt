@@ -7,7 +7,7 @@ use Rattle.spec.specs.Exchange.{taking}
 use Rattle.bot_machine.specs.Refinement.{line_with}
 use Rattle.spec.specs.Packets.{bytes_of}
 use Rattle.bot_machine.proofs.FrontBytes.{other_packet}
-use Rattle.bot_machine.proofs.UnitLaws.{none_made}
+use Rattle.bot_machine.proofs.OutPackets.{sends_none}
 use Rattle.bot_machine.proofs.UnitMoments.{staying_so}
 use Rattle.bot_machine.proofs.TakenData.{one_taking}
 use Rattle.bot_machine.proofs.bulk_out.take_data.Goals as goal
@@ -46,7 +46,7 @@ returns-then-packet-most-clause-serves g c =
           let due = ap (λ (t : Taking). t.due) (one_taking d pending (sym c.in-DataOut.is ∙ is)) in
           let last = carries.last in
           absurd (omega (arith, more, due, last));
-      plain = λ pending is book size none. none_made _ unit;
+      sends = λ pending is book size. sends_none _ unit _ _;
     }
 
 pub returns-clause-serves : goal.returns-clause-serves

@@ -17,7 +17,7 @@ returns-in-Command-clause-step g c =
     let passes = c.open.ensures.passes in
     rw (← c.self.view_is, with_items_is d.transfer c.open.new.transfer (search (rules, places)))
     (begins _ _ _ _ c.args.packet.now (sym c.if-self.false) left opens c.open.ensures.rests c.open.ensures.spares
-    c.open.ensures.plain passes.few passes.looks passes.elapses passes.limit (ap bytes_of passes.size))
+    c.open.ensures.sends passes.few passes.looks passes.elapses passes.limit (ap bytes_of passes.size))
 
 pub returns-in-DataOut-clause-step : goal.returns-in-DataOut-clause-step
 returns-in-DataOut-clause-step g c =
@@ -31,7 +31,7 @@ returns-in-DataOut-clause-step g c =
     (goes_on _ _ _ _ c.args.packet.now t c.deref_mut-in-DataOut.result.now (sym c.if-self.false)
     (ap (λ came. taking_of t came) taken ∙ left)
     (serves.takes t c.in-DataOut.is (left_of (bytes_of d.bulk.size) d.bulk.phase d.transfer.items d.bulk.status))
-    (serves.rests t c.in-DataOut.is) (serves.spares t c.in-DataOut.is) (serves.plain t c.in-DataOut.is) passes.few passes.looks
+    (serves.rests t c.in-DataOut.is) (serves.spares t c.in-DataOut.is) (serves.sends t c.in-DataOut.is) passes.few passes.looks
     passes.elapses passes.limit (ap bytes_of passes.size))
 
 pub returns-in_default-clause-step : goal.returns-in_default-clause-step
