@@ -144,7 +144,7 @@ uint32_t usbdisk_look(const uint8_t sector[512], struct usbdisk_layout *layout);
 /* How many bytes of memory a disk takes, on an image of this format (1 or 2) with `slots` log
  * slots, of every size of the device, and no more while it starts. Each sector between log and
  * home takes 512 bytes more: at most 126,976, where an image was migrated or made so. A store takes
- * 105,360 bytes less in format 1 and 2,256 more in format 2; while it starts it takes the first
+ * 18,768 bytes less in format 1 and 221,616 less in format 2; while it starts it takes the first
  * sectors twice. 0 where there is no such format or number of slots. */
 uint64_t usbdisk_memory(uint32_t format, uint64_t slots);
 
@@ -230,12 +230,16 @@ uint32_t usbdisk_state(struct usbdisk *disk, uint32_t *fault);
  * packet does. They are taken packet by packet, each as many bytes as a packet has, the last maybe
  * fewer; no bytes are one empty packet. `*taken` tells how many were taken.
  *
- * Answers ACK: all of them. NAK: the disk waits for its device (it starts, it reads, so much waits
- * that a packet may have no room, the packet is a READ that lacks sectors, or it promises while
- * writes before it are not yet in the log: usbdisk_next tells these calls from now on), or the host
- * has not taken the status of the command before. Nothing happened to the packet behind those that
- * were taken: hand it in again, behind the next done, idle or status; where a bus reset comes
- * first, let go of it. STALL: the endpoint is halted. Errors: EMPTY, OTHER_KIND. */
+ * Answers ACK: all of them. NAK: the disk waits for its device (it starts, it reads, the packet is a
+ * READ that lacks sectors, or it asks for writes: see below), or the host has not taken the status
+ * of the command before. Nothing happened to the packet behind those that were taken: hand it in
+ * again, behind the next done, idle or status; where a bus reset comes first, let go of it. STALL:
+ * the endpoint is halted. Errors: EMPTY, OTHER_KIND.
+ *
+ * A packet asks for writes that ends a WRITE for which memory has no room, or a command that
+ * promises while writes before it are not yet in the log. usbdisk_next tells the WRITEs and FLUSHes
+ * before it from now on. A WRITE with FUA, or without the write cache, is taken when usbdisk_next
+ * has told all that waits. */
 uint32_t usbdisk_out(struct usbdisk *disk, const uint8_t *bytes, size_t size, size_t *taken);
 
 /* The host asks the Bulk-In endpoint for packets. They lie one behind the other in the room, and

@@ -54,13 +54,13 @@ static bool is_memory_told(uint32_t format, uint64_t slots, bool tells)
     return good && heap_blocks == 0;
 }
 
-/* A store takes so much less in format 1 and so much more in format 2, whatever the slots, and the
- * first sectors twice while it starts. */
+/* A store takes so much less than a disk, whatever the slots, and the first sectors twice while it
+ * starts. */
 static bool is_store_told(uint32_t format, uint64_t slots, bool tells)
 {
     struct usbdisk store = USBDISK_NONE;
     uint64_t disk = usbdisk_memory(format, slots), first = 512 * home_of(format, slots);
-    uint64_t told = format == 1 ? disk - 105360 : disk + 2256;
+    uint64_t told = disk - (format == 1 ? 18768 : 221616);
     make_device(format, slots);
     heap_most = heap_now;
     bool good = !usbdisk_store_start(&store, &options) && serves(&store) && heap_now == told &&

@@ -81,8 +81,8 @@ impl<M: Medium> Store<M> {
 
     /// Makes a flush of the next record stand for those that retiring its oldest one would make:
     /// where fewer slots are free than three, the head goes past that record, if it is flushed at
-    /// home, and where they are still fewer, the oldest one goes home. Nothing is done where that is
-    /// done already.
+    /// home, and where they are still fewer, the oldest one goes home. Nothing is done where that
+    /// is done already.
     pub(crate) fn go_ahead(&mut self) -> Result<(), StoreFault>
         requires live { is_dead self.old.cached ≡ false }
         requires idle { self.old.cached.log.steps_left ≡ 0 }

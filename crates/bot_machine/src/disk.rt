@@ -105,7 +105,8 @@ impl<M: Medium> Disk<M> {
     /// What a step has to work towards so that the next record takes no call for its room, or none
     /// where that is so already. Where no step is left none is told.
     pub fn work_for_room(&self) -> Option<Work>
-        ensures is { TellsWork self.now.unit.store.goes_ahead self.now.unit.store.cached.log result }
+        ensures is { TellsWork self.now.unit.store.goes_ahead self.now.unit.store.cached.log
+            result }
         ensures rests { steps_left self.now.unit.store.cached ≡ 0 → result ≡ None }
     {
         self.unit.work_for_room()

@@ -45,7 +45,8 @@ fn data_promises<M: Medium>(unit: &Unit<M>, pending: &Taking, packet: &[u8], mos
     unit.promises(pending.exchange.command.block.as_slice())
 }
 
-// Whether the command of a wrapper in this packet is carried out at once by reads alone, or none is.
+// Whether the command of a wrapper in this packet is carried out at once by reads alone, or none
+// is.
 fn wrapper_is_quiet<M: Medium>(unit: &Unit<M>, packet: &[u8]) -> bool
     ensures { (book : Book) → IsOfSize unit.now book
         → IsTrue result ↔ AreQuiet (state_of unit.now book) unit.now.store.cached

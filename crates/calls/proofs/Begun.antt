@@ -1,10 +1,12 @@
 -- Why a disk begins, and why it does not.
-use Rattle.std.proofs.Common.{◌≡◌, ◌≤◌, ℕ, List, length, inr, sym, subst, ap, arith}
+use Rattle.std.proofs.Common.{◌≡◌, ◌≤◌, ◌-◌, ℕ, List, length, inr, sym, subst, ap, arith}
 use Rattle.medium.specs.Writes.{sector_of}
 use Rattle.window.specs.Window.{Window, state_of, mirror_of, ComesAfter, CoversDevice, IsServed}
 use Rattle.window.specs.OutboxMedium.{sent}
 use Rattle.window.proofs.Kept.{opened_front}
+use Rattle.journal.specs.Places.{Shape}
 use Rattle.journal.specs.Sectors.{IsSuper}
+use Rattle.disk_machine.specs.Room.{room_for}
 use Rattle.recovery.specs.declared.start_fault.StartFault.{StartFault}
 use Rattle.store_calls.specs.Starts.{IsNoLength}
 use Rattle.bot_machine.specs.Device.{Device}
@@ -15,8 +17,12 @@ use Rattle.disk_machine.proofs.Refusals.{ends_in}
 use Rattle.disk_machine.proofs.Rooms.{IsEnough, start_refuses, holds_log, roomy}
 use Rattle.disk_machine.specs.Machine.{Machine}
 use Rattle.disk_machine.specs.Moves.{begun, ServesAtRest, BeginsBehind, HasRoomBeside}
-use Rattle.calls.specs.Reserve.{IsReserve, AHEAD}
+use Rattle.calls.specs.Reserve.{IsReserve}
 use Rattle.calls.specs.Starting.{IsMediumOn, StartsOn, IsRefusedOn}
+
+-- each image wants room for a step
+least_room : (shape : Shape) → 2 ≤ room_for shape
+least_room shape = grind arith
 
 -- no image wants more than what is reserved for it
 enough : (near : List ℕ) (span room : ℕ) → IsReserve near span room → 512 ≤ length near → IsEnough near room
@@ -69,16 +75,18 @@ module _ (near : List ℕ) (sectors : ℕ) (content : List ℕ) (first : Window)
     super = subst (λ (b : List ℕ). IsSuper (layout_on disk) b) (sym (opened_front sectors near content 0 (omega (arith, some))))
         (subst (λ (w : Window). IsSuper (layout_on disk) ((state_of w).content 0)) on.3 starts.opened.store.stood.keeps.super)
 
-    beside : HasRoomBeside (begun disk AHEAD)
-    beside = omega (
-      arith,
-      (on.2.image (layout_on disk) (some, super)).1,
-      follows.room_stays,
-      ap (λ (w : Window). w.room) on.3,
-    )
+    beside : HasRoomBeside (begun disk (first.room - 2))
+    beside =
+        let room = (on.2.image (layout_on disk) (some, super)).1 in
+        let is = ap (λ (w : Window). w.room) on.3 in
+        let least = least_room (layout_on disk) in
+        record {
+          steps = omega (arith, room, is, follows.room_stays, least);
+          alone = omega (arith, room, is, follows.room_stays);
+        }
 
     -- the machine is that of the disk
-    pub begins : (new : Machine) → new ≡ begun disk AHEAD → ServesAtRest new → BeginsBehind new
+    pub begins : (new : Machine) → new ≡ begun disk (first.room - 2) → ServesAtRest new → BeginsBehind new
         → StartsOn near sectors content device new
     begins new is serves behind = record {
       first = first;

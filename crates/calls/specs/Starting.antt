@@ -20,7 +20,7 @@ use Rattle.opening.specs.declared.reach.Reach.TheVariants as reach
 use Rattle.calls.specs.Beginning.{BeginsStore, BeginsFormat, BeginsLog, BeginsMigration}
 use Rattle.calls.specs.Handles.{Held}
 use Rattle.calls.specs.Recovers.{IsFirst}
-use Rattle.calls.specs.Reserve.{IsReserve, AHEAD}
+use Rattle.calls.specs.Reserve.{IsReserve}
 use Rattle.calls.specs.declared.held.Purpose.{Purpose}
 use Rattle.calls.specs.declared.held.Purpose.TheVariants as purpose
 use Rattle.calls.specs.declared.held.Stage.{Stage}
@@ -47,7 +47,8 @@ pub record StartsOn (near : List ℕ) (sectors : ℕ) (content : List ℕ) (devi
   pub length_is : ¬ IsNoLength near sectors
   pub disk : Disk
   pub begins : Begins first device disk
-  pub is : new ≡ begun disk AHEAD
+  -- steps are made as long as the two calls of one have room
+  pub is : new ≡ begun disk (first.room - 2)
   pub serves : ServesAtRest new
   -- as long as the device carries out the calls of the start, a loss of power leaves what it could
   -- of the start

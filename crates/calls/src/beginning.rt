@@ -4,18 +4,21 @@ ghost use Rattle.bot_machine.specs.Device.{device_by, Ahead};
 ghost use Rattle.store_calls.specs.Starts.{IsNoLength};
 ghost use Rattle.opening.specs.Reading.{IsWhole, IsSound};
 ghost use Rattle.calls.specs.Starting.{GoesOn, BeginsAs, BeginsDisk, StartsOn, IsRefusedOn};
-ghost use Rattle.calls.specs.Starting.{IsMediumOn};
+ghost use Rattle.calls.specs.Starting.{medium_on};
 ghost use Rattle.recovery.specs.declared.start_fault.StartFault.TheVariants.{NoMemory, BadSuper};
 
 use crate::device::device_holding;
 use crate::held::{Purpose, Stage};
-use crate::reserve::{AHEAD, reserve_for};
+use crate::reserve::{Reserve, reserve_for};
 use crate::work::{begin_format, begin_log, begin_migration, begin_store};
 use bot_machine::{Disk, Identity, PacketSize, Retiring, StartFault};
 use disk_machine::DiskMachine;
 use opening::Opening;
 use std::alloc::Global;
 use window::{WindowError, WindowMedium, device_laws};
+
+// How many calls a step in the background makes at most.
+const STEP: usize = 2;
 
 impl Purpose {
     /// What was started begins, where all is read. It stands apart, so that an event does not take
@@ -77,25 +80,31 @@ fn disk_on(
         MatchResult result (StartsOn near.items sectors content device)
         (IsRefusedOn near.items sectors content device) }
 {
-    let medium = medium_on(alloc, near, sectors)?;
+    let reserve = reserve_for(&near);
+    let medium = medium_on(alloc, near, sectors, reserve)?;
     // The law of the medium, from the first call on.
     let _waiting = medium.waiting();
     device_laws();
     match Disk::start_by(alloc, medium, identity, size, Retiring::Ahead) {
-        Ok(disk) => Ok(DiskMachine::new(disk, AHEAD)),
+        Ok(disk) => Ok(DiskMachine::new(disk, reserve.room.saturating_sub(STEP))),
         Err(error) => Err(error.fault),
     }
 }
 
-// The medium of a device of `sectors` sectors, of which these are the first.
-fn medium_on(alloc: Global, near: Vec<u8>, sectors: u64) -> Result<WindowMedium, StartFault>
+// The medium of a device of `sectors` sectors, of which these are the first, with this room.
+fn medium_on(
+    alloc: Global,
+    near: Vec<u8>,
+    sectors: u64,
+    reserve: Reserve,
+) -> Result<WindowMedium, StartFault>
     ghost content: { List ℕ }
-    ensures ok { IfOk result (IsMediumOn near.items sectors content) }
+    ensures ok { IfOk result (λ m.
+        m ≡ medium_on near.items sectors content reserve.span reserve.room) }
     ensures sized { OnOk result (¬ IsNoLength near.items sectors) }
     ensures err { IfErr result (λ why. (why ≡ NoMemory)
         ⊎ ((why ≡ BadSuper) × IsNoLength near.items sectors)) }
 {
-    let reserve = reserve_for(&near);
     let device = device_holding();
     match WindowMedium::new(alloc, near, sectors, &device, reserve.span, reserve.room) {
         Ok(medium) => Ok(medium),

@@ -3,7 +3,6 @@ ghost use Rattle.std.specs.Prelude.{◌≡◌, ◌≤◌};
 ghost use Rattle.calls.specs.Memory.{TellsMemory, memory_on};
 ghost use Rattle.disk_machine.specs.Room.{slot_memory};
 
-use crate::reserve::AHEAD;
 use disk_machine::room_for;
 use journal::LogFormat;
 
@@ -31,7 +30,7 @@ fn memory_on(format: LogFormat, slots: u64) -> u64
 {
     let near = 2 + format.slot_sectors() * slots;
     let limit = u64::from(format.limit());
-    let room = room_for(format) + AHEAD as u64;
+    let room = room_for(format);
     512 * near + (512 + 1584) * limit + 528 * room + slot_memory(format) * slots + KEPT
 }
 

@@ -8,9 +8,9 @@ use journal::Super;
 
 const SECTOR: usize = 512;
 
-/// How many calls may wait when a packet is taken: the outbox has room for them beside those of the
-/// packet.
-pub(crate) const AHEAD: usize = 256;
+/// For how many calls there is room where the first sectors are none of an image: as many as a
+/// start makes that has no record to bring home.
+const NO_IMAGE: usize = 4;
 
 /// How many sectors are shown at a time at most, and how many calls the outbox has room for.
 #[derive(Clone, Copy)]
@@ -26,11 +26,11 @@ pub(crate) fn reserve_for(near: &[u8]) -> Reserve
     match super_of(near) {
         Some(sizes) => Reserve {
             span: sizes.format.limit(),
-            room: room_for(sizes.format) as usize + AHEAD,
+            room: room_for(sizes.format) as usize,
         },
         None => Reserve {
             span: 0,
-            room: AHEAD,
+            room: NO_IMAGE,
         },
     }
 }

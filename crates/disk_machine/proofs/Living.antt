@@ -1,5 +1,5 @@
 -- A life is served on through all calls, and what is said in them is by the rules.
-use Rattle.std.proofs.Common.{◌≡◌, inl, inr, ◌++◌, ◌*◌, [], ◌∷◌, List, ℕ, zero, suc, Bool, true, false, ◌≤◌}
+use Rattle.std.proofs.Common.{◌≡◌, ◌⊎◌, inl, inr, ◌++◌, ◌*◌, [], ◌∷◌, List, ℕ, zero, suc, Bool, true, false, ◌≤◌}
 use Rattle.std.proofs.Common.{refl, sym, ◌∙◌, ap, subst, arith, append_assoc, drop}
 use Rattle.std.specs.Prelude.{Option, Some, None}
 use Rattle.std.proofs.lemmas.Bool.{cases_Bool}
@@ -22,13 +22,13 @@ use Rattle.disk_machine.specs.Lives.{IsMade, turns_of, ServesLater, ServesThroug
 use Rattle.disk_machine.specs.Machine.{Machine, Serves, has_refused}
 use Rattle.disk_machine.specs.Moves.{ServesOn, ServesEvent, ServesToken}
 use Rattle.disk_machine.specs.Packets.{TakesOne, SendsIn}
-use Rattle.disk_machine.specs.PuttingOff.{MayWriteOn}
+use Rattle.disk_machine.specs.PuttingOff.{MayGoOn, WaitsForSteps, WaitsForCalls}
 use Rattle.disk_machine.specs.Transfers.{packet_at, TakesFirst, EndsTaking, TakesTransfer, SendsAt, SendsFirst}
 use Rattle.disk_machine.specs.Transfers.{EndsSending, SendsTransfer, SendsInto}
 use Rattle.disk_machine.specs.Turns.{Turn, played, ticks, TurnsRun, turns_one, turns_in, turns_ahead, turns_idle, turns_taken}
-use Rattle.disk_machine.specs.Turns.{turns_not_taken}
+use Rattle.disk_machine.specs.Turns.{turns_not_taken, turns_before}
 use Rattle.disk_machine.specs.Turns.{turns_of_taking, turns_at, turns_sent, turns_last, turns_of_sending, turns_into}
-use Rattle.scsi_unit.specs.Background.{Settle, Ahead, WriteBack}
+use Rattle.scsi_unit.specs.Background.{Settle, Ahead}
 use Rattle.disk_machine.proofs.StepLaws.{opening_stays, writes_grow}
 use Rattle.disk_machine.proofs.Turning.{runs_through, same_over, asks_say, done_says, steps_run}
 
@@ -127,6 +127,15 @@ nothing_changes : (old new : Machine) → new ≡ old → LivesOn old [] new
 nothing_changes old new same = subst (λ (s : Machine). LivesOn old [] s) (sym same)
     (served_on old old [] (λ told book serves. serves) (λ book. refl))
 
+-- a packet that is put off
+put_off : (promises : Bool) (old new : Machine) (waits : WaitsForSteps promises old new ⊎ WaitsForCalls promises old new)
+    → LivesOn old (turns_before promises old new waits) new
+put_off promises old new (inl steps) = λ told book serves.
+    let writes = steps.goes.writes in
+    with_book old new (ticks writes.count) told told book (omega arith) (steps.serves told book serves)
+    (steps_run (MayGoOn old.most promises steps.work) steps.work writes.count old new.disk writes.steps told book serves)
+put_off promises old new (inr calls) = nothing_changes old new calls.2
+
 taken_one : (old new : Machine) (packet : List ℕ) (code : ℕ) (takes : TakesOne old packet new code)
     → LivesOn old (turns_one old packet new code takes) new
 taken_one old new packet code (inl long) = nothing_changes old new long.2
@@ -135,10 +144,7 @@ taken_one old new packet code (inr (few, inr (free, inl lacks))) =
     served_on old new [] lacks.4.serves (same_over old new (ap (λ (s : Machine). s.disk) lacks.3))
 taken_one old new packet code (inr (few, inr (free, inr (inl (none, serves))))) =
     served_event old new (event.Out (record { items = packet })) serves.played.answer serves.serves
-taken_one old new packet code (inr (few, inr (free, inr (inr puts)))) = λ told book serves.
-    let writes = puts.goes.writes in
-    with_book old new (ticks writes.count) told told book (omega arith) (puts.serves told book serves)
-    (steps_run (MayWriteOn old.most) WriteBack writes.count old new.disk writes.steps told book serves)
+taken_one old new packet code (inr (few, inr (free, inr (inr puts)))) = put_off puts.promises old new puts.waits
 
 sent_in : (old new : Machine) (room filled : List ℕ) (size code : ℕ) (sends : SendsIn old room new filled size code)
     → LivesOn old (turns_in old room new filled size code sends) new

@@ -17,11 +17,12 @@ use Rattle.scsi_unit.specs.Background.{Work, Settle, Ahead}
 use Rattle.scsi_unit.specs.Calls.{SendsOneBatch}
 use Rattle.bot_machine.proofs.UnitLaws.{fits_size}
 use Rattle.disk_machine.specs.Plays.{Disk, medium_of, PlaysBy, Plays, AnswersRequest}
-use Rattle.disk_machine.proofs.Rooms.{one_if_ready}
+use Rattle.disk_machine.proofs.Rooms.{none_sent_by}
+use Rattle.disk_machine.specs.Refusals.{HasRoomFor}
 use Rattle.disk_machine.specs.Machine.{Machine, Serves, has_refused, under_way}
 use Rattle.disk_machine.specs.Idling.{IsShort, HasGoneAhead, HasStepped}
-use Rattle.disk_machine.specs.Moves.{is_behind, ServesAtRest, LeavesNoMore, ServesOn, ServesEvent, ServesToken}
-use Rattle.disk_machine.specs.Packets.{AnswersSetup, HoldsBack, PlaysOut, ServesOut, waits_for}
+use Rattle.disk_machine.specs.Moves.{is_behind, HasRoomBeside, ServesAtRest, LeavesNoMore, ServesOn, ServesEvent, ServesToken}
+use Rattle.disk_machine.specs.Packets.{AnswersSetup, PlaysOut, ServesOut, waits_for}
 use Rattle.disk_machine.specs.PuttingOff.{IsReady}
 use Rattle.disk_machine.specs.Steps.{StepsWhile}
 use Rattle.disk_machine.specs.declared.asked.Asked.{Asked}
@@ -31,7 +32,7 @@ use Rattle.disk_machine.specs.declared.waiting.Waiting.TheVariants as waiting
 use Rattle.disk_machine.proofs.Handing.{IsSentStill, leaves_no_more}
 use Rattle.disk_machine.proofs.Standing.{keeps_all}
 use Rattle.disk_machine.proofs.Events.{serves_event}
-use Rattle.disk_machine.proofs.Staying.{event_goes_on, out_goes_on, has_room}
+use Rattle.disk_machine.proofs.Staying.{event_goes_on, out_goes_on}
 
 -- ---- a packet
 
@@ -54,15 +55,22 @@ not_behind (asked.Refused count left) calls is fine = cc
 plays_few : (old new : Machine) (packet : List ℕ) (code : ℕ) → IsReady old packet → PlaysOut old packet new code
     → SendsOneBatch old.disk.unit.store.goes_ahead (state_of (medium_of old.disk)) (state_of (medium_of new.disk))
     old.disk.unit.store.cached.log
-plays_few old new packet code ready plays = one_if_ready old.disk _ plays.answer new.disk ready plays.plays.step
+plays_few old new packet code (inl quiet) plays = none_sent_by old.disk packet plays.answer new.disk quiet plays.plays.step
+plays_few old new packet code (inr alone) plays = plays.plays.step.few.one_batch alone.0.written
 
-pub out_serves : (old new : Machine) (packet : List ℕ) (code : ℕ) → ¬ HoldsBack old → IsReady old packet → PlaysOut old packet new code
+-- and has the room for it
+fits_ready : (s : Machine) (packet : List ℕ) → IsReady s packet → HasRoomBeside s
+    → HasRoomFor s.disk (event.Out (record { items = packet }))
+fits_ready s packet (inl quiet) beside = inr (inr (inl quiet))
+fits_ready s packet (inr (alone, empty)) beside =
+    inr (inr (inr (alone, omega (arith, ap (λ (l : List DeviceCall). length l) empty, beside.alone))))
+
+pub out_serves : (old new : Machine) (packet : List ℕ) (code : ℕ) → IsReady old packet → PlaysOut old packet new code
     → ServesAtRest new → ServesOut old packet new code
-out_serves old new packet code free ready plays rest =
+out_serves old new packet code ready plays rest =
     let same : new.asked ≡ old.asked = ap (λ (s : Machine). s.asked) plays.others in record {
       played = plays;
-      has_room = has_room old free;
-      fits = λ beside. inr (has_room old free beside, ready);
+      fits = fits_ready old packet ready;
       goes_on = out_goes_on old new packet code plays;
       ready = ready;
       one_batch = plays_few old new packet code ready plays;

@@ -25,33 +25,59 @@ use Rattle.spec.specs.declared.event.Event.{Event}
 use Rattle.spec.specs.declared.event.Event.TheVariants as event
 use Rattle.spec.specs.declared.event.Answer.{Answer}
 use Rattle.disk_machine.specs.Plays.{Disk, medium_of, layout_on, Foresees, PlaysBy}
-use Rattle.disk_machine.specs.Refusals.{RefusesNothing, HasRoomFor, IsReady, IsRoomy, HoldsLog, SeesHome, HasRoomToStart, HoldsImageLog}
+use Rattle.disk_machine.specs.Refusals.{RefusesNothing, HasRoomFor, HasRoomOnce, IsQuietPacket, MakesOneBatch, IsRoomy, HoldsLog, SeesHome}
+use Rattle.disk_machine.specs.Refusals.{HasRoomToStart, HoldsImageLog}
 use Rattle.disk_machine.specs.Refusals.{StartRefusesNothing}
 use Rattle.store_calls.proofs.Served.{fits_start}
 use Rattle.disk_machine.specs.Room.{room_for}
 use Rattle.window.proofs.Kept.{opened_front}
 
 -- a book of the disk's size
-abbrev some_book : Disk → Book
+abbrev pub some_book : Disk → Book
 some_book disk = opened (blocks_of disk.unit.store.cached) (λ _. []) 0 false
 
--- one that is ready makes no more than one batch durable
-pub one_if_ready : {work : Work} → (old : Disk) (event : Event) (answer : Answer) (new : Disk) → IsReady old event
+-- no more than one batch is made durable
+one_batch : {work : Work} → (old : Disk) (event : Event) (answer : Answer) (new : Disk) → MakesOneBatch old event
     → IsStepBy work (state_of (medium_of old)) (state_of (medium_of new)) old event answer new
     → SendsOneBatch old.unit.store.goes_ahead (state_of (medium_of old)) (state_of (medium_of new)) old.unit.store.cached.log
-one_if_ready old (event.Out packet) answer new (inl written) step = step.few.one_batch written
-one_if_ready old (event.Out packet) answer new (inr plain) step = step.plain (some_book old) refl (plain (some_book old) refl)
-one_if_ready old event.In answer new ready step = step.plain (some_book old) refl (λ block taken none. absurd none)
-one_if_ready old (event.Setup packet) answer new ready step = step.plain (some_book old) refl (λ block taken none. absurd none)
-one_if_ready old event.Tick answer new ready step = step.plain (some_book old) refl (λ block taken none. absurd none)
+one_batch old (event.Out packet) answer new (inl written) step = step.few.one_batch written
+one_batch old (event.Out packet) answer new (inr plain) step = step.plain (some_book old) refl (plain (some_book old) refl)
+one_batch old event.In answer new ready step = step.plain (some_book old) refl (λ block taken none. absurd none)
+one_batch old (event.Setup packet) answer new ready step = step.plain (some_book old) refl (λ block taken none. absurd none)
+one_batch old event.Tick answer new ready step = step.plain (some_book old) refl (λ block taken none. absurd none)
+
+-- a quiet packet makes no batch durable
+pub none_sent_by : {work : Work} → (old : Disk) (packet : List ℕ) (answer : Answer) (new : Disk) → IsQuietPacket old packet
+    → IsStepBy work (state_of (medium_of old)) (state_of (medium_of new)) old (event.Out (record { items = packet })) answer new
+    → SendsOneBatch old.unit.store.goes_ahead (state_of (medium_of old)) (state_of (medium_of new)) old.unit.store.cached.log
+none_sent_by old packet answer new quiet step =
+    let none = step.quiet (some_book old) refl (quiet (some_book old) refl) in
+    record { most = omega (arith, none); prepared = λ prepared. omega (arith, none) }
+
+-- nothing is written, or one record, or as much as a step writes
+fits_once : {work : Work} → (old : Disk) (event : Event) (answer : Answer) (new : Disk)
+    → IsStepBy work (state_of (medium_of old)) (state_of (medium_of new)) old event answer new
+    → length (medium_of old).outbox ≤ (medium_of old).room → HasRoomOnce old event
+    → length (medium_of old).outbox + sent (state_of (medium_of new)) ≤ sent (state_of (medium_of old)) + (medium_of old).room
+fits_once old (event.Out packet) answer new step held (inl quiet) =
+    let none = step.quiet (some_book old) refl (quiet (some_book old) refl) in omega (arith, none, held)
+fits_once old (event.Out packet) answer new step held (inr (alone, room)) =
+    let few = (step.few.one_batch alone.written).prepared alone.prepared in omega (arith, few, room)
+fits_once old event.In answer new step held none =
+    let none = step.quiet (some_book old) refl (λ block taken carries. absurd carries) in omega (arith, none, held)
+fits_once old (event.Setup packet) answer new step held none =
+    let none = step.quiet (some_book old) refl (λ block taken carries. absurd carries) in omega (arith, none, held)
+fits_once old event.Tick answer new step held room = let few = step.ticks.0.sent in omega (arith, few, room)
 
 -- its calls have room
 fits_event : {work : Work} → (old : Disk) (event : Event) (answer : Answer) (new : Disk)
-    → IsStepBy work (state_of (medium_of old)) (state_of (medium_of new)) old event answer new → HasRoomFor old event
+    → IsStepBy work (state_of (medium_of old)) (state_of (medium_of new)) old event answer new
+    → length (medium_of old).outbox ≤ (medium_of old).room → HasRoomFor old event
     → length (medium_of old).outbox + sent (state_of (medium_of new)) ≤ sent (state_of (medium_of old)) + (medium_of old).room
-fits_event old event answer new step (inl three) = omega (arith, step.few.sent, three)
-fits_event old event answer new step (inr (one, ready)) =
-    let few = (one_if_ready old event answer new ready step).most in omega (arith, few, one)
+fits_event old event answer new step held (inl three) = omega (arith, step.few.sent, three)
+fits_event old event answer new step held (inr (inl (one, makes))) =
+    let few = (one_batch old event answer new makes step).most in omega (arith, few, one)
+fits_event old event answer new step held (inr (inr once)) = fits_once old event answer new step held once
 
 -- what leaves no write, no flush and no read refused, where each named a sector that is in sight
 refuses_nothing : (P : ℕ → Type 0) (Room Sight : Type 0) (old new : Window) → ComesAfter old new → IsServed old new
@@ -101,7 +127,7 @@ played old event answer new sees step follows = record {
   served = sees.served (medium_of new) follows;
   refuses = refuses_nothing (λ s. (s < first_home_of old.unit) ⊎ ReadsAt old event s) (HasRoomFor old event)
       (HoldsLog old × SeesHome old event) (medium_of old) (medium_of new) follows (sees.served (medium_of new) follows)
-      (fits_event old event answer new step) step.looks (λ sight. named_in_sight old event sight.0 sight.1);
+      (fits_event old event answer new step sees.held) step.looks (λ sight. named_in_sight old event sight.0 sight.1);
   faulted = λ dead. (asks_nothing (medium_of old) (medium_of new) follows (step.few.faulted dead).0, (step.few.faulted dead).1);
   roomy = stays_roomy old new step.few.layout_stays follows.room_stays;
 }

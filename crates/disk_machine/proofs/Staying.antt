@@ -1,7 +1,6 @@
 -- A call that is no event of the disk, and the room that each call keeps.
 use Rattle.std.proofs.Common.{◌≤◌, ◌≡◌, inl, inr, [], ◌∷◌, List, ℕ, zero, suc, Bool, true, false, length, refl, sym, ◌∙◌, ap, subst, arith}
 use Rattle.std.specs.Prelude.{Result}
-use Rattle.std.proofs.lemmas.Bool.{cases_lt}
 use Rattle.journal.specs.Places.{Shape}
 use Rattle.window.specs.declared.call.DeviceCall.{DeviceCall}
 use Rattle.window.specs.Window.{Window, take_first}
@@ -9,17 +8,16 @@ use Rattle.spec.specs.declared.event.Event.{Event}
 use Rattle.spec.specs.declared.event.Answer.{Answer}
 use Rattle.window.specs.declared.ask.DeviceRead.{DeviceRead}
 use Rattle.store_calls.specs.Outbox.{without}
-use Rattle.scsi_unit.specs.Background.{Work, Settle, Ahead, WriteBack}
+use Rattle.scsi_unit.specs.Background.{Work, Settle, Ahead}
 use Rattle.disk_machine.specs.Plays.{Disk, medium_of, layout_on, PlaysBy}
-use Rattle.disk_machine.specs.Refusals.{HasRoom}
 use Rattle.disk_machine.specs.Room.{room_for}
 use Rattle.disk_machine.specs.Asking.{AsksFor, HandsOut, IsDone, HasRead, HasEnded, IsGivenUp, IsShownTo, IsHonest}
 use Rattle.disk_machine.specs.Idling.{IsShort, HasGoneAhead, HasStepped}
-use Rattle.disk_machine.specs.PuttingOff.{HasWrittenOn, MayWriteOn}
+use Rattle.disk_machine.specs.PuttingOff.{HasWrittenOn, MayGoOn}
 use Rattle.disk_machine.specs.Steps.{StepsWhile}
 use Rattle.disk_machine.specs.Machine.{Machine}
 use Rattle.disk_machine.specs.Moves.{ServesAtRest, StaysSafe, KeepsGoing, HasRoomBeside}
-use Rattle.disk_machine.specs.Packets.{HoldsBack, PlaysOut}
+use Rattle.disk_machine.specs.Packets.{PlaysOut}
 use Rattle.window.specs.declared.ask.DeviceAsk.{DeviceAsk}
 use Rattle.window.specs.declared.ask.DeviceAsk.TheVariants as ask
 use Rattle.disk_machine.specs.declared.asked.Asked.{Asked}
@@ -36,7 +34,10 @@ RoomStays old new = HasRoomBeside old → HasRoomBeside new
 
 keeps_room : (old new : Machine) → new.most ≡ old.most → layout_on new.disk ≡ layout_on old.disk
     → (medium_of new.disk).room ≡ (medium_of old.disk).room → RoomStays old new
-keeps_room old new most layout room fits = omega (arith, most, room, ap (λ (s : Shape). room_for s) layout, fits)
+keeps_room old new most layout room fits = record {
+  steps = omega (arith, most, room, fits.steps);
+  alone = omega (arith, room, ap (λ (s : Shape). room_for s) layout, fits.alone);
+}
 
 same_room : (old new : Machine) → new ≡ old → RoomStays old new
 same_room old new same = subst (λ (s : Machine). RoomStays old s) (sym same) (λ fits. fits)
@@ -129,16 +130,6 @@ event_room : {work : Work} → (old new : Machine) (event : Event) (answer : Ans
     → RoomStays old new
 event_room old new event answer plays most = keeps_room old new most plays.step.few.layout_stays plays.follows.room_stays
 
--- a packet is taken where it has room
-pub is_short : (s : Machine) → ¬ HoldsBack s → length (medium_of s.disk).outbox ≤ s.most
-is_short s free = elim (cases_lt s.most (length (medium_of s.disk).outbox)) [
-  | inl many ↦ absurd (free (inr (inr many)))
-  | inr few ↦ few
-]
-
-pub has_room : (s : Machine) → ¬ HoldsBack s → HasRoomBeside s → HasRoom s.disk
-has_room s free fits = omega (arith, is_short s free, fits)
-
 step_room : (Holds : Disk → Type 0) (work : Work) (old : Machine) (count : ℕ) (new : Disk)
     → StepsWhile Holds work count old.disk new → RoomStays old (record old { disk = new })
 step_room Holds work old zero new same = disk_stays old (record old { disk = new }) refl same
@@ -185,14 +176,15 @@ ahead_goes_on old new gone = record {
   dead = ahead_dead old new gone;
 }
 
-pub writing_goes_on : (old new : Machine) → HasWrittenOn old new → KeepsGoing old new
-writing_goes_on old new goes =
+pub writing_goes_on : (promises : Bool) (work : Work) (old new : Machine) → HasWrittenOn promises work old new → KeepsGoing old new
+writing_goes_on promises work old new goes =
     let writes = goes.writes in
+    let may = MayGoOn old.most promises work in
     subst (λ (s : Machine). KeepsGoing old s) (sym goes.others)
     (record {
-      room = step_room (MayWriteOn old.most) WriteBack old writes.count new.disk writes.steps;
-      waits = steps_wait (MayWriteOn old.most) WriteBack old writes.count new.disk writes.steps;
-      dead = steps_dead (MayWriteOn old.most) WriteBack old writes.count new.disk writes.steps;
+      room = step_room may work old writes.count new.disk writes.steps;
+      waits = steps_wait may work old writes.count new.disk writes.steps;
+      dead = steps_dead may work old writes.count new.disk writes.steps;
     })
 
 -- what is to be read changes nothing else
@@ -206,5 +198,9 @@ reading_safe s lacks = record {
     faulted = serves.faulted;
   };
   leaves = λ image left. left;
-  goes_on = record { room = λ fits. fits; waits = λ waits. waits; dead = λ dead. (λ image left. left, dead) };
+  goes_on = record {
+    room = λ fits. record { steps = fits.steps; alone = fits.alone };
+    waits = λ waits. waits;
+    dead = λ dead. (λ image left. left, dead);
+  };
 }

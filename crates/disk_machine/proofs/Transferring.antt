@@ -7,11 +7,10 @@ use Rattle.std.proofs.Math.Nat.{mul-le-mul_right, div-mul-le_self}
 use borrow.Rule.Slice.PartMut.{put_mid}
 use Rattle.spec.specs.declared.event.Answer.{Answer}
 use Rattle.spec.specs.declared.event.Answer.TheVariants as answer
-use Rattle.scsi_unit.specs.Background.{WriteBack}
 use Rattle.disk_machine.specs.Codes.{code_of}
 use Rattle.disk_machine.specs.Machine.{Machine}
 use Rattle.disk_machine.specs.Packets.{TakesOne, TakesOut, SendsIn}
-use Rattle.disk_machine.specs.PuttingOff.{MayWriteOn}
+use Rattle.disk_machine.specs.PuttingOff.{MayGoOn}
 use Rattle.disk_machine.proofs.PutOff.{steps_size}
 use Rattle.disk_machine.specs.Transfers.{HasPacket, packet_at, TakesFirst, SendsFirst}
 
@@ -24,8 +23,12 @@ size_stays old new packet code (inr (few, inl held)) = ap (λ (s : Machine). s.d
 size_stays old new packet code (inr (few, inr (free, inl lacks))) =
     ap (λ (s : Machine). s.disk.line.packet_size) lacks.3
 size_stays old new packet code (inr (few, inr (free, inr (inl (none, serves))))) = serves.played.plays.step.packets_stay
-size_stays old new packet code (inr (few, inr (free, inr (inr puts)))) =
-    let writes = puts.goes.writes in steps_size (MayWriteOn old.most) WriteBack writes.count old.disk new.disk writes.steps
+size_stays old new packet code (inr (few, inr (free, inr (inr puts)))) = elim puts.waits [
+  | inl steps ↦
+      let writes = steps.goes.writes in
+      steps_size (MayGoOn old.most puts.promises steps.work) steps.work writes.count old.disk new.disk writes.steps
+  | inr calls ↦ ap (λ (s : Machine). s.disk.line.packet_size) calls.2
+]
 
 few_codes : (told : Answer) → code_of told ≤ 2
 few_codes answer.Ack = omega arith

@@ -77,10 +77,11 @@ ServesAtRest s = IsCaughtUp s → (book : Book)
 abbrev pub ServesOn : Machine → Machine → Type 0
 ServesOn old new = (told : ℕ) (book : Book) → Serves old told book → Serves new told book
 
--- The outbox has room for the calls of a packet beside the most that wait when one is taken: so it
--- is of a machine that is made with what `usbdisk_room` leaves of the room.
-abbrev pub HasRoomBeside : Machine → Type 0
-HasRoomBeside s = s.most + room_for (layout_on s.disk) ≤ (medium_of s.disk).room
+-- The outbox has room for a step beside the most calls that wait when one is made, and for a record
+-- where nothing waits: so it is of a machine that was started.
+pub record HasRoomBeside (s : Machine) : Type 0 where
+  pub steps : s.most + 2 ≤ (medium_of s.disk).room
+  pub alone : room_for (layout_on s.disk) ≤ (medium_of s.disk).room
 
 -- the device has told none of its calls refused, and not all of them done
 abbrev pub is_behind : Asked → List DeviceCall → Bool

@@ -12,7 +12,7 @@ use Rattle.scsi_unit.specs.Calls.{SendsOneBatch}
 use Rattle.scsi_unit.specs.UnitValue.{IsOfSize}
 use Rattle.disk_machine.specs.Codes.{TOO_LONG, code_of}
 use Rattle.disk_machine.specs.Plays.{medium_of, Plays, Tells}
-use Rattle.disk_machine.specs.Refusals.{HasRoom, HasRoomFor}
+use Rattle.disk_machine.specs.Refusals.{HasRoomFor}
 use Rattle.disk_machine.specs.Wanted.{Wants, WantsNone}
 use Rattle.disk_machine.specs.Machine.{Machine}
 use Rattle.disk_machine.specs.Moves.{ServesEvent, ServesToken, StaysSafe, LeavesNoMore}
@@ -40,10 +40,9 @@ is_starting waiting.Promise = false
 is_starting waiting.Start = true
 
 -- No packet to Bulk-Out is taken now: the device has not carried out the calls of the start, or it
--- reads, or so many calls wait that those of a packet might have no room.
+-- reads.
 abbrev pub HoldsBack : Machine → Type 0
-HoldsBack s = (is_starting s.waiting ≡ true) ⊎ ((is_reading s.asked ≡ true)
-    ⊎ (s.most < length (medium_of s.disk).outbox))
+HoldsBack s = (is_starting s.waiting ≡ true) ⊎ (is_reading s.asked ≡ true)
 
 -- the packet is not taken before the device has read these home sectors
 abbrev pub Lacks : Machine → List ℕ → DeviceRead → Type 0
@@ -54,13 +53,6 @@ abbrev pub LacksNone : Machine → List ℕ → Type 0
 LacksNone s packet = WantsNone s.disk packet
     ⊎ ((home : DeviceRead) × Wants s.disk packet home.first home.count
     × (s.lack ≡ lack.Unread home))
-
--- whether it has a command carried out that promises, as `Disk::promises` tells
-pub record IsPromise (s : Machine) (packet : List ℕ) (promises : Bool) : Type 0 where
-  pub none : promises ≡ false → (book : Book) → IsOfSize s.disk.unit book
-      → PromisesNone (over s.disk book) (event.Out (record { items = packet }))
-  pub some : promises ≡ true → (book : Book) → IsOfSize s.disk.unit book
-      → PromisesIn (over s.disk book) (event.Out (record { items = packet }))
 
 -- ---- what a packet does
 
@@ -91,7 +83,6 @@ pub record PlaysOut (old : Machine) (packet : List ℕ) (new : Machine) (code : 
 pub record ServesOut (old : Machine) (packet : List ℕ) (new : Machine) (code : ℕ) : Type 0 where
   pub played : PlaysOut old packet new code
   pub serves : ServesEvent old (event.Out (record { items = packet })) played.answer new
-  pub has_room : HasRoomBeside old → HasRoom old.disk
   pub fits : HasRoomBeside old → HasRoomFor old.disk (event.Out (record { items = packet }))
   pub goes_on : KeepsGoing old new
   -- it is not put off, and makes one batch durable at most, whatever waits
@@ -100,8 +91,8 @@ pub record ServesOut (old : Machine) (packet : List ℕ) (new : Machine) (code :
       (state_of (medium_of old.disk)) (state_of (medium_of new.disk)) old.disk.unit.store.cached.log
 
 -- A packet to Bulk-Out that is too long changes nothing. One that is not taken now is told to come
--- again, and the disk does not see it: the sectors that it lacks are to be read, or it promises,
--- and what is left to write is written. Each other is played.
+-- again, and the disk does not see it: it asks for writes, and what is before them is written; or
+-- the sectors that it lacks are to be read. Each other is played.
 abbrev pub TakesOne : Machine → List ℕ → Machine → ℕ → Type 0
 TakesOne old packet new code =
     ((old.disk.line.packet_size < length packet) × (code ≡ TOO_LONG) × (new ≡ old))

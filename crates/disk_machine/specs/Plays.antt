@@ -23,8 +23,9 @@ use Rattle.disk_machine.specs.Parts.{CoversParts}
 use Rattle.disk_machine.specs.Refusals.{HoldsLog, EventRefusesNothing, HoldsImageLog}
 use Rattle.disk_machine.specs.Refusals.{StartRefusesNothing, IsRoomy}
 
--- what a medium says of all calls of it that may come
+-- what a medium says of all calls of it that may come, and that what waits has room
 pub record Foresees (m : Window) : Type 0 where
+  pub held : length m.outbox ≤ m.room
   pub covers : (new : Window) → ComesAfter m new → CoversDevice m new
   pub parts : (new : Window) → ComesAfter m new → CoversParts m new
   pub served : (new : Window) → ComesAfter m new → IsServed m new

@@ -1,19 +1,19 @@
 -- Nothing that a disk asks of its medium is refused: no write and no flush for want of room, and no
 -- read of a sector that is not in sight.
-use Rattle.std.specs.Prelude.{⊤, ◌≡◌, ◌⊎◌, ◌+◌, ◌≤◌, length}
+use Rattle.std.specs.Prelude.{⊤, ◌≡◌, ◌⊎◌, ℕ, ◌+◌, ◌≤◌, List, length}
 use Rattle.journal.specs.Places.{first_home}
 use Rattle.recovery.specs.Calls as recovery
 use Rattle.window.specs.Window.{Window, state_of, kept_out}
 use Rattle.spec.specs.Book.{Book}
 use Rattle.spec.specs.declared.event.Event.{Event}
 use Rattle.spec.specs.declared.event.Event.TheVariants as event
-use Rattle.scsi_unit.specs.Background.{IsWritten}
+use Rattle.scsi_unit.specs.Background.{IsWritten, IsPrepared}
 use Rattle.scsi_unit.specs.Calls.{most_sends_of}
 use Rattle.scsi_unit.specs.UnitValue.{IsOfSize}
 use Rattle.bot_machine.specs.Disk.{over}
-use Rattle.bot_machine.specs.Promising.{PromisesNone}
+use Rattle.bot_machine.specs.Promising.{PromisesNone, QuietIn}
 pub use Rattle.store_calls.specs.Rooms.{HasRoomToStart}
-use Rattle.disk_machine.specs.Room.{room_for}
+use Rattle.disk_machine.specs.Room.{most_sent, room_for}
 use Rattle.disk_machine.specs.Seen.{Disk, medium_of, layout_on}
 use Rattle.disk_machine.specs.Wanted.{WantsNone}
 
@@ -28,21 +28,34 @@ pub record RefusesNothing (Room Sight : Type 0) (old new : Window) : Type 0 wher
 
 -- The event makes one batch durable at most: no record is left to write, or no command is carried
 -- out that promises. A packet to Bulk-Out alone has any command carried out.
-abbrev pub IsReady : Disk → Event → Type 0
-IsReady disk (event.Out packet) = IsWritten disk.unit.store.cached
+abbrev pub MakesOneBatch : Disk → Event → Type 0
+MakesOneBatch disk (event.Out packet) = IsWritten disk.unit.store.cached
     ⊎ ((book : Book) → IsOfSize disk.unit book
     → PromisesNone (over disk book) (event.Out packet))
-IsReady disk event.In = ⊤
-IsReady disk (event.Setup packet) = ⊤
-IsReady disk event.Tick = ⊤
+MakesOneBatch disk event.In = ⊤
+MakesOneBatch disk (event.Setup packet) = ⊤
+MakesOneBatch disk event.Tick = ⊤
 
--- the outbox has room, beside what waits, for as many calls as make one batch durable
+-- no record of the disk is left to write, or it is faulted
+abbrev pub HasWritten : Disk → Type 0
+HasWritten disk = IsWritten disk.unit.store.cached
+
+-- and the next one takes no call for its room: a command makes those of its own record at most
+pub record NeedsRecordAlone (disk : Disk) : Type 0 where
+  pub written : HasWritten disk
+  pub prepared : IsPrepared disk.unit.store.goes_ahead disk.unit.store.cached.log
+
+-- a packet to Bulk-Out asks the medium for no write and no flush
+abbrev pub IsQuietPacket : Disk → List ℕ → Type 0
+IsQuietPacket disk packet = (book : Book) → IsOfSize disk.unit book
+    → QuietIn (over disk book) disk.unit.store.cached (event.Out (record { items = packet }))
+
+-- the outbox has room, beside what waits, for the calls of one record
 abbrev pub HasRoom : Disk → Type 0
 HasRoom disk = length (medium_of disk).outbox + room_for (layout_on disk) ≤ (medium_of disk).room
 
 -- The outbox has that room where nothing waits. So has that of each disk that was started
--- (`Begins.roomy`), and each call keeps it: no event that is ready is refused for want of room
--- where the outbox was carried out before.
+-- (`Begins.roomy`), and each call keeps it.
 abbrev pub IsRoomy : Disk → Type 0
 IsRoomy disk = room_for (layout_on disk) ≤ (medium_of disk).room
 
@@ -58,12 +71,21 @@ SeesHome disk event.In = ⊤
 SeesHome disk (event.Setup packet) = ⊤
 SeesHome disk event.Tick = ⊤
 
+-- it has room for what this event asks of the medium: none, those of one record, or those of a step
+abbrev pub HasRoomOnce : Disk → Event → Type 0
+HasRoomOnce disk (event.Out packet) = IsQuietPacket disk packet.items
+    ⊎ (NeedsRecordAlone disk × HasRoom disk)
+HasRoomOnce disk event.In = ⊤
+HasRoomOnce disk (event.Setup packet) = ⊤
+HasRoomOnce disk event.Tick = length (medium_of disk).outbox + 2 ≤ (medium_of disk).room
+
 -- the outbox has room for this event: for any, those calls that make three batches durable; for one
--- that is ready, those of one batch
+-- that makes one batch durable, those of one; or those that it makes
 abbrev pub HasRoomFor : Disk → Event → Type 0
 HasRoomFor disk event = (length (medium_of disk).outbox + most_sends_of (layout_on disk).format
     ≤ (medium_of disk).room)
-    ⊎ (HasRoom disk × IsReady disk event)
+    ⊎ (((length (medium_of disk).outbox + most_sent (layout_on disk).format ≤ (medium_of disk).room)
+    × MakesOneBatch disk event) ⊎ HasRoomOnce disk event)
 
 -- No event misses. With the room, the log in memory, and before a packet to Bulk-Out the home
 -- sectors in sight that `Disk::home_sectors` tells for it, an event has no call refused.

@@ -4,12 +4,16 @@ use Rattle.journal.specs.Places.{Shape, limit_of}
 use Rattle.journal.specs.Sectors.{version_of}
 use Rattle.journal.specs.declared.log_format.LogFormat.{LogFormat}
 use Rattle.journal.specs.declared.log_format.LogFormat.TheVariants.{One, Two}
-use Rattle.store_calls.specs.Rooms.{most_sent}
+use Rattle.scsi_unit.specs.Calls.{most_steps}
+-- handed on
+pub use Rattle.store_calls.specs.Rooms.{most_sent}
 
--- As many writes and flushes as make one batch durable: no packet that is played makes more, as one
--- that promises is put off while a record is left to write.
+-- As many writes and flushes as make one record durable, 52 in format 1 and 250 in format 2, and
+-- two more: so a step has room where a whole record waits. No packet that is played makes more: one
+-- that asks for any is put off until the records before it are written, and its own takes no call
+-- for its room.
 abbrev pub room_of : LogFormat → ℕ
-room_of format = most_sent format
+room_of format = most_steps format + 2
 
 -- that of an image
 abbrev pub room_for : Shape → ℕ

@@ -1,5 +1,5 @@
 -- What a host and a disk have said to each other in a call of a machine.
-use Rattle.std.specs.Prelude.{◌≡◌, ◌++◌, ℕ, zero, suc, ◌*◌, Bool, true, false, List, [], ◌∷◌}
+use Rattle.std.specs.Prelude.{◌≡◌, ◌⊎◌, ◌++◌, ℕ, zero, suc, ◌*◌, Bool, true, false, List, [], ◌∷◌}
 use Rattle.std.specs.Prelude.{drop}
 use Rattle.std.proofs.Common.{inl, inr}
 use Rattle.spec.specs.Rules.{UnitState}
@@ -13,6 +13,7 @@ use Rattle.bot_machine.specs.Faulting.{faulted_over}
 use Rattle.disk_machine.specs.Idling.{HasGoneAhead, HasStepped}
 use Rattle.disk_machine.specs.Machine.{Machine}
 use Rattle.disk_machine.specs.Packets.{TakesOne, TakesOut, SendsIn}
+use Rattle.disk_machine.specs.PuttingOff.{WaitsForSteps, WaitsForCalls}
 use Rattle.disk_machine.specs.Transfers.{packet_at, TakesFirst, EndsTaking, TakesTransfer}
 use Rattle.disk_machine.specs.Transfers.{SendsAt, SendsFirst, EndsSending, SendsTransfer}
 use Rattle.disk_machine.specs.Transfers.{SendsInto}
@@ -62,7 +63,12 @@ abbrev pub ticks : ℕ → List Turn
 ticks zero = []
 ticks (suc count) = ticks count ++ played event.Tick answer.Ticked ∷ []
 
--- a packet that is too long, or told to come again, is none; where it is put off steps are made
+-- a packet that is too long, or told to come again, is none; where it is put off steps may be made
+abbrev pub turns_before : (promises : Bool) (old new : Machine)
+    → WaitsForSteps promises old new ⊎ WaitsForCalls promises old new → List Turn
+turns_before promises old new (inl steps) = ticks steps.goes.writes.count
+turns_before promises old new (inr calls) = []
+
 abbrev pub turns_one : (old : Machine) (packet : List ℕ) (new : Machine) (code : ℕ)
     → TakesOne old packet new code → List Turn
 turns_one old packet new code (inl long) = []
@@ -71,7 +77,7 @@ turns_one old packet new code (inr (few, inr (free, inl lacks))) = []
 turns_one old packet new code (inr (few, inr (free, inr (inl (none, serves))))) =
     played (event.Out (record { items = packet })) serves.played.answer ∷ []
 turns_one old packet new code (inr (few, inr (free, inr (inr puts)))) =
-    ticks puts.goes.writes.count
+    turns_before puts.promises old new puts.waits
 
 abbrev pub turns_out : (old : Machine) (packet : List ℕ) (new : Machine) (code : ℕ)
     → TakesOut old packet new code → List Turn

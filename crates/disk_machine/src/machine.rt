@@ -15,7 +15,7 @@ use window::{MachineState, WindowMedium, device_laws};
 #[derive(Drop)]
 pub struct DiskMachine {
     pub(crate) disk: Disk<WindowMedium>,
-    // How many calls may wait in the outbox when a packet is taken.
+    // How many calls may wait in the outbox when a step is made.
     pub(crate) most: usize,
     // What the device was asked for last, and has not told done.
     pub(crate) asked: Asked,
@@ -26,8 +26,8 @@ pub struct DiskMachine {
 }
 
 impl DiskMachine {
-    /// A machine over a disk that has just started. Packets are taken while at most `most` calls
-    /// wait in the outbox: as many as it has room for beside those of a packet.
+    /// A machine over a disk that has just started. Steps are made while at most `most` calls wait
+    /// in the outbox: as many as it has room for beside the two of a step.
     pub fn new(disk: Disk<WindowMedium>, most: usize) -> DiskMachine
         ensures is { result ≡ begun disk most }
         ensures serves { ServesAtRest result }

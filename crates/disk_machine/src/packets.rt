@@ -1,10 +1,11 @@
 //! What a machine does with a packet to Bulk-Out.
 ghost use Rattle.std.specs.Prelude.{◌≡◌, ◌≤◌, ◌⊎◌, ◌↔◌, IsTrue, MatchOption, length};
 ghost use Rattle.disk_machine.specs.Plays.{medium_of};
-ghost use Rattle.disk_machine.specs.Packets.{HoldsBack, IsPromise, Lacks, LacksNone};
+ghost use Rattle.disk_machine.specs.Packets.{HoldsBack, Lacks, LacksNone};
 ghost use Rattle.disk_machine.specs.Packets.{PlaysOut, TakesOut};
 ghost use Rattle.disk_machine.specs.Packets.{is_reading, is_starting};
 ghost use Rattle.disk_machine.specs.Moves.{is_behind};
+ghost use Rattle.disk_machine.specs.PuttingOff.{IsPromise};
 ghost use Rattle.disk_machine.specs.declared.lack.Lack.TheVariants as lack;
 
 use crate::asked::Asked;
@@ -18,9 +19,10 @@ use window::DeviceRead;
 
 impl DiskMachine {
     /// A packet to Bulk-Out, and the number of its answer. It is told to come again while the
-    /// device carries out the calls of the start, reads, or is so far behind that those of a packet
-    /// might have no room; before a READ whose sectors the device is to read first; and where it
-    /// promises, until the records of the writes before it are written, by steps that it makes.
+    /// device carries out the calls of the start, or reads; before a READ whose sectors the device
+    /// is to read first; and where it asks the device for writes, until the records before it are
+    /// written, by steps that it makes. One that is a record of its own, a WRITE with FUA or
+    /// without the write cache, is played when the device was handed all calls.
     pub fn bulk_out(&mut self, packet: &[u8]) -> u32
         ensures { TakesOut self.old packet.now self.new result }
     {
@@ -31,8 +33,7 @@ impl DiskMachine {
             return NAK;
         }
         let promises = self.disk.promises(packet);
-        if self.puts_off(promises) {
-            self.write_on();
+        if self.puts_off(packet, promises) {
             return NAK;
         }
         match self.lacks(packet) {
@@ -67,7 +68,7 @@ impl DiskMachine {
     fn holds_back(&self) -> bool
         ensures { IsTrue result ↔ HoldsBack self.now }
     {
-        self.is_starting() || self.is_reading() || self.disk.medium().waiting() > self.most
+        self.is_starting() || self.is_reading()
     }
 
     // Whether the device has not carried out all that the start made.

@@ -1,7 +1,7 @@
-//! What a machine does with a packet that promises while a record is left to write.
-ghost use Rattle.std.specs.Prelude.{◌≡◌, ◌↔◌, ◌⊎◌, true, false, IsTrue};
-ghost use Rattle.disk_machine.specs.PuttingOff.{HasWritten, MayWriteOn, WritesOn};
-ghost use Rattle.disk_machine.specs.PuttingOff.{HasWrittenOn};
+//! What a machine does with a packet that asks the medium for writes, before it is played.
+ghost use Rattle.std.specs.Prelude.{◌≡◌, ◌↔◌, IsTrue};
+ghost use Rattle.disk_machine.specs.PuttingOff.{HasWrittenOn, IsPromise, MayGoOn, WritesOn};
+ghost use Rattle.disk_machine.specs.PuttingOff.{TellsNext, TellsPutOff};
 
 use crate::machine::DiskMachine;
 use crate::play::make_step;
@@ -13,40 +13,67 @@ use window::WindowMedium;
 const MOST_WRITTEN: u32 = 256;
 
 impl DiskMachine {
-    // Whether a packet is put off: it promises, and a record is left to write.
-    pub(crate) fn puts_off(&self, promises: bool) -> bool
-        ensures put_off { result ≡ true → (promises ≡ true) × (¬ HasWritten self.now.disk) }
-        ensures ready { result ≡ false → HasWritten self.now.disk ⊎ (promises ≡ false) }
+    // Whether a packet is put off, of which is known whether it promises: it asks for writes, and
+    // what is before them is not written, or calls wait. Steps that write it are made.
+    pub(crate) fn puts_off(&mut self, packet: &[u8], promises: bool) -> bool
+        requires { IsPromise self.old packet.now promises }
+        ensures { TellsPutOff promises packet.now result self.old self.new }
     {
-        promises && !self.disk.is_written()
+        if self.disk.is_quiet(packet) {
+            return false;
+        }
+        match next_work(&self.disk, promises) {
+            Some(work) => {
+                self.write_on(promises, work);
+                true
+            }
+            None => self.disk.medium().waiting() > 0,
+        }
     }
 
-    // Steps that write what is left to write, so that the packet makes one batch durable at most.
-    pub(crate) fn write_on(&mut self)
-        ensures { HasWrittenOn self.old self.new }
+    // Steps that work towards this, so that the packet comes to be played.
+    fn write_on(&mut self, promises: bool, work: Work)
+        ensures { HasWrittenOn promises work self.old self.new }
     {
-        write_records(&mut self.disk, self.most);
+        write_records(&mut self.disk, self.most, promises, work);
     }
 }
 
-// Steps that write back, as long as a record is left to write and few calls wait.
-fn write_records(disk: &mut Disk<WindowMedium>, most: usize)
-    ensures { WritesOn most disk.old disk.new }
+// What the next step works towards before a packet that asks for writes is played.
+fn next_work(disk: &Disk<WindowMedium>, promises: bool) -> Option<Work>
+    ensures { TellsNext promises disk.now result }
+{
+    if !promises {
+        return if disk.has_free_batch() {
+            None
+        } else {
+            Some(Work::WriteBack)
+        };
+    }
+    if !disk.is_written() {
+        return Some(Work::WriteBack);
+    }
+    disk.work_for_room()
+}
+
+// Steps that work towards this, as long as the next one does and few calls wait.
+fn write_records(disk: &mut Disk<WindowMedium>, most: usize, promises: bool, work: Work)
+    ensures { WritesOn most promises work disk.old disk.new }
 {
     for _made in 0..MOST_WRITTEN {
-        if !may_write_on(disk, most) {
+        if !may_go_on(disk, most, promises, work) {
             return;
         }
-        let _left = make_step(disk, Work::WriteBack);
+        let _left = make_step(disk, work);
     }
 }
 
-// Whether a record is left to write, and no more calls wait than may when a packet is taken.
-fn may_write_on(disk: &Disk<WindowMedium>, most: usize) -> bool
-    ensures { IsTrue result ↔ MayWriteOn most disk.now }
+// Whether the next step works towards this, and no more calls wait than may.
+fn may_go_on(disk: &Disk<WindowMedium>, most: usize, promises: bool, work: Work) -> bool
+    ensures { IsTrue result ↔ MayGoOn most promises work disk.now }
 {
-    if disk.is_written() {
+    if disk.medium().waiting() > most {
         return false;
     }
-    disk.medium().waiting() <= most
+    next_work(disk, promises) == Some(work)
 }

@@ -1,6 +1,6 @@
 -- The calls that a command makes: how many, which sectors they name, how many batches they make durable, and what a record costs.
-use Rattle.std.proofs.Common.{◌≡◌, ◌≢◌, ◌≤◌, ◌<◌, ◌+◌, ℕ, Bool, false, List, [], None, Option, Some, Result, Ok, Err, arith, ap, refl, inl, inr}
-use Rattle.std.proofs.Common.{true, length, ◌∙◌, ◌*◌}
+use Rattle.std.proofs.Common.{◌≡◌, ◌≢◌, ◌≤◌, ◌<◌, ◌+◌, ℕ, Bool, false, List, [], None, Option, Some, Result, Ok, Err, arith, ap, refl, inl}
+use Rattle.std.proofs.Common.{inr, true, length, ◌∙◌, ◌*◌}
 use Rattle.std.specs.Prelude.{◌||◌, not, if◌then◌else◌}
 use Rattle.std.proofs.lemmas.Bool.Decides.{nat_tests}
 use Rattle.medium.specs.Medium.{State}

@@ -32,9 +32,9 @@ impl<M: Medium> Unit<M> {
         }
     }
 
-    /// Whether a command block, of 1 to 16 bytes, would be carried out by reads of the medium alone:
-    /// a WRITE that promises nothing and is taken at once, or another command that promises nothing
-    /// or finds no record left to write. So is one that is refused.
+    /// Whether a command block, of 1 to 16 bytes, would be carried out by reads of the medium
+    /// alone: a WRITE that promises nothing and is taken at once, or another command that promises
+    /// nothing or finds no record left to write. So is one that is refused.
     pub fn is_quiet(&self, block: &[u8]) -> bool
         requires { 0 < length block.now }
         ensures is { IsTrue result ↔ IsQuietFor (command_for self.now block.now)

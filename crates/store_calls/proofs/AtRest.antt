@@ -1,5 +1,5 @@
 -- A device that has carried out all, or none.
-use Rattle.std.proofs.Common.{◌≡◌, ◌≤◌, inl, true, length, arith, ap, length-append, List}
+use Rattle.std.proofs.Common.{◌≡◌, ◌≤◌, true, length, arith, ap, length-append, List}
 use Rattle.medium.specs.Medium.{Image}
 use Rattle.medium.specs.Moments.{EachCut}
 use Rattle.window.specs.OutboxMedium.{sent}
@@ -30,9 +30,9 @@ module _ (s : Machine) (parts : (new : Window) → ComesAfter s.store.medium new
   pub serves_at_rest : ServesAtRest s
   serves_at_rest free book fits = record {
     fits = fits;
-    keeps = λ ours image left. inl (at_rest book fits ours image ((is_sound s.store.medium).only_now image
+    keeps = λ ours image left. at_rest book fits ours image ((is_sound s.store.medium).only_now image
         (parts s.store.medium (comes_after_itself s.store.medium) left.count left.done image (no_more free image left) left.are
-        left.cut)));
+        left.cut));
   }
 
 -- where none was sent before, all that may be left is of the start

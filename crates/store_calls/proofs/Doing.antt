@@ -1,7 +1,6 @@
 -- What is done to a store whose device has carried out all.
-use Rattle.std.proofs.Common.{◌≡◌, ◌≤◌, ◌++◌, ℕ, Bool, true, false, List, [], ◌∷◌, length, inl, inr, refl, sym, ◌∙◌, ap, subst}
+use Rattle.std.proofs.Common.{◌≡◌, ◌++◌, ℕ, true, false, List, [], ◌∷◌, length, inl, inr, refl, sym, ◌∙◌, ap, subst}
 use Rattle.std.proofs.Common.{arith, length-append}
-use Rattle.std.specs.Prelude.{◌≢◌, ◌+◌, Option, if◌then◌else◌, not, Result, Ok, Err, OnOk, IfErr}
 use Rattle.std.proofs.lemmas.List.{take-append-le, append-nil}
 use Rattle.medium.specs.Medium.{Image}
 use Rattle.window.specs.Story.{given}
@@ -11,20 +10,25 @@ use Rattle.window.specs.Window.{Window, mirror_of, ComesAfter, kept_out}
 use Rattle.spec.specs.Blocks.{Write, after}
 use Rattle.spec.specs.Book.{Book, with_write, promised}
 use Rattle.blocks.specs.Finding.{MayFind, Found, StandsAs}
-use Rattle.blocks.specs.StoreValue.{Cached, is_dead, layout_of}
+use Rattle.blocks.specs.StoreValue.{Cached, is_dead, layout_of, unwritten, FitsBook}
+use Rattle.blocks.proofs.BookTurns.{settles}
+use Rattle.blocks.proofs.EmptyBatches.{none_of}
 use Rattle.blocks.specs.Turns.{IsTurn}
-use Rattle.store_calls.specs.Calls.{IsWritten, KeepsAll, SyncsStore}
-use Rattle.store_calls.specs.Rooms.{Appends}
+use Rattle.store_calls.specs.Calls.{IsWritten, KeepsAll}
+use Rattle.store_calls.specs.Idling.{IsShort}
+use Rattle.store_calls.specs.Rooms.{Appends, Foresees}
+use Rattle.store_calls.specs.WritingBack.{IsLeft, WritesBack}
+use Rattle.store_calls.specs.declared.writing_back.Aim.{Aim}
 use Rattle.store_calls.specs.Serving.{StaysSafe, LeavesSince, ServesAtRest, ServesOn, WaitsForDevice}
-use Rattle.store_calls.specs.StoreMachine.{Machine, IsCaughtUp, Finds, is_behind, under_way}
+use Rattle.store_calls.specs.StoreMachine.{Machine, IsCaughtUp, is_behind, under_way}
 use Rattle.store_calls.specs.Stores.{Store}
 use Rattle.window.specs.declared.ask.DeviceRead.{DeviceRead}
-use Rattle.store_calls.specs.Transfers.{IsDoneFree, Accepts, Waits, Syncs}
+use Rattle.store_calls.specs.Transfers.{IsDoneFree, Accepts, Waits, Promises, PutsOff}
 use Rattle.store_calls.specs.declared.store_fault.StoreFault.{StoreFault}
-use Rattle.store_calls.specs.declared.store_fault.StoreFault.TheVariants as fault
-use Rattle.store_calls.specs.declared.call_fault.CallFault.{CallFault}
 use Rattle.store_calls.specs.declared.asked.Asked.{Asked}
 use Rattle.store_calls.specs.declared.asked.Asked.TheVariants as asked
+use Rattle.store_calls.proofs.Served.{appends_none}
+use Rattle.store_calls.proofs.WrittenBack.{some_made}
 use Rattle.store_calls.proofs.Standing.{IsSentStill, stays_safe, left_on, keeps_going, wishes}
 
 -- ---- where nothing waits
@@ -33,8 +37,8 @@ use Rattle.store_calls.proofs.Standing.{IsSentStill, stays_safe, left_on, keeps_
 not_starting : (calls : List DeviceCall) (a : Asked) → a ≡ asked.Nothing → calls ≡ [] → is_behind a calls ≡ true → ⊥
 not_starting calls a none empty is = cc (sym ((λ i. is_behind (none i) (empty i))) ∙ is)
 
-module _ (old new : Machine) (free : IsCaughtUp old) (others : new ≡ record old { store = new.store })
-    (appends : Appends old.store new.store) where
+module _ {Room : Type 0} (old new : Machine) (free : IsCaughtUp old) (others : new ≡ record old { store = new.store })
+    (appends : Appends Room old.store new.store) where
   since : LeavesSince old.store.medium new
   since image left = appends.parts left.count left.done image (omega (
     arith,
@@ -62,8 +66,8 @@ module _ (old new : Machine) (free : IsCaughtUp old) (others : new ≡ record ol
       → ServesOn old new
   turn_serves turn book serves = record {
     fits = turn.fits book serves.fits;
-    keeps = λ ours image left. inl (subst (λ (n : ℕ). MayFind n book image) (sym turn.goes_on.size_stays)
-        ((turn.cuts book serves.fits ours).each image (since image left)));
+    keeps = λ ours image left. subst (λ (n : ℕ). MayFind n book image) (sym turn.goes_on.size_stays)
+        ((turn.cuts book serves.fits ours).each image (since image left));
   }
 
 -- ---- a write
@@ -80,47 +84,33 @@ more_found size book write image found = record {
   bound = omega (arith, found.bound, length-append book.writes (write ∷ []));
 }
 
-found_by : (size : ℕ) (accepted dead : Bool) (book : Book) (write : Write) (image : Image) → dead ≡ not accepted
-    → Found size book write image → Finds size dead (if accepted then with_write book write else book) image
-found_by size true dead book write image is (inl found) = inl (more_found size book write image found)
-found_by size true dead book write image is (inr found) = inl found
-found_by size false dead book write image is (inl found) = inl found
-found_by size false dead book write image is (inr found) = inr (is, (write, found))
+found_by : (size : ℕ) (book : Book) (write : Write) (image : Image) → Found size book write image
+    → MayFind size (with_write book write) image
+found_by size book write image (inl found) = more_found size book write image found
+found_by size book write image (inr found) = found
 
-ours_by : (accepted : Bool) (book : Book) (write : Write) → (if accepted then with_write book write else book).ours ≡ book.ours
-ours_by true book write = refl
-ours_by false book write = refl
-
-pub accepts : (write : Write) (accepted : Bool) (old new : Machine) → IsCaughtUp old → new ≡ record old { store = new.store }
-    → IsWritten write accepted old.store new.store → Accepts write accepted old new
-accepts write accepted old new free others written =
-    let turn = written.passes.turn in record {
+pub accepts : (write : Write) (old new : Machine) → IsCaughtUp old → new ≡ record old { store = new.store }
+    → IsWritten write old.store new.store → Accepts write old new
+accepts write old new free others written =
+    let turn = written.keeps.turn in record {
       done = done_free old new free others written.appends turn.goes_on.layout_stays;
       written = written;
       serves = λ book serves. record {
         fits = turn.fits book serves.fits;
-        keeps = λ ours image left.
-            subst (λ (n : ℕ). Finds n (is_dead new.store.cached) (if accepted then with_write book write else book) image)
-            (sym turn.goes_on.size_stays)
-            (found_by (window.state_of old.store.medium).size accepted (is_dead new.store.cached) book write image written.dead
-            ((turn.cuts book serves.fits (sym (ours_by accepted book write) ∙ ours)).each image
-            (since old new free others written.appends image left)));
+        keeps = λ ours image left. subst (λ (n : ℕ). MayFind n (with_write book write) image) (sym turn.goes_on.size_stays)
+            (found_by (window.state_of old.store.medium).size book write image
+            ((turn.cuts book serves.fits ours).each image (since old new free others written.appends image left)));
       };
     }
 
 -- ---- a read
-
--- none was given where none was made
-none_given : (calls : List DeviceCall) → length calls ≤ 0 → calls ≡ []
-none_given [] le = refl
-none_given (call ∷ calls) le = absurd (omega (arith, le))
 
 module _ (old new : Store) (address count : ℕ) (all : KeepsAll address count old new) where
   follows : ComesAfter old.medium new.medium
   follows = all.keeps.follows
 
   none : given follows.since ≡ []
-  none = none_given (given follows.since) (omega (arith, follows.sent, all.none_sent))
+  none = none_of (given follows.since) (omega (arith, follows.sent, all.none_sent))
 
   pub outbox_stays : new.medium.outbox ≡ old.medium.outbox
   outbox_stays = follows.outbox ∙ ap (λ (l : List DeviceCall). old.medium.outbox ++ l) none ∙ append-nil old.medium.outbox
@@ -148,7 +138,6 @@ read_safe old new address count others all =
         ap (λ (l : List DeviceCall). length l) all.keeps.follows.taken_stays,
       );
       fits = all.turn.fits;
-      dead = λ dead. ap (λ (s : Cached). is_dead s) all.keeps.stays ∙ dead;
       layout = ap (λ (s : Cached). layout_of s) all.keeps.stays;
       waits = λ before is. (λ i. is_behind (same i) (outbox i)) ∙ before (sym (ap (λ (s : Machine). s.starting) others) ∙ is);
     })
@@ -162,57 +151,32 @@ wait_safe old new missing why (inr busy) = wishes old new (ap (λ (s : Machine).
 
 -- ---- a sync
 
--- where some call waits now, some was made
-some_calls : (old new : Window) (since : List (Option DeviceCall)) → new.seen.told.asked ≡ old.seen.told.asked ++ since
-    → new.outbox ≡ old.outbox ++ given since → old.outbox ≡ [] → new.outbox ≢ []
-    → (window.state_of old).calls + 1 ≤ (window.state_of new).calls
-some_calls old new [] asked outbox empty some =
-    absurd (some (outbox ∙ append-nil old.outbox ∙ empty))
-some_calls old new (call ∷ calls) asked outbox empty some = omega (
-  arith,
-  ap (λ (l : List (Option DeviceCall)). length l) asked,
-  length-append old.seen.told.asked (call ∷ calls),
-)
+pub promises : (s : Machine) → IsCaughtUp s → is_dead s.store.cached ≡ false → unwritten s.store.cached ≡ 0
+    → Foresees s.store.medium → ServesAtRest s → Promises s s
+promises s free live none sees rest =
+    let fits : (book : Book) → FitsBook (window.state_of s.store.medium) s.store.cached book
+    → FitsBook (window.state_of s.store.medium) s.store.cached (promised book) = λ book fits. settles
+    (none_of s.store.cached.frozen.numbers (omega (arith, none)))
+    (none_of s.store.cached.active.numbers (omega (arith, none))) fits in record {
+      done = done_free s s free refl (appends_none s.store s.store sees refl) refl;
+      live = live;
+      written = none;
+      same = refl;
+      free = free;
+      fits = fits;
+      serves = λ book serves. rest free (promised book) (fits book serves.fits);
+    }
 
-module _ (old new : Machine) (live : is_dead old.store.cached ≡ false) (free : IsCaughtUp old)
-    (others : new ≡ record old { store = new.store }) where
-  pub synced : (told : Result (Unit {0}) StoreFault) → SyncsStore old.store new.store (Ok tt)
-      → OnOk told (new.store.medium.outbox ≡ [])
-      → IfErr told (λ why. (why ≡ fault.Busy) × (new.store.medium.outbox ≢ [])) → ServesAtRest new → Syncs old new told
-  synced (Ok tells) syncs empty waiting rest =
-      let none : IsCaughtUp new = record {
-        at_none = ap (λ (s : Machine). s.asked) others ∙ free.at_none;
-        none_waits = empty;
-      } in record {
-        done = done_free old new free others syncs.0.appends syncs.0.passes.turn.goes_on.layout_stays;
-        synced = syncs;
-        free = none;
-        serves = λ book serves. rest none (promised book) (syncs.2 book serves.fits);
-      }
-  synced (Err why) syncs empty waiting rest = inr (
-    live,
-    inr (inl (record {
-      is = waiting.0;
-      done = done_free old new free others syncs.0.appends syncs.0.passes.turn.goes_on.layout_stays;
-      synced = syncs;
-      waits = waiting.1;
-      fewer = omega (
-        arith,
-        syncs.0.passes.paid.rest syncs.1,
-        some_calls old.store.medium new.store.medium syncs.0.appends.follows.since syncs.0.appends.follows.asked
-            syncs.0.appends.follows.outbox free.none_waits waiting.1,
-      );
-      serves = turn_serves old new free others syncs.0.appends syncs.0.passes.turn;
-    })),
-  )
+-- ---- where either is put off
 
-  pub sync_dies : (why : CallFault) → SyncsStore old.store new.store (Err why) → Syncs old new (Err fault.Dead)
-  sync_dies why dies = inr (
-    live,
-    inr (inr (record {
-      is = refl;
-      done = done_free old new free others dies.1.appends dies.1.passes.turn.goes_on.layout_stays;
-      synced = (refl, dies.1, dies.2, dies.3);
-      serves = turn_serves old new free others dies.1.appends dies.1.passes.turn;
-    })),
-  )
+pub puts_off : (aim : Aim) (old new : Machine) → IsCaughtUp old → new ≡ record old { store = new.store } → IsLeft aim old.store
+    → WritesBack aim old.store new.store → PutsOff aim old new
+puts_off aim old new free others left writes =
+    let turn = writes.made.passes.turn in
+    let short : IsShort old.store = omega (arith, ap (λ (l : List DeviceCall). length l) free.none_waits) in record {
+      left = left;
+      done = done_free old new free others writes.appends turn.goes_on.layout_stays;
+      writes = writes;
+      some = some_made aim old.store new.store writes (record { left = left; short = short });
+      serves = turn_serves old new free others writes.appends turn;
+    }

@@ -8,7 +8,7 @@ use Rattle.window.specs.OutboxMedium.{sent, first_of}
 use Rattle.window.specs.declared.call.DeviceCall.{DeviceCall}
 use Rattle.window.specs.declared.call.DeviceCall.TheVariants.{Write, Flush}
 use Rattle.window.specs.Window.{Window, state_of, mirror_of, take_first}
-use Rattle.blocks.specs.StoreValue.{Cached, is_dead, layout_of}
+use Rattle.blocks.specs.StoreValue.{Cached, layout_of}
 use Rattle.window.specs.declared.ask.DeviceAsk.{DeviceAsk}
 use Rattle.window.specs.declared.ask.DeviceAsk.TheVariants as ask
 use Rattle.window.specs.declared.ask.DeviceRead.{DeviceRead}
@@ -98,7 +98,6 @@ handed_stands old new count hands le = record {
     ap (λ (w : Window). length w.seen.told.taken) hands.gone,
   );
   fits = hands.untouched.turn.fits;
-  dead = λ dead. ap (λ (s : Cached). is_dead s) hands.untouched.cached ∙ dead;
   layout = ap (λ (s : Cached). layout_of s) hands.untouched.cached;
   waits = λ waits is. ap (λ (s : Machine). is_behind s.asked s.store.medium.outbox) hands.others;
 }

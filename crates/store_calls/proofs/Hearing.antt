@@ -4,7 +4,7 @@ use Rattle.std.specs.Prelude.{Result}
 use Rattle.std.proofs.lemmas.Bool.{false≢true}
 use Rattle.window.specs.declared.call.DeviceCall.{DeviceCall}
 use Rattle.window.specs.Window.{Window, AreOnDevice, moved}
-use Rattle.blocks.specs.StoreValue.{Cached, is_dead, layout_of}
+use Rattle.blocks.specs.StoreValue.{Cached, layout_of}
 use Rattle.window.specs.declared.ask.DeviceRead.{DeviceRead}
 use Rattle.window.specs.declared.done_fault.DoneFault.{DoneFault}
 use Rattle.store_calls.specs.Asking.{carried_out, starts_behind, read_ended, EndsRefused, IsShownBy, EndsAs, EndsRead, EndsCalls, IsHonest}
@@ -41,7 +41,6 @@ given_up_stands old new count was given_up =
         ap (λ (w : Window). length w.seen.told.taken) gone,
       );
       fits = given_up.refused.fits;
-      dead = λ dead. ap (λ (s : Store). is_dead s.cached) given_up.refused.others;
       layout = ap (λ (s : Store). layout_of s.cached) given_up.refused.others;
       waits = λ waits is. absurd (false≢true (sym (ap (λ (s : Machine). s.starting) given_up.others) ∙ is));
     }
@@ -98,7 +97,6 @@ shown_safe old new home bytes was shown held =
       sent = sent.0;
       reaches = as_far old new home was now sent.1;
       fits = (shown.sees.untouched held).turn.fits;
-      dead = λ dead. ap (λ (s : Cached). is_dead s) shown.sees.cached ∙ dead;
       layout = ap (λ (s : Cached). layout_of s) shown.sees.cached;
       waits = no_call old new home was now (ap (λ (s : Machine). s.starting) shown.others) sent.2;
     })

@@ -1,6 +1,7 @@
 pub mod Roomy
 pub mod Served
 pub mod Stepping
+pub mod WrittenBack
 pub mod StartedStore
 pub mod OutboxTaken
 pub mod Untouched

@@ -26,7 +26,7 @@ write_on address bytes (Ok tells) old new writes = writes.1.serves
 write_on address bytes (Err why) old new (inl not) = same old new not.1
 write_on address bytes (Err why) old new (inr may) = elim may.1 [
   | inl busy ↦ same old new busy.2
-  | inr dies ↦ dies.1.serves
+  | inr off ↦ off.2.serves
 ]
 
 sync_on : (result : Result (Unit {0}) StoreFault) (old new : Machine) → Syncs old new result
@@ -35,10 +35,7 @@ sync_on (Ok tells) old new syncs = syncs.serves
 sync_on (Err why) old new (inl dead) = same old new dead.2
 sync_on (Err why) old new (inr live) = elim live.1 [
   | inl busy ↦ same old new busy.2
-  | inr made ↦ elim made [
-    | inl on ↦ on.serves
-    | inr dies ↦ dies.serves
-  ]
+  | inr off ↦ off.1.serves
 ]
 
 idle_on : (old new : Machine) → IsMade idle old new → ServesOn old new

@@ -1,14 +1,14 @@
 -- The room of a store is enough, and what is read is in sight.
-use Rattle.std.proofs.Common.{◌≡◌, ◌<◌, ◌≤◌, ◌+◌, ◌*◌, ℕ, true, length, inl, inr, sym, ◌∙◌, false, arith}
+use Rattle.std.proofs.Common.{◌≡◌, ◌<◌, ◌≤◌, ◌+◌, ℕ, true, length, inl, inr, refl, sym, ◌∙◌, subst, false, arith}
 use Rattle.std.proofs.lemmas.Bool.{false≢true}
 use Rattle.journal.specs.Places.{first_home}
-use Rattle.journal.specs.declared.log_format.LogFormat.{LogFormat}
-use Rattle.journal.specs.declared.log_format.LogFormat.TheVariants.{One, Two}
+use Rattle.journal.specs.declared.log_format.LogFormat.TheVariants.{Two}
 use Rattle.medium.specs.Medium.{LooksOnly}
 use Rattle.medium.specs.Sent.{sent, SendsUpTo}
 use Rattle.recovery.specs.Calls.{most_start_sends}
 use Rattle.recovery.specs.Recovered.{RecoverySends}
 use Rattle.window.specs.Window.{Window, state_of, is_in_sight, ComesAfter, IsServed}
+use Rattle.window.specs.WindowLaws.{comes_after_itself}
 use Rattle.window.specs.Looks.{near_in_sight, none_refused, none_missed, none_kept_out}
 use Rattle.blocks.specs.Looks.{IsLogOrHome, LooksAtLog, LooksAtBlocks}
 use Rattle.blocks.specs.Started.{LeavesMedium}
@@ -17,13 +17,9 @@ use Rattle.blocks.specs.Turns.{IsReadCause}
 use Rattle.blocks.specs.declared.fault.StoreFault.{StoreFault}
 use Rattle.blocks.specs.declared.fault.StoreFault.TheVariants.{ReadFault, Dead}
 use Rattle.store_calls.specs.Stores.{Store}
-use Rattle.store_calls.specs.Rooms.{RefusesNothing, Foresees, HasRoom, HoldsLog, Appends, AreInSight}
-use Rattle.store_calls.specs.Rooms.{HasRoomToStart, StartRefusesNothing, room_of, room_for}
-
--- a step in the background makes two
-pub some_sends : (format : LogFormat) → 2 ≤ room_of format
-some_sends One = omega arith
-some_sends Two = omega arith
+use Rattle.store_calls.specs.Rooms.{RefusesNothing, Foresees, TakesCalls, HoldsLog, Appends, AreInSight}
+use Rattle.store_calls.specs.Rooms.{HasRoomToStart, StartRefusesNothing}
+use Rattle.blocks.proofs.SectorsRead.{none}
 
 fits_in : (waits before after told room : ℕ) → after ≤ before + told → waits + told ≤ room → waits + after ≤ before + room
 fits_in waits before after told room calls fits = omega (arith, calls, fits)
@@ -40,27 +36,34 @@ refuses_nothing P Room Sight old new follows served few named in_sight = record 
 
 -- a call, with what the medium says of all that may come
 appends : (P : ℕ → Type 0) (most : ℕ) (old new : Store) → Foresees old.medium → ComesAfter old.medium new.medium
-    → most ≤ room_for (layout_of old.cached) → SendsUpTo most (state_of old.medium) (state_of new.medium)
-    → LooksOnly P (state_of old.medium) (state_of new.medium)
-    → (HoldsLog old → (s : ℕ) → P s → is_in_sight old.medium s ≡ true) → Appends old new
-appends P most old new sees follows few sends named in_sight = record {
+    → SendsUpTo most (state_of old.medium) (state_of new.medium) → LooksOnly P (state_of old.medium) (state_of new.medium)
+    → (HoldsLog old → (s : ℕ) → P s → is_in_sight old.medium s ≡ true) → Appends (TakesCalls most old) old new
+appends P most old new sees follows sends named in_sight = record {
   follows = follows;
   covers = sees.covers new.medium follows;
   parts = sees.parts new.medium follows;
   served = sees.served new.medium follows;
-  refuses = refuses_nothing P (HasRoom old) (HoldsLog old) old.medium new.medium follows (sees.served new.medium follows)
-      (λ room. fits_in (length old.medium.outbox) (sent (state_of old.medium)) (sent (state_of new.medium))
-      (room_for (layout_of old.cached)) old.medium.room (omega (arith, few, sends)) room)
+  refuses = refuses_nothing P (TakesCalls most old) (HoldsLog old) old.medium new.medium follows (sees.served new.medium follows)
+      (λ room. fits_in (length old.medium.outbox) (sent (state_of old.medium)) (sent (state_of new.medium)) most old.medium.room sends
+      room)
       named in_sight;
 }
 
 -- one that reads the log alone
 pub appends_log : (most : ℕ) (old new : Store) → Foresees old.medium → ComesAfter old.medium new.medium
-    → most ≤ room_for (layout_of old.cached) → SendsUpTo most (state_of old.medium) (state_of new.medium)
-    → LooksAtLog (state_of old.medium) (state_of new.medium) old.cached → Appends old new
-appends_log most old new sees follows few sends named =
-    appends (λ s. s < first_home (layout_of old.cached)) most old new sees follows few sends named
+    → SendsUpTo most (state_of old.medium) (state_of new.medium)
+    → LooksAtLog (state_of old.medium) (state_of new.medium) old.cached → Appends (TakesCalls most old) old new
+appends_log most old new sees follows sends named =
+    appends (λ s. s < first_home (layout_of old.cached)) most old new sees follows sends named
     (λ log s low. near_in_sight old.medium s (omega (arith, low, log)))
+
+-- one that makes no call of the medium
+pub appends_none : (old new : Store) → Foresees old.medium → new.medium ≡ old.medium → Appends (TakesCalls 0 old) old new
+appends_none old new sees same = appends_log 0 old new sees
+    (subst (λ (w : Window). ComesAfter old.medium w) (sym same) (comes_after_itself old.medium))
+    (subst (λ (w : Window). SendsUpTo 0 (state_of old.medium) (state_of w)) (sym same) (omega arith))
+    (subst (λ (w : Window). LooksAtLog (state_of old.medium) (state_of w) old.cached) (sym same)
+    (none (state_of old.medium) (state_of old.medium) old.cached refl))
 
 -- a sector of the log, or the home of one of these blocks, is in sight
 log_or_home : (old : Store) (address count : ℕ) → AreInSight old.medium (first_home (layout_of old.cached) + address) count
@@ -72,23 +75,16 @@ log_or_home old address count seen log s (inr at) = seen s at.0 at.1
 pub appends_read : (address count : ℕ) (old new : Store) → Foresees old.medium → ComesAfter old.medium new.medium
     → SendsUpTo 0 (state_of old.medium) (state_of new.medium)
     → LooksAtBlocks (state_of old.medium) (state_of new.medium) old.cached address count
-    → AreInSight old.medium (first_home (layout_of old.cached) + address) count → Appends old new
+    → AreInSight old.medium (first_home (layout_of old.cached) + address) count → Appends (TakesCalls 0 old) old new
 appends_read address count old new sees follows sends named seen =
-    appends (IsLogOrHome (first_home (layout_of old.cached)) address count) 0 old new sees follows (omega arith) sends named
+    appends (IsLogOrHome (first_home (layout_of old.cached)) address count) 0 old new sees follows sends named
     (log_or_home old address count seen)
 
 -- a live store refuses a read of blocks in sight only where a sector of the log is not in memory
 pub unread : (old new : Store) (why : StoreFault) → IsReadCause (state_of old.medium) (state_of new.medium) old.cached why
-    → is_dead old.cached ≡ false → Appends old new → ¬ HoldsLog old
+    → is_dead old.cached ≡ false → Appends (TakesCalls 0 old) old new → ¬ HoldsLog old
 unread old new ReadFault cause live all log = absurd (omega (arith, cause.1, all.refuses.seen log))
 unread old new Dead cause live all log = absurd (false≢true (sym live ∙ cause))
-
--- `sends`, once and twice, are no more than twice as many
-pub few_once : (sends : ℕ) → sends ≤ 2 * sends
-few_once sends = omega arith
-
-pub few_twice : (sends : ℕ) → 2 * sends ≤ 2 * sends
-few_twice sends = omega arith
 
 -- ---- a start, good or refused, on a medium that was asked nothing yet
 

@@ -1,5 +1,5 @@
 -- A machine over a device that leaves no more, and a store that fits what it fitted.
-use Rattle.std.proofs.Common.{◌≡◌, ◌≤◌, ◌++◌, ℕ, Bool, true, List, length, inl, inr, refl, sym, ◌∙◌, ap, subst, arith, length-append}
+use Rattle.std.proofs.Common.{◌≡◌, ◌≤◌, ◌++◌, ℕ, List, length, refl, sym, ◌∙◌, ap, subst, arith, length-append}
 use Rattle.std.specs.Prelude.{take, Option}
 use Rattle.std.proofs.lemmas.List.{take-append-le}
 use Rattle.medium.specs.Medium.{Image}
@@ -11,10 +11,11 @@ use Rattle.window.specs.Window as window
 use Rattle.window.specs.Window.{Window, mirror_of}
 use Rattle.journal.specs.Places.{Shape, first_home}
 use Rattle.spec.specs.Book.{Book}
-use Rattle.blocks.specs.StoreValue.{FitsBook, is_dead, layout_of}
+use Rattle.blocks.specs.Finding.{MayFind}
+use Rattle.blocks.specs.StoreValue.{FitsBook, layout_of}
 use Rattle.store_calls.specs.Rooms.{room_for}
 use Rattle.store_calls.specs.Serving.{StaysSafe, KeepsGoing, WaitsForDevice, LeavesNoMore, LeavesSince, ServesOn}
-use Rattle.store_calls.specs.StoreMachine.{Machine, Finds, LeavesOf, carried, is_behind, under_way}
+use Rattle.store_calls.specs.StoreMachine.{Machine, LeavesOf, carried, is_behind, under_way}
 use Rattle.store_calls.specs.Stores.{Store}
 use Rattle.store_calls.specs.declared.asked.Asked.{Asked}
 
@@ -48,14 +49,8 @@ pub record Stands (old new : Machine) : Type 0 where
   pub reaches : carried old ≤ carried new
   pub fits : (book : Book) → FitsBook (window.state_of old.store.medium) old.store.cached book
       → FitsBook (window.state_of new.store.medium) new.store.cached book
-  pub dead : is_dead old.store.cached ≡ true → is_dead new.store.cached ≡ true
   pub layout : layout_of new.store.cached ≡ layout_of old.store.cached
   pub waits : WaitsForDevice old → WaitsForDevice new
-
-pub finds_still : (size : ℕ) (was now : Bool) (book : Book) (image : Image) → (was ≡ true → now ≡ true) → Finds size was book image
-    → Finds size now book image
-finds_still size was now book image dead (inl found) = inl found
-finds_still size was now book image dead (inr found) = inr (dead found.0, found.1)
 
 -- the outbox has room as before, and the log lies in memory as before
 pub keeps_going : (old new : Machine) → layout_of new.store.cached ≡ layout_of old.store.cached
@@ -87,9 +82,7 @@ module _ (old new : Machine) (stands : Stands old new) where
   serves_still book serves = record {
     fits = stands.fits book serves.fits;
     keeps = λ ours image left.
-        subst (λ (n : ℕ). Finds n (is_dead new.store.cached) book image) (sym stands.sent.size)
-        (finds_still (window.state_of old.store.medium).size (is_dead old.store.cached) (is_dead new.store.cached) book image stands.dead
-        (serves.keeps ours image (leaves_no_more image left)));
+        subst (λ (n : ℕ). MayFind n book image) (sym stands.sent.size) (serves.keeps ours image (leaves_no_more image left));
   }
 
   pub stays_safe : StaysSafe old new
@@ -110,7 +103,6 @@ store_stays old new same reaches waits = record {
   sent = subst (λ (s : Store). IsSentStill old.store.medium s.medium) (sym same) (same_sent old.store.medium);
   reaches = reaches;
   fits = λ book fits. subst (λ (s : Store). FitsOver book s) (sym same) fits;
-  dead = λ dead. ap (λ (s : Store). is_dead s.cached) same ∙ dead;
   layout = ap (λ (s : Store). layout_of s.cached) same;
   waits = waits;
 }

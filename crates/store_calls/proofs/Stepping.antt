@@ -1,25 +1,23 @@
 -- Steps of a store in the background, one after the other.
-use Rattle.std.proofs.Common.{◌≡◌, ◌≤◌, ◌*◌, ◌+◌, ℕ, suc, Bool, true, false, refl, sym, ◌∙◌, subst, arith}
+use Rattle.std.proofs.Common.{◌≡◌, ◌*◌, ◌+◌, ℕ, suc, Bool, true, false, refl, sym, ◌∙◌, ap, subst, arith}
 use Rattle.std.proofs.lemmas.Bool.{false≢true}
 use Rattle.blocks.specs.Passing.{PassesOn}
-use Rattle.blocks.specs.StoreValue.{is_dead, layout_of}
+use Rattle.blocks.specs.StoreValue.{is_dead}
 use Rattle.blocks.specs.Turns.{IsTurn}
 use Rattle.blocks.proofs.SectorsRead.{none, looks_on}
 use Rattle.blocks.proofs.TurnsJoined.{stays, turns}
 use Rattle.blocks.specs.declared.work.Work.{Work}
-use Rattle.journal.specs.declared.log_format.LogFormat.{LogFormat}
-use Rattle.journal.specs.declared.log_format.LogFormat.TheVariants.{One, Two}
+use Rattle.journal.specs.Places.{Shape, first_home}
 use Rattle.window.specs.Window.{state_of, ComesAfter}
 use Rattle.window.specs.WindowLaws.{is_sound, comes_after_itself, comes_after_through}
 use Rattle.store_calls.specs.Calls.{IsStep}
 use Rattle.store_calls.specs.Idling.{AreSteps, IsShort}
-use Rattle.store_calls.specs.Rooms.{Appends, Foresees, room_of}
+use Rattle.store_calls.specs.Rooms.{Appends, Foresees, IsRoomy, HasRoom, HoldsLog}
 use Rattle.store_calls.specs.Stores.{Store}
-use Rattle.store_calls.proofs.Served.{appends_log}
 
 -- no step
-pub none_made : (work : Work) (s : Store) → AreSteps work 0 s s
-none_made work s = record {
+pub none_made : (May : Store → Type 0) (work : Work) (s : Store) → AreSteps May work 0 s s
+none_made May work s = record {
   steps = refl;
   passes = record {
     turn = stays (state_of s.medium) s.cached (is_sound s.medium);
@@ -30,10 +28,11 @@ none_made work s = record {
     looks = none (state_of s.medium) (state_of s.medium) s.cached refl;
     policy = refl;
   };
+  refuses = record { kept = λ room. refl; seen = λ sight. refl; none = λ room sight. refl };
 }
 
 -- a store that is live was live
-lived : (was is : Bool) → (was ≡ true → is ≡ true) → is ≡ false → was ≡ false
+pub lived : (was is : Bool) → (was ≡ true → is ≡ true) → is ≡ false → was ≡ false
 lived false is stays live = refl
 lived true is stays live = absurd (false≢true (sym live ∙ stays refl))
 
@@ -54,23 +53,41 @@ joined first second old mid new a b = record {
 }
 
 -- one step more
-pub one_more : (work : Work) (count : ℕ) (old mid new : Store) → AreSteps work count old mid → IsShort mid → IsStep work mid new
-    → AreSteps work (count + 1) old new
-one_more work count old mid new made short step =
-    let next : AreSteps work (suc count) old new = record {
-      steps = (mid, made.steps, short, step);
-      passes = subst (λ (n : ℕ). PassesOn state_of ComesAfter IsTurn n n old new) (omega arith)
-          (joined (2 * count) 2 old mid new made.passes step.passes);
-    } in
-    subst (λ (n : ℕ). AreSteps work n old new) (omega arith) next
+module _ (May : Store → Type 0) (work : Work) (count : ℕ) (old mid new : Store) (made : AreSteps May work count old mid) (may : May mid)
+    (short : IsShort mid) (step : IsStep work mid new) where
+  -- it has room where few calls wait, and the log is in memory still
+  room : IsRoomy old → HasRoom mid
+  room roomy = omega (arith, roomy, short, made.passes.follows.room_stays)
 
--- 32 steps have fewer calls than a call of a store
-few_sends : (format : LogFormat) (count : ℕ) → count ≤ 32 → 2 * count ≤ room_of format
-few_sends One count few = omega (arith, few)
-few_sends Two count few = omega (arith, few)
+  log : HoldsLog old → HoldsLog mid
+  log holds = omega (
+    arith,
+    holds,
+    made.passes.follows.near_stays,
+    ap (λ (s : Shape). first_home s) made.passes.turn.goes_on.layout_stays,
+  )
+
+  pub one_more : AreSteps May work (count + 1) old new
+  one_more =
+      let next : AreSteps May work (suc count) old new = record {
+        steps = (mid, made.steps, may, step);
+        passes = subst (λ (n : ℕ). PassesOn state_of ComesAfter IsTurn n n old new) (omega arith)
+            (joined (2 * count) 2 old mid new made.passes step.passes);
+        refuses = record {
+          kept = λ roomy. step.appends.refuses.kept (room roomy) ∙ made.refuses.kept roomy;
+          seen = λ sight. step.appends.refuses.seen (log sight) ∙ made.refuses.seen sight;
+          none = λ roomy sight. step.appends.refuses.none (room roomy) (log sight) ∙ made.refuses.none roomy sight;
+        };
+      } in
+      subst (λ (n : ℕ). AreSteps May work n old new) (omega arith) next
 
 -- their calls are appended
-pub steps_append : (work : Work) (count : ℕ) (old new : Store) → count ≤ 32 → Foresees old.medium → AreSteps work count old new
-    → Appends old new
-steps_append work count old new few sees made = appends_log (2 * count) old new sees made.passes.follows
-    (few_sends (layout_of old.cached).format count few) made.passes.sent made.passes.looks
+pub steps_append : (May : Store → Type 0) (work : Work) (count : ℕ) (old new : Store) → Foresees old.medium
+    → AreSteps May work count old new → Appends (IsRoomy old) old new
+steps_append May work count old new sees made = record {
+  follows = made.passes.follows;
+  covers = sees.covers new.medium made.passes.follows;
+  parts = sees.parts new.medium made.passes.follows;
+  served = sees.served new.medium made.passes.follows;
+  refuses = made.refuses;
+}

@@ -1,25 +1,22 @@
 -- What each call does to a store.
 use Rattle.std.specs.Prelude.{◌≡◌, ◌≢◌, ◌⊎◌, ℕ, ◌+◌, ◌*◌, ◌/◌, ◌%◌, ◌<◌, Bool, true, false}
-use Rattle.std.specs.Prelude.{not, List, Result, Ok, Err}
+use Rattle.std.specs.Prelude.{List}
 use Rattle.spec.specs.Blocks.{Write}
 use Rattle.journal.specs.Places.{first_home}
 use Rattle.window.specs.Window.{state_of, ComesAfter, AreOnDevice, IsShown}
-use Rattle.spec.specs.Book.{Book, array_of, blocks_at, promised}
+use Rattle.spec.specs.Book.{Book, array_of, blocks_at}
 use Rattle.blocks.specs.Book.{IsTransfer}
-use Rattle.blocks.specs.Passing.{KeepsStore, PassesOn, PassesPaid, IsUntouched}
-use Rattle.blocks.specs.Sent.{batch_sends}
+use Rattle.blocks.specs.Passing.{KeepsStore, KeepsMedium, PassesOn, IsUntouched}
 use Rattle.blocks.specs.StoreValue.{Cached, layout_of, blocks_of, transfer_limit, is_dead}
-use Rattle.blocks.specs.StoreValue.{steps_left, active_of, wants, FitsBeside, FitsBook}
-use Rattle.blocks.specs.Flushing.{finish_flushes, both_flushes}
-use Rattle.blocks.specs.Headroom.{HasHeadroom, KeepsHeadroom, records_of}
-use Rattle.blocks.specs.Retiring.{finish_calls, both_calls}
+use Rattle.blocks.specs.StoreValue.{FitsBook}
+use Rattle.blocks.specs.Headroom.{HasHeadroom, KeepsHeadroom, FlushesOnce}
+use Rattle.blocks.specs.Prepared.{IsTakenAtOnce}
 use Rattle.medium.specs.Sent.{SendsUpTo}
-use Rattle.medium.specs.declared.fault.MediumFault.TheVariants.{Flush}
 use Rattle.blocks.specs.Turns.{IsTurn, IsWriteTurn}
-use Rattle.blocks.specs.Work.{IsWork, CountsBy}
+use Rattle.blocks.specs.Work.{IsWork, CountsBy, RetiresNone}
 use Rattle.blocks.specs.declared.work.Work.{Work}
 use Rattle.store_calls.specs.Stores.{Store}
-use Rattle.store_calls.specs.Rooms.{Appends, HoldsLog}
+use Rattle.store_calls.specs.Rooms.{Appends, TakesCalls, HasRoom, HoldsLog}
 use Rattle.store_calls.specs.declared.call_fault.CallFault.{CallFault}
 use Rattle.store_calls.specs.declared.call_fault.CallFault.TheVariants as fault
 
@@ -53,7 +50,7 @@ pub record KeepsAll (address count : ℕ) (old new : Store) : Type 0 where
   pub keeps : KeepsStore state_of ComesAfter address count old new
   pub turn : IsTurn (state_of old.medium) (state_of new.medium) old.cached new.cached
   pub none_sent : SendsUpTo 0 (state_of old.medium) (state_of new.medium)
-  pub appends : Appends old new
+  pub appends : Appends (TakesCalls 0 old) old new
 
 -- The count blocks were read: those after all accepted writes.
 pub record IsRead (address count : ℕ) (old : Store) (filled : List ℕ) (new : Store) : Type 0 where
@@ -68,60 +65,20 @@ pub record IsUnread (address count : ℕ) (old new : Store) : Type 0 where
 
 -- ---- a write
 
--- One write was accepted, whole, or none. A store that does not accept it is dead then.
-pub record IsWritten (write : Write) (accepted : Bool) (old new : Store) : Type 0 where
-  pub passes : PassesOn state_of ComesAfter (IsWriteTurn write accepted)
-      (2 * steps_left old.cached) (batch_sends old.cached) old new
-  pub dead : is_dead new.cached ≡ not accepted
-  pub appends : Appends old new
+-- One write was accepted, whole, and the medium is as it was.
+pub record IsWritten (write : Write) (old new : Store) : Type 0 where
+  pub keeps : KeepsMedium state_of (IsWriteTurn write true) old new
+  pub live : is_dead new.cached ≡ false
+  pub appends : Appends (TakesCalls 0 old) old new
 
--- What a good write of count blocks costs: no call of the device where its range fits beside the
--- batch that takes writes; else the calls and the flushes that make the batch before that durable,
--- and no other.
+-- What such a write of count blocks costs: no call of the device. Its range fits beside the batch
+-- that takes writes, or there is room for a batch of its own.
 pub record CostsWrite (address count : ℕ) (old new : Store) : Type 0 where
-  pub beside : FitsBeside (transfer_limit old.cached) (active_of old.cached) address count
-      → new.medium ≡ old.medium
-  pub calls : ¬ FitsBeside (transfer_limit old.cached) (active_of old.cached) address count
-      → (state_of new.medium).calls ≡ (state_of old.medium).calls
-      + finish_calls old.goes_ahead old.cached.frozen.numbers old.cached.log
-  pub flushes : ¬ FitsBeside (transfer_limit old.cached) (active_of old.cached) address count
-      → (state_of new.medium).made Flush ≡ (state_of old.medium).made Flush
-      + finish_flushes old.cached.frozen.numbers old.cached.log
-  -- one flush for that batch, where the store retires ahead and has headroom
-  pub once : old.goes_ahead ≡ true → HasHeadroom old.cached.log
-      → ¬ FitsBeside (transfer_limit old.cached) (active_of old.cached) address count
-      → (state_of new.medium).made Flush
-      ≡ (state_of old.medium).made Flush + wants old.cached.frozen.numbers
+  pub at_once : IsTakenAtOnce old.cached address count
+  pub none : new.medium ≡ old.medium
   pub headroom : old.goes_ahead ≡ true → HasHeadroom old.cached.log → HasHeadroom new.cached.log
 
--- ---- a sync, and the work in the background
-
--- The accepted writes were on their way to the log.
-pub record IsSynced (old new : Store) : Type 0 where
-  pub passes : PassesPaid state_of ComesAfter (2 * batch_sends old.cached) old new
-  pub appends : Appends old new
-
--- What a good sync costs: the calls and the flushes that make the one batch durable, and then the
--- other, and no other.
-pub record CostsSync (old new : Store) : Type 0 where
-  pub calls : (state_of new.medium).calls ≡ (state_of old.medium).calls + both_calls old.goes_ahead
-      old.cached.frozen.numbers old.cached.active.numbers old.cached.log
-  pub flushes : (state_of new.medium).made Flush ≡ (state_of old.medium).made Flush
-      + both_flushes old.goes_ahead old.cached.frozen.numbers old.cached.active.numbers
-      old.cached.log
-  -- one flush for each record, where the store retires ahead and has headroom
-  pub once : old.goes_ahead ≡ true → HasHeadroom old.cached.log
-      → (state_of new.medium).made Flush
-      ≡ (state_of old.medium).made Flush + records_of old.cached
-  pub headroom : KeepsHeadroom old new
-
--- All accepted writes are promised, or the store is dead. One that was dead stays as it is.
-abbrev pub SyncsStore : Store → Store → Result (Unit {0}) CallFault → Type 0
-SyncsStore old new (Ok done) = IsSynced old new × (is_dead new.cached ≡ false)
-    × ((book : Book) → FitsBook (state_of old.medium) old.cached book
-    → FitsBook (state_of new.medium) new.cached (promised book)) × CostsSync old new
-SyncsStore old new (Err why) = (why ≡ fault.Dead) × IsSynced old new
-    × (is_dead new.cached ≡ true) × (is_dead old.cached ≡ true → new ≡ old)
+-- ---- the work in the background
 
 -- a step in the background that works towards this
 pub record IsStep (work : Work) (old new : Store) : Type 0 where
@@ -129,8 +86,11 @@ pub record IsStep (work : Work) (old new : Store) : Type 0 where
   pub order : IsWork work old.goes_ahead (state_of old.medium) (state_of new.medium)
       old.cached new.cached
   pub headroom : KeepsHeadroom old new
+  -- one flush for each record that becomes durable
+  pub once : RetiresNone work old.goes_ahead old.cached
+      → FlushesOnce old.goes_ahead (state_of old.medium) (state_of new.medium) old.cached new.cached
   pub counts : CountsBy work old new
-  pub appends : Appends old new
+  pub appends : Appends (HasRoom old) old new
 
 -- ---- the device
 

@@ -1,5 +1,5 @@
 -- What a store does in the background: steps, one by one.
-use Rattle.std.specs.Prelude.{◌≡◌, ◌⊎◌, ◌↔◌, ℕ, zero, suc, ◌*◌, ◌<◌, ◌≤◌, Bool, false, length}
+use Rattle.std.specs.Prelude.{◌≡◌, ◌⊎◌, ◌↔◌, ℕ, zero, suc, ◌*◌, ◌≤◌, Bool, false, length}
 use Rattle.window.specs.Window.{state_of, ComesAfter}
 use Rattle.blocks.specs.Passing.{PassesOn}
 use Rattle.blocks.specs.Settled.{IsSettled}
@@ -8,36 +8,39 @@ use Rattle.blocks.specs.Turns.{IsTurn}
 use Rattle.blocks.specs.declared.work.Work.{Work}
 use Rattle.blocks.specs.declared.work.Work.TheVariants.{Settle}
 use Rattle.store_calls.specs.Calls.{IsStep}
-use Rattle.store_calls.specs.Rooms.{Appends}
+use Rattle.store_calls.specs.Rooms.{Appends, RefusesNothing, IsRoomy, HoldsLog, most_waiting}
 use Rattle.store_calls.specs.Stores.{Store}
 
 -- so few calls wait that a step is made
 abbrev pub IsShort : Store → Type 0
-IsShort s = length s.medium.outbox < 64
+IsShort s = length s.medium.outbox ≤ most_waiting
 
 -- no step is left, as `Store::is_settled` tells
 abbrev pub IsAllDone : Store → Type 0
 IsAllDone s = (is_dead s.cached ≡ false) × (steps_left s.cached ≡ 0)
 
--- so many steps that work towards this, one by one, each while few calls wait
-abbrev pub StepsOn : Work → ℕ → Store → Store → Type 0
-StepsOn work zero old new = new ≡ old
-StepsOn work (suc count) old new = (mid : Store) × StepsOn work count old mid × IsShort mid
+-- so many steps that work towards this, one by one, each made while this holds of the store
+abbrev pub StepsOn : (Store → Type 0) → Work → ℕ → Store → Store → Type 0
+StepsOn May work zero old new = new ≡ old
+StepsOn May work (suc count) old new = (mid : Store) × StepsOn May work count old mid × May mid
     × IsStep work mid new
 
--- So many steps, which make at most two calls each, and together one turn of the store.
-pub record AreSteps (work : Work) (count : ℕ) (old new : Store) : Type 0 where
-  pub steps : StepsOn work count old new
+-- So many steps, which make at most two calls each, and together one turn of the store. None of
+-- their calls is refused in an outbox that has the room for what steps leave there.
+pub record AreSteps (May : Store → Type 0) (work : Work) (count : ℕ) (old new : Store)
+    : Type 0 where
+  pub steps : StepsOn May work count old new
   pub passes : PassesOn state_of ComesAfter IsTurn (2 * count) (2 * count) old new
+  pub refuses : RefusesNothing (IsRoomy old) (HoldsLog old) old.medium new.medium
 
--- At most 32 steps towards rest, and fewer only where many calls wait or none is left. None of
--- their calls is refused that a call of the store has room for.
+-- At most 32 steps towards rest, each made while few calls wait, and fewer only where many calls
+-- wait or none is left.
 pub record MakesSteps (old new : Store) : Type 0 where
   pub count : ℕ
   pub few : count ≤ 32
-  pub made : AreSteps Settle count old new
+  pub made : AreSteps IsShort Settle count old new
   pub ends : (count ≡ 32) ⊎ (IsAllDone new ⊎ (¬ IsShort new))
-  pub appends : Appends old new
+  pub appends : Appends (IsRoomy old) old new
 
 -- and whether some are left is told
 pub record TellsLeft (old new : Store) (left : Bool) : Type 0 where

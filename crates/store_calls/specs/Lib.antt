@@ -5,6 +5,7 @@ pub mod Outbox
 pub mod Starts
 pub mod Calls
 pub mod Idling
+pub mod WritingBack
 pub mod Refused
 pub mod StoreMachine
 pub mod Serving

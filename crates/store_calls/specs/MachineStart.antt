@@ -30,9 +30,9 @@ abbrev pub FindsSuper : List ℕ → Option Super → Type 0
 FindsSuper near (Some sizes) = IsTheSuper near (shape_of sizes)
 FindsSuper near None = ¬ HasSuper near
 
--- Of an image, as many sectors are shown as one read has at most, and the outbox has room for the
--- calls of each call of the store, and so of a start where no record waits. Where there is no
--- image, for the flush with which a start begins, so that it can tell what is wrong.
+-- Of an image, as many sectors are shown as one read has at most, and the outbox has room for what
+-- steps leave there, and so for a start where no record waits. Where there is no image, for the
+-- flush with which a start begins, so that it can tell what is wrong.
 pub record Reserves (near : List ℕ) (span room : ℕ) : Type 0 where
   pub image : (shape : Shape) → IsSuperOf near shape
       → (span ≡ limit_of shape.format) × (room ≡ room_for shape)

@@ -1,6 +1,6 @@
 -- What leaves an outbox, and how many writes to neighbouring sectors leave it together.
 use Rattle.std.specs.Prelude.{◌≡◌, ◌≢◌, ◌⊎◌, ℕ, zero, suc, ◌+◌, ◌/◌, ◌%◌, ◌≤◌, List, [], ◌∷◌}
-use Rattle.std.specs.Prelude.{◌++◌, length, Option, Some, None}
+use Rattle.std.specs.Prelude.{◌++◌, length}
 use Rattle.medium.specs.Writes.{sector_of}
 use Rattle.window.specs.declared.call.DeviceCall.{DeviceCall}
 use Rattle.window.specs.declared.call.DeviceCall.TheVariants.{Write}

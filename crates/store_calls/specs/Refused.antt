@@ -18,7 +18,7 @@ pub record IsDrained (old new : Store) : Type 0 where
 -- What waited is handed to no device. So the device holds what it was handed before, of which the
 -- call that it refused is the last: what a cut may leave of that is in `Appends.parts` of the calls
 -- that asked for it. A dead store changes no more, and asks for nothing: see `MayNotMove`,
--- `SyncsStore` and `CountsDown.dead`.
+-- `Syncs` and `CountsBy.dead`.
 pub record IsRefused (old new : Store) : Type 0 where
   pub emptied : IsEmptied old.medium new.medium
   -- the store is dead, and nothing else of it changes

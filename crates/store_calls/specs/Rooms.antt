@@ -1,6 +1,6 @@
 -- Nothing that a store asks of its medium is refused: no write and no flush for want of room, and
 -- no read of a sector that is not in sight.
-use Rattle.std.specs.Prelude.{◌≡◌, ◌⊎◌, ℕ, ◌+◌, ◌*◌, ◌<◌, ◌≤◌, true, List, length, max}
+use Rattle.std.specs.Prelude.{◌≡◌, ◌⊎◌, ℕ, ◌+◌, ◌<◌, ◌≤◌, true, List, length, max}
 use Rattle.journal.specs.Places.{Shape, first_home, sectors_of}
 use Rattle.journal.specs.Sectors.{IsSuper}
 use Rattle.journal.specs.declared.log_format.LogFormat.{LogFormat}
@@ -18,9 +18,21 @@ pub use Rattle.blocks.specs.Sent.{most_sent}
 use Rattle.blocks.specs.StoreValue.{layout_of}
 use Rattle.store_calls.specs.Stores.{Store}
 
--- as many writes and flushes as any call of a store makes: those that make two batches durable
+-- so many calls wait at most when a step is made
+abbrev pub most_waiting : ℕ
+most_waiting = 63
+
+-- and so many writes and flushes it makes at most
+abbrev pub step_sends : ℕ
+step_sends = 2
+
+-- as many calls as steps leave in an outbox: no other call of a store makes a write or a flush
+abbrev pub most_left : ℕ
+most_left = most_waiting + step_sends
+
+-- so much room an outbox must have, whatever the format
 abbrev pub room_of : LogFormat → ℕ
-room_of format = 2 * most_sent format
+room_of format = most_left
 
 -- that of an image
 abbrev pub room_for : Shape → ℕ
@@ -46,12 +58,16 @@ pub record Foresees (m : Window) : Type 0 where
 
 -- ---- a call
 
--- the outbox has room, beside what waits, for as many calls as a call of the store makes
-abbrev pub HasRoom : Store → Type 0
-HasRoom s = length s.medium.outbox + room_for (layout_of s.cached) ≤ s.medium.room
+-- the outbox has room for so many calls beside what waits
+abbrev pub TakesCalls : ℕ → Store → Type 0
+TakesCalls count s = length s.medium.outbox + count ≤ s.medium.room
 
--- The outbox has that room where nothing waits. So has that of each store that was started, and
--- each call keeps it, since the room and the layout stay.
+-- for those of a step
+abbrev pub HasRoom : Store → Type 0
+HasRoom s = TakesCalls step_sends s
+
+-- The outbox has room for all that steps leave there, each made while few calls wait. So has that
+-- of each store that was started, and each call keeps it, since the room and the layout stay.
 abbrev pub IsRoomy : Store → Type 0
 IsRoomy s = room_for (layout_of s.cached) ≤ s.medium.room
 
@@ -61,14 +77,14 @@ HoldsLog s = first_home (layout_of s.cached) ≤ s.medium.near
 
 -- All that a call gave to the device is appended to the outbox. Wherever in it the device is, and
 -- whichever of the writes behind its last flush it has carried out, a cut of it leaves what a cut
--- at some moment of the call could. With the room, and the log in memory, none of its calls of the
+-- at some moment of the call could. With this room, and the log in memory, none of its calls of the
 -- medium is refused.
-pub record Appends (old new : Store) : Type 0 where
+pub record Appends (Room : Type 0) (old new : Store) : Type 0 where
   pub follows : ComesAfter old.medium new.medium
   pub covers : CoversDevice old.medium new.medium
   pub parts : CoversParts old.medium new.medium
   pub served : IsServed old.medium new.medium
-  pub refuses : RefusesNothing (HasRoom old) (HoldsLog old) old.medium new.medium
+  pub refuses : RefusesNothing Room (HoldsLog old) old.medium new.medium
 
 -- each of count sectors from `home` on is in sight
 abbrev pub AreInSight : Window → ℕ → ℕ → Type 0

@@ -1,6 +1,6 @@
 -- A store and the device behind it, which may be behind: it is still carrying out calls that it was
 -- told.
-use Rattle.std.specs.Prelude.{◌≡◌, ◌⊎◌, ℕ, ◌+◌, ◌-◌, ◌≤◌, Bool, true, false, List, [], ◌∷◌}
+use Rattle.std.specs.Prelude.{◌≡◌, ℕ, ◌+◌, ◌-◌, ◌≤◌, Bool, true, false, List, [], ◌∷◌}
 use Rattle.std.specs.Prelude.{length, take, if◌then◌else◌}
 use Rattle.medium.specs.Medium.{Image, CutLeaves}
 use Rattle.window.specs.Device.{durable, after}
@@ -9,10 +9,9 @@ use Rattle.window.specs.Parts.{AreCarriedOut}
 use Rattle.window.specs.declared.call.DeviceCall.{DeviceCall}
 use Rattle.window.specs.Window as window
 use Rattle.window.specs.Window.{mirror_of}
-use Rattle.spec.specs.Blocks.{Write}
-use Rattle.spec.specs.Book.{Book, with_write}
+use Rattle.spec.specs.Book.{Book}
 use Rattle.blocks.specs.Finding.{MayFind}
-use Rattle.blocks.specs.StoreValue.{FitsBook, is_dead}
+use Rattle.blocks.specs.StoreValue.{FitsBook}
 use Rattle.window.specs.declared.state.MachineState.{MachineState}
 use Rattle.window.specs.declared.state.MachineState.TheVariants as state
 use Rattle.store_calls.specs.Stores.{Store}
@@ -100,16 +99,11 @@ stage_of s = if has_refused s.asked then state.Refused else stage_by s.starting
 
 -- ---- the promise
 
--- A start finds the first k of the accepted writes, and the promised ones are among them. A store
--- that died may have had a write in progress: k may count it too.
-abbrev pub Finds : ℕ → Bool → Book → Image → Type 0
-Finds size dead book image = MayFind size book image
-    ⊎ ((dead ≡ true) × ((write : Write) × MayFind size (with_write book write) image))
-
--- whatever a loss of power leaves, wherever the device is, a start finds that
+-- Whatever a loss of power leaves, wherever the device is, a start finds the first some of the
+-- accepted writes, and the promised ones are among them.
 abbrev pub Keeps : Machine → Book → Type 0
 Keeps s book = book.ours ≡ true → (image : Image) → MayLeave s image
-    → Finds (window.state_of s.store.medium).size (is_dead s.store.cached) book image
+    → MayFind (window.state_of s.store.medium).size book image
 
 -- The machine serves a life with this book, of accepted writes and of promised ones.
 pub record Serves (s : Machine) (book : Book) : Type 0 where

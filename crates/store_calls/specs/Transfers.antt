@@ -1,22 +1,26 @@
 -- What reads, writes and syncs do to a machine, and the work in the background.
-use Rattle.std.specs.Prelude.{◌≡◌, ◌≢◌, ◌⊎◌, ℕ, ◌+◌, ◌/◌, ◌<◌, Bool, true, false, List, [], length}
-use Rattle.std.specs.Prelude.{None, Result, Ok, Err, if◌then◌else◌}
+use Rattle.std.specs.Prelude.{◌≡◌, ◌≢◌, ◌⊎◌, ℕ, ◌+◌, ◌/◌, ◌<◌, Bool, true, false, List, length}
+use Rattle.std.specs.Prelude.{None, Result, Ok, Err}
+use Rattle.window.specs.Window.{state_of}
 use Rattle.spec.specs.Blocks.{Write}
 use Rattle.spec.specs.Book.{Book, with_write, write_of, promised}
 use Rattle.blocks.specs.Book.{IsTransfer}
 use Rattle.blocks.specs.StoreValue.{Cached, blocks_of, transfer_limit, is_dead}
-use Rattle.blocks.specs.StoreValue.{steps_left}
+use Rattle.blocks.specs.StoreValue.{unwritten, FitsBook}
+use Rattle.blocks.specs.Prepared.{IsTakenAtOnce}
 use Rattle.window.specs.declared.ask.DeviceRead.{DeviceRead}
 use Rattle.store_calls.specs.Calls.{MayMove, IsNoSize, home_of, IsRead, IsUnread}
-use Rattle.store_calls.specs.Calls.{IsWritten, CostsWrite, SyncsStore}
+use Rattle.store_calls.specs.Calls.{IsWritten, CostsWrite}
 use Rattle.store_calls.specs.Asking.{to_read}
 use Rattle.store_calls.specs.Idling.{TellsLeft}
+use Rattle.store_calls.specs.WritingBack.{IsLeft, WritesBack}
 use Rattle.store_calls.specs.Rooms.{AreInSight, AreMissing}
 use Rattle.store_calls.specs.Serving.{LeavesSince, ServesOn, KeepsGoing, StaysSafe}
 use Rattle.store_calls.specs.StoreMachine.{Machine, IsCaughtUp, Serves}
 use Rattle.store_calls.specs.declared.asked.Asked.{Asked}
 use Rattle.store_calls.specs.declared.asked.Asked.TheVariants as asked
-use Rattle.store_calls.specs.declared.call_fault.CallFault.TheVariants as call
+use Rattle.store_calls.specs.declared.writing_back.Aim.{Aim}
+use Rattle.store_calls.specs.declared.writing_back.Aim.TheVariants as aim
 use Rattle.store_calls.specs.declared.lack.Lack.{Lack}
 use Rattle.store_calls.specs.declared.lack.Lack.TheVariants as lack
 use Rattle.store_calls.specs.declared.store_fault.StoreFault.{StoreFault}
@@ -92,56 +96,59 @@ pub record IsDoneFree (old new : Machine) : Type 0 where
   pub since : LeavesSince old.store.medium new
   pub goes_on : KeepsGoing old new
 
--- one write was accepted, whole, or none
-pub record Accepts (write : Write) (accepted : Bool) (old new : Machine) : Type 0 where
+-- What is before a write or a sync is written first: steps are made, one at least, and the same
+-- call is to come again once the device has carried out their calls. Each step leaves fewer, and no
+-- call but an accepted write adds any: so the call comes to be taken.
+pub record PutsOff (aim : Aim) (old new : Machine) : Type 0 where
+  pub left : IsLeft aim old.store
   pub done : IsDoneFree old new
-  pub written : IsWritten write accepted old.store new.store
-  pub serves : (book : Book) → Serves old book
-      → Serves new (if accepted then with_write book write else book)
+  pub writes : WritesBack aim old.store new.store
+  pub some : 0 < writes.count
+  pub serves : ServesOn old new
 
--- One write was accepted, or it was not: then the store is dead, or nothing has changed.
+-- ---- a write
+
+-- one write was accepted, whole
+pub record Accepts (write : Write) (old new : Machine) : Type 0 where
+  pub done : IsDoneFree old new
+  pub written : IsWritten write old.store new.store
+  pub serves : (book : Book) → Serves old book → Serves new (with_write book write)
+
+-- One write was accepted, by no call of the device. Or nothing has changed; or the store does not
+-- take it at once, and steps are made that write the batch before it.
 abbrev pub Writes : ℕ → List ℕ → Machine → Machine → Result (Unit {0}) StoreFault → Type 0
 Writes address bytes old new (Ok done) = MayMove old.store.cached address (length bytes)
-    × Accepts (write_of address bytes) true old new
+    × Accepts (write_of address bytes) old new
     × CostsWrite address (length bytes / 512) old.store new.store
 Writes address bytes old new (Err why) =
     (MayNot old.store.cached address (length bytes) why × (new ≡ old))
     ⊎ (MayMove old.store.cached address (length bytes)
     × (IsBusy old new why
-    ⊎ ((why ≡ fault.Dead) × Accepts (write_of address bytes) false old new)))
+    ⊎ ((why ≡ fault.Busy)
+    × (¬ IsTakenAtOnce old.store.cached address (length bytes / 512))
+    × PutsOff aim.Batch old new)))
 
 -- ---- a sync
 
--- Every accepted write is durable, and promised: no call was left, and the device has carried out
--- all.
+-- Every accepted write is durable, and promised: no record was left to write, and the device has
+-- carried out all. So no call is made, and nothing changes.
 pub record Promises (old new : Machine) : Type 0 where
   pub done : IsDoneFree old new
-  pub synced : SyncsStore old.store new.store (Ok tt)
+  pub live : is_dead old.store.cached ≡ false
+  pub written : unwritten old.store.cached ≡ 0
+  pub same : new ≡ old
   pub free : IsCaughtUp new
+  pub fits : (book : Book) → FitsBook (state_of old.store.medium) old.store.cached book
+      → FitsBook (state_of new.store.medium) new.store.cached (promised book)
   pub serves : (book : Book) → Serves old book → Serves new (promised book)
 
--- The calls that make them durable wait for the device. Each such sync leaves fewer steps, and no
--- other call but a write adds any: so a good one comes, once the device has carried them out.
-pub record SyncsOn (old new : Machine) (why : StoreFault) : Type 0 where
-  pub is : why ≡ fault.Busy
-  pub done : IsDoneFree old new
-  pub synced : SyncsStore old.store new.store (Ok tt)
-  pub waits : new.store.medium.outbox ≢ []
-  pub fewer : steps_left new.store.cached < steps_left old.store.cached
-  pub serves : ServesOn old new
-
--- The store died, and nothing more is promised.
-pub record SyncDies (old new : Machine) (why : StoreFault) : Type 0 where
-  pub is : why ≡ fault.Dead
-  pub done : IsDoneFree old new
-  pub synced : SyncsStore old.store new.store (Err call.Dead)
-  pub serves : ServesOn old new
-
+-- All is promised, or nothing has changed; or a record is left to write, and steps are made that
+-- write it.
 abbrev pub Syncs : Machine → Machine → Result (Unit {0}) StoreFault → Type 0
 Syncs old new (Ok done) = Promises old new
 Syncs old new (Err why) = ((why ≡ fault.Dead) × (is_dead old.store.cached ≡ true) × (new ≡ old))
     ⊎ ((is_dead old.store.cached ≡ false)
-    × (IsBusy old new why ⊎ (SyncsOn old new why ⊎ SyncDies old new why)))
+    × (IsBusy old new why ⊎ ((why ≡ fault.Busy) × PutsOff aim.Records old new)))
 
 -- ---- the work in the background
 

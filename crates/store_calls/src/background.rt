@@ -4,15 +4,13 @@ ghost use Rattle.store_calls.specs.Calls.{IsStep};
 ghost use Rattle.store_calls.specs.Idling.{IsShort, MakesSteps, TellsLeft};
 
 use crate::reading::foresee;
+use crate::room::MOST_WAITING;
 use blocks::{Store, Work};
 use medium::Medium;
 use window::WindowMedium;
 
 // How many steps are made at most, so that their writes come in long runs.
 const MOST_STEPS: u32 = 32;
-
-// How many calls wait at most when a step is made.
-const MOST_WAITING: usize = 63;
 
 /// Makes steps towards rest, and answers whether some are left.
 pub(crate) fn make_steps(store: &mut Store<WindowMedium>) -> bool
@@ -35,16 +33,16 @@ fn settle(store: &mut Store<WindowMedium>)
     }
 }
 
-// Makes a step that works towards this.
-fn step(store: &mut Store<WindowMedium>, work: Work)
+/// Makes a step that works towards this.
+pub(crate) fn step(store: &mut Store<WindowMedium>, work: Work)
     ensures { IsStep work store.old store.new }
 {
     foresee(store);
     store.work(work);
 }
 
-// Whether so few calls wait that a step is made.
-fn is_short(store: &Store<WindowMedium>) -> bool
+/// Whether so few calls wait that a step is made.
+pub(crate) fn is_short(store: &Store<WindowMedium>) -> bool
     ensures { IsTrue result ↔ IsShort store.now }
 {
     store.medium().waiting() <= MOST_WAITING

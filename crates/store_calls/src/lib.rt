@@ -1,5 +1,9 @@
 //! A store on a device that is read on demand, without any transport: what it is asked for, and
 //! what its device is to do next.
+//!
+//! No write and no sync makes a call of the device by itself. Where something has to be written
+//! before, steps are made that write it, each while few calls wait, and the same call is to come
+//! again: so the outbox has room for few calls.
 #![tactic(auto)]
 
 mod asked;
@@ -22,6 +26,7 @@ mod store_fault;
 mod told;
 mod transfers;
 mod writing;
+mod writing_back;
 
 pub use asked::Asked;
 pub use blocks::StartFault;

@@ -6,7 +6,7 @@ ghost use Rattle.store_calls.specs.MachineStart.{StartsOn, IsNotStarted};
 use crate::CallFault;
 use crate::machine::StoreMachine;
 use crate::reading::BLOCK;
-use crate::room::room_for;
+use crate::room::outbox_room;
 use crate::start::begin;
 use journal::Super;
 use std::alloc::Global;
@@ -26,7 +26,7 @@ fn reserve_for(near: &[u8]) -> Reserve
     match super_of(near) {
         Some(sizes) => Reserve {
             span: sizes.format.limit(),
-            room: room_for(sizes.format) as usize,
+            room: outbox_room(),
         },
         None => Reserve { span: 0, room: 1 },
     }

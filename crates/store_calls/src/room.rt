@@ -1,16 +1,22 @@
 //! How much room an outbox must have, and whether an image wants more than it was given.
 ghost use Rattle.std.specs.Prelude.{◌≡◌, ◌<◌, ◌↔◌, IsTrue};
-ghost use Rattle.store_calls.specs.Rooms.{room_of, WantsMore};
+ghost use Rattle.store_calls.specs.Rooms.{most_left, WantsMore};
 
-use journal::{LogFormat, Super};
+use journal::Super;
 
 const SECTOR: usize = 512;
 
-/// How many writes and flushes an outbox must have room for, for a store in this format.
-pub(crate) fn room_for(format: LogFormat) -> u64
-    ensures { result ≡ room_of format }
+/// How many calls wait at most when a step is made.
+pub(crate) const MOST_WAITING: usize = 63;
+
+// How many writes and flushes a step makes at most.
+const STEP_SENDS: usize = 2;
+
+/// How many writes and flushes an outbox must have room for, whatever the format of the store.
+pub(crate) fn outbox_room() -> usize
+    ensures { result ≡ most_left }
 {
-    2 * format.record_calls()
+    MOST_WAITING + STEP_SENDS
 }
 
 /// Whether these first sectors begin with the super of an image for which an outbox has too little
@@ -25,14 +31,14 @@ pub(crate) fn has_little_room(near: &[u8], room: usize) -> bool
     let mut sector = [0; SECTOR];
     sector.copy_from_slice(&near[..SECTOR]);
     match Super::decode(&sector) {
-        Ok(sizes) => wants_more(&sizes, room),
+        Ok(_) => wants_more(room),
         Err(_) => false,
     }
 }
 
-// Whether an image of these sizes wants an outbox with more room.
-fn wants_more(sizes: &Super, room: usize) -> bool
-    ensures { IsTrue result ↔ (room < room_of sizes.now.format) }
+// Whether any image wants an outbox with more room.
+fn wants_more(room: usize) -> bool
+    ensures { IsTrue result ↔ (room < most_left) }
 {
-    (room as u64) < room_for(sizes.format)
+    room < outbox_room()
 }

@@ -3,7 +3,8 @@ use thiserror::Error;
 
 #[derive(Clone, Copy, Debug, PartialEq, Eq, Error)]
 pub enum StoreFault {
-    /// The device has to carry out something before: make the same call again then.
+    /// The device has to carry out something before: make the same call again then. Where a write
+    /// or a sync finds a batch before it that is to be written first, steps are made that write it.
     #[error("the device is busy")]
     Busy,
     /// The device could not read a sector that is lacking.

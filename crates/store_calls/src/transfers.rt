@@ -1,14 +1,11 @@
 //! What a machine reads, writes and makes durable.
-ghost use Rattle.std.specs.Prelude.{◌≡◌, ◌≢◌, ◌↔◌, ◌/◌, true, [], length};
+ghost use Rattle.std.specs.Prelude.{◌≡◌, ◌↔◌, ◌/◌, length};
 ghost use Rattle.std.specs.Prelude.{IsTrue, OnOk, IfErr, MatchResult};
-ghost use Rattle.spec.specs.Book.{write_of};
 ghost use Rattle.window.specs.declared.ask.DeviceRead.{DeviceRead};
-ghost use Rattle.store_calls.specs.Calls.{MayMove, CostsWrite, home_of};
+ghost use Rattle.store_calls.specs.Calls.{MayMove, home_of};
 ghost use Rattle.store_calls.specs.Rooms.{AreInSight};
-ghost use Rattle.store_calls.specs.Serving.{Rests};
-ghost use Rattle.store_calls.specs.StoreMachine.{IsCaughtUp};
 ghost use Rattle.store_calls.specs.Transfers.{MayNot, Reads, ReadsOn, ReadsNone, Waits};
-ghost use Rattle.store_calls.specs.Transfers.{Writes, Accepts, Syncs, IdlesStore, IsIdle};
+ghost use Rattle.store_calls.specs.Transfers.{Writes, Syncs, IdlesStore, IsIdle};
 ghost use Rattle.store_calls.specs.declared.lack.Lack.TheVariants as lack;
 
 use crate::CallFault;
@@ -16,9 +13,10 @@ use crate::asked::Asked;
 use crate::background::make_steps;
 use crate::lack::Lack;
 use crate::machine::StoreMachine;
-use crate::reading::{BLOCK, may_move, read_seen, unseen};
+use crate::reading::{BLOCK, foresee, may_move, read_seen, unseen};
 use crate::store_fault::StoreFault;
-use crate::writing::{put_blocks, sync_store};
+use crate::writing::put_blocks;
+use crate::writing_back::{Aim, write_records};
 use window::DeviceRead;
 
 impl StoreMachine {
@@ -44,12 +42,14 @@ impl StoreMachine {
         }
     }
 
-    /// Writes 1 to `limit` blocks from a block on, as one write. The next good sync promises it.
+    /// Writes 1 to `limit` blocks from a block on, as one write, by no call of the device. The next
+    /// good sync promises it.
     ///
     /// # Errors
-    /// `Length`, `Range` and `Dead` as `read`; `Busy` where the device has not carried out all that
-    /// it was told: nothing changes at these. `Dead` also where the store dies in this call, and
-    /// none of the blocks is written.
+    /// `Length`, `Range` and `Dead` as `read`, and `Busy` where the device has not carried out all
+    /// that it was told: nothing changes at these. `Busy` also where the batch before has to become
+    /// a record: steps are made that write it, and each leaves fewer, so that the same call comes
+    /// to be taken once the device has carried them out.
     pub fn write(&mut self, block: u64, bytes: &[u8]) -> Result<(), StoreFault>
         ensures { Writes block bytes.now self.old self.new result }
     {
@@ -57,19 +57,22 @@ impl StoreMachine {
         if !self.is_caught_up() {
             return Err(StoreFault::Busy);
         }
-        if self.accept(block, bytes) {
-            Ok(())
-        } else {
-            Err(StoreFault::Dead)
+        if !self.store.takes_at_once(block, bytes.len() / BLOCK) {
+            write_records(&mut self.store, Aim::Batch);
+            return Err(StoreFault::Busy);
         }
+        put_blocks(&mut self.store, block, bytes);
+        Ok(())
     }
 
-    /// Makes every accepted write durable, and promises it: so it is where this is good, and the
-    /// device has nothing to carry out then.
+    /// Promises every accepted write, where each of them is durable and the device has nothing to
+    /// carry out.
     ///
     /// # Errors
-    /// `Dead` on a dead store, and where it dies in this call. `Busy` where the device has to carry
-    /// out something before.
+    /// `Dead` on a dead store, and `Busy` where the device has not carried out all that it was
+    /// told: nothing changes at these. `Busy` also where a record is left to write: steps are made
+    /// that write it, and each leaves fewer, so that the same call comes to be good once the device
+    /// has carried them out.
     pub fn sync(&mut self) -> Result<(), StoreFault>
         ensures { Syncs self.old self.new result }
     {
@@ -79,10 +82,13 @@ impl StoreMachine {
         if !self.is_caught_up() {
             return Err(StoreFault::Busy);
         }
-        match sync_store(&mut self.store) {
-            Ok(()) => self.tell(),
-            Err(_) => Err(StoreFault::Dead),
+        if !self.store.is_written() {
+            write_records(&mut self.store, Aim::Records);
+            return Err(StoreFault::Busy);
         }
+        foresee(&self.store);
+        self.rest();
+        Ok(())
     }
 
     /// Steps in the background, where the device has carried out all and no read waits for it: at
@@ -104,20 +110,6 @@ impl StoreMachine {
             Lack::Wanted(_) => false,
             Lack::Nothing | Lack::Unread(_) => self.is_caught_up(),
         }
-    }
-
-    // Where nothing waits for the device, each promise stands.
-    fn tell(&self) -> Result<(), StoreFault>
-        ensures ok { OnOk result (self.now.store.medium.outbox ≡ []) }
-        ensures err { IfErr result (λ why. (why ≡ StoreFault.Busy)
-            × (self.now.store.medium.outbox ≢ [])) }
-        ensures rest { Rests self.now }
-    {
-        self.rest();
-        if self.store.medium().waiting() > 0 {
-            return Err(StoreFault::Busy);
-        }
-        Ok(())
     }
 
     // Whether `size` bytes may be moved from or to the blocks from this one on.
@@ -173,16 +165,5 @@ impl StoreMachine {
             Ok(()) => Ok(()),
             Err(_) => Err(StoreFault::ReadRefused),
         }
-    }
-
-    // Writes blocks, where the device is free. Whether they are accepted.
-    fn accept(&mut self, block: u64, bytes: &[u8]) -> bool
-        requires may { MayMove self.old.store.cached block (length bytes.now) }
-        requires free { IsCaughtUp self.old }
-        ensures is { Accepts (write_of block bytes.now) result self.old self.new }
-        ensures cost { result ≡ true
-            → CostsWrite block (length bytes.now / 512) self.old.store self.new.store }
-    {
-        put_blocks(&mut self.store, block, bytes)
     }
 }

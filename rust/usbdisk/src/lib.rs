@@ -164,7 +164,7 @@ pub fn version() -> u32 {
 
 /// How many bytes of memory a disk takes, on an image of this format with so many slots, and no more
 /// while it starts. An image that was migrated may take up to 126,976 bytes more. A store takes
-/// 105,360 bytes less in format 1 and 2,256 more in format 2; while it starts it takes the first
+/// 18,768 bytes less in format 1 and 221,616 less in format 2; while it starts it takes the first
 /// sectors twice. 0 where there is no such image.
 pub fn memory(format: u32, slots: u64) -> u64 {
     // SAFETY: the call takes numbers alone.

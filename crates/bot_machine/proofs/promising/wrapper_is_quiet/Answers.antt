@@ -10,7 +10,8 @@ use Rattle.bot_machine.proofs.promising.wrapper_is_quiet.Goals as goal
 pub returns-in_default : goal.returns-in_default
 returns-in_default g c = λ book size.
     let unit = state_of c.args.unit.now book in
-    none_loud unit c.args.unit.now.store.cached (CarriesOutAtOnce c.args.packet.now unit) (λ block taken carries. c.in_default.ensures carries.command carries.spelled)
+    none_loud unit c.args.unit.now.store.cached (CarriesOutAtOnce c.args.packet.now unit)
+    (λ block taken carries. c.in_default.ensures carries.command carries.spelled)
 
 pub returns-in-AtOnce : goal.returns-in-AtOnce
 returns-in-AtOnce g c = λ book size.

@@ -1,13 +1,23 @@
-use Rattle.window.specs.Window.{mirror_of}
+use Rattle.std.proofs.Common.{◌≡◌, ◌-◌, ◌∙◌, ℕ, sym, ap}
+use Rattle.window.specs.Window.{Window, mirror_of}
+use Rattle.disk_machine.specs.Moves.{begun}
+use Rattle.calls.specs.Starting.{IsMediumOn}
+use Rattle.calls.proofs.beginning.disk_on.Given.{Over}
+use Rattle.calls.proofs.beginning.disk_on.Goals.{In_ok-medium}
 use Rattle.bot_machine.specs.Device.{device_by, Ahead}
 use Rattle.disk_machine.specs.Plays.{medium_of}
 use Rattle.calls.proofs.Begun.{refused, begins}
 use Rattle.calls.proofs.beginning.disk_on.Goals as goal
 
+-- the medium is one with the room that the image wants
+on : (g : Over) (c : In_ok-medium g) → IsMediumOn c.args.near.items c.args.sectors g.content c.in_ok-medium.medium
+on g c = (c.reserve_for-reserve.result.span, c.reserve_for-reserve.result.room, c.reserve_for-reserve.ensures, c.in_ok-medium.ensures.ok)
+
 pub returns-in-Err : goal.returns-in-Err
 returns-in-Err g c =
     let back = c.in-Err.ensures in
-    refused _ _ g.content _ c.in_ok-medium.ensures.ok c.in_ok-medium.ensures.sized (device_by c.args.identity c.args.size Ahead)
+    refused _ _ g.content _ (on g (goal.at.returns-in-Err g c).In_ok-medium) c.in_ok-medium.ensures.sized
+    (device_by c.args.identity c.args.size Ahead)
     c.in-Err.error.medium _ back
     (c.waiting-waiting.ensures.served _ back.leaves.medium.follows)
 
@@ -15,8 +25,11 @@ pub returns-in-Ok : goal.returns-in-Ok
 returns-in-Ok g c =
     let starts = c.in-Ok.ensures in
     let follows = starts.leaves.medium.follows in
-    begins _ _ g.content _ c.in_ok-medium.ensures.ok c.in_ok-medium.ensures.sized _ (device_by c.args.identity c.args.size Ahead) starts
+    begins _ _ g.content _ (on g (goal.at.returns-in-Ok g c).In_ok-medium) c.in_ok-medium.ensures.sized _
+    (device_by c.args.identity c.args.size Ahead) starts
     (c.waiting-waiting.ensures.device _ follows)
     (c.device_laws.ensures (mirror_of c.in_ok-medium.medium) (mirror_of (medium_of c.in-Ok.disk))
     (c.waiting-waiting.ensures.device _ follows))
-    (c.waiting-waiting.ensures.served _ follows) _ c.new.ensures.is c.new.ensures.serves c.new.ensures.starts
+    (c.waiting-waiting.ensures.served _ follows) _
+    (c.new.ensures.is ∙ ap (λ (room : ℕ). begun c.in-Ok.disk (room - 2)) (sym (ap (λ (w : Window). w.room) c.in_ok-medium.ensures.ok)))
+    c.new.ensures.serves c.new.ensures.starts

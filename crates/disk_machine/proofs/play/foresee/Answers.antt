@@ -1,12 +1,13 @@
-use Rattle.std.proofs.Common.{subst}
+use Rattle.std.proofs.Common.{◌≤◌, length, subst, arith}
 use Rattle.window.specs.Parts.{PartsFollow}
 use Rattle.window.specs.Window.{Window, mirror_of, ComesAfter, CoversDevice, IsServed}
 use Rattle.disk_machine.specs.Plays.{Foresees}
 use Rattle.disk_machine.proofs.play.foresee.Goals as goal
 
-foreseen : (m : Window) → PartsFollow → ((new : Window) → ComesAfter m new → CoversDevice m new)
+foreseen : (m : Window) → length m.outbox ≤ m.room → PartsFollow → ((new : Window) → ComesAfter m new → CoversDevice m new)
     → ((new : Window) → ComesAfter m new → IsServed m new) → Foresees m
-foreseen m law covers served = record {
+foreseen m held law covers served = record {
+  held = held;
   covers = covers;
   parts = λ new follows. law (mirror_of m) (mirror_of new) (covers new follows);
   served = served;
@@ -15,4 +16,5 @@ foreseen m law covers served = record {
 pub returns : goal.returns
 returns c =
     let says = c.waiting-waiting.ensures in
-    subst Foresees c.medium.ensures.is (foreseen c.medium.result.now c.device_laws.ensures says.device says.served)
+    subst Foresees c.medium.ensures.is
+    (foreseen c.medium.result.now (omega (arith, says.is, says.most)) c.device_laws.ensures says.device says.served)

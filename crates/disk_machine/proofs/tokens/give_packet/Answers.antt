@@ -1,4 +1,4 @@
-use Rattle.std.proofs.Common.{◌≡◌, ◌++◌, List, ℕ, length, drop, refl, sym, ap, subst, arith}
+use Rattle.std.proofs.Common.{◌≡◌, ◌≤◌, ◌++◌, List, ℕ, length, drop, refl, sym, ap, subst, arith}
 use Rattle.spec.specs.declared.event.Answer.{Answer}
 use Rattle.spec.specs.declared.event.Answer.TheVariants.{Data, Nak, Stall}
 use Rattle.spec.specs.declared.event.Event.TheVariants as event
@@ -19,9 +19,10 @@ taken old new answer sees after answered =
     (subst (λ (a : Answer). Plays old event.In a (record old { line = after_in old.line })) (sym answered)
     (played _ _ _ _ sees (token (state_of (medium_of old)) old (is_sound (medium_of old))) (comes_after_itself (medium_of old))))
 
-foreseen : (m : Window) → PartsFollow → ((new : Window) → ComesAfter m new → CoversDevice m new)
+foreseen : (m : Window) → length m.outbox ≤ m.room → PartsFollow → ((new : Window) → ComesAfter m new → CoversDevice m new)
     → ((new : Window) → ComesAfter m new → IsServed m new) → Foresees m
-foreseen m law covers served = record {
+foreseen m held law covers served = record {
+  held = held;
   covers = covers;
   parts = λ new follows. law (mirror_of m) (mirror_of new) (covers new follows);
   served = served;
@@ -30,7 +31,8 @@ foreseen m law covers served = record {
 pub returns-in-Nak : goal.returns-in-Nak
 returns-in-Nak c =
     let says = c.waiting-waiting.ensures in
-    let sees = subst Foresees c.medium.ensures.is (foreseen c.medium.result.now c.device_laws.ensures says.device says.served) in (
+    let sees = subst Foresees c.medium.ensures.is
+    (foreseen c.medium.result.now (omega (arith, says.is, says.most)) c.device_laws.ensures says.device says.served) in (
       (
         Nak,
         taken _ _ _ sees c.bulk_in.follows.holds-at-none c.in-Nak.ensures.answer,
@@ -42,7 +44,8 @@ returns-in-Nak c =
 pub returns-in-Stall : goal.returns-in-Stall
 returns-in-Stall c =
     let says = c.waiting-waiting.ensures in
-    let sees = subst Foresees c.medium.ensures.is (foreseen c.medium.result.now c.device_laws.ensures says.device says.served) in (
+    let sees = subst Foresees c.medium.ensures.is
+    (foreseen c.medium.result.now (omega (arith, says.is, says.most)) c.device_laws.ensures says.device says.served) in (
       (
         Stall,
         taken _ _ _ sees c.bulk_in.follows.holds-at-none c.in-Stall.ensures.answer,
@@ -54,7 +57,8 @@ returns-in-Stall c =
 pub returns-in-Data : goal.returns-in-Data
 returns-in-Data c =
     let says = c.waiting-waiting.ensures in
-    let sees = subst Foresees c.medium.ensures.is (foreseen c.medium.result.now c.device_laws.ensures says.device says.served) in (
+    let sees = subst Foresees c.medium.ensures.is
+    (foreseen c.medium.result.now (omega (arith, says.is, says.most)) c.device_laws.ensures says.device says.served) in (
       (
         Data (record { items = c.in-Data.packet.now }),
         taken _ _ _ sees c.bulk_in.follows.holds-at-none c.in-Data.ensures.answer,

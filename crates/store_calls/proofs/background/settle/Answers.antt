@@ -7,12 +7,13 @@ use Rattle.store_calls.proofs.background.settle.Goals.{then-is_settled-via-else-
 use Rattle.store_calls.proofs.background.settle.Goals as goal
 
 pub loop-made-init : goal.loop-made-init
-loop-made-init c = none_made Settle c.args.store.now
+loop-made-init c = none_made IsShort Settle c.args.store.now
 
 pub loop-made-preserved : goal.loop-made-preserved
 loop-made-preserved c =
     let short : IsShort c.loop-made.store = search rules in
-    one_more Settle c.loop-made._made c.args.store.now c.loop-made.store c.step.new.store c.loop-made.invariant short c.step.ensures
+    one_more IsShort Settle c.loop-made._made c.args.store.now c.loop-made.store c.step.new.store c.loop-made.invariant
+    short short c.step.ensures
 
 pub returns-then-is_settled : goal.returns-then-is_settled
 returns-then-is_settled c =
@@ -24,7 +25,7 @@ returns-then-is_settled c =
         | then-is_settled-via-then-is_settled w ↦ inr (inl (search rules))
         | then-is_settled-via-else-is_settled+then-not-is_short w ↦ inr (inr (search rules))
       ];
-      appends = steps_append Settle c.loop-made._made c.args.store.now c.loop-made.store few c.foresee.ensures c.loop-made.invariant;
+      appends = steps_append IsShort Settle c.loop-made._made c.args.store.now c.loop-made.store c.foresee.ensures c.loop-made.invariant;
     }
 
 pub returns : goal.returns
@@ -35,5 +36,5 @@ returns c =
       few = few;
       made = c.loop-made.invariant;
       ends = inl all;
-      appends = steps_append Settle c.loop-made._made c.args.store.now c.loop-made.store few c.foresee.ensures c.loop-made.invariant;
+      appends = steps_append IsShort Settle c.loop-made._made c.args.store.now c.loop-made.store c.foresee.ensures c.loop-made.invariant;
     }

@@ -1,5 +1,4 @@
-use Rattle.blocks.specs.StoreValue.{layout_of}
-use Rattle.store_calls.proofs.Served.{appends_log, some_sends}
+use Rattle.store_calls.proofs.Served.{appends_log}
 use Rattle.store_calls.proofs.background.step.Goals as goal
 
 pub returns : goal.returns
@@ -8,6 +7,6 @@ returns c = let passes = c.work.ensures.passes in record {
   order = c.work.ensures.order;
   counts = c.work.ensures.steps;
   headroom = c.work.ensures.headroom;
-  appends = appends_log 2 c.args.store.now c.work.new.self c.foresee.ensures passes.follows
-      (some_sends (layout_of c.args.store.now.cached).format) passes.sent passes.looks;
+  once = c.work.ensures.once;
+  appends = appends_log 2 c.args.store.now c.work.new.self c.foresee.ensures passes.follows passes.sent passes.looks;
 }

@@ -1,42 +1,46 @@
-use Rattle.std.proofs.Common.{◌≡◌, ◌*◌, Bool, true, false}
-use Rattle.std.specs.Prelude.{not}
-use Rattle.spec.specs.Blocks.{Write}
+use Rattle.std.proofs.Common.{Bool, subst}
+use Rattle.std.specs.Prelude.{Result, Ok, Err, IsOk, OnOk, MatchResult}
+use Rattle.std.proofs.lemmas.Bool.{false≢true}
 use Rattle.spec.specs.Book.{write_of}
-use Rattle.blocks.specs.Passing.{PassesOn}
-use Rattle.blocks.specs.Sent.{batch_sends}
-use Rattle.blocks.specs.StoreValue.{steps_left, is_dead}
 use Rattle.blocks.specs.Turns.{IsWriteTurn}
-use Rattle.window.specs.Window.{state_of, ComesAfter}
-use Rattle.store_calls.specs.Stores.{Store}
-use Rattle.store_calls.specs.Rooms.{Foresees}
-use Rattle.store_calls.specs.Calls.{IsWritten}
-use Rattle.store_calls.proofs.Served.{appends_log, few_once}
+use Rattle.blocks.specs.declared.fault.StoreFault.{StoreFault}
+use Rattle.window.specs.Window.{state_of}
+use Rattle.store_calls.proofs.Served.{appends_none}
 use Rattle.store_calls.proofs.writing.put_blocks.Goals as goal
 
-written : (write : Write) (accepted : Bool) (old new : Store) → Foresees old.medium
-    → PassesOn state_of ComesAfter (IsWriteTurn write accepted) (2 * steps_left old.cached) (batch_sends old.cached) old new
-    → is_dead new.cached ≡ not accepted → IsWritten write accepted old new
-written write accepted old new sees passes dead = record {
-  passes = passes;
-  dead = dead;
-  appends = appends_log (batch_sends old.cached) old new sees passes.follows (few_once (batch_sends old.cached)) passes.sent passes.looks;
-}
+-- what holds where the answer is Ok
+where_ok : (result : Result (Unit {0}) StoreFault) (P : Type 0) → IsOk result → OnOk result P → P
+where_ok (Ok done) P ok holds = holds
+where_ok (Err why) P ok holds = absurd (false≢true ok)
 
-pub returns-in-Ok-clause-is : goal.returns-in-Ok-clause-is
-returns-in-Ok-clause-is c =
-    written (write_of c.args.address c.args.bytes.now) true c.args.store.now c.write.new.self c.foresee.ensures c.in-Ok.ensures.passes
-    c.in-Ok.ensures.answers.answer
+live_ok : (result : Result (Unit {0}) StoreFault) (P : Type 0) (Q : StoreFault → Type 0) → IsOk result
+    → MatchResult result (λ done. P) Q → P
+live_ok (Ok done) P Q ok holds = holds
+live_ok (Err why) P Q ok holds = absurd (false≢true ok)
 
-pub returns-in-Ok-clause-cost : goal.returns-in-Ok-clause-cost
-returns-in-Ok-clause-cost c = λ accepted. record {
-  beside = λ fits. (c.write.ensures.quiet fits).0;
-  calls = c.in-Ok.ensures.cost.alone;
-  flushes = c.in-Ok.ensures.cost.flushes;
-  once = c.in-Ok.ensures.cost.once;
-  headroom = c.in-Ok.ensures.batches.headroom;
-}
+pub returns-clause-is : goal.returns-clause-is
+returns-clause-is c =
+    let old = c.args.store.now in
+    let new = c.write-taken.new.self in
+    let says = c.write-taken.ensures in
+    let quiet = says.quiet c.requires.at_once in
+    let ok = quiet.1 c.requires.may.live in record {
+      keeps = record {
+        turn = subst (λ (b : Bool). IsWriteTurn (write_of c.args.address c.args.bytes.now) b (state_of old.medium) (state_of new.medium)
+            old.cached new.cached) ok says.passes.turn;
+        medium = quiet.0;
+        policy = says.passes.policy;
+      };
+      live = live_ok c.write-taken.result _ _ ok says.answers.answer;
+      appends = appends_none old new c.foresee.ensures quiet.0;
+    }
 
-pub returns-in-Err-clause-is : goal.returns-in-Err-clause-is
-returns-in-Err-clause-is c =
-    written (write_of c.args.address c.args.bytes.now) false c.args.store.now c.write.new.self c.foresee.ensures c.in-Err.ensures.passes
-    c.in-Err.ensures.answers.answer.1
+pub returns-clause-cost : goal.returns-clause-cost
+returns-clause-cost c =
+    let says = c.write-taken.ensures in
+    let quiet = says.quiet c.requires.at_once in
+    let ok = quiet.1 c.requires.may.live in record {
+      at_once = c.requires.at_once;
+      none = quiet.0;
+      headroom = λ ahead has. where_ok c.write-taken.result _ ok (says.batches.headroom ahead has);
+    }

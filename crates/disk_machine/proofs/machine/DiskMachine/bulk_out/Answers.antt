@@ -1,54 +1,71 @@
-use Rattle.std.proofs.Common.{◌∙◌, inl, inr, refl, sym, rules, arith}
+use Rattle.std.proofs.Common.{◌≡◌, ◌∙◌, inl, inr, refl, sym, rules, arith}
 use Rattle.std.proofs.lemmas.Bool.{false≢true}
 use Rattle.disk_machine.specs.Packets.{HoldsBack}
+use Rattle.disk_machine.specs.PuttingOff.{IsPromise}
 use Rattle.disk_machine.proofs.Playing.{out_serves}
-use Rattle.disk_machine.specs.PuttingOff.{IsPutOff, IsReady, MayWriteOn}
-use Rattle.disk_machine.proofs.PutOff.{some_made, steps_fewer, writing_serves}
-use Rattle.disk_machine.proofs.Staying.{is_short, reading_safe, writing_goes_on}
+use Rattle.disk_machine.proofs.Staying.{reading_safe}
 use Rattle.disk_machine.proofs.machine.DiskMachine.bulk_out.Goals as goal
+use Rattle.disk_machine.proofs.machine.DiskMachine.bulk_out.Goals.{Else-holds_back, Else-puts_off, After-promises-promises}
+
+free : (c : Else-holds_back) → ¬ HoldsBack c.args.self.now
+free c held = false≢true (sym c.if-holds_back.false ∙ c.holds_back.ensures.1 held)
+
+told : (c : After-promises-promises) → IsPromise c.args.self.now c.args.packet.now c.promises-promises.result
+told c = record { none = c.promises-promises.ensures.no; some = c.promises-promises.ensures.yes }
+
+same : (c : Else-puts_off) → c.puts_off.new.self ≡ c.args.self.now
+same c = (c.puts_off.ensures.ready c.if-puts_off.false).1
+
+pub puts_off-requires : goal.puts_off-requires
+puts_off-requires c = told (goal.at.puts_off-requires c).After-promises-promises
+
+pub play-code-requires-clause-told : goal.play-code-requires-clause-told
+play-code-requires-clause-told c =
+    rw (same (goal.at.play-code-requires-clause-told c).Else-puts_off)
+    (told (goal.at.play-code-requires-clause-told c).After-promises-promises)
 
 pub returns-in-None : goal.returns-in-None
 returns-in-None c =
-    let free : ¬ HoldsBack c.args.self.now = search rules in
-    let ready : IsReady c.args.self.now c.args.packet.now
-    = elim (c.puts_off.ensures.ready c.if-puts_off.false) [
-      | inl written ↦ inl written
-      | inr none ↦ inr (c.promises-promises.ensures.no none)
-    ] in record {
+    let is = same (goal.at.returns-in-None c).Else-puts_off in
+    let ready = (c.puts_off.ensures.ready c.if-puts_off.false).0 in
+    record {
       one = inr (
         omega arith,
-        inr (free, inr (inl (c.in-None.ensures, out_serves _ _ _ _ free ready c.play-code.ensures c.rest.ensures.serves))),
+        inr (
+          free (goal.at.returns-in-None c).Else-holds_back,
+          inr (inl (rw is at c.in-None.ensures, out_serves _ _ _ _ ready (rw is at c.play-code.ensures) c.rest.ensures.serves)),
+        ),
       );
     }
 
 pub returns-in-Some : goal.returns-in-Some
 returns-in-Some c =
-    let free : ¬ HoldsBack c.args.self.now = search rules in
-    let home = c.in-Some.home in record {
-      one = inr (omega arith, inr (free, inl (home, c.in-Some.ensures, refl, refl, reading_safe c.args.self.now _)));
+    let is = same (goal.at.returns-in-Some c).Else-puts_off in
+    let home = c.in-Some.home in
+    record {
+      one = inr (
+        omega arith,
+        inr (
+          free (goal.at.returns-in-Some c).Else-holds_back,
+          inl (home, rw is at c.in-Some.ensures, refl, rw is refl, rw is (reading_safe c.args.self.now _)),
+        ),
+      );
     }
 
 pub returns-then-puts_off : goal.returns-then-puts_off
 returns-then-puts_off c =
-    let old = c.args.self.now in
-    let new = c.write_on.new.self in
-    let free : ¬ HoldsBack old = λ held. false≢true (sym c.if-holds_back.false ∙ c.holds_back.ensures.1 held) in
-    let is = c.puts_off.ensures.put_off c.if-puts_off.true in
-    let put_off : IsPutOff old c.args.packet.now = record { unwritten = is.1; promises = c.promises-promises.ensures.yes is.0 } in
-    let goes = c.write_on.ensures in
-    let may : MayWriteOn old.most old.disk = record { unwritten = put_off.unwritten; short = is_short old free } in record {
+    let off = c.puts_off.ensures.put_off c.if-puts_off.true in
+    record {
       one = inr (
         omega arith,
         inr (
-          free,
+          free (goal.at.returns-then-puts_off c).Else-holds_back,
           inr (inr (record {
-            put_off = put_off;
+            promises = c.promises-promises.result;
+            told = told (goal.at.returns-then-puts_off c).After-promises-promises;
+            loud = off.0;
             code_is = refl;
-            goes = goes;
-            some = some_made old.most old.disk new.disk goes.writes may;
-            fewer = steps_fewer old.most goes.writes.count old.disk new.disk goes.writes.steps;
-            serves = writing_serves old new goes;
-            goes_on = writing_goes_on old new goes;
+            waits = off.1;
           })),
         ),
       );

@@ -1,19 +1,21 @@
-use Rattle.std.proofs.Common.{◌≡◌, false, refl, rules}
-use Rattle.blocks.specs.StoreValue.{is_dead}
-use Rattle.store_calls.specs.StoreMachine.{IsCaughtUp, Machine}
-use Rattle.store_calls.proofs.Doing.{synced, sync_dies}
+use Rattle.std.proofs.Common.{◌≡◌, false, inr, refl, rules}
+use Rattle.blocks.specs.StoreValue.{is_dead, unwritten}
+use Rattle.store_calls.specs.StoreMachine.{IsCaughtUp}
+use Rattle.store_calls.specs.WritingBack.{IsLeft}
+use Rattle.store_calls.specs.declared.writing_back.Aim.TheVariants.{Records}
+use Rattle.store_calls.proofs.Doing.{promises, puts_off}
 use Rattle.store_calls.proofs.machine.StoreMachine.sync.Goals as goal
 
-pub returns-in-Ok : goal.returns-in-Ok
-returns-in-Ok c =
+pub returns-then-not-is_written : goal.returns-then-not-is_written
+returns-then-not-is_written c =
     let live : is_dead c.args.self.now.store.cached ≡ false = search rules in
     let free : IsCaughtUp c.args.self.now = search rules in
-    let new : Machine = record c.args.self.now { store = c.sync_store.new.store } in
-    synced c.args.self.now new live free refl c.tell.result c.in-Ok.ensures c.tell.ensures.ok c.tell.ensures.err c.tell.ensures.rest.serves
+    let left : IsLeft Records c.args.self.now.store = search rules in
+    inr (live, inr (refl, puts_off Records c.args.self.now _ free refl left c.write_records.ensures))
 
-pub returns-in-Err : goal.returns-in-Err
-returns-in-Err c =
+pub returns : goal.returns
+returns c =
     let live : is_dead c.args.self.now.store.cached ≡ false = search rules in
     let free : IsCaughtUp c.args.self.now = search rules in
-    let new : Machine = record c.args.self.now { store = c.sync_store.new.store } in
-    sync_dies c.args.self.now new live free refl _ c.in-Err.ensures
+    let none : unwritten c.args.self.now.store.cached ≡ 0 = search rules in
+    promises c.args.self.now free live none c.foresee.ensures c.rest.ensures.serves
