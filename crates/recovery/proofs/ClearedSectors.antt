@@ -1,6 +1,5 @@
 -- Sectors that are cleared, call by call.
-use Rattle.std.proofs.Common.{◌≡◌, ◌≢◌, ◌<◌, ◌+◌, ℕ, List, inr, inl, ⊎_elim, ◌∙◌, arith, Ok, Result, replicate}
-use Rattle.std.proofs.lemmas.Bool.{cases_eq}
+use Rattle.std.proofs.Common.{◌≡◌, ◌≢◌, ◌<◌, ◌+◌, ℕ, List, inr, ⊎_elim, ◌∙◌, arith, Ok, Result, replicate}
 use Rattle.medium.specs.Medium.{State}
 use Rattle.medium.specs.Performed.{Performed}
 use Rattle.medium.specs.declared.fault.MediumFault.{MediumFault}
@@ -31,15 +30,4 @@ module _ {M : Type 0} {state : M → State} {at end : ℕ} {view : ClearView M} 
 
   -- they are written
   pub cleared_on : Performed (Write at) (replicate 512 0) got (Ok tt) (state m) (state n) → HoldsCleared state (at + 1) end view n
-  cleared_on performed =
-      let still = cleared_still performed in
-      record {
-        begun = omega (arith, held.begun);
-        end_is = held.end_is;
-        zeros = λ x low high. elim (cases_eq x at) [
-          | inl is ↦ rw is performed.done.here
-          | inr not ↦ still.zeros x low (omega (arith, high, not))
-        ];
-        elsewhere = still.elsewhere;
-        within = still.within;
-      }
+  cleared_on performed = let still = cleared_still performed in grind (arith, still.zeros, still.elsewhere, still.within)

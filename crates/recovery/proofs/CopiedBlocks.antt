@@ -27,8 +27,8 @@ use Rattle.recovery.proofs.JoinedCalls.{not_in_log, number_of, long_as}
 -- one call more for each block of one more record
 copy_calls-append : (format : LogFormat) (records : List (List Entry)) (entries : List Entry)
     → copy_calls format (records ++ entries ∷ []) ≡ copy_calls format records + calls_of format (length entries)
-copy_calls-append format [] entries = omega arith
-copy_calls-append format (r ∷ records) entries = let more = copy_calls-append format records entries in omega (arith, more)
+copy_calls-append format [] entries = grind arith
+copy_calls-append format (r ∷ records) entries = grind (arith, copy_calls-append format records entries)
 
 -- as many calls as it takes
 calls_made : (format : LogFormat) (shape : Shape) (image : Image) (stamp : ℕ) (read : Record) (n reads : ℕ)
@@ -239,10 +239,7 @@ module _ {M : Type 0} {state : M → State} {reader : RecordReader} {step : Copy
 
       copied_on : (k : ℕ) → k < step.i + 1 → (state n).content (first_home (shape_of view.sizes) + get_or reader.read.numbers.items k 0)
           ≡ block_of (get_or view.records held.home []) k
-      copied_on k before = elim (cases_eq k step.i) [
-        | inl same ↦ rw same written
-        | inr not ↦ copied_before is performed k (omega (arith, before, not))
-      ]
+      copied_on k before = grind (arith, copied_before is performed k, written)
 
       none_failed : (state n).failures ≡ (state view.start).failures → (state m).failures ≡ (state view.start).failures
       none_failed none = omega (arith, none, performed.passes.failures_are)
@@ -339,34 +336,10 @@ pub not_copied : {M : Type 0} {state : M → State} (reader : RecordReader) (ste
     → ((image : Image) → IsKnown (shape_of view.sizes) image reader.stamp 0 reader.stage reader.read)
     → ((k : ℕ) → k < length view.records → IsWhole (shape_of view.sizes) (state view.start).content (view.head + k)
     (get_or view.records k [])) → HoldsCopied state reader step had view view.start
-not_copied {state = state} reader step had view sizes stamp left first no_bytes known whole = record {
-  sizes_are = sizes;
-  whole = whole;
-  home = 0;
-  left_is = omega (arith, left);
-  stamp_is = omega (arith, stamp);
-  reads = 0;
-  known = known (state view.start).content;
-  ended = λ none. (refl, first, no_bytes);
-  copied = λ k below. absurd (omega (arith, below, first));
-  others = λ none b not. refl;
-  elsewhere = λ x not. refl;
-  within = λ x c left. inl left;
-  half = λ e. cc (e, no_bytes);
-  failures_grow = omega arith;
-  calls = λ none. rw (first, no_bytes) (omega arith);
-}
+not_copied {state = state} reader step had view sizes stamp left first no_bytes known whole = grind (arith, known (state view.start).content, whole)
 
 -- behind the last one
 pub all_copied : {M : Type 0} {state : M → State} {reader : RecordReader} {step : CopyStep} {had : List ℕ} {view : CopyView M} {m : M}
     → HoldsCopied state reader step had view m → step.left ≡ 0 → (state m).failures ≡ (state view.start).failures
     → AreCopied (shape_of view.sizes) view.records (state view.start) (state m)
-all_copied {view = view} held none good =
-    let end = held.ended none in
-    let all = take_all held.home view.records (omega (arith, held.left_is, none)) in
-    let home = rw all at (held.others good) in
-    let calls = rw (all, end.1, end.2) at (held.calls good) in
-    record {
-      home = λ b. home b (λ k below. absurd (omega (arith, below, end.1)));
-      exact = omega (arith, calls, end.0);
-    }
+all_copied {view = view} held none good = grind (arith, held.ended none, take_all held.home view.records, held.others good, held.calls good)

@@ -1,7 +1,6 @@
 -- The calls that write a new image, and what each leaves of what was shown before it.
-use Rattle.std.proofs.Common.{◌≡◌, ◌≢◌, ◌<◌, ◌≤◌, ◌⊎◌, ◌+◌, ℕ, List, Ok, Err, OnOk, Result, refl, ◌∙◌, sym, ap, inl, inr, ⊎_elim}
+use Rattle.std.proofs.Common.{◌≡◌, ◌≢◌, ◌<◌, ◌≤◌, ◌⊎◌, ◌+◌, ℕ, List, Ok, OnOk, Result, refl, ◌∙◌, sym, ap, ⊎_elim}
 use Rattle.std.proofs.Common.{arith, replicate}
-use Rattle.std.proofs.lemmas.Bool.{cases_eq}
 use Rattle.medium.specs.Medium.{State, Image, Holds, IsSound, Passes}
 use Rattle.medium.specs.Moments.{EachCut, IsFlushed}
 use Rattle.medium.specs.Machine.{TellsCall, Driven, Tallied}
@@ -10,7 +9,7 @@ use Rattle.medium.specs.declared.fault.MediumFault.{MediumFault}
 use Rattle.medium.specs.declared.fault.MediumFault.TheVariants as fault
 use Rattle.medium.specs.declared.medium_call.Call.{Call}
 use Rattle.medium.specs.declared.medium_call.Call.TheVariants.{Write, Flush}
-use Rattle.medium.specs.Tally.{Tally, none, of_all, one_more}
+use Rattle.medium.specs.Tally.{none, of_all, one_more}
 use Rattle.medium.proofs.Driving.{left_all}
 use Rattle.medium.proofs.Moments.{after_write, shrunk, weaker}
 use Rattle.medium.proofs.Tallies.{calls_most, calls_all, sends_most}
@@ -50,66 +49,33 @@ pub flush_only : {old new : State} {bytes got : List ℕ} → Performed Flush by
 flush_only performed s c left = performed.done.1 s c left ∙ sym (performed.done.0 s)
 
 more_or_here : {few many : ℕ} → few ≤ many → (few + 1 ≤ many) ⊎ (many ≡ few)
-more_or_here {few} {many} le = elim (cases_eq many few) [ inl same ↦ inr same | inr not ↦ inl (omega (arith, le, not)) ]
+more_or_here le = grind arith
 
 module _ {plan : ImagePlan} {under : Under} {before image : Image} where
   -- one sector more has zeros
   pub blank_on : {at : ℕ} → at < plan.end → IsBlank plan under at before → Holds at (replicate 512 0) before image
       → IsBlank plan under (at + 1) image
-  blank_on {at = at} below is holds = record {
-    some = omega (arith, is.some);
-    inside = omega (arith, below);
-    zeros = λ x low high. elim (cases_eq x at) [
-      | inl same ↦ rw same holds.here
-      | inr not ↦ holds.elsewhere x not ∙ is.zeros x low (omega (arith, high, not))
-    ];
-    elsewhere = λ x not. holds.elsewhere x (λ e. not (omega (arith, e, is.some), omega (arith, e)))
-        ∙ is.elsewhere x (λ b. not (b.0, omega (arith, b.1)));
-  }
+  blank_on {at = at} below is holds = grind (arith, is.zeros, is.elsewhere, holds.elsewhere)
 
   -- all have, and the head is there
   pub headed : {at : ℕ} {head : List ℕ} → plan.end ≤ at → IsHead plan.head.stamp head → IsBlank plan under at before
       → Holds 1 head before image → IsHeaded plan under image
-  headed full head is holds = record {
-    head = rw holds.here head;
-    zeros = λ x low high. holds.elsewhere x (λ e. omega (arith, e, low))
-        ∙ is.zeros x (omega (arith, low, under.most)) (omega (arith, high, full));
-    elsewhere = λ x apart not. holds.elsewhere x apart
-        ∙ is.elsewhere x (λ b. not (omega (arith, b.0, apart, under.some), omega (arith, b.1, is.inside)));
-  }
+  headed full head is holds = grind (arith, under.most, under.some, is.zeros, is.elsewhere, holds.elsewhere)
 
   -- the super is there too
   pub written : {super : List ℕ} → 2 ≤ plan.end → IsSuper (shape_of plan.sizes) super → IsHeaded plan under before
       → Holds 0 super before image → IsNew plan under image
-  written long super is holds = record {
-    super = rw holds.here super;
-    head = rw (holds.elsewhere 1 (λ e. omega arith)) is.head;
-    zeros = λ x low high. holds.elsewhere x (λ e. omega (arith, e, low)) ∙ is.zeros x low high;
-    behind = λ x past. holds.elsewhere x (λ e. omega (arith, e, past, long))
-        ∙ is.elsewhere x (λ e. omega (arith, e, past, long)) (λ b. omega (arith, b.1, past));
-  }
+  written long super is holds = grind (arith, is.zeros, is.elsewhere, holds.elsewhere)
 
   -- what is a part stays one where this sector is one
   pub part_on : {place : ℕ} {bytes : List ℕ} → IsPart plan under before → Holds place bytes before image
       → IsPartAt plan under image place → IsPart plan under image
-  part_on {place = place} is holds here = record {
-    each = λ x. elim (cases_eq x place) [
-      | inl same ↦ rw same here
-      | inr not ↦ rw (holds.elsewhere x not) (is.each x)
-    ];
-  }
+  part_on is holds here = grind (arith, is.each, holds.elsewhere)
 
 -- once less is left than behind the first good flush there is a part of the new image, or it
 late : (plan : ImagePlan) (under : Under) (at : ImageStage) (old : State) (image : Image) → IsLive at
     → of_all (image_left at plan.end) ≤ plan.end + 3 → MidwayImage plan under at old image → IsPartOrNew plan under image
-late plan under stage.Wipe old image live few is = absurd (omega (arith, few))
-late plan under stage.FlushWipe old image live few is = absurd (omega (arith, few))
-late plan under (stage.Zeros at flush) old image live few is = inl is
-late plan under stage.FlushHead old image live few is = inl is
-late plan under stage.Super old image live few is = inl is.1
-late plan under stage.FlushSuper old image live few is = is
-late plan under stage.Made old image live few is = inr is
-late plan under stage.Refused old image live few is = elim live [ ]
+late plan under at old image live few is = grind arith
 
 module _ {M : Type 0} {state : M → State} {at : ImageStage} {plan : ImagePlan} {view : ImageView M} {m n : M}
     {kind : MediumFault} {result : Result (Unit {0}) MediumFault} (sound : IsSound (state m))
@@ -225,23 +191,13 @@ module _ {M : Type 0} {state : M → State} (sound : (m : M) → IsSound (state 
 
 -- where none is left and none was refused it is made
 ends_made : (at : ImageStage) (end : ℕ) → IsLive at → image_left at end ≡ none → at ≡ stage.Made
-ends_made stage.Wipe end live left = absurd (omega (arith, ap (λ (t : Tally). t.flushes) left))
-ends_made stage.FlushWipe end live left = absurd (omega (arith, ap (λ (t : Tally). t.flushes) left))
-ends_made (stage.Zeros at flush) end live left = absurd (omega (arith, ap (λ (t : Tally). t.flushes) left))
-ends_made stage.FlushHead end live left = absurd (omega (arith, ap (λ (t : Tally). t.flushes) left))
-ends_made stage.Super end live left = absurd (omega (arith, ap (λ (t : Tally). t.flushes) left))
-ends_made stage.FlushSuper end live left = absurd (omega (arith, ap (λ (t : Tally). t.flushes) left))
-ends_made stage.Made end live left = refl
-ends_made stage.Refused end live left = elim live [ ]
+ends_made at end live left = grind arith
 
 -- the image is there where Ok, and a cut leaves no other
 image_ended : {M : Type 0} {state : M → State} (result : Result (Unit {0}) MediumFault) {at : ImageStage} {plan : ImagePlan}
     {view : ImageView M} {m : M} → OnOk result (IsLive at) → OnOk result (image_left at plan.end ≡ none)
     → HoldsImage state at plan view m → OnOk result (IsNew plan view.under (state m).content × IsFlushed (state m))
-image_ended (Ok done) {at} {plan} live left held =
-    let is = ends_made at plan.end live left in
-    let made = rw is at held in (made.shows.content, held.flushed is)
-image_ended (Err e) live left held = tt
+image_ended result {at} {plan} live left held = grind (arith, ends_made at plan.end, held.flushed, held.shows.content)
 
 -- An image was written over these contents, good or refused: its calls, how it ended, and what a cut leaves from this moment on.
 pub image_driven : {M : Type 0} {state : M → State} {first now : NewImage} {began had : List ℕ} {m n : M}

@@ -1,5 +1,5 @@
 -- A look at an image, read by read: its super, its head, and the survey of its records; and how it ends where it is refused.
-use Rattle.std.proofs.Common.{◌≡◌, ◌≢◌, inl, inr, ◌∙◌, sym, ⊎_elim, ℕ, ◌+◌, ◌<◌, ◌≤◌, List, length, min, refl, ap, arith, rules}
+use Rattle.std.proofs.Common.{◌≡◌, ◌≢◌, inl, ◌∙◌, sym, ⊎_elim, ℕ, ◌+◌, ◌<◌, ◌≤◌, List, length, min, refl, ap, arith, rules}
 use Rattle.std.proofs.Common.{Result, Ok, Err}
 use Rattle.medium.specs.Medium.{State, IsSound}
 use Rattle.medium.specs.Moments.{IsQuiet}
@@ -35,7 +35,7 @@ use Rattle.recovery.specs.Stages as stage
 use Rattle.recovery.proofs.JoinedCalls.{looked_on}
 use Rattle.recovery.proofs.Tries.{counts_made}
 use Rattle.recovery.proofs.SurveyedRecords.{not_tried}
-use Rattle.recovery.proofs.SurveyTally.{most_tries}
+use Rattle.recovery.proofs.Tallies.{most_tries}
 
 read_none : (m : State) → HasReadFirst 0 m m
 read_none m = record {
@@ -58,10 +58,7 @@ read_one {mid = mid} {now = now} {new = new} so_far below performed = record {
 }
 
 as_survey : {count : ℕ} {mid now : State} → count ≤ 2 → HasReadFirst count mid now → SurveysAtMost mid now
-as_survey few r = record {
-  only = record { quiet = r.quiet; reads = r.reads; calls = omega (arith, few, r.calls); looks = r.looks };
-  most = λ shape has. omega (arith, few, r.calls);
-}
+as_survey few r = grind (arith, r.reads, r.looks)
 
 -- nothing is read yet
 pub unread : (m : State) → SurveysAtMost m m
@@ -75,21 +72,12 @@ super_seen {old = old} performed = read_one (read_none old) (λ near holds. hold
 -- what is wrong with a super
 super_cause : (least : ℕ) {mid new : State} {bytes : List ℕ} (fault : StartFault) → 0 < mid.size → bytes ≡ mid.content 0
     → IsQuiet mid new → IsSuperCause mid.size bytes fault → IsRefusalBy least IsQuiet mid new fault
-super_cause least fault.BadSuper some same quiet h = ((some, rw same at h), quiet)
-super_cause least fault.BadVersion some same quiet h = ((some, rw same at h), quiet)
-super_cause least fault.BadSize some same quiet h = (
-  ⊎_elim (λ sizes. inr (inl (rw same at sizes)))
-      (λ short. inr (inr (short.0, rw same at short.1, short.2))) h,
-  quiet,
-)
-super_cause least fault some same quiet h = absurd h
+super_cause least fault some same quiet h = grind arith
 
 -- none of its calls is a write or a flush
 reads_alone : {Exact : Type 0} {rest : Tally} {reads : ℕ} {result : Result (Unit {0}) MediumFault} {old new : State}
     → Tallied Exact (record { reads = reads; writes = 0; flushes = 0 }) rest result old new → MakesReadsAlone old new
-reads_alone t medium.Read other = absurd (other refl)
-reads_alone t medium.Write other = none_made t medium.Write refl
-reads_alone t medium.Flush other = none_made t medium.Flush refl
+reads_alone t kind other = grind (arith, none_made t kind)
 
 module _ {M : Type 0} (state : M → State) {first : Surveying} {had now_had : List ℕ} {began n : M} {now : Surveying}
     {result : Result (Unit {0}) MediumFault} (so_far : IsSurveyedSoFar state first had began result now now_had n)
@@ -137,19 +125,8 @@ module _ {M : Type 0} (state : M → State) (sound : (m : M) → IsSound (state 
     pub look_refused : {at : StartStage} {call : Call} {e : MediumFault} → HoldsLook state least at had mid m
         → Performed call bytes got (Err e) (state m) (state n) → fault_of call ≡ medium.Read → SurveysAtMost (state mid) (state n)
         → HoldsLook state least (stage.Refused fault.Read) got mid n
-    look_refused held performed kind reads =
-        let before = held.reads.only.quiet in
-        record {
-          reads = reads;
-          well = λ live. absurd live;
-          midway = (
-            record {
-              grew = omega (arith, before.failures_stay, performed.passes.failures_are);
-              kind_grew = omega (arith, before.refused_stay medium.Read, rw kind at performed.passes.refused_are);
-            },
-            λ e. cc e,
-          );
-        }
+    look_refused held performed kind reads = let before = held.reads.only.quiet in
+        grind (arith, before.refused_stay medium.Read, performed.passes.refused_are)
 
     -- the read of the super, made or refused
     pub super_read : {result : Result (Unit {0}) MediumFault} → HoldsLook state least stage.ReadSuper had mid m
@@ -301,7 +278,4 @@ can_look can = record { super = can.super; head = can.head; fits = λ head is. (
 -- a look that asks for no slots is refused by the device, or by a fault of the image
 pub look_cause : (old new : State) (why : StartFault) → IsRefusalBy 0 IsQuiet old new why → why ≢ fault.StampsUsedUp
     → IsLookCause old new why
-look_cause old new fault.NoMemory h other = absurd h
-look_cause old new fault.StampsUsedUp h other = absurd (other refl)
-look_cause old new fault.LogTooSmall h other = absurd (omega (arith, h.0.few))
-look_cause old new why h other = search rules
+look_cause old new why h other = grind arith

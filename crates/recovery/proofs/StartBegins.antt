@@ -5,7 +5,6 @@ use Rattle.medium.specs.Performed.{Performed, fault_of}
 use Rattle.medium.specs.declared.medium_call.Call.{Call}
 use Rattle.medium.specs.declared.medium_call.Call.TheVariants.{Flush}
 use Rattle.medium.specs.declared.fault.MediumFault.{MediumFault}
-use Rattle.medium.specs.declared.fault.MediumFault.TheVariants as medium
 use Rattle.journal.specs.Reading.{IsRefusedCall}
 use Rattle.recovery.specs.Causes.{SurveysAtMost, IsRefusalBy, WritesNothing, start_fault_of}
 use Rattle.recovery.specs.Recovered.{LeavesAtLeast}
@@ -19,15 +18,7 @@ use Rattle.recovery.proofs.WholeRecovery.{IsSurveyed, survey_leaves, refusal}
 
 -- a good flush, and what is read behind it
 pub surveyed_by : {old mid seen : State} → IsFlushedFirst old mid → SurveysAtMost mid seen → IsSurveyed (Ok tt) old mid seen
-surveyed_by f reads = record {
-  sound = f.sound;
-  passes = f.passes;
-  content = f.content;
-  sets = f.sets;
-  sound_mid = f.sound_mid;
-  only = λ more. f.only;
-  reads = reads;
-}
+surveyed_by f reads = grind arith
 
 module _ (least : ℕ) where
   -- what the flush and the reads leave
@@ -51,20 +42,11 @@ module _ (least : ℕ) where
   -- the image has this fault, or the medium refused a call
   pub ended_by : {old new : State} (fault : StartFault) → LeavesAtLeast least old new → IsRefusalBy least WritesNothing old new fault
       → EndsStart least old new (Err fault)
-  ended_by fault leaves cause =
-      record {
-        ok = tt;
-        fresh = λ shape array next ours. tt;
-        clean = λ shape array next ours. tt;
-        err = cause;
-        leaves = leaves;
-      }
+  ended_by fault leaves cause = grind arith
 
   refused_kind : {old new : State} (kind : MediumFault) → IsRefusedCall old new kind
       → IsRefusalBy least WritesNothing old new (start_fault_of kind)
-  refused_kind medium.Read is = is
-  refused_kind medium.Write is = is
-  refused_kind medium.Flush is = is
+  refused_kind kind is = grind arith
 
   module _ {M : Type 0} (state : M → State) where
     -- a refused call ends it

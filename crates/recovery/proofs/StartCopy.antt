@@ -20,7 +20,7 @@ use Rattle.recovery.specs.declared.found.Found.{Found}
 use Rattle.recovery.specs.Stages.{StartStage}
 use Rattle.recovery.proofs.JoinedCalls.{quiet_after}
 use Rattle.recovery.proofs.CopiedBlocks.{gathered, not_copied, all_copied}
-use Rattle.recovery.proofs.CopyTally.{most_copies, most_writes}
+use Rattle.recovery.proofs.Tallies.{most_copies, most_writes}
 use Rattle.recovery.proofs.DrivenCalls.{refused_call}
 use Rattle.recovery.proofs.StartBegins.{surveyed_by}
 use Rattle.recovery.proofs.WholeRecovery.{copies_leave}

@@ -24,15 +24,7 @@ Moved found copied image = CutLeaves copied.may_leave image ⊎ HasNewHead (foun
 -- a refused call is counted as one that is made
 as_made : {P : Image → Type 0} {end count : ℕ} {old new : State} {result : Result (Unit {0}) MediumFault}
     → Writes P end count old new result → new.calls ≡ old.calls + count → Writes {X = Unit {0}} P end count old new (Ok tt)
-as_made w all = record {
-  moments = w.moments;
-  spares = w.spares;
-  calls = w.calls;
-  exact = all;
-  sent = w.sent;
-  reads = w.reads;
-  cause = tt;
-}
+as_made w all = grind arith
 
 -- the head is written over contents that are flushed
 head_writes : (found : Found) (copied : State) {old new : State} {bytes got : List ℕ} {result : Result (Unit {0}) MediumFault} → IsSound old

@@ -1,5 +1,5 @@
 -- What a start tells at a stage, from what a call does there.
-use Rattle.std.proofs.Common.{◌≡◌, ◌∙◌, ◌⊎◌, inl, inr, ⊎_elim, refl, ℕ, ◌≤◌, List, Ok, Err, Result, OnOk, Option, Some, None, MatchOption}
+use Rattle.std.proofs.Common.{◌≡◌, ◌∙◌, ◌⊎◌, ℕ, ◌≤◌, List, Ok, Err, Result, OnOk, Option, MatchOption}
 use Rattle.std.proofs.Common.{IfSome, arith}
 use Rattle.medium.specs.Medium.{State}
 use Rattle.medium.specs.Tally.{Tally, one_more, none}
@@ -7,7 +7,6 @@ use Rattle.medium.specs.Machine.{TellsCall, IsLeft, Tallied}
 use Rattle.medium.specs.Performed.{IsWithin, ReadsBefore, Performed, fault_of}
 use Rattle.medium.specs.declared.fault.MediumFault.{MediumFault}
 use Rattle.medium.specs.declared.medium_call.Call.{Call}
-use Rattle.medium.specs.declared.medium_call.Call.TheVariants.{Read, Write, Flush}
 use Rattle.medium.proofs.Tallies.{refusal_counts}
 use Rattle.recovery.specs.Causes.{start_fault_of}
 use Rattle.recovery.specs.Recovered.{LeavesAtLeast}
@@ -15,7 +14,6 @@ use Rattle.recovery.specs.Starting.{IsStarting, IsStartStep, start_left, start_k
 use Rattle.recovery.specs.HoldsStart.{HoldsStart, StartView}
 use Rattle.recovery.specs.declared.starting.Starting.{Starting}
 use Rattle.recovery.specs.Stages.{StartStage, stage_at}
-use Rattle.recovery.specs.Stages as stage
 use Rattle.recovery.specs.declared.start_point.StartPoint.{StartPoint}
 use Rattle.recovery.specs.declared.start_point.StartPoint.TheVariants as point
 use Rattle.recovery.proofs.StartBegins.{refused_start}
@@ -67,39 +65,28 @@ module _ {M : Type 0} (state : M → State) (machine : Starting) {here : StartPo
 -- what is told, where something else was, and of what kind the call is
 pub told_by : {X A C : Type 0} {B D : X → Type 0} (found : Option X) → (A → C) → ((x : X) → B x → D x) → MatchOption found A B
     → MatchOption found C D
-told_by None ends some is = ends is
-told_by (Some x) none some is = some x is
+told_by found ends some is = grind (arith, ends, some)
 
 pub both_told : {X : Type 0} (A : Type 0) (B D : X → Type 0) (found : Option X) → MatchOption found A B → IfSome found D
     → MatchOption found A (λ x. B x × D x)
-both_told A B D None is kind = is
-both_told A B D (Some x) is kind = (is, kind)
+both_told A B D found is kind = grind arith
 
 -- a call before the end of some sectors is one before the end of more
 pub within_more : (few many : ℕ) → few ≤ many → (call : Call) → IsWithin few call → IsWithin many call
-within_more few many le (Read place) below = omega (arith, le, below)
-within_more few many le (Write place) below = omega (arith, le, below)
-within_more few many le Flush below = tt
+within_more few many le call below = grind arith
 
 pub reads_more : (few many : ℕ) → few ≤ many → (call : Call) → ReadsBefore few call → ReadsBefore many call
-reads_more few many le (Read place) below = omega (arith, le, below)
-reads_more few many le (Write place) below = tt
-reads_more few many le Flush below = tt
+reads_more few many le call below = grind arith
 
 -- a call is left of a start, or none; and so of a look
 pub ended_or_not : (at : StartStage) → (start_left at ≡ none) ⊎ IsStarting at
-ended_or_not (stage.Started answer) = inl refl
-ended_or_not (stage.Refused fault) = inl refl
-ended_or_not at = inr tt
+ended_or_not at = grind arith
 
 pub looked_or_not : (at : StartStage) → (look_left at ≡ none) ⊎ IsStarting at
-looked_or_not (stage.Started answer) = inl refl
-looked_or_not (stage.Refused fault) = inl refl
-looked_or_not at = inr tt
+looked_or_not at = grind arith
 
 -- it was driven to its end, or a call was refused, which ends it
 pub at_end : {Exact : Type 0} {cost left rest : Tally} {Live : Type 0} (A : Type 0) {old new : State}
     (result : Result (Unit {0}) MediumFault) → Tallied Exact cost rest result old new → OnOk result ((left ≡ none) × A)
     → (left ≡ none) ⊎ Live → (Live → new.failures ≡ old.failures) → left ≡ none
-at_end A (Ok done) t end here well = end.0
-at_end A (Err e) t end here well = ⊎_elim (λ is. is) (λ live. absurd (omega (arith, (refusal_counts (Err e) t).0, well live))) here
+at_end A result t end here well = grind (arith, refusal_counts result t, well)

@@ -13,11 +13,11 @@ use Rattle.journal.specs.declared.record.Record.{Record}
 use Rattle.journal.specs.declared.reader.RecordReader.{RecordReader}
 use Rattle.journal.specs.declared.naming_stage.NamingStage.{NamingStage}
 use Rattle.journal.specs.declared.naming_stage.NamingStage.TheVariants.{Named}
-use Rattle.journal.specs.Places.{first_home}
+use Rattle.journal.specs.Places.{Shape, first_home}
 use Rattle.journal.specs.Layout.{slot_at}
 use Rattle.journal.specs.Format2.{format2}
 use Rattle.journal.specs.Formats.{shape_of, HasWhole}
-use Rattle.journal.specs.Reading.{HasPlace, HasPlaces}
+use Rattle.journal.specs.Reading.{HasPlace, HasPlaces, ReadsUpToBad}
 use Rattle.journal.specs.Naming.{IsKnown, IsFound, Learns, naming_place}
 use Rattle.journal.proofs.SectorsRead.{stamped_whole}
 use Rattle.recovery.specs.Causes.{IsTryOf, HasCount, AreTries}
@@ -27,164 +27,144 @@ use Rattle.recovery.proofs.JoinedCalls.{long_as}
 use Rattle.recovery.proofs.Tries.{try_missed, try_read, each_pushed, tries_more, no_tries}
 
 module _ {M : Type 0} {state : M → State} {reader : RecordReader} {left place : ℕ} {waiting : List ℕ} {view : SurveyView M} {m : M}
-    (held : HoldsSurveyed state reader left place waiting view m) where
+    (held : HoldsSurveyed state reader left place waiting view m) (due : 0 < left) where
+  abbrev shape : Shape
+  shape = shape_of view.sizes
+
+  abbrev image : Image
+  image = (state view.start).content
+
+  abbrev going : IsTrying (shape_of view.sizes) (state view.start) (state m) view.head reader left place waiting
+  going = held.going due
+
   module _ {bytes got : List ℕ} {n : M} {at : ℕ} {result : Result (Unit {0}) MediumFault}
       (performed : Performed (Read at) bytes got result (state m) (state n)) where
     quiet : IsQuiet (state view.start) (state n)
     quiet = quiet_joined _ _ _ held.quiet (quiet_call _ _ performed.passes performed.changes performed.adds)
 
+    -- a record is tried further
+    trying : {next : RecordReader} {after : ℕ} → next.sizes ≡ reader.sizes → next.stamp ≡ reader.stamp → (reads : ℕ)
+        → IsKnown (shape_of view.sizes) (state view.start).content next.stamp reads next.stage next.read
+        → HasPlaces (state view.start).content (slot_at format2 (shape_of view.sizes) next.stamp) next.stamp after
+        → ((state n).failures ≡ (state view.start).failures → ((state m).failures ≡ (state view.start).failures)
+        × ((state n).calls ≡ (held.going due).before + reads + after))
+        → HoldsSurveyed state next left after waiting view n
+    trying sizes stamp reads known places calls = record {
+      sizes_are = held.sizes_are ∙ sym sizes;
+      quiet = quiet;
+      few = held.few;
+      each = held.each;
+      going = λ some. record {
+        stamp_is = stamp ∙ going.stamp_is;
+        left_is = going.left_is;
+        reads = reads;
+        known = known;
+        places = places;
+        before = going.before;
+        calls = λ none. let c = calls none in ((going.calls c.0).0, c.1);
+      };
+      ended = λ none. absurd (omega (arith, none, due));
+    }
+
   -- it was refused
   pub untried : {bytes got : List ℕ} {n : M} {at : ℕ} {e : MediumFault} {next : RecordReader} {less after : ℕ} {counts : List ℕ}
       → Performed (Read at) bytes got (Err e) (state m) (state n)
-      → IsRefusedSurvey reader left place waiting next less after counts → 0 < left
-      → HoldsSurveyed state next less after counts view n
-  untried performed gone due =
-      let going = held.going due in
-      let grew = held.quiet.failures_stay in
+      → IsRefusedSurvey reader left place waiting next less after counts → HoldsSurveyed state next less after counts view n
+  untried performed gone =
       let failed = performed.passes.failures_are in
-      rw (gone.reader_stays, gone.left_stays, gone.place_stays, gone.counts_stay) (record {
-        sizes_are = held.sizes_are;
-        quiet = quiet performed;
-        few = held.few;
-        each = held.each;
-        going = λ some. record {
-          stamp_is = going.stamp_is;
-          left_is = going.left_is;
-          reads = going.reads;
-          known = going.known;
-          places = going.places;
-          before = going.before;
-          calls = λ none. absurd (omega (arith, none, failed, grew));
-        };
-        ended = λ none. absurd (omega (arith, none, due));
-      })
+      rw (gone.reader_stays, gone.left_stays, gone.place_stays, gone.counts_stay) (trying performed refl refl
+      going.reads going.known going.places (λ none. absurd (omega (arith, none, failed, held.quiet.failures_stay))))
 
-  module _ (due : 0 < left) (sized : (x : ℕ) → x < first_home (shape_of view.sizes) → length ((state view.start).content x) ≡ 512)
+  module _ (sized : (x : ℕ) → x < first_home (shape_of view.sizes) → length ((state view.start).content x) ≡ 512)
       {bytes got : List ℕ} {n : M} {at : ℕ} (performed : Performed (Read at) bytes got (Ok tt) (state m) (state n)) where
-    abbrev going : IsTrying (shape_of view.sizes) (state view.start) (state m) view.head reader left place waiting
-    going = held.going due
-
     read : got ≡ (state view.start).content at
     read = performed.done ∙ held.quiet.content_stays at
 
     abbrev Good : Type 0
     Good = (state n).failures ≡ (state view.start).failures
 
-    none_before : (state n).failures ≡ (state view.start).failures → (state m).failures ≡ (state view.start).failures
+    none_before : Good → (state m).failures ≡ (state view.start).failures
     none_before none = omega (arith, none, performed.passes.failures_are)
 
+    -- so the record of this stamp was tried
     abbrev Try : Type 0
-    Try = (state n).failures ≡ (state view.start).failures → IsTryOf view.sizes.format (shape_of view.sizes)
-        (state view.start).content reader.stamp (held.going due).before (state n).calls
+    Try = Good → IsTryOf view.sizes.format shape image reader.stamp going.before (state n).calls
 
-    tried : ((state n).failures ≡ (state view.start).failures → IsTryOf view.sizes.format (shape_of view.sizes)
-        (state view.start).content reader.stamp (held.going due).before (state n).calls)
-        → (state n).failures ≡ (state view.start).failures → AreTries (shape_of view.sizes) (state view.start).content view.head
-        (length waiting + 1) (state view.start).calls (state n).calls
-    tried was none = tries_more view.sizes.format (shape_of view.sizes) (state view.start).content view.head (length waiting) _
-        going.before _ (going.calls (none_before none)).0 (rw (← going.stamp_is) (was none))
+    tried : Try → Good → AreTries shape image view.head (length waiting + 1) (state view.start).calls (state n).calls
+    tried was none = tries_more view.sizes.format shape image view.head (length waiting) _ going.before _ (going.calls (none_before none)).0
+        (rw (← going.stamp_is) (was none))
 
-    -- the record is not whole
-    missed : ((state n).failures ≡ (state view.start).failures → IsTryOf view.sizes.format (shape_of view.sizes)
-        (state view.start).content reader.stamp (held.going due).before (state n).calls)
-        → ¬ HasWhole (shape_of view.sizes) (state view.start).content reader.stamp → {next : RecordReader} {less after : ℕ}
-        {counts : List ℕ} → next.sizes ≡ reader.sizes → less ≡ 0 → counts ≡ waiting → HoldsSurveyed state next less after counts view n
+    -- it is not whole
+    missed : Try → ¬ HasWhole shape image reader.stamp → {next : RecordReader} {less after : ℕ} {counts : List ℕ}
+        → next.sizes ≡ reader.sizes → less ≡ 0 → counts ≡ waiting → HoldsSurveyed state next less after counts view n
     missed was not sizes none same = rw (none, same) (record {
       sizes_are = held.sizes_are ∙ sym sizes;
       quiet = quiet performed;
       few = omega (arith, held.few);
       each = held.each;
       going = λ some. absurd (omega (arith, some));
-      ended = λ none. record {
-        ends = λ less. rw (← going.stamp_is) not;
-        calls = λ none.
-            let all : length waiting + 1 ≡ min (length waiting + 1) view.sizes.slots = omega (arith, going.left_is, due) in
-            rw (← all) (tried was none);
-      };
+      ended = λ none.
+          let all : length waiting + 1 ≡ min (length waiting + 1) view.sizes.slots = omega (arith, going.left_is, due) in
+          record { ends = λ less. rw (← going.stamp_is) not; calls = λ none. rw (← all) (tried was none) };
     })
 
     -- it is whole
-    counted : ((state n).failures ≡ (state view.start).failures → IsTryOf view.sizes.format (shape_of view.sizes)
-        (state view.start).content reader.stamp (held.going due).before (state n).calls)
-        → {count : ℕ} → HasCount (shape_of view.sizes) (state view.start).content reader.stamp count → {next : RecordReader}
-        {less after : ℕ} {counts : List ℕ} → next.sizes ≡ reader.sizes → IsCounted reader left next less after
-        → counts ≡ waiting ++ count ∷ [] → HoldsSurveyed state next less after counts view n
-    counted was {count} has {next} {less} {after} {counts} sizes goes same =
+    counted : Try → {count : ℕ} → HasCount shape image reader.stamp count → {next : RecordReader} {less after : ℕ} {counts : List ℕ}
+        → next.sizes ≡ reader.sizes → IsCounted reader left next less after → counts ≡ waiting ++ count ∷ []
+        → HoldsSurveyed state next less after counts view n
+    counted was {count} has sizes goes same =
         let long : length (waiting ++ count ∷ []) ≡ length waiting + 1 = omega (arith, length-append waiting (count ∷ [])) in
-        let was_tried = tried was in
+        let tries = tried was in
         rw same (record {
           sizes_are = held.sizes_are ∙ sym sizes;
           quiet = quiet performed;
           few = omega (arith, long, going.left_is, goes.left_is);
-          each = λ k below.
-              each_pushed (λ k c. HasCount (shape_of view.sizes) (state view.start).content (view.head + k) c) waiting count
-              (length waiting) refl held.each (rw (← going.stamp_is) has) k (omega (arith, below, long));
+          each = λ k below. each_pushed (λ k c. HasCount shape image (view.head + k) c) waiting count (length waiting) refl held.each
+              (rw (← going.stamp_is) has) k (omega (arith, below, long));
           going = λ some. record {
             stamp_is = omega (arith, goes.stamp_is, going.stamp_is, long);
             left_is = omega (arith, goes.left_is, going.left_is, long);
             reads = 0;
-            known = rw held.sizes_are (goes.unread.knows (state view.start).content);
+            known = rw held.sizes_are (goes.unread.knows image);
             places = λ i below. absurd (omega (arith, below, goes.from_first));
             before = (state n).calls;
-            calls = λ none. (rw long (was_tried none), omega (arith, goes.from_first));
+            calls = λ none. (rw long (tries none), omega (arith, goes.from_first));
           };
-          ended = λ none. record {
-            ends = λ below. absurd (omega (arith, below, long, none, goes.left_is, going.left_is));
-            calls = λ none_failed.
-                let all : length waiting + 1 ≡ min (length (waiting ++ count ∷ []) + 1) view.sizes.slots =
-                omega (arith, long, none, goes.left_is, going.left_is) in
-                rw (← all) (was_tried none_failed);
-          };
+          ended = λ none.
+              let all : length waiting + 1 ≡ min (length (waiting ++ count ∷ []) + 1) view.sizes.slots =
+              omega (arith, long, none, goes.left_is, going.left_is) in
+              record {
+                ends = λ below. absurd (omega (arith, below, long, none, goes.left_is, going.left_is));
+                calls = λ good. rw (← all) (tries good);
+              };
         })
 
     -- ---- a sector that names blocks
     module _ (is : at ≡ naming_place (shape_of reader.sizes) reader.stamp reader.stage) (first : place ≡ 0) where
-      known_on : (reads : ℕ)
-          → IsKnown (shape_of view.sizes) (state view.start).content reader.stamp reads reader.stage reader.read
-          → {stage : NamingStage} {names : Record}
+      learned : (reads : ℕ) → IsKnown shape image reader.stamp reads reader.stage reader.read → {stage : NamingStage} {names : Record}
           → Learns (shape_of reader.sizes) reader.stamp reader.stage reader.read got stage names
-          → IsKnown (shape_of view.sizes) (state view.start).content reader.stamp (reads + 1) stage names
-      known_on reads known learns =
-          rw held.sizes_are (learns.knows (state view.start).content reads (rw (← is) read) (rw held.sizes_are at known))
+          → IsKnown shape image reader.stamp (reads + 1) stage names
+      learned reads known learns =
+          rw held.sizes_are (learns.knows image reads (rw (← is) read) (rw held.sizes_are at known))
 
-      learned : {stage : NamingStage} {names : Record}
-          → Learns (shape_of reader.sizes) reader.stamp reader.stage reader.read got stage names
-          → IsKnown (shape_of view.sizes) (state view.start).content reader.stamp ((held.going due).reads + 1) stage names
-      learned learns = known_on going.reads going.known learns
-
-      calls_now : (state n).failures ≡ (state view.start).failures → (state n).calls ≡ (held.going due).before
-          + ((held.going due).reads + 1)
+      calls_now : Good → (state n).calls ≡ going.before + (going.reads + 1)
       calls_now none = omega (arith, (going.calls (none_before none)).1, first, performed.passes.calls_are)
 
       pub named_taken : {next : RecordReader} {less after : ℕ} {counts : List ℕ} → next.sizes ≡ reader.sizes
           → TakesName reader left place waiting got next less after counts → HoldsSurveyed state next less after counts view n
-      named_taken {next} {less} {after} {counts} sizes (inl on) = rw (on.left_stays, on.place_stays, on.counts_stay) (record {
-        sizes_are = held.sizes_are ∙ sym sizes;
-        quiet = quiet performed;
-        few = held.few;
-        each = held.each;
-        going = λ some. record {
-          stamp_is = on.stamp_stays ∙ going.stamp_is;
-          left_is = going.left_is;
-          reads = going.reads + 1;
-          known = rw on.stamp_stays (learned on.learns);
-          places = λ i below. absurd (omega (arith, below, first));
-          before = going.before;
-          calls = λ none. ((going.calls (none_before none)).0, omega (arith, calls_now none, first));
-        };
-        ended = λ none. absurd (omega (arith, none, due));
-      })
+      named_taken sizes (inl on) = rw (on.left_stays, on.place_stays, on.counts_stay) (trying performed sizes on.stamp_stays
+          (going.reads + 1) (rw on.stamp_stays (learned going.reads going.known on.learns)) (λ i below. absurd (omega (arith, below, first)))
+          (λ none. (none_before none, omega (arith, calls_now none, first))))
       named_taken sizes (inr (inl gone)) =
-          let found = learned gone.learns in
-          missed (λ none. try_missed view.sizes.format (shape_of view.sizes) (state view.start).content reader.stamp
-          (going.reads + 1) _ _ found.exact (calls_now none)) (λ whole. found.all whole.0 whole.1) sizes gone.none_left
-          gone.counts_stay
+          let found = learned going.reads going.known gone.learns in
+          missed (λ none. try_missed view.sizes.format shape image reader.stamp (going.reads + 1) _ _ found.exact (calls_now none))
+          (λ whole. found.all whole.0 whole.1) sizes gone.none_left gone.counts_stay
       named_taken sizes (inr (inr whole)) =
-          let found = learned whole.learns in
+          let found = learned going.reads going.known whole.learns in
           let one : view.sizes.format ≡ One = rw held.sizes_are whole.one in
-          let has = found.some sized (rw one tt) in
-          counted (λ none. try_read view.sizes.format (shape_of view.sizes) (state view.start).content reader.stamp whole.read
-          (going.reads + 1) 0 _ _ _ found.exact (calls_now none) (rw one refl) (omega arith))
+          let has = found.some sized (grind arith) in
+          counted (λ none. try_read view.sizes.format shape image reader.stamp whole.read (going.reads + 1) 0 _ _ _ found.exact
+          (calls_now none) (grind arith) (omega arith))
           (has.0, has.1, long_as has.0 whole.read.numbers.items (found.all has.0 has.1).numbers_are) sizes whole.counted
           whole.counts_are
 
@@ -194,62 +174,43 @@ module _ {M : Type 0} {state : M → State} {reader : RecordReader} {left place 
       format_is : view.sizes.format ≡ Two
       format_is = rw held.sizes_are two
 
-      found : IsFound (shape_of view.sizes) (state view.start).content reader.stamp (held.going due).reads (Some reader.read)
-      found = subst (λ (stage : NamingStage). IsKnown (shape_of view.sizes) (state view.start).content reader.stamp
-          (held.going due).reads stage reader.read) named going.known
+      abbrev Carries : ℕ → Type 0
+      Carries i = HasPlace image (slot_at format2 shape reader.stamp) reader.stamp i
 
-      here : got ≡ (state view.start).content (slot_at format2 (shape_of view.sizes) reader.stamp + (8 + place))
+      found : IsFound shape image reader.stamp going.reads (Some reader.read)
+      found = subst (λ (stage : NamingStage). IsKnown shape image reader.stamp going.reads stage reader.read) named going.known
+
+      here : got ≡ image (slot_at format2 shape reader.stamp + (8 + place))
       here = rw (held.sizes_are, ← is) read
 
-      calls_then : (state n).failures ≡ (state view.start).failures
-          → (state n).calls ≡ (held.going due).before + (held.going due).reads + (place + 1)
-      calls_then none = omega (arith, (going.calls (none_before none)).1, performed.passes.calls_are)
+      was : (places : ℕ) → ReadsUpToBad Carries (length reader.read.numbers.items) places
+          → places ≡ place + 1 → Try
+      was places asked all none = try_read view.sizes.format shape image reader.stamp reader.read going.reads places _ _ _ found.exact refl
+          (grind (arith, format_is, asked)) (omega (arith, all, (going.calls (none_before none)).1, performed.passes.calls_are))
 
       pub place_taken : {next : RecordReader} {less after : ℕ} {counts : List ℕ} → next.sizes ≡ reader.sizes
           → TakesPlace reader left place waiting got next less after counts → HoldsSurveyed state next less after counts view n
       place_taken sizes (inl on) =
-          let stamped = rw here at on.stamped in
-          rw (on.reader_stays, on.left_stays, on.place_on, on.counts_stay) (record {
-            sizes_are = held.sizes_are;
-            quiet = quiet performed;
-            few = held.few;
-            each = held.each;
-            going = λ some. record {
-              stamp_is = going.stamp_is;
-              left_is = going.left_is;
-              reads = going.reads;
-              known = going.known;
-              places = below_more (HasPlace (state view.start).content (slot_at format2 (shape_of view.sizes) reader.stamp) reader.stamp)
-                  place going.places stamped;
-              before = going.before;
-              calls = λ none. ((going.calls (none_before none)).0, omega (arith, calls_then none));
-            };
-            ended = λ none. absurd (omega (arith, none, due));
-          })
+          rw (on.reader_stays, on.left_stays, on.place_on, on.counts_stay) (trying performed refl refl going.reads going.known
+          (below_more Carries place going.places (rw here at on.stamped))
+          (λ none. (none_before none, omega (arith, (going.calls (none_before none)).1, performed.passes.calls_are))))
       place_taken sizes (inr (inl gone)) =
-          let bad = λ (has : HasPlace (state view.start).content (slot_at format2 (shape_of view.sizes) reader.stamp) reader.stamp place).
-          gone.bad (rw here has) in
-          missed (λ none. try_read view.sizes.format (shape_of view.sizes) (state view.start).content reader.stamp reader.read
-          going.reads (place + 1) _ _ _ found.exact refl (rw format_is (inr (record {
+          let bad = λ (has : Carries place). gone.bad (rw here has) in
+          missed (was (place + 1) (inr (record {
             first = place;
             inside = below;
             before = going.places;
             bad = bad;
             reads_are = refl;
-          }))) (omega (arith, calls_then none)))
-          (λ whole.
+          })) refl) (λ whole.
           let long = long_as whole.0 reader.read.numbers.items (found.all whole.0 whole.1).numbers_are in
-          let all = stamped_whole (shape_of view.sizes) (state view.start).content reader.stamp whole.0 whole.1 in
-          bad ((rw format_is at all) place (omega (arith, below, long)))) sizes gone.none_left gone.counts_stay
+          let all = stamped_whole (shape_of view.sizes) image reader.stamp whole.0 whole.1 in
+          bad (grind (arith, format_is, all, long, below))) sizes gone.none_left gone.counts_stay
       place_taken sizes (inr (inr whole)) =
-          let all_places : HasPlaces (state view.start).content (slot_at format2 (shape_of view.sizes) reader.stamp) reader.stamp
-          (length reader.read.numbers.items) = λ i less.
-          below_more (HasPlace (state view.start).content (slot_at format2 (shape_of view.sizes) reader.stamp) reader.stamp)
-          place going.places (rw here at whole.stamped) i (omega (arith, less, whole.last)) in
-          let has = found.some sized (rw format_is all_places) in
-          counted (λ none. try_read view.sizes.format (shape_of view.sizes) (state view.start).content reader.stamp reader.read
-          going.reads (place + 1) _ _ _ found.exact refl
-          (rw format_is (inl (all_places, omega (arith, below, whole.last)))) (omega (arith, calls_then none)))
+          let all : (i : ℕ) → i < length reader.read.numbers.items → Carries i =
+          λ i less. below_more Carries place going.places (rw here at whole.stamped) i (omega (arith, less, whole.last)) in
+          let has = found.some sized (grind (arith, format_is, all)) in
+          counted (was (place + 1) (inl (all, omega (arith, below, whole.last))) refl)
           (has.0, has.1, long_as has.0 reader.read.numbers.items (found.all has.0 has.1).numbers_are) sizes whole.counted
           whole.counts_are
 

@@ -1,7 +1,6 @@
 -- How many reads it takes to try a record.
 use Rattle.std.proofs.Common.{◌≡◌, ◌⊎◌, ◌∙◌, inl, inr, ◌+◌, ◌<◌, ◌≤◌, ℕ, List, [], ◌∷◌, ◌++◌, length, refl, sym, arith, ⊎_elim}
 use Rattle.std.proofs.Common.{None, Some, slice_index}
-use Rattle.std.proofs.lemmas.Bool.{cases_lt}
 use Rattle.std.proofs.lemmas.List.{length-append, get_or_append_left, get_or_push}
 use Rattle.std.proofs.lemmas.List.Sums.{sum_by_push}
 use Rattle.medium.specs.Medium.{Image}
@@ -67,15 +66,11 @@ try_read Two shape image stamp read reads places before mid after is made asked 
 -- what holds of each place of a list, and of one more, holds of each of the list with one more
 pub each_pushed : (P : ℕ → ℕ → Type 0) (xs : List ℕ) (x j : ℕ) → length xs ≡ j → ((k : ℕ) → k < j → P k (slice_index xs k)) → P j x
     → (k : ℕ) → k < j + 1 → P k (slice_index (xs ++ x ∷ []) k)
-each_pushed P xs x j long each last k below = elim (cases_lt k j) [
-  | inl less ↦ rw (get_or_append_left xs (x ∷ []) 0 k (omega (arith, less, long))) (each k less)
-  | inr more ↦ let at : k ≡ j = omega (arith, below, more) in rw (at, get_or_push xs x 0 j long) last
-]
+each_pushed P xs x j long each last k below = grind (arith, get_or_append_left xs (x ∷ []) 0 k, get_or_push xs x 0 j long, each k)
 
 -- none so far
 pub no_tries : (format : LogFormat) (shape : Shape) (image : Image) (first at : ℕ) → AreTriesOf format shape image first 0 at at
-no_tries One shape image first at = omega arith
-no_tries Two shape image first at = ([], refl, λ j below. absurd (omega arith), omega arith)
+no_tries format shape image first at = grind arith
 
 -- one more
 pub tries_more : (format : LogFormat) (shape : Shape) (image : Image) (first j old mid new : ℕ)

@@ -12,7 +12,7 @@ use Rattle.medium.proofs.Moments.{joined_same, weaker, at_exit, only_image, quie
 use Rattle.medium.proofs.SectorsRead.{no_looks, looks_joined}
 use Rattle.medium.proofs.SparedSectors.{spared_quiet, spared_joined, spared_behind}
 use Rattle.journal.specs.declared.log_format.LogFormat.{LogFormat}
-use Rattle.journal.specs.declared.log_format.LogFormat.TheVariants.{One, Two}
+use Rattle.journal.specs.declared.log_format.LogFormat.TheVariants.{Two}
 use Rattle.journal.specs.Places.{Shape, first_home, sectors_of, limit_of}
 use Rattle.journal.specs.Sectors.{IsHead}
 use Rattle.journal.specs.Formats.{shape_of, layout_of, IsWhole, HasWhole}
@@ -69,8 +69,7 @@ recovery_refused old new fault h =
 -- tries, with other calls before and behind them
 tries_moved : (format : LogFormat) (shape : Shape) (image : Image) (first tries old new before after more : ℕ) → before ≡ old + more
     → after ≡ new + more → AreTriesOf format shape image first tries old new → AreTriesOf format shape image first tries before after
-tries_moved One shape image first tries old new before after more e f t = omega (arith, e, f, t)
-tries_moved Two shape image first tries old new before after more e f t = (t.0, t.1, t.2, omega (arith, e, f, t.3))
+tries_moved format shape image first tries old new before after more e f t = grind arith
 
 -- how many calls a whole recovery makes at most
 most_start : (format : LogFormat) (slots old mid seen new count : ℕ) → mid ≡ old + 1 → seen ≤ mid + 2 + most_reads_of format * slots
@@ -374,8 +373,7 @@ start_migrates format slots old new most = grind arith
 clean_migrates : (format : LogFormat) (slots old new : ℕ)
     → new ≤ old + (most_start_sends format slots - limit_of format * slots)
     → new ≤ old + (most_migration_sends format slots - limit_of format * slots)
-clean_migrates One slots old new most = omega (arith, most)
-clean_migrates Two slots old new most = most
+clean_migrates format slots old new most = grind arith
 
 -- what a recovery leaves
 pub recovery_leaves : (old new : State) → LeavesAtLeast 5 old new → MigrationLeaves old new

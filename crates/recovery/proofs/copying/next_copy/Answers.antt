@@ -1,15 +1,21 @@
-use Rattle.std.proofs.Common.{◌≡◌, ◌<◌, ◌≤◌, ◌+◌, ◌*◌, ◌%◌, ◌++◌, ℕ, [], length, drop, get_or, ap, refl, ◌∙◌, arith, true, false}
+use Rattle.std.proofs.Common.{◌≡◌, ◌<◌, ◌≤◌, ◌+◌, ◌*◌, ◌%◌, ◌++◌, ℕ, [], length, drop, get_or, ap, refl, ◌∙◌, arith, true, false, ⊎_elim, Bool}
 use Rattle.std.proofs.lemmas.Nat.{mod_below}
 use Rattle.journal.specs.declared.naming_stage.NamingStage.TheVariants.{Named}
 use Rattle.journal.specs.Places.{first_home, first_data_of, limit_of}
 use Rattle.journal.specs.Formats.{layout_of, shape_of}
 use Rattle.journal.specs.Reading.{data_at}
 use Rattle.journal.proofs.SectorsRead.{place_before}
-use Rattle.recovery.specs.Copying.{IsBlockStep, HasRead}
+use Rattle.journal.specs.declared.reader.RecordReader.{RecordReader}
+use Rattle.recovery.specs.declared.copy_step.CopyStep.{CopyStep}
+use Rattle.recovery.specs.Copying.{IsBlockStep}
 use Rattle.recovery.proofs.CopiedBlocks.{unread, took, block_read, unwritten, block_written, record_written}
-use Rattle.recovery.proofs.CopyTally.{naming_pays, naming_left, block_pays, block_left, home_pays, home_left, is_named}
-use Rattle.std.proofs.Common.{⊎_elim, Bool, subst}
+use Rattle.recovery.proofs.Tallies.{read_pays, write_pays, naming_due, naming_left, block_due, block_left, home_due, home_left}
 use Rattle.recovery.proofs.copying.next_copy.Goals as goal
+
+-- by whether the bytes of a block were read
+stepped : {has_bytes : Bool} (reader : RecordReader) (step : CopyStep) (next : RecordReader) (after : CopyStep) → step.has_bytes ≡ has_bytes
+    → IsBlockStep step.has_bytes reader step next after → IsBlockStep has_bytes reader step next after
+stepped reader step next after is goes = rw (← is) goes
 
 pub returns-in-Some-clause-told : goal.returns-in-Some-clause-told
 returns-in-Some-clause-told g c =
@@ -26,8 +32,8 @@ returns-in-Some-clause-told g c =
           took held performed due asked.1 asked.2 first.0 first.1 (after.reading asked.0);
       refused = λ m n got view next e fits held performed gone. unread held performed gone;
       rest = _;
-      pays = naming_pays reader step due asked.0;
-      rests = λ got next after. naming_left reader step due asked.0 (λ e. e) after.sizes_stay (after.reading asked.0);
+      pays = read_pays _ (naming_due reader step due asked.0);
+      rests = λ got next after. naming_left reader step due asked.0 after.sizes_stay (after.reading asked.0);
     }
 
 pub returns-then-not-step-clause-told : goal.returns-then-not-step-clause-told
@@ -35,7 +41,7 @@ returns-then-not-step-clause-told g c =
     let reader = c.args.reader.now in
     let step = c.args.step.now in
     let due : 0 < step.left = omega (arith, c.if-step-eq0.false) in
-    let named : reader.stage ≡ Named = is_named reader.stage c.in_default.ensures c.requires.there in
+    let named : reader.stage ≡ Named = grind (arith, c.in_default.ensures, c.requires.there) in
     let below = c.requires.named named in
     let inside : length reader.read.numbers.items ≤ limit_of reader.sizes.format = (reader.reads.named named).few in
     let no_bytes : step.has_bytes ≡ false = c.if-not-step.true in
@@ -50,18 +56,11 @@ returns-then-not-step-clause-told g c =
       within = omega (arith, lies);
       looks = lies;
       made = λ m n got view next fits held performed after.
-          let has : HasRead reader step next.reader next.step =
-          subst (λ (b : Bool). IsBlockStep b reader step next.reader next.step)
-          no_bytes (after.copying named) in
-          block_read held performed due lies is no_bytes has;
+          block_read held performed due lies is no_bytes (stepped reader step next.reader next.step no_bytes (after.copying named));
       refused = λ m n got view next e fits held performed gone. unread held performed gone;
       rest = _;
-      pays = block_pays reader step due named below inside no_bytes;
-      rests = λ got next after.
-          let has : HasRead reader step next.reader next.step =
-          subst (λ (b : Bool). IsBlockStep b reader step next.reader next.step)
-          no_bytes (after.copying named) in
-          block_left reader step due named below inside (λ e. e) no_bytes has;
+      pays = read_pays _ (block_due reader step due named below no_bytes);
+      rests = λ got next after. block_left reader step due named below no_bytes (stepped reader step next.reader next.step no_bytes (after.copying named));
     }
 
 pub returns-clause-told : goal.returns-clause-told
@@ -69,7 +68,7 @@ returns-clause-told g c =
     let reader = c.args.reader.now in
     let step = c.args.step.now in
     let due : 0 < step.left = omega (arith, c.if-step-eq0.false) in
-    let named : reader.stage ≡ Named = is_named reader.stage c.in_default.ensures c.requires.there in
+    let named : reader.stage ≡ Named = grind (arith, c.in_default.ensures, c.requires.there) in
     let below = c.requires.named named in
     let names = reader.reads.named named in
     let full : step.has_bytes ≡ true = c.if-not-step.false in
@@ -84,17 +83,10 @@ returns-clause-told g c =
       within = omega (arith, is, inside);
       looks = tt;
       made = λ m n got view next fits held performed after.
-          let went : IsBlockStep true reader step next.reader next.step =
-          subst (λ (b : Bool). IsBlockStep b reader step next.reader next.step)
-          full (after.copying named) in
           ⊎_elim (λ has. block_written held due named below is full bytes_are performed has)
-          (λ last. record_written held due named below is full bytes_are performed last.0 last.1) went;
+          (λ last. record_written held due named below is full bytes_are performed last.0 last.1) (stepped reader step next.reader next.step full (after.copying named));
       refused = λ m n got view next e fits held performed gone. unwritten held due named below is performed gone;
       rest = _;
-      pays = home_pays reader step due named below names.few;
-      rests = λ got next after.
-          let went : IsBlockStep true reader step next.reader next.step =
-          subst (λ (b : Bool). IsBlockStep b reader step next.reader next.step)
-          full (after.copying named) in
-          home_left reader step due named below names.few (λ e. e) full after.sizes_stay went;
+      pays = write_pays _ (home_due reader step due named below);
+      rests = λ got next after. home_left reader step due named below full after.sizes_stay (stepped reader step next.reader next.step full (after.copying named));
     }

@@ -14,20 +14,13 @@ use Rattle.recovery.proofs.formatting.write_image.Goals.{After-drive}
 -- the new image is that of a format
 new_written : {shape : Shape} {stamp end : ℕ} {start under image : Image} → stamp ≡ 1 → Holds 0 (replicate 512 0) start under → 2 ≤ end
     → IsWritten shape stamp end under image → IsWritten shape 1 end start image
-new_written one wiped long is = record {
-  super = is.super;
-  head = rw one at is.head;
-  zeros = is.zeros;
-  behind = λ x past. is.behind x past ∙ wiped.elsewhere x (λ e. omega (arith, e, past, long));
-}
+new_written one wiped long is = grind (arith, is.zeros, is.behind, wiped.elsewhere)
 
 -- and a part of it has no super
 none_or_written : {plan : ImagePlan} {under : Under} {shape : Shape} {stamp end : ℕ} {start image : Image} → stamp ≡ 1
     → Holds 0 (replicate 512 0) start under.image → 2 ≤ end → IsPart plan under image ⊎ IsWritten shape stamp end under.image image
     → IsNoneOrWritten shape end start image
-none_or_written one wiped long either = ⊎_elim (λ part. inl (⊎_elim (λ was. was ∙ wiped.here) (λ other. ⊎_elim
-    (λ zeros. zeros.1) (λ head. absurd (omega (arith, head.0))) other) (part.each 0)))
-    (λ new. inr (new_written one wiped long new)) either
+none_or_written one wiped long either = ⊎_elim (λ part. inl (grind (arith, part.each 0))) (λ new. inr (new_written one wiped long new)) either
 
 pub returns-clause-image : goal.returns-clause-image
 returns-clause-image g c =

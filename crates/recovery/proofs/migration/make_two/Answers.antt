@@ -1,5 +1,4 @@
 use Rattle.std.proofs.Common.{◌≡◌, ◌≢◌, ◌⊎◌, inl, inr, ⊎_elim, ℕ, ◌+◌, ◌*◌, refl, ◌∙◌, arith, rules, replicate, OnOk}
-use Rattle.std.proofs.lemmas.Bool.{cases_eq}
 use Rattle.std.proofs.lemmas.Result.{on_ok_weaker}
 use Rattle.medium.specs.Medium.{State, Image}
 use Rattle.medium.specs.Moments.{IsFlushed}
@@ -19,22 +18,16 @@ use Rattle.recovery.proofs.migration.make_two.Goals.{After-drive}
 -- where the medium is flushed, what a cut leaves is what was there
 flushed_part : {plan : ImagePlan} {under : Under} {image : Image} (m : State) → under.image ≡ m.content → IsFlushed m
     → WithOrWithout 0 (under.image 0) m.may_leave image → IsPart plan under image
-flushed_part m was flushed either = record {
-  each = λ x. inl (rw was (⊎_elim (λ cut. flushed x _ (cut x)) (λ w. elim (cases_eq x 0) [
-    | inl same ↦ rw (same, ← was) w.2.here
-    | inr not ↦ w.2.elsewhere x not ∙ flushed x _ (w.1 x)
-  ]) either));
-}
+flushed_part m was flushed either = grind (arith, flushed)
 
 module _ {plan : ImagePlan} {under : Under} {shape : Shape} {array : Array} {image : Image} (two : under.first ≡ 2)
     (ends : plan.end ≡ first_home shape) (fresh : IsFresh shape array plan.head.stamp under.image) (part : IsPart plan under image) where
   -- zeros may stand in the log
   apart : (x : ℕ) → x ≢ 1 → (image x ≡ under.image x) ⊎ (IsBetween 2 (first_home shape) x × (image x ≡ replicate 512 0))
-  apart x not = ⊎_elim inl (λ other. ⊎_elim (λ zeros. inr ((omega (arith, zeros.0.0, two), omega (arith, zeros.0.1, ends)), zeros.1))
-      (λ head. absurd (not head.0)) other) (part.each x)
+  apart x not = grind (arith, part.each x)
 
   outside : (x : ℕ) → x ≢ 1 → ¬ IsBetween 2 (first_home shape) x → image x ≡ under.image x
-  outside x not between = ⊎_elim (λ was. was) (λ zeros. absurd (between zeros.0)) (apart x not)
+  outside x not between = grind (arith, apart x not)
 
   -- so no record waits in a part of the new image either
   still_fresh : IsFresh shape array plan.head.stamp image

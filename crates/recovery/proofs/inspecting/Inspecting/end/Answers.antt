@@ -13,7 +13,7 @@ use Rattle.recovery.specs.HoldsStart.{HoldsLook}
 use Rattle.recovery.specs.declared.inspection.Inspection.{Inspection}
 use Rattle.recovery.specs.Stages as stage
 use Rattle.recovery.proofs.Looks.{counted_at_end, look_cause}
-use Rattle.recovery.proofs.SurveyTally.{no_tries_left}
+use Rattle.recovery.proofs.Tallies.{no_tries_left}
 use Rattle.recovery.proofs.WholeRecovery.{served_look}
 use Rattle.recovery.proofs.inspecting.Inspecting.end.Goals as goal
 

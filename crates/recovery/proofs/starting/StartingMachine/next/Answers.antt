@@ -11,11 +11,11 @@ use Rattle.recovery.proofs.StartSurvey.{survey_on}
 use Rattle.recovery.proofs.StartCopy.{copy_made, copy_refused}
 use Rattle.recovery.proofs.StartHead.{copies_flush_made, copies_flush_leaves, head_write_made, head_write_leaves, head_flush_made}
 use Rattle.recovery.proofs.StartHead.{head_flush_leaves}
-use Rattle.recovery.proofs.StartTally.{all_more, first_left, super_left, head_left, few_left, none_left_of, both_more, both_left}
-use Rattle.recovery.proofs.StartTally.{left_through, survey_goes_left, copied_left, reads_only}
+use Rattle.recovery.proofs.Tallies.{all_more, first_left, super_left, head_left, few_left, none_left_of, both_more, both_left}
+use Rattle.recovery.proofs.Tallies.{left_through, survey_goes_left, copied_left, reads_only}
 use Rattle.recovery.proofs.StartTold.{told, told_by, both_told, within_more, reads_more}
-use Rattle.recovery.proofs.SurveyTally.{no_tries_left}
-use Rattle.recovery.proofs.CopyTally.{none_left}
+use Rattle.recovery.proofs.Tallies.{no_tries_left}
+use Rattle.recovery.proofs.Tallies.{none_left}
 use Rattle.recovery.proofs.starting.StartingMachine.next.Goals as goal
 
 pub returns-in-FlushFirst : goal.returns-in-FlushFirst

@@ -10,8 +10,7 @@ use Rattle.journal.specs.Reading.{data_at}
 use Rattle.journal.proofs.SectorsRead.{place_before}
 use Rattle.recovery.specs.Surveying.{HoldsSurveyed, SurveyView}
 use Rattle.recovery.proofs.SurveyedRecords.{untried, named_taken, place_taken}
-use Rattle.recovery.proofs.SurveyTally.{name_pays, name_left, place_pays, place_left}
-use Rattle.recovery.proofs.CopyTally.{is_named}
+use Rattle.recovery.proofs.Tallies.{read_pays, name_due, name_left, place_due, place_left}
 use Rattle.journal.specs.declared.reader.RecordReader.{RecordReader}
 use Rattle.recovery.proofs.surveying.SurveyingMachine.next.Goals as goal
 
@@ -37,11 +36,11 @@ returns-in-Some g c =
       made = λ m n got view next fits held performed after.
           named_taken held due (all_sized held (g.met.M.Medium.sound m) fits) performed asked.2 first after.sizes_stay
           (after.reading asked.0);
-      refused = λ m n got view next e fits held performed gone. untried held performed gone due;
+      refused = λ m n got view next e fits held performed gone. untried held due performed gone;
       rest = _;
-      pays = name_pays s.reader s.left s.place due asked.0;
+      pays = read_pays _ (name_due s.reader s.left s.place due asked.0);
       rests = λ got next after.
-          name_left s.reader s.left s.place due asked.0 (λ e. e) after.sizes_stay (λ some is.
+          name_left s.reader s.left s.place due asked.0 after.sizes_stay (λ some is.
           let two = next.goes.two some is in
           (rw after.sizes_stay at two, rw two at (next.reader.reads.named is).few)) (after.reading asked.0);
     }
@@ -51,11 +50,10 @@ returns g c =
     let s = c.args.self.now in
     let r = s.reader in
     let due : 0 < s.left = omega (arith, c.if-self-eq0.false) in
-    let named : s.reader.stage ≡ Named = is_named s.reader.stage c.in_default.ensures (s.goes.there due) in
+    let named : s.reader.stage ≡ Named = grind (arith, c.in_default.ensures, s.goes.there due) in
     let two = s.goes.two due named in
     let below = s.goes.named due named in
     let few = (s.reader.reads.named named).few in
-    let many : length s.reader.read.numbers.items ≤ 240 = rw two at few in
     let is : c.copy_place.result ≡ data_at (shape_of r.sizes) r.stamp s.place = c.copy_place.ensures
     ∙ ap (λ (k : ℕ). 2 + (layout_of r.sizes.format).slot_sectors * k + first_data_of r.sizes.format + s.place)
     c.slot_of-slot.ensures in
@@ -70,9 +68,8 @@ returns g c =
       made = λ m n got view next fits held performed after.
           place_taken held due (all_sized held (g.met.M.Medium.sound m) fits) performed named two below here after.sizes_stay
           (after.placed named);
-      refused = λ m n got view next e fits held performed gone. untried held performed gone due;
+      refused = λ m n got view next e fits held performed gone. untried held due performed gone;
       rest = _;
-      pays = place_pays s.reader s.left s.place due named below two many;
-      rests = λ got next after.
-          place_left s.reader s.left s.place due named below two many (λ e. e) after.sizes_stay (after.placed named);
+      pays = read_pays _ (place_due s.reader s.left s.place due named below two);
+      rests = λ got next after. place_left s.reader s.left s.place due named below two after.sizes_stay (after.placed named);
     }

@@ -1,0 +1,187 @@
+-- Which calls are left of a survey, of a copying and of a start: each call is one of them, and leaves no more than the others.
+use Rattle.std.proofs.Common.{◌≡◌, ◌<◌, ◌≤◌, ◌+◌, ◌*◌, ◌-◌, ℕ, List, length, refl, arith, true, false, ⊎_elim}
+use Rattle.medium.specs.Tally.{Tally, of_all, one_more, none}
+use Rattle.medium.specs.Machine.{IsLeft}
+use Rattle.medium.specs.declared.fault.MediumFault.{MediumFault}
+use Rattle.medium.specs.declared.fault.MediumFault.TheVariants.{Read, Write, Flush}
+use Rattle.journal.specs.declared.log_format.LogFormat.{LogFormat}
+use Rattle.journal.specs.declared.log_format.LogFormat.TheVariants.{Two}
+use Rattle.journal.specs.declared.record.Record.{Record}
+use Rattle.journal.specs.declared.super_sector.Super.{Super}
+use Rattle.journal.specs.declared.reader.RecordReader.{RecordReader}
+use Rattle.journal.specs.declared.naming_stage.NamingStage.{NamingStage}
+use Rattle.journal.specs.declared.naming_stage.NamingStage.TheVariants as at
+use Rattle.journal.specs.Places.{Shape, limit_of}
+use Rattle.journal.specs.Naming.{IsReading, IsReader, names_left}
+use Rattle.journal.specs.Reading.{record_reads_of}
+use Rattle.recovery.specs.Calls.{most_calls_of, most_reads_of}
+use Rattle.recovery.specs.Copying.{Copying, CanCopy, copies_left, IsTakenOrPassed, HasRead, IsBlockStep}
+use Rattle.recovery.specs.Surveying.{CanSurvey, surveys_left, TakesName, TakesPlace}
+use Rattle.recovery.specs.Starting.{both, head_calls, home_calls, all_calls, start_left, look_left, IsReadFirst, FindsSuper, FindsHead}
+use Rattle.recovery.specs.Starting.{IsCopiedOn, IsFoundOn, IsSurveyedOn}
+use Rattle.recovery.specs.declared.copy_step.CopyStep.{CopyStep}
+use Rattle.recovery.specs.declared.surveying.Surveying.{Surveying}
+use Rattle.recovery.specs.declared.found.Found.{Found}
+use Rattle.recovery.specs.Stages.{StartStage}
+
+-- a read fewer, and a write fewer
+abbrev pub less_read : Tally → Tally
+less_read t = record t { reads = t.reads - 1 }
+
+abbrev pub less_write : Tally → Tally
+less_write t = record t { writes = t.writes - 1 }
+
+pub read_pays : (t : Tally) → 0 < t.reads → t ≡ one_more (less_read t) Read
+read_pays t some = grind arith
+
+pub write_pays : (t : Tally) → 0 < t.writes → t ≡ one_more (less_write t) Write
+write_pays t some = grind arith
+
+-- no more of each kind
+pub few_left : {left rest : Tally} → left.reads ≤ rest.reads → left.writes ≤ rest.writes → left.flushes ≤ rest.flushes
+    → IsLeft ⊥ left rest
+few_left reads writes flushes = grind arith
+
+pub none_left_of : {rest : Tally} → IsLeft ⊥ none rest
+none_left_of = few_left (omega arith) (omega arith) (omega arith)
+
+-- how many sectors that name blocks are left
+names_few : (shape : Shape) (at : NamingStage) (read : Record) → IsReader shape at read → IsReading at
+    → (1 ≤ names_left at) × (names_left at ≤ record_reads_of shape.format)
+names_few shape (at.Descriptor2 count index) read reads is = grind (arith, reads.behind_two count index refl)
+names_few shape stage read reads is = grind (arith, reads.one, reads.behind_one, reads.two)
+
+-- ---- a copying
+module _ (reader : RecordReader) (step : CopyStep) (due : 0 < step.left) where
+  module _ (is : IsReading reader.stage) where
+    pub naming_due : 0 < (copies_left reader step).reads
+    naming_due = grind (arith, names_few _ reader.stage reader.read reader.reads is)
+
+    pub naming_left : {got : List ℕ} {next : RecordReader} {after : CopyStep} → next.sizes ≡ reader.sizes
+        → IsTakenOrPassed reader step got next after → IsLeft ⊥ (copies_left next after) (less_read (copies_left reader step))
+    naming_left sizes goes = grind (arith, names_few _ reader.stage reader.read reader.reads is)
+
+  module _ (is : reader.stage ≡ at.Named) (below : step.i < length reader.read.numbers.items) where
+    inside : length reader.read.numbers.items ≤ limit_of reader.sizes.format
+    inside = (reader.reads.named is).few
+
+    pub block_due : step.has_bytes ≡ false → 0 < (copies_left reader step).reads
+    block_due no_bytes = grind (arith, inside)
+
+    pub block_left : {next : RecordReader} {after : CopyStep} → step.has_bytes ≡ false → HasRead reader step next after
+        → IsLeft ⊥ (copies_left next after) (less_read (copies_left reader step))
+    block_left no_bytes has = grind (arith, inside)
+
+    pub home_due : 0 < (copies_left reader step).writes
+    home_due = grind (arith, inside)
+
+    pub home_left : {next : RecordReader} {after : CopyStep} → step.has_bytes ≡ true → next.sizes ≡ reader.sizes
+        → IsBlockStep true reader step next after → IsLeft ⊥ (copies_left next after) (less_write (copies_left reader step))
+    home_left full sizes goes = grind (arith, inside)
+
+-- where no call is left no record is
+pub none_left : (reader : RecordReader) (step : CopyStep) → CanCopy reader step → copies_left reader step ≡ none → step.left ≡ 0
+none_left reader step goes none_is =
+    grind (arith, goes.there, goes.named, goes.unnamed, inside reader step, naming_due reader step, block_due reader step, home_due reader step)
+
+pub most_copies : (reader : RecordReader) (step : CopyStep) {sizes : Super} {left : ℕ} → reader.sizes ≡ sizes → step.left ≡ left
+    → of_all (copies_left reader step) ≤ most_calls_of sizes.format * left
+most_copies reader step same count = rw (← same, ← count) (grind arith)
+
+pub most_writes : (reader : RecordReader) (step : CopyStep) {sizes : Super} {left : ℕ} → reader.sizes ≡ sizes → step.left ≡ left
+    → (copies_left reader step).writes ≤ limit_of sizes.format * left
+most_writes reader step same count = rw (← same, ← count) (omega arith)
+
+-- ---- a survey
+module _ (reader : RecordReader) (left place : ℕ) (due : 0 < left) where
+  module _ (is : IsReading reader.stage) where
+    pub name_due : 0 < (surveys_left reader left place).reads
+    name_due = grind (arith, names_few _ reader.stage reader.read reader.reads is)
+
+    -- the stage behind has spent one more
+    pub name_left : {waiting got counts : List ℕ} {next : RecordReader} {less after : ℕ} → next.sizes ≡ reader.sizes
+        → (0 < less → next.stage ≡ at.Named → (reader.sizes.format ≡ Two) × (length next.read.numbers.items ≤ 240))
+        → TakesName reader left place waiting got next less after counts
+        → IsLeft ⊥ (surveys_left next less after) (less_read (surveys_left reader left place))
+    name_left sizes named goes = grind (arith, names_few _ reader.stage reader.read reader.reads is)
+
+  module _ (is : reader.stage ≡ at.Named) (below : place < length reader.read.numbers.items)
+      (two : reader.sizes.format ≡ Two) where
+    many : length reader.read.numbers.items ≤ 240
+    many = rw two at (reader.reads.named is).few
+
+    pub place_due : 0 < (surveys_left reader left place).reads
+    place_due = grind (arith, many)
+
+    pub place_left : {waiting got counts : List ℕ} {next : RecordReader} {less after : ℕ} → next.sizes ≡ reader.sizes
+        → TakesPlace reader left place waiting got next less after counts
+        → IsLeft ⊥ (surveys_left next less after) (less_read (surveys_left reader left place))
+    place_left sizes goes = grind (arith, many)
+
+-- where no read is left no slot is
+pub no_tries_left : (reader : RecordReader) (left place : ℕ) {counted : ℕ} → CanSurvey reader left place counted
+    → surveys_left reader left place ≡ none → left ≡ 0
+no_tries_left reader left place goes none_is =
+    grind (arith, goes.there, goes.named, goes.two, name_due reader left place, place_due reader left place)
+
+pub most_tries : (reader : RecordReader) (left place : ℕ) {sizes : Super} {slots : ℕ} → reader.sizes ≡ sizes → left ≡ slots
+    → of_all (surveys_left reader left place) ≤ most_reads_of sizes.format * slots
+most_tries reader left place same count = rw (← same, ← count) (omega arith)
+
+-- ---- a start
+-- one of some calls is one of those and others
+pub both_more : (some others : Tally) (kind : MediumFault) → both (one_more some kind) others ≡ one_more (both some others) kind
+both_more some others kind = grind arith
+
+-- what is left of some, and the others
+pub both_left : {some rest : Tally} (others : Tally) → IsLeft ⊥ some rest → IsLeft ⊥ (both some others) (both rest others)
+both_left others is = few_left (omega (arith, is.most Read)) (omega (arith, is.most Write)) (omega (arith, is.most Flush))
+
+-- one read of those
+pub all_more : (first : ℕ) (format : LogFormat) (slots : ℕ)
+    → all_calls (first + 1) format slots ≡ one_more (all_calls first format slots) Read
+all_more first format slots = grind arith
+
+-- a survey reads alone
+pub reads_only : {reads : ℕ} (rest : Tally) (kind : MediumFault) → record { reads = reads; writes = 0; flushes = 0 } ≡ one_more rest kind
+    → kind ≡ Read
+reads_only rest kind pays = grind arith
+
+pub left_through : {few some many : Tally} → IsLeft ⊥ few some → IsLeft ⊥ some many → IsLeft ⊥ few many
+left_through a b = record { most = λ kind. omega (arith, a.most kind, b.most kind); exact = λ e. absurd e }
+
+-- a super is read, or not
+pub first_left : {sectors : ℕ} {next : StartStage} → IsReadFirst sectors next → IsLeft ⊥ (start_left next) (all_calls 2 Two 64)
+first_left goes = grind arith
+
+-- the head is read
+pub super_left : {sectors : ℕ} {got : List ℕ} {next : StartStage} → FindsSuper sectors got next
+    → IsLeft ⊥ (start_left next) (all_calls 1 Two 64)
+super_left finds = grind arith
+
+-- the survey begins
+pub head_left : {least : ℕ} {sizes : Super} {got : List ℕ} {next : StartStage} → FindsHead least sizes got next
+    → IsLeft ⊥ (start_left next) (all_calls 0 sizes.format sizes.slots)
+head_left {sizes = sizes} finds = grind arith
+
+-- records are copied
+pub copied_left : {found : Found} {copying : Copying} {next : StartStage} → IsCopiedOn found copying next
+    → IsLeft ⊥ (start_left next) (both (copies_left copying.reader copying.step) head_calls)
+copied_left goes = grind arith
+
+-- they are found
+found_left : {found : Found} {next : StartStage} {slots : ℕ} → found.count ≤ slots → IsFoundOn found next
+    → IsLeft ⊥ (start_left next) (home_calls found.sizes.format slots)
+found_left few goes = grind arith
+
+-- the survey goes on, or the records are found
+pub survey_goes_left : {head : ℕ} {survey : Surveying} {sizes : Super} {rest : Tally} {next : StartStage} → survey.reader.sizes ≡ sizes
+    → IsSurveyedOn head survey next → IsLeft ⊥ (surveys_left survey.reader survey.left survey.place) rest
+    → IsLeft ⊥ (start_left next) (both rest (home_calls sizes.format sizes.slots))
+survey_goes_left {survey = survey} same goes is = rw (← same) (⊎_elim (λ some. rw some.1 (both_left _ is))
+    (λ none. left_through (found_left {slots = survey.reader.sizes.slots} (omega (arith, survey.goes.room)) none.1)
+    (few_left (omega arith) (omega arith) (omega arith))) goes)
+
+-- a look makes no more calls than a start that stands there
+pub look_few : (at : StartStage) → IsLeft ⊥ (look_left at) (start_left at)
+look_few at = grind arith
