@@ -160,9 +160,7 @@ module _ {M : Type 0} {state : M → State} {reader : RecordReader} {step : Copy
     long = long_as entries numbers is_read.numbers_are
 
     rising : (k : ℕ) → k < step.i → get_or reader.read.numbers.items k 0 < get_or reader.read.numbers.items step.i 0
-    rising k before =
-        let up = whole.fit.rising k step.i before (omega (arith, below, long, long_as entries (numbers_of entries) refl)) in
-        rw is_read.numbers_are up
+    rising k before = grind (arith, whole.fit.rising k step.i, long, long_as entries (numbers_of entries) refl, is_read.numbers_are)
 
     module _ {bytes got : List ℕ} {n : M} {place : ℕ}
         (is : place ≡ first_home (shape_of reader.sizes) + get_or reader.read.numbers.items step.i 0)
@@ -233,9 +231,7 @@ module _ {M : Type 0} {state : M → State} {reader : RecordReader} {step : Copy
         (performed : Performed (Write place) bytes got (Ok tt) (state m) (state n)) where
       written : (state n).content (first_home (shape_of view.sizes) + get_or reader.read.numbers.items step.i 0)
           ≡ block_of (get_or view.records held.home []) step.i
-      written =
-          let block = is_read.blocks_are step.i (omega (arith, below, long)) in
-          rw (← (here is performed)) (rw (bytes_are, held.half full) at performed.done.here ∙ block)
+      written = grind (arith, is_read.blocks_are step.i (omega (arith, below, long)), here is performed, held.half full, performed.done.here)
 
       copied_on : (k : ℕ) → k < step.i + 1 → (state n).content (first_home (shape_of view.sizes) + get_or reader.read.numbers.items k 0)
           ≡ block_of (get_or view.records held.home []) k
@@ -248,9 +244,7 @@ module _ {M : Type 0} {state : M → State} {reader : RecordReader} {step : Copy
           → ((k : ℕ) → k < step.i + 1 → get_or reader.read.numbers.items k 0 ≢ b)
           → (state n).content (first_home (shape_of view.sizes) + b)
           ≡ with_records (take held.home view.records) (home_of (shape_of view.sizes) (state view.start).content) b
-      others_on none b not =
-          others is performed _ (λ e. not step.i (omega arith) (omega (arith, e, here is performed)))
-          ∙ held.others (none_failed none) b (λ k before. not k (omega (arith, before)))
+      others_on none b not = grind (arith, others is performed, not, here is performed, held.others (none_failed none) b)
 
       pub block_written : {next : RecordReader} {after : CopyStep} → HasWritten reader step next after
           → HoldsCopied state next after got view n

@@ -86,38 +86,27 @@ module _ {M : Type 0} {state : M → State} {at : ImageStage} {plan : ImagePlan}
       → (state n).left_since view.since image → IsPartOrNew plan view.under image
   since_on cuts more image since =
       let past : view.since ≤ (state m).calls = omega (arith, more, passes.calls_are) in
-      ⊎_elim (λ was. ⊎_elim
-      (λ later. held.after_flush later image was)
-      (λ (here : (state m).calls ≡ view.since). late plan view.under at (state view.start) image live
-      (omega (arith, held.calls live, here)) (held.shows.cuts image (sound.only_now image (rw (← here) at was))))
-      (more_or_here past))
-      (λ now. late plan view.under next (state view.start) image lives (omega (arith, held.calls live, past, fewer)) (cuts image now))
-      (passes.nothing_else view.since image past since)
+      grind (
+        arith,
+        held.after_flush,
+        late plan view.under at (state view.start) image live,
+        late plan view.under next (state view.start) image lives,
+        held.calls live,
+        held.shows.cuts image,
+        sound.only_now image,
+        cuts image,
+        passes.nothing_else view.since image past since,
+      )
 
   -- the next call comes, or none
   moved : of_all (image_left at plan.end) ≡ of_all (image_left next plan.end) + 1
       → Shows (HasImage plan view.under next) (MidwayImage plan view.under next (state view.start)) (state n)
       → (next ≡ stage.Made → IsFlushed (state n)) → HoldsImage state next plan view n
-  moved one shows flushed = record {
-    plan_is = held.plan_is;
-    shows = shows;
-    flushed = flushed;
-    calls = λ still. omega (arith, held.calls live, passes.calls_are, one);
-    after_flush = since_on shows.cuts;
-  }
+  moved one shows flushed = grind (arith, held.plan_is, held.calls live, passes.calls_are, since_on shows.cuts)
 
   -- one was refused
   stopped : EachCut (MidwayImage plan view.under next (state view.start)) (state n) → HoldsImage state stage.Refused plan view n
-  stopped cuts = record {
-    plan_is = held.plan_is;
-    shows = record {
-      content = tt;
-      cuts = λ image cut. each_midway plan view.under next (state view.start) image (cuts image cut);
-    };
-    flushed = λ e. cc e;
-    calls = λ still. elim still [ ];
-    after_flush = since_on cuts;
-  }
+  stopped cuts = grind (arith, held.plan_is, since_on cuts, each_midway plan view.under next (state view.start), cuts)
 
 -- this is the next call of a new image
 abbrev pub TellsImage : {M : Type 0} → (M → State) → NewImage → List ℕ → Call → List ℕ → Type 0

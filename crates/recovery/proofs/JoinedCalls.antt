@@ -70,7 +70,7 @@ long_as entries numbers names = let f : Entry → ℕ = λ e. e.0 in ap (λ (l :
 -- the log ends before home
 pub log_ends : (shape : Shape) → IsFirstHome shape.format shape.slots shape.home
     → 2 + (layout_of shape.format).slot_sectors * shape.slots ≤ first_home shape
-log_ends shape home = let same = ap (λ (n : ℕ). n * shape.slots) (sectors_are shape.format) in omega (arith, same, home.0)
+log_ends shape home = grind (arith, sectors_are shape.format)
 
 -- a record is the same in images with the same log
 pub whole_same : (shape : Shape) (before image : Image) (stamp : ℕ) (entries : List Entry) → 1 ≤ shape.slots
@@ -134,8 +134,8 @@ pub zeros_fresh : (shape : Shape) (array : Array) (next : ℕ) (image : Image) �
 zeros_fresh shape array next image super head zeros home =
     let L = layout_of shape.format in
     let carries : CarriesBelow shape image next = λ slot o stamp low small carries.
-    let inside = in_log L.slot_sectors slot shape.slots o low small in
-    let here = zeros (2 + L.slot_sectors * slot + o) (omega arith) (omega (arith, inside, log_ends shape super.home_is)) in
+    let here = zeros (2 + L.slot_sectors * slot + o) (omega arith)
+    (omega (arith, in_log L.slot_sectors slot shape.slots o low small, log_ends shape super.home_is)) in
     omega (arith, (laws_of shape.format).zeros o stamp (rw here at carries), head.least) in
     search (rules, home, carries)
 
@@ -171,10 +171,6 @@ quiet_before P old mid quiet h =
 -- and what held before them holds after them
 pub quiet_after : (P : ℕ → Image → Type 0) (old mid : State) → IsQuiet old mid → P old.size old.content → P mid.size mid.content
 quiet_after P old mid quiet = quiet_before (λ n i. P n i → P mid.size mid.content) old mid quiet (λ h. h)
-
--- the calls for a few and for one more
-pub one_more : (each few many : ℕ) → few < many → each * few + each ≤ each * many
-one_more each few many less = omega (arith, mul-le-mul_left {m = few + 1} {n = many} each (omega arith))
 
 -- calls that read sectors of the log, and then others that do
 pub looked_on : (shape : Shape) (old mid new : State) → HasShape old.size shape old.content → LooksAtLog old mid

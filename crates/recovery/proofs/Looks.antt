@@ -38,12 +38,7 @@ use Rattle.recovery.proofs.SurveyedRecords.{not_tried}
 use Rattle.recovery.proofs.Tallies.{most_tries}
 
 read_none : (m : State) → HasReadFirst 0 m m
-read_none m = record {
-  quiet = quiet_start m;
-  reads = λ kind other. refl;
-  calls = omega arith;
-  looks = λ near holds. no_looks (λ s. s < near) m m refl;
-}
+read_none m = grind (arith, quiet_start m, λ (near : ℕ) (holds : HoldsLog near m.size m.content). no_looks (λ s. s < near) m m refl)
 
 read_one : {count place : ℕ} {mid now new : State} {bytes got : List ℕ} {result : Result (Unit {0}) MediumFault}
     → HasReadFirst count mid now

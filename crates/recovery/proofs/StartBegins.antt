@@ -54,18 +54,14 @@ module _ (least : ℕ) where
         → HoldsStart state least at had start m → Performed call bytes got (Err e) (state m) (state n)
         → LeavesAtLeast least (state start) (state n)
         → HoldsStart state least (stage.Refused (start_fault_of (fault_of call))) got start n
-    refused_start {start = start} {m = m} {n = n} {call = call} held performed leaves =
+    refused_start {start = start} {n = n} {call = call} held performed leaves =
         let moments = held.leaves.moments in
         let kind = fault_of call in
         let cause : IsRefusedCall (state start) (state n) kind = record {
           grew = omega (arith, moments.failures_stay, performed.passes.failures_are);
           kind_grew = omega (arith, moments.refused_stay kind, performed.passes.refused_are);
         } in
-        record {
-          leaves = leaves;
-          well = λ live. absurd live;
-          midway = ended_by (start_fault_of kind) leaves (refused_kind kind cause);
-        }
+        record { leaves = leaves; well = λ live. absurd live; midway = ended_by (start_fault_of kind) leaves (refused_kind kind cause) }
 
     -- a fault of the image ends it
     pub faulted_start : {start n : M} {got : List ℕ} (fault : StartFault) → LeavesAtLeast least (state start) (state n)

@@ -31,10 +31,13 @@ head_writes : (found : Found) (copied : State) {old new : State} {bytes got : Li
     → IsFlushedAgain found copied old → EachCut (Moved found copied) old → IsHead (found.head + found.count + 1) bytes
     → Performed (Write 1) bytes got result old new → Writes (Moved found copied) 2 1 old new result
 head_writes found copied {old = old} {new = new} {bytes = bytes} sound flushed each head performed =
-    let last : EachCut (Moved found copied) new = λ image cut. ⊎_elim (each image) (λ w. inr (record {
-      head = rw w.2.here head;
-      elsewhere = λ x not. w.2.elsewhere x not ∙ flushed.1 x (w.0 x) (w.1 x);
-    })) (after_write old sound new.may_leave 1 bytes performed.adds image cut) in
+    let last : EachCut (Moved found copied) new = λ image cut. grind (
+      arith,
+      each image,
+      flushed.1,
+      head,
+      after_write old sound new.may_leave 1 bytes performed.adds image cut,
+    ) in
     search (
       rules,
       one_call (Moved found copied) old new sound performed.passes each last,

@@ -4,15 +4,11 @@ use Rattle.std.proofs.Common.{None, Some, slice_index}
 use Rattle.std.proofs.lemmas.List.{length-append, get_or_append_left, get_or_push}
 use Rattle.std.proofs.lemmas.List.Sums.{sum_by_push}
 use Rattle.medium.specs.Medium.{Image}
-use Rattle.journal.specs.declared.log_format.LogFormat.{LogFormat}
+use Rattle.journal.specs.{declared.log_format.LogFormat.LogFormat, declared.record.Record.Record, Places.Shape, Layout.slot_at}
 use Rattle.journal.specs.declared.log_format.LogFormat.TheVariants.{One, Two}
-use Rattle.journal.specs.declared.record.Record.{Record}
-use Rattle.journal.specs.Places.{Shape}
-use Rattle.journal.specs.Layout.{slot_at}
-use Rattle.journal.specs.Format2.{descriptors_of, format2}
+use Rattle.journal.specs.{Format2.descriptors_of, Format2.format2, Formats.HasWhole}
 use Rattle.journal.specs.Reading.{StopsAtBad, ReadsUpToBad, HasDescriptor, HasPlace, NamesBlocks, IsReadFor}
 use Rattle.journal.specs.Reading.{IsReadForStamps}
-use Rattle.journal.specs.Formats.{HasWhole}
 use Rattle.journal.proofs.SlotTwo.{each_there, commit_count}
 use Rattle.recovery.specs.Causes.{IsReadInSlot, IsTryTwo, IsTryOf, AreTriesOf, HasCount, AreCounts}
 

@@ -42,8 +42,7 @@ pub served_look : (old new : State) (fault : StartFault) → IsLookCause old new
     → IsDeviceFault fault
 served_look old new NoMemory h s = absurd h
 served_look old new fault h s =
-    let faultless = λ (f : image.ImageFault)
-    (h : image.HasFault old.size old.content f). HasFault-stands old.size old.content f h s in
+    let faultless = λ (f : image.ImageFault) (h : image.HasFault old.size old.content f). HasFault-stands old.size old.content f h s in
     search (rules, faultless, h)
 
 -- and so is a start, with a stamp left and enough slots
@@ -228,10 +227,7 @@ module _ (least : ℕ) {old mid seen : State} {result : Result (Unit {0}) Medium
     -- the head and the count are those of all for which they stand
     matches : {array : Array} {next : ℕ} (s : StandsFor old.size shape old.content array next)
         → (found.head ≡ s.head) × (found.count ≡ length s.records)
-    matches s = (
-      sym stood.head_is ∙ heads _ _ _ _ _ _ _ _ stood.stands s,
-      sym stood.count_is ∙ counts _ _ _ _ _ _ _ _ stood.stands s,
-    )
+    matches s = (sym stood.head_is ∙ heads _ _ _ _ _ _ _ _ stood.stands s, sym stood.count_is ∙ counts _ _ _ _ _ _ _ _ stood.stands s)
 
     -- a survey follows a good flush
     begun : old.calls + 2 ≤ seen.calls
@@ -269,12 +265,7 @@ module _ (least : ℕ) {old mid seen : State} {result : Result (Unit {0}) Medium
     -- where no record waits none is copied
     sent_none : HasNoneWaiting (shape_of found.sizes) old.content → SendsUpTo 1 old copied
     sent_none none =
-        let first : found.head + 0 ≡ found.head = omega arith in
-        let no_record : found.count ≡ 0 = elim (cases_lt 0 found.count) [
-          | inl some ↦ absurd (none found.head at_old.head
-              (subst (λ (n : ℕ). HasWhole (shape_of found.sizes) old.content n) first (at_old.count.whole 0 some)))
-          | inr none_left ↦ omega (arith, none_left)
-        ] in
+        let no_record : found.count ≡ 0 = grind (arith, none found.head at_old.head, at_old.count.whole 0) in
         omega (arith, one_sent, rw no_record at copying.sent)
 
     -- at any moment from the first write on each image is ours for the contents
@@ -293,9 +284,7 @@ module _ (least : ℕ) {old mid seen : State} {result : Result (Unit {0}) Medium
       -- the records of what the contents stand for are copied
       all_copied : {array : Array} {next : ℕ} (s : StandsFor old.size shape old.content array next)
           → AreCopied shape s.records seen copied
-      all_copied s =
-          let f = matches s in
-          done s.records f.1 (λ k less. rw (same, f.0) (s.keeps.whole k less))
+      all_copied s = let f = matches s in done s.records f.1 (λ k less. rw (same, f.0) (s.keeps.whole k less))
 
       copied_home : {array : Array} {next : ℕ} → StandsFor old.size shape old.content array next
           → AreSame shape (home_of shape copied.content) array

@@ -57,7 +57,7 @@ stays_fresh : {plan : ImagePlan} {under : Under} {shape sizes : Shape} {array : 
     → IsFresh shape array plan.head.stamp under.image → WithOrWithout 0 (under.image 0) m.may_leave image
     ⊎ (IsPart plan under image ⊎ IsWritten sizes plan.head.stamp (first_home shape) under.image image)
     → IsFresh shape array plan.head.stamp image ⊎ IsFresh (migrated shape) array plan.head.stamp image
-stays_fresh {plan = plan} {under = under} m two same flushed ends sized fresh may =
+stays_fresh {plan = plan} {under = under} {sizes = sizes} {image = image} m two same flushed ends sized fresh may =
     ⊎_elim (λ was. inl (still_fresh {plan = plan} {under = under} two ends fresh (flushed_part m same flushed was)))
     (λ is. ⊎_elim (λ part. inl (still_fresh two ends fresh part)) (λ new. inr (new_fresh sized fresh new)) is) may
 
