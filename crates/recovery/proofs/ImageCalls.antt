@@ -18,7 +18,7 @@ use Rattle.journal.specs.Sectors.{IsHead, IsSuper}
 use Rattle.journal.specs.Formats.{shape_of}
 use Rattle.recovery.specs.NewImage.{ImageView, Under, Shows, IsBlank, IsHeaded, IsPart, IsPartAt, IsNew, IsPartOrNew, HasImage, MidwayImage}
 use Rattle.recovery.specs.Calls.{Writes}
-use Rattle.recovery.proofs.DrivenCalls.{refused_call, none_read}
+use Rattle.recovery.proofs.JoinedCalls.{refused_call, none_read}
 use Rattle.recovery.specs.NewImage.{HoldsImage, MayBeImage, IsLive, IsAfter, image_left, each_midway}
 use Rattle.recovery.specs.declared.image_plan.ImagePlan.{ImagePlan}
 use Rattle.recovery.specs.declared.new_image.NewImage.{NewImage}

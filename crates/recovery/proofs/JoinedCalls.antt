@@ -1,37 +1,35 @@
 -- Calls, and then others: what they are together, and what is left at each moment of them; and records that are copied home.
-use Rattle.std.proofs.Common.{◌≡◌, inl, inr, ℕ, ◌+◌, ◌*◌, ◌<◌, ◌≤◌, List, [], length, get_or, refl, ◌∙◌, ap, subst, ◌⊎◌}
-use Rattle.std.proofs.Common.{⊎_elim, replicate, sym, arith, rules, Result, mul-le-mul_left, ◌≢◌, IfErr, OnOk}
+use Rattle.std.proofs.Common.{◌≡◌, inl, inr, ℕ, ◌+◌, ◌*◌, ◌<◌, ◌≤◌, List, [], length, get_or, refl, ◌∙◌, ap, subst, ◌⊎◌, ⊎_elim, replicate, sym}
+use Rattle.std.proofs.Common.{arith, rules, Result, mul-le-mul_left, ◌≢◌, IfErr, OnOk, Ok, Err}
 use Rattle.std.proofs.Math.ListN.{get_or-map}
 use Rattle.std.proofs.lemmas.Bool.{cases_eq}
 use Rattle.std.proofs.lemmas.List.{length-map}
+use Rattle.std.proofs.lemmas.Result.{on_ok_weaker}
 use Rattle.medium.specs.Medium.{State, Image, Sets, CutLeaves, Within, IsSound, LooksOnly, Stays, Passes}
 use Rattle.medium.specs.Moments.{LeavesOnly, StaysWithin, SparesFrom, IsQuiet, EachCut}
-use Rattle.medium.proofs.Moments.{at_exit, updated, updated_here, updated_elsewhere, quiet_leaves}
-use Rattle.medium.proofs.Moments.{joined_same, weaker, quiet_call}
+use Rattle.medium.specs.declared.fault.MediumFault.{MediumFault}
+use Rattle.medium.specs.declared.fault.MediumFault.TheVariants.{Read, Flush}
+use Rattle.medium.specs.Tally.{Tally, of_kind}
+use Rattle.medium.specs.Machine.{Tallied}
+use Rattle.medium.proofs.Moments.{at_exit, updated, updated_here, updated_elsewhere, quiet_leaves, joined_same, weaker, quiet_call}
 use Rattle.medium.proofs.SparedSectors.{HasSpared, spared_joined, spared_quiet}
+use Rattle.medium.proofs.SectorsRead.{looks_joined, looks_below}
+use Rattle.medium.proofs.Tallies.{none_made, none_refused, refusal_counts, nothing_looked}
 use Rattle.spec.specs.Blocks.{Array}
 use Rattle.journal.specs.Places.{Shape, first_home, sectors_of, IsFirstHome}
 use Rattle.journal.specs.Record.{Entry, numbers_of, with_records, home_of, Hides}
 use Rattle.journal.specs.Formats.{layout_of, IsWhole, HasWhole, CarriesBelow}
-use Rattle.journal.proofs.Formats.{laws_of, sectors_are}
-use Rattle.journal.proofs.Wholeness.{IsWhole-one, IsWhole-same, slot_inside, CarriesBelow-agree}
 use Rattle.journal.specs.Sectors.{IsSuper, IsHead}
-use Rattle.journal.specs.Standing.{IsOurs, Keeps}
-use Rattle.journal.proofs.Wholeness.{in_log}
+use Rattle.journal.specs.Standing.{IsOurs, Keeps, HasShape}
 use Rattle.journal.specs.Staged.{View, Resting}
-use Rattle.journal.proofs.Engine.{rests_found, none_carried}
-use Rattle.journal.proofs.Wholeness.{with_records-same, records-hide}
-use Rattle.recovery.specs.Calls.{IsHomeOf, IsHomeInRecords, LooksAtLog}
-use Rattle.recovery.specs.Calls.{Writes, cleared_at, WithOrWithout, IsBetween, IsNoneOrNew, ImageLeaves}
-use Rattle.recovery.specs.Calls.{IsMade, IsWritten, IsNoneOrWritten, WritesImage}
-use Rattle.recovery.specs.Recovered.{IsFresh, HasNoneWaiting}
-use Rattle.medium.specs.declared.fault.MediumFault.{MediumFault}
-use Rattle.medium.proofs.SectorsRead.{looks_joined, looks_below}
-use Rattle.journal.specs.Standing.{HasShape}
 use Rattle.journal.specs.Reading.{IsRefusedCall}
+use Rattle.journal.proofs.Formats.{laws_of, sectors_are}
+use Rattle.journal.proofs.Wholeness.{IsWhole-one, IsWhole-same, slot_inside, CarriesBelow-agree, in_log, with_records-same, records-hide}
+use Rattle.journal.proofs.Engine.{rests_found, none_carried}
 use Rattle.journal.proofs.SectorNumbers.{IsHead-one}
-use Rattle.std.proofs.lemmas.Result.{on_ok_weaker}
-use Rattle.medium.specs.declared.fault.MediumFault.TheVariants.{Read, Flush}
+use Rattle.recovery.specs.Calls.{IsHomeOf, IsHomeInRecords, LooksAtLog, Writes, cleared_at, WithOrWithout, IsBetween, IsNoneOrNew, ImageLeaves}
+use Rattle.recovery.specs.Calls.{IsMade, IsWritten, IsNoneOrWritten, WritesImage, ReadsNothing}
+use Rattle.recovery.specs.Recovered.{IsFresh, HasNoneWaiting}
 
 -- what a cut may leave in one sector an image has there that it may leave
 image_with : (m : State) (s : ℕ) (c : List ℕ) → IsSound m → m.may_leave s c
@@ -240,3 +238,19 @@ image_made {shape = shape} {end = end} {old = old} {new = new} {result = result}
         looked_stays = wrote.writes.reads.looked_stays;
       },
     )
+
+-- the last one was refused, where it did not come to its end
+pub refused_call : {Exact : Type 0} {left rest : Tally} {old new : State} (result : Result (Unit {0}) MediumFault)
+    → Tallied Exact left rest result old new
+    → IfErr result (IsRefusedCall old new)
+refused_call (Ok done) t = tt
+refused_call (Err e) t = let counts = refusal_counts (Err e) t in record { grew = counts.0; kind_grew = counts.1 }
+
+-- none reads
+pub none_read : {Exact : Type 0} {left rest : Tally} {old new : State} {result : Result (Unit {0}) MediumFault}
+    → Tallied Exact left rest result old new
+    → of_kind left Read ≡ 0 → LooksOnly (λ s. s < 0) old new → ReadsNothing old new
+none_read t none_left looks = record {
+  no_read = record { made_stays = none_made t Read none_left; refused_stays = none_refused t Read none_left };
+  looked_stays = nothing_looked _ _ looks;
+}

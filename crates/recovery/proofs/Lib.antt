@@ -1,15 +1,11 @@
 pub mod ImageCalls
 pub mod CopiedBlocks
-pub mod DrivenCalls
-pub mod ClearedSectors
 pub mod JoinedCalls
 pub mod WholeRecovery
 pub mod Tries
 pub mod SurveyedRecords
 pub mod Looks
 pub mod StartBegins
-pub mod StartTold
-pub mod StartSurvey
 pub mod StartCopy
 pub mod StartHead
 pub mod Tallies

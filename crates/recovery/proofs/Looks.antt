@@ -24,7 +24,7 @@ use Rattle.recovery.specs.Calls.{HoldsLog}
 use Rattle.recovery.specs.Causes.{SurveysAtMost, IsRefusalBy, IsSuperCause, AreCounts, AreTries, IsLookCause}
 use Rattle.recovery.specs.Surveying.{HoldsSurveyed, IsSurveyStep}
 use Rattle.recovery.specs.Starting.{IsReadFirst, FindsSuper, FindsHead, IsNewSurvey, CanStart, CanLook}
-use Rattle.recovery.specs.HoldsStart.{HoldsLook, HasLooked, HasReadFirst, HasFound, IsSurveying, IsSurveyedSoFar, TellsSurvey}
+use Rattle.recovery.specs.HoldsStart.{HoldsLook, HasLooked, HasReadFirst, HasFound, HasBegun, IsSurveyedSoFar, TellsSurvey}
 use Rattle.recovery.specs.declared.surveying.Surveying.{Surveying}
 use Rattle.recovery.specs.declared.start_fault.StartFault.{StartFault}
 use Rattle.recovery.specs.declared.start_fault.StartFault.TheVariants as fault
@@ -190,24 +190,26 @@ module _ {M : Type 0} (state : M → State) (sound : (m : M) → IsSound (state 
           (λ goes. rw goes.3 (record {
             reads = head_read performed;
             well = λ live. performed.passes.failures_are ∙ held.well tt;
-            midway = record {
-              sizes = sizes;
-              began = n;
-              found = record { read = seen; has = has };
-              head_is = rw same at found.1;
-              room = λ few.
-                  let one = IsSuper-one few.shape (shape_of sizes) ((state mid).content 0) few.has.super has.super in
-                  goes.0 (rw one at few.one, rw one at few.few);
-              first = goes.1;
-              first_had = got;
-              new = goes.2;
-              so_far = not_driven (λ s had m view holds image cut x. holds.quiet.sets_shrink x (image x) (cut x)) goes.1 got n (sound n);
-            };
+            midway = (
+              record {
+                sizes = sizes;
+                began = n;
+                found = record { read = seen; has = has };
+                head_is = rw same at found.1;
+                room = λ few.
+                    let one = IsSuper-one few.shape (shape_of sizes) ((state mid).content 0) few.has.super has.super in
+                    goes.0 (rw one at few.one, rw one at few.few);
+                first = goes.1;
+                first_had = got;
+                new = goes.2;
+              },
+              not_driven (λ s had m view holds image cut x. holds.quiet.sets_shrink x (image x) (cut x)) goes.1 got n (sound n),
+            );
           })) found.2) finds
 
   module _ {head : ℕ} {survey : Surveying} {had : List ℕ} {m : M} (held : HoldsLook state least (stage.Survey head survey) had mid m) where
-    abbrev at : IsSurveying state least head survey had mid m
-    at = held.midway
+    abbrev at : HasBegun state least head mid
+    at = held.midway.0
 
     -- the count is that of the image as it was
     pub counted_at_end : survey.left ≡ 0 → (at.sizes ≡ survey.reader.sizes)
@@ -215,10 +217,10 @@ module _ {M : Type 0} (state : M → State) (sound : (m : M) → IsSound (state 
         × AreTries (shape_of at.sizes) (state mid).content head (min (length survey.waiting.items + 1) at.sizes.slots)
         ((state mid).calls + 2) (state m).calls
     counted_at_end none =
-        let surveyed = survey_held state at.so_far at.sizes head at.new in
+        let surveyed = survey_held state held.midway.1 at.sizes head at.new in
         let end = surveyed.ended none in
         let same : (state at.began).content ≡ (state mid).content = λ i s. at.found.read.quiet.content_stays s i in
-        let good : (state m).failures ≡ (state at.began).failures = omega (arith, at.so_far.tallied.failures) in (
+        let good : (state m).failures ≡ (state at.began).failures = omega (arith, held.midway.1.tallied.failures) in (
           surveyed.sizes_are,
           rw same at (counts_made (shape_of at.sizes) (state at.began).content head (length survey.waiting.items) survey.waiting.items refl
               (omega (arith, surveyed.few)) surveyed.each end.ends),
@@ -237,7 +239,7 @@ module _ {M : Type 0} (state : M → State) (sound : (m : M) → IsSound (state 
           after.waiting.items
           → HoldsLook state least (stage.Survey head after) got mid n
       survey_looked {after = after} performed step =
-          let so_far = driven_call (λ s had m view holds image cut x. holds.quiet.sets_shrink x (image x) (cut x)) fits_first at.so_far
+          let so_far = driven_call (λ s had m view holds image cut x. holds.quiet.sets_shrink x (image x) (cut x)) fits_first held.midway.1
           tells performed refl after step (λ a b bytes due moved. record {
             reads_stay = rw moved.sizes_stay refl;
             ends_stay = rw moved.sizes_stay refl;
@@ -246,23 +248,13 @@ module _ {M : Type 0} (state : M → State) (sound : (m : M) → IsSound (state 
           record {
             reads = survey_reads state so_far at.sizes head at.new at.found;
             well = λ live. performed.passes.failures_are ∙ held.well tt;
-            midway = record {
-              sizes = at.sizes;
-              began = at.began;
-              found = at.found;
-              head_is = at.head_is;
-              room = at.room;
-              first = at.first;
-              first_had = at.first_had;
-              new = at.new;
-              so_far = so_far;
-            };
+            midway = (at, so_far);
           }
 
       -- or refused
       pub survey_read : {e : MediumFault} → Performed call bytes got (Err e) (state m) (state n) → SurveysAtMost (state mid) (state n)
       survey_read {e = e} performed = survey_reads state (driven_refused
-          (λ s had m view holds image cut x. holds.quiet.sets_shrink x (image x) (cut x)) fits_first at.so_far tells performed e refl survey
+          (λ s had m view holds image cut x. holds.quiet.sets_shrink x (image x) (cut x)) fits_first held.midway.1 tells performed e refl survey
           (record { reader_stays = refl; left_stays = refl; place_stays = refl; counts_stay = refl })) at.sizes head at.new at.found
 
 -- what a start holds at a stage, a look does

@@ -1,6 +1,5 @@
 -- The copies of a start, call by call, and what is home at their end.
-use Rattle.std.proofs.Common.{◌≡◌, ◌∙◌, sym, refl, ⊎_elim, ℕ, ◌+◌, ◌*◌, ◌<◌, ◌≤◌, List, [], length, get_or, arith}
-use Rattle.std.proofs.Common.{Result, Ok, Err, false}
+use Rattle.std.proofs.Common.{◌≡◌, ◌∙◌, sym, refl, ⊎_elim, ℕ, ◌+◌, ◌*◌, ◌<◌, ◌≤◌, List, [], length, get_or, arith, Result, Ok, Err, false, ◌^◌}
 use Rattle.medium.specs.Medium.{State, CutLeaves, IsSound}
 use Rattle.medium.specs.Moments.{LeavesOnly}
 use Rattle.medium.specs.Performed.{Performed}
@@ -14,16 +13,22 @@ use Rattle.journal.specs.Record.{Entry}
 use Rattle.recovery.specs.Calls.{Copies, IsHomeInRecords, freed_at, most_calls_of}
 use Rattle.recovery.specs.Copying.{Copying, HoldsCopied, IsCopyStep, TellsCopy}
 use Rattle.recovery.specs.Recovered.{LeavesAtLeast}
-use Rattle.recovery.specs.Starting.{IsNewCopying, IsCopiedOn}
-use Rattle.recovery.specs.HoldsStart.{HoldsStart, IsCopiedSoFar, IsCopying, HasSurveyed, HasCopied}
+use Rattle.recovery.specs.Starting.{IsNewCopying, IsCopiedOn, IsSurveyedOn, found_by}
+use Rattle.recovery.specs.HoldsStart.{HoldsStart, IsCopiedSoFar, IsCopying, HasSurveyed, HasCopied, HoldsLook, IsFlushedFirst, HasBegun}
 use Rattle.recovery.specs.declared.found.Found.{Found}
 use Rattle.recovery.specs.Stages.{StartStage}
+use Rattle.recovery.specs.Causes.{IsSurvey}
+use Rattle.recovery.specs.declared.surveying.Surveying.{Surveying}
 use Rattle.recovery.proofs.JoinedCalls.{quiet_after}
 use Rattle.recovery.proofs.CopiedBlocks.{gathered, not_copied, all_copied}
 use Rattle.recovery.proofs.Tallies.{most_copies, most_writes}
-use Rattle.recovery.proofs.DrivenCalls.{refused_call}
-use Rattle.recovery.proofs.StartBegins.{surveyed_by}
-use Rattle.recovery.proofs.WholeRecovery.{copies_leave}
+use Rattle.recovery.proofs.JoinedCalls.{refused_call}
+use Rattle.recovery.proofs.StartBegins.{surveyed_by, reads_leave, faulted_start, looked_start}
+use Rattle.recovery.proofs.WholeRecovery.{copies_leave, refusal}
+use Rattle.recovery.proofs.Looks.{counted_at_end}
+use Rattle.journal.proofs.StandingLaws.{count_stands}
+use Rattle.recovery.specs.declared.start_fault.StartFault.TheVariants as fault
+use Rattle.recovery.specs.Stages as stage
 
 module _ {M : Type 0} (state : M → State) (sound : (m : M) → IsSound (state m)) (least : ℕ) {start : M} {found : Found} where
   module _ {seen : M} (surveyed : HasSurveyed state least found start seen) where
@@ -86,55 +91,88 @@ module _ {M : Type 0} (state : M → State) (sound : (m : M) → IsSound (state 
   pub copied_on : {copying : Copying} {had : List ℕ} {n : M} {next : StartStage} → IsCopying state least found copying had start n
       → (state n).failures ≡ (state start).failures → IsCopiedOn found copying next → HoldsStart state least next had start n
   copied_on at well goes =
-      let leaves = copies_leave_so_far at.surveyed at.new at.so_far in
+      let leaves = copies_leave_so_far at.0.surveyed at.0.new at.1 in
       ⊎_elim (λ some. rw some.1 (record { leaves = leaves; well = λ live. well; midway = at }))
-      (λ none. rw none.1 (record { leaves = leaves; well = λ live. well; midway = all_home at.surveyed at.new at.so_far none.0 })) goes
+      (λ none. rw none.1 (record { leaves = leaves; well = λ live. well; midway = all_home at.0.surveyed at.0.new at.1 none.0 })) goes
 
   -- the copying begins
   pub copy_begun : {copying : Copying} {got : List ℕ} {n : M} {next : StartStage} → HasSurveyed state least found start n
       → (state n).failures ≡ (state start).failures → IsNewCopying found copying → IsCopiedOn found copying next
       → HoldsStart state least next got start n
   copy_begun {copying = copying} {got = got} {n = n} surveyed well new goes =
-      copied_on (record {
-        seen = n;
-        surveyed = surveyed;
-        sound = sound n;
-        first = copying;
-        first_had = got;
-        new = new;
-        so_far = not_driven (λ s had m view holds image cut x. holds.within x (image x) (cut x)) copying got n (sound n);
-      }) well goes
+      copied_on (
+        record { seen = n; surveyed = surveyed; sound = sound n; first = copying; first_had = got; new = new },
+        not_driven (λ s had m view holds image cut x. holds.within x (image x) (cut x)) copying got n (sound n),
+      ) well goes
 
   module _ {copying : Copying} {had bytes : List ℕ} {m : M} {call : Call}
       (at : IsCopying state least found copying had start m) (tells : TellsCopy state copying had call bytes) where
-    fits_first : sectors_of (shape_of at.first.reader.sizes) ≤ (state at.seen).size
-    fits_first = rw at.new.sizes_are (fits_seen at.surveyed)
+    fits_first : sectors_of (shape_of at.0.first.reader.sizes) ≤ (state at.0.seen).size
+    fits_first = rw at.0.new.sizes_are (fits_seen at.0.surveyed)
 
     -- a call of it is made
     pub copy_made : {n : M} {got : List ℕ} {after : Copying} {next : StartStage} → (state m).failures ≡ (state start).failures
         → Performed call bytes got (Ok tt) (state m) (state n) → IsCopyStep copying.reader copying.step got after.reader after.step
         → IsCopiedOn found after next → HoldsStart state least next got start n
     copy_made {after = after} well performed step goes =
-        copied_on (record {
-          seen = at.seen;
-          surveyed = at.surveyed;
-          sound = at.sound;
-          first = at.first;
-          first_had = at.first_had;
-          new = at.new;
-          so_far = driven_call (λ s had m view holds image cut x. holds.within x (image x) (cut x)) fits_first at.so_far tells performed
+        copied_on (
+          at.0,
+          driven_call (λ s had m view holds image cut x. holds.within x (image x) (cut x)) fits_first at.1 tells performed
               refl after step (λ a b bytes due moved. record {
                 reads_stay = rw moved.sizes_stay refl;
                 ends_stay = rw moved.sizes_stay refl;
                 fits_still = λ size fits. rw moved.sizes_stay fits;
-              });
-        }) (performed.passes.failures_are ∙ well) goes
+              }),
+        ) (performed.passes.failures_are ∙ well) goes
 
     -- or refused
     pub copy_refused : {n : M} {got : List ℕ} {e : MediumFault} → Performed call bytes got (Err e) (state m) (state n)
         → LeavesAtLeast least (state start) (state n)
     copy_refused {e = e} performed =
         let gone : Copying = record { reader = copying.reader; step = record copying.step { has_bytes = false } } in
-        copies_leave_so_far at.surveyed at.new (driven_refused (λ s had m view holds image cut x. holds.within x (image x) (cut x))
-        fits_first at.so_far tells performed e refl gone
+        copies_leave_so_far at.0.surveyed at.0.new (driven_refused (λ s had m view holds image cut x. holds.within x (image x) (cut x))
+        fits_first at.1 tells performed e refl gone
         (record { reader_stays = refl; left_stays = refl; i_stays = refl; no_bytes = refl }))
+
+module _ {M : Type 0} (state : M → State) (sound : (m : M) → IsSound (state m)) (least : ℕ) {start mid n : M} {head : ℕ}
+    {survey : Surveying} {got : List ℕ} (flushed : IsFlushedFirst (state start) (state mid))
+    (held : HoldsLook state least (stage.Survey head survey) got mid n) where
+  abbrev at : HasBegun state least head mid
+  at = held.midway.0
+
+  -- a stamp is left behind the records
+  survey_done : survey.left ≡ 0 → head + length survey.waiting.items + 1 < 2 ^ 63
+      → HasSurveyed state least (found_by head survey) start n
+  survey_done none left =
+      let counted = counted_at_end state sound least held none in
+      record {
+        mid = mid;
+        flushed = flushed;
+        reads = held.reads;
+        is = rw counted.0 at (let is : IsSurvey least (state mid).size (state mid).content (state mid).calls
+            (state n).calls (record { sizes = at.sizes; head = head; count = length survey.waiting.items }) = record {
+              shape = at.found.has;
+              head = at.head_is;
+              count = counted.1.is;
+              stamp_left = left;
+              room = at.room;
+              exact = counted.2;
+            } in is);
+      }
+
+  -- none is
+  survey_used_up : survey.left ≡ 0 → 2 ^ 63 ≤ head + length survey.waiting.items + 1
+      → HoldsStart state least (stage.Refused fault.StampsUsedUp) got start n
+  survey_used_up none used =
+      let has = at.found.has in
+      let stood = count_stands (state mid).size (shape_of at.sizes) (state mid).content head (length survey.waiting.items) has.fits
+      has.super at.head_is (counted_at_end state sound least held none).1.is in
+      faulted_start least state fault.StampsUsedUp (reads_leave least flushed held.reads)
+      (refusal least (surveyed_by flushed held.reads) fault.StampsUsedUp
+      (at.room, (shape_of at.sizes, stood.array, _, stood.stands, used), held.reads.only.quiet))
+
+  -- the survey goes on, or it came to its end
+  pub survey_on : {next : StartStage} → IsSurveyedOn head survey next → HoldsStart state least next got start n
+  survey_on goes = ⊎_elim (λ some. rw some.1 (looked_start state least flushed (stage.Survey head survey) held))
+      (λ none. ⊎_elim (λ used. rw used.1 (survey_used_up none.0 used.0))
+      (λ on. copy_begun state sound least (survey_done none.0 on.0) (held.well tt ∙ flushed.passes.failures_are) on.2 on.3) none.1) goes

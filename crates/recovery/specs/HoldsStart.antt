@@ -104,9 +104,8 @@ abbrev pub HasMovedHead : Found → State → State → Type 0
 HasMovedHead found old new = HasNewHead (found.head + found.count + 1) old.content new.content
 
 module _ {M : Type 0} (state : M → State) (least : ℕ) where
-  -- the records are surveyed, of a medium that was looked at from there on
-  pub record IsSurveying (head : ℕ) (survey : Surveying) (had : List ℕ) (mid m : M)
-      : Type 0 where
+  -- a survey began, of a medium that was looked at from there on
+  pub record HasBegun (head : ℕ) (mid : M) : Type 0 where
     pub sizes : Super
     pub began : M
     pub found : HasFound sizes 2 (state mid) (state began)
@@ -115,7 +114,11 @@ module _ {M : Type 0} (state : M → State) (least : ℕ) where
     pub first : Surveying
     pub first_had : List ℕ
     pub new : IsNewSurvey sizes head first
-    pub so_far : IsSurveyedSoFar state first first_had began (Ok tt) survey had m
+
+  -- and goes on
+  abbrev pub IsSurveying : ℕ → Surveying → List ℕ → M → M → Type 0
+  IsSurveying head survey had mid m = (b : HasBegun head mid)
+      × IsSurveyedSoFar state b.first b.first_had b.began (Ok tt) survey had m
 
   -- what is so before the next read of a look, or why it was refused
   abbrev pub HasLooked : StartStage → List ℕ → M → M → Type 0
@@ -146,16 +149,19 @@ module _ {M : Type 0} (state : M → State) (least : ℕ) where
     pub is : IsSurvey least (state mid).size (state mid).content (state mid).calls
         (state seen).calls found
 
-  -- the copying goes on
-  pub record IsCopying (found : Found) (copying : Copying) (had : List ℕ) (start m : M)
-      : Type 0 where
+  -- the copying began
+  pub record HasBegunCopying (found : Found) (start : M) : Type 0 where
     pub seen : M
     pub surveyed : HasSurveyed found start seen
     pub sound : IsSound (state seen)
     pub first : Copying
     pub first_had : List ℕ
     pub new : IsNewCopying found first
-    pub so_far : IsCopiedSoFar state first first_had seen (Ok tt) copying had m
+
+  -- and goes on
+  abbrev pub IsCopying : Found → Copying → List ℕ → M → M → Type 0
+  IsCopying found copying had start m = (b : HasBegunCopying found start)
+      × IsCopiedSoFar state b.first b.first_had b.seen (Ok tt) copying had m
 
   -- the records are home
   pub record HasCopied (found : Found) (start copied : M) : Type 0 where

@@ -1,7 +1,6 @@
 pub mod Calls
 pub mod Causes
 pub mod Copying
-pub mod Driven
 pub mod HoldsStart
 pub mod NewImage
 pub mod Recovered

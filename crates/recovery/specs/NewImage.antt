@@ -1,13 +1,13 @@
--- What a new image and a medium hold while it is written.
+-- What a new image and a medium hold while it is written, and what those hold of which sectors are cleared.
 use Rattle.std.specs.Prelude.{◌≡◌, ◌≢◌, ◌⊎◌, ℕ, ◌+◌, ◌-◌, ◌≤◌, ◌<◌, false}
 use Rattle.std.specs.Prelude.{if◌then◌else◌, replicate}
 use Rattle.std.proofs.Common.{inl, inr}
-use Rattle.medium.specs.Medium.{State, Image, CutLeaves, Holds, Stays}
+use Rattle.medium.specs.Medium.{State, Image, CutLeaves, Holds, Stays, Within}
 use Rattle.medium.specs.Moments.{EachCut, IsFlushed}
 use Rattle.medium.specs.Tally.{Tally, none, of_all}
 use Rattle.journal.specs.Formats.{shape_of}
 use Rattle.journal.specs.Sectors.{IsHead}
-use Rattle.recovery.specs.Calls.{IsBetween, IsWritten, WithOrWithout}
+use Rattle.recovery.specs.Calls.{IsBetween, IsWritten, WithOrWithout, cleared_at}
 use Rattle.recovery.specs.declared.image_plan.ImagePlan.{ImagePlan}
 use Rattle.recovery.specs.declared.image_stage.ImageStage.{ImageStage}
 use Rattle.recovery.specs.declared.image_stage.ImageStage.TheVariants as stage
@@ -150,3 +150,22 @@ pub record HoldsImage {M : Type 0} (state : M → State) (at : ImageStage) (plan
       → (state m).calls + of_all (image_left at plan.end) ≡ view.since + (plan.end + 3)
   pub after_flush : view.since + 1 ≤ (state m).calls → (image : Image)
       → (state m).left_since view.since image → IsPartOrNew plan view.under image
+
+-- ---- sectors that are cleared
+
+-- the medium when the sectors from this one up to that one began to be cleared
+pub record ClearView (M : Type 0) : Type 0 where
+  pub start : M
+  pub from : ℕ
+  pub end : ℕ
+
+-- Those before this one are cleared, and a cut may leave zeros in them all.
+pub record HoldsCleared {M : Type 0} (state : M → State) (at end : ℕ) (view : ClearView M) (m : M)
+    : Type 0 where
+  pub begun : view.from ≤ at
+  pub end_is : view.end ≡ end
+  pub zeros : (x : ℕ) → view.from ≤ x → x < at → (state m).content x ≡ replicate 512 0
+  pub elsewhere : (x : ℕ) → ¬ IsBetween view.from end x
+      → (state m).content x ≡ (state view.start).content x
+  pub within : Within (state m).may_leave
+      (cleared_at (IsBetween view.from view.end) (state view.start).may_leave)

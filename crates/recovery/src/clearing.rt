@@ -1,7 +1,7 @@
 //! The clearing of sectors, call by call.
 ghost use Rattle.std.specs.Prelude.{◌≡◌, ◌<◌, ◌≤◌, ◌+◌, ◌-◌};
 ghost use Rattle.recovery.specs.Calls.{cleared_at, IsBetween};
-ghost use Rattle.recovery.specs.Driven.{ClearView, HoldsCleared};
+ghost use Rattle.recovery.specs.NewImage.{ClearView, HoldsCleared};
 ghost use Rattle.medium.specs.Medium.{CutLeaves};
 
 use medium::{Call, Machine, Medium};

@@ -1,7 +1,7 @@
 -- An inspection is a look whose reads are made.
 use Rattle.recovery.specs.Starting.{look_at}
 use Rattle.recovery.specs.HoldsStart.{HoldsLook}
-use Rattle.recovery.proofs.StartTold.{looked_or_not, at_end}
+use Rattle.recovery.proofs.StartBegins.{looked_or_not, at_end}
 use Rattle.recovery.proofs.inspection.inspect.Goals as goal
 use Rattle.recovery.proofs.inspection.inspect.Goals.{After-drive}
 

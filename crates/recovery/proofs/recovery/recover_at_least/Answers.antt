@@ -1,6 +1,6 @@
 -- A recovery is a start whose calls are made.
 use Rattle.recovery.specs.HoldsStart.{HoldsStart}
-use Rattle.recovery.proofs.StartTold.{stage_of, ended_or_not, at_end}
+use Rattle.recovery.proofs.StartBegins.{stage_of, ended_or_not, at_end}
 use Rattle.recovery.proofs.recovery.recover_at_least.Goals as goal
 use Rattle.recovery.proofs.recovery.recover_at_least.Goals.{After-drive}
 

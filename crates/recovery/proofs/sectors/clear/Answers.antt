@@ -5,8 +5,8 @@ use Rattle.medium.specs.Medium.{CutLeaves}
 use Rattle.medium.specs.Moments.{LeavesOnly}
 use Rattle.medium.specs.Tally.{Tally}
 use Rattle.recovery.specs.Calls.{cleared_at, IsBetween}
-use Rattle.recovery.specs.Driven.{HoldsCleared}
-use Rattle.recovery.proofs.DrivenCalls.{refused_call, none_read}
+use Rattle.recovery.specs.NewImage.{HoldsCleared}
+use Rattle.recovery.proofs.JoinedCalls.{refused_call, none_read}
 use Rattle.recovery.proofs.sectors.clear.Goals as goal
 use Rattle.recovery.proofs.sectors.clear.Goals.{After-drive}
 

@@ -7,13 +7,13 @@ use Rattle.journal.specs.Formats.{shape_of}
 use Rattle.recovery.specs.Starting.{head_calls, all_calls, home_calls, both}
 use Rattle.recovery.proofs.Looks.{super_read, super_looked, head_read, head_looked, survey_read, survey_looked}
 use Rattle.recovery.proofs.StartBegins.{flushed_first, first_made, looked_start, reads_leave}
-use Rattle.recovery.proofs.StartSurvey.{survey_on}
+use Rattle.recovery.proofs.StartCopy.{survey_on}
 use Rattle.recovery.proofs.StartCopy.{copy_made, copy_refused}
 use Rattle.recovery.proofs.StartHead.{copies_flush_made, copies_flush_leaves, head_write_made, head_write_leaves, head_flush_made}
 use Rattle.recovery.proofs.StartHead.{head_flush_leaves}
 use Rattle.recovery.proofs.Tallies.{all_more, first_left, super_left, head_left, few_left, none_left_of, both_more, both_left}
 use Rattle.recovery.proofs.Tallies.{left_through, survey_goes_left, copied_left, reads_only}
-use Rattle.recovery.proofs.StartTold.{told, told_by, both_told, within_more, reads_more}
+use Rattle.recovery.proofs.StartBegins.{told, told_by, both_told, within_more, reads_more}
 use Rattle.recovery.proofs.Tallies.{no_tries_left}
 use Rattle.recovery.proofs.Tallies.{none_left}
 use Rattle.recovery.proofs.starting.StartingMachine.next.Goals as goal
