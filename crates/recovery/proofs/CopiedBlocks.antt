@@ -1,7 +1,7 @@
 -- Records are copied home, call by call.
 use Rattle.std.proofs.Common.{◌≡◌, ◌≢◌, ◌<◌, ◌≤◌, ◌+◌, ◌*◌, ◌++◌, ℕ, List, [], ◌∷◌, length, drop, get_or, take, inl, inr, ⊎_elim}
 use Rattle.std.proofs.Common.{◌∙◌, sym, ap, refl, arith, Ok, Err, Result, true, false, Some, zero, suc}
-use Rattle.std.proofs.lemmas.Bool.{cases_eq, cases_lt}
+use Rattle.std.proofs.lemmas.Bool.{cases_lt}
 use Rattle.std.proofs.lemmas.List.{take_more, take_all, length-append, get_or_append_left, get_or_push}
 use Rattle.medium.specs.Medium.{State, Image}
 use Rattle.medium.specs.Performed.{Performed}

@@ -1,6 +1,6 @@
 -- Calls, and then others: what they are together, and what is left at each moment of them; and records that are copied home.
 use Rattle.std.proofs.Common.{◌≡◌, inl, inr, ℕ, ◌+◌, ◌*◌, ◌<◌, ◌≤◌, List, [], length, get_or, refl, ◌∙◌, ap, subst, ◌⊎◌, ⊎_elim, replicate, sym}
-use Rattle.std.proofs.Common.{arith, rules, Result, mul-le-mul_left, ◌≢◌, IfErr, OnOk, Ok, Err}
+use Rattle.std.proofs.Common.{arith, rules, Result, ◌≢◌, IfErr, OnOk, Ok, Err}
 use Rattle.std.proofs.Math.ListN.{get_or-map}
 use Rattle.std.proofs.lemmas.Bool.{cases_eq}
 use Rattle.std.proofs.lemmas.List.{length-map}

@@ -1,5 +1,5 @@
 -- The last calls of a start: the flush of the copies, the new head and its flush.
-use Rattle.std.proofs.Common.{◌≡◌, ◌⊎◌, inl, inr, ◌∙◌, sym, ⊎_elim, ℕ, ◌+◌, ◌≤◌, List, arith, rules, Result, Ok}
+use Rattle.std.proofs.Common.{◌≡◌, ◌⊎◌, inl, ◌∙◌, sym, ℕ, ◌+◌, ◌≤◌, List, arith, rules, Result, Ok}
 use Rattle.medium.specs.Medium.{State, Image, CutLeaves, IsSound}
 use Rattle.medium.specs.Moments.{EachCut}
 use Rattle.medium.specs.Performed.{Performed}

@@ -1,5 +1,4 @@
 use Rattle.std.proofs.Common.{inl, inr, refl, arith}
-use Rattle.recovery.specs.Copying.{copying_of}
 use Rattle.recovery.proofs.starting.StartingMachine.made.Goals as goal
 
 pub returns-in-FlushFirst : goal.returns-in-FlushFirst
