@@ -184,12 +184,12 @@ module _ {M : Type 0} {state : M → State} {reader : RecordReader} {step : Copy
 
       copied_before : (k : ℕ) → k < step.i → (state n).content (first_home (shape_of view.sizes) + get_or reader.read.numbers.items k 0)
           ≡ block_of (get_or view.records held.home []) k
-      copied_before k before = others _ (λ e. omega (arith, e, here, rising k before)) ∙ held.copied k before
+      copied_before k before = grind (arith, others, here, rising k before, held.copied k before)
 
       elsewhere : (x : ℕ)
           → ¬ IsHomeInRecords (shape_of view.sizes) (state view.start).content view.head (length view.records) x
           → (state n).content x ≡ (state view.start).content x
-      elsewhere x not = others x (λ e. not (rw e at_home)) ∙ held.elsewhere x not
+      elsewhere x not = grind (arith, others x, not, at_home, held.elsewhere x)
 
       within : (x : ℕ) (c : List ℕ) → (state n).may_leave x c
           → freed_at (IsHomeInRecords (shape_of view.sizes) (state view.start).content view.head (length view.records))
@@ -317,11 +317,7 @@ gathered P (suc count) each =
     let last = each count (omega arith) in (
       before.0 ++ last.0 ∷ [],
       omega (arith, before.1, length-append before.0 (last.0 ∷ [])),
-      λ j below. elim (cases_lt j count) [
-        | inl less ↦ rw (get_or_append_left before.0 (last.0 ∷ []) [] j (omega (arith, less, before.1))) (before.2 j less)
-        | inr more ↦
-            let same : j ≡ count = omega (arith, below, more) in rw (same, get_or_push before.0 last.0 [] count before.1) last.1
-      ],
+      λ j below. grind (arith, get_or_append_left before.0 (last.0 ∷ []) [] j, before.2 j, get_or_push before.0 last.0 [] count before.1, last.1),
     )
 
 -- before the first call

@@ -36,10 +36,7 @@ image_with : (m : State) (s : ℕ) (c : List ℕ) → IsSound m → m.may_leave 
     → (image : Image) × CutLeaves m.may_leave image × (image s ≡ c)
 image_with m s c sound left = (
   updated m.content s c,
-  λ t. elim (cases_eq t s) [
-    | inl is ↦ rw (updated_here m.content s c t is, is) left
-    | inr not ↦ rw (updated_elsewhere m.content s c t not) (sound.holds_content t)
-  ],
+  λ t. grind (arith, updated_here m.content s c t, updated_elsewhere m.content s c t, sound.holds_content t, left),
   updated_here m.content s c s refl,
 )
 
@@ -187,9 +184,8 @@ pub through_spares : (first place : ℕ) (bytes : List ℕ) (old new : State) �
     → ((x : ℕ) → x ≢ place → new.content x ≡ old.content x) → LeavesOnly (WithOrWithout place bytes old.may_leave) old new
     → SparesFrom first old new
 through_spares first place bytes old new below sound elsewhere moments =
-    let apart : (s : ℕ) → first ≤ s → s ≢ place = λ s le same. omega (arith, le, same, below) in
-    spared_by first old new sound (λ s le. elsewhere s (apart s le)) (weaker _ _ _ _
-    (λ image either s le. ⊎_elim (λ cut. cut s) (λ w. rw (← w.2.elsewhere s (apart s le)) at (w.1 s)) either) moments)
+    spared_by first old new sound (λ s le. elsewhere s (λ same. omega (arith, le, same, below))) (weaker _ _ _ _
+    (λ image either s le. grind (arith, either)) moments)
 
 -- sectors before these are cleared
 pub clear_spares : (first end : ℕ) (old new : State) → IsSound new
@@ -197,8 +193,7 @@ pub clear_spares : (first end : ℕ) (old new : State) → IsSound new
     → StaysWithin (cleared_at (IsBetween first end) old.may_leave) old new → SparesFrom end old new
 clear_spares first end old new sound elsewhere within =
     spared_by end old new sound (λ s le. elsewhere s (λ between. omega (arith, le, between.1)))
-    (weaker _ _ _ _
-    (λ image cut s le. ⊎_elim (λ was. was) (λ zeros. absurd (omega (arith, le, zeros.0.1))) (cut s)) within)
+    (weaker _ _ _ _ (λ image cut s le. grind (arith, cut s)) within)
 
 module _ {P : Image → Type 0} where
   -- some calls, and then others

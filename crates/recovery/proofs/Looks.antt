@@ -109,11 +109,7 @@ module _ {M : Type 0} (state : M → State) (sound : (m : M) → IsSound (state 
   -- it begins: there are sectors, or none
   pub look_begun : {sectors : ℕ} {next : StartStage} {got : List ℕ} → sectors ≡ (state mid).size → IsReadFirst sectors next
       → HoldsLook state least next got mid mid
-  look_begun size goes = ⊎_elim (λ none. rw none.1 (record {
-    reads = unread (state mid);
-    well = λ live. absurd live;
-    midway = ((inl (sym size ∙ none.0), quiet_start (state mid)), λ e. cc e);
-  })) (λ some. rw some.1 (record { reads = unread (state mid); well = λ live. refl; midway = refl })) goes
+  look_begun size goes = grind (arith, unread (state mid), quiet_start (state mid))
 
   module _ {m n : M} {had bytes got : List ℕ} where
     -- a read was refused
@@ -260,7 +256,7 @@ module _ {M : Type 0} (state : M → State) (sound : (m : M) → IsSound (state 
 -- what a start holds at a stage, a look does
 pub can_look : {sectors : ℕ} {at : StartPoint} {survey : Surveying} {step : CopyStep} → CanStart sectors at survey step
     → CanLook sectors at survey
-can_look can = record { super = can.super; head = can.head; fits = λ head is. (can.survey_goes head is).fits }
+can_look can = grind (arith, can.super, can.head, can.survey_goes)
 
 -- a look that asks for no slots is refused by the device, or by a fault of the image
 pub look_cause : (old new : State) (why : StartFault) → IsRefusalBy 0 IsQuiet old new why → why ≢ fault.StampsUsedUp

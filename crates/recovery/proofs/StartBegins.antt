@@ -73,27 +73,19 @@ module _ (least : ℕ) where
     pub faulted_start : {start n : M} {got : List ℕ} (fault : StartFault) → LeavesAtLeast least (state start) (state n)
         → IsRefusalBy least WritesNothing (state start) (state n) fault
         → HoldsStart state least (stage.Refused fault) got start n
-    faulted_start fault leaves cause =
-        record { leaves = leaves; well = λ live. absurd live; midway = ended_by fault leaves cause }
+    faulted_start fault leaves cause = grind (arith, ended_by fault leaves cause)
 
 module _ {M : Type 0} (state : M → State) (least : ℕ) {start mid n : M} {got : List ℕ}
     (flushed : IsFlushedFirst (state start) (state mid)) where
   looking : {at : StartStage} → HoldsLook state least at got mid n → (state n).failures ≡ (state mid).failures
       → IsMidstart state least at got start n → HoldsStart state least at got start n
-  looking held well midway = record {
-    leaves = reads_leave least flushed held.reads;
-    well = λ live. well ∙ flushed.passes.failures_are;
-    midway = midway;
-  }
+  looking held well midway = grind (arith, reads_leave least flushed held.reads, midway, flushed.passes.failures_are)
 
   -- it looks behind a good flush
   pub looked_start : (at : StartStage) → HoldsLook state least at got mid n → HoldsStart state least at got start n
-  looked_start stage.ReadSuper held = looking held (held.well tt) (mid, flushed, held)
-  looked_start (stage.ReadHead sizes) held = looking held (held.well tt) (mid, flushed, held)
-  looked_start (stage.Survey head survey) held = looking held (held.well tt) (mid, flushed, held)
   looked_start (stage.Refused fault) held = faulted_start least state fault (reads_leave least flushed held.reads)
       (refusal least (surveyed_by flushed held.reads) fault held.midway.0)
-  looked_start at held = absurd held.midway
+  looked_start at held = grind (arith, looking held, held, flushed)
 
 module _ {M : Type 0} (state : M → State) (sound : (m : M) → IsSound (state m)) (least : ℕ) {start m n : M} {had bytes got : List ℕ} where
   -- the first flush

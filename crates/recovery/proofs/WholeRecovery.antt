@@ -287,8 +287,7 @@ module _ (least : ℕ) {old mid seen : State} {result : Result (Unit {0}) Medium
 
       copied_home : {array : Array} {next : ℕ} → StandsFor old.size shape old.content array next
           → AreSame shape (home_of shape copied.content) array
-      copied_home s b below = (all_copied s).home b
-          ∙ ap (λ (i : Image). with_records s.records (home_of shape i) b) same ∙ s.keeps.blocks b below
+      copied_home s b below = grind (arith, (all_copied s).home b, same, s.keeps.blocks b below)
 
       -- the new head, once every block is at home
       moved_fresh : {array : Array} {next : ℕ} {image : Image} → IsOurs old.size shape old.content array next
@@ -297,14 +296,9 @@ module _ (least : ℕ) {old mid seen : State} {result : Result (Unit {0}) Medium
           let f = matches ours.stands in
           let super = ours.stands.keeps.super in
           let ends = log_ends shape super.home_is in
-          record {
-            super = rw (moved.elsewhere 0 (λ e. omega arith), copied_log 0 (omega (arith, ends))) super;
-            head = subst (λ (n : ℕ). IsHead n (image 1)) (omega (arith, f.0, f.1, ours.stands.next_is)) moved.head;
-            home = λ b below. moved.elsewhere (first_home shape + b) (λ e. omega (arith, e, ends)) ∙ copied_home ours.stands b below;
-            carries = CarriesBelow-agree (layout_of shape.format) (laws_of shape.format) shape old.content image next
-                (λ x low high. moved.elsewhere x (λ e. omega (arith, low, e))
-                ∙ copied_log x (omega (arith, high, ends))) ours.carries;
-          }
+          let carries = CarriesBelow-agree (layout_of shape.format) (laws_of shape.format) shape old.content image next
+          (λ x low high. moved.elsewhere x (λ e. omega (arith, low, e)) ∙ copied_log x (omega (arith, high, ends))) ours.carries in
+          grind (arith, moved.elsewhere, copied_log 0, super, ends, f, ours.stands.next_is, moved.head, copied_home ours.stands, carries)
 
       -- the copies, and perhaps the new head
       pub moves_leave : {new : State} {count : ℕ} {moves : Result (Unit {0}) MediumFault} → count ≤ 3

@@ -111,8 +111,7 @@ module _ {old mid : State} {found : _} (start : IsRecoveredFrom old mid found ×
 
 -- such a call refuses a start
 call_refuses : (old new : State) (kind : _) → IsRefusedCall old new kind → IsMigrationRefusal old new (start_fault_of kind)
-call_refuses old new medium.Read h = search rules
-call_refuses old new kind h = search rules
+call_refuses old new kind h = grind arith
 
 -- format 2 is made, good or refused
 makes : (g : _) (c : After-make_two g) → MigrationLeaves (g.M.Medium.state c.args.m.now) (g.M.Medium.state c.make_two.new.m)
