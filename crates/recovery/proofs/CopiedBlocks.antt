@@ -45,7 +45,7 @@ module _ {M : Type 0} {state : M → State} {reader : RecordReader} {step : Copy
 
   -- the log is as it was
   pub same_log : (x : ℕ) → x < first_home (shape_of view.sizes) → (state m).content x ≡ (state view.start).content x
-  same_log x below = held.elsewhere x (not_in_log shape start view.head (length view.records) x below)
+  same_log x below = held.at.elsewhere x (not_in_log shape start view.head (length view.records) x below)
 
   -- ---- a read
   module _ {bytes got : List ℕ} {n : M} {place : ℕ} {result : Result (Unit {0}) MediumFault}
@@ -60,26 +60,24 @@ module _ {M : Type 0} {state : M → State} {reader : RecordReader} {step : Copy
         → ((state n).failures ≡ (state view.start).failures → (state n).calls ≡ (state view.start).calls
         + copy_calls view.sizes.format (take held.home view.records) + (reads + 2 * after.i + one_if after.has_bytes))
         → HoldsCopied state next after got view n
-    read_holds {next} {after} sizes stamp left i numbers reads known ended half grow calls = record {
-      sizes_are = held.sizes_are ∙ sym sizes;
-      whole = held.whole;
+    read_holds sizes stamp left i numbers reads known ended half grow calls = record {
       home = held.home;
-      left_is = omega (arith, left, held.left_is);
-      stamp_is = stamp ∙ held.stamp_is;
       reads = reads;
-      known = known;
-      ended = ended;
-      copied = λ k below.
-          let before : k < step.i = omega (arith, below, i) in
-          performed.changes _ ∙ rw (numbers k before) (held.copied k before);
-      others = λ none b not. performed.changes _
-          ∙ held.others (omega (arith, none, grow, held.failures_grow)) b
-          (λ k below e. not k (omega (arith, below, i)) (numbers k below ∙ e));
-      elsewhere = λ x not. performed.changes x ∙ held.elsewhere x not;
-      within = λ x c left. held.within x c (performed.adds x c left);
-      half = half;
-      failures_grow = omega (arith, grow, held.failures_grow);
-      calls = calls;
+      at = grind (
+        arith,
+        performed.changes,
+        performed.adds,
+        held.at.whole,
+        held.at.copied,
+        held.at.others,
+        held.at.elsewhere,
+        held.at.within,
+        numbers,
+        known,
+        ended,
+        half,
+        calls,
+      );
     }
 
   -- it was refused
@@ -90,23 +88,23 @@ module _ {M : Type 0} {state : M → State} {reader : RecordReader} {step : Copy
       let same = gone.reader_stays in
       let failed = performed.passes.failures_are in
       read_holds performed (ap (λ (r : RecordReader). r.sizes) same) (ap (λ (r : RecordReader). r.stamp) same) gone.left_stays
-      gone.i_stays (λ k below. ap (λ (r : RecordReader). get_or r.read.numbers.items k 0) same) held.reads (rw same held.known)
-      (λ none. let ended = held.ended (sym gone.left_stays ∙ none) in (ended.0, gone.i_stays ∙ ended.1, gone.no_bytes))
+      gone.i_stays (λ k below. ap (λ (r : RecordReader). get_or r.read.numbers.items k 0) same) held.reads (rw same held.at.known)
+      (λ none. let ended = held.at.ended (sym gone.left_stays ∙ none) in (ended.0, gone.i_stays ∙ ended.1, gone.no_bytes))
       (λ e. cc (e, gone.no_bytes)) (omega (arith, failed))
-      (λ none. absurd (omega (arith, none, failed, held.failures_grow)))
+      (λ none. absurd (omega (arith, none, failed, held.at.failures_grow)))
 
   -- the sector that names blocks was read
   module _ {bytes got : List ℕ} {n : M} {place : ℕ}
       (performed : Performed (Read place) bytes got (Ok tt) (state m) (state n)) (due : 0 < step.left)
       (low : place < first_home (shape_of reader.sizes)) where
     read_of_log : got ≡ (state view.start).content place
-    read_of_log = performed.done ∙ same_log place (rw held.sizes_are low)
+    read_of_log = performed.done ∙ same_log place (rw held.at.sizes_are low)
 
     module _ (is : place ≡ naming_place (shape_of reader.sizes) reader.stamp reader.stage) where
       learned : {stage : _} {read : Record} → Learns (shape_of reader.sizes) reader.stamp reader.stage reader.read got stage read
           → IsKnown (shape_of view.sizes) (state view.start).content reader.stamp (held.reads + 1) stage read
       learned learns =
-          rw held.sizes_are (learns.knows start held.reads (rw (← is) read_of_log) (rw held.sizes_are at held.known))
+          rw held.at.sizes_are (learns.knows start held.reads (rw (← is) read_of_log) (rw held.at.sizes_are at held.at.known))
 
       pub took : {next : RecordReader} {after : CopyStep} → step.i ≡ 0 → step.has_bytes ≡ false
           → IsTakenOrPassed reader step got next after → HoldsCopied state next after got view n
@@ -118,12 +116,12 @@ module _ {M : Type 0} {state : M → State} {reader : RecordReader} {step : Copy
           (λ none. absurd (omega (arith, ap (λ (s : CopyStep). s.left) same, none, due)))
           (λ e. cc (e, ap (λ (s : CopyStep). s.has_bytes) same, no_bytes)) (omega (arith, performed.passes.failures_are))
           (λ none. rw (same, first, no_bytes)
-          (let before = rw (first, no_bytes) at (held.calls (omega (arith, none, performed.passes.failures_are))) in
+          (let before = rw (first, no_bytes) at (held.at.calls (omega (arith, none, performed.passes.failures_are))) in
           omega (arith, before, performed.passes.calls_are)))
       took {next} {after} first no_bytes (inr passed) =
           -- the record is whole
-          let inside : held.home < length view.records = omega (arith, held.left_is, due) in
-          absurd ((learned passed.1).all (get_or view.records held.home []) (rw held.stamp_is (held.whole held.home inside)))
+          let inside : held.home < length view.records = omega (arith, held.at.left_is, due) in
+          absurd ((learned passed.1).all (get_or view.records held.home []) (rw held.at.stamp_is (held.at.whole held.home inside)))
 
     -- the bytes of a block were read
     pub block_read : {next : RecordReader} {after : CopyStep} → place ≡ data_at (shape_of reader.sizes) reader.stamp step.i
@@ -131,11 +129,11 @@ module _ {M : Type 0} {state : M → State} {reader : RecordReader} {step : Copy
     block_read {next} {after} is no_bytes has =
         let same = has.reader_stays in
         read_holds performed (ap (λ (r : RecordReader). r.sizes) same) (ap (λ (r : RecordReader). r.stamp) same) has.left_stays
-        has.i_stays (λ k below. ap (λ (r : RecordReader). get_or r.read.numbers.items k 0) same) held.reads (rw same held.known)
+        has.i_stays (λ k below. ap (λ (r : RecordReader). get_or r.read.numbers.items k 0) same) held.reads (rw same held.at.known)
         (λ none. absurd (omega (arith, has.left_stays, none, due)))
-        (λ e. rw (same, has.i_stays, held.sizes_are, ← is) read_of_log) (omega (arith, performed.passes.failures_are))
+        (λ e. rw (same, has.i_stays, held.at.sizes_are, ← is) read_of_log) (omega (arith, performed.passes.failures_are))
         (λ none. rw (has.i_stays, has.bytes)
-        (let before = rw no_bytes at (held.calls (omega (arith, none, performed.passes.failures_are))) in
+        (let before = rw no_bytes at (held.at.calls (omega (arith, none, performed.passes.failures_are))) in
         omega (arith, before, performed.passes.calls_are)))
 
   -- ---- a write
@@ -144,14 +142,14 @@ module _ {M : Type 0} {state : M → State} {reader : RecordReader} {step : Copy
     entries = get_or view.records held.home []
 
     inside : held.home < length view.records
-    inside = omega (arith, held.left_is, due)
+    inside = omega (arith, held.at.left_is, due)
 
     whole : IsWhole (shape_of view.sizes) (state view.start).content reader.stamp (get_or view.records held.home [])
-    whole = rw held.stamp_is (held.whole held.home inside)
+    whole = rw held.at.stamp_is (held.at.whole held.home inside)
 
     -- this was read of it
     is_read : IsRead (shape_of view.sizes) (state view.start).content reader.stamp (get_or view.records held.home []) reader.read
-    is_read = (rw named at held.known).all entries whole
+    is_read = (rw named at held.at.known).all entries whole
 
     abbrev numbers : List ℕ
     numbers = reader.read.numbers.items
@@ -169,7 +167,7 @@ module _ {M : Type 0} {state : M → State} {reader : RecordReader} {step : Copy
       others x not = ⊎_elim (λ stays. stays x) (λ holds. holds.elsewhere x not) performed.changes
 
       here : place ≡ first_home (shape_of view.sizes) + get_or reader.read.numbers.items step.i 0
-      here = rw held.sizes_are is
+      here = rw held.at.sizes_are is
 
       at_home : IsHomeInRecords (shape_of view.sizes) (state view.start).content view.head (length view.records) place
       at_home = (
@@ -177,25 +175,25 @@ module _ {M : Type 0} {state : M → State} {reader : RecordReader} {step : Copy
         inside,
         (
           entries,
-          held.whole held.home inside,
+          held.at.whole held.home inside,
           (step.i, omega (arith, below, long, long_as entries (numbers_of entries) refl), rw (← is_read.numbers_are) here),
         ),
       )
 
       copied_before : (k : ℕ) → k < step.i → (state n).content (first_home (shape_of view.sizes) + get_or reader.read.numbers.items k 0)
           ≡ block_of (get_or view.records held.home []) k
-      copied_before k before = grind (arith, others, here, rising k before, held.copied k before)
+      copied_before k before = grind (arith, others, here, rising k before, held.at.copied k before)
 
       elsewhere : (x : ℕ)
           → ¬ IsHomeInRecords (shape_of view.sizes) (state view.start).content view.head (length view.records) x
           → (state n).content x ≡ (state view.start).content x
-      elsewhere x not = grind (arith, others x, not, at_home, held.elsewhere x)
+      elsewhere x not = grind (arith, others x, not, at_home, held.at.elsewhere x)
 
       within : (x : ℕ) (c : List ℕ) → (state n).may_leave x c
           → freed_at (IsHomeInRecords (shape_of view.sizes) (state view.start).content view.head (length view.records))
           (state view.start).may_leave x c
       within = gains_within (freed_at (IsHomeInRecords shape start view.head (length view.records)) (state view.start).may_leave) _ _
-          place bytes held.within performed.adds (λ x c both. inr (rw both.0 at_home))
+          place bytes held.at.within performed.adds (λ x c both. inr (rw both.0 at_home))
 
     -- it was refused
     pub unwritten : {bytes got : List ℕ} {n : M} {place : ℕ} {e : MediumFault} {next : RecordReader} {after : CopyStep}
@@ -206,21 +204,9 @@ module _ {M : Type 0} {state : M → State} {reader : RecordReader} {step : Copy
         let same = gone.reader_stays in
         let failed = performed.passes.failures_are in
         rw same (record {
-          sizes_are = held.sizes_are;
-          whole = held.whole;
           home = held.home;
-          left_is = omega (arith, gone.left_stays, held.left_is);
-          stamp_is = held.stamp_is;
           reads = held.reads;
-          known = held.known;
-          ended = λ none. absurd (omega (arith, gone.left_stays, none, due));
-          copied = λ k before. copied_before is performed k (omega (arith, before, gone.i_stays));
-          others = λ none b not. absurd (omega (arith, none, failed, held.failures_grow));
-          elsewhere = elsewhere is performed;
-          within = within is performed;
-          half = λ e. cc (e, gone.no_bytes);
-          failures_grow = omega (arith, failed, held.failures_grow);
-          calls = λ none. absurd (omega (arith, none, failed, held.failures_grow));
+          at = grind (arith, held.at.whole, held.at.known, copied_before is performed, elsewhere is performed, within is performed);
         })
 
     -- it is written, and there is one more, or none
@@ -231,7 +217,7 @@ module _ {M : Type 0} {state : M → State} {reader : RecordReader} {step : Copy
         (performed : Performed (Write place) bytes got (Ok tt) (state m) (state n)) where
       written : (state n).content (first_home (shape_of view.sizes) + get_or reader.read.numbers.items step.i 0)
           ≡ block_of (get_or view.records held.home []) step.i
-      written = grind (arith, is_read.blocks_are step.i (omega (arith, below, long)), here is performed, held.half full, performed.done.here)
+      written = grind (arith, is_read.blocks_are step.i (omega (arith, below, long)), here is performed, held.at.half full, performed.done.here)
 
       copied_on : (k : ℕ) → k < step.i + 1 → (state n).content (first_home (shape_of view.sizes) + get_or reader.read.numbers.items k 0)
           ≡ block_of (get_or view.records held.home []) k
@@ -244,28 +230,27 @@ module _ {M : Type 0} {state : M → State} {reader : RecordReader} {step : Copy
           → ((k : ℕ) → k < step.i + 1 → get_or reader.read.numbers.items k 0 ≢ b)
           → (state n).content (first_home (shape_of view.sizes) + b)
           ≡ with_records (take held.home view.records) (home_of (shape_of view.sizes) (state view.start).content) b
-      others_on none b not = grind (arith, others is performed, not, here is performed, held.others (none_failed none) b)
+      others_on none b not = grind (arith, others is performed, not, here is performed, held.at.others (none_failed none) b)
 
       pub block_written : {next : RecordReader} {after : CopyStep} → HasWritten reader step next after
           → HoldsCopied state next after got view n
       block_written {next = next} {after = after} has =
           rw has.reader_stays (record {
-            sizes_are = held.sizes_are;
-            whole = held.whole;
             home = held.home;
-            left_is = omega (arith, has.left_stays, held.left_is);
-            stamp_is = held.stamp_is;
             reads = held.reads;
-            known = held.known;
-            ended = λ none. absurd (omega (arith, has.left_stays, none, due));
-            copied = λ k before. copied_on k (omega (arith, before, has.i_on));
-            others = λ none b not. others_on none b (λ k before. not k (omega (arith, before, has.i_on)));
-            elsewhere = elsewhere is performed;
-            within = within is performed;
-            half = λ e. cc (e, has.no_bytes);
-            failures_grow = omega (arith, performed.passes.failures_are, held.failures_grow);
-            calls = λ none. rw (has.i_on, has.no_bytes)
-                (let before = rw full at (held.calls (none_failed none)) in omega (arith, before, performed.passes.calls_are));
+            at = grind (
+              arith,
+              held.at.whole,
+              held.at.known,
+              copied_on,
+              others_on,
+              elsewhere is performed,
+              within is performed,
+              full,
+              held.at.calls,
+              performed.passes.calls_are,
+              none_failed,
+            );
           })
 
       pub record_written : {next : RecordReader} {after : CopyStep} → length reader.read.numbers.items ≤ step.i + 1
@@ -273,39 +258,30 @@ module _ {M : Type 0} {state : M → State} {reader : RecordReader} {step : Copy
       record_written {next = next} {after = after} last goes =
           let all : step.i + 1 ≡ length entries = omega (arith, last, below, long) in
           let exact = calls_made view.sizes.format shape start reader.stamp reader.read (length entries) held.reads
-          (rw named at held.known).exact long in
+          (rw named at held.at.known).exact long in
+          let copied : (b : ℕ) → (state n).failures ≡ (state view.start).failures → (state n).content (first_home shape + b)
+          ≡ with_records (take (held.home + 1) view.records) (home_of shape start) b = λ b none.
+          rw (take_more view.records held.home [] inside) (with_blocks-copied entries
+          (with_records (take held.home view.records) (home_of shape start)) (λ b. (state n).content (first_home shape + b))
+          (λ i before. rw (← (number_of entries numbers i is_read.numbers_are)) (copied_on i (omega (arith, before, all))))
+          (λ b not. others_on none b (λ k before e.
+          not k (omega (arith, before, all)) (sym (number_of entries numbers k is_read.numbers_are) ∙ e))) b
+          ∙ sym (with_records-append (take held.home view.records) entries (home_of shape start) b)) in
+          let calls : (state n).failures ≡ (state view.start).failures → (state n).calls
+          ≡ (state view.start).calls + copy_calls view.sizes.format (take (held.home + 1) view.records) = λ none.
+          let before = rw full at (held.at.calls (none_failed none)) in
+          rw (take_more view.records held.home [] inside) (omega (
+            arith,
+            before,
+            performed.passes.calls_are,
+            exact,
+            all,
+            copy_calls-append view.sizes.format (take held.home view.records) entries,
+          )) in
           record {
-            sizes_are = held.sizes_are ∙ sym goes.sizes_stay;
-            whole = held.whole;
             home = held.home + 1;
-            left_is = omega (arith, goes.left_is, held.left_is);
-            stamp_is = omega (arith, goes.stamp_is, held.stamp_is);
             reads = 0;
-            known = rw held.sizes_are (goes.unread.knows start);
-            ended = λ none. (refl, goes.from_first, goes.no_bytes);
-            copied = λ k before. absurd (omega (arith, before, goes.from_first));
-            others = λ none b not. rw (take_more view.records held.home [] inside)
-                (with_blocks-copied entries
-                (with_records (take held.home view.records) (home_of shape start))
-                (λ b. (state n).content (first_home shape + b))
-                (λ i before. rw (← (number_of entries numbers i is_read.numbers_are)) (copied_on i (omega (arith, before, all))))
-                (λ b not. others_on none b (λ k before e.
-                not k (omega (arith, before, all)) (sym (number_of entries numbers k is_read.numbers_are) ∙ e))) b
-                ∙ sym (with_records-append (take held.home view.records) entries (home_of shape start) b));
-            elsewhere = elsewhere is performed;
-            within = within is performed;
-            half = λ e. cc (e, goes.no_bytes);
-            failures_grow = omega (arith, performed.passes.failures_are, held.failures_grow);
-            calls = λ none. rw (goes.from_first, goes.no_bytes, take_more view.records held.home [] inside)
-                (let before = rw full at (held.calls (none_failed none)) in
-                omega (
-                  arith,
-                  before,
-                  performed.passes.calls_are,
-                  exact,
-                  all,
-                  copy_calls-append view.sizes.format (take held.home view.records) entries,
-                ));
+            at = grind (arith, held.at.whole, goes.unread.knows start, copied, calls, elsewhere is performed, within is performed);
           }
 
 -- what holds of each stamp holds of each of a list
@@ -326,10 +302,11 @@ pub not_copied : {M : Type 0} {state : M → State} (reader : RecordReader) (ste
     → ((image : Image) → IsKnown (shape_of view.sizes) image reader.stamp 0 reader.stage reader.read)
     → ((k : ℕ) → k < length view.records → IsWhole (shape_of view.sizes) (state view.start).content (view.head + k)
     (get_or view.records k [])) → HoldsCopied state reader step had view view.start
-not_copied {state = state} reader step had view sizes stamp left first no_bytes known whole = grind (arith, known (state view.start).content, whole)
+not_copied {state = state} reader step had view sizes stamp left first no_bytes known whole =
+    record { home = 0; reads = 0; at = grind (arith, known (state view.start).content, whole) }
 
 -- behind the last one
 pub all_copied : {M : Type 0} {state : M → State} {reader : RecordReader} {step : CopyStep} {had : List ℕ} {view : CopyView M} {m : M}
     → HoldsCopied state reader step had view m → step.left ≡ 0 → (state m).failures ≡ (state view.start).failures
     → AreCopied (shape_of view.sizes) view.records (state view.start) (state m)
-all_copied {view = view} held none good = grind (arith, held.ended none, take_all held.home view.records, held.others good, held.calls good)
+all_copied {view = view} held none good = grind (arith, held.at.ended none, take_all held.home view.records, held.at.others good, held.at.calls good)

@@ -131,21 +131,15 @@ module _ {M : Type 0} (state : M → State) (sound : (m : M) → IsSound (state 
         let size : _ ≡ (state mid).size = rw held.midway at size in
         let made : Performed (Read 0) bytes got (Ok tt) (state mid) (state n) = rw held.midway at performed in
         let seen = super_seen made in
-        ⊎_elim (λ found. rw found.3 (record {
-          reads = super_read held performed;
-          well = λ live. made.passes.failures_are;
-          midway = record {
-            read = seen;
-            has = record { super = rw made.done at found.1; fits = omega (arith, found.2, size) };
-          };
-        })) (λ bad. rw bad.2 (record {
-          reads = super_read held performed;
-          well = λ live. absurd live;
-          midway = (
-            super_cause least bad.0 (omega (arith, some, size)) made.done seen.quiet (rw size at bad.1),
-            λ e. absurd (rw e at bad.1),
-          );
-        })) finds
+        grind (
+          arith,
+          seen,
+          super_read held performed,
+          made.done,
+          made.passes.failures_are,
+          λ (f : StartFault).
+              super_cause least f (omega (arith, some, size)) made.done seen.quiet,
+        )
 
     module _ {sizes : Super} (held : HoldsLook state least (stage.ReadHead sizes) had mid m) where
       -- the read of the head, made or refused

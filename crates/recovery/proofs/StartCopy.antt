@@ -63,7 +63,7 @@ module _ {M : Type 0} (state : M → State) (sound : (m : M) → IsSound (state 
           let most = most_copies first.reader first.step new.sizes_are new.left_is in
           let writes = most_writes first.reader first.step new.sizes_are new.left_is in
           record {
-            elsewhere = rw all.1 at run.1.elsewhere;
+            elsewhere = rw all.1 at run.1.at.elsewhere;
             moments = run.0;
             calls = omega (arith, calls_most so_far.tallied, most);
             sent = omega (arith, sends_most so_far.tallied, writes);
@@ -102,7 +102,7 @@ module _ {M : Type 0} (state : M → State) (sound : (m : M) → IsSound (state 
   copy_begun {copying = copying} {got = got} {n = n} surveyed well new goes =
       copied_on (
         record { seen = n; surveyed = surveyed; sound = sound n; first = copying; first_had = got; new = new },
-        not_driven (λ s had m view holds image cut x. holds.within x (image x) (cut x)) copying got n (sound n),
+        not_driven (λ s had m view holds image cut x. holds.at.within x (image x) (cut x)) copying got n (sound n),
       ) well goes
 
   module _ {copying : Copying} {had bytes : List ℕ} {m : M} {call : Call}
@@ -117,7 +117,7 @@ module _ {M : Type 0} (state : M → State) (sound : (m : M) → IsSound (state 
     copy_made {after = after} well performed step goes =
         copied_on (
           at.0,
-          driven_call (λ s had m view holds image cut x. holds.within x (image x) (cut x)) fits_first at.1 tells performed
+          driven_call (λ s had m view holds image cut x. holds.at.within x (image x) (cut x)) fits_first at.1 tells performed
               refl after step (λ a b bytes due moved. record {
                 reads_stay = rw moved.sizes_stay refl;
                 ends_stay = rw moved.sizes_stay refl;
@@ -130,7 +130,7 @@ module _ {M : Type 0} (state : M → State) (sound : (m : M) → IsSound (state 
         → LeavesAtLeast least (state start) (state n)
     copy_refused {e = e} performed =
         let gone : Copying = record { reader = copying.reader; step = record copying.step { has_bytes = false } } in
-        copies_leave_so_far at.0.surveyed at.0.new (driven_refused (λ s had m view holds image cut x. holds.within x (image x) (cut x))
+        copies_leave_so_far at.0.surveyed at.0.new (driven_refused (λ s had m view holds image cut x. holds.at.within x (image x) (cut x))
         fits_first at.1 tells performed e refl gone
         (record { reader_stays = refl; left_stays = refl; i_stays = refl; no_bytes = refl }))
 

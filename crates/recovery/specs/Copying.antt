@@ -138,18 +138,15 @@ pub record CopyView (M : Type 0) : Type 0 where
 
 -- The records before this one are home, and of this one the blocks before the next. A cut may leave
 -- anything where a block of the records is at home. Between its read and its write the lent sector
--- has what the log has of a block.
-pub record HoldsCopied {M : Type 0} (state : M → State) (reader : RecordReader) (step : CopyStep)
-    (had : List ℕ) (view : CopyView M) (m : M) : Type 0 where
+-- has what the log has of a block. So many records are home, and so many sectors were read that
+-- name the blocks of this one.
+pub record HasHome {M : Type 0} (state : M → State) (reader : RecordReader) (step : CopyStep)
+    (had : List ℕ) (view : CopyView M) (home reads : ℕ) (m : M) : Type 0 where
   pub sizes_are : view.sizes ≡ reader.sizes
   pub whole : (k : ℕ) → k < length view.records → IsWhole (shape_of view.sizes)
       (state view.start).content (view.head + k) (get_or view.records k [])
-  -- so many records are home
-  pub home : ℕ
   pub left_is : home + step.left ≡ length view.records
   pub stamp_is : reader.stamp ≡ view.head + home
-  -- and so many sectors that name the blocks of this one were read
-  pub reads : ℕ
   pub known : IsKnown (shape_of view.sizes) (state view.start).content reader.stamp reads
       reader.stage reader.read
   pub ended : step.left ≡ 0 → (reads ≡ 0) × (step.i ≡ 0) × (step.has_bytes ≡ false)
@@ -174,6 +171,13 @@ pub record HoldsCopied {M : Type 0} (state : M → State) (reader : RecordReader
       ≡ (state view.start).calls
       + copy_calls view.sizes.format (take home view.records) + (reads + 2 * step.i
       + one_if step.has_bytes)
+
+-- so for some
+pub record HoldsCopied {M : Type 0} (state : M → State) (reader : RecordReader) (step : CopyStep)
+    (had : List ℕ) (view : CopyView M) (m : M) : Type 0 where
+  pub home : ℕ
+  pub reads : ℕ
+  pub at : HasHome state reader step had view home reads m
 
 -- the kind of the next call: once the bytes of a block were read they are written
 abbrev pub copy_kind_by : NamingStage → Bool → MediumFault
