@@ -48,50 +48,26 @@ module _ {M : Type 0} {state : M → State} {reader : RecordReader} {step : Copy
   same_log x below = held.at.elsewhere x (not_in_log shape start view.head (length view.records) x below)
 
   -- ---- a read
-  module _ {bytes got : List ℕ} {n : M} {place : ℕ} {result : Result (Unit {0}) MediumFault}
-      (performed : Performed (Read place) bytes got result (state m) (state n)) where
-    read_holds : {next : RecordReader} {after : CopyStep} → next.sizes ≡ reader.sizes → next.stamp ≡ reader.stamp
-        → after.left ≡ step.left → after.i ≡ step.i
-        → ((k : ℕ) → k < step.i → get_or next.read.numbers.items k 0 ≡ get_or reader.read.numbers.items k 0)
-        → (reads : ℕ) → IsKnown (shape_of view.sizes) (state view.start).content next.stamp reads next.stage next.read
-        → (after.left ≡ 0 → (reads ≡ 0) × (after.i ≡ 0) × (after.has_bytes ≡ false))
-        → (after.has_bytes ≡ true → got ≡ (state view.start).content (data_at (shape_of view.sizes) next.stamp after.i))
-        → (state m).failures ≤ (state n).failures
-        → ((state n).failures ≡ (state view.start).failures → (state n).calls ≡ (state view.start).calls
-        + copy_calls view.sizes.format (take held.home view.records) + (reads + 2 * after.i + one_if after.has_bytes))
-        → HoldsCopied state next after got view n
-    read_holds sizes stamp left i numbers reads known ended half grow calls = record {
-      home = held.home;
-      reads = reads;
-      at = grind (
-        arith,
-        performed.changes,
-        performed.adds,
-        held.at.whole,
-        held.at.copied,
-        held.at.others,
-        held.at.elsewhere,
-        held.at.within,
-        numbers,
-        known,
-        ended,
-        half,
-        calls,
-      );
-    }
-
   -- it was refused
   pub unread : {bytes got : List ℕ} {n : M} {place : ℕ} {e : MediumFault} {next : RecordReader} {after : CopyStep}
       → Performed (Read place) bytes got (Err e) (state m) (state n) → IsRefusedStep reader step next after
       → HoldsCopied state next after got view n
-  unread {next = next} {after = after} performed gone =
-      let same = gone.reader_stays in
-      let failed = performed.passes.failures_are in
-      read_holds performed (ap (λ (r : RecordReader). r.sizes) same) (ap (λ (r : RecordReader). r.stamp) same) gone.left_stays
-      gone.i_stays (λ k below. ap (λ (r : RecordReader). get_or r.read.numbers.items k 0) same) held.reads (rw same held.at.known)
-      (λ none. let ended = held.at.ended (sym gone.left_stays ∙ none) in (ended.0, gone.i_stays ∙ ended.1, gone.no_bytes))
-      (λ e. cc (e, gone.no_bytes)) (omega (arith, failed))
-      (λ none. absurd (omega (arith, none, failed, held.at.failures_grow)))
+  unread performed gone = rw gone.reader_stays (record {
+    home = held.home;
+    reads = held.reads;
+    at = grind (
+      arith,
+      performed.changes,
+      performed.adds,
+      performed.passes.failures_are,
+      held.at.whole,
+      held.at.known,
+      held.at.ended,
+      held.at.copied,
+      held.at.elsewhere,
+      held.at.within,
+    );
+  })
 
   -- the sector that names blocks was read
   module _ {bytes got : List ℕ} {n : M} {place : ℕ}
@@ -108,17 +84,25 @@ module _ {M : Type 0} {state : M → State} {reader : RecordReader} {step : Copy
 
       pub took : {next : RecordReader} {after : CopyStep} → step.i ≡ 0 → step.has_bytes ≡ false
           → IsTakenOrPassed reader step got next after → HoldsCopied state next after got view n
-      took {next} {after} first no_bytes (inl taken) =
-          let same = taken.step_stays in
-          read_holds performed taken.sizes_stay taken.stamp_stays (ap (λ (s : CopyStep). s.left) same)
-          (ap (λ (s : CopyStep). s.i) same) (λ k below. absurd (omega (arith, below, first))) (held.reads + 1)
-          (rw taken.stamp_stays (learned taken.learns))
-          (λ none. absurd (omega (arith, ap (λ (s : CopyStep). s.left) same, none, due)))
-          (λ e. cc (e, ap (λ (s : CopyStep). s.has_bytes) same, no_bytes)) (omega (arith, performed.passes.failures_are))
-          (λ none. rw (same, first, no_bytes)
-          (let before = rw (first, no_bytes) at (held.at.calls (omega (arith, none, performed.passes.failures_are))) in
-          omega (arith, before, performed.passes.calls_are)))
-      took {next} {after} first no_bytes (inr passed) =
+      took first no_bytes (inl taken) = rw taken.step_stays (record {
+        home = held.home;
+        reads = held.reads + 1;
+        at = grind (
+          arith,
+          performed.changes,
+          performed.adds,
+          performed.passes,
+          held.at.whole,
+          learned taken.learns,
+          taken.stamp_stays,
+          taken.sizes_stay,
+          held.at.others,
+          held.at.elsewhere,
+          held.at.within,
+          held.at.calls,
+        );
+      })
+      took first no_bytes (inr passed) =
           -- the record is whole
           let inside : held.home < length view.records = omega (arith, held.at.left_is, due) in
           absurd ((learned passed.1).all (get_or view.records held.home []) (rw held.at.stamp_is (held.at.whole held.home inside)))
@@ -126,15 +110,24 @@ module _ {M : Type 0} {state : M → State} {reader : RecordReader} {step : Copy
     -- the bytes of a block were read
     pub block_read : {next : RecordReader} {after : CopyStep} → place ≡ data_at (shape_of reader.sizes) reader.stamp step.i
         → step.has_bytes ≡ false → HasRead reader step next after → HoldsCopied state next after got view n
-    block_read {next} {after} is no_bytes has =
-        let same = has.reader_stays in
-        read_holds performed (ap (λ (r : RecordReader). r.sizes) same) (ap (λ (r : RecordReader). r.stamp) same) has.left_stays
-        has.i_stays (λ k below. ap (λ (r : RecordReader). get_or r.read.numbers.items k 0) same) held.reads (rw same held.at.known)
-        (λ none. absurd (omega (arith, has.left_stays, none, due)))
-        (λ e. rw (same, has.i_stays, held.at.sizes_are, ← is) read_of_log) (omega (arith, performed.passes.failures_are))
-        (λ none. rw (has.i_stays, has.bytes)
-        (let before = rw no_bytes at (held.at.calls (omega (arith, none, performed.passes.failures_are))) in
-        omega (arith, before, performed.passes.calls_are)))
+    block_read is no_bytes has = rw has.reader_stays (record {
+      home = held.home;
+      reads = held.reads;
+      at = grind (
+        arith,
+        performed.changes,
+        performed.adds,
+        performed.passes,
+        held.at.whole,
+        held.at.known,
+        held.at.copied,
+        held.at.others,
+        held.at.elsewhere,
+        held.at.within,
+        held.at.calls,
+        read_of_log,
+      );
+    })
 
   -- ---- a write
   module _ (due : 0 < step.left) (named : reader.stage ≡ Named) (below : step.i < length reader.read.numbers.items) where

@@ -54,15 +54,7 @@ module _ {M : Type 0} {state : M → State} {reader : RecordReader} {left place 
       quiet = quiet;
       few = held.few;
       each = held.each;
-      going = λ some. record {
-        stamp_is = stamp ∙ going.stamp_is;
-        left_is = going.left_is;
-        reads = reads;
-        known = known;
-        places = places;
-        before = going.before;
-        calls = λ none. let c = calls none in ((going.calls c.0).0, c.1);
-      };
+      going = λ some. record { reads = reads; before = going.before; to = grind (arith, known, places, calls, going.to) };
       ended = λ none. absurd (omega (arith, none, due));
     }
 
@@ -73,7 +65,7 @@ module _ {M : Type 0} {state : M → State} {reader : RecordReader} {left place 
   untried performed gone =
       let failed = performed.passes.failures_are in
       rw (gone.reader_stays, gone.left_stays, gone.place_stays, gone.counts_stay) (trying performed refl refl
-      going.reads going.known going.places (λ none. absurd (omega (arith, none, failed, held.quiet.failures_stay))))
+      going.reads going.to.known going.to.places (λ none. absurd (omega (arith, none, failed, held.quiet.failures_stay))))
 
   module _ (sized : (x : ℕ) → x < first_home (shape_of view.sizes) → length ((state view.start).content x) ≡ 512)
       {bytes got : List ℕ} {n : M} {at : ℕ} (performed : Performed (Read at) bytes got (Ok tt) (state m) (state n)) where
@@ -91,8 +83,8 @@ module _ {M : Type 0} {state : M → State} {reader : RecordReader} {left place 
     Try = Good → IsTryOf view.sizes.format shape image reader.stamp going.before (state n).calls
 
     tried : Try → Good → AreTries shape image view.head (length waiting + 1) (state view.start).calls (state n).calls
-    tried was none = tries_more view.sizes.format shape image view.head (length waiting) _ going.before _ (going.calls (none_before none)).0
-        (rw (← going.stamp_is) (was none))
+    tried was none = tries_more view.sizes.format shape image view.head (length waiting) _ going.before _ (going.to.calls (none_before none)).0
+        (rw (← going.to.stamp_is) (was none))
 
     -- it is not whole
     missed : Try → ¬ HasWhole shape image reader.stamp → {next : RecordReader} {less after : ℕ} {counts : List ℕ}
@@ -104,8 +96,8 @@ module _ {M : Type 0} {state : M → State} {reader : RecordReader} {left place 
       each = held.each;
       going = λ some. absurd (omega (arith, some));
       ended = λ none.
-          let all : length waiting + 1 ≡ min (length waiting + 1) view.sizes.slots = omega (arith, going.left_is, due) in
-          record { ends = λ less. rw (← going.stamp_is) not; calls = λ none. rw (← all) (tried was none) };
+          let all : length waiting + 1 ≡ min (length waiting + 1) view.sizes.slots = omega (arith, going.to.left_is, due) in
+          record { ends = λ less. rw (← going.to.stamp_is) not; calls = λ none. rw (← all) (tried was none) };
     })
 
     -- it is whole
@@ -118,23 +110,19 @@ module _ {M : Type 0} {state : M → State} {reader : RecordReader} {left place 
         rw same (record {
           sizes_are = held.sizes_are ∙ sym sizes;
           quiet = quiet performed;
-          few = omega (arith, long, going.left_is, goes.left_is);
+          few = omega (arith, long, going.to.left_is, goes.left_is);
           each = λ k below. each_pushed (λ k c. HasCount shape image (view.head + k) c) waiting count (length waiting) refl held.each
-              (rw (← going.stamp_is) has) k (omega (arith, below, long));
+              (rw (← going.to.stamp_is) has) k (omega (arith, below, long));
           going = λ some. record {
-            stamp_is = omega (arith, goes.stamp_is, going.stamp_is, long);
-            left_is = omega (arith, goes.left_is, going.left_is, long);
             reads = 0;
-            known = rw held.sizes_are (goes.unread.knows image);
-            places = λ i below. absurd (omega (arith, below, goes.from_first));
             before = (state n).calls;
-            calls = λ none. (rw long (tries none), omega (arith, goes.from_first));
+            to = grind (arith, going.to, goes, long, goes.unread.knows image, held.sizes_are, tries);
           };
           ended = λ none.
               let all : length waiting + 1 ≡ min (length (waiting ++ count ∷ []) + 1) view.sizes.slots =
-              omega (arith, long, none, goes.left_is, going.left_is) in
+              omega (arith, long, none, goes.left_is, going.to.left_is) in
               record {
-                ends = λ below. absurd (omega (arith, below, long, none, goes.left_is, going.left_is));
+                ends = λ below. absurd (omega (arith, below, long, none, goes.left_is, going.to.left_is));
                 calls = λ good. rw (← all) (tries good);
               };
         })
@@ -148,19 +136,19 @@ module _ {M : Type 0} {state : M → State} {reader : RecordReader} {left place 
           rw held.sizes_are (learns.knows image reads (rw (← is) read) (rw held.sizes_are at known))
 
       calls_now : Good → (state n).calls ≡ going.before + (going.reads + 1)
-      calls_now none = omega (arith, (going.calls (none_before none)).1, first, performed.passes.calls_are)
+      calls_now none = omega (arith, (going.to.calls (none_before none)).1, first, performed.passes.calls_are)
 
       pub named_taken : {next : RecordReader} {less after : ℕ} {counts : List ℕ} → next.sizes ≡ reader.sizes
           → TakesName reader left place waiting got next less after counts → HoldsSurveyed state next less after counts view n
       named_taken sizes (inl on) = rw (on.left_stays, on.place_stays, on.counts_stay) (trying performed sizes on.stamp_stays
-          (going.reads + 1) (rw on.stamp_stays (learned going.reads going.known on.learns)) (λ i below. absurd (omega (arith, below, first)))
+          (going.reads + 1) (rw on.stamp_stays (learned going.reads going.to.known on.learns)) (λ i below. absurd (omega (arith, below, first)))
           (λ none. (none_before none, omega (arith, calls_now none, first))))
       named_taken sizes (inr (inl gone)) =
-          let found = learned going.reads going.known gone.learns in
+          let found = learned going.reads going.to.known gone.learns in
           missed (λ none. try_missed view.sizes.format shape image reader.stamp (going.reads + 1) _ _ found.exact (calls_now none))
           (λ whole. found.all whole.0 whole.1) sizes gone.none_left gone.counts_stay
       named_taken sizes (inr (inr whole)) =
-          let found = learned going.reads going.known whole.learns in
+          let found = learned going.reads going.to.known whole.learns in
           let one : view.sizes.format ≡ One = rw held.sizes_are whole.one in
           let has = found.some sized (grind arith) in
           counted (λ none. try_read view.sizes.format shape image reader.stamp whole.read (going.reads + 1) 0 _ _ _ found.exact
@@ -178,7 +166,7 @@ module _ {M : Type 0} {state : M → State} {reader : RecordReader} {left place 
       Carries i = HasPlace image (slot_at format2 shape reader.stamp) reader.stamp i
 
       found : IsFound shape image reader.stamp going.reads (Some reader.read)
-      found = subst (λ (stage : NamingStage). IsKnown shape image reader.stamp going.reads stage reader.read) named going.known
+      found = subst (λ (stage : NamingStage). IsKnown shape image reader.stamp going.reads stage reader.read) named going.to.known
 
       here : got ≡ image (slot_at format2 shape reader.stamp + (8 + place))
       here = rw (held.sizes_are, ← is) read
@@ -186,20 +174,20 @@ module _ {M : Type 0} {state : M → State} {reader : RecordReader} {left place 
       was : (places : ℕ) → ReadsUpToBad Carries (length reader.read.numbers.items) places
           → places ≡ place + 1 → Try
       was places asked all none = try_read view.sizes.format shape image reader.stamp reader.read going.reads places _ _ _ found.exact refl
-          (grind (arith, format_is, asked)) (omega (arith, all, (going.calls (none_before none)).1, performed.passes.calls_are))
+          (grind (arith, format_is, asked)) (omega (arith, all, (going.to.calls (none_before none)).1, performed.passes.calls_are))
 
       pub place_taken : {next : RecordReader} {less after : ℕ} {counts : List ℕ} → next.sizes ≡ reader.sizes
           → TakesPlace reader left place waiting got next less after counts → HoldsSurveyed state next less after counts view n
       place_taken sizes (inl on) =
-          rw (on.reader_stays, on.left_stays, on.place_on, on.counts_stay) (trying performed refl refl going.reads going.known
-          (below_more Carries place going.places (rw here at on.stamped))
-          (λ none. (none_before none, omega (arith, (going.calls (none_before none)).1, performed.passes.calls_are))))
+          rw (on.reader_stays, on.left_stays, on.place_on, on.counts_stay) (trying performed refl refl going.reads going.to.known
+          (below_more Carries place going.to.places (rw here at on.stamped))
+          (λ none. (none_before none, omega (arith, (going.to.calls (none_before none)).1, performed.passes.calls_are))))
       place_taken sizes (inr (inl gone)) =
           let bad = λ (has : Carries place). gone.bad (rw here has) in
           missed (was (place + 1) (inr (record {
             first = place;
             inside = below;
-            before = going.places;
+            before = going.to.places;
             bad = bad;
             reads_are = refl;
           })) refl) (λ whole.
@@ -208,7 +196,7 @@ module _ {M : Type 0} {state : M → State} {reader : RecordReader} {left place 
           bad (grind (arith, format_is, all, long, below))) sizes gone.none_left gone.counts_stay
       place_taken sizes (inr (inr whole)) =
           let all : (i : ℕ) → i < length reader.read.numbers.items → Carries i =
-          λ i less. below_more Carries place going.places (rw here at whole.stamped) i (omega (arith, less, whole.last)) in
+          λ i less. below_more Carries place going.to.places (rw here at whole.stamped) i (omega (arith, less, whole.last)) in
           let has = found.some sized (grind (arith, format_is, all)) in
           counted (was (place + 1) (inl (all, omega (arith, below, whole.last))) refl)
           (has.0, has.1, long_as has.0 reader.read.numbers.items (found.all has.0 has.1).numbers_are) sizes whole.counted
@@ -225,15 +213,12 @@ not_tried {state = state} reader left place waiting view sizes stamp all first n
   few = omega (arith, all);
   each = λ k below. absurd (omega (arith, below));
   going = λ due. record {
-    stamp_is = omega (arith, stamp);
-    left_is = omega (arith, all);
     reads = 0;
-    known = known (state view.start).content;
-    places = λ i below. absurd (omega (arith, below, first));
     before = (state view.start).calls;
-    calls = λ good. (
+    to = grind (
+      arith,
+      known (state view.start).content,
       no_tries view.sizes.format (shape_of view.sizes) (state view.start).content view.head (state view.start).calls,
-      omega (arith, first),
     );
   };
   ended = λ none. absurd (omega (arith, none, all, some));

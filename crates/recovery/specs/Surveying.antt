@@ -143,20 +143,25 @@ pub record SurveyView (M : Type 0) : Type 0 where
   pub sizes : Super
   pub head : ℕ
 
--- the record of the next stamp is tried: so many sectors that name its blocks were read, and data
--- places that carry its stamp
-pub record IsTrying (shape : Shape) (start now : State) (head : ℕ) (reader : RecordReader)
-    (left place : ℕ) (waiting : List ℕ) : Type 0 where
+-- The record of the next stamp is tried: so many sectors that name its blocks were read, and data
+-- places that carry its stamp. So many calls were made before it.
+pub record HasTriedTo (shape : Shape) (start now : State) (head : ℕ) (reader : RecordReader)
+    (left place : ℕ) (waiting : List ℕ) (reads before : ℕ) : Type 0 where
   pub stamp_is : reader.stamp ≡ head + length waiting
   pub left_is : length waiting + left ≡ shape.slots
-  pub reads : ℕ
   pub known : IsKnown shape start.content reader.stamp reads reader.stage reader.read
   pub places : HasPlaces start.content (slot_at format2 shape reader.stamp) reader.stamp place
-  pub before : ℕ
   -- where no call was refused
   pub calls : now.failures ≡ start.failures
       → AreTries shape start.content head (length waiting) start.calls before
       × (now.calls ≡ before + reads + place)
+
+-- so for some
+pub record IsTrying (shape : Shape) (start now : State) (head : ℕ) (reader : RecordReader)
+    (left place : ℕ) (waiting : List ℕ) : Type 0 where
+  pub reads : ℕ
+  pub before : ℕ
+  pub to : HasTriedTo shape start now head reader left place waiting reads before
 
 -- the record of the next stamp is not whole, or all slots were tried
 pub record HasTried (shape : Shape) (start now : State) (head : ℕ) (waiting : List ℕ)
