@@ -1,7 +1,6 @@
 -- Records are copied home, call by call.
 use Rattle.std.proofs.Common.{◌≡◌, ◌≢◌, ◌<◌, ◌≤◌, ◌+◌, ◌*◌, ◌++◌, ℕ, List, [], ◌∷◌, length, drop, get_or, take, inl, inr, ⊎_elim}
-use Rattle.std.proofs.Common.{◌∙◌, sym, ap, refl, arith, Ok, Err, Result, true, false, Some, zero, suc}
-use Rattle.std.proofs.lemmas.Bool.{cases_lt}
+use Rattle.std.proofs.Common.{◌∙◌, sym, refl, arith, Ok, Err, Result, true, false, Some, zero, suc}
 use Rattle.std.proofs.lemmas.List.{take_more, take_all, length-append, get_or_append_left, get_or_push}
 use Rattle.medium.specs.Medium.{State, Image}
 use Rattle.medium.specs.Performed.{Performed}
@@ -19,7 +18,7 @@ use Rattle.journal.specs.Reading.{data_at, IsRead, IsReadFor}
 use Rattle.journal.specs.Naming.{IsKnown, Learns, naming_place}
 use Rattle.journal.proofs.Wholeness.{with_blocks-copied, with_records-append}
 use Rattle.recovery.specs.Calls.{IsHomeInRecords, freed_at, copy_calls, calls_of, AreCopied}
-use Rattle.recovery.specs.Copying.{CopyView, HoldsCopied, IsNextRecord, HasRead, HasWritten, IsRefusedStep, one_if}
+use Rattle.recovery.specs.Copying.{CopyView, HoldsCopied, IsNextRecord, HasRead, HasWritten, IsRefusedStep}
 use Rattle.recovery.specs.Copying.{IsTakenOrPassed}
 use Rattle.recovery.specs.declared.copy_step.CopyStep.{CopyStep}
 use Rattle.recovery.proofs.JoinedCalls.{not_in_log, number_of, long_as}

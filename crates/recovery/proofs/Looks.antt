@@ -1,5 +1,5 @@
 -- A look at an image, read by read: its super, its head, and the survey of its records; and how it ends where it is refused.
-use Rattle.std.proofs.Common.{◌≡◌, ◌≢◌, inl, ◌∙◌, sym, ⊎_elim, ℕ, ◌+◌, ◌<◌, ◌≤◌, List, length, min, refl, ap, arith, rules}
+use Rattle.std.proofs.Common.{◌≡◌, ◌≢◌, ◌∙◌, sym, ⊎_elim, ℕ, ◌+◌, ◌<◌, ◌≤◌, List, length, min, refl, ap, arith, rules}
 use Rattle.std.proofs.Common.{Result, Ok, Err}
 use Rattle.medium.specs.Medium.{State, IsSound}
 use Rattle.medium.specs.Moments.{IsQuiet}
@@ -44,13 +44,11 @@ read_one : {count place : ℕ} {mid now new : State} {bytes got : List ℕ} {res
     → HasReadFirst count mid now
     → ((near : ℕ) → HoldsLog near mid.size mid.content → place < near) → Performed (Read place) bytes got result now new
     → HasReadFirst (count + 1) mid new
-read_one {mid = mid} {now = now} {new = new} so_far below performed = record {
-  quiet = quiet_joined mid now new so_far.quiet (quiet_call now new performed.passes performed.changes performed.adds);
-  reads = λ kind other. performed.passes.others_made kind other ∙ so_far.reads kind other;
-  calls = omega (arith, so_far.calls, performed.passes.calls_are);
-  looks = λ near holds.
-      looks_joined (λ s. s < near) mid now new (so_far.looks near holds) (performed.looks near (below near holds));
-}
+read_one {mid = mid} {now = now} {new = new} so_far below performed =
+    let quiet = quiet_joined mid now new so_far.quiet (quiet_call now new performed.passes performed.changes performed.adds) in
+    let looks = λ (near : ℕ) (holds : HoldsLog near mid.size mid.content).
+    looks_joined (λ s. s < near) mid now new (so_far.looks near holds) (performed.looks near (below near holds)) in
+    grind (arith, quiet, looks, performed.passes.others_made, performed.passes.calls_are, so_far.reads)
 
 as_survey : {count : ℕ} {mid now : State} → count ≤ 2 → HasReadFirst count mid now → SurveysAtMost mid now
 as_survey few r = grind (arith, r.reads, r.looks)

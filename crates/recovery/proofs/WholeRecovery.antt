@@ -1,6 +1,6 @@
 -- A whole recovery: a flush, reads, copies and the new head; what it leaves up to each of its exits, and why it is refused.
 use Rattle.std.proofs.Common.{◌≡◌, ◌⊎◌, inl, inr, ⊎_elim, ℕ, ◌+◌, ◌-◌, ◌*◌, ◌<◌, ◌≤◌, ◌^◌, List, [], length, get_or, sym}
-use Rattle.std.proofs.Common.{◌∙◌, ap, subst, arith, rules, mul-le-mul_left, min, Result}
+use Rattle.std.proofs.Common.{◌∙◌, arith, rules, mul-le-mul_left, min, Result}
 use Rattle.medium.specs.Medium.{State, Image, CutLeaves, Stays, Within, Only, Passes, LooksOnly, IsSound}
 use Rattle.medium.specs.Moments.{EachCut, IsFlushed, LeavesOnly, IsQuiet, SparesFrom}
 use Rattle.medium.specs.Sent.{SendsUpTo}
@@ -13,9 +13,8 @@ use Rattle.medium.proofs.SparedSectors.{spared_quiet, spared_joined, spared_behi
 use Rattle.journal.specs.declared.log_format.LogFormat.{LogFormat}
 use Rattle.journal.specs.declared.log_format.LogFormat.TheVariants.{Two}
 use Rattle.journal.specs.Places.{Shape, first_home, sectors_of, limit_of}
-use Rattle.journal.specs.Sectors.{IsHead}
 use Rattle.journal.specs.Formats.{shape_of, layout_of, IsWhole}
-use Rattle.journal.specs.Record.{Entry, with_records, home_of}
+use Rattle.journal.specs.Record.{Entry, home_of}
 use Rattle.journal.specs.Standing.{StandsFor, IsOurs, Stands}
 use Rattle.journal.specs.Standing as image
 use Rattle.journal.proofs.SectorNumbers.{IsSuper-one}

@@ -1,10 +1,10 @@
-use Rattle.std.proofs.Common.{◌≡◌, ◌≢◌, ◌⊎◌, inl, inr, ⊎_elim, ℕ, ◌+◌, ◌*◌, refl, ◌∙◌, arith, rules, replicate, OnOk}
+use Rattle.std.proofs.Common.{◌≡◌, ◌≢◌, ◌⊎◌, inl, inr, ⊎_elim, ℕ, ◌+◌, refl, ◌∙◌, arith, rules, replicate, OnOk}
 use Rattle.std.proofs.lemmas.Result.{on_ok_weaker}
 use Rattle.medium.specs.Medium.{State, Image}
 use Rattle.medium.specs.Moments.{IsFlushed}
 use Rattle.spec.specs.Blocks.{Array}
 use Rattle.journal.specs.Places.{Shape, first_home, migrated}
-use Rattle.journal.specs.Formats.{layout_of, shape_of}
+use Rattle.journal.specs.Formats.{shape_of}
 use Rattle.journal.proofs.Formats.{laws_of}
 use Rattle.recovery.specs.Calls.{Writes, IsBetween, IsWritten, WithOrWithout}
 use Rattle.recovery.specs.NewImage.{Under, IsPart}
@@ -31,17 +31,21 @@ module _ {plan : ImagePlan} {under : Under} {shape : Shape} {array : Array} {ima
 
   -- so no record waits in a part of the new image either
   still_fresh : IsFresh shape array plan.head.stamp image
-  still_fresh = record {
-    super = rw (outside 0 (λ e. omega arith) (λ b. omega (arith, b.0))) fresh.super;
-    head = ⊎_elim (λ was. rw was fresh.head) (λ other. ⊎_elim (λ zeros. absurd (omega (arith, zeros.0.0, two)))
-        (λ head. head.1) other) (part.each 1);
-    home = λ b below. outside (first_home shape + b) (λ e. omega (arith, e, log_ends shape fresh.super.home_is))
-        (λ between. omega (arith, between.1)) ∙ fresh.home b below;
-    carries = λ slot o stamp low small carries. ⊎_elim
-        (λ was. fresh.carries slot o stamp low small (rw was at carries))
-        (λ zeros. omega (arith, (laws_of shape.format).zeros o stamp (rw zeros.1 at carries), plan.head.least))
-        (apart (2 + (layout_of shape.format).slot_sectors * slot + o) (λ e. omega (arith, e)));
-  }
+  still_fresh =
+      let carries = λ (slot o stamp : ℕ). (laws_of shape.format).zeros o stamp in
+      grind (
+        arith,
+        outside,
+        apart,
+        fresh.super,
+        fresh.head,
+        fresh.home,
+        fresh.carries,
+        part.each 1,
+        carries,
+        log_ends shape fresh.super.home_is,
+        plan.head.least,
+      )
 
 -- and none in the new image
 new_fresh : {shape sizes : Shape} {array : Array} {stamp : ℕ} {before image : Image} → sizes ≡ migrated shape
@@ -75,12 +79,7 @@ made g c =
     (record { first = 2; image = old.content; some = omega arith; most = omega arith })
     c.drive.ensures.driven c.drive.ensures.done (omega (arith, c.requires.fits)) tt (λ e. cc e) refl
     (record {
-      content = record {
-        some = omega arith;
-        inside = omega (arith, long);
-        zeros = λ x low high. absurd (omega (arith, low, high));
-        elsewhere = λ x not. refl;
-      };
+      content = grind (arith, long);
       cuts = λ image cut. flushed_part old refl c.requires.flushed (inl cut);
     }) (omega (arith, long)) (omega arith) (omega arith)
     (λ image may array fresh. rw (← c.new.ensures)

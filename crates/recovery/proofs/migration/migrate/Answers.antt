@@ -4,7 +4,6 @@ use Rattle.medium.specs.Medium.{State, IsSound}
 use Rattle.medium.specs.Moments.{EachCut}
 use Rattle.spec.specs.Blocks.{Array}
 use Rattle.medium.specs.Sent.{SendsUpTo}
-use Rattle.medium.specs.declared.fault.MediumFault.TheVariants as medium
 use Rattle.medium.proofs.Moments.{weaker, only_image}
 use Rattle.medium.proofs.SectorsRead.{no_looks}
 use Rattle.medium.proofs.SparedSectors.{spared_behind}
