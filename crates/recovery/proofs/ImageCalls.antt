@@ -1,5 +1,5 @@
 -- The calls that write a new image, and what each leaves of what was shown before it.
-use Rattle.std.proofs.Common.{◌≡◌, ◌≢◌, ◌<◌, ◌≤◌, ◌⊎◌, ◌+◌, ℕ, List, Ok, OnOk, Result, refl, ◌∙◌, sym, ap, ⊎_elim}
+use Rattle.std.proofs.Common.{◌≡◌, ◌≢◌, ◌<◌, ◌≤◌, ◌⊎◌, ◌+◌, ℕ, List, ◌∷◌, Ok, Err, OnOk, Result, refl, ◌∙◌, sym, ap, ⊎_elim}
 use Rattle.std.proofs.Common.{arith, replicate}
 use Rattle.medium.specs.Medium.{State, Image, Holds, IsSound, Passes}
 use Rattle.medium.specs.Moments.{EachCut, IsFlushed}
@@ -17,9 +17,9 @@ use Rattle.std.proofs.lemmas.Result.{on_ok_weaker}
 use Rattle.journal.specs.Sectors.{IsHead, IsSuper}
 use Rattle.journal.specs.Formats.{shape_of}
 use Rattle.recovery.specs.NewImage.{ImageView, Under, Shows, IsBlank, IsHeaded, IsPart, IsPartAt, IsNew, IsPartOrNew, HasImage, MidwayImage}
-use Rattle.recovery.specs.Calls.{Writes}
+use Rattle.recovery.specs.Calls.{Writes, AreMade}
 use Rattle.recovery.proofs.JoinedCalls.{refused_call, none_read}
-use Rattle.recovery.specs.NewImage.{HoldsImage, MayBeImage, IsLive, IsAfter, image_left, each_midway}
+use Rattle.recovery.specs.NewImage.{HoldsImage, MayBeImage, IsLive, IsAfter, image_left, calls_ahead, each_midway}
 use Rattle.recovery.specs.declared.image_plan.ImagePlan.{ImagePlan}
 use Rattle.recovery.specs.declared.new_image.NewImage.{NewImage}
 use Rattle.recovery.specs.declared.image_stage.ImageStage.{ImageStage}
@@ -101,8 +101,17 @@ module _ {M : Type 0} {state : M → State} {at : ImageStage} {plan : ImagePlan}
   -- the next call comes, or none
   moved : of_all (image_left at plan.end) ≡ of_all (image_left next plan.end) + 1
       → Shows (HasImage plan view.under next) (MidwayImage plan view.under next (state view.start)) (state n)
-      → (next ≡ stage.Made → IsFlushed (state n)) → HoldsImage state next plan view n
-  moved one shows flushed = grind (arith, held.plan_is, held.calls live, passes.calls_are, since_on shows.cuts)
+      → (next ≡ stage.Made → IsFlushed (state n))
+      → ((k : M) → AreMade state (calls_ahead next plan.end) n k → AreMade state (calls_ahead at plan.end) m k)
+      → HoldsImage state next plan view n
+  moved one shows flushed ahead = record {
+    plan_is = held.plan_is;
+    shows = shows;
+    flushed = flushed;
+    calls = λ still. omega (arith, held.calls live, passes.calls_are, one);
+    order = λ still k rest. held.order live k (ahead k rest);
+    after_flush = since_on shows.cuts;
+  }
 
   -- one was refused
   stopped : EachCut (MidwayImage plan view.under next (state view.start)) (state n) → HoldsImage state stage.Refused plan view n
@@ -123,6 +132,7 @@ module _ {M : Type 0} {state : M → State} (sound : (m : M) → IsSound (state 
   -- A write: the contents, and what a cut leaves, are those of the next stage, with that sector written.
   pub tells_write : (place : ℕ) → place < s.plan.end → next ≢ stage.Made
       → image_left at s.plan.end ≡ one_more (image_left next s.plan.end) fault.Write
+      → calls_ahead at s.plan.end ≡ Write place ∷ calls_ahead next s.plan.end
       → ((view : ImageView M) (now : Image) → HasImage s.plan view.under at now
       → ((image : Image) → Holds place bytes now image → HasImage s.plan view.under next image)
       × ((image : Image) → MidwayImage s.plan view.under at (state view.start) image
@@ -130,7 +140,7 @@ module _ {M : Type 0} {state : M → State} (sound : (m : M) → IsSound (state 
       × ((before image : Image) → MidwayImage s.plan view.under at (state view.start) before → Holds place bytes before image
       → MidwayImage s.plan view.under next (state view.start) image))
       → TellsImage state s had (Write place) bytes
-  tells_write place below more one becomes = record {
+  tells_write place below more one ahead becomes = record {
     due = rw is due;
     within = below;
     looks = tt;
@@ -142,7 +152,7 @@ module _ {M : Type 0} {state : M → State} (sound : (m : M) → IsSound (state 
         (record {
           content = b.0 (state n).content performed.done;
           cuts = write_leaves (MidwayImage s.plan view.under next (state view.start)) (sound m) h.shows.cuts performed b.1 b.2;
-        }) (λ e. absurd (more e)));
+        }) (λ e. absurd (more e)) (λ k rest. rw ahead (n, bytes, got, performed, rest)));
     refused = λ m n got view t e fits held performed gone.
         let h = rw is at held in
         let b = becomes view (state m).content h.shows.content in
@@ -155,11 +165,12 @@ module _ {M : Type 0} {state : M → State} (sound : (m : M) → IsSound (state 
 
   -- A flush: what the contents are, and what a cut may leave of them, is so of the next stage.
   pub tells_flush : image_left at s.plan.end ≡ one_more (image_left next s.plan.end) fault.Flush
+      → calls_ahead at s.plan.end ≡ Flush ∷ calls_ahead next s.plan.end
       → ((view : ImageView M) (now : Image) → HasImage s.plan view.under at now
       → MidwayImage s.plan view.under at (state view.start) now
       → HasImage s.plan view.under next now × MidwayImage s.plan view.under next (state view.start) now)
       → IsLive at → TellsImage state s had Flush bytes
-  tells_flush one becomes live = record {
+  tells_flush one ahead becomes live = record {
     due = rw is due;
     within = tt;
     looks = tt;
@@ -168,7 +179,7 @@ module _ {M : Type 0} {state : M → State} (sound : (m : M) → IsSound (state 
         rw (after.0, leads t.stage (rw is at after.1)) (moved (sound m) h live performed.passes next lives
         (omega (arith, ap of_all one)) (omega (arith, ap of_all one))
         (flush_shows (HasImage s.plan view.under next) (MidwayImage s.plan view.under next (state view.start)) (sound m) h.shows performed
-        (becomes view (state m).content)) (λ e. flush_only performed));
+        (becomes view (state m).content)) (λ e. flush_only performed) (λ k rest. rw ahead (n, bytes, got, performed, rest)));
     refused = λ m n got view t e fits held performed gone.
         let h = rw is at held in
         rw (gone.0, gone.1) (stopped (sound m) h live performed.passes at live (omega arith)
@@ -185,8 +196,11 @@ ends_made at end live left = grind arith
 -- the image is there where Ok, and a cut leaves no other
 image_ended : {M : Type 0} {state : M → State} (result : Result (Unit {0}) MediumFault) {at : ImageStage} {plan : ImagePlan}
     {view : ImageView M} {m : M} → OnOk result (IsLive at) → OnOk result (image_left at plan.end ≡ none)
-    → HoldsImage state at plan view m → OnOk result (IsNew plan view.under (state m).content × IsFlushed (state m))
-image_ended result {at} {plan} live left held = grind (arith, ends_made at plan.end, held.flushed, held.shows.content)
+    → HoldsImage state at plan view m
+    → OnOk result (IsNew plan view.under (state m).content × IsFlushed (state m) × AreMade state view.calls view.start m)
+image_ended (Ok done) {at} {plan} live left held =
+    let made = rw (ends_made at plan.end live left) at held in (made.shows.content, made.flushed refl, made.order tt _ refl)
+image_ended (Err e) live left held = tt
 
 -- An image was written over these contents, good or refused: its calls, how it ended, and what a cut leaves from this moment on.
 pub image_driven : {M : Type 0} {state : M → State} {first now : NewImage} {began had : List ℕ} {m n : M}
@@ -203,15 +217,17 @@ pub image_driven : {M : Type 0} {state : M → State} {first now : NewImage} {be
     → of_all (image_left first.stage first.plan.end) ≡ count → (state m).calls ≤ since
     → (state m).calls + count ≡ since + (first.plan.end + 3) → ((image : Image) → MayBeImage first.plan under (state m) image → P image)
     → Writes P first.plan.end count (state m) (state n) result
-    × OnOk result (IsNew first.plan under (state n).content × IsFlushed (state n))
+    × OnOk result (IsNew first.plan under (state n).content × IsFlushed (state n)
+    × AreMade state (calls_ahead first.stage first.plan.end) m n)
     × (since + 1 ≤ (state n).calls → (image : Image) → (state n).left_since since image → IsPartOrNew first.plan under image)
 image_driven {first = first} {m = m} {result = result} P count since under drove done fits live begins no_read shows counts later
     counted may =
-    let run = drove.runs (record { start = m; plan = first.plan; under = under; since = since }) (record {
+    let run = drove.runs (record { start = m; plan = first.plan; under = under; since = since; calls = calls_ahead first.stage first.plan.end }) (record {
       plan_is = refl;
       shows = shows;
       flushed = λ e. absurd (begins e);
       calls = λ still. omega (arith, counted, counts);
+      order = λ still k all. all;
       after_flush = λ more. absurd (omega (arith, more, later));
     }) in (
       record {
@@ -223,7 +239,8 @@ image_driven {first = first} {m = m} {result = result} P count since under drove
         reads = none_read drove.tallied no_read drove.looks;
         cause = refused_call result drove.tallied;
       },
-      rw run.1.plan_is (image_ended result (on_ok_weaker result (λ on. (on.0.fits_still _ (fits, live)).1) drove.on)
+      on_ok_weaker result (λ is. (rw run.1.plan_is is.0, is.1, is.2))
+          (image_ended result (on_ok_weaker result (λ on. (on.0.fits_still _ (fits, live)).1) drove.on)
           (on_ok_weaker result (λ end. end.0) done) run.1),
       rw run.1.plan_is run.1.after_flush,
     )

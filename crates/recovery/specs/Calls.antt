@@ -1,6 +1,11 @@
 -- What the calls of a recovery, a migration or a format do, cost and make, and what a cut leaves.
 use Rattle.std.specs.Prelude.{◌≡◌, ◌≢◌, ◌⊎◌, ℕ, ◌+◌, ◌*◌, ◌<◌, ◌≤◌, List, [], ◌∷◌, length}
-use Rattle.std.specs.Prelude.{slice_index, replicate, Result, OnOk, IfErr, ◌^◌}
+use Rattle.std.specs.Prelude.{slice_index, replicate, Result, Ok, OnOk, IfErr, ◌^◌, ◌-◌, ◌++◌, map}
+use Rattle.std.specs.Prelude.{Bool, if◌then◌else◌}
+use Rattle.std.specs.List.{range_with_len}
+use Rattle.medium.specs.Performed.{Performed}
+use Rattle.medium.specs.declared.medium_call.Call.{Call}
+use Rattle.medium.specs.declared.medium_call.Call.TheVariants.{Write, Flush}
 use Rattle.medium.specs.Medium.{State, Image, Sets, CutLeaves, LooksOnly, Holds}
 use Rattle.medium.specs.Moments.{LeavesOnly, SparesFrom, IsFlushed}
 use Rattle.medium.specs.Sent.{SendsUpTo}
@@ -49,6 +54,21 @@ pub record FollowsBy {M : Type 0} (state : M → State) (Follows : M → M → T
   pub follows : Follows old new
   pub sent : SendsUpTo sends (state old) (state new)
   pub looks : ReadsNothing (state old) (state new)
+
+-- these calls were made, in this order, and no other
+abbrev pub AreMade : {M : Type 0} → (M → State) → List Call → M → M → Type 0
+AreMade state [] old new = new ≡ old
+AreMade {M = M} state (call ∷ calls) old new = (mid : M) × (bytes : List ℕ) × (got : List ℕ)
+    × Performed call bytes got (Ok tt) (state old) (state mid) × AreMade state calls mid new
+
+-- the head and a flush, the super and a flush
+abbrev pub head_and_super : List Call
+head_and_super = Write 1 ∷ Flush ∷ Write 0 ∷ Flush ∷ []
+
+-- before them zeros from this sector up to the end, and perhaps a flush of these
+abbrev pub zeros_and_head : ℕ → Bool → ℕ → List Call
+zeros_and_head at flush end = map Write (range_with_len at (end - at))
+    ++ (if flush then Flush ∷ head_and_super else head_and_super)
 
 -- Where Ok, this many calls were made; where refused, no more than that.
 pub record CallsUpTo {X E : Type 0} (count : ℕ) (old new : State) (result : Result X E)

@@ -1,13 +1,16 @@
 -- What a new image and a medium hold while it is written, and what those hold of which sectors are cleared.
 use Rattle.std.specs.Prelude.{◌≡◌, ◌≢◌, ◌⊎◌, ℕ, ◌+◌, ◌-◌, ◌≤◌, ◌<◌, false}
-use Rattle.std.specs.Prelude.{if◌then◌else◌, replicate}
+use Rattle.std.specs.Prelude.{if◌then◌else◌, replicate, List, [], ◌∷◌}
 use Rattle.std.proofs.Common.{inl, inr}
 use Rattle.medium.specs.Medium.{State, Image, CutLeaves, Holds, Stays, Within}
 use Rattle.medium.specs.Moments.{EachCut, IsFlushed}
 use Rattle.medium.specs.Tally.{Tally, none, of_all}
 use Rattle.journal.specs.Formats.{shape_of}
 use Rattle.journal.specs.Sectors.{IsHead}
-use Rattle.recovery.specs.Calls.{IsBetween, IsWritten, WithOrWithout, cleared_at}
+use Rattle.recovery.specs.Calls.{IsBetween, IsWritten, WithOrWithout, cleared_at, AreMade}
+use Rattle.recovery.specs.Calls.{zeros_and_head}
+use Rattle.medium.specs.declared.medium_call.Call.{Call}
+use Rattle.medium.specs.declared.medium_call.Call.TheVariants.{Write, Flush}
 use Rattle.recovery.specs.declared.image_plan.ImagePlan.{ImagePlan}
 use Rattle.recovery.specs.declared.image_stage.ImageStage.{ImageStage}
 use Rattle.recovery.specs.declared.image_stage.ImageStage.TheVariants as stage
@@ -19,13 +22,14 @@ pub record Under : Type 0 where
   pub some : 1 ≤ first
   pub most : first ≤ 2
 
--- The medium when an image of this plan began to be written, over these contents; and the moment
--- from which on a cut leaves a part of it, or it.
+-- The medium when an image of this plan began to be written, over these contents; the moment
+-- from which on a cut leaves a part of it, or it; and the calls that write it.
 pub record ImageView (M : Type 0) : Type 0 where
   pub start : M
   pub plan : ImagePlan
   pub under : Under
   pub since : ℕ
+  pub calls : List Call
 
 -- the contents have D, and each image that a cut now may leave has K
 pub record Shows (D K : Image → Type 0) (m : State) : Type 0 where
@@ -116,6 +120,17 @@ image_left stage.FlushSuper end = record { reads = 0; writes = 0; flushes = 1 }
 image_left stage.Made end = none
 image_left stage.Refused end = none
 
+-- in their order
+abbrev pub calls_ahead : ImageStage → ℕ → List Call
+calls_ahead stage.Wipe end = Write 0 ∷ Flush ∷ zeros_and_head 1 false end
+calls_ahead stage.FlushWipe end = Flush ∷ zeros_and_head 1 false end
+calls_ahead (stage.Zeros at flush) end = zeros_and_head at flush end
+calls_ahead stage.FlushHead end = Flush ∷ Write 0 ∷ Flush ∷ []
+calls_ahead stage.Super end = Write 0 ∷ Flush ∷ []
+calls_ahead stage.FlushSuper end = Flush ∷ []
+calls_ahead stage.Made end = []
+calls_ahead stage.Refused end = []
+
 -- no call was refused
 abbrev pub IsLive : ImageStage → Type 0
 IsLive stage.Wipe = Unit {0}
@@ -148,6 +163,9 @@ pub record HoldsImage {M : Type 0} (state : M → State) (at : ImageStage) (plan
   pub flushed : at ≡ stage.Made → IsFlushed (state m)
   pub calls : IsLive at
       → (state m).calls + of_all (image_left at plan.end) ≡ view.since + (plan.end + 3)
+  -- with those that are left all are made
+  pub order : IsLive at → (n : M) → AreMade state (calls_ahead at plan.end) m n
+      → AreMade state view.calls view.start n
   pub after_flush : view.since + 1 ≤ (state m).calls → (image : Image)
       → (state m).left_since view.since image → IsPartOrNew plan view.under image
 

@@ -13,7 +13,8 @@ use Rattle.journal.specs.Places.{limit_of}
 use Rattle.journal.specs.Formats.{shape_of, CarriesBelow, HasWhole}
 use Rattle.journal.specs.Sectors.{IsSuper, IsHead}
 use Rattle.journal.specs.Standing.{StandsFor, IsOurs, HasShape}
-use Rattle.recovery.specs.Calls.{copy_calls, most_start_of, most_start_sends, LooksAtLog}
+use Rattle.recovery.specs.Calls.{copy_calls, most_start_of, most_start_sends, LooksAtLog, AreMade}
+use Rattle.recovery.specs.Calls.{zeros_and_head}
 use Rattle.recovery.specs.Causes.{HasFewSlots, IsCause, IsDeviceFault, WritesNothing, IsRefusalBy}
 use Rattle.recovery.specs.Causes.{AreTries}
 use Rattle.recovery.specs.declared.recovered.Recovered.{Recovered}
@@ -185,6 +186,23 @@ pub record IsMigratedFrom (old new : State) (answer : Recovered) : Type 0 where
 abbrev pub IsMigrationBy : Bool → State → State → Recovered → Type 0
 IsMigrationBy true old new answer = IsMigratedFrom old new answer
 IsMigrationBy false old new answer = (answer.sizes.format ≡ Two) × IsRecoveredFrom old new answer
+
+-- Behind a recovery an image of format 1 gets, in this order, zeros in each sector of its log, a
+-- flush, the head, a flush, the super and a flush.
+abbrev pub IsInOrder : {M : Type 0} → (M → State) → Bool → M → M → Type 0
+IsInOrder {M = M} state true old new = (mid : M) × (found : Recovered)
+    × IsRecoveredFrom (state old) (state mid) found
+    × AreMade state (zeros_and_head 2 true found.sizes.home) mid new
+IsInOrder state false old new = Unit {0}
+
+-- A good migration: its calls come in order, and where the contents were ours, nothing in any image
+-- carries the next stamp or a later one.
+pub record EndsMigration {M : Type 0} (state : M → State) (was_one : Bool) (old new : M)
+    (answer : Recovered) : Type 0 where
+  pub order : IsInOrder state was_one old new
+  pub fresh : (shape : Shape) (array : Array) (next : ℕ)
+      → IsOurs (state old).size shape (state old).content array next
+      → EachCut (IsFresh (shape_of answer.sizes) array next) (state new)
 
 -- why a migration is refused: by the medium, or by the image, and then nothing was written
 abbrev pub IsMigrationCause : State → State → StartFault → Type 0

@@ -1,13 +1,11 @@
 //! The migration of an image of format 1 to format 2.
-ghost use Rattle.std.specs.Prelude.{◌≡◌, ◌<◌, ◌≤◌, ◌+◌, ◌*◌, ◌^◌, ℕ, IfOk, IfErr};
-ghost use Rattle.medium.specs.Moments.{EachCut, IsFlushed};
-ghost use Rattle.spec.specs.Blocks.{Array};
-ghost use Rattle.journal.specs.Places.{Shape, sectors_of, migrated};
+ghost use Rattle.std.specs.Prelude.{◌≡◌, ◌<◌, ◌≤◌, ◌+◌, ◌*◌, ◌^◌, true, IfOk, IfErr};
+ghost use Rattle.medium.specs.Moments.{IsFlushed};
+ghost use Rattle.journal.specs.Places.{sectors_of, migrated};
 ghost use Rattle.journal.specs.Formats.{shape_of};
-ghost use Rattle.journal.specs.Standing.{IsOurs};
-ghost use Rattle.recovery.specs.Recovered.{IsFresh, CanMigrate, IsMigrationBy, IsMigrationRefusal};
+ghost use Rattle.recovery.specs.Recovered.{EndsMigration, CanMigrate, IsMigrationBy, IsMigrationRefusal};
 ghost use Rattle.recovery.specs.Recovered.{MigrationLeaves, IsMadeTwo, StaysFresh};
-ghost use Rattle.recovery.specs.Calls.{Writes};
+ghost use Rattle.recovery.specs.Calls.{Writes, AreMade, zeros_and_head};
 
 use crate::image_plan::ImagePlan;
 use crate::image_stage::ImageStage;
@@ -30,11 +28,9 @@ pub fn migrate<M: Medium>(m: &mut M) -> Result<(Recovered, bool), StartFault>
     // A function of the contents: what they stood for, whether or not other images were allowed.
     ensures ok { IfOk result (λ answer.
         IsMigrationBy answer.1 (M.state m.old) (M.state m.new) answer.0) }
-    // Where the contents were ours, nothing in any image carries the next stamp or a later one.
-    ensures fresh { (shape : Shape) (array : Array) (next : ℕ)
-        → IsOurs (M.state m.old).size shape (M.state m.old).content array next
-        → IfOk result (λ answer.
-        EachCut (IsFresh (shape_of answer.0.sizes) array next) (M.state m.new)) }
+    // Its calls come in order, and behind them no image carries the next stamp or a later one.
+    ensures ends { IfOk result (λ answer.
+        EndsMigration M.state answer.1 m.old m.new answer.0) }
     // Contents that stand for an array, with a stamp left and at least 5 slots, are refused by the
     // device alone.
     ensures err { IfErr result (IsMigrationRefusal (M.state m.old) (M.state m.new)) }
@@ -62,7 +58,8 @@ fn make_two<M: Medium>(m: &mut M, found: &Recovered) -> Result<Recovered, Medium
     ensures ok { IfOk result (λ answer.
         (shape_of answer.sizes ≡ migrated (shape_of found.now.sizes))
         × (answer.next ≡ found.now.next)
-        × IsMadeTwo (shape_of found.now.sizes) found.now.next (M.state m.new)) }
+        × IsMadeTwo (shape_of found.now.sizes) found.now.next (M.state m.new)
+        × AreMade M.state (zeros_and_head 2 true found.now.sizes.home) m.old m.new) }
     // A write for each sector of the log, a flush, the head, a flush, the super and a flush.
     ensures writes { Writes
         (StaysFresh (shape_of found.now.sizes) found.now.next (M.state m.old).content)

@@ -1,4 +1,4 @@
-use Rattle.std.proofs.Common.{◌≡◌, ◌≢◌, ◌⊎◌, inl, inr, ⊎_elim, ℕ, ◌+◌, refl, ◌∙◌, arith, rules, replicate, OnOk}
+use Rattle.std.proofs.Common.{◌≡◌, ◌≢◌, ◌⊎◌, inl, inr, ⊎_elim, ℕ, ◌+◌, refl, true, ◌∙◌, arith, rules, replicate, OnOk}
 use Rattle.std.proofs.lemmas.Result.{on_ok_weaker}
 use Rattle.medium.specs.Medium.{State, Image}
 use Rattle.medium.specs.Moments.{IsFlushed}
@@ -6,7 +6,7 @@ use Rattle.spec.specs.Blocks.{Array}
 use Rattle.journal.specs.Places.{Shape, first_home, migrated}
 use Rattle.journal.specs.Formats.{shape_of}
 use Rattle.journal.proofs.Formats.{laws_of}
-use Rattle.recovery.specs.Calls.{Writes, IsBetween, IsWritten, WithOrWithout}
+use Rattle.recovery.specs.Calls.{AreMade, zeros_and_head, Writes, IsBetween, IsWritten, WithOrWithout}
 use Rattle.recovery.specs.NewImage.{Under, IsPart}
 use Rattle.recovery.specs.Recovered.{StaysFresh, IsFresh, IsMadeTwo}
 use Rattle.recovery.specs.declared.image_plan.ImagePlan.{ImagePlan}
@@ -69,7 +69,8 @@ stays_fresh {plan = plan} {under = under} {sizes = sizes} {image = image} m two 
 made : (g : _) (c : After-drive g) → let shape = shape_of c.args.found.now.sizes in let next = c.args.found.now.next in
     Writes (StaysFresh shape next (g.M.Medium.state c.args.m.now).content) shape.home (shape.home + 3) (g.M.Medium.state c.args.m.now)
     (g.M.Medium.state c.drive.new.m) c.drive.result
-    × OnOk c.drive.result (IsMadeTwo shape next (g.M.Medium.state c.drive.new.m))
+    × OnOk c.drive.result (IsMadeTwo shape next (g.M.Medium.state c.drive.new.m)
+    × AreMade g.M.Medium.state (zeros_and_head 2 true shape.home) c.args.m.now c.drive.new.m)
 made g c =
     let old = g.M.Medium.state c.args.m.now in
     let shape = shape_of c.args.found.now.sizes in
@@ -85,12 +86,15 @@ made g c =
     (λ image may array fresh. rw (← c.new.ensures)
     (stays_fresh old refl refl c.requires.flushed refl two (rw (← c.new.ensures) at fresh) may)) in (
       d.0,
-      on_ok_weaker c.drive.result (λ is. record {
-        flushed = is.1;
-        super = rw two at is.0.super;
-        head = rw c.new.ensures at is.0.head;
-        zeros = is.0.zeros;
-      }) d.1,
+      on_ok_weaker c.drive.result (λ is. (
+        record {
+          flushed = is.1;
+          super = rw two at is.0.super;
+          head = rw c.new.ensures at is.0.head;
+          zeros = is.0.zeros;
+        },
+        is.2,
+      )) d.1,
     )
 
 pub returns-in_err-drive-clause-writes : goal.returns-in_err-drive-clause-writes
@@ -102,4 +106,5 @@ returns-clause-writes g c = search (rules, (made g (goal.at.returns-clause-write
 
 pub returns-clause-ok : goal.returns-clause-ok
 returns-clause-ok g c =
-    (c.migrated-sizes.ensures, refl, rw c.in_ok-drive.was at (made g (goal.at.returns-clause-ok g c).After-drive).1)
+    let done = rw c.in_ok-drive.was at (made g (goal.at.returns-clause-ok g c).After-drive).1 in
+    (c.migrated-sizes.ensures, refl, done.0, done.1)

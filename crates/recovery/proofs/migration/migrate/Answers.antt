@@ -1,4 +1,4 @@
-use Rattle.std.proofs.Common.{◌≡◌, inl, inr, ⊎_elim, ℕ, ◌+◌, ◌*◌, ◌<◌, length, refl, ◌∙◌, arith, rules, min, Result}
+use Rattle.std.proofs.Common.{◌≡◌, inl, inr, ⊎_elim, ℕ, ◌+◌, ◌*◌, ◌<◌, length, refl, ◌∙◌, arith, rules, min, Result, true}
 use Rattle.std.proofs.lemmas.Result.{err_from_is_err_and}
 use Rattle.medium.specs.Medium.{State, IsSound}
 use Rattle.medium.specs.Moments.{EachCut}
@@ -17,7 +17,7 @@ use Rattle.journal.proofs.StandingLaws.{StandsFor-one, StandsFor-shape}
 use Rattle.recovery.specs.Calls.{Writes, copy_calls}
 use Rattle.recovery.specs.Causes.{HasFewSlots, start_fault_of, IsRefusedCall}
 use Rattle.recovery.specs.Recovered.{IsRecoveredFrom, IsFresh, LeavesAtLeast, CanMigrate, IsMadeTwo, IsMigratedFrom}
-use Rattle.recovery.specs.Recovered.{IsMigrationRefusal, StaysFresh, MigrationLeaves, most_migration_sends}
+use Rattle.recovery.specs.Recovered.{IsMigrationRefusal, StaysFresh, MigrationLeaves, most_migration_sends, IsInOrder}
 use Rattle.recovery.specs.declared.recovered.Recovered.{Recovered}
 use Rattle.recovery.proofs.WholeRecovery.{recovery_leaves, served_slots, start_on}
 use Rattle.recovery.proofs.JoinedCalls.{log_ends, AreSame, zeros_fresh, fresh_ours}
@@ -142,11 +142,17 @@ pub returns-in_ok-make_two : goal.returns-in_ok-make_two
 returns-in_ok-make_two g c =
     let done = c.in_ok-make_two.ensures in
     let from = migrated_from c.in_ok-found.ensures.ok (c.migrates.ensures.0 c.if-migrates.true)
-    c.make_two.ensures.writes c.in_ok-make_two.field-0 done.ok done.writes.exact in
-    search (rules, from, makes g (goal.at.returns-in_ok-make_two g c).After-make_two, g.met.M.Medium.follows_through)
+    c.make_two.ensures.writes c.in_ok-make_two.field-0 (done.ok.0, done.ok.1, done.ok.2) done.writes.exact in
+    let order : IsInOrder g.M.Medium.state true c.args.m.now c.make_two.new.m =
+    (c.recover_at_least.new.m, c.in_ok-found.found, c.in_ok-found.ensures.ok.0, done.ok.3) in
+    search (rules, from, order, makes g (goal.at.returns-in_ok-make_two g c).After-make_two, g.met.M.Medium.follows_through)
 
-pub returns-else-migrates-clause-fresh : goal.returns-else-migrates-clause-fresh
-returns-else-migrates-clause-fresh g c shape array next ours =
-    rw
-    (← IsSuper-one shape (shape_of c.in_ok-found.found.sizes) _ ours.stands.keeps.super c.in_ok-found.ensures.ok.0.stood.keeps.super)
-    (c.in_ok-found.ensures.fresh shape array next ours)
+pub returns-else-migrates-clause-ends : goal.returns-else-migrates-clause-ends
+returns-else-migrates-clause-ends g c =
+    let found = c.in_ok-found.ensures in
+    record {
+      order = tt;
+      fresh = λ shape array next ours.
+          rw (← IsSuper-one shape (shape_of c.in_ok-found.found.sizes) _ ours.stands.keeps.super found.ok.0.stood.keeps.super)
+          (found.fresh shape array next ours);
+    }

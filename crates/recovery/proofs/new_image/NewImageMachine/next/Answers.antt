@@ -1,4 +1,4 @@
-use Rattle.std.proofs.Common.{◌≡◌, true, false, ◌≤◌, ◌+◌, ◌-◌, inl, inr, refl, ◌∙◌, sym, arith}
+use Rattle.std.proofs.Common.{◌≡◌, true, false, ◌≤◌, ◌+◌, ◌-◌, inl, inr, refl, suc, ◌∙◌, sym, arith}
 use Rattle.std.proofs.lemmas.Bool.{cases_eq}
 use Rattle.recovery.specs.declared.image_stage.ImageStage.TheVariants as stage
 use Rattle.recovery.proofs.ImageCalls.{tells_write, tells_flush, blank_on, headed, written, part_on}
@@ -10,7 +10,7 @@ returns-in-Wipe g c =
     let long : 2 ≤ s.plan.end = omega (arith, s.plan.sizes.home_is.0, s.plan.long) in
     let one : s.plan.end + 2 ≡ s.plan.end + 1 + 1 = omega arith in
     tells_write g.met.M.Medium.sound s stage.Wipe stage.FlushWipe c.in-Wipe.is tt (λ t is. is) (omega arith) 0 (omega (arith, long))
-    (λ e. cc e) (rw one refl) (λ view now has. (
+    (λ e. cc e) (rw one refl) refl (λ view now has. (
       λ image holds. (
         has.0,
         λ x. elim (cases_eq x 0) [
@@ -28,7 +28,7 @@ returns-in-FlushWipe g c =
     let long : 2 ≤ s.plan.end = omega (arith, s.plan.sizes.home_is.0, s.plan.long) in
     let one : s.plan.end + 1 ≡ s.plan.end - 1 + 2 = omega (arith, long) in
     tells_flush g.met.M.Medium.sound s stage.FlushWipe (stage.Zeros 1 false) c.in-FlushWipe.is tt (λ t is. is) (omega arith)
-    (rw one refl) (λ view now has cut. (
+    (rw one refl) refl (λ view now has cut. (
       record {
         some = omega (arith, has.0);
         inside = omega (arith, long);
@@ -44,8 +44,9 @@ returns-in-Zeros g c =
     let at = c.in-Zeros.at in
     let below = c.if-at-self.true in
     let one : s.plan.end - at + 2 ≡ s.plan.end - (at + 1) + 2 + 1 = omega (arith, below) in
+    let more : s.plan.end - at ≡ suc (s.plan.end - (at + 1)) = omega (arith, below) in
     tells_write g.met.M.Medium.sound s (stage.Zeros at c.in-Zeros.field-1) (stage.Zeros (at + 1) c.in-Zeros.field-1) c.in-Zeros.is tt
-    (λ t is. is.0 below) (omega arith) at below (λ e. cc e) (rw one refl) (λ view now has. (
+    (λ t is. is.0 below) (omega arith) at below (λ e. cc e) (rw one refl) (rw more refl) (λ view now has. (
       λ image holds. blank_on below has holds,
       λ image is. is,
       λ before image is holds. part_on is holds (inr (inl ((has.some, below), holds.here))),
@@ -56,8 +57,9 @@ returns-in-Zeros-2 g c =
     let s = c.args.self.now in
     let at = c.in-Zeros.at in
     let is : s.stage ≡ stage.Zeros at true = cc (c.in-Zeros.is, c.in-Zeros-2.is, c.if-flush.true) in
+    let none : s.plan.end - at ≡ 0 = omega (arith, c.if-at-self.false) in
     tells_flush g.met.M.Medium.sound s (stage.Zeros at true) (stage.Zeros at false) is tt (λ t is. is.1 c.if-at-self.false) (omega arith)
-    refl (λ view now has cut. (has, cut)) tt
+    refl (rw none refl) (λ view now has cut. (has, cut)) tt
 
 pub returns-in-Zeros-3 : goal.returns-in-Zeros-3
 returns-in-Zeros-3 g c =
@@ -66,9 +68,9 @@ returns-in-Zeros-3 g c =
     let is : s.stage ≡ stage.Zeros at false = cc (c.in-Zeros.is, c.in-Zeros-2.is, c.if-flush.false) in
     let full = c.if-at-self.false in
     let long : 2 ≤ s.plan.end = omega (arith, s.plan.sizes.home_is.0, s.plan.long) in
-    let two : s.plan.end - at + 2 ≡ 2 = omega (arith, full) in
+    let none : s.plan.end - at ≡ 0 = omega (arith, full) in
     tells_write g.met.M.Medium.sound s (stage.Zeros at false) stage.FlushHead is tt (λ t is. is.1 full) (omega arith) 1
-    (omega (arith, long)) (λ e. cc e) (rw two refl) (λ view now has. (
+    (omega (arith, long)) (λ e. cc e) (rw none refl) (rw none refl) (λ view now has. (
       λ image holds. headed full c.encode.ensures has holds,
       λ image is. is,
       λ before image is holds. part_on is holds (inr (inr (refl, rw holds.here c.encode.ensures))),
@@ -77,7 +79,7 @@ returns-in-Zeros-3 g c =
 pub returns-in-FlushHead : goal.returns-in-FlushHead
 returns-in-FlushHead g c =
     tells_flush g.met.M.Medium.sound c.args.self.now stage.FlushHead stage.Super c.in-FlushHead.is tt (λ t is. is) (omega arith) refl
-    (λ view now has cut. (has, (has, cut))) tt
+    refl (λ view now has cut. (has, (has, cut))) tt
 
 pub returns-in-Super : goal.returns-in-Super
 returns-in-Super g c =
@@ -85,7 +87,7 @@ returns-in-Super g c =
     let long : 2 ≤ s.plan.end = omega (arith, s.plan.sizes.home_is.0, s.plan.long) in
     let super = c.encode-in-Super.ensures in
     tells_write g.met.M.Medium.sound s stage.Super stage.FlushSuper c.in-Super.is tt (λ t is. is) (omega arith) 0 (omega (arith, long))
-    (λ e. cc e) refl (λ view now has. (
+    (λ e. cc e) refl refl (λ view now has. (
       λ image holds. written long super has holds,
       λ image is. inl is.1,
       λ before image is holds. inr (written long super is.0 holds),
@@ -94,4 +96,4 @@ returns-in-Super g c =
 pub returns-in-FlushSuper : goal.returns-in-FlushSuper
 returns-in-FlushSuper g c =
     tells_flush g.met.M.Medium.sound c.args.self.now stage.FlushSuper stage.Made c.in-FlushSuper.is tt (λ t is. is) (omega arith) refl
-    (λ view now has cut. (has, has)) tt
+    refl (λ view now has cut. (has, has)) tt
