@@ -209,7 +209,8 @@ module _ {M : Type 0} {state : M → State} {reader : RecordReader} {step : Copy
         (performed : Performed (Write place) bytes got (Ok tt) (state m) (state n)) where
       written : (state n).content (first_home (shape_of view.sizes) + get_or reader.read.numbers.items step.i 0)
           ≡ block_of (get_or view.records held.home []) step.i
-      written = grind (arith, is_read.blocks_are step.i (omega (arith, below, long)), here is performed, held.at.half full, performed.done.here)
+      written =
+          grind (arith, is_read.blocks_are step.i (omega (arith, below, long)), here is performed, held.at.half full, performed.done.here)
 
       copied_on : (k : ℕ) → k < step.i + 1 → (state n).content (first_home (shape_of view.sizes) + get_or reader.read.numbers.items k 0)
           ≡ block_of (get_or view.records held.home []) k
@@ -285,7 +286,13 @@ gathered P (suc count) each =
     let last = each count (omega arith) in (
       before.0 ++ last.0 ∷ [],
       omega (arith, before.1, length-append before.0 (last.0 ∷ [])),
-      λ j below. grind (arith, get_or_append_left before.0 (last.0 ∷ []) [] j, before.2 j, get_or_push before.0 last.0 [] count before.1, last.1),
+      λ j below. grind (
+        arith,
+        get_or_append_left before.0 (last.0 ∷ []) [] j,
+        before.2 j,
+        get_or_push before.0 last.0 [] count before.1,
+        last.1,
+      ),
     )
 
 -- before the first call
@@ -301,4 +308,5 @@ not_copied {state = state} reader step had view sizes stamp left first no_bytes 
 pub all_copied : {M : Type 0} {state : M → State} {reader : RecordReader} {step : CopyStep} {had : List ℕ} {view : CopyView M} {m : M}
     → HoldsCopied state reader step had view m → step.left ≡ 0 → (state m).failures ≡ (state view.start).failures
     → AreCopied (shape_of view.sizes) view.records (state view.start) (state m)
-all_copied {view = view} held none good = grind (arith, held.at.ended none, take_all held.home view.records, held.at.others good, held.at.calls good)
+all_copied {view = view} held none good =
+    grind (arith, held.at.ended none, take_all held.home view.records, held.at.others good, held.at.calls good)

@@ -222,7 +222,9 @@ pub image_driven : {M : Type 0} {state : M → State} {first now : NewImage} {be
     × (since + 1 ≤ (state n).calls → (image : Image) → (state n).left_since since image → IsPartOrNew first.plan under image)
 image_driven {first = first} {m = m} {result = result} P count since under drove done fits live begins no_read shows counts later
     counted may =
-    let run = drove.runs (record { start = m; plan = first.plan; under = under; since = since; calls = calls_ahead first.stage first.plan.end }) (record {
+    let run = drove.runs
+    (record { start = m; plan = first.plan; under = under; since = since; calls = calls_ahead first.stage first.plan.end })
+    (record {
       plan_is = refl;
       shows = shows;
       flushed = λ e. absurd (begins e);

@@ -1,6 +1,6 @@
 -- Calls, and then others: what they are together, and what is left at each moment of them; and records that are copied home.
-use Rattle.std.proofs.Common.{◌≡◌, inl, inr, ℕ, ◌+◌, ◌*◌, ◌<◌, ◌≤◌, List, [], length, get_or, refl, ◌∙◌, ap, subst, ◌⊎◌, ⊎_elim, replicate, sym}
-use Rattle.std.proofs.Common.{arith, rules, Result, ◌≢◌, IfErr, OnOk, Ok, Err}
+use Rattle.std.proofs.Common.{◌≡◌, inl, inr, ℕ, ◌+◌, ◌*◌, ◌<◌, ◌≤◌, List, [], length, get_or, refl, ◌∙◌, ap, subst, ◌⊎◌, ⊎_elim, replicate}
+use Rattle.std.proofs.Common.{sym, arith, rules, Result, ◌≢◌, IfErr, OnOk, Ok, Err}
 use Rattle.std.proofs.Math.ListN.{get_or-map}
 use Rattle.std.proofs.lemmas.List.{length-map}
 use Rattle.std.proofs.lemmas.Result.{on_ok_weaker}
@@ -26,8 +26,8 @@ use Rattle.journal.proofs.Formats.{laws_of, sectors_are}
 use Rattle.journal.proofs.Wholeness.{IsWhole-one, IsWhole-same, slot_inside, CarriesBelow-agree, in_log, with_records-same, records-hide}
 use Rattle.journal.proofs.Engine.{rests_found, none_carried}
 use Rattle.journal.proofs.SectorNumbers.{IsHead-one}
-use Rattle.recovery.specs.Calls.{IsHomeOf, IsHomeInRecords, LooksAtLog, Writes, cleared_at, WithOrWithout, IsBetween, IsNoneOrNew, ImageLeaves}
-use Rattle.recovery.specs.Calls.{IsMade, IsWritten, IsNoneOrWritten, WritesImage, ReadsNothing}
+use Rattle.recovery.specs.Calls.{IsHomeOf, IsHomeInRecords, LooksAtLog, Writes, cleared_at, WithOrWithout, IsBetween}
+use Rattle.recovery.specs.Calls.{IsNoneOrNew, ImageLeaves, IsMade, IsWritten, IsNoneOrWritten, WritesImage, ReadsNothing}
 use Rattle.recovery.specs.Recovered.{IsFresh, HasNoneWaiting}
 
 -- what a cut may leave in one sector an image has there that it may leave

@@ -242,8 +242,8 @@ module _ {M : Type 0} (state : M → State) (sound : (m : M) → IsSound (state 
       -- or refused
       pub survey_read : {e : MediumFault} → Performed call bytes got (Err e) (state m) (state n) → SurveysAtMost (state mid) (state n)
       survey_read {e = e} performed = survey_reads state (driven_refused
-          (λ s had m view holds image cut x. holds.quiet.sets_shrink x (image x) (cut x)) fits_first held.midway.1 tells performed e refl survey
-          (record { reader_stays = refl; left_stays = refl; place_stays = refl; counts_stay = refl })) at.sizes head at.new at.found
+          (λ s had m view holds image cut x. holds.quiet.sets_shrink x (image x) (cut x)) fits_first held.midway.1 tells performed e refl
+          survey (record { reader_stays = refl; left_stays = refl; place_stays = refl; counts_stay = refl })) at.sizes head at.new at.found
 
 -- what a start holds at a stage, a look does
 pub can_look : {sectors : ℕ} {at : StartPoint} {survey : Surveying} {step : CopyStep} → CanStart sectors at survey step

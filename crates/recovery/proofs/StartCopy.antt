@@ -1,5 +1,6 @@
 -- The copies of a start, call by call, and what is home at their end.
-use Rattle.std.proofs.Common.{◌≡◌, ◌∙◌, sym, refl, ⊎_elim, ℕ, ◌+◌, ◌*◌, ◌<◌, ◌≤◌, List, [], length, get_or, arith, Result, Ok, Err, false, ◌^◌}
+use Rattle.std.proofs.Common.{◌≡◌, ◌∙◌, sym, refl, ⊎_elim, ℕ, ◌+◌, ◌*◌, ◌<◌, ◌≤◌, List, [], length, get_or, arith, Result, Ok, Err}
+use Rattle.std.proofs.Common.{false, ◌^◌}
 use Rattle.medium.specs.Medium.{State, CutLeaves, IsSound}
 use Rattle.medium.specs.Moments.{LeavesOnly}
 use Rattle.medium.specs.Performed.{Performed}

@@ -83,7 +83,8 @@ module _ {M : Type 0} {state : M → State} {reader : RecordReader} {left place 
     Try = Good → IsTryOf view.sizes.format shape image reader.stamp going.before (state n).calls
 
     tried : Try → Good → AreTries shape image view.head (length waiting + 1) (state view.start).calls (state n).calls
-    tried was none = tries_more view.sizes.format shape image view.head (length waiting) _ going.before _ (going.to.calls (none_before none)).0
+    tried was none =
+        tries_more view.sizes.format shape image view.head (length waiting) _ going.before _ (going.to.calls (none_before none)).0
         (rw (← going.to.stamp_is) (was none))
 
     -- it is not whole
@@ -141,7 +142,8 @@ module _ {M : Type 0} {state : M → State} {reader : RecordReader} {left place 
       pub named_taken : {next : RecordReader} {less after : ℕ} {counts : List ℕ} → next.sizes ≡ reader.sizes
           → TakesName reader left place waiting got next less after counts → HoldsSurveyed state next less after counts view n
       named_taken sizes (inl on) = rw (on.left_stays, on.place_stays, on.counts_stay) (trying performed sizes on.stamp_stays
-          (going.reads + 1) (rw on.stamp_stays (learned going.reads going.to.known on.learns)) (λ i below. absurd (omega (arith, below, first)))
+          (going.reads + 1) (rw on.stamp_stays (learned going.reads going.to.known on.learns))
+          (λ i below. absurd (omega (arith, below, first)))
           (λ none. (none_before none, omega (arith, calls_now none, first))))
       named_taken sizes (inr (inl gone)) =
           let found = learned going.reads going.to.known gone.learns in

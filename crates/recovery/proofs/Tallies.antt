@@ -82,7 +82,7 @@ module _ (reader : RecordReader) (step : CopyStep) (due : 0 < step.left) where
 -- where no call is left no record is
 pub none_left : (reader : RecordReader) (step : CopyStep) → CanCopy reader step → copies_left reader step ≡ none → step.left ≡ 0
 none_left reader step goes none_is =
-    grind (arith, goes.there, goes.named, goes.unnamed, inside reader step, naming_due reader step, block_due reader step, home_due reader step)
+    grind (arith, goes.there, goes.named, inside reader step, naming_due reader step, block_due reader step, home_due reader step)
 
 pub most_copies : (reader : RecordReader) (step : CopyStep) {sizes : Super} {left : ℕ} → reader.sizes ≡ sizes → step.left ≡ left
     → of_all (copies_left reader step) ≤ most_calls_of sizes.format * left

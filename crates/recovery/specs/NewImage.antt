@@ -1,4 +1,4 @@
--- What a new image and a medium hold while it is written, and what those hold of which sectors are cleared.
+-- What a new image and a medium hold while it is written, and while sectors are cleared.
 use Rattle.std.specs.Prelude.{◌≡◌, ◌≢◌, ◌⊎◌, ℕ, ◌+◌, ◌-◌, ◌≤◌, ◌<◌, false}
 use Rattle.std.specs.Prelude.{if◌then◌else◌, replicate, List, [], ◌∷◌}
 use Rattle.std.proofs.Common.{inl, inr}

@@ -3,7 +3,8 @@ ghost use Rattle.std.specs.Prelude.{◌≡◌, ◌<◌, ◌≤◌, ◌+◌, ◌*
 ghost use Rattle.medium.specs.Moments.{IsFlushed};
 ghost use Rattle.journal.specs.Places.{sectors_of, migrated};
 ghost use Rattle.journal.specs.Formats.{shape_of};
-ghost use Rattle.recovery.specs.Recovered.{EndsMigration, CanMigrate, IsMigrationBy, IsMigrationRefusal};
+ghost use Rattle.recovery.specs.Recovered.{EndsMigration, CanMigrate, IsMigrationBy};
+ghost use Rattle.recovery.specs.Recovered.{IsMigrationRefusal};
 ghost use Rattle.recovery.specs.Recovered.{MigrationLeaves, IsMadeTwo, StaysFresh};
 ghost use Rattle.recovery.specs.Calls.{Writes, AreMade, zeros_and_head};
 

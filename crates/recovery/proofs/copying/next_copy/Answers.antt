@@ -1,4 +1,5 @@
-use Rattle.std.proofs.Common.{◌≡◌, ◌<◌, ◌≤◌, ◌+◌, ◌*◌, ◌%◌, ◌++◌, ℕ, [], length, drop, get_or, ap, refl, ◌∙◌, arith, true, false, ⊎_elim, Bool}
+use Rattle.std.proofs.Common.{◌≡◌, ◌<◌, ◌≤◌, ◌+◌, ◌*◌, ◌%◌, ◌++◌, ℕ, [], length, drop, get_or, ap, refl, ◌∙◌, arith}
+use Rattle.std.proofs.Common.{true, false, ⊎_elim, Bool}
 use Rattle.std.proofs.lemmas.Nat.{mod_below}
 use Rattle.journal.specs.declared.naming_stage.NamingStage.TheVariants.{Named}
 use Rattle.journal.specs.Places.{first_home, first_data_of, limit_of}
@@ -60,7 +61,8 @@ returns-then-not-step-clause-told g c =
       refused = λ m n got view next e fits held performed gone. unread held performed gone;
       rest = _;
       pays = read_pays _ (block_due reader step due named below no_bytes);
-      rests = λ got next after. block_left reader step due named below no_bytes (stepped reader step next.reader next.step no_bytes (after.copying named));
+      rests = λ got next after.
+          block_left reader step due named below no_bytes (stepped reader step next.reader next.step no_bytes (after.copying named));
     }
 
 pub returns-clause-told : goal.returns-clause-told
@@ -84,9 +86,12 @@ returns-clause-told g c =
       looks = tt;
       made = λ m n got view next fits held performed after.
           ⊎_elim (λ has. block_written held due named below is full bytes_are performed has)
-          (λ last. record_written held due named below is full bytes_are performed last.0 last.1) (stepped reader step next.reader next.step full (after.copying named));
+          (λ last. record_written held due named below is full bytes_are performed last.0 last.1)
+          (stepped reader step next.reader next.step full (after.copying named));
       refused = λ m n got view next e fits held performed gone. unwritten held due named below is performed gone;
       rest = _;
       pays = write_pays _ (home_due reader step due named below);
-      rests = λ got next after. home_left reader step due named below full after.sizes_stay (stepped reader step next.reader next.step full (after.copying named));
+      rests = λ got next after.
+          home_left reader step due named below full after.sizes_stay
+          (stepped reader step next.reader next.step full (after.copying named));
     }

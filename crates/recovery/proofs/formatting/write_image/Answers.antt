@@ -20,7 +20,8 @@ new_written one wiped long is = grind (arith, is.zeros, is.behind, wiped.elsewhe
 none_or_written : {plan : ImagePlan} {under : Under} {shape : Shape} {stamp end : ℕ} {start image : Image} → stamp ≡ 1
     → Holds 0 (replicate 512 0) start under.image → 2 ≤ end → IsPart plan under image ⊎ IsWritten shape stamp end under.image image
     → IsNoneOrWritten shape end start image
-none_or_written one wiped long either = ⊎_elim (λ part. inl (grind (arith, part.each 0))) (λ new. inr (new_written one wiped long new)) either
+none_or_written one wiped long either =
+    ⊎_elim (λ part. inl (grind (arith, part.each 0))) (λ new. inr (new_written one wiped long new)) either
 
 pub returns-clause-image : goal.returns-clause-image
 returns-clause-image g c =
