@@ -50,24 +50,15 @@ module _ (least : ℕ) where
       → EndsStart least old new (Err fault)
   ended_by fault leaves cause = grind arith
 
-  refused_kind : {old new : State} (kind : MediumFault) → IsRefusedCall old new kind
-      → IsRefusalBy least WritesNothing old new (start_fault_of kind)
-  refused_kind kind is = grind arith
-
   module _ {M : Type 0} (state : M → State) where
     -- a refused call ends it
     pub refused_start : {start m n : M} {had got bytes : List ℕ} {at : StartStage} {call : Call} {e : MediumFault}
         → HoldsStart state least at had start m → Performed call bytes got (Err e) (state m) (state n)
         → LeavesAtLeast least (state start) (state n)
         → HoldsStart state least (stage.Refused (start_fault_of (fault_of call))) got start n
-    refused_start {start = start} {n = n} {call = call} held performed leaves =
+    refused_start {call = call} held performed leaves =
         let moments = held.leaves.moments in
-        let kind = fault_of call in
-        let cause : IsRefusedCall (state start) (state n) kind = record {
-          grew = omega (arith, moments.failures_stay, performed.passes.failures_are);
-          kind_grew = omega (arith, moments.refused_stay kind, performed.passes.refused_are);
-        } in
-        record { leaves = leaves; well = λ live. absurd live; midway = ended_by (start_fault_of kind) leaves (refused_kind kind cause) }
+        grind (arith, leaves, moments.refused_stay (fault_of call), performed.passes.failures_are, performed.passes.refused_are)
 
     -- a fault of the image ends it
     pub faulted_start : {start n : M} {got : List ℕ} (fault : StartFault) → LeavesAtLeast least (state start) (state n)
@@ -160,13 +151,6 @@ told_by found ends some is = grind (arith, ends, some)
 pub both_told : {X : Type 0} (A : Type 0) (B D : X → Type 0) (found : Option X) → MatchOption found A B → IfSome found D
     → MatchOption found A (λ x. B x × D x)
 both_told A B D found is kind = grind arith
-
--- a call before the end of some sectors is one before the end of more
-pub within_more : (few many : ℕ) → few ≤ many → (call : Call) → IsWithin few call → IsWithin many call
-within_more few many le call below = grind arith
-
-pub reads_more : (few many : ℕ) → few ≤ many → (call : Call) → ReadsBefore few call → ReadsBefore many call
-reads_more few many le call below = grind arith
 
 -- a call is left of a start, or none; and so of a look
 pub ended_or_not : (at : StartStage) → (start_left at ≡ none) ⊎ IsStarting at

@@ -142,11 +142,6 @@ pub all_more : (first : ℕ) (format : LogFormat) (slots : ℕ)
     → all_calls (first + 1) format slots ≡ one_more (all_calls first format slots) Read
 all_more first format slots = grind arith
 
--- a survey reads alone
-pub reads_only : {reads : ℕ} (rest : Tally) (kind : MediumFault) → record { reads = reads; writes = 0; flushes = 0 } ≡ one_more rest kind
-    → kind ≡ Read
-reads_only rest kind pays = grind arith
-
 pub left_through : {few some many : Tally} → IsLeft ⊥ few some → IsLeft ⊥ some many → IsLeft ⊥ few many
 left_through a b = record { most = λ kind. omega (arith, a.most kind, b.most kind); exact = λ e. absurd e }
 

@@ -1,12 +1,13 @@
-use Rattle.std.proofs.Common.{◌<◌, ◌≤◌, refl, arith}
+use Rattle.std.proofs.Common.{◌≡◌, ◌<◌, ◌≤◌, refl, arith}
 use Rattle.medium.specs.Performed.{fault_of}
+use Rattle.medium.specs.declared.fault.MediumFault.TheVariants.{Read}
 use Rattle.journal.specs.declared.log_format.LogFormat.TheVariants.{Two}
 use Rattle.journal.specs.Places.{sectors_of, first_home}
 use Rattle.journal.specs.Formats.{shape_of}
 use Rattle.recovery.specs.Starting.{all_calls}
 use Rattle.recovery.proofs.Looks.{look_refused, super_read, super_looked, head_read, head_looked, survey_read, survey_looked}
-use Rattle.recovery.proofs.Tallies.{all_more, super_left, head_left, look_few, left_through, reads_only}
-use Rattle.recovery.proofs.StartBegins.{told_by, within_more, reads_more}
+use Rattle.recovery.proofs.Tallies.{all_more, super_left, head_left, look_few, left_through}
+use Rattle.recovery.proofs.StartBegins.{told_by}
 use Rattle.recovery.proofs.inspecting.InspectingMachine.next.Goals as goal
 
 pub returns-in-ReadSuper : goal.returns-in-ReadSuper
@@ -59,11 +60,11 @@ returns-in-Survey g c =
     let shape = shape_of s.survey.reader.sizes in
     let inside : sectors_of shape ≤ s.sectors = s.goes.fits c.in-Survey.field-0 is in
     told_by c.next.result (λ none. (rw is none.0, none.1)) (λ call tells.
-    let kind = reads_only tells.rest (fault_of call) tells.pays in
+    let kind : fault_of call ≡ Read = grind (arith, tells.pays) in
     record {
       due = rw is tells.due;
-      within = within_more (sectors_of shape) s.sectors inside call tells.within;
-      looks = reads_more (first_home shape) s.sectors (omega (arith, inside)) call tells.looks;
+      within = grind (arith, inside, tells.within);
+      looks = grind (arith, inside, tells.looks);
       made = λ m n got view next fits held performed after.
           let step = rw is at after.1 in
           rw step.2 (survey_looked S sound 0 (rw is at held) tells performed step.1);

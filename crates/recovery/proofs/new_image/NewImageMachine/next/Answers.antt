@@ -11,13 +11,7 @@ returns-in-Wipe g c =
     let one : s.plan.end + 2 ≡ s.plan.end + 1 + 1 = omega arith in
     tells_write g.met.M.Medium.sound s stage.Wipe stage.FlushWipe c.in-Wipe.is tt (λ t is. is) (omega arith) 0 (omega (arith, long))
     (λ e. cc e) (rw one refl) refl (λ view now has. (
-      λ image holds. (
-        has.0,
-        λ x. elim (cases_eq x 0) [
-          | inl same ↦ rw same (holds.here ∙ sym has.1.here)
-          | inr not ↦ holds.elsewhere x not ∙ sym (has.1.elsewhere x not)
-        ],
-      ),
+      λ image holds. grind (arith, has.1.here, has.1.elsewhere, holds.elsewhere),
       λ image cut. inl cut,
       λ before image cut holds. inr (before, cut, rw has.1.here holds),
     ))
@@ -29,12 +23,7 @@ returns-in-FlushWipe g c =
     let one : s.plan.end + 1 ≡ s.plan.end - 1 + 2 = omega (arith, long) in
     tells_flush g.met.M.Medium.sound s stage.FlushWipe (stage.Zeros 1 false) c.in-FlushWipe.is tt (λ t is. is) (omega arith)
     (rw one refl) refl (λ view now has cut. (
-      record {
-        some = omega (arith, has.0);
-        inside = omega (arith, long);
-        zeros = λ x low high. absurd (omega (arith, low, high, view.under.some));
-        elsewhere = λ x not. has.1 x;
-      },
+      grind (arith, long, has.1, view.under.some),
       record { each = λ x. inl (has.1 x) },
     )) tt
 

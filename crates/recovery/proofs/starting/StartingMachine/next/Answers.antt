@@ -12,8 +12,8 @@ use Rattle.recovery.proofs.StartCopy.{copy_made, copy_refused}
 use Rattle.recovery.proofs.StartHead.{copies_flush_made, copies_flush_leaves, head_write_made, head_write_leaves, head_flush_made}
 use Rattle.recovery.proofs.StartHead.{head_flush_leaves}
 use Rattle.recovery.proofs.Tallies.{all_more, first_left, super_left, head_left, few_left, none_left_of, both_more, both_left}
-use Rattle.recovery.proofs.Tallies.{left_through, survey_goes_left, copied_left, reads_only}
-use Rattle.recovery.proofs.StartBegins.{told, told_by, both_told, within_more, reads_more}
+use Rattle.recovery.proofs.Tallies.{left_through, survey_goes_left, copied_left}
+use Rattle.recovery.proofs.StartBegins.{told, told_by, both_told}
 use Rattle.recovery.proofs.Tallies.{no_tries_left}
 use Rattle.recovery.proofs.Tallies.{none_left}
 use Rattle.recovery.proofs.starting.StartingMachine.next.Goals as goal
@@ -62,9 +62,7 @@ returns-in-Survey g c =
     let others = home_calls survey.reader.sizes.format survey.reader.sizes.slots in
     let ends = no_tries_left survey.reader survey.left survey.place survey.goes in
     told_by c.next.result (λ none. absurd (omega (arith, can.due, ends none.0))) (λ call tells. told S s c.in-Survey.is tt
-    (within_more (sectors_of (shape_of survey.reader.sizes)) s.sectors can.fits call tells.within)
-    (reads_more (first_home (shape_of survey.reader.sizes)) s.sectors (omega (arith, can.fits)) call tells.looks)
-    (reads_only tells.rest (fault_of call) tells.pays)
+    (grind (arith, can.fits, tells.within)) (grind (arith, can.fits, tells.looks)) (grind (arith, tells.pays))
     (λ m n start got least next fits held performed after.
     survey_on S sound least held.midway.1 (survey_looked S sound least held.midway.2 tells performed after.1) after.2)
     (λ m n start got least e held performed. reads_leave least held.midway.1 (survey_read S sound least held.midway.2 tells performed))
@@ -84,8 +82,8 @@ returns-in-Copy g c =
     told_by c.next_copy.result (λ none. absurd (omega (arith, can.due, ends none.0)))
     (λ call both_tell.
     let tells = both_tell.0 in
-    told S s c.in-Copy.is tt (within_more (sectors_of (shape_of reader.sizes)) s.sectors fits_here call tells.within)
-    (reads_more (first_home (shape_of reader.sizes)) s.sectors (omega (arith, fits_here)) call tells.looks) both_tell.1
+    told S s c.in-Copy.is tt (grind (arith, fits_here, tells.within))
+    (grind (arith, fits_here, tells.looks)) both_tell.1
     (λ m n start got least next fits held performed after.
     copy_made S sound least held.midway tells (held.well tt) performed after.1 after.2)
     (λ m n start got least e held performed. copy_refused S sound least held.midway tells performed)
