@@ -34,16 +34,8 @@ module _ (least : ℕ) where
   -- what the flush leaves, made or refused
   pub flush_leaves_all : {old new : State} {bytes got : List ℕ} {result : Result (Unit {0}) MediumFault} → IsSound old → IsSound new
       → Performed Flush bytes got result old new → LeavesAtLeast least old new
-  flush_leaves_all {new = new} {result = result} sound after performed =
-      survey_leaves least {mid = new} {result = result} (record {
-        sound = sound;
-        passes = performed.passes;
-        content = performed.changes;
-        sets = performed.adds;
-        sound_mid = after;
-        only = λ more. absurd (omega (arith, more, performed.passes.calls_are));
-        reads = unread new;
-      })
+  flush_leaves_all {new = new} {result = result} sound after performed = survey_leaves least {mid = new} {result = result}
+      (grind (arith, sound, after, performed.passes, performed.changes, performed.adds, unread new))
 
   -- the image has this fault, or the medium refused a call
   pub ended_by : {old new : State} (fault : StartFault) → LeavesAtLeast least old new → IsRefusalBy least WritesNothing old new fault
@@ -90,14 +82,8 @@ module _ {M : Type 0} (state : M → State) (sound : (m : M) → IsSound (state 
   first_made {sectors} {next} size held performed goes =
       let performed : Performed Flush bytes got (Ok tt) (state start) (state n) = rw held.midway at performed in
       let size : sectors ≡ (state start).size = rw held.midway at size in
-      looked_start state least (record {
-        sound = sound start;
-        passes = performed.passes;
-        content = performed.changes;
-        sets = performed.adds;
-        sound_mid = sound n;
-        only = performed.done.1;
-      }) next (look_begun state sound least (omega (arith, size, performed.passes.size_stays)) goes)
+      looked_start state least (grind (arith, sound start, sound n, performed.passes, performed.changes, performed.adds, performed.done.1))
+      next (look_begun state sound least (omega (arith, size, performed.passes.size_stays)) goes)
 
 -- where it is, and what it knows there
 abbrev pub at_point : Starting → StartPoint → StartStage

@@ -150,15 +150,7 @@ module _ {M : Type 0} (state : M → State) (sound : (m : M) → IsSound (state 
         mid = mid;
         flushed = flushed;
         reads = held.reads;
-        is = rw counted.0 at (let is : IsSurvey least (state mid).size (state mid).content (state mid).calls
-            (state n).calls (record { sizes = at.sizes; head = head; count = length survey.waiting.items }) = record {
-              shape = at.found.has;
-              head = at.head_is;
-              count = counted.1.is;
-              stamp_left = left;
-              room = at.room;
-              exact = counted.2;
-            } in is);
+        is = grind (arith, counted, at.found.has, at.head_is, left, at.room);
       }
 
   -- none is

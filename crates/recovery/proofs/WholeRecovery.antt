@@ -58,10 +58,12 @@ module _ (least : ℕ) (old new : State) (shape : Shape) (array : Array) (next :
 -- a start that asks for no slots is refused as a recovery is
 pub recovery_refused : (old new : State) (fault : StartFault) → IsRefusalBy 0 WritesNothing old new fault
     → IsRecoveryRefusal old new fault
-recovery_refused old new LogTooSmall h = absurd (omega (arith, h.0.few))
 recovery_refused old new fault h =
-    let none : ¬ HasFewSlots 0 old.size old.content = λ few. absurd (omega (arith, few.few)) in
-    record { cause = search rules; served = λ shape array next s left. served_slots 0 old new shape array next s left none fault h }
+    grind (
+      arith,
+      λ (shape : Shape) (array : Array) (next : ℕ) (s : StandsFor old.size shape old.content array next) (left : next < 2 ^ 63).
+          served_slots 0 old new shape array next s left (λ few. absurd (omega (arith, few.few))) fault h,
+    )
 
 -- tries, with other calls before and behind them
 tries_moved : (format : LogFormat) (shape : Shape) (image : Image) (first tries old new before after more : ℕ) → before ≡ old + more

@@ -27,10 +27,8 @@ pub returns-clause-image : goal.returns-clause-image
 returns-clause-image g c =
     let old = g.M.Medium.state c.args.m.now in
     let under = updated old.content 0 (replicate 512 0) in
-    let wiped : Holds 0 (replicate 512 0) old.content under = record {
-      here = updated_here old.content 0 (replicate 512 0) 0 refl;
-      elsewhere = updated_elsewhere old.content 0 (replicate 512 0);
-    } in
+    let wiped : Holds 0 (replicate 512 0) old.content under =
+    grind (arith, updated_here old.content 0 (replicate 512 0) 0, updated_elsewhere old.content 0 (replicate 512 0)) in
     let long : 2 ≤ c.args.end = omega (arith, c.args.sizes.now.home_is.0, c.requires.log) in
     let d = image_driven (λ image. CutLeaves old.may_leave image ⊎ IsNoneOrWritten (shape_of c.args.sizes.now) c.args.end old.content image)
     (c.args.end + 5) (old.calls + 2) (record { first = 1; image = under; some = omega arith; most = omega arith })

@@ -16,13 +16,8 @@ cleared : (g : _) (c : After-drive g)
     (g.M.Medium.state c.args.m.now) (g.M.Medium.state c.drive.new.m)
     × HoldsCleared g.M.Medium.state c.drive.new.machine.at c.drive.new.machine.end
     (record { start = c.args.m.now; from = c.args.from; end = c.args.end }) c.drive.new.m
-cleared g c = c.drive.ensures.driven.runs (record { start = c.args.m.now; from = c.args.from; end = c.args.end }) (record {
-  begun = omega arith;
-  end_is = refl;
-  zeros = λ x low high. absurd (omega (arith, low, high));
-  elsewhere = λ x not. refl;
-  within = λ x bytes left. inl left;
-})
+cleared g c =
+    c.drive.ensures.driven.runs (record { start = c.args.m.now; from = c.args.from; end = c.args.end }) (grind arith)
 
 pub returns-clause-zeros : goal.returns-clause-zeros
 returns-clause-zeros g c =

@@ -8,14 +8,7 @@ use Rattle.recovery.proofs.start_steps.behind_survey.Goals.{After-first_step}
 new : (c : After-first_step)
     → IsNewCopying (record { sizes = c.args.survey.now.reader.sizes; head = c.args.head; count = c.len.result })
     (copying_of c.restart.new.self c.first_step.result)
-new c = record {
-  sizes_are = c.restart.ensures.of.0;
-  stamp_is = c.restart.ensures.of.1;
-  unread = c.restart.ensures.unread;
-  left_is = c.first_step.ensures.0;
-  i_is = c.first_step.ensures.1;
-  no_bytes = c.first_step.ensures.2;
-}
+new c = grind (arith, c.restart.ensures, c.first_step.ensures)
 
 pub returns-then-found-eq0-clause-goes : goal.returns-then-found-eq0-clause-goes
 returns-then-found-eq0-clause-goes c = rw (← c.len.ensures.value) (inr (

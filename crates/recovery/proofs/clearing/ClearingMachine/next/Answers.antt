@@ -19,15 +19,10 @@ module _ {M : Type 0} {state : M → State} {at end : ℕ} {view : ClearView M} 
   -- the zeros are written, or refused
   cleared_still : {result : Result (Unit {0}) MediumFault} → Performed (Write at) (replicate 512 0) got result (state m) (state n)
       → HoldsCleared state at end view n
-  cleared_still performed = record {
-    begun = held.begun;
-    end_is = held.end_is;
-    zeros = λ x low high. others performed x (λ e. omega (arith, e, high)) ∙ held.zeros x low high;
-    elsewhere = λ x not. others performed x (λ e. not (omega (arith, e, held.begun), omega (arith, e, below))) ∙ held.elsewhere x not;
-    within = gains_within (cleared_at (IsBetween view.from view.end) (state view.start).may_leave) _ _ at (replicate 512 0)
-        held.within performed.adds
-        (λ x bytes here. inr ((omega (arith, held.begun, here.0), omega (arith, below, held.end_is, here.0)), here.1));
-  }
+  cleared_still performed =
+      let within = gains_within (cleared_at (IsBetween view.from view.end) (state view.start).may_leave) _ _ at (replicate 512 0)
+      held.within performed.adds (λ x bytes here. inr ((omega (arith, held.begun, here.0), omega (arith, below, held.end_is, here.0)), here.1)) in
+      grind (arith, held.begun, held.end_is, held.zeros, held.elsewhere, others performed, within)
 
   -- they are written
   cleared_on : Performed (Write at) (replicate 512 0) got (Ok tt) (state m) (state n) → HoldsCleared state (at + 1) end view n
