@@ -54,18 +54,7 @@ module _ {M : Type 0} {state : M → State} {reader : RecordReader} {step : Copy
   unread performed gone = rw gone.reader_stays (record {
     home = held.home;
     reads = held.reads;
-    at = grind (
-      arith,
-      performed.changes,
-      performed.adds,
-      performed.passes.failures_are,
-      held.at.whole,
-      held.at.known,
-      held.at.ended,
-      held.at.copied,
-      held.at.elsewhere,
-      held.at.within,
-    );
+    at = grind (arith, performed, held.at);
   })
 
   -- the sector that names blocks was read
@@ -86,20 +75,7 @@ module _ {M : Type 0} {state : M → State} {reader : RecordReader} {step : Copy
       took first no_bytes (inl taken) = rw taken.step_stays (record {
         home = held.home;
         reads = held.reads + 1;
-        at = grind (
-          arith,
-          performed.changes,
-          performed.adds,
-          performed.passes,
-          held.at.whole,
-          learned taken.learns,
-          taken.stamp_stays,
-          taken.sizes_stay,
-          held.at.others,
-          held.at.elsewhere,
-          held.at.within,
-          held.at.calls,
-        );
+        at = grind (arith, performed, held.at, taken, learned taken.learns);
       })
       took first no_bytes (inr passed) =
           -- the record is whole
@@ -112,20 +88,7 @@ module _ {M : Type 0} {state : M → State} {reader : RecordReader} {step : Copy
     block_read is no_bytes has = rw has.reader_stays (record {
       home = held.home;
       reads = held.reads;
-      at = grind (
-        arith,
-        performed.changes,
-        performed.adds,
-        performed.passes,
-        held.at.whole,
-        held.at.known,
-        held.at.copied,
-        held.at.others,
-        held.at.elsewhere,
-        held.at.within,
-        held.at.calls,
-        read_of_log,
-      );
+      at = grind (arith, performed, held.at, read_of_log);
     })
 
   -- ---- a write
@@ -231,19 +194,7 @@ module _ {M : Type 0} {state : M → State} {reader : RecordReader} {step : Copy
           rw has.reader_stays (record {
             home = held.home;
             reads = held.reads;
-            at = grind (
-              arith,
-              held.at.whole,
-              held.at.known,
-              copied_on,
-              others_on,
-              elsewhere is performed,
-              within is performed,
-              full,
-              held.at.calls,
-              performed.passes.calls_are,
-              none_failed,
-            );
+            at = grind (arith, performed, held.at, copied_on, others_on, elsewhere is performed, within is performed);
           })
 
       pub record_written : {next : RecordReader} {after : CopyStep} → length reader.read.numbers.items ≤ step.i + 1
@@ -286,13 +237,7 @@ gathered P (suc count) each =
     let last = each count (omega arith) in (
       before.0 ++ last.0 ∷ [],
       omega (arith, before.1, length-append before.0 (last.0 ∷ [])),
-      λ j below. grind (
-        arith,
-        get_or_append_left before.0 (last.0 ∷ []) [] j,
-        before.2 j,
-        get_or_push before.0 last.0 [] count before.1,
-        last.1,
-      ),
+      λ j below. grind (arith, get_or_append_left before.0 (last.0 ∷ []) [] j, before.2 j, get_or_push before.0 last.0 [], last.1),
     )
 
 -- before the first call

@@ -88,11 +88,10 @@ module _ {M : Type 0} {state : M → State} {at : ImageStage} {plan : ImagePlan}
       let past : view.since ≤ (state m).calls = omega (arith, more, passes.calls_are) in
       grind (
         arith,
-        held.after_flush,
+        held,
         late plan view.under at (state view.start) image live,
         late plan view.under next (state view.start) image lives,
         held.calls live,
-        held.shows.cuts image,
         sound.only_now image,
         cuts image,
         passes.nothing_else view.since image past since,

@@ -217,11 +217,7 @@ not_tried {state = state} reader left place waiting view sizes stamp all first n
   going = λ due. record {
     reads = 0;
     before = (state view.start).calls;
-    to = grind (
-      arith,
-      known (state view.start).content,
-      no_tries view.sizes.format (shape_of view.sizes) (state view.start).content view.head (state view.start).calls,
-    );
+    to = grind (arith, known (state view.start).content, no_tries view.sizes.format (shape_of view.sizes) (state view.start).content);
   };
   ended = λ none. absurd (omega (arith, none, all, some));
 })

@@ -33,19 +33,7 @@ module _ {plan : ImagePlan} {under : Under} {shape : Shape} {array : Array} {ima
   still_fresh : IsFresh shape array plan.head.stamp image
   still_fresh =
       let carries = λ (slot o stamp : ℕ). (laws_of shape.format).zeros o stamp in
-      grind (
-        arith,
-        outside,
-        apart,
-        fresh.super,
-        fresh.head,
-        fresh.home,
-        fresh.carries,
-        part.each 1,
-        carries,
-        log_ends shape fresh.super.home_is,
-        plan.head.least,
-      )
+      grind (arith, outside, apart, fresh, part.each 1, carries, log_ends shape fresh.super.home_is, plan.head.least)
 
 -- and none in the new image
 new_fresh : {shape sizes : Shape} {array : Array} {stamp : ℕ} {before image : Image} → sizes ≡ migrated shape
