@@ -86,16 +86,9 @@ module _ {M : Type 0} {state : M → State} {at : ImageStage} {plan : ImagePlan}
       → (state n).left_since view.since image → IsPartOrNew plan view.under image
   since_on cuts more image since =
       let past : view.since ≤ (state m).calls = omega (arith, more, passes.calls_are) in
-      grind (
-        arith,
-        held,
-        late plan view.under at (state view.start) image live,
-        late plan view.under next (state view.start) image lives,
-        held.calls live,
-        sound.only_now image,
-        cuts image,
-        passes.nothing_else view.since image past since,
-      )
+      let was = late plan view.under at (state view.start) image live in
+      let now = late plan view.under next (state view.start) image lives in
+      grind (arith, held, was, now, held.calls live, sound.only_now image, cuts image, passes.nothing_else view.since image past since)
 
   -- the next call comes, or none
   moved : of_all (image_left at plan.end) ≡ of_all (image_left next plan.end) + 1

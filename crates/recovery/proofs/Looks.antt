@@ -90,18 +90,7 @@ module _ {M : Type 0} (state : M → State) {first : Surveying} {had now_had : L
       IsSuper-one other (shape_of sizes) _ is.super found.has.super in
       let quiet = quiet_joined _ _ _ found.read.quiet survey_held.quiet in
       let looks = looked_on (shape_of sizes) _ _ _ found.has found.read.looks (rw new.sizes_are at so_far.looks) in
-      search (
-        rules,
-        quiet,
-        reads_alone so_far.tallied,
-        found.read.reads,
-        found.read.calls,
-        one,
-        sizes.most_slots,
-        looks,
-        calls_most so_far.tallied,
-        most,
-      )
+      grind (arith, quiet, reads_alone so_far.tallied, found.read, one, looks, calls_most so_far.tallied, most, sizes.most_slots)
 
 module _ {M : Type 0} (state : M → State) (sound : (m : M) → IsSound (state m)) (least : ℕ) {mid : M} where
   -- it begins: there are sectors, or none
@@ -129,15 +118,8 @@ module _ {M : Type 0} (state : M → State) (sound : (m : M) → IsSound (state 
         let size : _ ≡ (state mid).size = rw held.midway at size in
         let made : Performed (Read 0) bytes got (Ok tt) (state mid) (state n) = rw held.midway at performed in
         let seen = super_seen made in
-        grind (
-          arith,
-          seen,
-          super_read held performed,
-          made.done,
-          made.passes.failures_are,
-          λ (f : StartFault).
-              super_cause least f (omega (arith, some, size)) made.done seen.quiet,
-        )
+        let cause = λ (f : StartFault). super_cause least f (omega (arith, some, size)) made.done seen.quiet in
+        grind (arith, seen, super_read held performed, made, cause)
 
     module _ {sizes : Super} (held : HoldsLook state least (stage.ReadHead sizes) had mid m) where
       -- the read of the head, made or refused

@@ -31,21 +31,10 @@ head_writes : (found : Found) (copied : State) {old new : State} {bytes got : Li
     → IsFlushedAgain found copied old → EachCut (Moved found copied) old → IsHead (found.head + found.count + 1) bytes
     → Performed (Write 1) bytes got result old new → Writes (Moved found copied) 2 1 old new result
 head_writes found copied {old = old} {new = new} {bytes = bytes} sound flushed each head performed =
-    let last : EachCut (Moved found copied) new = λ image cut. grind (
-      arith,
-      each image,
-      flushed.1,
-      head,
-      after_write old sound new.may_leave 1 bytes performed.adds image cut,
-    ) in
-    search (
-      rules,
-      one_call (Moved found copied) old new sound performed.passes each last,
-      performed.spares 2 (omega arith),
-      performed.passes.looked_stays (λ e. cc e),
-      performed.passes.others_made,
-      performed.passes.others_stay,
-    )
+    let written = after_write old sound new.may_leave 1 bytes performed.adds in
+    let last : EachCut (Moved found copied) new = λ image cut. grind (arith, each image, flushed.1, head, written image cut) in
+    let moments = one_call (Moved found copied) old new sound performed.passes each last in
+    grind (arith, moments, performed.spares 2 (omega arith), performed.passes)
 
 -- the copies are flushed
 copies_flushed : (found : Found) {old new : State} {bytes got : List ℕ} {result : Result (Unit {0}) MediumFault} → IsSound old

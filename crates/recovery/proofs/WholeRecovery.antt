@@ -59,11 +59,9 @@ module _ (least : ℕ) (old new : State) (shape : Shape) (array : Array) (next :
 pub recovery_refused : (old new : State) (fault : StartFault) → IsRefusalBy 0 WritesNothing old new fault
     → IsRecoveryRefusal old new fault
 recovery_refused old new fault h =
-    grind (
-      arith,
-      λ (shape : Shape) (array : Array) (next : ℕ) (s : StandsFor old.size shape old.content array next) (left : next < 2 ^ 63).
-          served_slots 0 old new shape array next s left (λ few. absurd (omega (arith, few.few))) fault h,
-    )
+    let served = λ (shape : Shape) (array : Array) (next : ℕ) (s : StandsFor old.size shape old.content array next) (left : next < 2 ^ 63).
+    served_slots 0 old new shape array next s left (λ few. absurd (omega (arith, few.few))) fault h in
+    grind (arith, served)
 
 -- tries, with other calls before and behind them
 tries_moved : (format : LogFormat) (shape : Shape) (image : Image) (first tries old new before after more : ℕ) → before ≡ old + more
@@ -364,15 +362,4 @@ recovery_leaves old new leaves =
     let cuts = λ (each : EachCut (IsOursForSome old.size) old). weaker (StandsForOneOf old)
     (StandsForSome IsOursInEither old) old new
     (λ image o. search (rules, o)) (leaves.cuts each) in
-    search (
-      rules,
-      cuts,
-      leaves.after_flush,
-      start_migrates,
-      clean_migrates,
-      leaves.sends.most,
-      leaves.sends.clean,
-      leaves.sends.none,
-      leaves.looks,
-      leaves.small,
-    )
+    grind (arith, cuts, leaves, start_migrates, clean_migrates)
