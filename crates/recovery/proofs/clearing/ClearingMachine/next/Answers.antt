@@ -21,7 +21,8 @@ module _ {M : Type 0} {state : M → State} {at end : ℕ} {view : ClearView M} 
       → HoldsCleared state at end view n
   cleared_still performed =
       let within = gains_within (cleared_at (IsBetween view.from view.end) (state view.start).may_leave) _ _ at (replicate 512 0)
-      held.within performed.adds (λ x bytes here. inr ((omega (arith, held.begun, here.0), omega (arith, below, held.end_is, here.0)), here.1)) in
+      held.within performed.adds
+      (λ x bytes here. inr ((omega (arith, held.begun, here.0), omega (arith, below, held.end_is, here.0)), here.1)) in
       grind (arith, held.begun, held.end_is, held.zeros, held.elsewhere, others performed, within)
 
   -- they are written
