@@ -1,31 +1,30 @@
 -- What a host hears of an exchange that ends: packets of data, and the status wrapper.
-use Rattle.std.proofs.Common.{◌≡◌, ◌<◌, ◌≤◌, inl, inr, ℕ, zero, suc, Bool, true, false, List, [], ◌∷◌, ◌++◌, length, take, drop, map, refl}
-use Rattle.std.proofs.Common.{sym, ap, subst, ◌∙◌, arith, length-drop}
-use Rattle.std.specs.Prelude.{Option, Some, None, Result, Ok, Err, All}
+use Rattle.std.proofs.Common.{◌≡◌, ◌<◌, ◌≤◌, ℕ, zero, suc, Bool, false, List, [], ◌∷◌, ◌++◌, length, take, drop, map, refl}
+use Rattle.std.proofs.Common.{ap, subst, ◌∙◌, if◌then◌else◌, arith, length-drop}
+use Rattle.std.specs.Prelude.{Option, Result, Ok, Err, All}
 use Rattle.std.proofs.lemmas.List.{take-append-drop}
 use Rattle.std.proofs.lemmas.List.Elements.{All-head, All-tail}
 use Rattle.spec.specs.declared.wrapper.Cbw.{Cbw}
 use Rattle.spec.specs.declared.way.Way.{Way}
 use Rattle.spec.specs.declared.case.Case.{Case}
-use Rattle.spec.specs.declared.case.Case.TheVariants.{C1, C2, C3, C4, C5, C6, C7, C8, C9, C10, C11, C12, C13}
+use Rattle.spec.specs.declared.case.Case.TheVariants.{C5, C6}
 use Rattle.spec.specs.declared.case.Endpoint.{Endpoint}
-use Rattle.spec.specs.declared.case.Endpoint.TheVariants as endpoint
 use Rattle.spec.specs.declared.status.Status.TheVariants.{Passed, Failed}
 use Rattle.spec.specs.Sense.{Sense}
-use Rattle.spec.specs.Rules.{UnitState}
+use Rattle.spec.specs.Rules.{UnitState, CarriesOut, Ticks}
 use Rattle.spec.specs.declared.event.Event.{Event}
 use Rattle.spec.specs.declared.event.Event.TheVariants as event
 use Rattle.spec.specs.declared.event.Answer.{Answer}
-use Rattle.spec.specs.declared.event.Answer.TheVariants.{Ack}
+use Rattle.spec.specs.declared.event.Answer.TheVariants.{Stall}
 use Rattle.spec.specs.Packets.{packets_of}
 use Rattle.spec.specs.Requests.{setup_packet, clear_halt}
-use Rattle.spec.specs.Exchange.{Script, finished, taking, sending, Line, laid_out, request_answer, after_request, sent_in, outcome_for}
-use Rattle.spec.specs.Exchange.{status_for, told, case_if_failed}
-use Rattle.spec.specs.Conversation.{Conversation, SetupStep}
-use Rattle.spec.specs.UnitConversation.{on_line}
+use Rattle.spec.specs.Exchange.{Script, finished, taking, sending, Line, laid_out, next_packet, after_packet, sent_in, status_for, told}
+use Rattle.spec.specs.Exchange.{case_if_failed}
+use Rattle.spec.specs.Conversation.{Conversation, OutStep, SetupStep}
+use Rattle.spec.specs.UnitConversation.{Intends, UnitStep}
 use Rattle.bot_machine.specs.Transfers.{packet_out, Asks, packets_in, status_in, data_in, heard_in}
 use Rattle.bot_machine.proofs.Packets.{packets_of-more, packets_of-none}
-use Rattle.bot_machine.proofs.OneStep.{same_conversation, one_request}
+use Rattle.bot_machine.proofs.OneStep.{one_request}
 use Rattle.bot_machine.proofs.StruckTicks.{Untroubled}
 
 -- ---- lists of packets
@@ -47,10 +46,7 @@ status_last (packet ∷ next ∷ packets) status = status_last (next ∷ packets
 -- what is heard where these packets and this status wrapper came
 pub heard_so : (answers : List Answer) (packets : List (List ℕ)) (status bytes : List ℕ) → packets_in answers ≡ packets ++ status ∷ []
     → join packets ≡ bytes → heard_in answers ≡ record { bytes = bytes; status = status }
-heard_so answers packets status bytes told joined =
-    let heard : data_in (packets_in answers) ≡ bytes = ap data_in told ∙ data_before packets status ∙ joined in
-    let last : status_in (packets_in answers) ≡ status = ap status_in told ∙ status_last packets status in
-    λ i. record { bytes = heard i; status = last i }
+heard_so answers packets status bytes told joined = simp (told, data_before, status_last, joined)
 
 -- the packets of data are the data
 joined_up : (size : ℕ) → 0 < size → (n : ℕ) (bytes : List ℕ) → length bytes ≤ n → join (packets_of size bytes) ≡ bytes
@@ -62,212 +58,104 @@ joined_up size some (suc n) (byte ∷ bytes) few =
     ap join (packets_of-more size all some (omega arith))
     ∙ ap (λ l. take size all ++ l) (joined_up size some n (drop size all) fewer) ∙ take-append-drop size all
 
--- what is taken of the first bytes and then of others
-pub front_first : (n : ℕ) (xs ys : List ℕ) → take n (take n xs ++ ys) ≡ take n (xs ++ ys)
-front_first zero xs ys = refl
-front_first (suc n) [] ys = refl
-front_first (suc n) (x ∷ xs) ys = ap (λ l. x ∷ l) (front_first n xs ys)
-
 -- ---- the host asks
 
-abbrev pub line_at : ℕ → Bool → Bool → Bool → Script → Line
-line_at size in_halted out_halted locked left = record {
-  packet_size = size;
-  in_halted = in_halted;
-  out_halted = out_halted;
-  locked = locked;
-  left = left;
-}
-
 -- what the answers give where this is left of the exchange and nothing is left afterwards
-abbrev Ends : Script → List Answer → Type 0
+abbrev pub Ends : Script → List Answer → Type 0
 Ends finished answers = packets_in answers ≡ []
 Ends (taking case command intended bytes due) answers = ⊥
 Ends (sending packets halt status) answers = packets_in answers ≡ packets ++ status ∷ []
 
+-- a token to Bulk-In
+token : (halted : Bool) (left : Script) (line : Line) (answers : List Answer) → line.left ≡ left
+    → Ends (if halted then line else after_packet left line).left answers
+    → Ends left ((if halted then Stall else next_packet left) ∷ answers)
+token halted left line answers is ends = grind arith
+
+-- the end of a halt
+cleared : (packet : List ℕ) (end : Endpoint) (old new : Line) (answer : Answer) → packet ≡ setup_packet (clear_halt end)
+    → SetupStep packet old answer new → (new.left ≡ old.left) × ((answers : List Answer) → packets_in (answer ∷ answers) ≡ packets_in answers)
+cleared packet end old new answer asks step = grind (arith, one_request)
+
 quiet : (left : Script) (answer : Answer) (answers : List Answer) → packets_in (answer ∷ answers) ≡ packets_in answers
     → Ends left answers → Ends left (answer ∷ answers)
-quiet finished answer answers same ends = same ∙ ends
-quiet (taking case command intended bytes due) answer answers same ends = absurd ends
-quiet (sending packets halt status) answer answers same ends = same ∙ ends
+quiet left answer answers same ends = grind arith
 
-clears : (end : Endpoint) (packet : List ℕ) (old new : Line) (answer : Answer) → packet ≡ setup_packet (clear_halt end)
-    → SetupStep packet old answer new → (answer ≡ Ack) × (new ≡ after_request (clear_halt end) old)
-clears end packet old new answer ask (inl (request, asked)) =
-    let same = one_request request (clear_halt end) (sym asked.spelled ∙ ask) in
-    (asked.answered ∙ ap (λ r. request_answer r old) same, asked.after ∙ ap (λ r. after_request r old) same)
-clears end packet old new answer ask (inr refused) = absurd (refused.unknown (clear_halt end) ask)
+-- one event by which the host asks
+asked : (happens : Event) (old mid : Conversation UnitState) (answer : Answer) (answers : List Answer) → Asks happens
+    → UnitStep false old happens answer mid → Ends mid.line.left answers → Ends old.line.left (answer ∷ answers) × (mid.unit ≡ old.unit)
+asked (event.Out packet) old mid answer answers asks step ends = absurd asks
+asked event.In old mid answer answers asks step ends = (
+  rw step.0 (token old.line.in_halted old.line.left old.line answers refl
+      (subst (λ (c : Conversation UnitState). Ends c.line.left answers) step.1 ends)),
+  ap (λ (c : Conversation UnitState). c.unit) step.1,
+)
+asked (event.Setup packet) old mid answer answers (end, spelled) step ends =
+    let c = cleared packet end old.line mid.line answer spelled step.0 in
+    (quiet old.line.left answer answers (c.1 answers) (rw (← c.0) ends), step.1)
+asked event.Tick old mid answer answers asks step ends = absurd asks
 
-abbrev in_cleared : Bool → Endpoint → Bool → Bool
-in_cleared true end halted = halted
-in_cleared false endpoint.In halted = false
-in_cleared false endpoint.Out halted = halted
-
-abbrev out_cleared : Bool → Endpoint → Bool → Bool
-out_cleared true end halted = halted
-out_cleared false endpoint.In halted = halted
-out_cleared false endpoint.Out halted = false
-
-cleared_is : (size : ℕ) (in_halted out_halted locked : Bool) (left : Script) (end : Endpoint)
-    → after_request (clear_halt end) (line_at size in_halted out_halted locked left)
-    ≡ line_at size (in_cleared locked end in_halted) (out_cleared locked end out_halted) locked left
-cleared_is size in_halted out_halted true left end = refl
-cleared_is size in_halted out_halted false left endpoint.In = refl
-cleared_is size in_halted out_halted false left endpoint.Out = refl
-
-pub asks_end : (size : ℕ) (asks : List Event) → All Asks asks → (answers : List Answer) (in_halted out_halted locked : Bool) (left : Script)
-    (unit : UnitState) (new : Conversation UnitState)
-    → Untroubled (on_line (line_at size in_halted out_halted locked left) unit) asks answers new → new.line.left ≡ finished
-    → Ends left answers × (new.unit ≡ unit)
-asks_end size [] only [] i o l finished unit new run ends = (refl, ap (λ (c : Conversation UnitState). c.unit) run)
-asks_end size [] only [] i o l (taking case command intended bytes due) unit new run ends =
-    absurd (let e : taking case command intended bytes due ≡ finished = sym (ap (λ (c : Conversation UnitState). c.line.left) run) ∙ ends in
-    cc)
-asks_end size [] only [] i o l (sending packets halt status) unit new run ends =
-    absurd (let e : sending packets halt status ≡ finished = sym (ap (λ (c : Conversation UnitState). c.line.left) run) ∙ ends in cc)
-asks_end size [] only (a ∷ as_) i o l left unit new run ends = absurd run
-asks_end size (e ∷ es) only [] i o l left unit new run ends = absurd run
-asks_end size (event.In ∷ es) only (a ∷ as_) true o l left unit new (mid, step, stamps, rest) ends =
-    let later = asks_end size es (All-tail Asks event.In es only) as_ true o l left unit new
-    (subst (λ c. Untroubled c es as_ new) step.1 rest) ends in
-    (quiet left a as_ (ap (λ x. packets_in (x ∷ as_)) step.0) later.0, later.1)
-asks_end size (event.In ∷ es) only (a ∷ as_) false o l finished unit new (mid, step, stamps, rest) ends =
-    let later = asks_end size es (All-tail Asks event.In es only) as_ false o l finished unit new
-    (subst (λ c. Untroubled c es as_ new) step.1 rest) ends in
-    (ap (λ x. packets_in (x ∷ as_)) step.0 ∙ later.0, later.1)
-asks_end size (event.In ∷ es) only (a ∷ as_) false o l (taking case command intended bytes due) unit new (mid, step, stamps, rest) ends =
-    let later = asks_end size es (All-tail Asks event.In es only) as_ false o l (taking case command intended bytes due) unit new
-    (subst (λ c. Untroubled c es as_ new) step.1 rest) ends in
-    absurd later.0
-asks_end size (event.In ∷ es) only (a ∷ as_) false o l (sending [] halt status) unit new (mid, step, stamps, rest) ends =
-    let later = asks_end size es (All-tail Asks event.In es only) as_ false o l finished unit new
-    (subst (λ c. Untroubled c es as_ new) step.1 rest) ends in
-    (ap (λ x. packets_in (x ∷ as_)) step.0 ∙ ap (λ p. status ∷ p) later.0, later.1)
-asks_end size (event.In ∷ es) only (a ∷ as_) false o l (sending (packet ∷ []) None status) unit new (mid, step, stamps, rest) ends =
-    let later = asks_end size es (All-tail Asks event.In es only) as_ false o l (sending [] None status) unit new
-    (subst (λ c. Untroubled c es as_ new) step.1 rest) ends in
-    (ap (λ x. packets_in (x ∷ as_)) step.0 ∙ ap (λ p. packet ∷ p) later.0, later.1)
-asks_end size (event.In ∷ es) only (a ∷ as_) false o l (sending (packet ∷ []) (Some endpoint.In) status) unit new (mid, step, stamps, rest)
-    ends =
-    let later = asks_end size es (All-tail Asks event.In es only) as_ true o l (sending [] None status) unit new
-    (subst (λ c. Untroubled c es as_ new) step.1 rest) ends in
-    (ap (λ x. packets_in (x ∷ as_)) step.0 ∙ ap (λ p. packet ∷ p) later.0, later.1)
-asks_end size (event.In ∷ es) only (a ∷ as_) false o l (sending (packet ∷ []) (Some endpoint.Out) status) unit new (mid, step, stamps, rest)
-    ends =
-    let later = asks_end size es (All-tail Asks event.In es only) as_ false true l (sending [] None status) unit new
-    (subst (λ c. Untroubled c es as_ new) step.1 rest) ends in
-    (ap (λ x. packets_in (x ∷ as_)) step.0 ∙ ap (λ p. packet ∷ p) later.0, later.1)
-asks_end size (event.In ∷ es) only (a ∷ as_) false o l (sending (packet ∷ next ∷ packets) halt status) unit new (mid, step, stamps, rest)
-    ends =
-    let later = asks_end size es (All-tail Asks event.In es only) as_ false o l (sending (next ∷ packets) halt status) unit new
-    (subst (λ c. Untroubled c es as_ new) step.1 rest) ends in
-    (ap (λ x. packets_in (x ∷ as_)) step.0 ∙ ap (λ p. packet ∷ p) later.0, later.1)
-asks_end size (event.Setup packet ∷ es) only (a ∷ as_) i o l left unit new (mid, step, stamps, rest) ends =
-    let ask = All-head Asks (event.Setup packet) es only in
-    let end = ask.0 in
-    let old : Line = line_at size i o l left in
-    let c = clears end packet old mid.line a ask.1 step.0 in
-    let line : mid.line ≡ line_at size (in_cleared l end i) (out_cleared l end o) l left = c.1 ∙ cleared_is size i o l left end in
-    let same = same_conversation mid (on_line (line_at size (in_cleared l end i) (out_cleared l end o) l left) unit) line step.1 in
-    let later = asks_end size es (All-tail Asks (event.Setup packet) es only) as_ (in_cleared l end i) (out_cleared l end o) l left unit new
-    (subst (λ s. Untroubled s es as_ new) same rest) ends in
-    (quiet left a as_ (ap (λ x. packets_in (x ∷ as_)) c.0) later.0, later.1)
-asks_end size (event.Out packet ∷ es) only (a ∷ as_) i o l left unit new run ends = absurd (All-head Asks (event.Out packet) es only)
-asks_end size (event.Tick ∷ es) only (a ∷ as_) i o l left unit new run ends = absurd (All-head Asks event.Tick es only)
+pub asks_end : (asks : List Event) → All Asks asks → (answers : List Answer) (old new : Conversation UnitState)
+    → Untroubled old asks answers new → new.line.left ≡ finished → Ends old.line.left answers × (new.unit ≡ old.unit)
+asks_end [] only [] old new run ends = (rw (← run, ends) refl, ap (λ (c : Conversation UnitState). c.unit) run)
+asks_end (e ∷ es) only (a ∷ as_) old new (mid, step, stamps, rest) ends =
+    let later = asks_end es (All-tail Asks e es only) as_ mid new rest ends in
+    let now = asked e old mid a as_ (All-head Asks e es only) step later.0 in (now.0, later.1 ∙ now.1)
+asks_end asks only answers old new run ends = absurd run
 
 -- ---- packets to Bulk-Out while something is sent
 
-idle : (size : ℕ) (packets : List (List ℕ)) (asks : List Event) (answers : List Answer) (in_halted out_halted locked : Bool)
-    (left : List (List ℕ)) (halt : Option Endpoint) (status : List ℕ) (unit : UnitState) (new : Conversation UnitState)
-    → Untroubled (on_line (line_at size in_halted out_halted locked (sending left halt status)) unit) (map packet_out packets ++ asks)
-    answers new
-    → (later : List Answer) × Untroubled (on_line (line_at size in_halted out_halted locked (sending left halt status)) unit) asks later new
-    × (packets_in answers ≡ packets_in later)
-idle size [] asks answers i o l left halt status unit new run = (answers, run, refl)
-idle size (packet ∷ packets) asks [] i o l left halt status unit new run = absurd run
-idle size (packet ∷ packets) asks (a ∷ as_) i true l left halt status unit new (mid, step, stamps, rest) =
-    let later = idle size packets asks as_ i true l left halt status unit new
-    (subst (λ c. Untroubled c (map packet_out packets ++ asks) as_ new) step.1 rest) in
-    (later.0, later.1, ap (λ x. packets_in (x ∷ as_)) step.0 ∙ later.2)
-idle size (packet ∷ packets) asks (a ∷ as_) i false l left halt status unit new (mid, step, stamps, rest) =
-    let later = idle size packets asks as_ i false l left halt status unit new
-    (subst (λ c. Untroubled c (map packet_out packets ++ asks) as_ new) step.1 rest) in
-    (later.0, later.1, ap (λ x. packets_in (x ∷ as_)) step.0 ∙ later.2)
+abbrev pub Sends : Script → Type 0
+Sends (sending packets halt status) = Unit {0}
+Sends left = ⊥
 
--- a line that sends these packets and this status wrapper
-pub record IsSending (line : Line) (size : ℕ) (packets : List (List ℕ)) (status : List ℕ) : Type 0 where
-  pub in_halted : Bool
-  pub out_halted : Bool
-  pub locked : Bool
-  pub halt : Option Endpoint
-  pub is : line ≡ line_at size in_halted out_halted locked (sending packets halt status)
+idle : (halted : Bool) (left : Script) (packet : List ℕ) (old mid : Conversation UnitState) (answer : Answer) (answers : List Answer)
+    → Sends left → OutStep Intends CarriesOut Ticks false halted left packet old answer mid
+    → (mid ≡ old) × (packets_in (answer ∷ answers) ≡ packets_in answers)
+idle halted left packet old mid answer answers sends step = grind arith
 
-pub laid : (packets : List (List ℕ)) (halt : Option Endpoint) (status : List ℕ) (size : ℕ)
-    (in_halted out_halted locked : Bool) (left : Script)
-    → IsSending (laid_out packets halt status (line_at size in_halted out_halted locked left)) size packets status
-laid [] None status size i o l left = record { in_halted = i; out_halted = o; locked = l; halt = None; is = refl }
-laid [] (Some endpoint.In) status size i o l left = record { in_halted = true; out_halted = o; locked = l; halt = None; is = refl }
-laid [] (Some endpoint.Out) status size i o l left = record { in_halted = i; out_halted = true; locked = l; halt = None; is = refl }
-laid (packet ∷ packets) halt status size i o l left = record { in_halted = i; out_halted = o; locked = l; halt = halt; is = refl }
+pub sends_all : (sent : List (List ℕ)) (asks : List Event) → All Asks asks → (answers : List Answer) (old new : Conversation UnitState)
+    → Sends old.line.left → Untroubled old (map packet_out sent ++ asks) answers new → new.line.left ≡ finished
+    → Ends old.line.left answers × (new.unit ≡ old.unit)
+sends_all [] asks only answers old new sends run ends = asks_end asks only answers old new run ends
+sends_all (packet ∷ sent) asks only [] old new sends run ends = absurd run
+sends_all (packet ∷ sent) asks only (a ∷ as_) old new sends (mid, step, stamps, rest) ends =
+    let same = idle old.line.out_halted old.line.left packet old mid a as_ sends step in
+    let later = sends_all sent asks only as_ old new sends
+    (subst (λ c. Untroubled c (map packet_out sent ++ asks) as_ new) same.0 rest) ends in
+    (quiet old.line.left a as_ same.1 later.0, later.1)
 
-pub sends_all : (size : ℕ) (packets : List (List ℕ)) (status : List ℕ) (sent : List (List ℕ)) (asks : List Event) → All Asks asks
-    → (answers : List Answer) (old new : Conversation UnitState) → IsSending old.line size packets status
-    → Untroubled old (map packet_out sent ++ asks) answers new → new.line.left ≡ finished
-    → (packets_in answers ≡ packets ++ status ∷ []) × (new.unit ≡ old.unit)
-sends_all size packets status sent asks only answers old new s run ends =
-    let line : Line = line_at size s.in_halted s.out_halted s.locked (sending packets s.halt status) in
-    let same = same_conversation old (on_line line old.unit) s.is refl in
-    let later = idle size sent asks answers s.in_halted s.out_halted s.locked packets s.halt status old.unit new
-    (subst (λ c. Untroubled c (map packet_out sent ++ asks) answers new) same run) in
-    let last =
-    asks_end size asks only later.0 s.in_halted s.out_halted s.locked (sending packets s.halt status) old.unit new later.1 ends in
-    (later.2 ∙ last.0, last.1)
+-- ---- what is laid out, and what a command that was carried out tells
 
--- ---- what a command that was carried out tells
-
-abbrev pub packets_told : ℕ → Case → Result (List ℕ) Sense → List (List ℕ)
-packets_told size case (Ok bytes) = sent_in size case bytes
-packets_told size case (Err fault) = []
+pub laid : (packets : List (List ℕ)) (halt : Option Endpoint) (status : List ℕ) (line : Line)
+    → Sends (laid_out packets halt status line).left
+    × ((answers : List Answer) → Ends (laid_out packets halt status line).left answers → packets_in answers ≡ packets ++ status ∷ [])
+laid packets halt status line = grind arith
 
 abbrev pub status_told : Case → Cbw → Way → Result (List ℕ) Sense → List ℕ
 status_told case command intended (Ok bytes) = status_for case command intended Passed
 status_told case command intended (Err fault) = status_for (case_if_failed case) command intended Failed
 
-abbrev bytes_sent : Case → List ℕ → List ℕ
-bytes_sent C5 bytes = bytes
-bytes_sent C6 bytes = bytes
-bytes_sent case bytes = []
-
 abbrev pub bytes_told : Case → Result (List ℕ) Sense → List ℕ
-bytes_told case (Ok bytes) = bytes_sent case bytes
-bytes_told case (Err fault) = []
-
-pub told_sends : (case : Case) (command : Cbw) (intended : Way) (answer : Result (List ℕ) Sense) (size : ℕ)
-    (in_halted out_halted locked : Bool) (left : Script)
-    → IsSending (told case command intended answer (line_at size in_halted out_halted locked left)) size (packets_told size case answer)
-    (status_told case command intended answer)
-told_sends case command intended (Ok bytes) size i o l left =
-    laid (sent_in size case bytes) (outcome_for case command intended).halt (status_for case command intended Passed) size i o l left
-told_sends case command intended (Err fault) size i o l left =
-    laid [] (outcome_for (case_if_failed case) command intended).halt (status_for (case_if_failed case) command intended Failed) size i o l
-    left
+bytes_told C5 (Ok bytes) = bytes
+bytes_told C6 (Ok bytes) = bytes
+bytes_told case answer = []
 
 module _ (size : ℕ) (some : 0 < size) where
-  sent_bytes : (case : Case) (bytes : List ℕ) → join (sent_in size case bytes) ≡ bytes_sent case bytes
-  sent_bytes C1 bytes = refl
-  sent_bytes C2 bytes = refl
-  sent_bytes C3 bytes = refl
-  sent_bytes C4 bytes = refl
-  sent_bytes C5 bytes = joined_up size some (length bytes) bytes (omega arith)
-  sent_bytes C6 bytes = joined_up size some (length bytes) bytes (omega arith)
-  sent_bytes C7 bytes = refl
-  sent_bytes C8 bytes = refl
-  sent_bytes C9 bytes = refl
-  sent_bytes C10 bytes = refl
-  sent_bytes C11 bytes = refl
-  sent_bytes C12 bytes = refl
-  sent_bytes C13 bytes = refl
+  sent_bytes : (case : Case) (bytes : List ℕ) → join (sent_in size case bytes) ≡ bytes_told case (Ok bytes)
+  sent_bytes case bytes = let all = joined_up size some (length bytes) bytes (omega arith) in grind arith
 
-  pub told_bytes : (case : Case) (answer : Result (List ℕ) Sense) → join (packets_told size case answer) ≡ bytes_told case answer
-  told_bytes case (Ok bytes) = sent_bytes case bytes
-  told_bytes case (Err fault) = refl
+  -- what is heard of it
+  pub told_heard : (case : Case) (command : Cbw) (intended : Way) (answer : Result (List ℕ) Sense) (line : Line) (answers : List Answer)
+      → line.packet_size ≡ size → Ends (told case command intended answer line).left answers
+      → heard_in answers ≡ record { bytes = bytes_told case answer; status = status_told case command intended answer }
+  told_heard case command intended (Ok bytes) line answers is ends =
+      heard_so answers (sent_in size case bytes) _ _ (rw (← is) ((laid (sent_in line.packet_size case bytes) _ _ line).1 answers ends))
+      (sent_bytes case bytes)
+  told_heard case command intended (Err fault) line answers is ends =
+      heard_so answers [] _ _ ((laid [] _ _ line).1 answers ends) (grind arith)
+
+  pub told_sends : (case : Case) (command : Cbw) (intended : Way) (answer : Result (List ℕ) Sense) (line : Line)
+      → Sends (told case command intended answer line).left
+  told_sends case command intended (Ok bytes) line = (laid (sent_in line.packet_size case bytes) _ _ line).0
+  told_sends case command intended (Err fault) line = (laid [] _ _ line).0

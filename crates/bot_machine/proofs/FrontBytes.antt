@@ -1,17 +1,13 @@
 -- Data that is taken into the front of a buffer.
-use Rattle.std.proofs.Common.{◌≡◌, ℕ, ◌+◌, ◌-◌, ◌<◌, ◌≤◌, inl, inr, min, nat_le, List, ◌++◌, length, take, sym, ap, ◌∙◌, arith, length-take}
+use Rattle.std.proofs.Common.{◌≡◌, ℕ, ◌+◌, ◌-◌, ◌<◌, ◌≤◌, min, nat_le, List, ◌++◌, length, take, sym, ap, ◌∙◌, arith, length-take}
 use Rattle.std.proofs.lemmas.List.{take-append-le, take_all}
 use Rattle.std.proofs.Math.Seq.{take-append-add}
-use Rattle.std.proofs.lemmas.Bool.{cases_lt}
 use Rattle.std.proofs.lemmas.Bool.Decides.{nat_tests}
 use Rattle.std.specs.Prelude.{if◌then◌else◌, ◌==◌, ◌&&◌}
 
 -- as many bytes as there are, or as there is room for
 same_front : (packet : List ℕ) (room more : ℕ) → more ≡ min (length packet) room → take room packet ≡ take more packet
-same_front packet room more e = elim (cases_lt room (length packet)) [
-  | inl h ↦ ap (λ k. take k packet) (let k : room ≡ more = omega arith in k)
-  | inr h ↦ take_all room packet h ∙ sym (take_all more packet (omega arith))
-]
+same_front packet room more e = grind (arith, take_all {A = ℕ})
 
 pub front_filled : (front packet rest : List ℕ) (filled size more : ℕ) → length front ≡ filled → filled ≤ size
     → more ≡ min (length packet) (size - filled) → take (filled + more) (front ++ (take more packet ++ rest)) ≡ take size (front ++ packet)

@@ -1,5 +1,5 @@
 -- How a life begins: what the medium was left with is what the life opens with.
-use Rattle.std.proofs.Common.{◌≡◌, ℕ, true, false, [], Some, None, Option, refl, sym, subst, ◌∙◌, ap, inl, inr}
+use Rattle.std.proofs.Common.{◌≡◌, ◌≤◌, ◌⊎◌, ℕ, true, false, [], Some, None, Option, refl, sym, subst, ◌∙◌, ap, inl, inr, arith}
 use Rattle.std.proofs.lemmas.Bool.{false≢true, cases_Bool}
 use Rattle.spec.specs.Blocks.{Write, Array}
 use Rattle.medium.specs.Medium.{State, Image}
@@ -9,7 +9,8 @@ use Rattle.medium.specs.SimLaws.{is_sound}
 use Rattle.medium.proofs.Moments.{only_image, content_has}
 use Rattle.medium.proofs.KeptBlocks.{none_flushed}
 use Rattle.spec.specs.Book.{Book, after_first, opened, with_write}
-use Rattle.scsi_unit.specs.Books.{StandsAs, FoundWith}
+use Rattle.scsi_unit.specs.Books.{StandsAs, MayFind, FoundWith}
+use Rattle.spec.specs.Rules.{with_progress}
 use Rattle.bot_machine.specs.Device.{Device}
 use Rattle.scsi_unit.specs.Starting.{IsOursForSome, StandsForOpening, OpensOn, blocks_of}
 use Rattle.bot_machine.specs.Disk.{DiskValue, FitsDisk}
@@ -28,53 +29,30 @@ record LeavesBook (size : ℕ) (remains : Remains) (image : Image) : Type 0 wher
   left : IsLeft remains next
   stands : StandsAs size next.blocks image next.opening next.stamp
 
+found_left : (size : ℕ) (remains : Remains) (book : Book) (image : Image)
+    → (book ≡ remains.book) ⊎ (book ≡ with_progress remains.book remains.in_progress) → remains.book.mark ≤ book.mark
+    → MayFind size book image → LeavesBook size remains image
+found_left size remains book image accepts mark m = record {
+  next = opened book.blocks (after_first m.count book) m.next true;
+  is = refl;
+  left = record {
+    book = book;
+    accepts = accepts;
+    count = m.count;
+    promises = omega (arith, mark, m.promises);
+    accepted = m.accepted;
+    blocks = refl;
+    opening = refl;
+    stamp = m.bound;
+  };
+  stands = m.stands;
+}
+
 leaves_book : (size : ℕ) (book : Book) (write : Option Write) (image : Image) → FoundWith size book write image
     → LeavesBook size (record { book = book; in_progress = write }) image
-leaves_book size book None image m = record {
-  next = opened book.blocks (after_first m.count book) m.next true;
-  is = refl;
-  left = record {
-    book = book;
-    accepts = inl refl;
-    count = m.count;
-    promises = m.promises;
-    accepted = m.accepted;
-    blocks = refl;
-    opening = refl;
-    stamp = m.bound;
-  };
-  stands = m.stands;
-}
-leaves_book size book (Some w) image (inl m) = record {
-  next = opened book.blocks (after_first m.count book) m.next true;
-  is = refl;
-  left = record {
-    book = book;
-    accepts = inl refl;
-    count = m.count;
-    promises = m.promises;
-    accepted = m.accepted;
-    blocks = refl;
-    opening = refl;
-    stamp = m.bound;
-  };
-  stands = m.stands;
-}
-leaves_book size book (Some w) image (inr m) = record {
-  next = opened book.blocks (after_first m.count (with_write book w)) m.next true;
-  is = refl;
-  left = record {
-    book = with_write book w;
-    accepts = inr refl;
-    count = m.count;
-    promises = m.promises;
-    accepted = m.accepted;
-    blocks = refl;
-    opening = refl;
-    stamp = m.bound;
-  };
-  stands = m.stands;
-}
+leaves_book size book None image m = found_left size _ book image (inl refl) (omega arith) m
+leaves_book size book (Some w) image (inl m) = found_left size _ book image (inl refl) (omega arith) m
+leaves_book size book (Some w) image (inr m) = found_left size _ (with_write book w) image (inr refl) (omega arith) m
 
 -- an image that is ours in some shape is ours with some number of blocks, and the other way round
 pub with_shape : (size : ℕ) (image : Image)
@@ -173,16 +151,12 @@ module _ (m : Sim) (after : State) (device : Device) (disk : DiskValue Sim) (h :
   pub first_opened : (book : Book) → OpensOn (state_of m) book → HasOpened after disk (before_first book)
   first_opened book on = record { book = book; opens = refl; ours = refl; fits = h.store.serves book on }
 
-  next_opened_ours : (remains : Remains) → remains.book.ours ≡ true → EachCut (FoundAt (state_of m).size (between remains)) (state_of m)
-      → HasOpened after disk (between remains)
-  next_opened_ours remains ours found =
-      let w = next_opens_ours m remains ours found in
-      record { book = w.book; opens = w.opens; ours = w.ours; fits = h.store.serves w.book (w.on (w.ours ∙ ours)) }
-
   pub next_opened : (remains : Remains) → (remains.book.ours ≡ true → EachCut (FoundAt (state_of m).size (between remains)) (state_of m))
       → HasOpened after disk (between remains)
   next_opened remains found = elim (cases_Bool remains.book.ours) [
-    | inl ours ↦ next_opened_ours remains ours (found ours)
+    | inl ours ↦
+        let w = next_opens_ours m remains ours (found ours) in
+        record { book = w.book; opens = w.opens; ours = w.ours; fits = h.store.serves w.book (w.on (w.ours ∙ ours)) }
     | inr not ↦ record {
       book = opened (blocks_of disk.unit.store.cached) h.store.array h.store.next false;
       opens = next_opens_any m remains not (blocks_of disk.unit.store.cached) h.store.array h.store.next;

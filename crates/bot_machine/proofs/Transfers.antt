@@ -1,5 +1,5 @@
 -- Transfers do not depend on the size of a packet.
-use Rattle.std.proofs.Common.{◌≡◌, ◌<◌, ◌≤◌, ◌-◌, ◌⊎◌, inl, inr, ⊎_elim, ℕ, zero, suc, false, List, [], ◌∷◌, ◌++◌, length, take, drop, map}
+use Rattle.std.proofs.Common.{◌≡◌, ◌<◌, ◌≤◌, ◌-◌, inl, inr, ⊎_elim, ℕ, zero, suc, false, List, [], ◌∷◌, ◌++◌, length, take, drop, map}
 use Rattle.std.proofs.Common.{refl, sym, ap, subst, ◌∙◌, arith, append_assoc, length-take, length-drop}
 use Rattle.std.specs.Prelude.{None, Result, All}
 use Rattle.std.proofs.lemmas.List.{take_all, drop_all, take-append-drop}
@@ -15,135 +15,27 @@ use Rattle.spec.specs.Sense.{Sense}
 use Rattle.spec.specs.Rules.{UnitState, CarriesOut, Ticks, write_in_progress, with_progress}
 use Rattle.spec.specs.declared.event.Event.{Event}
 use Rattle.spec.specs.declared.event.Answer.{Answer}
+use Rattle.spec.specs.declared.event.Answer.TheVariants.{Ack}
 use Rattle.spec.specs.Packets.{packets_of}
-use Rattle.spec.specs.Exchange.{Script, finished, taking, Line, at_rest, Moment, at_once, after_data, never, moment_of, outcome_for}
-use Rattle.spec.specs.Exchange.{status_for, told, told_at_once}
-use Rattle.spec.specs.Conversation.{Conversation, Begins, OpensExchange, Takes}
-use Rattle.spec.specs.UnitConversation.{Intends, way_of, write_of_packet, on_line}
-use Rattle.bot_machine.specs.Transfers.{Transfer, packet_out, Asks, events_of, packets_in, Heard, heard_in, IsTransferred, AreTransferred}
+use Rattle.spec.specs.Exchange.{finished, taking, at_rest, Moment, at_once, after_data, never, moment_of, outcome_for, status_for}
+use Rattle.spec.specs.Conversation.{Conversation, IsCarriedOut, Begins, OpensExchange, Takes}
+use Rattle.spec.specs.UnitConversation.{Intends, way_of, on_line, UnitStep}
+use Rattle.bot_machine.specs.Transfers.{Transfer, packet_out, Asks, events_of, packets_in, Heard, heard_in, IsTransferred}
 use Rattle.bot_machine.specs.Transfers.{SizesAreAlike}
+use Rattle.bot_machine.specs.Striking.{HasStamps}
 use Rattle.bot_machine.proofs.Packets.{packets_of-more, packets_of-none}
 use Rattle.bot_machine.proofs.Cases.{at_once-takes_none}
 use Rattle.bot_machine.proofs.FrontBytes.{last_packet}
 use Rattle.bot_machine.proofs.UnitLaws.{writes_none, one_answer}
-use Rattle.bot_machine.proofs.OneStep.{same_conversation, opens_as}
-use Rattle.bot_machine.proofs.StruckTicks.{Untroubled, untroubled}
-use Rattle.bot_machine.proofs.ExchangeEnds.{heard_so, front_first, line_at, asks_end, laid, sends_all, packets_told, status_told}
-use Rattle.bot_machine.proofs.ExchangeEnds.{bytes_told}
-use Rattle.bot_machine.proofs.ExchangeEnds.{told_sends, told_bytes}
+use Rattle.bot_machine.proofs.OneStep.{opens_as}
+use Rattle.bot_machine.proofs.StruckTicks.{Untroubled, untroubled, First, first_of}
+use Rattle.bot_machine.proofs.ExchangeEnds.{asks_end, laid, sends_all, status_told, bytes_told, told_sends, told_heard, heard_so}
 
--- ---- the data is taken
-
-module _ (size : ℕ) (some : 0 < size) where
-  module _ (case : Case) (command : Cbw) (intended : Way) (unit : UnitState) (asks : List Event) (new : Conversation UnitState) where
-    abbrev taken_bytes : List ℕ → List ℕ
-    taken_bytes bytes = take (size_of_way intended) bytes
-
-    abbrev takes_at : List ℕ → ℕ → Conversation UnitState
-    takes_at came due = on_line (line_at size false false false (taking case command intended came due)) unit
-
-    -- what one packet does where data is expected
-    record First (came : List ℕ) (due : ℕ) (packet : List ℕ) (events : List Event) (answers : List Answer) : Type 0 where
-      mid : Conversation UnitState
-      later : List Answer
-      same : packets_in answers ≡ packets_in later
-      takes : Takes Intends CarriesOut Ticks false case command intended came due packet (takes_at came due) mid
-      stamps : ¬ StampsOut (with_progress unit.book (write_of_packet size false (taking case command intended came due) packet unit))
-      run : Untroubled mid events later new
-
-    first : (came : List ℕ) (due : ℕ) (packet : List ℕ) (events : List Event) (answers : List Answer)
-        → Untroubled (takes_at came due) (packet_out packet ∷ events) answers new → First came due packet events answers
-    first came due packet events [] run = absurd run
-    first came due packet events (a ∷ as_) (mid, step, stamps, rest) = record {
-      mid = mid;
-      later = as_;
-      same = ap (λ x. packets_in (x ∷ as_)) step.0;
-      takes = step.1;
-      stamps = stamps;
-      run = rest;
-    }
-
-    -- the command is carried out over these bytes
-    record Taken (bytes : List ℕ) (answers : List Answer) : Type 0 where
-      answer : Result (List ℕ) Sense
-      after : UnitState
-      effect : CarriesOut false command.block.items bytes unit answer after
-      stamps : ¬ StampsOut (with_progress unit.book (write_in_progress unit command.block.items bytes))
-      left : Script
-      later : List Answer
-      same : packets_in answers ≡ packets_in later
-      run : Untroubled (on_line (told case command intended answer (line_at size false false false left)) after) asks later new
-
-    all_taken : (n : ℕ) (rest came : List ℕ) (due : ℕ) (answers : List Answer) → length rest ≤ n → 0 < length rest → length rest ≡ due
-        → Untroubled (takes_at came due) (map packet_out (packets_of size rest) ++ asks) answers new
-        → Taken (taken_bytes (came ++ rest)) answers
-    all_taken zero rest came due answers few more is run = absurd (omega (arith, few, more))
-    all_taken (suc n) rest came due answers few more is run =
-        let packet : List ℕ = take size rest in
-        let behind : List ℕ = drop size rest in
-        let events : List Event = map packet_out (packets_of size behind) ++ asks in
-        let f = first came due packet events answers
-        (subst (λ (l : List (List ℕ)). Untroubled (takes_at came due) (map packet_out l ++ asks) answers new)
-        (packets_of-more size rest some more) run) in
-        let whole : (came ++ packet) ++ behind ≡ came ++ rest =
-        append_assoc came packet behind ∙ ap (λ l. came ++ l) (take-append-drop size rest) in
-        elim f.takes [
-          | inl m ↦
-              let due_left : length behind ≡ due - size = omega (arith, is, length-drop size rest) in
-              let line = m.after
-              ∙ ap (λ d. line_at size false false false (taking case command intended (taken_bytes (came ++ packet)) d))
-              (sym due_left) in
-              let at : f.mid ≡ takes_at (taken_bytes (came ++ packet)) (length behind) =
-              same_conversation f.mid (takes_at (taken_bytes (came ++ packet)) (length behind)) line m.unit in
-              let t = all_taken n behind (taken_bytes (came ++ packet)) (length behind) f.later (omega (arith, few, some, due_left, is))
-              (let h = m.more in omega (arith, h, due_left)) refl
-              (subst (λ (c : Conversation UnitState). Untroubled c events f.later new) at f.run) in
-              let bytes : taken_bytes (taken_bytes (came ++ packet) ++ behind) ≡ taken_bytes (came ++ rest) =
-              front_first (size_of_way intended) (came ++ packet) behind ∙ ap taken_bytes whole in
-              record {
-                answer = t.answer;
-                after = t.after;
-                effect = subst (λ (l : List ℕ). CarriesOut false command.block.items l unit t.answer t.after) bytes t.effect;
-                stamps = subst (λ (l : List ℕ). ¬ StampsOut (with_progress unit.book (write_in_progress unit command.block.items l))) bytes
-                    t.stamps;
-                left = t.left;
-                later = t.later;
-                same = f.same ∙ t.same;
-                run = t.run;
-              }
-          | inr other ↦ elim other [
-            | inl l ↦
-                let last : length rest ≤ size = let h = l.last in omega (arith, h, is) in
-                let all : packet ≡ rest = take_all size rest last in
-                let none : behind ≡ [] = drop_all size rest last in
-                let bytes : taken_bytes (came ++ packet) ≡ taken_bytes (came ++ rest) = ap (λ p. taken_bytes (came ++ p)) all in
-                let done = l.carried_out in
-                let wrote = last_packet size (length packet) due (write_in_progress unit command.block.items (taken_bytes (came ++ packet)))
-                None l.size l.last in
-                let at = same_conversation f.mid
-                (on_line
-                (told case command intended done.answer (line_at size false false false (taking case command intended came due)))
-                f.mid.unit)
-                done.after refl in
-                record {
-                  answer = done.answer;
-                  after = f.mid.unit;
-                  effect = subst (λ (p : List ℕ). CarriesOut false command.block.items p unit done.answer f.mid.unit) bytes done.effect;
-                  stamps =
-                      subst (λ (p : List ℕ). ¬ StampsOut (with_progress unit.book (write_in_progress unit command.block.items p))) bytes
-                      (subst (λ w. ¬ StampsOut (with_progress unit.book w)) (sym wrote) f.stamps);
-                  left = taking case command intended came due;
-                  later = f.later;
-                  same = f.same;
-                  run = subst (λ (c : Conversation UnitState). Untroubled c asks f.later new) at
-                      (subst (λ (p : List (List ℕ)). Untroubled f.mid (map packet_out p ++ asks) f.later new)
-                      (ap (packets_of size) none ∙ packets_of-none size some) f.run);
-                }
-            | inr off ↦ let h = off.size in absurd (omega (arith, h, is, length-take size rest))
-          ]
-        ]
-
--- ---- one transfer
+-- what is taken of the first bytes and then of others
+front_first : (n : ℕ) (xs ys : List ℕ) → take n (take n xs ++ ys) ≡ take n (xs ++ ys)
+front_first zero xs ys = refl
+front_first (suc n) [] ys = refl
+front_first (suc n) (x ∷ xs) ys = ap (λ l. x ∷ l) (front_first n xs ys)
 
 -- what comes of a transfer, whatever the size of a packet
 record CarriedOut (case : Case) (command : Cbw) (intended : Way) (bytes : List ℕ) (old new : UnitState) (heard : Heard) : Type 0 where
@@ -163,160 +55,195 @@ one_carried_out : (case : Case) (command : Cbw) (intended : Way) (bytes : List �
     → CarriedOut case command intended bytes old new heard → CarriedOut case command intended bytes old last again
     → (new ≡ last) × (heard ≡ again)
 one_carried_out case command intended bytes old new last heard again a b =
-    let same = one_answer command.block.items bytes old new last a.answer b.answer a.stamps a.effect b.effect in (
-      same.1,
-      a.heard_is
-          ∙ ap (λ (r : Result (List ℕ) Sense). record { bytes = bytes_told case r; status = status_told case command intended r }) same.0
-          ∙ sym b.heard_is,
-    )
+    let same = one_answer command.block.items bytes old new last a.answer b.answer a.stamps a.effect b.effect in grind arith
 
 one_outcome : (moment : Moment) (case : Case) (command : Cbw) (intended : Way) (sent : List ℕ) (old new last : UnitState)
     (heard again : Heard) → Outcome moment case command intended sent old new heard
     → Outcome moment case command intended sent old last again → (new ≡ last) × (heard ≡ again)
-one_outcome at_once case command intended sent old new last heard again a b =
-    one_carried_out case command intended [] old new last heard again a b
-one_outcome after_data case command intended sent old new last heard again a b =
-    one_carried_out case command intended (take (size_of_way intended) sent) old new last heard again a b
-one_outcome never case command intended sent old new last heard again a b = (a.0 ∙ sym b.0, a.1 ∙ sym b.1)
+one_outcome moment case command intended sent old new last heard again a b = grind (arith, one_carried_out)
 
--- the first event of a transfer
-record Opened (size : ℕ) (wrapper : List ℕ) (old new : UnitState) (events : List Event) (answers : List Answer) : Type 0 where
-  mid : Conversation UnitState
-  later : List Answer
-  same : packets_in answers ≡ packets_in later
-  opens : OpensExchange Intends CarriesOut Ticks false wrapper (on_line (at_rest size) old) mid
-  stamps : ¬ StampsOut old.book
-  run : Untroubled mid events later (on_line (at_rest size) new)
+module _ (size : ℕ) (some : 0 < size) (case : Case) (command : Cbw) (intended : Way) (asks : List Event) (only : All Asks asks)
+    (new : Conversation UnitState) (ends : new.line.left ≡ finished) where
+  -- what is heard of a command that was carried out
+  heard_of : (bytes : List ℕ) (from mid : Conversation UnitState) (sent : List (List ℕ)) (answers later : List Answer)
+      → ¬ StampsOut (with_progress from.unit.book (write_in_progress from.unit command.block.items bytes)) → from.line.packet_size ≡ size
+      → IsCarriedOut Intends CarriesOut Ticks false case command intended bytes from mid → packets_in answers ≡ packets_in later
+      → Untroubled mid (map packet_out sent ++ asks) later new
+      → CarriedOut case command intended bytes from.unit new.unit (heard_in answers)
+  heard_of bytes from mid sent answers later stamps is carried same run =
+      let sends = told_sends size some case command intended carried.answer from.line in
+      let last = sends_all sent asks only later mid new (rw carried.after sends) run ends in
+      record {
+        answer = carried.answer;
+        effect = rw last.1 carried.effect;
+        stamps = stamps;
+        heard_is = rw same (told_heard size some case command intended carried.answer from.line later is (rw (← carried.after) last.0));
+      }
 
-opened : (size : ℕ) (wrapper : List ℕ) (command : Cbw) → SpellsCommand wrapper command
-    → (old new : UnitState) (events : List Event) (answers : List Answer)
-    → Untroubled (on_line (at_rest size) old) (packet_out wrapper ∷ events) answers (on_line (at_rest size) new)
-    → Opened size wrapper old new events answers
-opened size wrapper command spelled old new events [] run = absurd run
-opened size wrapper command spelled old new events (a ∷ as_) (mid, (ack, inl opens), stamps, rest) = record {
-  mid = mid;
-  later = as_;
-  same = ap (λ x. packets_in (x ∷ as_)) ack;
-  opens = opens;
-  stamps = stamps;
-  run = rest;
-}
-opened size wrapper command spelled old new events (a ∷ as_) (mid, (ack, inr locks), stamps, rest) = absurd (locks.unknown command spelled)
+  -- ---- the data is taken
 
-module _ (size : ℕ) (some : 0 < size) (command : Cbw) (sent : List ℕ) (announced : (sent ≡ []) ⊎ (length sent ≡ size_of_way command.host))
-    (old new : UnitState) (asks : List Event) (only : All Asks asks) (answers : List Answer) (heard : Heard)
-    (heard_is : heard ≡ heard_in answers) (mid : Conversation UnitState) (later : List Answer)
-    (same : packets_in answers ≡ packets_in later) (stamps : ¬ StampsOut old.book)
-    (run : Untroubled mid (map packet_out (packets_of size sent) ++ asks) later (on_line (at_rest size) new)) (case : Case) (intended : Way)
-    (intends : Intends old command.block.items intended) (is_case : IsCase case command.host intended) where
+  -- data is expected, of which these bytes came
+  record Awaits (line : Conversation UnitState) (came : List ℕ) (due : ℕ) : Type 0 where
+    halted : line.line.out_halted ≡ false
+    packets : line.line.packet_size ≡ size
+    left : line.line.left ≡ taking case command intended came due
+
+  -- the command is carried out over these bytes
+  record Taken (bytes : List ℕ) (unit : UnitState) (packets : List (List ℕ)) : Type 0 where
+    from : Conversation UnitState
+    mid : Conversation UnitState
+    unit_is : from.unit ≡ unit
+    size_is : from.line.packet_size ≡ size
+    carried : IsCarriedOut Intends CarriesOut Ticks false case command intended bytes from mid
+    stamps : ¬ StampsOut (with_progress from.unit.book (write_in_progress from.unit command.block.items bytes))
+    later : List Answer
+    same : packets ≡ packets_in later
+    run : Untroubled mid asks later new
+
+  abbrev from : Conversation UnitState → List ℕ → ℕ → Conversation UnitState
+  from old came due = record old { line = record old.line { out_halted = false; left = taking case command intended came due } }
+
+  -- a packet of it
+  takes : (old mid : Conversation UnitState) (came : List ℕ) (due : ℕ) (packet : List ℕ) (answer : Answer) → Awaits old came due
+      → UnitStep false old (packet_out packet) answer mid → HasStamps old (packet_out packet)
+      → ((answer ≡ Ack) × Takes Intends CarriesOut Ticks false case command intended came due packet (from old came due) mid)
+      × HasStamps (from old came due) (packet_out packet)
+  takes old mid came due packet answer awaits step stamps = (rw (awaits.halted, awaits.left) at step, rw (awaits.halted, awaits.left) at stamps)
+
+  module _ (rest came : List ℕ) (answers : List Answer) (old : Conversation UnitState) (awaits : Awaits old came (length rest))
+      (f : First old new (packet_out (take size rest)) (map packet_out (packets_of size (drop size rest)) ++ asks) answers) where
+    abbrev bytes : List ℕ
+    bytes = take (size_of_way intended) (came ++ take size rest)
+
+    took : (length (drop size rest) < length rest → 0 < length (drop size rest) → Awaits f.mid bytes (length (drop size rest))
+        → Taken (take (size_of_way intended) (bytes ++ drop size rest)) f.mid.unit (packets_in f.later))
+        → Taken (take (size_of_way intended) (came ++ rest)) old.unit (packets_in answers)
+    took again =
+        let now = takes old f.mid came (length rest) (take size rest) f.answer awaits f.step f.stamps in
+        let sized = awaits.packets in
+        elim now.0.1 [
+          | inl m ↦
+              let more = m.more in
+              let due : length rest - old.line.packet_size ≡ length (drop size rest) = omega (arith, length-drop size rest) in
+              let next : Awaits f.mid bytes (length (drop size rest)) = record {
+                halted = grind arith;
+                packets = grind arith;
+                left = grind arith;
+              } in
+              let whole : take (size_of_way intended) (bytes ++ drop size rest) ≡ take (size_of_way intended) (came ++ rest) =
+              simp (front_first, append_assoc, take-append-drop) in
+              rw (f.told, now.0.0, ← whole, ← m.unit) (again (omega arith) (omega arith) next)
+          | inr other ↦ elim other [
+            | inl l ↦
+                let last : length rest ≤ size = let h = l.last in omega arith in
+                let all = take_all size rest last in
+                let wrote = last_packet old.line.packet_size (length (take size rest)) (length rest)
+                (write_in_progress old.unit command.block.items bytes) None l.size l.last in
+                record {
+                  from = from old came (length rest);
+                  mid = f.mid;
+                  unit_is = refl;
+                  size_is = sized;
+                  carried = subst (λ p. IsCarriedOut Intends CarriesOut Ticks false case command intended (take (size_of_way intended) (came ++ p))
+                      (from old came (length rest)) f.mid) all l.carried_out;
+                  stamps = subst (λ p. ¬ StampsOut (with_progress old.unit.book
+                      (write_in_progress old.unit command.block.items (take (size_of_way intended) (came ++ p))))) all
+                      (subst (λ w. ¬ StampsOut (with_progress old.unit.book w)) (sym wrote) now.1);
+                  later = f.later;
+                  same = rw (f.told, now.0.0) refl;
+                  run = rw (drop_all size rest last, packets_of-none size some) at f.run;
+                }
+            | inr off ↦ let h = off.size in absurd (omega (arith, length-take size rest))
+          ]
+        ]
+
+  all_taken : (n : ℕ) (rest came : List ℕ) (answers : List Answer) (old : Conversation UnitState) → length rest ≤ n → 0 < length rest
+      → Awaits old came (length rest) → Untroubled old (map packet_out (packets_of size rest) ++ asks) answers new
+      → Taken (take (size_of_way intended) (came ++ rest)) old.unit (packets_in answers)
+  all_taken zero rest came answers old few more awaits run = absurd (omega (arith, few, more))
+  all_taken (suc n) rest came answers old few more awaits run =
+      let f = first_of old new (packet_out (take size rest)) (map packet_out (packets_of size (drop size rest)) ++ asks) answers
+      (subst (λ (l : List (List ℕ)). Untroubled old (map packet_out l ++ asks) answers new) (packets_of-more size rest some more) run) in
+      took rest came answers old awaits f (λ fewer more awaits. all_taken n (drop size rest) _ f.later f.mid
+      (omega arith) more awaits f.run)
+
+-- ---- one transfer
+
+-- a packet that spells a command wrapper
+opened : (size : ℕ) (wrapper : List ℕ) (command : Cbw) → SpellsCommand wrapper command → (old : UnitState) (mid : Conversation UnitState)
+    (answer : Answer) → UnitStep false (on_line (at_rest size) old) (packet_out wrapper) answer mid
+    → (answer ≡ Ack) × OpensExchange Intends CarriesOut Ticks false wrapper (on_line (at_rest size) old) mid
+opened size wrapper command spelled old mid answer (ack, inl opens) = (ack, opens)
+opened size wrapper command spelled old mid answer (ack, inr locks) = absurd (locks.unknown command spelled)
+
+module _ (size : ℕ) (some : 0 < size) (t : Transfer) (old new : UnitState) (asks : List Event) (only : All Asks asks) (answers : List Answer)
+    (f : First (on_line (at_rest size) old) (on_line (at_rest size) new) (packet_out t.wrapper)
+    (map packet_out (packets_of size t.sent) ++ asks) answers) (ack : f.answer ≡ Ack) (case : Case) (intended : Way)
+    (intends : Intends old t.command.block.items intended) (is_case : IsCase case t.command.host intended) where
   abbrev end : Conversation UnitState
   end = on_line (at_rest size) new
 
-  -- the host asks where data is expected, and gets no status
-  no_data : (due : ℕ) → sent ≡ [] → mid ≡ on_line (line_at size false false false (taking case command intended [] due)) old → ⊥
-  no_data due none at =
-      let none_cut : packets_of size sent ≡ [] = ap (packets_of size) none ∙ packets_of-none size some in
-      let asked = subst (λ (l : List (List ℕ)). Untroubled mid (map packet_out l ++ asks) later end) none_cut run in
-      (asks_end size asks only later false false false (taking case command intended [] due) old end
-      (subst (λ (c : Conversation UnitState). Untroubled c asks later end) at asked) refl).0
-
-  took : (due : ℕ) → length sent ≡ due → 0 < length sent
-      → mid ≡ on_line (line_at size false false false (taking case command intended [] due)) old
-      → Outcome after_data case command intended sent old new heard
-  took due whole more at =
-      let t = all_taken size some case command intended old asks end (length sent) sent [] due later (omega arith) more whole
-      (subst (λ (c : Conversation UnitState). Untroubled c (map packet_out (packets_of size sent) ++ asks) later end) at run) in
-      let sends = told_sends case command intended t.answer size false false false t.left in
-      let last = sends_all size (packets_told size case t.answer) (status_told case command intended t.answer) [] asks only t.later
-      (on_line (told case command intended t.answer (line_at size false false false t.left)) t.after) end sends t.run refl in
-      record {
-        answer = t.answer;
-        effect = subst (λ (u : UnitState). CarriesOut false command.block.items (take (size_of_way intended) sent) old t.answer u)
-            (sym last.1) t.effect;
-        stamps = t.stamps;
-        heard_is = heard_is
-            ∙ heard_so answers (packets_told size case t.answer) (status_told case command intended t.answer) (bytes_told case t.answer)
-            (same ∙ t.same ∙ last.0) (told_bytes size some case t.answer);
-      }
+  by_data : (sent : List ℕ) → t.sent ≡ sent
+      → Awaits size some case t.command intended asks only end refl f.mid [] (size_of_way t.command.host) → f.mid.unit ≡ old
+      → Outcome after_data case t.command intended t.sent old new (heard_in answers)
+  by_data [] none awaits same =
+      let asked = asks_end asks only f.later f.mid end (rw (none, packets_of-none size some) at f.run) refl in
+      absurd (rw awaits.left at asked.0)
+  by_data (byte ∷ bytes) is awaits same =
+      let whole : length t.sent ≡ size_of_way t.command.host = ⊎_elim (λ none. absurd (let e = sym none ∙ is in cc)) (λ all. all) t.announced in
+      let d = all_taken size some case t.command intended asks only end refl (length t.sent) t.sent [] f.later f.mid (omega arith)
+      (rw is (omega arith)) (rw whole awaits) f.run in
+      rw (← same, ← d.unit_is) (heard_of size some case t.command intended asks only end refl _ d.from d.mid [] answers d.later d.stamps d.size_is
+      d.carried (rw (f.told, ack) d.same) d.run)
 
   outcome : (moment : Moment) → moment ≡ moment_of case
-      → Begins Intends CarriesOut Ticks false moment case command intended (on_line (at_rest size) old) mid
-      → Outcome moment case command intended sent old new heard
+      → Begins Intends CarriesOut Ticks false moment case t.command intended (on_line (at_rest size) old) f.mid
+      → Outcome moment case t.command intended t.sent old new (heard_in answers)
   outcome at_once is begins =
-      let sends = told_sends case command intended begins.answer size false false false finished in
-      let at = same_conversation mid (on_line (told case command intended begins.answer (at_rest size)) mid.unit) begins.after refl in
-      let last = sends_all size (packets_told size case begins.answer) (status_told case command intended begins.answer)
-      (packets_of size sent) asks only later (on_line (told case command intended begins.answer (at_rest size)) mid.unit) end sends
-      (subst (λ (c : Conversation UnitState). Untroubled c (map packet_out (packets_of size sent) ++ asks) later end) at run) refl in
-      let none : write_in_progress old command.block.items [] ≡ None =
-      writes_none old command.block.items []
-      (λ n out. at_once-takes_none case command.host intended is_case (sym is) n (intends ∙ ap way_of out)) in
-      record {
-        answer = begins.answer;
-        effect = subst (λ (u : UnitState). CarriesOut false command.block.items [] old begins.answer u) (sym last.1) begins.effect;
-        stamps = subst (λ w. ¬ StampsOut (with_progress old.book w)) (sym none) stamps;
-        heard_is = heard_is
-            ∙ heard_so answers (packets_told size case begins.answer) (status_told case command intended begins.answer)
-            (bytes_told case begins.answer) (same ∙ last.0) (told_bytes size some case begins.answer);
-      }
+      let none = writes_none old t.command.block.items []
+      (λ n out. at_once-takes_none case t.command.host intended is_case (sym is) n (intends ∙ ap way_of out)) in
+      heard_of size some case t.command intended asks only end refl [] (on_line (at_rest size) old) f.mid
+      (packets_of size t.sent) answers f.later (rw none f.stamps) refl begins (rw (f.told, ack) refl) f.run
   outcome never is begins =
-      let status : List ℕ = status_for case command intended PhaseError in
-      let sends = laid [] (outcome_for case command intended).halt status size false false false finished in
-      let told_so : Line = told_at_once case command intended PhaseError (at_rest size) in
-      let at = same_conversation mid (on_line told_so old) begins.1 begins.0 in
-      let last = sends_all size [] status (packets_of size sent) asks only later (on_line told_so old) end sends
-      (subst (λ (c : Conversation UnitState). Untroubled c (map packet_out (packets_of size sent) ++ asks) later end) at run) refl in
-      (last.1, heard_is ∙ heard_so answers [] status [] (same ∙ last.0) refl)
-  outcome after_data is begins = by_data sent refl
-    where
-      by_data : (bytes : List ℕ) → sent ≡ bytes → Outcome after_data case command intended sent old new heard
-      by_data [] is_none =
-          absurd (no_data (size_of_way command.host) is_none
-          (same_conversation mid
-          (on_line (line_at size false false false (taking case command intended [] (size_of_way command.host))) old) begins.1
-          begins.0))
-      by_data (byte ∷ bytes) is_some =
-          let long : length sent ≡ suc (length bytes) = ap length is_some in
-          let whole : length sent ≡ size_of_way command.host =
-          ⊎_elim (λ none. absurd (let e = sym none ∙ is_some in cc)) (λ all. all) announced in
-          took (size_of_way command.host) whole (omega (arith, long))
-          (same_conversation mid
-          (on_line (line_at size false false false (taking case command intended [] (size_of_way command.host))) old) begins.1
-          begins.0)
+      let status = status_for case t.command intended PhaseError in
+      let sends = laid [] (outcome_for case t.command intended).halt status (at_rest size) in
+      let last = sends_all (packets_of size t.sent) asks only f.later f.mid end (rw begins.1 sends.0) f.run refl in
+      (last.1 ∙ begins.0, rw (f.told, ack) (heard_so f.later [] status [] (sends.1 f.later (rw (← begins.1) last.0)) refl))
+  outcome after_data is begins =
+      by_data t.sent refl (record { halted = grind arith; packets = grind arith; left = grind arith }) begins.0
 
 -- ---- transfers at two sizes
 
 one_transfer : (size other : ℕ) → 0 < size → 0 < other → (t : Transfer) (old new last : UnitState) (heard again : Heard)
     → IsTransferred size t old new heard → IsTransferred other t old last again → (new ≡ last) × (heard ≡ again)
 one_transfer size other some more t old new last heard again a b =
-    let run = untroubled (on_line (at_rest size) old) (events_of size t a.asks) a.answers a.refusals (on_line (at_rest size) new) a.run
-    a.untroubled in
-    let rerun = untroubled (on_line (at_rest other) old) (events_of other t b.asks) b.answers b.refusals (on_line (at_rest other) last)
-    b.run b.untroubled in
-    let o = opened size t.wrapper t.command t.spelled old new (map packet_out (packets_of size t.sent) ++ a.asks) a.answers run in
-    let p = opened other t.wrapper t.command t.spelled old last (map packet_out (packets_of other t.sent) ++ b.asks) b.answers rerun in
-    let case = o.opens.case in
-    let intended = o.opens.intended in
-    let same = one_wrapper t.wrapper o.opens.command t.command o.opens.spelled t.spelled in
-    let intends : Intends old t.command.block.items intended =
-    subst (λ (c : Cbw). Intends old c.block.items intended) same o.opens.intends in
-    let is_case : IsCase case t.command.host intended = subst (λ (c : Cbw). IsCase case c.host intended) same o.opens.is_case in
+    let f = first_of (on_line (at_rest size) old) (on_line (at_rest size) new) (packet_out t.wrapper)
+    (map packet_out (packets_of size t.sent) ++ a.asks) a.answers
+    (untroubled (on_line (at_rest size) old) (events_of size t a.asks) a.answers a.refusals (on_line (at_rest size) new) a.run
+    a.untroubled) in
+    let g = first_of (on_line (at_rest other) old) (on_line (at_rest other) last) (packet_out t.wrapper)
+    (map packet_out (packets_of other t.sent) ++ b.asks) b.answers
+    (untroubled (on_line (at_rest other) old) (events_of other t b.asks) b.answers b.refusals (on_line (at_rest other) last) b.run
+    b.untroubled) in
+    let o = opened size t.wrapper t.command t.spelled old f.mid f.answer f.step in
+    let p = opened other t.wrapper t.command t.spelled old g.mid g.answer g.step in
+    let case = o.1.case in
+    let intended = o.1.intended in
+    let same = one_wrapper t.wrapper o.1.command t.command o.1.spelled t.spelled in
+    let intends = subst (λ (c : Cbw). Intends old c.block.items intended) same o.1.intends in
+    let is_case = subst (λ (c : Cbw). IsCase case c.host intended) same o.1.is_case in
     one_outcome (moment_of case) case t.command intended t.sent old new last heard again
-    (outcome size some t.command t.sent t.announced old new a.asks a.only a.answers heard a.heard_is o.mid o.later o.same o.stamps o.run
-    case intended intends is_case (moment_of case) refl
-    (opens_as t.wrapper (on_line (at_rest size) old) o.mid t.command intended case t.spelled intends is_case o.opens))
-    (outcome other more t.command t.sent t.announced old last b.asks b.only b.answers again b.heard_is p.mid p.later p.same p.stamps
-    p.run case intended intends is_case (moment_of case) refl
-    (opens_as t.wrapper (on_line (at_rest other) old) p.mid t.command intended case t.spelled intends is_case p.opens))
+    (rw a.heard_is (outcome size some t old new a.asks a.only a.answers f o.0 case intended intends is_case (moment_of case) refl
+    (opens_as t.wrapper (on_line (at_rest size) old) f.mid t.command intended case t.spelled intends is_case o.1)))
+    (rw b.heard_is (outcome other more t old last b.asks b.only b.answers g p.0 case intended intends is_case (moment_of case) refl
+    (opens_as t.wrapper (on_line (at_rest other) old) g.mid t.command intended case t.spelled intends is_case p.1)))
 
 pub sizes_alike : SizesAreAlike
 sizes_alike size other some more [] old new last [] [] a b = (a ∙ sym b, refl)
-sizes_alike size other some more [] old new last [] (again ∷ others) a b = absurd b
-sizes_alike size other some more [] old new last (heard ∷ rest) again a b = absurd a
-sizes_alike size other some more (t ∷ ts) old new last [] again a b = absurd a
-sizes_alike size other some more (t ∷ ts) old new last (heard ∷ rest) [] a b = absurd b
 sizes_alike size other some more (t ∷ ts) old new last (heard ∷ rest) (again ∷ others) a b =
     let one = one_transfer size other some more t old a.0 b.0 heard again a.1 b.1 in
-    let others_run = subst (λ (u : UnitState). AreTransferred other ts u last others) (sym one.0) b.2 in
-    let left = sizes_alike size other some more ts a.0 new last rest others a.2 others_run in
-    (left.0, ap (λ (h : Heard). h ∷ rest) one.1 ∙ ap (λ l. again ∷ l) left.1)
+    let left = sizes_alike size other some more ts a.0 new last rest others a.2 (rw one.0 b.2) in
+    grind arith
+sizes_alike size other some more [] old new last [] (again ∷ others) a b = absurd b
+sizes_alike size other some more (t ∷ ts) old new last (heard ∷ rest) [] a b = absurd b
+sizes_alike size other some more transfers old new last heard again a b = absurd a
