@@ -54,16 +54,7 @@ limited_start before after leaves place limit w ours has =
 -- a cause that is possible over a book, told by the count of all refusals
 counted : (before after : Sim) (book : Book) (fault : StartFault) → IsCauseFor book (state_of before) (state_of after) fault
     → MayRefuse book (0 + (state_of before).failures) (state_of after).failures fault
-counted before after book NoMemory h = tt
-counted before after book Read h = omega (arith, h.grew)
-counted before after book Write h = omega (arith, h.grew)
-counted before after book Flush h = omega (arith, h.grew)
-counted before after book BadSuper h = h
-counted before after book BadVersion h = h
-counted before after book BadSize h = h
-counted before after book BadHead h = h
-counted before after book StampsUsedUp h = h
-counted before after book LogTooSmall h = h
+counted before after book fault h = grind arith
 
 -- ---- where lives stand after a start
 
@@ -316,34 +307,16 @@ module _ (device : Device) (m : Sim) (on : m.power.off ≡ false) where
 -- ---- nothing is started
 
 module _ (device : Device) where
-  running : (disk : DiskValue Sim) (place : Place) (armed : Bool) (limit : ℕ)
-      → FitsLives (lives_at device (Running disk)) (record { place = place; armed = armed; limit = limit })
-      → LivesStep (presented device) false (record { place = place; armed = armed; limit = limit }) starts []
-      (record { place = place; armed = armed; limit = limit })
-  running disk (before_first book) armed limit f = absurd f.is_at
-  running disk (between remains) armed limit f = absurd f.is_at
-  running disk (runs conversation) armed limit f = (refl, refl)
-  running disk (off remains) armed limit f = (refl, refl)
-
   -- a disk runs already
   pub start_of_disk : (disk : DiskValue Sim) → LivesGoOn (lives_at device (Running disk)) (starts ∷ []) [] (lives_at device (Running disk))
-  start_of_disk disk = stays device (Running disk) starts [] (refl, refl) (λ here fits. running disk here.place here.armed here.limit fits)
-
-  without_power : (m : Sim) → m.power.off ≡ true → (place : Place) (armed : Bool) (limit : ℕ)
-      → FitsLives (lives_at device (Stopped m)) (record { place = place; armed = armed; limit = limit })
-      → LivesStep (presented device) false (record { place = place; armed = armed; limit = limit }) starts []
-      (record { place = place; armed = armed; limit = limit })
-  without_power m is_off (before_first book) armed limit f = on_or_off m.power.off f.is_at.0.on is_off
-  without_power m is_off (between remains) armed limit f = on_or_off m.power.off f.is_at.on is_off
-  without_power m is_off (runs conversation) armed limit f = absurd f.is_at
-  without_power m is_off (off remains) armed limit f = (refl, refl)
+  start_of_disk disk = stays device (Running disk) starts [] (refl, refl) (λ here fits. grind arith)
 
   -- power is off already
   pub start_without_power : (m : Sim) → m.power.off ≡ true
       → LivesGoOn (lives_at device (Stopped m)) (starts ∷ []) [] (lives_at device (Stopped m))
   start_without_power m is_off =
       stays device (Stopped m) starts [] (refl, subst (λ (b : Bool). StartsIn b device m (Stopped m)) (sym is_off) refl)
-      (λ here fits. without_power m is_off here.place here.armed here.limit fits)
+      (λ here fits. grind arith)
 
 -- ---- whatever the medium holds
 

@@ -46,8 +46,7 @@ one_run device refused old new action answers step = (new, answers, [], sym (app
 -- one action with a refused call is counted
 pub one_counted : (refused : Bool) (before after : ℕ) → (refused ≡ true → before < after) → before ≤ after
     → refused_events (refused ∷ []) + before ≤ after
-one_counted true before after grew stays = let h = grew refl in omega (arith, h)
-one_counted false before after grew stays = omega (arith, stays)
+one_counted refused before after grew stays = grind (arith, grew)
 
 -- a medium whose power is on is not one whose power is off
 pub on_or_off : {A : Type 0} (b : Bool) → b ≡ false → b ≡ true → A
@@ -55,20 +54,13 @@ on_or_off b on is_off = absurd (false≢true (sym on ∙ is_off))
 
 -- where the power is on, it was on before
 pub on_before : (before after : Sim) → ComesAfter before after → after.power.off ≡ false → before.power.off ≡ false
-on_before before after follows on = elim (cases_Bool before.power.off) [
-  | inl gone ↦ on_or_off after.power.off on ((keeps_power before after follows).off_stays gone)
-  | inr still ↦ still
-]
+on_before before after follows on = let gone = (keeps_power before after follows).off_stays in grind (arith, gone)
 
 -- power goes only where a fuse was armed
 pub armed_then : (here : Standing) (before after : Sim) → ComesAfter before after → (here.armed ≡ false → before.power.fuse ≡ None)
     → before.power.off ≡ false → after.power.off ≡ true → here.armed ≡ true
 armed_then here before after follows unfused on is_off =
-    by_cases here.armed unfused
-  where
-    by_cases : (armed : Bool) → (armed ≡ false → before.power.fuse ≡ None) → armed ≡ true
-    by_cases true unfused = refl
-    by_cases false unfused = absurd (((keeps_power before after follows).goes_off on is_off).0 (unfused refl))
+    let fused = ((keeps_power before after follows).goes_off on is_off).0 in grind (arith, fused, unfused)
 
 module _ (device : Device) where
   -- lives of this disk
@@ -137,18 +129,8 @@ module _ (device : Device) where
     cut_found : (place : Place) (n : ℕ) → n ≡ (state_of old).size
         → ((book_at place).ours ≡ true → EachCut (FoundAt (state_of old).size place) (state_of old))
         → (book_at (after_cut place)).ours ≡ true → EachCut (FoundAt n (after_cut place)) (state_of new)
-    cut_found (before_first book) n e h ours =
-        subst (λ (k : ℕ). EachCut (FoundAt k (before_first book)) (state_of new)) (sym e)
-        (left_before (FoundAt (state_of old).size (before_first book)) (h ours))
-    cut_found (between remains) n e h ours =
-        subst (λ (k : ℕ). EachCut (FoundAt k (between remains)) (state_of new)) (sym e)
-        (left_before (FoundAt (state_of old).size (between remains)) (h ours))
-    cut_found (runs conversation) n e h ours =
-        subst (λ (k : ℕ). EachCut (MayFind k conversation.unit.book) (state_of new)) (sym e)
-        (left_before (MayFind (state_of old).size conversation.unit.book) (h ours))
-    cut_found (off remains) n e h ours =
-        subst (λ (k : ℕ). EachCut (FoundAt k (off remains)) (state_of new)) (sym e)
-        (left_before (FoundAt (state_of old).size (off remains)) (h ours))
+    cut_found (runs conversation) n e h ours = rw e (left_before (MayFind (state_of old).size conversation.unit.book) (h ours))
+    cut_found place n e h ours = rw e (left_before (FoundAt (state_of old).size place) (h ours))
 
     cut_limit_at : (state : DiskState) (place : Place) (limit : ℕ) → medium_in state ≡ old → IsAt place state → LimitAt place limit state
         → LimitAt (after_cut place) limit (Stopped new)
@@ -168,10 +150,7 @@ module _ (device : Device) where
         (subst (λ (x : Sim). EachCut (HasLimit (state_of x).size limit) (state_of x)) e h))
 
     book_after_cut : (place : Place) → (book_at (after_cut place)).ours ≡ (book_at place).ours
-    book_after_cut (before_first book) = refl
-    book_after_cut (between remains) = refl
-    book_after_cut (runs conversation) = refl
-    book_after_cut (off remains) = refl
+    book_after_cut place = grind arith
 
     pub is_cut : (state : DiskState) → medium_in state ≡ old → LivesGoOn (lives_at state) (cuts keep ∷ []) [] (lives_at (Stopped new))
     is_cut state e = record {
@@ -336,32 +315,12 @@ module _ (device : Device) where
         device_stays = refl;
       }
 
-  -- power is off already
-  off_at_rest : (m : Sim) (event : Event) → m.power.off ≡ true → (place : Place) (armed : Bool) (limit : ℕ)
-      → FitsLives (lives_at (Stopped m)) (record { place = place; armed = armed; limit = limit })
-      → LivesStep (presented device) false (record { place = place; armed = armed; limit = limit }) (plays event) (Off ∷ [])
-      (record { place = place; armed = armed; limit = limit })
-  off_at_rest m event is_off (before_first book) armed limit fits = on_or_off m.power.off fits.is_at.0.on is_off
-  off_at_rest m event is_off (between remains) armed limit fits = on_or_off m.power.off fits.is_at.on is_off
-  off_at_rest m event is_off (runs conversation) armed limit fits = absurd fits.is_at
-  off_at_rest m event is_off (off remains) armed limit fits = (Off, refl, (refl, refl))
-
-  off_running : (disk : DiskValue Sim) (event : Event) → disk.unit.store.medium.power.off ≡ true
-      → (place : Place) (armed : Bool) (limit : ℕ)
-      → FitsLives (lives_at (Running disk)) (record { place = place; armed = armed; limit = limit })
-      → LivesStep (presented device) false (record { place = place; armed = armed; limit = limit }) (plays event) (Off ∷ [])
-      (record { place = place; armed = armed; limit = limit })
-  off_running disk event is_off (before_first book) armed limit fits = absurd fits.is_at
-  off_running disk event is_off (between remains) armed limit fits = absurd fits.is_at
-  off_running disk event is_off (runs conversation) armed limit fits = on_or_off disk.unit.store.medium.power.off fits.is_at.on is_off
-  off_running disk event is_off (off remains) armed limit fits = (Off, refl, (refl, refl))
-
   -- an event that comes to a medium without power
   pub event_at_rest : (m : Sim) (event : Event) → m.power.off ≡ true
       → LivesGoOn (lives_at (Stopped m)) (plays event ∷ []) (Off ∷ []) (lives_at (Stopped m))
   event_at_rest m event is_off =
       stays (Stopped m) (plays event) (Off ∷ []) (Off, refl, (refl, refl))
-      (λ here fits. off_at_rest m event is_off here.place here.armed here.limit fits)
+      (λ here fits. grind arith)
 
   -- an event that comes to a disk without power
   pub event_off : (disk : DiskValue Sim) (event : Event) → disk.unit.store.medium.power.off ≡ true
@@ -369,4 +328,4 @@ module _ (device : Device) where
   event_off disk event is_off =
       stays (Running disk) (plays event) (Off ∷ [])
       (Off, refl, subst (λ (b : Bool). EventMovesIn b disk event Off (Running disk)) (sym is_off) (refl, refl))
-      (λ here fits. off_running disk event is_off here.place here.armed here.limit fits)
+      (λ here fits. grind arith)

@@ -36,8 +36,7 @@ LivesRun-append device (x ∷ xs) ys told more (refused ∷ refusals) others a b
   r.4,
   LivesRun-append device xs ys r.2 more refusals others r.0 b c r.5 s,
 )
-LivesRun-append device [] ys told more (refused ∷ refusals) others a b c r s = absurd r
-LivesRun-append device (x ∷ xs) ys told more [] others a b c r s = absurd r
+LivesRun-append device xs ys told more refusals others a b c r s = absurd r
 
 -- the refusals of one part and of the next
 counted : (xs ys : List Bool) (a b c : ℕ) → refused_events xs + a ≤ b → refused_events ys + b ≤ c → refused_events (xs ++ ys) + a ≤ c
@@ -129,16 +128,7 @@ module _ (a b c : LivesValue) (xs ys : List Action) (told more : List Answer) (f
       causes : (book : Book) (fault : StartFault) (failures : ℕ)
           → MayRefuse book (refused_events next.refusals + (state_in b.state).failures) failures fault
           → MayRefuse book (refused_events (first.refusals ++ next.refusals) + (state_in a.state).failures) failures fault
-      causes book NoMemory failures h = h
-      causes book Read failures h = omega (arith, less, h)
-      causes book Write failures h = omega (arith, less, h)
-      causes book Flush failures h = omega (arith, less, h)
-      causes book BadSuper failures h = h
-      causes book BadVersion failures h = h
-      causes book BadSize failures h = h
-      causes book BadHead failures h = h
-      causes book StampsUsedUp failures h = h
-      causes book LogTooSmall failures h = h
+      causes book fault failures h = grind (arith, less)
 
       goes : (here : Standing) → FitsLives a here → LivesStopAt c here (xs ++ ys) (told ++ more) (first.refusals ++ next.refusals)
           (refused_events (first.refusals ++ next.refusals) + (state_in a.state).failures) fault

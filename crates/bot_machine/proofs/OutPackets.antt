@@ -6,7 +6,7 @@ use Rattle.spec.specs.declared.case.Endpoint.{Endpoint}
 use Rattle.spec.specs.declared.case.Endpoint.TheVariants as endpoint
 use Rattle.medium.specs.Medium.{State, IsSound}
 use Rattle.medium.proofs.SectorsRead.{no_looks, looks_wider}
-use Rattle.scsi_unit.specs.Background.{Work, is_dead}
+use Rattle.scsi_unit.specs.Background.{Work, Settle, is_dead}
 use Rattle.scsi_unit.specs.Reading.{first_home_of}
 use Rattle.spec.specs.Sense.{Sense}
 use Rattle.spec.specs.Book.{Book}
@@ -25,9 +25,9 @@ use Rattle.spec.specs.Requests.{Request, mass_storage_reset, get_max_lun, clear_
 use Rattle.spec.specs.Exchange.{Script, finished, taking, sending, Line, laid_out, set_halt, in_answer, after_packet, after_in}
 use Rattle.spec.specs.Exchange.{after_request}
 use Rattle.spec.specs.Conversation.{OutStep, SetupStep}
-use Rattle.spec.specs.UnitConversation.{Intends, write_of_packet, on_line}
-use Rattle.bot_machine.specs.Acts.{PacketCarriesOut}
-use Rattle.bot_machine.specs.Disk.{DiskValue, FitsDisk, Proceeds, Tells, IsStepBy, IsStep, Elapses, TakesFew}
+use Rattle.spec.specs.UnitConversation.{Intends, UnitStep, write_of_packet, write_of_event, on_line}
+use Rattle.bot_machine.specs.Acts.{PacketCarriesOut, EventCarriesOut}
+use Rattle.bot_machine.specs.Disk.{DiskValue, over, TicksIn, FitsDisk, Proceeds, Tells, IsStepBy, IsStep, Elapses, TakesFew}
 use Rattle.spec.specs.declared.intent.Intent.TheVariants as intent
 use Rattle.bot_machine.specs.Promising.{SendsBy}
 use Rattle.bot_machine.specs.Refinement.{taking_of, left_of, halt_of, IsInPhase, Invariant}
@@ -36,7 +36,7 @@ use Rattle.bot_machine.specs.Reading.{LooksBesides, LooksIn, ReadsAt, WrapperRea
 use Rattle.bot_machine.specs.Serving.{BeginsOn, TakesOn, RestsOn, SparesOn, SendsOn}
 use Rattle.bot_machine.proofs.UnitLaws.{few_ticks, none_made, step_made}
 use Rattle.bot_machine.proofs.ReadAtOnce.{besides}
-use Rattle.bot_machine.proofs.UnitMoments.{staying, proceeding, proceeding_so}
+use Rattle.bot_machine.proofs.UnitMoments.{staying_so, proceeding, proceeding_so}
 
 -- no call, no time
 pub no_time : (m : State) → Elapses m m
@@ -111,38 +111,41 @@ module _ {M : Type 0} (before after : State) (old new : DiskValue M) (packet : L
   does_for halted left same_halt same_left d =
       does (subst (λ h. DoesFor h old.line.left) same_halt (subst (λ l. DoesFor halted l) same_left d))
 
+-- an event that has the unit do nothing
+nothing_done : {M : Type 0} (m : State) (disk : DiskValue M) (line : Line) (happens : Event) (told : Answer) → IsSound m
+    → ((book : Book) → UnitStep (has_refused m m) (over disk book) happens told (on_line line (state_of disk.unit book)))
+    → ((book : Book) → None ≡ write_of_event (over disk book) happens)
+    → ((book : Book) (block taken : List ℕ) → EventCarriesOut (over disk book) happens block taken → ⊥)
+    → TicksIn Settle m m disk happens (record disk { line = line }) → line.packet_size ≡ disk.line.packet_size
+    → IsStep m m disk happens told (record disk { line = line })
+nothing_done m disk line happens told sound step none never ticks size = record {
+  proceeds = λ book fits. staying_so m disk.unit _ _ book sound fits (none book) (step book);
+  rests = λ book fits none. refl;
+  ticks = ticks;
+  spares = λ book fits block taken carries. absurd (never book block taken carries);
+  few = no_calls m disk.unit;
+  plain = λ book size none. none_made m disk.unit;
+  quiet = λ book size all. omega arith;
+  looks = none_named m disk happens;
+  elapses = no_time m;
+  limit_stays = refl;
+  packets_stay = size;
+}
+
 -- a packet to a halted endpoint
 pub stalled : {M : Type 0} (m : State) (disk : DiskValue M) (packet : List ℕ) → IsSound m
     → true ≡ disk.line.out_halted → IsStep m m disk (event.Out (record { items = packet })) answer.Stall disk
 stalled m disk packet sound halted =
-    does_for m m disk disk packet answer.Stall true disk.line.left halted refl (record {
-      proceeds = λ book fits. staying m disk.unit _ book sound fits (refl, refl);
-      rests = λ book fits none. refl;
-      spares = λ book fits block taken carries. absurd carries;
-      few = no_calls m disk.unit;
-      sends = λ book size. sends_none m disk.unit _ _;
-      looks = none_named m disk (event.Out (record { items = packet }));
-      elapses = no_time m;
-      limit_stays = refl;
-      packets_stay = refl;
-    })
+    nothing_done m disk disk.line (event.Out (record { items = packet })) answer.Stall sound (λ book. grind arith) (λ book. grind arith)
+    (λ book block taken carries. grind arith) tt refl
 
 -- a packet while something is sent
 pub not_ready : {M : Type 0} (m : State) (disk : DiskValue M) (packet : List ℕ) (packets : List (List ℕ)) (halt : Option Endpoint)
     (status : List ℕ) → IsSound m → false ≡ disk.line.out_halted → sending packets halt status ≡ disk.line.left
     → IsStep m m disk (event.Out (record { items = packet })) answer.Nak disk
 not_ready m disk packet packets halt status sound halted left =
-    does_for m m disk disk packet answer.Nak false (sending packets halt status) halted left (record {
-      proceeds = λ book fits. staying m disk.unit _ book sound fits (refl, refl);
-      rests = λ book fits none. refl;
-      spares = λ book fits block taken carries. absurd carries;
-      few = no_calls m disk.unit;
-      sends = λ book size. sends_none m disk.unit _ _;
-      looks = none_named m disk (event.Out (record { items = packet }));
-      elapses = no_time m;
-      limit_stays = refl;
-      packets_stay = refl;
-    })
+    nothing_done m disk disk.line (event.Out (record { items = packet })) answer.Nak sound (λ book. grind arith) (λ book. grind arith)
+    (λ book block taken carries. grind arith) tt refl
 
 -- a packet where a command wrapper is expected
 pub begins : {M : Type 0} (before after : State) (old new : DiskValue M) (packet : List ℕ) → false ≡ old.line.out_halted
@@ -225,75 +228,25 @@ ticked work before after old new ticks line = record {
 }
 
 -- a token to Bulk-In, or a setup packet, leaves the size of a packet
-laid_out-size : (packets : List (List ℕ)) (halt : Option Endpoint) (status : List ℕ) (s : Line)
-    → (laid_out packets halt status s).packet_size ≡ s.packet_size
-laid_out-size [] None status s = refl
-laid_out-size [] (Some endpoint.In) status s = refl
-laid_out-size [] (Some endpoint.Out) status s = refl
-laid_out-size (packet ∷ packets) halt status s = refl
-
-after_packet-size : (left : Script) (s : Line) → (after_packet left s).packet_size ≡ s.packet_size
-after_packet-size finished s = refl
-after_packet-size (taking case command intended bytes due) s = refl
-after_packet-size (sending [] halt status) s = refl
-after_packet-size (sending (packet ∷ packets) halt status) s = laid_out-size packets halt status s
-
 after_in_size : (s : Line) → (after_in s).packet_size ≡ s.packet_size
-after_in_size s = by_halt s.in_halted
-  where
-    by_halt : (halted : Bool) → (if halted then s else after_packet s.left s).packet_size ≡ s.packet_size
-    by_halt true = refl
-    by_halt false = after_packet-size s.left s
-
-cleared_size : (locked : Bool) (endpoint : Endpoint) (s : Line)
-    → (if locked then s else set_halt endpoint false s).packet_size ≡ s.packet_size
-cleared_size true endpoint s = refl
-cleared_size false endpoint.In s = refl
-cleared_size false endpoint.Out s = refl
-
-request_size : (request : Request) (s : Line) → (after_request request s).packet_size ≡ s.packet_size
-request_size mass_storage_reset s = refl
-request_size get_max_lun s = refl
-request_size (clear_halt endpoint) s = cleared_size s.locked endpoint s
-request_size (get_status endpoint) s = refl
+after_in_size s = grind arith
 
 setup_size : (packet : List ℕ) (old : Line) (told : Answer) (new : Line) → SetupStep packet old told new → new.packet_size ≡ old.packet_size
-setup_size packet old told new (inl (request, asked)) = ap (λ (s : Line). s.packet_size) asked.after ∙ request_size request old
-setup_size packet old told new (inr refused) = ap (λ (s : Line). s.packet_size) refused.after
+setup_size packet old told new step = grind arith
 
 -- a token to Bulk-In
 pub token : {M : Type 0} (m : State) (disk : DiskValue M) → IsSound m
     → IsStep m m disk event.In (in_answer disk.line) (record disk { line = after_in disk.line })
-token m disk sound = record {
-  proceeds = λ book fits. staying m disk.unit _ book sound fits (refl, refl);
-  rests = λ book fits none. refl;
-  ticks = tt;
-  spares = λ book fits block taken carries. absurd carries;
-  few = no_calls m disk.unit;
-  plain = λ book size none. none_made m disk.unit;
-  quiet = λ book size all. omega arith;
-  looks = none_named m disk event.In;
-  elapses = no_time m;
-  limit_stays = refl;
-  packets_stay = after_in_size disk.line;
-}
+token m disk sound =
+    nothing_done m disk (after_in disk.line) event.In (in_answer disk.line) sound (λ book. (refl, refl)) (λ book. refl)
+    (λ book block taken carries. carries) tt (after_in_size disk.line)
 
 -- a setup packet
 pub asked : {M : Type 0} (m : State) (disk : DiskValue M) (packet : List ℕ) (told : Answer) (line : Line) → IsSound m
     → SetupStep packet disk.line told line → IsStep m m disk (event.Setup packet) told (record disk { line = line })
-asked m disk packet told line sound step = record {
-  proceeds = λ book fits. staying m disk.unit _ book sound fits (step, refl);
-  rests = λ book fits none. refl;
-  ticks = tt;
-  spares = λ book fits block taken carries. absurd carries;
-  few = no_calls m disk.unit;
-  plain = λ book size none. none_made m disk.unit;
-  quiet = λ book size all. omega arith;
-  looks = none_named m disk (event.Setup packet);
-  elapses = no_time m;
-  limit_stays = refl;
-  packets_stay = setup_size packet disk.line told line step;
-}
+asked m disk packet told line sound step =
+    nothing_done m disk line (event.Setup packet) told sound (λ book. (step, refl)) (λ book. refl)
+    (λ book block taken carries. carries) tt (setup_size packet disk.line told line step)
 
 -- in the phases that take nothing something is sent
 pub sends : (phase : Phase) → (phase ≡ Command → ⊥) → ((t : Taking) → phase ≡ DataOut t → ⊥) → (size : ℕ) (buffer status : List ℕ)

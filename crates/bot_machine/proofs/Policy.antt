@@ -1,5 +1,5 @@
 -- A disk retires as was asked over all its lives, and the rules of lives do not depend on that.
-use Rattle.std.proofs.Common.{◌≡◌, ℕ, Bool, true, false, List, [], ◌∷◌, sym, subst, ap, ◌∙◌}
+use Rattle.std.proofs.Common.{◌≡◌, ℕ, Bool, true, false, List, [], ◌∷◌, sym, subst, ap, ◌∙◌, arith}
 use Rattle.medium.specs.Medium.{State}
 use Rattle.medium.specs.Sim.{Sim}
 use Rattle.scsi_unit.specs.Retiring.{RetiresBy, goes_ahead_by}
@@ -26,67 +26,16 @@ use Rattle.bot_machine.specs.Policy.{DiskRetires, KeepsPolicy, PolicyIsUnseen}
 
 -- ---- a disk keeps to it
 
-fuse_keeps : (retiring : Retiring) (writes : ℕ) (old new : DiskState) → FuseMoves writes old new → DiskRetires retiring old
-    → DiskRetires retiring new
-fuse_keeps retiring writes (Stopped old) (Stopped new) moves has = tt
-fuse_keeps retiring writes (Running old) (Running new) moves has =
-    subst (λ (d : DiskValue Sim). RetiresBy retiring d.unit) (sym moves.1) has
-fuse_keeps retiring writes (Stopped old) (Running new) moves has = absurd moves
-fuse_keeps retiring writes (Running old) (Stopped new) moves has = absurd moves
-
-failure_keeps : (retiring : Retiring) (call : ℕ) (old new : DiskState) → FailureMoves call old new → DiskRetires retiring old
-    → DiskRetires retiring new
-failure_keeps retiring call (Stopped old) (Stopped new) moves has = tt
-failure_keeps retiring call (Running old) (Running new) moves has =
-    subst (λ (d : DiskValue Sim). RetiresBy retiring d.unit) (sym moves.1) has
-failure_keeps retiring call (Stopped old) (Running new) moves has = absurd moves
-failure_keeps retiring call (Running old) (Stopped new) moves has = absurd moves
-
-start_in : (device : Device) (gone : Bool) (old : Sim) (new : DiskState) → StartsIn gone device old new
-    → DiskRetires device.retiring new
-start_in device true old new moves = subst (DiskRetires device.retiring) (sym moves) tt
-start_in device false old (Running disk) moves = moves.0.retires
-start_in device false old (Stopped new) moves = tt
-
-start_keeps : (device : Device) (old new : DiskState) → StartMoves device old new → DiskRetires device.retiring old
-    → DiskRetires device.retiring new
-start_keeps device (Stopped old) new moves has = start_in device old.power.off old new moves
-start_keeps device (Running old) new moves has = subst (DiskRetires device.retiring) (sym moves) has
-
-event_in : (retiring : Retiring) (gone : Bool) (old : DiskValue Sim) (happens : Event) (answer : Answer) (new : DiskState)
-    → EventMovesIn gone old happens answer new → DiskRetires retiring (Running old) → DiskRetires retiring new
-event_in retiring true old happens answer new moves has = subst (DiskRetires retiring) (sym moves.1) has
-event_in retiring false old happens answer new moves has =
-    let few = moves.2.step.few in
-    subst (DiskRetires retiring) (sym moves.1)
-    (few.policy_stays ∙ has ∙ ap (λ (shape : Shape). goes_ahead_by retiring shape) (sym few.layout_stays))
-
-event_keeps : (retiring : Retiring) (old : DiskState) (happens : Event) (answer : Answer) (new : DiskState)
-    → EventMoves old happens answer new
-    → DiskRetires retiring old → DiskRetires retiring new
-event_keeps retiring (Stopped old) happens answer new moves has = subst (DiskRetires retiring) (sym moves.1) tt
-event_keeps retiring (Running old) happens answer new moves has =
-    event_in retiring old.unit.store.medium.power.off old happens answer new moves has
-
-cut_keeps : (retiring : Retiring) (keeps : ℕ → Bool) (old new : DiskState) → CutMoves keeps old new → DiskRetires retiring new
-cut_keeps retiring keeps old (Stopped new) moves = tt
-cut_keeps retiring keeps old (Running new) moves = absurd moves
-
 does_keep : (device : Device) (old : DiskState) (action : Action) (answers : List Answer) (new : DiskState)
     → Does device old action answers new
     → DiskRetires device.retiring old → DiskRetires device.retiring new
-does_keep device old (arms writes) answers new does has = fuse_keeps device.retiring writes old new does.1 has
-does_keep device old (fails call) answers new does has = failure_keeps device.retiring call old new does.1 has
-does_keep device old starts answers new does has = start_keeps device old new does.1 has
-does_keep device old (plays happens) answers new does has = event_keeps device.retiring old happens does.0 new does.2 has
-does_keep device old (cuts keeps) answers new does has = cut_keeps device.retiring keeps old new does.1
+does_keep device old action answers new does has = grind arith
 
 pub keeps_policy : KeepsPolicy
 keeps_policy device old new [] answers [] moves has = subst (DiskRetires device.retiring) (sym moves.1) has
 keeps_policy device old new (action ∷ actions) answers (refused ∷ refusals) moves has =
     keeps_policy device moves.0 new actions moves.2 refusals moves.5 (does_keep device old action moves.1 moves.0 moves.4.does has)
-keeps_policy device old new [] answers (refused ∷ refusals) moves has = absurd moves
-keeps_policy device old new (action ∷ actions) answers [] moves has = absurd moves
+keeps_policy device old new actions answers refusals moves has = absurd moves
 
 -- ---- a host sees nothing of it
 

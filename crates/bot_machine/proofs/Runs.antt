@@ -2,6 +2,7 @@
 use Rattle.std.proofs.Common.{◌≡◌, ℕ, ◌+◌, ◌<◌, ◌≤◌, Bool, true, false, nat_lt, List, [], ◌∷◌, ◌++◌, refl, sym, subst, ◌∙◌, arith, ltb-true}
 use Rattle.std.proofs.Common.{inl, inr, ◌⊎◌, ⊎_elim}
 use Rattle.std.specs.Prelude.{Result}
+use Rattle.std.proofs.lemmas.Bool.Decides.{nat_tests}
 use Rattle.spec.specs.declared.way.Way.{Way}
 use Rattle.spec.specs.declared.event.Event.{Event}
 use Rattle.spec.specs.declared.event.Answer.{Answer}
@@ -24,19 +25,13 @@ refused_events-more [] refused = omega arith
 refused_events-more (true ∷ refusals) refused = omega (arith, refused_events-more refusals refused)
 refused_events-more (false ∷ refusals) refused = refused_events-more refusals refused
 
-one_refused : (m n : ℕ) (b : Bool) → nat_lt m n ≡ b → m ≤ n → refused_events (b ∷ []) + m ≤ n
-one_refused m n true e h = let k : m < n = ltb-true m n e in omega arith
-one_refused m n false e h = omega arith
+one_refused : (m n : ℕ) → m ≤ n → refused_events (nat_lt m n ∷ []) + m ≤ n
+one_refused m n h = grind (arith, nat_tests)
 
 -- an event with a refused call is counted once, where the count grew
 pub counted : (refusals : List Bool) (k m n : ℕ) → refused_events refusals + k ≤ m → m ≤ n
     → refused_events (refusals ++ nat_lt m n ∷ []) + k ≤ n
-counted refusals k m n h g = omega (
-  arith,
-  refused_events-more refusals (nat_lt m n),
-  one_refused m
-      n (nat_lt m n) refl g,
-)
+counted refusals k m n h g = omega (arith, refused_events-more refusals (nat_lt m n), one_refused m n g)
 
 module _ {S F : Type 0} (Intends : S → List ℕ → Way → Type 0)
     (CarriesOut : Bool → List ℕ → List ℕ → S → Result (List ℕ) F → S → Type 0)
@@ -52,12 +47,7 @@ module _ {S F : Type 0} (Intends : S → List ℕ → Way → Type 0)
       (new, subst (λ m. Step Intends CarriesOut Ticks refused m event answer new) r s, refl)
   Run-more (e ∷ es) (a ∷ as_) (f ∷ fs) old mid new event answer refused r s =
       (r.0, r.1, Run-more es as_ fs r.0 mid new event answer refused r.2 s)
-  Run-more [] [] (f ∷ fs) old mid new event answer refused r s = absurd r
-  Run-more [] (a ∷ as_) [] old mid new event answer refused r s = absurd r
-  Run-more [] (a ∷ as_) (f ∷ fs) old mid new event answer refused r s = absurd r
-  Run-more (e ∷ es) [] [] old mid new event answer refused r s = absurd r
-  Run-more (e ∷ es) [] (f ∷ fs) old mid new event answer refused r s = absurd r
-  Run-more (e ∷ es) (a ∷ as_) [] old mid new event answer refused r s = absurd r
+  Run-more events answers refusals old mid new event answer refused r s = absurd r
 
 -- an image that a cut may leave in a run, or in one step after it, a cut may leave in the longer run
 FoundIn-more : (size : ℕ) (image : Image) (events : List Event) (answers : List Answer) (refusals : List Bool)
@@ -76,12 +66,7 @@ FoundIn-more size image (e ∷ es) (a ∷ as_) (f ∷ fs) old mid new event answ
     inr (FoundIn-more size image es as_ fs run.0 mid new event answer refused run.2 step (inl later))
 FoundIn-more size image (e ∷ es) (a ∷ as_) (f ∷ fs) old mid new event answer refused run step (inr found) =
     inr (FoundIn-more size image es as_ fs run.0 mid new event answer refused run.2 step (inr found))
-FoundIn-more size image [] [] (f ∷ fs) old mid new event answer refused run step found = absurd run
-FoundIn-more size image [] (a ∷ as_) [] old mid new event answer refused run step found = absurd run
-FoundIn-more size image [] (a ∷ as_) (f ∷ fs) old mid new event answer refused run step found = absurd run
-FoundIn-more size image (e ∷ es) [] [] old mid new event answer refused run step found = absurd run
-FoundIn-more size image (e ∷ es) [] (f ∷ fs) old mid new event answer refused run step found = absurd run
-FoundIn-more size image (e ∷ es) (a ∷ as_) [] old mid new event answer refused run step found = absurd run
+FoundIn-more size image events answers refusals old mid new event answer refused run step found = absurd run
 
 -- steps of a disk and then one more
 StepsThrough-more : {M : Type 0} (state : M → State) (events : List Event) (answers : List Answer) (refusals : List Bool)
@@ -94,12 +79,7 @@ StepsThrough-more {M} state [] [] [] old mid new event answer r s =
     (has_refused (state mid.unit.store.medium) (state new.unit.store.medium) ∷ []) new) r (new, (s, refl), refl)
 StepsThrough-more state (e ∷ es) (a ∷ as_) (f ∷ fs) old mid new event answer r s =
     (r.0, r.1, StepsThrough-more state es as_ fs r.0 mid new event answer r.2 s)
-StepsThrough-more state [] [] (f ∷ fs) old mid new event answer r s = absurd r
-StepsThrough-more state [] (a ∷ as_) [] old mid new event answer r s = absurd r
-StepsThrough-more state [] (a ∷ as_) (f ∷ fs) old mid new event answer r s = absurd r
-StepsThrough-more state (e ∷ es) [] [] old mid new event answer r s = absurd r
-StepsThrough-more state (e ∷ es) [] (f ∷ fs) old mid new event answer r s = absurd r
-StepsThrough-more state (e ∷ es) (a ∷ as_) [] old mid new event answer r s = absurd r
+StepsThrough-more state events answers refusals old mid new event answer r s = absurd r
 
 -- no events, no time
 pub no_run : {M : Type 0} (state : M → State) (disk : DiskValue M) → IsSound (state disk.unit.store.medium) → IsRun state disk [] [] disk
