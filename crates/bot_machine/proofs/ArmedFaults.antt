@@ -8,7 +8,7 @@ use Rattle.bot_machine.specs.Device.{Device, presented}
 use Rattle.bot_machine.specs.declared.lives.disk_state.DiskState.{DiskState}
 use Rattle.bot_machine.specs.declared.lives.disk_state.DiskState.TheVariants.{Stopped, Running}
 use Rattle.bot_machine.specs.Disk.{DiskValue}
-use Rattle.spec.specs.Lives.{Action, Standing, LivesStep, arms, fails, Place, before_first, between, runs, off}
+use Rattle.spec.specs.Lives.{Action, Standing, LivesStep, arms, fails, Place}
 use Rattle.bot_machine.specs.Moving.{Does}
 use Rattle.bot_machine.proofs.Moved.{one_move, none_refused}
 use Rattle.bot_machine.specs.LivesValue.{medium_in, state_in, HasLimit, IsAt, LimitAt, FoundAt, AreCaused, LivesGoOn}

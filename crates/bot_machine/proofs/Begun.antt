@@ -1,14 +1,13 @@
 -- What comes of a start: a disk runs, power goes, or the start is refused.
-use Rattle.std.proofs.Common.{◌≡◌, ltb-true, ℕ, ◌+◌, Bool, true, false, [], ◌∷◌, None, refl, sym, subst, ◌∙◌, ap, arith, inl, inr, ⊎_elim}
+use Rattle.std.proofs.Common.{◌≡◌, ltb-true, ℕ, ◌+◌, Bool, true, false, [], ◌∷◌, None, refl, sym, subst, ◌∙◌, ap, arith, inl, inr}
 use Rattle.std.proofs.lemmas.Bool.{cases_Bool}
 use Rattle.medium.specs.Moments.{EachCut}
 use Rattle.medium.specs.Sim.{Sim, state_of, ComesAfter}
 use Rattle.medium.specs.SimLaws.{is_sound}
-use Rattle.medium.proofs.SimCalls.{KeepsPower, keeps_power}
+use Rattle.medium.proofs.SimCalls.{keeps_power}
 use Rattle.medium.proofs.Moments.{at_exit}
 use Rattle.medium.proofs.KeptBlocks.{none_flushed}
-use Rattle.scsi_unit.specs.StartFaults.{StartFault, NoMemory, Read, Write, Flush, BadSuper, BadVersion, BadSize, BadHead, StampsUsedUp}
-use Rattle.scsi_unit.specs.StartFaults.{LogTooSmall}
+use Rattle.scsi_unit.specs.StartFaults.{StartFault}
 use Rattle.bot_machine.specs.Device.{presented, Device}
 use Rattle.spec.specs.Book.{Book, opened}
 use Rattle.scsi_unit.specs.Books.{MayFind}
@@ -21,15 +20,15 @@ use Rattle.spec.specs.Exchange.{Line, at_rest}
 use Rattle.bot_machine.specs.Disk.{DiskValue, over}
 use Rattle.spec.specs.UnitConversation.{on_line}
 use Rattle.bot_machine.specs.Opening.{IsOpened, IsNotOpened, StartLeaves}
-use Rattle.spec.specs.Lives.{starts, Remains, Place, before_first, between, runs, off, Standing, KeepsLimit, started, LifeBegins, LivesStep}
-use Rattle.bot_machine.specs.LivesValue.{HasBegun, HasLimit, book_at, LeavesLimit, FitsLives, LivesGoTo, LivesGoOn, MayRefuse, LivesStopAt}
+use Rattle.spec.specs.Lives.{starts, Place, runs, off, Standing, Opens, KeepsLimit, started, LifeBegins}
+use Rattle.bot_machine.specs.LivesValue.{medium_in, state_in, HasBegun, HasLimit, book_at, LeavesLimit, FitsLives, LivesGoTo, LivesGoOn, MayRefuse}
 use Rattle.bot_machine.specs.LivesValue.{LivesStop}
 use Rattle.scsi_unit.specs.Serving.{has_refused}
 use Rattle.bot_machine.specs.Moving.{StartsIn}
-use Rattle.bot_machine.proofs.Moved.{one_move, some_refused}
+use Rattle.bot_machine.proofs.Moved.{some_refused}
 use Rattle.bot_machine.proofs.Caused.{caused_once}
-use Rattle.bot_machine.proofs.LifeActions.{lives_at, stays, one_run, one_counted, armed_then, on_or_off}
-use Rattle.bot_machine.proofs.LifeStarts.{WouldOpen, first_opens, next_opens, next_limit, HasOpened, first_opened, next_opened, with_shape}
+use Rattle.bot_machine.proofs.LifeActions.{lives_at, stays, called_once, one_run, one_counted, armed_then, on_or_off}
+use Rattle.bot_machine.proofs.LifeStarts.{WouldOpen, with_shape, flushed_at, starts_at, keeps_same, keeps_limit, would_open, has_opened}
 use Rattle.bot_machine.proofs.UnitLaws.{between_calls, limit_between_calls, start_keeps_limit, knows_images}
 
 -- ---- what a start leaves, where it has no disk
@@ -68,36 +67,48 @@ record LifeBegun (device : Device) (refused : Bool) (here : Standing) (new : Dis
 
 module _ (device : Device) (m : Sim) (on : m.power.off ≡ false) where
   -- where a life has begun, lives go there
-  goes_there : (new : DiskState) (refused : Bool)
-      → ((book : Book) (armed : Bool) (limit : ℕ)
-      → FitsLives (lives_at device (Stopped m)) (record { place = before_first book; armed = armed; limit = limit })
-      → LifeBegun device refused (record { place = before_first book; armed = armed; limit = limit }) new)
-      → ((remains : Remains) (armed : Bool) (limit : ℕ)
-      → FitsLives (lives_at device (Stopped m)) (record { place = between remains; armed = armed; limit = limit })
-      → LifeBegun device refused (record { place = between remains; armed = armed; limit = limit }) new)
-      → (place : Place) (armed : Bool) (limit : ℕ)
-      → FitsLives (lives_at device (Stopped m)) (record { place = place; armed = armed; limit = limit })
-      → LivesGoTo (lives_at device new) (record { place = place; armed = armed; limit = limit }) (starts ∷ []) [] (refused ∷ [])
-  goes_there new refused first next (before_first book) armed limit fits =
-      let b = first book armed limit fits in
+  goes_to : (new : DiskState) (refused : Bool) (here : Standing) → FitsLives (lives_at device (Stopped m)) here
+      → LifeBegun device refused here new → LivesGoTo (lives_at device new) here (starts ∷ []) [] (refused ∷ [])
+  goes_to new refused here fits b = record {
+    there = b.there;
+    run = one_run device refused here b.there starts []
+        (refl, starts_at m on (presented device) refused here.place here b.there fits.is_at b.life);
+    fits = b.fits;
+    ours = b.ours;
+    limit_stays = b.limit_stays;
+  }
+
+  -- power goes in a start
+  power_went : (new : DiskState) → ComesAfter m (medium_in new) → (medium_in new).power.off ≡ true → (here : Standing)
+      → (here.armed ≡ false → m.power.fuse ≡ None) → (book : Book) (limit : ℕ) → Opens here.place book
+      → book.ours ≡ (book_at here.place).ours → KeepsLimit here.place here.limit limit
+      → (book.ours ≡ true → LeavesLimit here.limit new) → (book.ours ≡ true → EachCut (MayFind (state_in new).size book) (state_in new))
+      → LifeBegun device (has_refused (state_of m) (state_in new)) here new
+  power_went new follows is_off here unfused book limit opens ours keeps limited found =
+      let power = keeps_power m (medium_in new) follows in
       record {
-        there = b.there;
-        run = one_run device refused (record { place = before_first book; armed = armed; limit = limit }) b.there starts [] (refl, b.life);
-        fits = b.fits;
-        ours = b.ours;
-        limit_stays = b.limit_stays;
+        there = record here { place = off (record { book = book; in_progress = None }) };
+        life = record {
+          book = book;
+          opens = opens;
+          limit = limit;
+          keeps_limit = keeps;
+          begins = inr (record {
+            fused = armed_then here m (medium_in new) follows unfused on is_off;
+            cause = some_refused (state_of m) (state_in new) (power.goes_off on is_off).1;
+            after = refl;
+          });
+        };
+        fits = record {
+          is_at = is_off;
+          limit_at = tt;
+          limited = limited;
+          found = found;
+          unfused = λ e. power.no_fuse_stays (unfused e);
+        };
+        ours = ours;
+        limit_stays = λ ours. refl;
       }
-  goes_there new refused first next (between remains) armed limit fits =
-      let b = next remains armed limit fits in
-      record {
-        there = b.there;
-        run = one_run device refused (record { place = between remains; armed = armed; limit = limit }) b.there starts [] (refl, b.life);
-        fits = b.fits;
-        ours = b.ours;
-        limit_stays = b.limit_stays;
-      }
-  goes_there new refused first next (runs conversation) armed limit fits = absurd fits.is_at
-  goes_there new refused first next (off remains) armed limit fits = on_or_off m.power.off on fits.is_at
 
   -- ---- the start has a disk
 
@@ -106,203 +117,93 @@ module _ (device : Device) (m : Sim) (on : m.power.off ≡ false) where
     abbrev new : Sim
     new = disk.unit.store.medium
 
-    abbrev grew : Bool
-    grew = has_refused (state_of m) (state_of new)
-
-    abbrev power : KeepsPower m new
-    power = keeps_power m new follows
-
-    module _ (place : Place) (armed : Bool) (limit : ℕ)
-        (fits : FitsLives (lives_at device (Stopped m)) (record { place = place; armed = armed; limit = limit }))
-        (h : HasOpened (state_of new) disk place) (keeps : KeepsLimit place limit (unit_limit disk.unit))
-        (same : (book_at place).ours ≡ true → unit_limit disk.unit ≡ limit) where
-      abbrev here : Standing
-      here = record { place = place; armed = armed; limit = limit }
-
-      says : started (unit_limit disk.unit) (presented device) h.book ≡ over disk h.book
-      says = sym (ap (λ (l : Line). on_line l (unit_state disk.unit h.book)) is_opened.line
-          ∙ ap (λ (u : UnitState). on_line (at_rest device.packet_size) u) (is_opened.unit h.book))
-
-      begun_on : new.power.off ≡ false → LifeBegun device grew here (Running disk)
-      begun_on still = record {
-        there = record {
-          place = runs (started (unit_limit disk.unit) (presented device) h.book);
-          armed = armed;
-          limit = unit_limit disk.unit;
-        };
-        life = record { book = h.book; opens = h.opens; limit = unit_limit disk.unit; keeps_limit = keeps; begins = inl refl };
-        fits = record {
-          is_at = record { on = still; says = says; fits = h.fits };
-          limit_at = refl;
-          limited = λ ours. limit_between_calls (state_of new) disk.unit h.book h.fits ours;
-          found = λ ours. between_calls (state_of new) disk.unit h.book h.fits ours;
-          unfused = λ e. power.no_fuse_stays (fits.unfused e);
-        };
-        ours = h.ours;
-        limit_stays = same;
-      }
-
-      begun_off : new.power.off ≡ true → LifeBegun device grew here (Running disk)
-      begun_off is_off = record {
-        there = record { place = off (record { book = h.book; in_progress = None }); armed = armed; limit = limit };
-        life = record {
-          book = h.book;
-          opens = h.opens;
-          limit = unit_limit disk.unit;
-          keeps_limit = keeps;
-          begins = inr (record {
-            fused = armed_then here m new follows fits.unfused on is_off;
-            cause = some_refused (state_of m) (state_of new) (power.goes_off on is_off).1;
-            after = refl;
-          });
-        };
-        fits = record {
-          is_at = is_off;
-          limit_at = tt;
-          limited = λ ours. subst (λ (n : ℕ). EachCut (HasLimit (state_of new).size n) (state_of new)) (same (sym h.ours ∙ ours))
-              (limit_between_calls (state_of new) disk.unit h.book h.fits ours);
-          found = λ ours. between_calls (state_of new) disk.unit h.book h.fits ours;
-          unfused = λ e. power.no_fuse_stays (fits.unfused e);
-        };
-        ours = h.ours;
-        limit_stays = λ ours. refl;
-      }
-
-      begun : LifeBegun device grew here (Running disk)
-      begun = ⊎_elim begun_off begun_on (cases_Bool new.power.off)
+    begun : (here : Standing) → FitsLives (lives_at device (Stopped m)) here
+        → LifeBegun device (has_refused (state_of m) (state_of new)) here (Running disk)
+    begun here fits =
+        let h = has_opened m on (state_of new) device disk is_opened here.place fits.is_at fits.found in
+        let keeps = keeps_limit m on here.place here.limit (unit_limit disk.unit) fits.is_at fits.limit_at fits.limited is_opened.limit in
+        let limited = λ (ours : h.book.ours ≡ true). limit_between_calls (state_of new) disk.unit h.book h.fits ours in
+        let found = λ (ours : h.book.ours ≡ true). between_calls (state_of new) disk.unit h.book h.fits ours in
+        let says : started (unit_limit disk.unit) (presented device) h.book ≡ over disk h.book =
+        sym (ap (λ (l : Line). on_line l (unit_state disk.unit h.book)) is_opened.line
+        ∙ ap (λ (u : UnitState). on_line (at_rest device.packet_size) u) (is_opened.unit h.book)) in
+        elim (cases_Bool new.power.off) [
+          | inl is_off ↦ power_went (Running disk) follows is_off here fits.unfused h.book (unit_limit disk.unit) h.opens h.ours keeps.0
+              (λ ours. subst (λ (n : ℕ). EachCut (HasLimit (state_of new).size n) (state_of new)) (keeps.1 (sym h.ours ∙ ours)) (limited ours))
+              found
+          | inr still ↦ record {
+            there = record here { place = runs (started (unit_limit disk.unit) (presented device) h.book); limit = unit_limit disk.unit };
+            life = record { book = h.book; opens = h.opens; limit = unit_limit disk.unit; keeps_limit = keeps.0; begins = inl refl };
+            fits = record {
+              is_at = record { on = still; says = says; fits = h.fits };
+              limit_at = refl;
+              limited = limited;
+              found = found;
+              unfused = λ e. (keeps_power m new follows).no_fuse_stays (fits.unfused e);
+            };
+            ours = h.ours;
+            limit_stays = keeps.1;
+          }
+        ]
 
     pub start_has_disk : LivesGoOn (lives_at device (Stopped m)) (starts ∷ []) [] (lives_at device (Running disk))
-    start_has_disk = record {
-      refusals = grew ∷ [];
-      moves = one_move device grew (Stopped m) (Running disk) starts [] (
-        refl,
-        subst (λ (b : Bool). StartsIn b device m (Running disk)) (sym on)
-            (is_opened, record { leaves = leaves; follows = follows }),
-      )
-          refl;
-      refused = one_counted grew (state_of m).failures (state_of new).failures (ltb-true (state_of m).failures (state_of new).failures)
-          power.refused_stay;
-      caused = caused_once m new (starts ∷ []) follows on;
-      goes = λ here fits. goes_there (Running disk) grew
-          (λ book armed limit f.
-          let one = knows_images.one_limit (state_of m).size (unit_limit disk.unit) limit (state_of m).content is_opened.limit f.limit_at in
-          begun (before_first book) armed limit f (first_opened m (state_of new) device disk is_opened book f.is_at.1) one (λ ours. one))
-          (λ remains armed limit f.
-          let one : remains.book.ours ≡ true → unit_limit disk.unit ≡ limit = λ ours.
-          next_limit m limit (unit_limit disk.unit) (f.limited ours) is_opened.limit in
-          begun (between remains) armed limit f (next_opened m (state_of new) device disk is_opened remains f.found) one one)
-          here.place here.armed here.limit fits;
-      size_stays = leaves.bounded.moments.size_stays;
-      device_stays = refl;
-    }
+    start_has_disk =
+        called_once device starts [] (Stopped m) (Running disk) (
+          refl,
+          subst (λ (b : Bool). StartsIn b device m (Running disk)) (sym on) (is_opened, record { leaves = leaves; follows = follows }),
+        )
+        follows on leaves.bounded.moments.size_stays
+        (λ here fits. goes_to (Running disk) (has_refused (state_of m) (state_of new)) here fits (begun here fits))
 
   -- ---- the start has no disk
 
   module _ (after : Sim) (leaves : StartLeaves (state_of m) (state_of after)) (follows : ComesAfter m after) where
-    abbrev left : KeepsPower m after
-    left = keeps_power m after follows
-
     -- power went in it
-    module _ (is_off : after.power.off ≡ true) where
-      abbrev refuses : Bool
-      refuses = has_refused (state_of m) (state_of after)
-
-      begun_cut : (place : Place) (armed : Bool) (limit : ℕ)
-          → FitsLives (lives_at device (Stopped m)) (record { place = place; armed = armed; limit = limit }) → KeepsLimit place limit limit
-          → m.unflushed ≡ [] → (w : WouldOpen (state_of m) place)
-          → LifeBegun device refuses (record { place = place; armed = armed; limit = limit }) (Stopped after)
-      begun_cut place armed limit fits keeps none w = record {
-        there = record { place = off (record { book = w.book; in_progress = None }); armed = armed; limit = limit };
-        life = record {
-          book = w.book;
-          opens = w.opens;
-          limit = limit;
-          keeps_limit = keeps;
-          begins = inr (record {
-            fused = armed_then (record { place = place; armed = armed; limit = limit }) m after follows fits.unfused on is_off;
-            cause = some_refused (state_of m) (state_of after) (left.goes_off on is_off).1;
-            after = refl;
-          });
-        };
-        fits = record {
-          is_at = is_off;
-          limit_at = tt;
-          limited = λ ours. limited_start m after leaves place limit w ours (fits.limited (sym w.ours ∙ ours));
-          found = λ ours. may_find m after leaves none place w ours;
-          unfused = λ e. left.no_fuse_stays (fits.unfused e);
-        };
-        ours = w.ours;
-        limit_stays = λ ours. refl;
-      }
-
-      pub start_is_cut : LivesGoOn (lives_at device (Stopped m)) (starts ∷ []) [] (lives_at device (Stopped after))
-      start_is_cut = record {
-        refusals = refuses ∷ [];
-        moves = one_move device refuses (Stopped m) (Stopped after) starts [] (
+    pub start_is_cut : after.power.off ≡ true → LivesGoOn (lives_at device (Stopped m)) (starts ∷ []) [] (lives_at device (Stopped after))
+    start_is_cut is_off =
+        called_once device starts [] (Stopped m) (Stopped after) (
           refl,
-          subst (λ (b : Bool). StartsIn b device m (Stopped after)) (sym on)
-              (record { leaves = leaves; follows = follows }, is_off),
+          subst (λ (b : Bool). StartsIn b device m (Stopped after)) (sym on) (record { leaves = leaves; follows = follows }, is_off),
         )
-            refl;
-        refused = one_counted refuses (state_of m).failures (state_of after).failures
-            (ltb-true (state_of m).failures (state_of after).failures) left.refused_stay;
-        caused = caused_once m after (starts ∷ []) follows on;
-        goes = λ here fits. goes_there (Stopped after) refuses
-            (λ book armed limit f.
-            begun_cut (before_first book) armed limit f refl f.is_at.0.flushed (first_opens (state_of m) book f.is_at.1))
-            (λ remains armed limit f.
-            begun_cut (between remains) armed limit f (λ ours. refl) f.is_at.flushed (next_opens m remains f.found))
-            here.place here.armed here.limit fits;
-        size_stays = leaves.bounded.moments.size_stays;
-        device_stays = refl;
-      }
+        follows on leaves.bounded.moments.size_stays
+        (λ here fits.
+        let w = would_open m on here.place fits.is_at fits.found in
+        goes_to (Stopped after) (has_refused (state_of m) (state_of after)) here fits
+        (power_went (Stopped after) follows is_off here fits.unfused w.book here.limit w.opens w.ours
+        (keeps_same m on here.place here.limit fits.is_at)
+        (λ ours. limited_start m after leaves here.place here.limit w ours (fits.limited (sym w.ours ∙ ours)))
+        (λ ours. may_find m after leaves (flushed_at m on here.place fits.is_at) here.place w ours)))
 
     -- it was refused, and the power is on
-    module _ (still : after.power.off ≡ false) (fault : StartFault) (h : IsNotOpened (state_of m) (state_of after) fault) where
-      stops_by : (place : Place) (armed : Bool) (limit : ℕ)
-          → ((book_at place).ours ≡ true → LeavesLimit limit (Stopped m)) → m.unflushed ≡ []
-          → (w : WouldOpen (state_of m) place)
-          → LivesStopAt (lives_at device (Stopped after)) (record { place = place; armed = armed; limit = limit }) [] [] []
-          (0 + (state_of m).failures) fault
-      stops_by place armed limit limited none w = record {
-        there = record { place = place; armed = armed; limit = limit };
-        run = (refl, refl);
-        book = w.book;
-        opens = w.opens;
-        ours = w.ours;
-        cause = λ ours. counted m after w.book fault (h.possible w.book (w.on ours));
-        limited = λ ours. limited_start m after leaves place limit w ours (limited (sym w.ours ∙ ours));
-        found = λ ours. may_find m after leaves none place w ours;
-      }
-
-      stops_at : (place : Place) (armed : Bool) (limit : ℕ)
-          → FitsLives (lives_at device (Stopped m)) (record { place = place; armed = armed; limit = limit })
-          → LivesStopAt (lives_at device (Stopped after)) (record { place = place; armed = armed; limit = limit }) [] [] []
-          (0 + (state_of m).failures) fault
-      stops_at (before_first book) armed limit f =
-          stops_by (before_first book) armed limit f.limited f.is_at.0.flushed (first_opens (state_of m) book f.is_at.1)
-      stops_at (between remains) armed limit f =
-          stops_by (between remains) armed limit f.limited f.is_at.flushed (next_opens m remains f.found)
-      stops_at (runs conversation) armed limit f = absurd f.is_at
-      stops_at (off remains) armed limit f = on_or_off m.power.off on f.is_at
-
-      pub start_is_refused : LivesStop (lives_at device (Stopped m)) [] [] fault (lives_at device (Stopped after))
-      start_is_refused = record {
-        refusals = [];
-        at = m;
-        moves = (refl, refl);
-        start = record { called = record { leaves = leaves; follows = follows }; cause = h; on = still };
-        in_start = has_refused (state_of m) (state_of after);
-        counted = refl;
-        refused = one_counted (has_refused (state_of m) (state_of after)) (state_of m).failures (state_of after).failures
-            (ltb-true (state_of m).failures (state_of after).failures) left.refused_stay;
-        caused = caused_once m after [] follows on;
-        goes = λ here fits. stops_at here.place here.armed here.limit fits;
-        rests = refl;
-        on = still;
-        size_stays = leaves.bounded.moments.size_stays;
-        device_stays = refl;
-      }
+    pub start_is_refused : after.power.off ≡ false → (fault : StartFault) → IsNotOpened (state_of m) (state_of after) fault
+        → LivesStop (lives_at device (Stopped m)) [] [] fault (lives_at device (Stopped after))
+    start_is_refused still fault h = record {
+      refusals = [];
+      at = m;
+      moves = (refl, refl);
+      start = record { called = record { leaves = leaves; follows = follows }; cause = h; on = still };
+      in_start = has_refused (state_of m) (state_of after);
+      counted = refl;
+      refused = one_counted (has_refused (state_of m) (state_of after)) (state_of m).failures (state_of after).failures
+          (ltb-true (state_of m).failures (state_of after).failures) (keeps_power m after follows).refused_stay;
+      caused = caused_once m after [] follows on;
+      goes = λ here fits.
+          let w = would_open m on here.place fits.is_at fits.found in
+          record {
+            there = here;
+            run = (refl, refl);
+            book = w.book;
+            opens = w.opens;
+            ours = w.ours;
+            cause = λ ours. counted m after w.book fault (h.possible w.book (w.on ours));
+            limited = λ ours. limited_start m after leaves here.place here.limit w ours (fits.limited (sym w.ours ∙ ours));
+            found = λ ours. may_find m after leaves (flushed_at m on here.place fits.is_at) here.place w ours;
+          };
+      rests = refl;
+      on = still;
+      size_stays = leaves.bounded.moments.size_stays;
+      device_stays = refl;
+    }
 
 -- ---- nothing is started
 

@@ -1,6 +1,6 @@
 -- What an event does to the book of a life.
-use Rattle.std.proofs.Common.{◌≡◌, ◌⊎◌, inl, inr, ⊎_elim, ℕ, Bool, true, false, List, [], ◌∷◌, ◌++◌, length, Some, None, Option, Result, Ok}
-use Rattle.std.proofs.Common.{Err, refl, ap, sym, subst, ◌∙◌}
+use Rattle.std.proofs.Common.{◌≡◌, ◌⊎◌, inl, inr, ⊎_elim, ℕ, Bool, true, false, List, length, Option, Result, Ok}
+use Rattle.std.proofs.Common.{Err, refl, ap, sym, subst, ◌∙◌, arith}
 use Rattle.std.specs.Prelude.{if◌then◌else◌}
 use Rattle.spec.specs.Blocks.{Write}
 use Rattle.spec.specs.Book.{Book}
@@ -24,22 +24,19 @@ IsMarked promised old new = (new.mark ≡ old.mark) ⊎ ((promised ≡ true) × 
 
 marked_if : (promising promised : Bool) (old new : Book) → promised ≡ true
     → new.mark ≡ (if promising then length new.writes else old.mark) → IsMarked promised old new
-marked_if true promised old new may is = inr (may, is)
-marked_if false promised old new may is = inl is
+marked_if promising promised old new may is = grind arith
 
 -- a command that is carried out
 module _ (refused : Bool) (block taken : List ℕ) (old new : UnitState) where
   grows : (write : Option Write) (answer : Result (List ℕ) Sense) → write_in_progress old block taken ≡ write
       → CarriesOut refused block taken old answer new → GrowsBy write old new
-  grows None answer none carried =
-      ⊎_elim (λ same. same) (λ more. let some = sym none ∙ more.1 in cc) (keeps_writes.writes refused block taken old new answer carried)
-  grows (Some write) (Ok sent) is carried = inl (keeps_writes.accepted refused block taken sent old new write is carried)
-  grows (Some write) (Err sense) is carried =
-      ⊎_elim
-      (λ same. inr (keeps_writes.faulted refused block taken old new sense write is carried, same))
-      (λ more. let one : write ≡ more.0 = let e = sym is ∙ more.1 in cc in
-      inl (more.2 ∙ ap (λ (w : Write). old.book.writes ++ w ∷ []) (sym one)))
-      (keeps_writes.writes refused block taken old new (Err sense) carried)
+  grows write answer is carried =
+      grind (
+        arith,
+        keeps_writes.writes refused block taken old new answer carried,
+        keeps_writes.accepted refused block taken,
+        keeps_writes.faulted refused block taken,
+      )
 
   marks_good : (told : Result Command Sense) (sent : List ℕ) → checked old block ≡ told → promises_for told old.write_cache ≡ true
       → CarriesOut refused block taken old (Ok sent) new → IsMarked (promises_for told old.write_cache) old.book new.book

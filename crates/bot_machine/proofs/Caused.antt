@@ -1,8 +1,8 @@
 -- Each action in which a medium in memory refused a call has a cause.
-use Rattle.std.proofs.Common.{◌≡◌, ℕ, ◌+◌, ◌≤◌, Bool, true, false, if◌then◌else◌, Option, Some, List, [], ◌∷◌, ◌++◌, refl}
+use Rattle.std.proofs.Common.{◌≡◌, ℕ, ◌+◌, ◌≤◌, Bool, true, false, if◌then◌else◌, Some, List, [], ◌∷◌, ◌++◌}
 use Rattle.std.proofs.Common.{arith}
 use Rattle.std.proofs.lemmas.List.Sums.{sum_by-append}
-use Rattle.medium.specs.Power.{is_armed, faults_in}
+use Rattle.medium.specs.Power.{faults_in}
 use Rattle.medium.specs.Sim.{Sim, state_of, ComesAfter}
 use Rattle.medium.proofs.SimCalls.{keeps_power}
 use Rattle.scsi_unit.specs.Serving.{has_refused}
@@ -22,8 +22,7 @@ faults_armed-append : (xs ys : List Action) → faults_armed (xs ++ ys) ≡ faul
 faults_armed-append xs ys = sum_by-append (λ (action : Action). if is_fault action then 1 else 0) xs ys
 
 one_refused : (refused : Bool) → refused_events (refused ∷ []) ≡ (if refused then 1 else 0)
-one_refused true = refl
-one_refused false = refl
+one_refused refused = grind arith
 
 -- calls of a medium whose power is on, whatever action makes them
 pub caused_once : (before after : Sim) (actions : List Action) → ComesAfter before after → before.power.off ≡ false
@@ -46,9 +45,4 @@ few_causes before after actions refusals h = omega (arith, h)
 -- a medium on which a fuse was armed has one fault more at most
 pub one_fuse_more : (writes : ℕ) (m : Sim)
     → faults_in (record m.power { fuse = Some writes }) ≤ faults_in m.power + 1
-one_fuse_more writes m = by_off m.power.off m.power.fuse
-  where
-    by_off : (off : Bool) (fuse : Option ℕ)
-        → (if off then 0 else 1) + is_armed m.power.fail ≤ (if off then 0 else is_armed fuse) + is_armed m.power.fail + 1
-    by_off true fuse = omega arith
-    by_off false fuse = omega arith
+one_fuse_more writes m = grind arith

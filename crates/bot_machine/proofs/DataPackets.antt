@@ -1,9 +1,8 @@
 -- A Bulk-In token while packets are left.
-use Rattle.std.proofs.Common.{◌≡◌, ℕ, ◌+◌, ◌-◌, ◌<◌, ◌≤◌, min, Bool, true, false, List, [], ◌∷◌, length, take, slice_range, refl, sym, ap}
+use Rattle.std.proofs.Common.{◌≡◌, ℕ, ◌+◌, ◌-◌, ◌<◌, ◌≤◌, min, Bool, false, List, [], ◌∷◌, length, take, slice_range, refl, sym, ap}
 use Rattle.std.proofs.Common.{◌∙◌, arith}
 use Rattle.std.specs.Prelude.{None, Option}
 use Rattle.spec.specs.declared.case.Case.{Case}
-use Rattle.spec.specs.declared.case.Case.TheVariants.{C1, C2, C3, C4, C5, C6, C7, C8, C9, C10, C11, C12, C13}
 use Rattle.spec.specs.declared.case.Endpoint.{Endpoint}
 use Rattle.spec.specs.declared.event.Answer.TheVariants.{Data}
 use Rattle.spec.specs.Packets.{packets_of}
@@ -36,25 +35,12 @@ module _ (size : ℕ) (some : 0 < size) where
   pub laid_out-none : (xs : List ℕ) (bytes : ℕ) (halt : Option Endpoint) (status : List ℕ) (s : Line) → bytes ≤ 0
       → laid_out (packets_of size (take bytes xs)) halt status s ≡ laid_out [] halt status s
   laid_out-none xs bytes halt status s h =
-      let none : bytes ≡ 0 = omega arith in
-      ap (λ n. laid_out (packets_of size (take n xs)) halt status s) none ∙ ap (λ p. laid_out p halt status s) (packets_of-none size some)
+      let none : bytes ≡ 0 = omega arith in rw (none, packets_of-none size some) refl
 
   -- what a case sends is the front of what the unit gave
   pub sent_in-size : (case : Case) (most : ℕ) (bytes : List ℕ)
       → sent_in size case (take most bytes) ≡ packets_of size (take (sent_size case most) bytes)
-  sent_in-size C1 most bytes = sym (packets_of-none size some)
-  sent_in-size C2 most bytes = sym (packets_of-none size some)
-  sent_in-size C3 most bytes = sym (packets_of-none size some)
-  sent_in-size C4 most bytes = sym (packets_of-none size some)
-  sent_in-size C5 most bytes = refl
-  sent_in-size C6 most bytes = refl
-  sent_in-size C7 most bytes = sym (packets_of-none size some)
-  sent_in-size C8 most bytes = sym (packets_of-none size some)
-  sent_in-size C9 most bytes = sym (packets_of-none size some)
-  sent_in-size C10 most bytes = sym (packets_of-none size some)
-  sent_in-size C11 most bytes = sym (packets_of-none size some)
-  sent_in-size C12 most bytes = sym (packets_of-none size some)
-  sent_in-size C13 most bytes = sym (packets_of-none size some)
+  sent_in-size case most bytes = grind (arith, packets_of-none size some)
 
 -- what is sent is the front of the buffer in which it lies, or there is none
 module _ (case : Case) (size : ℕ) (buffer out : List ℕ) (lies : LiesIn buffer case out) where
@@ -73,8 +59,7 @@ module _ (size : ℕ) (some : 0 < size) (locked out_halted : Bool) (status : Lis
   open_to in_halted left = record { packet_size = size; in_halted = in_halted; out_halted = out_halted; locked = locked; left = left }
 
   halt_last : (halt : Bool) (left : Script) → laid_out [] (halt_of halt) status (open_to false left) ≡ open_to halt (sending [] None status)
-  halt_last true left = refl
-  halt_last false left = refl
+  halt_last halt left = grind arith
 
   pub sent_more : (xs : List ℕ) (from to end : ℕ) (halt : Bool) → from < to → to ≤ length xs → end ≡ min to (from + size) → end < to
       → after_in (open_to false (sending (packets_of size (slice_range xs from to)) (halt_of halt) status))

@@ -2,7 +2,7 @@
 use Rattle.std.specs.Prelude.{if◌then◌else◌}
 use Rattle.std.proofs.Common.{◌≡◌, ◌<◌, ◌≤◌, ℕ, ◌+◌, Bool, true, false, nat_lt, ltb-true, List, [], ◌∷◌, None, refl, sym, subst, ◌∙◌, ap}
 use Rattle.std.proofs.Common.{arith, inl, inr}
-use Rattle.std.proofs.lemmas.Bool.{cases_Bool, false≢true}
+use Rattle.std.proofs.lemmas.Bool.{false≢true}
 use Rattle.std.proofs.lemmas.List.{append-nil}
 use Rattle.medium.specs.Medium.{State, Image, CutLeaves}
 use Rattle.medium.specs.Moments.{EachCut, IsFlushed}
@@ -35,8 +35,9 @@ use Rattle.spec.specs.Blocks.{Array}
 use Rattle.bot_machine.specs.Moving.{Does, EventMovesIn, EventMoves}
 use Rattle.bot_machine.proofs.Moved.{one_move, none_refused, some_refused}
 use Rattle.bot_machine.proofs.Caused.{caused_once}
-use Rattle.bot_machine.specs.LivesValue.{LivesValue, medium_in, state_in, IsAtRest, OpensOn, HasLimit, IsAt, LimitAt, LeavesLimit, book_at}
+use Rattle.bot_machine.specs.LivesValue.{LivesValue, medium_in, state_in, OpensOn, HasLimit, IsAt, LimitAt, book_at}
 use Rattle.bot_machine.specs.LivesValue.{FoundAt, FitsLives, LivesGoTo, LivesGoOn}
+use Rattle.scsi_unit.specs.Serving.{has_refused}
 
 -- one action is a run
 pub one_run : (device : Device) (refused : Bool) (old new : Standing) (action : Action) (answers : List Answer)
@@ -87,100 +88,92 @@ module _ (device : Device) where
     device_stays = refl;
   }
 
+  -- one action in which the medium was called, while the power was on before it
+  pub called_once : (action : Action) (answers : List Answer) (old new : DiskState) → Does device old action answers new
+      → ComesAfter (medium_in old) (medium_in new) → (medium_in old).power.off ≡ false → (state_in new).size ≡ (state_in old).size
+      → ((here : Standing) → FitsLives (lives_at old) here
+      → LivesGoTo (lives_at new) here (action ∷ []) answers (has_refused (state_in old) (state_in new) ∷ []))
+      → LivesGoOn (lives_at old) (action ∷ []) answers (lives_at new)
+  called_once action answers old new does follows on size goes = record {
+    refusals = has_refused (state_in old) (state_in new) ∷ [];
+    moves = one_move device (has_refused (state_in old) (state_in new)) old new action answers does refl;
+    refused = one_counted (has_refused (state_in old) (state_in new)) (state_in old).failures (state_in new).failures
+        (ltb-true (state_in old).failures (state_in new).failures) (keeps_power (medium_in old) (medium_in new) follows).refused_stay;
+    caused = caused_once (medium_in old) (medium_in new) (action ∷ []) follows on;
+    goes = goes;
+    size_stays = size;
+    device_stays = refl;
+  }
+
   -- ---- a cut
 
-  module _ (keep : ℕ → Bool) (old new : Sim) (cut : IsCut keep old new)
-      (allowed : CutLeaves (state_of old).may_leave (state_of new).content) (flushed : IsFlushed (state_of new))
-      (size : (state_of new).size ≡ (state_of old).size) where
-    -- what a cut leaves afterwards, it could have left before
-    left_before : (P : Image → Type 0) → EachCut P (state_of old) → EachCut P (state_of new)
-    left_before P each image left =
-        subst P (sym (only_image (state_of new).content (state_of new).may_leave flushed image left)) (each (state_of new).content allowed)
+  first_at : (state : DiskState) (book : Book) → IsAt (before_first book) state
+      → ((medium_in state).unflushed ≡ []) × OpensOn (state_in state) book
+  first_at state book is = grind arith
 
-    at_rest : IsAtRest new
-    at_rest = record { on = ap (λ (p : Power). p.off) cut.power_on; flushed = cut.none }
+  module _ (keep : ℕ → Bool) (state : DiskState) (new : Sim) (cut : IsCut keep (medium_in state) new)
+      (allowed : CutLeaves (state_in state).may_leave (state_of new).content) (flushed : IsFlushed (state_of new))
+      (size : (state_of new).size ≡ (state_in state).size) where
+    -- what a cut leaves afterwards, it could have left before
+    left_before : (P : ℕ → Image → Type 0) → EachCut (P (state_in state).size) (state_in state) → EachCut (P (state_of new).size) (state_of new)
+    left_before P each image left =
+        rw (size, only_image (state_of new).content (state_of new).may_leave flushed image left) (each (state_of new).content allowed)
 
     -- contents that are flushed stay
-    content_stays : old.unflushed ≡ [] → (state_of new).content ≡ (state_of old).content
-    content_stays none = only_image (state_of old).content (state_of old).may_leave (none_flushed old none) (state_of new).content allowed
+    content_has : (P : ℕ → Image → Type 0) → (medium_in state).unflushed ≡ [] → P (state_in state).size (state_in state).content
+        → P (state_of new).size (state_of new).content
+    content_has P none h =
+        rw (size, only_image (state_in state).content (state_in state).may_leave (none_flushed (medium_in state) none) (state_of new).content allowed) h
 
-    abbrev IsAllowed : ℕ → Image → Type 0
-    IsAllowed n image = (blocks : ℕ) × (array : Array) × (next : ℕ) × StandsAs n blocks image array next
+    cut_place : (place : Place) → IsAt place state → IsAt (after_cut place) (Stopped new)
+    cut_place (before_first book) is =
+        let first = first_at state book is in (
+          record { on = ap (λ (p : Power). p.off) cut.power_on; flushed = cut.none },
+          record {
+            opens = first.1.opens;
+            stands = content_has (λ n. StandsForOpening n book) first.0 first.1.stands;
+            ours = λ ours. left_before (λ n image. (blocks : ℕ) × (array : Array) × (next : ℕ) × StandsAs n blocks image array next)
+                (first.1.ours ours);
+          },
+        )
+    cut_place place is = record { on = ap (λ (p : Power). p.off) cut.power_on; flushed = cut.none }
 
-    opens_still : (book : Book) → old.unflushed ≡ [] → OpensOn (state_of old) book → OpensOn (state_of new) book
-    opens_still book none h = record {
-      opens = h.opens;
-      stands = subst (λ (n : ℕ). StandsForOpening n book (state_of new).content) (sym size)
-          (subst (StandsForOpening (state_of old).size book) (sym (content_stays none)) h.stands);
-      ours = λ ours. subst (λ (n : ℕ). EachCut (IsAllowed n) (state_of new)) (sym size)
-          (left_before (IsAllowed (state_of old).size) (h.ours ours));
-    }
+    cut_found : (place : Place) → ((book_at place).ours ≡ true → EachCut (FoundAt (state_in state).size place) (state_in state))
+        → (book_at (after_cut place)).ours ≡ true → EachCut (FoundAt (state_of new).size (after_cut place)) (state_of new)
+    cut_found (runs conversation) h ours = left_before (λ n. MayFind n conversation.unit.book) (h ours)
+    cut_found place h ours = left_before (λ n. FoundAt n place) (h ours)
 
-    cut_place : (state : DiskState) (place : Place) → medium_in state ≡ old → IsAt place state → IsAt (after_cut place) (Stopped new)
-    cut_place (Stopped m) (before_first book) e h = (
-      at_rest,
-      opens_still book (subst (λ (x : Sim). x.unflushed ≡ []) e h.0.flushed) (subst (λ (x : Sim). OpensOn (state_of x) book) e h.1),
-    )
-    cut_place (Running disk) (before_first book) e h = absurd h
-    cut_place state (between remains) e h = at_rest
-    cut_place state (runs conversation) e h = at_rest
-    cut_place state (off remains) e h = at_rest
-
-    cut_found : (place : Place) (n : ℕ) → n ≡ (state_of old).size
-        → ((book_at place).ours ≡ true → EachCut (FoundAt (state_of old).size place) (state_of old))
-        → (book_at (after_cut place)).ours ≡ true → EachCut (FoundAt n (after_cut place)) (state_of new)
-    cut_found (runs conversation) n e h ours = rw e (left_before (MayFind (state_of old).size conversation.unit.book) (h ours))
-    cut_found place n e h ours = rw e (left_before (FoundAt (state_of old).size place) (h ours))
-
-    cut_limit_at : (state : DiskState) (place : Place) (limit : ℕ) → medium_in state ≡ old → IsAt place state → LimitAt place limit state
-        → LimitAt (after_cut place) limit (Stopped new)
-    cut_limit_at (Stopped m) (before_first book) limit e at h =
-        subst (λ (n : ℕ). HasLimit n limit (state_of new).content) (sym size)
-        (subst (HasLimit (state_of old).size limit) (sym (content_stays (subst (λ (x : Sim). x.unflushed ≡ []) e at.0.flushed)))
-        (subst (λ (x : Sim). HasLimit (state_of x).size limit (state_of x).content) e h))
-    cut_limit_at (Running disk) (before_first book) limit e at h = absurd at
-    cut_limit_at state (between remains) limit e at h = tt
-    cut_limit_at state (runs conversation) limit e at h = tt
-    cut_limit_at state (off remains) limit e at h = tt
-
-    cut_limited : (state : DiskState) (limit : ℕ) → medium_in state ≡ old → LeavesLimit limit state → LeavesLimit limit (Stopped new)
-    cut_limited state limit e h =
-        subst (λ (n : ℕ). EachCut (HasLimit n limit) (state_of new)) (sym size)
-        (left_before (HasLimit (state_of old).size limit)
-        (subst (λ (x : Sim). EachCut (HasLimit (state_of x).size limit) (state_of x)) e h))
+    cut_limit_at : (place : Place) (limit : ℕ) → IsAt place state → LimitAt place limit state → LimitAt (after_cut place) limit (Stopped new)
+    cut_limit_at (before_first book) limit is h = content_has (λ n. HasLimit n limit) (first_at state book is).0 h
+    cut_limit_at place limit is h = tt
 
     book_after_cut : (place : Place) → (book_at (after_cut place)).ours ≡ (book_at place).ours
     book_after_cut place = grind arith
 
-    pub is_cut : (state : DiskState) → medium_in state ≡ old → LivesGoOn (lives_at state) (cuts keep ∷ []) [] (lives_at (Stopped new))
-    is_cut state e = record {
-      refusals = false ∷ [];
-      moves = one_move device false state (Stopped new) (cuts keep) [] (refl, subst (λ (x : Sim). IsCut keep x new) (sym e) cut)
-          (none_refused (state_in state) (state_of new) (ap of_all cut.refused_stay ∙ sym (ap (λ (x : Sim). of_all x.refused) e)));
-      refused = let f = ap (λ (x : Sim). of_all x.refused) e in let g = ap of_all cut.refused_stay in omega (arith, f, g);
-      caused =
-          let f = ap (λ (x : Sim). x.without_room) e in
-          let g = cut.without_room_stays in
-          let none = ap faults_in cut.power_on in
-          omega (arith, f, g, none);
-      goes = λ here fits. record {
-        there = record here { place = after_cut here.place; armed = false };
-        run = one_run device false here (record here { place = after_cut here.place; armed = false }) (cuts keep) [] (refl, refl);
-        fits = record {
-          is_at = cut_place state here.place e fits.is_at;
-          limit_at = cut_limit_at state here.place here.limit e fits.is_at fits.limit_at;
-          limited = λ ours. cut_limited state here.limit e (fits.limited (sym (book_after_cut here.place) ∙ ours));
-          found = cut_found here.place (state_of new).size size
-              (subst (λ (x : Sim). (book_at here.place).ours ≡ true → EachCut (FoundAt (state_of x).size here.place) (state_of x)) e
-              fits.found);
-          unfused = λ unarmed. ap (λ (p : Power). p.fuse) cut.power_on;
-        };
-        ours = book_after_cut here.place;
-        limit_stays = λ ours. refl;
-      };
-      size_stays = size ∙ sym (ap (λ (x : Sim). (state_of x).size) e);
-      device_stays = refl;
-    }
+    pub is_cut : LivesGoOn (lives_at state) (cuts keep ∷ []) [] (lives_at (Stopped new))
+    is_cut =
+        let same = ap of_all cut.refused_stay in
+        record {
+          refusals = false ∷ [];
+          moves = one_move device false state (Stopped new) (cuts keep) [] (refl, cut) (none_refused (state_in state) (state_of new) same);
+          refused = omega (arith, same);
+          caused = let room = cut.without_room_stays in let none = ap faults_in cut.power_on in omega (arith, room, none);
+          goes = λ here fits. record {
+            there = record here { place = after_cut here.place; armed = false };
+            run = one_run device false here (record here { place = after_cut here.place; armed = false }) (cuts keep) [] (refl, refl);
+            fits = record {
+              is_at = cut_place here.place fits.is_at;
+              limit_at = cut_limit_at here.place here.limit fits.is_at fits.limit_at;
+              limited = λ ours. left_before (λ n. HasLimit n here.limit) (fits.limited (sym (book_after_cut here.place) ∙ ours));
+              found = cut_found here.place fits.found;
+              unfused = λ unarmed. ap (λ (p : Power). p.fuse) cut.power_on;
+            };
+            ours = book_after_cut here.place;
+            limit_stays = λ ours. refl;
+          };
+          size_stays = size;
+          device_stays = refl;
+        }
 
   -- ---- an event
 
@@ -247,16 +240,10 @@ module _ (device : Device) where
 
       -- the power is on afterwards
       pub event_ends : LivesGoOn (lives_at (Running old)) (plays event ∷ []) (answer ∷ []) (lives_at (Running new))
-      event_ends = record {
-        refusals = grew ∷ [];
-        moves = one_move device grew (Running old) (Running new) (plays event) (answer ∷ [])
-            (answer, refl, played answer (ap (λ (b : Bool). if b then Off else answer) (sym still))) refl;
-        refused = one_counted grew before.failures after.failures (ltb-true before.failures after.failures) step.elapses.failures_stay;
-        caused = caused_once old.unit.store.medium new.unit.store.medium (plays event ∷ []) follows on;
-        goes = λ here fits. ends_at here.place here.armed here.limit fits;
-        size_stays = step.elapses.size_stays;
-        device_stays = refl;
-      }
+      event_ends =
+          called_once (plays event) (answer ∷ []) (Running old) (Running new)
+          (answer, refl, played answer (ap (λ (b : Bool). if b then Off else answer) (sym still))) follows on step.elapses.size_stays
+          (λ here fits. ends_at here.place here.armed here.limit fits)
 
     module _ (is_off : new.unit.store.medium.power.off ≡ true) where
       cut_at : (place : Place) (armed : Bool) (limit : ℕ)
@@ -304,16 +291,10 @@ module _ (device : Device) where
 
       -- power went in it
       pub event_is_cut : LivesGoOn (lives_at (Running old)) (plays event ∷ []) (Off ∷ []) (lives_at (Running new))
-      event_is_cut = record {
-        refusals = grew ∷ [];
-        moves = one_move device grew (Running old) (Running new) (plays event) (Off ∷ [])
-            (Off, refl, played Off (ap (λ (b : Bool). if b then Off else answer) (sym is_off))) refl;
-        refused = one_counted grew before.failures after.failures (ltb-true before.failures after.failures) step.elapses.failures_stay;
-        caused = caused_once old.unit.store.medium new.unit.store.medium (plays event ∷ []) follows on;
-        goes = λ here fits. cut_at here.place here.armed here.limit fits;
-        size_stays = step.elapses.size_stays;
-        device_stays = refl;
-      }
+      event_is_cut =
+          called_once (plays event) (Off ∷ []) (Running old) (Running new)
+          (Off, refl, played Off (ap (λ (b : Bool). if b then Off else answer) (sym is_off))) follows on step.elapses.size_stays
+          (λ here fits. cut_at here.place here.armed here.limit fits)
 
   -- an event that comes to a medium without power
   pub event_at_rest : (m : Sim) (event : Event) → m.power.off ≡ true

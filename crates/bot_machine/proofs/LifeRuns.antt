@@ -3,8 +3,7 @@ use Rattle.std.proofs.Common.{◌≡◌, ℕ, ◌+◌, ◌≤◌, Bool, List, []
 use Rattle.std.proofs.Common.{append_assoc}
 use Rattle.std.proofs.lemmas.List.{append-nil}
 use Rattle.bot_machine.specs.Device.{presented, Device}
-use Rattle.scsi_unit.specs.StartFaults.{StartFault, NoMemory, Read, Write, Flush, BadSuper, BadVersion, BadSize, BadHead, StampsUsedUp}
-use Rattle.scsi_unit.specs.StartFaults.{LogTooSmall}
+use Rattle.scsi_unit.specs.StartFaults.{StartFault}
 use Rattle.spec.specs.Book.{Book}
 use Rattle.spec.specs.declared.event.Answer.{Answer}
 use Rattle.bot_machine.specs.Answers.{Room}
@@ -39,7 +38,7 @@ LivesRun-append device (x ∷ xs) ys told more (refused ∷ refusals) others a b
 LivesRun-append device xs ys told more refusals others a b c r s = absurd r
 
 -- the refusals of one part and of the next
-counted : (xs ys : List Bool) (a b c : ℕ) → refused_events xs + a ≤ b → refused_events ys + b ≤ c → refused_events (xs ++ ys) + a ≤ c
+pub counted : (xs ys : List Bool) (a b c : ℕ) → refused_events xs + a ≤ b → refused_events ys + b ≤ c → refused_events (xs ++ ys) + a ≤ c
 counted xs ys a b c h k = omega (arith, refused_events-append xs ys, h, k)
 
 -- nothing is done
@@ -56,14 +55,14 @@ rests lives = record {
 
 module _ (a b c : LivesValue) (xs ys : List Action) (told more : List Answer) (first : LivesGoOn a xs told b) where
   -- the first part, by the device at the end
-  first_run : c.device ≡ b.device → (here : Standing) (fits : FitsLives a here)
+  pub first_run : c.device ≡ b.device → (here : Standing) (fits : FitsLives a here)
       → LivesRun (presented c.device) here xs told first.refusals (first.goes here fits).there
   first_run same here fits =
       subst (λ (i : Device). LivesRun (presented i) here xs told first.refusals (first.goes here fits).there) (sym same)
       (first.goes here fits).run
 
   -- the second part, by the device at the beginning
-  next_moves : (others : List Bool) (state : DiskState) → MovesBy b.device b.state ys more others state
+  pub next_moves : (others : List Bool) (state : DiskState) → MovesBy b.device b.state ys more others state
       → MovesBy a.device b.state ys more others state
   next_moves others state moves = subst (λ (i : Device). MovesBy i b.state ys more others state) first.device_stays moves
 
@@ -96,12 +95,13 @@ module _ (a b c : LivesValue) (xs ys : List Action) (told more : List Answer) (f
           }
 
   -- lives go on, and a start is refused
-  pub lives_stop : (fault : StartFault) → LivesStop b ys more fault c → LivesStop a (xs ++ ys) (told ++ more) fault c
-  lives_stop fault next = record {
+  abbrev pub lives_stop : (fault : StartFault) (answers : List Answer) → told ++ more ≡ answers → LivesStop b ys more fault c
+      → LivesStop a (xs ++ ys) answers fault c
+  lives_stop fault answers all next = record {
     refusals = first.refusals ++ next.refusals;
     at = next.at;
-    moves = MovesBy-append a.device xs ys told more first.refusals next.refusals a.state b.state (Stopped next.at) first.moves
-        (next_moves next.refusals (Stopped next.at) next.moves);
+    moves = rw (← all) (MovesBy-append a.device xs ys told more first.refusals next.refusals a.state b.state (Stopped next.at) first.moves
+        (next_moves next.refusals (Stopped next.at) next.moves));
     start = next.start;
     in_start = next.in_start;
     counted = next.counted;
@@ -130,15 +130,15 @@ module _ (a b c : LivesValue) (xs ys : List Action) (told more : List Answer) (f
           → MayRefuse book (refused_events (first.refusals ++ next.refusals) + (state_in a.state).failures) failures fault
       causes book fault failures h = grind (arith, less)
 
-      goes : (here : Standing) → FitsLives a here → LivesStopAt c here (xs ++ ys) (told ++ more) (first.refusals ++ next.refusals)
+      goes : (here : Standing) → FitsLives a here → LivesStopAt c here (xs ++ ys) answers (first.refusals ++ next.refusals)
           (refused_events (first.refusals ++ next.refusals) + (state_in a.state).failures) fault
       goes here fits =
           let mid = first.goes here fits in
           let last = next.goes mid.there mid.fits in
           record {
             there = last.there;
-            run = LivesRun-append c.device xs ys told more first.refusals next.refusals here mid.there last.there
-                (first_run next.device_stays here fits) last.run;
+            run = rw (← all) (LivesRun-append c.device xs ys told more first.refusals next.refusals here mid.there last.there
+                (first_run next.device_stays here fits) last.run);
             book = last.book;
             opens = last.opens;
             ours = last.ours ∙ mid.ours;
@@ -147,15 +147,6 @@ module _ (a b c : LivesValue) (xs ys : List Action) (told more : List Answer) (f
                 subst (λ (n : ℕ). LeavesLimit n c.state) (mid.limit_stays (sym (last.ours ∙ mid.ours) ∙ ours)) (last.limited ours);
             found = last.found;
           }
-
-  pub lives_stop-refusals : (fault : StartFault) (next : LivesStop b ys more fault c)
-      → (lives_stop fault next).refusals ≡ first.refusals ++ next.refusals
-  unfolding lives_stop
-  lives_stop-refusals fault next = refl
-
-  pub lives_stop-at : (fault : StartFault) (next : LivesStop b ys more fault c) → (lives_stop fault next).at ≡ next.at
-  unfolding lives_stop
-  lives_stop-at fault next = refl
 
 -- appending, and then more, is appending all
 pub appended : (first mid last : Room) (told more : List Answer) → mid ≡ record first { list = first.list ++ told }
@@ -193,4 +184,4 @@ whole_life a b c d e first last armed events n cut h_arm h_start h_events h_cut 
 pub no_life : (a b c : LivesValue) (armed : List Action) (fault : StartFault) → LivesGoOn a armed [] b → LivesStop b [] [] fault c
     → LivesStop a armed [] fault c
 no_life a b c armed fault h_arm h_stop =
-    subst (λ (l : List Action). LivesStop a l [] fault c) (append-nil armed) (lives_stop a b c armed [] [] [] h_arm fault h_stop)
+    subst (λ (l : List Action). LivesStop a l [] fault c) (append-nil armed) (lives_stop a b c armed [] [] [] h_arm fault [] refl h_stop)

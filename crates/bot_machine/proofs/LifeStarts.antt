@@ -1,5 +1,5 @@
 -- How a life begins: what the medium was left with is what the life opens with.
-use Rattle.std.proofs.Common.{◌≡◌, ◌≤◌, ◌⊎◌, ℕ, true, false, [], Some, None, Option, refl, sym, subst, ◌∙◌, ap, inl, inr, arith}
+use Rattle.std.proofs.Common.{◌≡◌, ◌≤◌, ◌⊎◌, ℕ, Bool, true, false, [], Some, None, Option, refl, sym, subst, ◌∙◌, ap, inl, inr, arith}
 use Rattle.std.proofs.lemmas.Bool.{false≢true, cases_Bool}
 use Rattle.spec.specs.Blocks.{Write, Array}
 use Rattle.medium.specs.Medium.{State, Image}
@@ -15,8 +15,8 @@ use Rattle.bot_machine.specs.Device.{Device}
 use Rattle.scsi_unit.specs.Starting.{IsOursForSome, StandsForOpening, OpensOn, blocks_of}
 use Rattle.bot_machine.specs.Disk.{DiskValue, FitsDisk}
 use Rattle.bot_machine.specs.Opening.{IsOpened}
-use Rattle.spec.specs.Lives.{Remains, Place, before_first, between, IsLeft, Opens}
-use Rattle.bot_machine.specs.LivesValue.{HasLimit, book_at, LeavesLimit, FoundAt}
+use Rattle.spec.specs.Lives.{Remains, Place, before_first, between, runs, off, Standing, Presentation, IsLeft, Opens, KeepsLimit, LifeBegins, StartsAt}
+use Rattle.bot_machine.specs.LivesValue.{HasLimit, IsAt, LimitAt, book_at, LeavesLimit, FoundAt}
 use Rattle.bot_machine.specs.declared.lives.disk_state.DiskState.TheVariants.{Stopped}
 use Rattle.bot_machine.proofs.UnitLaws.{knows_images}
 
@@ -85,7 +85,7 @@ pub remains_ours : (m : State) (remains : Remains) → EachCut (FoundAt m.size (
 remains_ours m remains found image cut = knows_images.found_ours m.size remains.book remains.in_progress image (found image cut)
 
 -- the image that a life has left has the limit of the disk that starts on it
-pub next_limit : (m : Sim) (limit other : ℕ) → LeavesLimit limit (Stopped m) → HasLimit (state_of m).size other (state_of m).content
+next_limit : (m : Sim) (limit other : ℕ) → LeavesLimit limit (Stopped m) → HasLimit (state_of m).size other (state_of m).content
     → other ≡ limit
 next_limit m limit other leaves has =
     knows_images.one_limit (state_of m).size other limit (state_of m).content has
@@ -97,9 +97,6 @@ pub record WouldOpen (m : State) (place : Place) : Type 0 where
   pub opens : Opens place book
   pub ours : book.ours ≡ (book_at place).ours
   pub on : book.ours ≡ true → OpensOn m book
-
-pub first_opens : (m : State) (book : Book) → OpensOn m book → WouldOpen m (before_first book)
-first_opens m book h = record { book = book; opens = refl; ours = refl; on = λ ours. h }
 
 module _ (m : Sim) (remains : Remains) where
   next_opens_ours : remains.book.ours ≡ true → EachCut (FoundAt (state_of m).size (between remains)) (state_of m)
@@ -126,7 +123,7 @@ module _ (m : Sim) (remains : Remains) where
     left = λ is_ours. absurd (false≢true (sym ours ∙ is_ours));
   }
 
-  pub next_opens : (remains.book.ours ≡ true → EachCut (FoundAt (state_of m).size (between remains)) (state_of m))
+  next_opens : (remains.book.ours ≡ true → EachCut (FoundAt (state_of m).size (between remains)) (state_of m))
       → WouldOpen (state_of m) (between remains)
   next_opens found = elim (cases_Bool remains.book.ours) [
     | inl ours ↦ next_opens_ours ours (found ours)
@@ -148,10 +145,7 @@ pub record HasOpened (after : State) (disk : DiskValue Sim) (place : Place) : Ty
   pub fits : FitsDisk after disk book
 
 module _ (m : Sim) (after : State) (device : Device) (disk : DiskValue Sim) (h : IsOpened (state_of m) after device disk) where
-  pub first_opened : (book : Book) → OpensOn (state_of m) book → HasOpened after disk (before_first book)
-  first_opened book on = record { book = book; opens = refl; ours = refl; fits = h.store.serves book on }
-
-  pub next_opened : (remains : Remains) → (remains.book.ours ≡ true → EachCut (FoundAt (state_of m).size (between remains)) (state_of m))
+  next_opened : (remains : Remains) → (remains.book.ours ≡ true → EachCut (FoundAt (state_of m).size (between remains)) (state_of m))
       → HasOpened after disk (between remains)
   next_opened remains found = elim (cases_Bool remains.book.ours) [
     | inl ours ↦
@@ -164,3 +158,41 @@ module _ (m : Sim) (after : State) (device : Device) (disk : DiskValue Sim) (h :
       fits = h.store.fits false (λ is_ours. absurd (false≢true is_ours));
     }
   ]
+
+-- ---- wherever lives stand while no disk runs and the power is on
+
+module _ (m : Sim) (on : m.power.off ≡ false) where
+  pub flushed_at : (place : Place) → IsAt place (Stopped m) → m.unflushed ≡ []
+  flushed_at place is = grind arith
+
+  pub starts_at : (disk : Presentation) (refused : Bool) (place : Place) (old new : Standing) → IsAt place (Stopped m)
+      → LifeBegins disk refused old new → StartsAt place disk refused old new
+  starts_at disk refused place old new is life = grind arith
+
+  pub keeps_same : (place : Place) (limit : ℕ) → IsAt place (Stopped m) → KeepsLimit place limit limit
+  keeps_same place limit is = grind arith
+
+  pub keeps_limit : (place : Place) (limit other : ℕ) → IsAt place (Stopped m) → LimitAt place limit (Stopped m)
+      → ((book_at place).ours ≡ true → LeavesLimit limit (Stopped m)) → HasLimit (state_of m).size other (state_of m).content
+      → KeepsLimit place limit other × ((book_at place).ours ≡ true → other ≡ limit)
+  keeps_limit (before_first book) limit other is at leaves has =
+      let one = knows_images.one_limit (state_of m).size other limit (state_of m).content has at in (one, λ ours. one)
+  keeps_limit (between remains) limit other is at leaves has =
+      let one : remains.book.ours ≡ true → other ≡ limit = λ ours. next_limit m limit other (leaves ours) has in (one, one)
+  keeps_limit place limit other is at leaves has = grind arith
+
+  pub would_open : (place : Place) → IsAt place (Stopped m)
+      → ((book_at place).ours ≡ true → EachCut (FoundAt (state_of m).size place) (state_of m)) → WouldOpen (state_of m) place
+  would_open (before_first book) is found = record { book = book; opens = refl; ours = refl; on = λ ours. is.1 }
+  would_open (between remains) is found = next_opens m remains found
+  would_open (runs conversation) is found = absurd is
+  would_open (off remains) is found = absurd (false≢true (sym on ∙ is))
+
+  pub has_opened : (after : State) (device : Device) (disk : DiskValue Sim) → IsOpened (state_of m) after device disk → (place : Place)
+      → IsAt place (Stopped m) → ((book_at place).ours ≡ true → EachCut (FoundAt (state_of m).size place) (state_of m))
+      → HasOpened after disk place
+  has_opened after device disk h (before_first book) is found =
+      record { book = book; opens = refl; ours = refl; fits = h.store.serves book is.1 }
+  has_opened after device disk h (between remains) is found = next_opened m after device disk h remains found
+  has_opened after device disk h (runs conversation) is found = absurd is
+  has_opened after device disk h (off remains) is found = absurd (false≢true (sym on ∙ is))

@@ -1,15 +1,10 @@
 -- Packets that are not too long, and lives whose packets keep their size.
-use Rattle.std.proofs.Common.{ℕ, Bool, true, false, List, [], ◌∷◌, sym, subst, ap, ◌∙◌, arith}
-use Rattle.medium.specs.Sim.{Sim}
-use Rattle.spec.specs.declared.event.Event.{Event}
+use Rattle.std.proofs.Common.{Bool, List, [], ◌∷◌, sym, subst, arith}
 use Rattle.spec.specs.declared.event.Answer.{Answer}
 use Rattle.bot_machine.specs.declared.lives.disk_state.DiskState.{DiskState}
-use Rattle.bot_machine.specs.declared.lives.disk_state.DiskState.TheVariants.{Stopped, Running}
 use Rattle.bot_machine.specs.Device.{Device}
-use Rattle.spec.specs.Exchange.{Line}
-use Rattle.bot_machine.specs.Disk.{DiskValue}
-use Rattle.spec.specs.Lives.{Action, arms, fails, starts, plays, cuts}
-use Rattle.bot_machine.specs.Moving.{FuseMoves, FailureMoves, StartsIn, StartMoves, EventMovesIn, EventMoves, CutMoves, Does, MovesBy}
+use Rattle.spec.specs.Lives.{Action}
+use Rattle.bot_machine.specs.Moving.{Does, MovesBy}
 use Rattle.bot_machine.specs.LivesValue.{HasPackets}
 
 does_keep : (device : Device) (old : DiskState) (action : Action) (answers : List Answer) (new : DiskState)

@@ -1,9 +1,6 @@
 -- A disk retires as was asked over all its lives, and the rules of lives do not depend on that.
-use Rattle.std.proofs.Common.{◌≡◌, ℕ, Bool, true, false, List, [], ◌∷◌, sym, subst, ap, ◌∙◌, arith}
+use Rattle.std.proofs.Common.{◌≡◌, ℕ, Bool, List, [], ◌∷◌, sym, subst, ap, ◌∙◌, arith}
 use Rattle.medium.specs.Medium.{State}
-use Rattle.medium.specs.Sim.{Sim}
-use Rattle.scsi_unit.specs.Retiring.{RetiresBy, goes_ahead_by}
-use Rattle.scsi_unit.specs.Starting.{Shape}
 use Rattle.scsi_unit.specs.UnitValue.{unit_limit, state_of as unit_state}
 use Rattle.spec.specs.Book.{Book}
 use Rattle.spec.specs.Rules.{UnitState, opened_unit}
@@ -13,15 +10,14 @@ use Rattle.spec.specs.UnitConversation.{on_line, UnitRun}
 use Rattle.spec.specs.declared.event.Event.{Event}
 use Rattle.spec.specs.declared.event.Answer.{Answer}
 use Rattle.bot_machine.specs.declared.lives.disk_state.DiskState.{DiskState}
-use Rattle.bot_machine.specs.declared.lives.disk_state.DiskState.TheVariants.{Stopped, Running}
-use Rattle.bot_machine.specs.Device.{Device, Retiring}
+use Rattle.bot_machine.specs.Device.{Device}
 use Rattle.bot_machine.specs.Disk.{DiskValue, over}
 use Rattle.bot_machine.specs.Opening.{IsOpened}
 use Rattle.bot_machine.specs.Striking.{without_ticks, answers_without_ticks, IsUntroubled}
 use Rattle.bot_machine.proofs.StruckTicks.{ticks_struck}
 use Rattle.bot_machine.proofs.UnitLaws.{knows_images}
-use Rattle.spec.specs.Lives.{Action, arms, fails, starts, plays, cuts}
-use Rattle.bot_machine.specs.Moving.{FuseMoves, FailureMoves, StartsIn, StartMoves, EventMovesIn, EventMoves, CutMoves, Does}
+use Rattle.spec.specs.Lives.{Action}
+use Rattle.bot_machine.specs.Moving.{Does}
 use Rattle.bot_machine.specs.Policy.{DiskRetires, KeepsPolicy, PolicyIsUnseen}
 
 -- ---- a disk keeps to it

@@ -1,12 +1,10 @@
 -- What the exchange of a packet reads is what its wrapper reads, and which sectors its reads name.
-use Rattle.std.proofs.Common.{◌≡◌, ◌≢◌, ◌⊎◌, ◌<◌, ⊎_elim, inl, inr, ℕ, List, Option, Some, None, MatchOption, false, refl, sym, ap, ◌∙◌}
+use Rattle.std.proofs.Common.{◌≡◌, ◌≢◌, ◌⊎◌, ◌<◌, ⊎_elim, inl, inr, ℕ, List, Option, Some, None, MatchOption, false, sym, ap, ◌∙◌}
 use Rattle.std.proofs.Common.{subst, arith}
-use Rattle.spec.specs.declared.wrapper.Cbw.{Cbw}
 use Rattle.medium.specs.Medium.{State}
 use Rattle.medium.proofs.SectorsRead.{looks_wider}
 use Rattle.spec.specs.declared.way.Way.{Way}
 use Rattle.spec.specs.declared.case.Case.{Case}
-use Rattle.spec.specs.declared.case.Case.TheVariants.{C5, C6}
 use Rattle.spec.specs.Cases.{IsCase}
 use Rattle.spec.specs.CommandWrapper.{SpellsNone}
 use Rattle.scsi_unit.proofs.SectorsRead.{sends_none-reads_none}
@@ -18,11 +16,11 @@ use Rattle.scsi_unit.specs.declared.reading.HomeSectors.{HomeSectors}
 use Rattle.bot_machine.specs.declared.exchange.Exchange.{Exchange}
 use Rattle.spec.specs.UnitConversation.{way_of}
 use Rattle.bot_machine.specs.Disk.{DiskValue}
-use Rattle.spec.specs.Exchange.{finished, at_once, after_data, never, moment_of}
+use Rattle.spec.specs.Exchange.{finished, at_once, after_data, moment_of}
 use Rattle.bot_machine.specs.Reading.{sectors_in, sectors_for, WrapperReads, WrapperReadsNone, ReadsHome, ReadsNoHome, LooksBesides}
 use Rattle.bot_machine.specs.Reading.{WrapperReadsAt}
 use Rattle.bot_machine.specs.Serving.{IsBegun}
-use Rattle.bot_machine.proofs.Cases.{sends_in, after_data-sends_none}
+use Rattle.bot_machine.proofs.Cases.{after_data-sends_none}
 
 -- a command that is not about to send anything reads nothing at home
 pub none_for : {M : Type 0} (unit : UnitValue M) (block : List ℕ) → ((n : ℕ) → intention_of unit block ≢ intent.In n)
@@ -38,19 +36,11 @@ these : (case : Case) (wanted : Option HomeSectors) (sector : ℕ) → sectors_i
 these case None sector same at = absurd at
 these case (Some home) sector same at = (home, same, at)
 
-named_at_once : (case : Case) (host : Way) (intention : Intention) → IsCase case host (way_of intention) → moment_of case ≡ at_once
-    → (wanted : Option HomeSectors) → (((n : ℕ) → intention ≢ intent.In n) → wanted ≡ None) → (sector : ℕ) → IsOneOf wanted sector
-    → (home : HomeSectors) × (sectors_in case wanted ≡ Some home) × IsOneOf (Some home) sector
-named_at_once case host (intent.In n) is moment wanted none sector at =
-    let sent : (other : Case) → case ≡ other → sectors_in other wanted ≡ wanted
-    → (home : HomeSectors) × (sectors_in case wanted ≡ Some home) × IsOneOf (Some home) sector
-    = λ other same read. these case wanted sector (subst (λ k. sectors_in k wanted ≡ wanted) (sym same) read) at in
-    ⊎_elim (λ five_or_six. ⊎_elim (λ five. sent C5 five refl) (λ six. sent C6 six refl) five_or_six)
-    (λ not. let late : never ≡ at_once = sym not ∙ moment in absurd (let no : never ≢ at_once = λ e. cc in no late))
-    (sends_in case host n is)
-named_at_once case host intent.None is moment wanted none sector at = absurd (nothing_named wanted sector (none (λ n e. cc)) at)
-named_at_once case host (intent.Out n) is moment wanted none sector at = absurd (nothing_named wanted sector (none (λ n e. cc)) at)
-named_at_once case host (intent.Fail sense) is moment wanted none sector at = absurd (nothing_named wanted sector (none (λ n e. cc)) at)
+-- where it is carried out at once it reads what it would have read
+at_once_reads : (case : Case) (host : Way) (intention : Intention) (wanted : Option HomeSectors) → IsCase case host (way_of intention)
+    → moment_of case ≡ at_once → (((n : ℕ) → intention ≢ intent.In n) → wanted ≡ None) → sectors_in case wanted ≡ wanted
+at_once_reads case host (intent.In n) wanted is moment none = grind arith
+at_once_reads case host intention wanted is moment none = let no = none (λ n e. cc) in grind arith
 
 module _ {M : Type 0} (unit : UnitValue M) (packet : List ℕ) (exchange : Exchange) (begun : IsBegun unit packet exchange) where
   -- it reads these
@@ -64,21 +54,14 @@ module _ {M : Type 0} (unit : UnitValue M) (packet : List ℕ) (exchange : Excha
     reads = is;
   }
 
-  -- whatever wrapper the packet spells, it is the command of the exchange, in its case
-  same_case : (command : Cbw) → command ≡ exchange.command → (case : Case)
-      → IsCase case command.host (way_of (intention_of unit command.block.items)) → case ≡ exchange.case
-  same_case command is case is_case = begun.one_case case
-      (subst (λ way. IsCase case exchange.command.host way) (sym begun.intended)
-      (subst (λ c. IsCase case c.host (way_of (intention_of unit c.block.items))) is is_case))
-
   -- it reads no others
   read_by : (wanted : HomeSectors) → WrapperReads unit packet wanted
       → sectors_in exchange.case (sectors_for unit exchange.command.block.items) ≡ Some wanted
   read_by wanted reads =
       let command = begun.only reads.command reads.spelled in
-      let case = same_case reads.command command reads.case reads.is_case in
-      subst (λ k. sectors_in k (sectors_for unit exchange.command.block.items) ≡ Some wanted) case
-      (subst (λ c. sectors_in reads.case (sectors_for unit c.block.items) ≡ Some wanted) command reads.reads)
+      let case = begun.one_case reads.case (subst (λ c. IsCase reads.case c.host exchange.intended) command
+      (rw (begun.intended, ← command) reads.is_case)) in
+      rw (← case, ← command) reads.reads
 
   -- where it is carried out at once, each home sector that it reads is one of these
   pub at_home : moment_of exchange.case ≡ at_once → (sector : ℕ) → IsOneOf (sectors_for unit exchange.command.block.items) sector
@@ -86,8 +69,8 @@ module _ {M : Type 0} (unit : UnitValue M) (packet : List ℕ) (exchange : Excha
   at_home moment sector at =
       let block = exchange.command.block.items in
       let is = subst (λ way. IsCase exchange.case exchange.command.host way) begun.intended begun.is_case in
-      let named = named_at_once exchange.case exchange.command.host (intention_of unit block) is moment (sectors_for unit block)
-      (none_for unit block) sector at in
+      let named = these exchange.case (sectors_for unit block) sector (at_once_reads exchange.case exchange.command.host
+      (intention_of unit block) (sectors_for unit block) is moment (none_for unit block)) at in
       (named.0, found named.0 named.1, named.2)
 
   -- where it is carried out after its data, the unit intends to send nothing

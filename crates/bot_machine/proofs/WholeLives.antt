@@ -1,5 +1,5 @@
 -- Whole lives, one after the other, from the first.
-use Rattle.std.proofs.Common.{◌≡◌, Bool, ◌<◌, ◌≤◌, ℕ, ◌+◌, suc, List, [], ◌∷◌, ◌++◌, None, length, take, drop, get_or, refl, sym, subst}
+use Rattle.std.proofs.Common.{◌≡◌, ◌<◌, ◌≤◌, ℕ, ◌+◌, suc, List, [], ◌∷◌, ◌++◌, None, length, take, drop, get_or, refl, sym, subst}
 use Rattle.std.proofs.Common.{◌∙◌, ap, arith, append_assoc, drop-cons}
 use Rattle.std.proofs.lemmas.List.{append-nil, take_more, take-append-drop}
 use Rattle.std.proofs.lemmas.List.Sums.{sum_by-append, sum_by-take-le}
@@ -7,7 +7,6 @@ use Rattle.std.specs.Prelude.{Option, Some, MatchOption}
 use Rattle.medium.specs.Medium.{State, Image, CutLeaves}
 use Rattle.medium.specs.Sim.{Sim, state_of, IsFused}
 use Rattle.scsi_unit.specs.StartFaults.{StartFault}
-use Rattle.scsi_unit.specs.Serving.{has_refused}
 use Rattle.bot_machine.specs.Device.{presented, Device}
 use Rattle.spec.specs.Book.{Book}
 use Rattle.spec.specs.declared.event.Answer.{Answer}
@@ -20,13 +19,13 @@ use Rattle.spec.specs.Conversation.{refused_events}
 use Rattle.bot_machine.specs.Opening.{IsNotOpened}
 use Rattle.spec.specs.Lives.{Action, Standing, LivesRun}
 use Rattle.bot_machine.specs.LivesValue.{LivesValue, medium_in, state_in, IsAtRest, OpensOn, HasLimit, LeavesLimit, FitsLives, LivesGoOn}
-use Rattle.bot_machine.specs.LivesValue.{LivesStopAt, LivesStop, FoundAt}
+use Rattle.bot_machine.specs.LivesValue.{LivesStopAt, LivesStop, FoundAt, RestsAlone}
 use Rattle.spec.specs.Promise.{first_standing, AreKept, AreKeptUpTo}
 use Rattle.scsi_unit.specs.Books.{StandsAs, MayFind}
 use Rattle.scsi_unit.specs.Starting.{StandsForSome}
 use Rattle.bot_machine.specs.Lifetimes.{actions_of, actions_of_all, armed_by, events_in, AppendsFor, AreLived, AreLivedUpTo}
 use Rattle.bot_machine.specs.Lifetimes.{KeepsPromiseUpTo, IsRefusedFor}
-use Rattle.bot_machine.proofs.LifeRuns.{rests, lives_stop, lives_stop-refusals, lives_stop-at}
+use Rattle.bot_machine.proofs.LifeRuns.{rests, lives_stop}
 use Rattle.bot_machine.proofs.Caused.{few_causes}
 use Rattle.bot_machine.proofs.LifeStarts.{first_found, first_limited}
 
@@ -77,7 +76,7 @@ not_for_a_fuse None old armed after fault same h = subst (λ (x : LivesValue). I
 not_for_a_fuse (Some writes) old armed after fault fused h = subst (λ (m : Sim). IsNotOpened (state_of m) after fault) fused h
 
 -- the first lives, over a medium that opens with this book
-first_fits : (m : Sim) (device : Device) → IsAtRest m → m.power.fuse ≡ None → (limit : ℕ) (book : Book) → OpensOn (state_of m) book
+pub first_fits : (m : Sim) (device : Device) → IsAtRest m → m.power.fuse ≡ None → (limit : ℕ) (book : Book) → OpensOn (state_of m) book
     → HasLimit (state_of m).size limit (state_of m).content
     → FitsLives (record { device = device; state = Stopped m }) (first_standing limit book)
 first_fits m device rest unfused limit book opens has = record {
@@ -92,10 +91,9 @@ module _ (m : Sim) (device : Device) (rest : IsAtRest m) (unfused : m.power.fuse
   abbrev first : LivesValue
   first = record { device = device; state = Stopped m }
 
-  pub all_lived : (lives : List Life) → LivesGoOn first (actions_of_all lives) told after → length told ≡ events_in lives
-      → IsAtRest (medium_in after.state) → (medium_in after.state).power.fuse ≡ None → after.state ≡ Stopped (medium_in after.state)
-      → AreLived m device lives told (medium_in after.state)
-  all_lived lives on one_each rest_after unfused_after alone = record {
+  abbrev pub all_lived : (lives : List Life) → LivesGoOn first (actions_of_all lives) told after → length told ≡ events_in lives
+      → RestsAlone after → AreLived m device lives told (medium_in after.state)
+  all_lived lives on one_each ended = record {
     one_each = one_each;
     kept = record {
       refusals = on.refusals;
@@ -103,9 +101,9 @@ module _ (m : Sim) (device : Device) (rest : IsAtRest m) (unfused : m.power.fuse
       caused = few_causes m (medium_in after.state) (actions_of_all lives) on.refusals on.caused;
       lives = kept;
     };
-    moves = subst (λ (x : DiskState). MovesBy device (Stopped m) (actions_of_all lives) told on.refusals x) alone on.moves;
-    rests = rest_after;
-    unfused = unfused_after;
+    moves = subst (λ (x : DiskState). MovesBy device (Stopped m) (actions_of_all lives) told on.refusals x) ended.alone on.moves;
+    rests = ended.rests;
+    unfused = ended.unfused;
     size_stays = on.size_stays;
   }
     where
@@ -130,82 +128,25 @@ module _ (m : Sim) (device : Device) (rest : IsAtRest m) (unfused : m.power.fuse
                 (g.fits.found (g.ours ∙ ours) image cut);
           }
 
-  all_lived-refusals : (lives : List Life) (on : LivesGoOn first (actions_of_all lives) told after)
-      (one_each : length told ≡ events_in lives) (rest_after : IsAtRest (medium_in after.state))
-      (unfused_after : (medium_in after.state).power.fuse ≡ None) (alone : after.state ≡ Stopped (medium_in after.state))
-      → (all_lived lives on one_each rest_after unfused_after alone).kept.refusals ≡ on.refusals
-  unfolding all_lived
-  all_lived-refusals lives on one_each rest_after unfused_after alone = refl
-
--- the same, with other answers that are the same
-told_same : (before after : LivesValue) (actions : List Action) (told other : List Answer) (fault : StartFault) → told ≡ other
-    → LivesStop before actions told fault after → LivesStop before actions other fault after
-told_same before after actions told other fault e s = record {
-  refusals = s.refusals;
-  at = s.at;
-  moves = subst (λ (l : List Answer). MovesBy before.device before.state actions l s.refusals (Stopped s.at)) e s.moves;
-  start = s.start;
-  in_start = s.in_start;
-  counted = s.counted;
-  refused = s.refused;
-  caused = s.caused;
-  goes = λ here fits. subst
-      (λ (l : List Answer).
-      LivesStopAt after here actions l s.refusals (refused_events s.refusals + (state_in before.state).failures) fault)
-      e (s.goes here fits);
-  rests = s.rests;
-  on = s.on;
-  size_stays = s.size_stays;
-  device_stays = s.device_stays;
-}
-
-told_same-refusals : (before after : LivesValue) (actions : List Action) (told other : List Answer) (fault : StartFault) (e : told ≡ other)
-    (s : LivesStop before actions told fault after) → (told_same before after actions told other fault e s).refusals ≡ s.refusals
-unfolding told_same
-told_same-refusals before after actions told other fault e s = refl
-
-told_same-at : (before after : LivesValue) (actions : List Action) (told other : List Answer) (fault : StartFault) (e : told ≡ other)
-    (s : LivesStop before actions told fault after) → (told_same before after actions told other fault e s).at ≡ s.at
-unfolding told_same
-told_same-at before after actions told other fault e s = refl
-
 module _ (m : Sim) (device : Device) (rest : IsAtRest m) (unfused : m.power.fuse ≡ None) (mid after : LivesValue) (told : List Answer)
     (lives lived others : List Life) (life : Life) (fault : StartFault) (lives_are : lives ≡ lived ++ life ∷ others)
     (on : LivesGoOn (record { device = device; state = Stopped m }) (actions_of_all lived) told mid)
-    (one_each : length told ≡ events_in lived) (rest_mid : IsAtRest (medium_in mid.state))
-    (unfused_mid : (medium_in mid.state).power.fuse ≡ None) (alone : mid.state ≡ Stopped (medium_in mid.state))
+    (one_each : length told ≡ events_in lived) (ended : RestsAlone mid)
     (cause : IsNotOpened (state_in mid.state) (state_in after.state) fault) (last : LivesStop mid (armed_by life.fuse) [] fault after) where
   abbrev begun : LivesValue
   begun = record { device = device; state = Stopped m }
 
-  were_lived : AreLived m device lived told (medium_in mid.state)
-  were_lived = all_lived m device rest unfused mid told lived on one_each rest_mid unfused_mid alone
+  abbrev were_lived : AreLived m device lived told (medium_in mid.state)
+  were_lived = all_lived m device rest unfused mid told lived on one_each ended
 
-  stop : LivesStop begun (actions_of_all lived ++ armed_by life.fuse) told fault after
-  stop = told_same begun after (actions_of_all lived ++ armed_by life.fuse) (told ++ []) told fault (append-nil told)
-      (lives_stop begun mid after (actions_of_all lived) (armed_by life.fuse) told [] on fault last)
-
-  refusals_are : stop.refusals ≡ were_lived.kept.refusals ++ last.refusals
-  unfolding stop were_lived
-  refusals_are =
-      told_same-refusals begun after (actions_of_all lived ++ armed_by life.fuse) (told ++ []) told fault (append-nil told)
-      (lives_stop begun mid after (actions_of_all lived) (armed_by life.fuse) told [] on fault last)
-      ∙ lives_stop-refusals begun mid after (actions_of_all lived) (armed_by life.fuse) told [] on fault last
-      ∙ ap (λ (l : List Bool). l ++ last.refusals)
-      (sym (all_lived-refusals m device rest unfused mid told lived on one_each rest_mid unfused_mid alone))
-
-  at_is : stop.at ≡ last.at
-  unfolding stop
-  at_is =
-      told_same-at begun after (actions_of_all lived ++ armed_by life.fuse) (told ++ []) told fault (append-nil told)
-      (lives_stop begun mid after (actions_of_all lived) (armed_by life.fuse) told [] on fault last)
-      ∙ lives_stop-at begun mid after (actions_of_all lived) (armed_by life.fuse) told [] on fault last
+  abbrev stop : LivesStop begun (actions_of_all lived ++ armed_by life.fuse) told fault after
+  stop = lives_stop begun mid after (actions_of_all lived) (armed_by life.fuse) told [] on fault told (append-nil told) last
 
   arms : MovesBy device (Stopped (medium_in mid.state)) (armed_by life.fuse) [] last.refusals (Stopped last.at)
   arms =
       subst (λ (i : Device). MovesBy i (Stopped (medium_in mid.state)) (armed_by life.fuse) [] last.refusals (Stopped last.at))
       on.device_stays
-      (subst (λ (x : DiskState). MovesBy mid.device x (armed_by life.fuse) [] last.refusals (Stopped last.at)) alone last.moves)
+      (subst (λ (x : DiskState). MovesBy mid.device x (armed_by life.fuse) [] last.refusals (Stopped last.at)) ended.alone last.moves)
 
   abbrev actions : List Action
   actions = actions_of_all lived ++ armed_by life.fuse
@@ -230,7 +171,7 @@ module _ (m : Sim) (device : Device) (rest : IsAtRest m) (unfused : m.power.fuse
         found = λ ours image cut. subst (λ (n : ℕ). MayFind n g.book image) stop.size_stays (g.found (g.ours ∙ ours) image cut);
       }
 
-  keeps : KeepsPromiseUpTo m device actions told (medium_in after.state)
+  abbrev keeps : KeepsPromiseUpTo m device actions told (medium_in after.state)
   keeps = record {
     refusals = stop.refusals;
     in_start = stop.in_start;
@@ -240,11 +181,10 @@ module _ (m : Sim) (device : Device) (rest : IsAtRest m) (unfused : m.power.fuse
   }
 
   refused_for : IsRefusedFor m device actions told fault (medium_in after.state) keeps
-  unfolding keeps kept_up_to
+  unfolding kept_up_to
   refused_for limit book opens has ours = let g = at_stop limit book opens has in g.cause (g.ours ∙ ours)
 
   pub lived_up_to : AreLivedUpTo m device lives told fault (medium_in after.state)
-  unfolding keeps
   lived_up_to = record {
     up_to = record { lived = lived; life = life; rest = others; lives_are = lives_are; kept = keeps };
     at = medium_in mid.state;
@@ -254,8 +194,8 @@ module _ (m : Sim) (device : Device) (rest : IsAtRest m) (unfused : m.power.fuse
     arming = last.refusals;
     arms = arms;
     start = last.start;
-    in_start_is = stop.counted ∙ ap (λ (x : Sim). has_refused (state_of x) (state_in after.state)) at_is;
-    refusals_are = refusals_are;
+    in_start_is = stop.counted;
+    refusals_are = refl;
     refused = refused_for;
     on = stop.on;
     size_stays = stop.size_stays;

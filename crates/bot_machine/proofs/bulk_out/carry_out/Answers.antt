@@ -1,4 +1,4 @@
-use Rattle.std.proofs.Common.{◌≡◌, ◌≤◌, ℕ, length, take, arith, refl, length-take}
+use Rattle.std.proofs.Common.{◌≡◌, ◌≤◌, ℕ, length, take, arith, length-take}
 use Rattle.std.specs.Prelude.{Result, Ok, Err}
 use Rattle.spec.specs.Sense.{Sense}
 use Rattle.spec.specs.Rules.{Intention}
@@ -18,10 +18,7 @@ use Rattle.bot_machine.proofs.bulk_out.carry_out.Goals as goal
 -- there is room for what is sent
 sent_fits : (intention : Intention) (limit size room : ℕ) → SendsAsMeant intention limit (let good : Result ℕ Sense = Ok size in good)
     → ((n : ℕ) → intention ≡ intent.In n → n ≤ room) → size ≤ room
-sent_fits intent.None limit size room sends fits = omega (arith, sends.none (λ n is. cc))
-sent_fits (intent.In n) limit size room sends fits = omega (arith, sends.sent n refl, fits n refl)
-sent_fits (intent.Out n) limit size room sends fits = omega (arith, sends.none (λ n is. cc))
-sent_fits (intent.Fail sense) limit size room sends fits = omega (arith, sends.none (λ n is. cc))
+sent_fits intention limit size room sends fits = grind (arith, sends.none, sends.sent, fits)
 
 pub returns-in-Ok-clause-carried_out : goal.returns-in-Ok-clause-carried_out
 returns-in-Ok-clause-carried_out g c = λ buffer left lies book fits.

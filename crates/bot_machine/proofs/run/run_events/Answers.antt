@@ -1,18 +1,12 @@
-use Rattle.std.proofs.Common.{◌++◌, ◌∷◌, [], length, take, refl, sym, ap, ◌∙◌, arith, append_assoc, length-append}
+use Rattle.std.proofs.Common.{◌++◌, ◌∷◌, [], take, refl, sym, ap, ◌∙◌, arith, append_assoc, length-append}
 use Rattle.std.proofs.lemmas.List.{take_all, take_more, append-nil}
-use Rattle.bot_machine.specs.Answers.{Room}
 use Rattle.bot_machine.proofs.Runs.{IsRun-more, no_run}
 use Rattle.bot_machine.proofs.run.run_events.Goals as goal
 
 pub loop-event-init : goal.loop-event-init
 loop-event-init g c =
     record {
-      run = (
-        [],
-        ap (λ told. record c.args.answers.now { list = told }) (sym (append-nil
-            c.args.answers.now.list)),
-        no_run g.M.Medium.state c.args.disk.now (g.met.M.Medium.sound c.args.disk.now.unit.store.medium),
-      );
+      run = ([], rw append-nil refl, no_run g.M.Medium.state c.args.disk.now (g.met.M.Medium.sound c.args.disk.now.unit.store.medium));
       follows = g.met.M.Medium.follows_itself c.args.disk.now.unit.store.medium;
       count = omega arith;
       room = refl;
@@ -20,20 +14,13 @@ loop-event-init g c =
 
 pub push-requires : goal.push-requires
 push-requires g c =
-    rw (c.loop-event.invariant.room) (omega (
-      arith,
-      c.loop-event.invariant.count,
-      c.loop-event-test.true,
-      c.requires,
-    ))
+    rw (c.loop-event.invariant.room) (omega (arith, c.loop-event.invariant.count, c.loop-event-test.true, c.requires))
 
 pub loop-event-preserved : goal.loop-event-preserved
 loop-event-preserved g c =
-    let state = g.M.Medium.state in
     let old = c.args.disk.now in
     let mid = c.loop-event.disk in
     let new = c.answer_to.new.disk in
-    let first = c.args.answers.now in
     let answer = c.answer_to.result in
     let so_far = c.loop-event.invariant.run in
     let i = c.loop-event.event-index in
@@ -43,23 +30,13 @@ loop-event-preserved g c =
     record {
       run = (
         so_far.0 ++ answer ∷ [],
-        c.push.ensures ∙ ap (λ (x : Room). record x { list = x.list ++ answer ∷ [] }) so_far.1
-            ∙ ap (λ told. record first { list = told }) (append_assoc first.list so_far.0
-            (answer ∷ [])),
-        rw e (IsRun-more state old mid new
-            (take i events) so_far.0
-            c.event-item.result answer so_far.2 c.answer_to.ensures.step),
+        rw (c.push.ensures, so_far.1, append_assoc) refl,
+        rw e (IsRun-more g.M.Medium.state old mid new (take i events) so_far.0 c.event-item.result answer so_far.2 c.answer_to.ensures.step),
       );
       follows = g.met.M.Medium.follows_through old.unit.store.medium mid.unit.store.medium new.unit.store.medium
           c.loop-event.invariant.follows c.answer_to.ensures.follows;
-      count = omega (
-        arith,
-        ap (λ (x : Room). length x.list) c.push.ensures,
-        length-append
-            c.loop-event.answers.list (answer ∷ []),
-        c.loop-event.invariant.count,
-      );
-      room = ap (λ (x : Room). x.room) c.push.ensures ∙ c.loop-event.invariant.room;
+      count = rw c.push.ensures (omega (arith, length-append c.loop-event.answers.list (answer ∷ []), c.loop-event.invariant.count));
+      room = rw (c.push.ensures, c.loop-event.invariant.room) refl;
     }
 
 pub returns : goal.returns

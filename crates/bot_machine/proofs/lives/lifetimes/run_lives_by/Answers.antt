@@ -1,8 +1,7 @@
-use Rattle.std.proofs.Common.{◌≡◌, ◌+◌, ℕ, List, [], take, drop, suc, length, length-append, refl, sym, subst, ◌∙◌, ap, arith}
+use Rattle.std.proofs.Common.{◌≡◌, ℕ, [], take, drop, suc, length, length-append, refl, sym, subst, ◌∙◌, ap, arith}
 use Rattle.std.proofs.lemmas.List.{take_all}
 use Rattle.bot_machine.specs.declared.lives.disk_state.DiskState.TheVariants.{Stopped}
 use Rattle.bot_machine.specs.Answers.{Room}
-use Rattle.spec.specs.Lives.{Action}
 use Rattle.bot_machine.specs.Device.{Device, device_by}
 use Rattle.bot_machine.specs.declared.lives.life.Life.{Life}
 use Rattle.spec.specs.Packets.{bytes_of}
@@ -54,8 +53,8 @@ returns-in-Err-clause-moves_until c =
       rw c.into_medium.ensures
           (lived_up_to c.args.medium (device_by c.args.identity c.args.size c.args.retiring) c.requires.rests c.requires.unfused
           c.loop-life.run c.live.new.run lived.told lives (take i lives) (drop (suc i) lives) life c.in-Err.fault
-          (apart lives i life c.loop-life-test.true c.life-item.is) lived.goes_on lived.one_each ended.rests ended.unfused
-          ended.alone c.in-Err.ensures.err.cause c.in-Err.ensures.err.stops),
+          (apart lives i life c.loop-life-test.true c.life-item.is) lived.goes_on lived.one_each ended
+          c.in-Err.ensures.err.cause c.in-Err.ensures.err.stops),
     )
 
 pub loop-life-preserved : goal.loop-life-preserved
@@ -69,12 +68,7 @@ loop-life-preserved c =
     (actions_of_all (take i lives)) (actions_of life) (events_in (take i lives)) (length life.events.items) c.loop-life.invariant.run
     c.in_default.ensures.ok in
     record {
-      run = subst (λ (n : ℕ). AppendsFor first c.live.new.run c.args.answers.now c.live.new.answers (actions_of_all (take (i + 1) lives)) n)
-          (sym (events_more lives i life below c.life-item.is))
-          (subst
-          (λ (l : List Action). AppendsFor first c.live.new.run c.args.answers.now c.live.new.answers l
-          (events_in (take i lives) + length life.events.items))
-          (sym (actions_more lives i life below c.life-item.is)) more);
+      run = rw (events_more lives i life below c.life-item.is, actions_more lives i life below c.life-item.is) more;
       ended = c.in_default.ensures.ended;
     }
 
@@ -90,21 +84,11 @@ returns-clause-moves c =
       run.appends,
       rw c.into_medium-2.ensures
           (all_lived c.args.medium (device_by c.args.identity c.args.size c.args.retiring) c.requires.rests c.requires.unfused
-          c.loop-life.run run.told lives run.goes_on run.one_each ended.rests ended.unfused ended.alone),
+          c.loop-life.run run.told lives run.goes_on run.one_each ended),
     )
 
 pub returns-clause-promise : goal.returns-clause-promise
-returns-clause-promise c =
-    let moves = returns-clause-moves c in (
-      moves.0,
-      moves.1,
-      moves.2.kept,
-    )
+returns-clause-promise c = let moves = returns-clause-moves c in (moves.0, moves.1, moves.2.kept)
 
 pub returns-in-Err-clause-promise_until : goal.returns-in-Err-clause-promise_until
-returns-in-Err-clause-promise_until c =
-    let moves = returns-in-Err-clause-moves_until c in (
-      moves.0,
-      moves.1,
-      moves.2.up_to,
-    )
+returns-in-Err-clause-promise_until c = let moves = returns-in-Err-clause-moves_until c in (moves.0, moves.1, moves.2.up_to)
