@@ -114,3 +114,5 @@ module _ (device : Device) where
       (sym (others ∙ ap (λ (m : Sim). on_medium m disk) e))
       (arms_so (fails call) (λ is. is) (Running disk) (Running (on_medium (failing call m) disk)) refl (omega arith)
       (refl, (refl, refl)) (λ here. (refl, refl)) (armed_running m.power.fuse (Some call) disk) (λ is unfused e. unfused e))
+
+pub ruleset arming = (arms_medium, arms_disk, fails_medium, fails_disk)

@@ -17,9 +17,7 @@ module _ (size : ℕ) (some : 0 < size) where
       → laid_out (packets_of size (slice_range xs from to)) halt status s ≡ record s {
         left = sending (packets_of size (slice_range xs from to)) halt status;
       }
-  laid_out-some xs from to halt status s h k =
-      let e = packets_of-some size some xs from to h k in
-      ap (λ p. laid_out p halt status s) e ∙ sym (ap (λ p. record s { left = sending p halt status }) e)
+  laid_out-some xs from to halt status s h k = rw (packets_of-some size some xs from to h k) refl
 
   -- what is laid out from the front of a buffer
   pub laid_out-front : (xs : List ℕ) (bytes : ℕ) (halt : Option Endpoint) (is_in : Bool) (status : List ℕ) (s : Line) → 0 < bytes
@@ -72,15 +70,9 @@ module _ (size : ℕ) (some : 0 < size) (locked out_halted : Bool) (status : Lis
       → after_in (open_to false (sending (packets_of size (slice_range xs from to)) (halt_of halt) status))
       ≡ open_to halt (sending [] None status)
   sent_last xs from to end halt h k e last =
-      ap (λ p. after_in (open_to false (sending p (halt_of halt) status))) (packets_of-range size some xs from to end h k e)
-      ∙ ap
-      (λ p. laid_out p (halt_of halt) status
-      (open_to false (sending (slice_range xs from end ∷ packets_of size (slice_range xs end to)) (halt_of halt) status)))
-      (packets_of-end size some xs end to last)
-      ∙ halt_last halt _
+      rw (packets_of-range size some xs from to end h k e, packets_of-end size some xs end to last) (halt_last halt _)
 
   pub answer_sent : (xs : List ℕ) (from to end : ℕ) (halt : Bool) → from < to → to ≤ length xs → end ≡ min to (from + size)
       → Data (record { items = slice_range xs from end })
       ≡ in_answer (open_to false (sending (packets_of size (slice_range xs from to)) (halt_of halt) status))
-  answer_sent xs from to end halt h k e =
-      sym (ap (λ p. in_answer (open_to false (sending p (halt_of halt) status))) (packets_of-range size some xs from to end h k e))
+  answer_sent xs from to end halt h k e = rw (packets_of-range size some xs from to end h k e) refl

@@ -214,8 +214,6 @@ module _ (device : Device) where
           → FitsLives (lives_at (Running old)) (record { place = place; armed = armed; limit = limit })
           → LivesGoTo (lives_at (Running new)) (record { place = place; armed = armed; limit = limit }) (plays event ∷ []) (answer ∷ [])
           (grew ∷ [])
-      ends_at (before_first book) armed limit fits = absurd fits.is_at
-      ends_at (between remains) armed limit fits = absurd fits.is_at
       ends_at (runs conversation) armed limit fits =
           let p = step.proceeds conversation.unit.book fits.is_at.fits in
           let there : Standing = record { place = runs (over new p.later); armed = armed; limit = limit } in
@@ -236,7 +234,7 @@ module _ (device : Device) where
             ours = p.ours;
             limit_stays = λ ours. refl;
           }
-      ends_at (off remains) armed limit fits = on_or_off old.unit.store.medium.power.off on fits.is_at
+      ends_at place armed limit fits = grind arith
 
       -- the power is on afterwards
       pub event_ends : LivesGoOn (lives_at (Running old)) (plays event ∷ []) (answer ∷ []) (lives_at (Running new))
@@ -250,8 +248,6 @@ module _ (device : Device) where
           → FitsLives (lives_at (Running old)) (record { place = place; armed = armed; limit = limit })
           → LivesGoTo (lives_at (Running new)) (record { place = place; armed = armed; limit = limit }) (plays event ∷ []) (Off ∷ [])
           (grew ∷ [])
-      cut_at (before_first book) armed limit fits = absurd fits.is_at
-      cut_at (between remains) armed limit fits = absurd fits.is_at
       cut_at (runs conversation) armed limit fits =
           let book = conversation.unit.book in
           let p = step.proceeds book fits.is_at.fits in
@@ -287,7 +283,7 @@ module _ (device : Device) where
             ours = refl;
             limit_stays = λ ours. refl;
           }
-      cut_at (off remains) armed limit fits = on_or_off old.unit.store.medium.power.off on fits.is_at
+      cut_at place armed limit fits = grind arith
 
       -- power went in it
       pub event_is_cut : LivesGoOn (lives_at (Running old)) (plays event ∷ []) (Off ∷ []) (lives_at (Running new))

@@ -41,6 +41,11 @@ LivesRun-append device xs ys told more refusals others a b c r s = absurd r
 pub counted : (xs ys : List Bool) (a b c : ℕ) → refused_events xs + a ≤ b → refused_events ys + b ≤ c → refused_events (xs ++ ys) + a ≤ c
 counted xs ys a b c h k = omega (arith, refused_events-append xs ys, h, k)
 
+-- where a start may be refused with fewer refusals counted
+pub more_refused : (book : Book) (fault : StartFault) (counted less failures : ℕ) → counted ≤ less → MayRefuse book less failures fault
+    → MayRefuse book counted failures fault
+more_refused book fault counted less failures few h = grind arith
+
 -- nothing is done
 pub rests : (lives : LivesValue) → LivesGoOn lives [] [] lives
 rests lives = record {
@@ -125,11 +130,6 @@ module _ (a b c : LivesValue) (xs ys : List Action) (told more : List Answer) (f
           ≤ refused_events next.refusals + (state_in b.state).failures
       less = let h = first.refused in omega (arith, refused_events-append first.refusals next.refusals, h)
 
-      causes : (book : Book) (fault : StartFault) (failures : ℕ)
-          → MayRefuse book (refused_events next.refusals + (state_in b.state).failures) failures fault
-          → MayRefuse book (refused_events (first.refusals ++ next.refusals) + (state_in a.state).failures) failures fault
-      causes book fault failures h = grind (arith, less)
-
       goes : (here : Standing) → FitsLives a here → LivesStopAt c here (xs ++ ys) answers (first.refusals ++ next.refusals)
           (refused_events (first.refusals ++ next.refusals) + (state_in a.state).failures) fault
       goes here fits =
@@ -142,7 +142,7 @@ module _ (a b c : LivesValue) (xs ys : List Action) (told more : List Answer) (f
             book = last.book;
             opens = last.opens;
             ours = last.ours ∙ mid.ours;
-            cause = λ ours. causes last.book fault (state_in c.state).failures (last.cause ours);
+            cause = λ ours. more_refused last.book fault _ _ (state_in c.state).failures less (last.cause ours);
             limited = λ ours.
                 subst (λ (n : ℕ). LeavesLimit n c.state) (mid.limit_stays (sym (last.ours ∙ mid.ours) ∙ ours)) (last.limited ours);
             found = last.found;

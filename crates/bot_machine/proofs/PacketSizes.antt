@@ -5,7 +5,7 @@ use Rattle.bot_machine.specs.declared.lives.disk_state.DiskState.{DiskState}
 use Rattle.bot_machine.specs.Device.{Device}
 use Rattle.spec.specs.Lives.{Action}
 use Rattle.bot_machine.specs.Moving.{Does, MovesBy}
-use Rattle.bot_machine.specs.LivesValue.{HasPackets}
+use Rattle.bot_machine.specs.LivesValue.{HasPackets, LivesGoOn}
 
 does_keep : (device : Device) (old : DiskState) (action : Action) (answers : List Answer) (new : DiskState)
     → Does device old action answers new
@@ -18,3 +18,9 @@ packets_stay device old new [] answers [] moves has = subst (HasPackets device.p
 packets_stay device old new (action ∷ actions) answers (refused ∷ refusals) moves has =
     packets_stay device moves.0 new actions moves.2 refusals moves.5 (does_keep device old action moves.1 moves.0 moves.4.does has)
 packets_stay device old new actions answers refusals moves has = absurd moves
+
+-- where lives go on, the size of their packets stays
+pub keeps_packets : (device : Device) (old new : DiskState) (actions : List Action) (answers : List Answer)
+    → LivesGoOn (record { device = device; state = old }) actions answers (record { device = device; state = new })
+    → HasPackets device.packet_size old → HasPackets device.packet_size new
+keeps_packets device old new actions answers goes has = packets_stay device old new actions answers goes.refusals goes.moves has

@@ -47,6 +47,7 @@ pub(crate) fn into_medium(state: DiskState) -> SimMedium
 }
 
 /// Arms a fuse.
+#[tactic(auto, using(crate::proofs::ArmedFaults::arming))]
 pub(crate) fn fuse(state: &mut DiskState, writes: u64)
     ensures goes_on { (device : Device) → LivesGoOn
         (record { device = device; state = state.old }) (arms writes ∷ []) []
@@ -60,6 +61,7 @@ pub(crate) fn fuse(state: &mut DiskState, writes: u64)
 }
 
 /// Arms a failure of one call.
+#[tactic(auto, using(crate::proofs::ArmedFaults::arming))]
 pub(crate) fn fail(state: &mut DiskState, call: u64)
     requires { 0 < call }
     ensures goes_on { (device : Device) → LivesGoOn

@@ -1,4 +1,4 @@
-use Rattle.std.proofs.Common.{◌≡◌, ◌≤◌, ℕ, length, take, arith, length-take}
+use Rattle.std.proofs.Common.{◌≡◌, ◌≤◌, ℕ, length, take, arith, rules, length-take}
 use Rattle.std.specs.Prelude.{Result, Ok, Err}
 use Rattle.spec.specs.Sense.{Sense}
 use Rattle.spec.specs.Rules.{Intention}
@@ -59,23 +59,14 @@ returns-in-Ok-clause-spares g c =
 
 pub returns-in-Ok-clause-passes : goal.returns-in-Ok-clause-passes
 returns-in-Ok-clause-passes g c =
-    let serves = c.in-Ok.ensures.serves in
-    let stays = serves.limit_stays in
+    let stays = c.in-Ok.ensures.serves.limit_stays in
     record {
       phase = c.conclude.ensures.phase _ _ (omega (arith, stays, c.in-Ok.ensures.passes.sends.most));
       limit = stays;
       size = c.conclude.ensures.size;
-      few = record {
-        calls = c.in-Ok.ensures.passes.calls.few;
-        sent = c.in-Ok.ensures.passes.calls.sent;
-        one_batch = c.in-Ok.ensures.passes.calls.bounded.one_batch.written;
-        layout_stays = serves.layout_stays;
-        policy_stays = serves.policy_stays;
-        headroom = c.in-Ok.ensures.sparing.headroom;
-        faulted = faulted_rests g.M.Medium.state _ _ _ _ _ c.in-Ok.ensures.sparing;
-      };
+      few = search (rules, faulted_rests g.M.Medium.state _ _ _ _ _ c.in-Ok.ensures.sparing);
       looks = rw c.as_slice.ensures.value at c.in-Ok.ensures.passes.calls.looks;
-      elapses = record { failures_stay = serves.failures_stay; size_stays = serves.size_stays };
+      elapses = search rules;
       follows = c.in-Ok.ensures.passes.follows;
     }
 
@@ -102,22 +93,12 @@ returns-in-Err-clause-spares g c = (
 )
 
 pub returns-in-Err-clause-passes : goal.returns-in-Err-clause-passes
-returns-in-Err-clause-passes g c =
-    let serves = c.in-Err.ensures.serves in
-    record {
-      phase = c.conclude-in-Err.ensures.phase _ _ (omega arith);
-      limit = serves.limit_stays;
-      size = c.conclude-in-Err.ensures.size;
-      few = record {
-        calls = c.in-Err.ensures.passes.calls.few;
-        sent = c.in-Err.ensures.passes.calls.sent;
-        one_batch = c.in-Err.ensures.passes.calls.bounded.one_batch.written;
-        layout_stays = serves.layout_stays;
-        policy_stays = serves.policy_stays;
-        headroom = c.in-Err.ensures.sparing.headroom;
-        faulted = faulted_rests g.M.Medium.state _ _ _ _ _ c.in-Err.ensures.sparing;
-      };
-      looks = rw c.as_slice.ensures.value at c.in-Err.ensures.passes.calls.looks;
-      elapses = record { failures_stay = serves.failures_stay; size_stays = serves.size_stays };
-      follows = c.in-Err.ensures.passes.follows;
-    }
+returns-in-Err-clause-passes g c = record {
+  phase = c.conclude-in-Err.ensures.phase _ _ (omega arith);
+  limit = c.in-Err.ensures.serves.limit_stays;
+  size = c.conclude-in-Err.ensures.size;
+  few = search (rules, faulted_rests g.M.Medium.state _ _ _ _ _ c.in-Err.ensures.sparing);
+  looks = rw c.as_slice.ensures.value at c.in-Err.ensures.passes.calls.looks;
+  elapses = search rules;
+  follows = c.in-Err.ensures.passes.follows;
+}
