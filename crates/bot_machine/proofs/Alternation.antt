@@ -48,26 +48,22 @@ told-owes case command intended (Err fault) s = told_at_once-owes (case_if_faile
 took : (packet : List ℕ) (left : Script) → Owes (Some (field_at packet 4)) left
     → Next None (marks_of_out false finished packet left) left
 took packet finished owes = absurd owes
-took packet (taking case command intended bytes due) owes = (Some (field_at packet 4), owes, λ rest turns. turns)
-took packet (sending packets halt status) owes = (Some (field_at packet 4), owes, λ rest turns. turns)
+took packet left owes = (Some (field_at packet 4), owes, λ rest turns. turns)
 
 -- a token to Bulk-In
 in_next : (owed : Option ℕ) (halted : Bool) (left : Script) (s : Line) → s.left ≡ left → Owes owed left
     → Next owed (marks_of_in halted left) (if halted then s else after_packet left s).left
-in_next owed true left s e owes = keeps owed s.left (rw e owes)
-in_next owed false finished s e owes = keeps owed s.left (rw e owes)
-in_next owed false (taking case command intended bytes due) s e owes = keeps owed s.left (rw e owes)
 in_next None false (sending packets halt status) s e owes = absurd owes
 in_next (Some tag) false (sending [] halt status) s e owes = (None, tt, λ rest turns. (owes, turns))
 in_next (Some tag) false (sending (packet ∷ packets) halt status) s e owes =
     keeps (Some tag) _ (laid_out-owes tag packets halt status s owes)
+in_next owed halted left s e owes = keeps owed s.left (rw e owes)
 
 -- a setup packet
 setup_keeps : (owed : Option ℕ) (left : Script) → Owes owed left → Next owed (marks_of_setup left) left
 setup_keeps None finished owes = (None, tt, λ rest turns. turns)
 setup_keeps (Some tag) finished owes = absurd owes
-setup_keeps owed (taking case command intended bytes due) owes = keeps owed _ owes
-setup_keeps owed (sending packets halt status) owes = keeps owed _ owes
+setup_keeps owed left owes = keeps owed left owes
 
 drops_all : (owed : Option ℕ) → Next owed (marks_of_setup finished) finished
 drops_all None = (None, tt, λ rest turns. turns)

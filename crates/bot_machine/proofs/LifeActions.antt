@@ -29,7 +29,7 @@ use Rattle.bot_machine.specs.Disk.{DiskValue, over, FitsDisk, IsStep}
 use Rattle.spec.specs.Rules.{UnitState}
 use Rattle.scsi_unit.specs.UnitValue.{unit_limit}
 use Rattle.bot_machine.proofs.UnitLaws.{limit_between_calls}
-use Rattle.spec.specs.Lives.{Action, plays, cuts, Remains, Place, before_first, between, runs, off, Standing, after_cut, LivesStep}
+use Rattle.spec.specs.Lives.{Action, plays, cuts, Remains, Place, before_first, runs, off, Standing, after_cut, LivesStep}
 use Rattle.spec.specs.Lives.{LivesRun}
 use Rattle.spec.specs.Blocks.{Array}
 use Rattle.bot_machine.specs.Moving.{Does, EventMovesIn, EventMoves}

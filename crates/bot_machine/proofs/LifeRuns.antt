@@ -151,10 +151,7 @@ module _ (a b c : LivesValue) (xs ys : List Action) (told more : List Answer) (f
 -- appending, and then more, is appending all
 pub appended : (first mid last : Room) (told more : List Answer) → mid ≡ record first { list = first.list ++ told }
     → last ≡ record mid { list = mid.list ++ more } → last ≡ record first { list = first.list ++ (told ++ more) }
-appended first mid last told more e f =
-    f
-    ∙ ap (λ (x : Room). record x { list = x.list ++ more }) e
-    ∙ ap (λ (l : List Answer). record first { list = l }) (append_assoc first.list told more)
+appended first mid last told more e f = rw (f, e, append_assoc) refl
 
 -- one more part of lives, and its answers
 pub appends_on : (a b c : LivesValue) (first mid last : Room) (xs ys : List Action) (m n : ℕ)

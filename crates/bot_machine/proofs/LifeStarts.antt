@@ -1,5 +1,5 @@
 -- How a life begins: what the medium was left with is what the life opens with.
-use Rattle.std.proofs.Common.{◌≡◌, ◌≤◌, ◌⊎◌, ℕ, Bool, true, false, [], Some, None, Option, refl, sym, subst, ◌∙◌, ap, inl, inr, arith}
+use Rattle.std.proofs.Common.{◌≡◌, ◌≤◌, ◌⊎◌, ℕ, Bool, true, false, [], Some, None, Option, refl, sym, ◌∙◌, ap, inl, inr, arith}
 use Rattle.std.proofs.lemmas.Bool.{false≢true, cases_Bool}
 use Rattle.spec.specs.Blocks.{Write, Array}
 use Rattle.medium.specs.Medium.{State, Image}
@@ -12,7 +12,7 @@ use Rattle.spec.specs.Book.{Book, after_first, opened, with_write}
 use Rattle.scsi_unit.specs.Books.{StandsAs, MayFind, FoundWith}
 use Rattle.spec.specs.Rules.{with_progress}
 use Rattle.bot_machine.specs.Device.{Device}
-use Rattle.scsi_unit.specs.Starting.{IsOursForSome, StandsForOpening, OpensOn, blocks_of}
+use Rattle.scsi_unit.specs.Starting.{IsOursForSome, OpensOn, blocks_of}
 use Rattle.bot_machine.specs.Disk.{DiskValue, FitsDisk}
 use Rattle.bot_machine.specs.Opening.{IsOpened}
 use Rattle.spec.specs.Lives.{Remains, Place, before_first, between, runs, off, Standing, Presentation, IsLeft, Opens, KeepsLimit, LifeBegins, StartsAt}
@@ -68,17 +68,14 @@ with_blocks size image (shape, array, next, is) = (shape.blocks, array, next, (s
 pub first_found : (m : Sim) (book : Book) → m.unflushed ≡ [] → OpensOn (state_of m) book → book.ours ≡ true
     → EachCut (FoundAt (state_of m).size (before_first book)) (state_of m)
 first_found m book none h ours image cut =
-    let size = (state_of m).size in
-    let same : image ≡ (state_of m).content = only_image (state_of m).content (state_of m).may_leave (none_flushed m none) image cut in
-    knows_images.ours_for size book image (subst (StandsForOpening size book) (sym same) h.stands)
-    (with_shape size image (h.ours ours image cut))
+    let same = only_image (state_of m).content (state_of m).may_leave (none_flushed m none) image cut in
+    knows_images.ours_for (state_of m).size book image (rw same h.stands) (with_shape (state_of m).size image (h.ours ours image cut))
 
 -- nothing is unflushed: what the contents have every image has
 pub first_limited : (m : Sim) (limit : ℕ) → m.unflushed ≡ [] → HasLimit (state_of m).size limit (state_of m).content
     → LeavesLimit limit (Stopped m)
 first_limited m limit none has image cut =
-    let same : image ≡ (state_of m).content = only_image (state_of m).content (state_of m).may_leave (none_flushed m none) image cut in
-    subst (HasLimit (state_of m).size limit) (sym same) has
+    rw (only_image (state_of m).content (state_of m).may_leave (none_flushed m none) image cut) has
 
 -- what a life has left is ours
 pub remains_ours : (m : State) (remains : Remains) → EachCut (FoundAt m.size (between remains)) m → EachCut (IsOursForSome m.size) m

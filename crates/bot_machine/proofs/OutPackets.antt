@@ -65,12 +65,12 @@ pub named_in : {M : Type 0} (before after : State) (disk : DiskValue M) (happens
     → ((s : ℕ) → At s → ReadsAt disk happens s) → LooksBesides At before after disk.unit → LooksIn before after disk happens
 named_in before after disk happens At told looks = besides before after disk.unit At (ReadsAt disk happens) told looks
 
-module _ {M : Type 0} (before after : State) (old new : DiskValue M) (packet : List ℕ) (told : Answer) where
+module _ {M : Type 0} (before after : State) (old new : DiskValue M) (packet : List ℕ) where
   -- what a packet does where Bulk-Out is halted or not, and this is left of the exchange
   pub record DoesFor (halted : Bool) (left : Script) : Type 0 where
     pub proceeds : (book : Book) → FitsDisk before old book → Proceeds before after old.unit new.unit
         (λ unit later. OutStep Intends CarriesOut Ticks (has_refused before after) halted left packet
-        (on_line old.line unit) told (on_line new.line later))
+        (on_line old.line unit) answer.Ack (on_line new.line later))
         (write_of_packet old.line.packet_size halted left packet (state_of old.unit book)) book
     pub rests : (book : Book) → FitsDisk before old book
         → ((block taken : List ℕ) → PacketCarriesOut old.line.packet_size halted left packet (state_of old.unit book) block taken → ⊥)
@@ -79,34 +79,29 @@ module _ {M : Type 0} (before after : State) (old new : DiskValue M) (packet : L
         → PacketCarriesOut old.line.packet_size halted left packet (state_of old.unit book) block taken
         → (answer : Result (List ℕ) Sense) × IsSparing before after block taken old.unit answer new.unit
         × IsBounded before after block taken old.unit × Tells answer new.line
-    pub few : TakesFew before after old.unit new.unit
     pub sends : (book : Book) → IsOfSize old.unit book → SendsBy before after old.unit (state_of old.unit book)
         (PacketCarriesOut old.line.packet_size halted left packet (state_of old.unit book))
-    pub looks : LooksIn before after old (event.Out (record { items = packet }))
-    pub elapses : Elapses before after
-    pub limit_stays : unit_limit new.unit ≡ unit_limit old.unit
-    pub packets_stay : new.line.packet_size ≡ old.line.packet_size
-
-  does : DoesFor old.line.out_halted old.line.left
-      → IsStep before after old (event.Out (record { items = packet })) told new
-  does d = record {
-    proceeds = d.proceeds;
-    rests = λ book fits none. d.rests book fits (λ block taken carries. none (block, taken, carries));
-    ticks = tt;
-    spares = d.spares;
-    few = d.few;
-    plain = λ book size. (d.sends book size).plain;
-    quiet = λ book size. (d.sends book size).quiet;
-    looks = d.looks;
-    elapses = d.elapses;
-    limit_stays = d.limit_stays;
-    packets_stay = d.packets_stay;
-  }
 
   does_for : (halted : Bool) (left : Script) → halted ≡ old.line.out_halted → left ≡ old.line.left → DoesFor halted left
-      → IsStep before after old (event.Out (record { items = packet })) told new
-  does_for halted left same_halt same_left d =
-      does (subst (λ h. DoesFor h old.line.left) same_halt (subst (λ l. DoesFor halted l) same_left d))
+      → (At : ℕ → Type 0) → ((s : ℕ) → At s → ReadsAt old (event.Out (record { items = packet })) s)
+      → TakesFew before after old.unit new.unit → LooksBesides At before after old.unit → Elapses before after
+      → unit_limit new.unit ≡ unit_limit old.unit → new.line.packet_size ≡ old.line.packet_size
+      → IsStep before after old (event.Out (record { items = packet })) answer.Ack new
+  does_for halted left same_halt same_left does At reads few looks elapses limit size =
+      let d = subst (λ h. DoesFor h old.line.left) same_halt (subst (λ l. DoesFor halted l) same_left does) in
+      record {
+        proceeds = d.proceeds;
+        rests = λ book fits none. d.rests book fits (λ block taken carries. none (block, taken, carries));
+        ticks = tt;
+        spares = d.spares;
+        few = few;
+        plain = λ book size. (d.sends book size).plain;
+        quiet = λ book size. (d.sends book size).quiet;
+        looks = named_in before after old (event.Out (record { items = packet })) At reads looks;
+        elapses = elapses;
+        limit_stays = limit;
+        packets_stay = size;
+      }
 
 -- an event that has the unit do nothing
 nothing_done : {M : Type 0} (m : State) (disk : DiskValue M) (line : Line) (happens : Event) (told : Answer) → IsSound m
@@ -154,19 +149,15 @@ pub begins : {M : Type 0} (before after : State) (old new : DiskValue M) (packet
     → unit_limit new.unit ≡ unit_limit old.unit → new.line.packet_size ≡ old.line.packet_size
     → IsStep before after old (event.Out (record { items = packet })) answer.Ack new
 begins before after old new packet halted left opens rests spares sends few looks elapses limit size =
-    does_for before after old new packet answer.Ack false finished halted left (record {
+    does_for before after old new packet false finished halted left (record {
       proceeds = λ book fits. proceeding_so before after old.unit new.unit _ _ None None book (opens book fits) refl
           (λ later moves. (refl, moves));
       rests = rests;
       spares = spares;
-      few = few;
       sends = sends;
-      looks = named_in before after old (event.Out (record { items = packet })) (WrapperReadsAt old.unit packet)
-          (λ s at. (at.0, record { unhalted = sym halted; expected = sym left; wrapper = at.1 }, at.2)) looks;
-      elapses = elapses;
-      limit_stays = limit;
-      packets_stay = size;
     })
+    (WrapperReadsAt old.unit packet)
+    (λ s at. (at.0, record { unhalted = sym halted; expected = sym left; wrapper = at.1 }, at.2)) few looks elapses limit size
 
 -- a packet where data is expected
 pub goes_on : {M : Type 0} (before after : State) (old new : DiskValue M) (packet : List ℕ) (t : Taking) (taken : List ℕ)
@@ -179,18 +170,14 @@ pub goes_on : {M : Type 0} (before after : State) (old new : DiskValue M) (packe
     → unit_limit new.unit ≡ unit_limit old.unit → new.line.packet_size ≡ old.line.packet_size
     → IsStep before after old (event.Out (record { items = packet })) answer.Ack new
 goes_on before after old new packet t taken halted left takes rests spares sends few looks elapses limit size =
-    does_for before after old new packet answer.Ack false (taking_of t taken) halted left (record {
+    does_for before after old new packet false (taking_of t taken) halted left (record {
       proceeds = λ book fits. proceeding_so before after old.unit new.unit _ _ _ _ book (takes book fits) refl
           (λ later moves. (refl, moves));
       rests = rests;
       spares = spares;
-      few = few;
       sends = sends;
-      looks = named_in before after old (event.Out (record { items = packet })) (λ _. ⊥) (λ s at. absurd at) looks;
-      elapses = elapses;
-      limit_stays = limit;
-      packets_stay = size;
     })
+    (λ _. ⊥) (λ s at. absurd at) few looks elapses limit size
 
 -- a step in the background
 pub ticked : {M : Type 0} (work : Work) (before after : State) (old new : DiskValue M)

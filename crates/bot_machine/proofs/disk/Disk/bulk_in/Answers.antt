@@ -1,4 +1,4 @@
-use Rattle.std.proofs.Common.{◌≤◌, ◌<◌, ◌-◌, inl, inr, length, drop, sym, ap, refl, arith, length-take}
+use Rattle.std.proofs.Common.{◌≤◌, ◌<◌, ◌-◌, inl, inr, length, drop, slice_range, sym, ap, refl, arith, length-take}
 use Rattle.std.proofs.lemmas.Bool.{cases_lt}
 use Rattle.spec.specs.Exchange.{Line}
 use Rattle.bot_machine.specs.Disk.{DiskValue}
@@ -17,6 +17,10 @@ returns-in-DataIn g c =
     let there : i.to ≤ length d.transfer.items = omega (arith, c.self.invariant.room, held.1) in
     let moves = c.move_on-end.ensures in
     let e = c.move_on-end.result in
+    let answer = answer_sent (bytes_of d.bulk.size) (some_bytes d.bulk.size) d.bulk.locked d.bulk.out_halted d.bulk.status
+    d.transfer.items i.from i.to e i.halt some there moves.ends in
+    let fits : length (slice_range d.transfer.items i.from e) ≤ bytes_of d.bulk.size =
+    omega (arith, moves.ends, length-take (e - i.from) (drop i.from d.transfer.items)) in
     elim (cases_lt c.move_on-end.result i.to) [
       | inl more ↦
           rw (← c.self.view_is, c.in-DataIn.is, c.deref.ensures.value, moves.more more, c.if-self.false) (
@@ -27,13 +31,7 @@ returns-in-DataIn g c =
                   (sym (sent_more (bytes_of d.bulk.size) (some_bytes d.bulk.size) d.bulk.locked d.bulk.out_halted d.bulk.status
                   d.transfer.items i.from i.to e i.halt some there moves.ends more)),
             ),
-            record {
-              after = tt;
-              answer = answer_sent (bytes_of d.bulk.size) (some_bytes d.bulk.size) d.bulk.locked d.bulk.out_halted d.bulk.status
-                  d.transfer.items i.from i.to e i.halt some there moves.ends;
-              fits = omega (arith, moves.ends, length-take (e - i.from) (drop i.from d.transfer.items));
-              most = (few_bytes d.bulk.size).1;
-            },
+            record { after = tt; answer = answer; fits = fits; most = (few_bytes d.bulk.size).1 },
           )
       | inr last ↦
           rw (← c.self.view_is, c.in-DataIn.is, c.deref.ensures.value, moves.last last, c.if-self.false) (
@@ -44,12 +42,6 @@ returns-in-DataIn g c =
                   (sym (sent_last (bytes_of d.bulk.size) (some_bytes d.bulk.size) d.bulk.locked d.bulk.out_halted d.bulk.status
                   d.transfer.items i.from i.to e i.halt some there moves.ends last)),
             ),
-            record {
-              after = tt;
-              answer = answer_sent (bytes_of d.bulk.size) (some_bytes d.bulk.size) d.bulk.locked d.bulk.out_halted d.bulk.status
-                  d.transfer.items i.from i.to e i.halt some there moves.ends;
-              fits = omega (arith, moves.ends, length-take (e - i.from) (drop i.from d.transfer.items));
-              most = (few_bytes d.bulk.size).1;
-            },
+            record { after = tt; answer = answer; fits = fits; most = (few_bytes d.bulk.size).1 },
           )
     ]
