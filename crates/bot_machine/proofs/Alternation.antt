@@ -12,7 +12,8 @@ use Rattle.spec.specs.declared.event.Event.TheVariants as event
 use Rattle.spec.specs.declared.event.Answer.{Answer}
 use Rattle.spec.specs.CommandWrapper.{field_at}
 use Rattle.spec.specs.Requests.{Request}
-use Rattle.spec.specs.Exchange.{Script, finished, taking, sending, Line, laid_out, Moment, moment_of, told, told_at_once, after_packet, after_request}
+use Rattle.spec.specs.Exchange.{Script, finished, taking, sending, Line, laid_out, Moment, moment_of, told}
+use Rattle.spec.specs.Exchange.{told_at_once, after_packet, after_request}
 use Rattle.spec.specs.Exchange.{sent_in, case_if_failed}
 use Rattle.spec.specs.Conversation.{Conversation, Begins, OutStep, SetupStep, Step, Run}
 use Rattle.bot_machine.specs.Turns.{Mark, marks_of_out, marks_of_in, marks_of_setup, marks_of, IsStatusOf, ByTurns, marks_in}
@@ -69,7 +70,8 @@ drops_all : (owed : Option ℕ) → Next owed (marks_of_setup finished) finished
 drops_all None = (None, tt, λ rest turns. turns)
 drops_all (Some tag) = (None, tt, λ rest turns. turns)
 
-after_request-left : (request : Request) (s : Line) → ((after_request request s).left ≡ s.left) ⊎ ((after_request request s).left ≡ finished)
+after_request-left : (request : Request) (s : Line)
+    → ((after_request request s).left ≡ s.left) ⊎ ((after_request request s).left ≡ finished)
 after_request-left request s = grind arith
 
 setup_next : (owed : Option ℕ) (packet : List ℕ) (old : Line) (answer : Answer) (new : Line) → SetupStep packet old answer new

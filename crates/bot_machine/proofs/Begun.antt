@@ -21,7 +21,8 @@ use Rattle.bot_machine.specs.Disk.{DiskValue, over}
 use Rattle.spec.specs.UnitConversation.{on_line}
 use Rattle.bot_machine.specs.Opening.{IsOpened, IsNotOpened, StartLeaves}
 use Rattle.spec.specs.Lives.{starts, Place, runs, off, Standing, Opens, KeepsLimit, started, LifeBegins}
-use Rattle.bot_machine.specs.LivesValue.{medium_in, state_in, HasBegun, HasLimit, book_at, LeavesLimit, FitsLives, LivesGoTo, LivesGoOn, MayRefuse}
+use Rattle.bot_machine.specs.LivesValue.{medium_in, state_in, HasBegun, HasLimit, book_at, LeavesLimit, FitsLives}
+use Rattle.bot_machine.specs.LivesValue.{LivesGoTo, LivesGoOn, MayRefuse}
 use Rattle.bot_machine.specs.LivesValue.{LivesStop}
 use Rattle.scsi_unit.specs.Serving.{has_refused}
 use Rattle.bot_machine.specs.Moving.{StartsIn}
@@ -129,7 +130,8 @@ module _ (device : Device) (m : Sim) (on : m.power.off ≡ false) where
         ∙ ap (λ (u : UnitState). on_line (at_rest device.packet_size) u) (is_opened.unit h.book)) in
         elim (cases_Bool new.power.off) [
           | inl is_off ↦ power_went (Running disk) follows is_off here fits.unfused h.book (unit_limit disk.unit) h.opens h.ours keeps.0
-              (λ ours. subst (λ (n : ℕ). EachCut (HasLimit (state_of new).size n) (state_of new)) (keeps.1 (sym h.ours ∙ ours)) (limited ours))
+              (λ ours. subst (λ (n : ℕ). EachCut (HasLimit (state_of new).size n) (state_of new)) (keeps.1 (sym h.ours ∙ ours))
+              (limited ours))
               found
           | inr still ↦ record {
             there = record here { place = runs (started (unit_limit disk.unit) (presented device) h.book); limit = unit_limit disk.unit };

@@ -74,7 +74,8 @@ token halted left line answers is ends = grind arith
 
 -- the end of a halt
 cleared : (packet : List ℕ) (end : Endpoint) (old new : Line) (answer : Answer) → packet ≡ setup_packet (clear_halt end)
-    → SetupStep packet old answer new → (new.left ≡ old.left) × ((answers : List Answer) → packets_in (answer ∷ answers) ≡ packets_in answers)
+    → SetupStep packet old answer new → (new.left ≡ old.left)
+    × ((answers : List Answer) → packets_in (answer ∷ answers) ≡ packets_in answers)
 cleared packet end old new answer asks step = grind (arith, one_request)
 
 quiet : (left : Script) (answer : Answer) (answers : List Answer) → packets_in (answer ∷ answers) ≡ packets_in answers

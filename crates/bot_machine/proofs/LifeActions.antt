@@ -115,7 +115,8 @@ module _ (device : Device) where
       (allowed : CutLeaves (state_in state).may_leave (state_of new).content) (flushed : IsFlushed (state_of new))
       (size : (state_of new).size ≡ (state_in state).size) where
     -- what a cut leaves afterwards, it could have left before
-    left_before : (P : ℕ → Image → Type 0) → EachCut (P (state_in state).size) (state_in state) → EachCut (P (state_of new).size) (state_of new)
+    left_before : (P : ℕ → Image → Type 0) → EachCut (P (state_in state).size) (state_in state)
+        → EachCut (P (state_of new).size) (state_of new)
     left_before P each image left =
         rw (size, only_image (state_of new).content (state_of new).may_leave flushed image left) (each (state_of new).content allowed)
 
@@ -123,7 +124,9 @@ module _ (device : Device) where
     content_has : (P : ℕ → Image → Type 0) → (medium_in state).unflushed ≡ [] → P (state_in state).size (state_in state).content
         → P (state_of new).size (state_of new).content
     content_has P none h =
-        rw (size, only_image (state_in state).content (state_in state).may_leave (none_flushed (medium_in state) none) (state_of new).content allowed) h
+        let same = only_image (state_in state).content (state_in state).may_leave (none_flushed (medium_in state) none)
+        (state_of new).content allowed in
+        rw (size, same) h
 
     cut_place : (place : Place) → IsAt place state → IsAt (after_cut place) (Stopped new)
     cut_place (before_first book) is =
@@ -143,7 +146,8 @@ module _ (device : Device) where
     cut_found (runs conversation) h ours = left_before (λ n. MayFind n conversation.unit.book) (h ours)
     cut_found place h ours = left_before (λ n. FoundAt n place) (h ours)
 
-    cut_limit_at : (place : Place) (limit : ℕ) → IsAt place state → LimitAt place limit state → LimitAt (after_cut place) limit (Stopped new)
+    cut_limit_at : (place : Place) (limit : ℕ) → IsAt place state → LimitAt place limit state
+        → LimitAt (after_cut place) limit (Stopped new)
     cut_limit_at (before_first book) limit is h = content_has (λ n. HasLimit n limit) (first_at state book is).0 h
     cut_limit_at place limit is h = tt
 

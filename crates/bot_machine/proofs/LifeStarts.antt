@@ -15,7 +15,8 @@ use Rattle.bot_machine.specs.Device.{Device}
 use Rattle.scsi_unit.specs.Starting.{IsOursForSome, OpensOn, blocks_of}
 use Rattle.bot_machine.specs.Disk.{DiskValue, FitsDisk}
 use Rattle.bot_machine.specs.Opening.{IsOpened}
-use Rattle.spec.specs.Lives.{Remains, Place, before_first, between, runs, off, Standing, Presentation, IsLeft, Opens, KeepsLimit, LifeBegins, StartsAt}
+use Rattle.spec.specs.Lives.{Remains, Place, before_first, between, runs, off}
+use Rattle.spec.specs.Lives.{Standing, Presentation, IsLeft, Opens, KeepsLimit, LifeBegins, StartsAt}
 use Rattle.bot_machine.specs.LivesValue.{HasLimit, IsAt, LimitAt, book_at, LeavesLimit, FoundAt}
 use Rattle.bot_machine.specs.declared.lives.disk_state.DiskState.TheVariants.{Stopped}
 use Rattle.bot_machine.proofs.UnitLaws.{knows_images}

@@ -108,7 +108,8 @@ module _ (size : ℕ) (some : 0 < size) (case : Case) (command : Cbw) (intended 
       → UnitStep false old (packet_out packet) answer mid → HasStamps old (packet_out packet)
       → ((answer ≡ Ack) × Takes Intends CarriesOut Ticks false case command intended came due packet (from old came due) mid)
       × HasStamps (from old came due) (packet_out packet)
-  takes old mid came due packet answer awaits step stamps = (rw (awaits.halted, awaits.left) at step, rw (awaits.halted, awaits.left) at stamps)
+  takes old mid came due packet answer awaits step stamps =
+      (rw (awaits.halted, awaits.left) at step, rw (awaits.halted, awaits.left) at stamps)
 
   module _ (rest came : List ℕ) (answers : List Answer) (old : Conversation UnitState) (awaits : Awaits old came (length rest))
       (f : First old new (packet_out (take size rest)) (map packet_out (packets_of size (drop size rest)) ++ asks) answers) where
@@ -144,7 +145,8 @@ module _ (size : ℕ) (some : 0 < size) (case : Case) (command : Cbw) (intended 
                   mid = f.mid;
                   unit_is = refl;
                   size_is = sized;
-                  carried = subst (λ p. IsCarriedOut Intends CarriesOut Ticks false case command intended (take (size_of_way intended) (came ++ p))
+                  carried = subst (λ p. IsCarriedOut Intends CarriesOut Ticks false case command intended
+                      (take (size_of_way intended) (came ++ p))
                       (from old came (length rest)) f.mid) all l.carried_out;
                   stamps = subst (λ p. ¬ StampsOut (with_progress old.unit.book
                       (write_in_progress old.unit command.block.items (take (size_of_way intended) (came ++ p))))) all
@@ -176,8 +178,8 @@ opened : (size : ℕ) (wrapper : List ℕ) (command : Cbw) → SpellsCommand wra
 opened size wrapper command spelled old mid answer (ack, inl opens) = (ack, opens)
 opened size wrapper command spelled old mid answer (ack, inr locks) = absurd (locks.unknown command spelled)
 
-module _ (size : ℕ) (some : 0 < size) (t : Transfer) (old new : UnitState) (asks : List Event) (only : All Asks asks) (answers : List Answer)
-    (f : First (on_line (at_rest size) old) (on_line (at_rest size) new) (packet_out t.wrapper)
+module _ (size : ℕ) (some : 0 < size) (t : Transfer) (old new : UnitState) (asks : List Event) (only : All Asks asks)
+    (answers : List Answer) (f : First (on_line (at_rest size) old) (on_line (at_rest size) new) (packet_out t.wrapper)
     (map packet_out (packets_of size t.sent) ++ asks) answers) (ack : f.answer ≡ Ack) (case : Case) (intended : Way)
     (intends : Intends old t.command.block.items intended) (is_case : IsCase case t.command.host intended) where
   abbrev end : Conversation UnitState
@@ -190,11 +192,12 @@ module _ (size : ℕ) (some : 0 < size) (t : Transfer) (old new : UnitState) (as
       let asked = asks_end asks only f.later f.mid end (rw (none, packets_of-none size some) at f.run) refl in
       absurd (rw awaits.left at asked.0)
   by_data (byte ∷ bytes) is awaits same =
-      let whole : length t.sent ≡ size_of_way t.command.host = ⊎_elim (λ none. absurd (let e = sym none ∙ is in cc)) (λ all. all) t.announced in
+      let whole : length t.sent ≡ size_of_way t.command.host =
+      ⊎_elim (λ none. absurd (let e = sym none ∙ is in cc)) (λ all. all) t.announced in
       let d = all_taken size some case t.command intended asks only end refl (length t.sent) t.sent [] f.later f.mid (omega arith)
       (rw is (omega arith)) (rw whole awaits) f.run in
-      rw (← same, ← d.unit_is) (heard_of size some case t.command intended asks only end refl _ d.from d.mid [] answers d.later d.stamps d.size_is
-      d.carried (rw (f.told, ack) d.same) d.run)
+      rw (← same, ← d.unit_is) (heard_of size some case t.command intended asks only end refl _ d.from d.mid [] answers d.later d.stamps
+      d.size_is d.carried (rw (f.told, ack) d.same) d.run)
 
   outcome : (moment : Moment) → moment ≡ moment_of case
       → Begins Intends CarriesOut Ticks false moment case t.command intended (on_line (at_rest size) old) f.mid

@@ -31,7 +31,8 @@ loop-event-preserved g c =
       run = (
         so_far.0 ++ answer ∷ [],
         rw (c.push.ensures, so_far.1, append_assoc) refl,
-        rw e (IsRun-more g.M.Medium.state old mid new (take i events) so_far.0 c.event-item.result answer so_far.2 c.answer_to.ensures.step),
+        rw e (IsRun-more g.M.Medium.state old mid new (take i events) so_far.0 c.event-item.result answer so_far.2
+            c.answer_to.ensures.step),
       );
       follows = g.met.M.Medium.follows_through old.unit.store.medium mid.unit.store.medium new.unit.store.medium
           c.loop-event.invariant.follows c.answer_to.ensures.follows;
