@@ -1,5 +1,5 @@
 -- Lines that act on lives, one after another.
-use Rattle.std.proofs.Common.{◌≡◌, ℕ, List, [], ◌∷◌, ◌++◌, Option, refl, subst}
+use Rattle.std.proofs.Common.{◌≡◌, ℕ, List, [], ◌∷◌, ◌++◌, Option, refl}
 use Rattle.std.specs.Prelude.{All, flat_map}
 use Rattle.medium.specs.Sim.{Sim}
 use Rattle.spec.specs.Lives.{Action}
@@ -8,25 +8,20 @@ use Rattle.runner.specs.declared.fault.ScriptFault.{ScriptFault}
 use Rattle.runner.specs.declared.kept.KeptWrites.{KeptWrites}
 use Rattle.runner.specs.declared.line.ScriptKind.TheVariants.{Lives}
 use Rattle.runner.specs.declared.line.ScriptLine.{ScriptLine}
-use Rattle.runner.specs.declared.line.ScriptLine.TheVariants.{Skipped, Out, Fill, In, Setup, Tick, Fuse, Fail, Cut}
+use Rattle.runner.specs.declared.line.ScriptLine.TheVariants.{Fuse, Fail, Cut}
 use Rattle.runner.specs.Events.{events_of}
 use Rattle.runner.specs.Line.{Spells, IsScriptLine}
 use Rattle.runner.specs.Lifetimes.{comes, actions_of, LineActs}
 use Rattle.runner.specs.PlayedLives.{TellsLives, BreaksOff, PlaysAll, PlaysUpTo}
 use Rattle.runner.proofs.LifeActions.{tells-none, tells-more, ends-behind}
-use Rattle.runner.proofs.InTurn.{IsGivenTo, given-start, given-more, given-all, given-part}
+use Rattle.runner.proofs.InTurn.{IsGivenTo, given-start, given-more, given-all, given-part, gives_some}
 
 acts_by_events : (asked : ScriptLine) → ((writes : ℕ) → asked ≡ Fuse writes → ⊥) → ((call : ℕ) → asked ≡ Fail call → ⊥)
     → ((kept : KeptWrites) → asked ≡ Cut kept → ⊥) → flat_map comes (events_of asked) ≡ actions_of asked
-acts_by_events Skipped no_fuse no_fail no_cut = refl
-acts_by_events (Out packet) no_fuse no_fail no_cut = refl
-acts_by_events (Fill byte count size) no_fuse no_fail no_cut = refl
-acts_by_events In no_fuse no_fail no_cut = refl
-acts_by_events (Setup packet) no_fuse no_fail no_cut = refl
-acts_by_events (Tick count) no_fuse no_fail no_cut = refl
 acts_by_events (Fuse writes) no_fuse no_fail no_cut = absurd (no_fuse writes refl)
 acts_by_events (Fail call) no_fuse no_fail no_cut = absurd (no_fail call refl)
 acts_by_events (Cut kept) no_fuse no_fail no_cut = absurd (no_cut kept refl)
+acts_by_events _ no_fuse no_fail no_cut = refl
 
 -- a line that is no fuse, no failure and no cut acts by its events
 pub event_line_acts : (most : ℕ) (line : List ℕ) (asked : ScriptLine) → ((writes : ℕ) → asked ≡ Fuse writes → ⊥)
@@ -45,44 +40,41 @@ pub record ArePlayedTo (most : ℕ) (was now : Option (List ℕ)) (old : LivesVa
   pub given : IsGivenTo (LineActs most) all left actions
   pub tells : TellsLives was now old actions lives
 
-pub lines-none : (most : ℕ) (was : Option (List ℕ)) (lives : LivesValue) (all left : List (List ℕ)) → left ≡ all
+pub lines-none : {most : ℕ} (was : Option (List ℕ)) (lives : LivesValue) {all left : List (List ℕ)} → left ≡ all
     → ArePlayedTo most was was lives all left lives
-lines-none most was lives all left same =
-    record { actions = []; given = given-start (LineActs most) all left same; tells = tells-none was lives }
+lines-none {most} was lives same =
+    record { actions = []; given = given-start (LineActs most) same; tells = tells-none was lives }
 
-pub lines-all : (most : ℕ) (was now : Option (List ℕ)) (old lives : LivesValue) (all left : List (List ℕ)) (after : Sim)
-    → ArePlayedTo most was now old all left lives → left ≡ [] → medium_in lives.state ≡ after → PlaysAll was now old most all after
-lines-all most was now old lives all left after so none is = record {
-  actions = so.actions;
-  acts = given-all (LineActs most) all left so.actions none so.given;
-  new = lives;
-  tells = so.tells;
-  left = is;
-}
+module _ {most : ℕ} {was mid : Option (List ℕ)} {old between : LivesValue} {all lines : List (List ℕ)}
+    (so : ArePlayedTo most was mid old all lines between) where
+  pub lines-all : {after : Sim} → lines ≡ [] → medium_in between.state ≡ after → PlaysAll was mid old most all after
+  lines-all none is =
+      record { actions = so.actions; acts = given-all (LineActs most) none so.given; new = between; tells = so.tells; left = is }
 
-module _ (most : ℕ) (was mid now : Option (List ℕ)) (old between new : LivesValue) (all lines left : List (List ℕ)) (line : List ℕ)
-    (next : lines ≡ line ∷ left) (so : ArePlayedTo most was mid old all lines between) (actions : List Action)
-    (acts : LineActs most line actions) where
-  pub lines-more : TellsLives mid now between actions new → ArePlayedTo most was now old all left new
-  lines-more tells = record {
-    actions = so.actions ++ actions;
-    given = given-more (LineActs most) all lines left line next so.actions actions so.given acts;
-    tells = tells-more was mid now old between new so.actions so.tells actions tells;
-  }
+  module _ {line : List ℕ} {left : List (List ℕ)} (next : lines ≡ line ∷ left) {actions : List Action}
+      (acts : LineActs most line actions) where
+    pub lines-more : {now : Option (List ℕ)} {new : LivesValue} → TellsLives mid now between actions new
+        → ArePlayedTo most was now old all left new
+    lines-more {now} {new} tells = record {
+      actions = so.actions ++ actions;
+      given = given-more (LineActs most) so.given next actions acts;
+      tells = tells-more so.tells tells;
+    }
 
-  -- a line broke off, and others were left
-  pub lines-break : (fault : ScriptFault) (back : Sim) → BreaksOff mid now between actions new fault → All (IsScriptLine Lives most) left
-      → medium_in new.state ≡ back → PlaysUpTo was now old most all fault back
-  lines-break fault back breaks are is =
-      record {
-        first = so.actions;
-        part = breaks.first;
-        last = breaks.last;
-        stops = given-part (LineActs most) (IsScriptLine Lives most)
-            (λ other is_line. (actions_of is_line.0, line_acts most other is_line.0 is_line.1)) all lines left line next so.actions
-            breaks.first breaks.last breaks.rest so.given (subst (λ (l : List Action). LineActs most line l) breaks.parts acts) are;
-        new = new;
-        answers = so.tells.answers ++ breaks.answers;
-        ends = ends-behind was mid now old between new so.actions so.tells fault actions breaks;
-        left = is;
-      }
+    -- a line broke off, and others were left
+    pub lines-break : {now : Option (List ℕ)} {new : LivesValue} {fault : ScriptFault} {back : Sim}
+        → BreaksOff mid now between actions new fault → All (IsScriptLine Lives most) left → medium_in new.state ≡ back
+        → PlaysUpTo was now old most all fault back
+    lines-break {now} {new} breaks are is =
+        record {
+          first = so.actions;
+          part = breaks.first;
+          last = breaks.last;
+          stops = given-part (LineActs most) so.given next breaks.first breaks.last breaks.rest (rw breaks.parts at acts)
+              (gives_some (LineActs most) (IsScriptLine Lives most)
+              (λ other is_line. (actions_of is_line.0, line_acts most other is_line.0 is_line.1)) left are);
+          new = new;
+          answers = so.tells.answers ++ breaks.answers;
+          ends = ends-behind so.tells breaks;
+          left = is;
+        }

@@ -23,45 +23,45 @@ module _ {A : Type 0} (LineGives : List ℕ → List A → Type 0) where
     ap (λ (l : List A). l ++ rest) gives.4 ∙ append_assoc gives.0 gives.1 rest,
   )
 
-  pub given-start : (all left : List (List ℕ)) → left ≡ all → IsGivenTo LineGives all left []
-  given-start all left same = record { before = []; parts = sym same; gave = refl }
+  pub given-start : {all left : List (List ℕ)} → left ≡ all → IsGivenTo LineGives all left []
+  given-start same = record { before = []; parts = sym same; gave = refl }
 
-  pub given-more : (all old left : List (List ℕ)) (line : List ℕ) → old ≡ line ∷ left → (first more : List A)
-      → IsGivenTo LineGives all old first → LineGives line more → IsGivenTo LineGives all left (first ++ more)
-  given-more all old left line next first more so gives = record {
-    before = so.before ++ line ∷ [];
-    parts = so.parts ∙ ap (λ (l : List (List ℕ)). so.before ++ l) next ∙ sym (append_assoc so.before (line ∷ []) left);
-    gave = InTurn-append so.before (line ∷ []) first more so.gave (more, [], gives, refl, sym (append-nil more));
-  }
+  module _ {all old left : List (List ℕ)} {line : List ℕ} {first : List A} (so : IsGivenTo LineGives all old first)
+      (next : old ≡ line ∷ left) where
+    behind : all ≡ so.before ++ line ∷ left
+    behind = so.parts ∙ ap (λ (l : List (List ℕ)). so.before ++ l) next
 
-  pub given-all : (all left : List (List ℕ)) (first : List A) → left ≡ [] → IsGivenTo LineGives all left first → InTurn LineGives all first
-  given-all all left first none so =
-      let whole : all ≡ so.before = so.parts ∙ ap (λ (l : List (List ℕ)). so.before ++ l) none ∙ append-nil so.before in
-      subst (λ (l : List (List ℕ)). InTurn LineGives l first) (sym whole) so.gave
+    pub given-more : (more : List A) → LineGives line more → IsGivenTo LineGives all left (first ++ more)
+    given-more more gives = record {
+      before = so.before ++ line ∷ [];
+      parts = behind ∙ sym (append_assoc so.before (line ∷ []) left);
+      gave = InTurn-append so.before (line ∷ []) first more so.gave (more, [], gives, refl, sym (append-nil more));
+    }
+
+    -- a line gave a part of what it gives, and one thing more
+    pub given-part : (part : List A) (last : A) (rest : List A) → LineGives line (part ++ last ∷ rest)
+        → (later : List A) × InTurn LineGives left later → StopsAt LineGives all first part last
+    given-part part last rest gives others = record {
+      before = so.before;
+      line = line;
+      after = left;
+      parts = behind;
+      whole = so.gave;
+      rest = rest;
+      here = gives;
+      later = others.0;
+      others = others.1;
+    }
+
+  pub given-all : {all left : List (List ℕ)} {first : List A} → left ≡ [] → IsGivenTo LineGives all left first
+      → InTurn LineGives all first
+  given-all none so = rw (so.parts ∙ ap (λ (l : List (List ℕ)). so.before ++ l) none ∙ append-nil so.before) so.gave
 
   -- lines that each give something do so in turn
-  gives_some : (Is : List ℕ → Type 0) → ((line : List ℕ) → Is line → (some : List A) × LineGives line some)
+  pub gives_some : (Is : List ℕ → Type 0) → ((line : List ℕ) → Is line → (some : List A) × LineGives line some)
       → (lines : List (List ℕ)) → All Is lines → (all : List A) × InTurn LineGives lines all
   gives_some Is each [] are = ([], refl)
   gives_some Is each (line ∷ lines) are =
       let here = each line (are 0 [] (omega arith)) in
       let rest = gives_some Is each lines (λ k d lt. are (suc k) d (omega (arith, lt))) in
       (here.0 ++ rest.0, (here.0, rest.0, here.1, rest.1, refl))
-
-  -- a line gave a part of what it gives, and one thing more
-  pub given-part : (Is : List ℕ → Type 0) → ((line : List ℕ) → Is line → (some : List A) × LineGives line some)
-      → (all old left : List (List ℕ)) (line : List ℕ) → old ≡ line ∷ left → (first part : List A) (last : A) (more : List A)
-      → IsGivenTo LineGives all old first → LineGives line (part ++ last ∷ more) → All Is left → StopsAt LineGives all first part last
-  given-part Is each all old left line next first part last more so gives are =
-      let later = gives_some Is each left are in
-      record {
-        before = so.before;
-        line = line;
-        after = left;
-        parts = so.parts ∙ ap (λ (l : List (List ℕ)). so.before ++ l) next;
-        whole = so.gave;
-        rest = more;
-        here = gives;
-        later = later.0;
-        others = later.1;
-      }

@@ -1,5 +1,5 @@
 -- Lives that act, one action after another.
-use Rattle.std.proofs.Common.{◌≡◌, ◌↔◌, ℕ, Bool, true, false, List, [], ◌∷◌, ◌++◌, None, Option, refl, sym, ap, subst, ◌∙◌, inl, inr}
+use Rattle.std.proofs.Common.{◌≡◌, ◌↔◌, ℕ, Bool, true, false, List, [], ◌∷◌, ◌++◌, None, Option, refl, sym, ap, ◌∙◌, inl, inr}
 use Rattle.std.proofs.Common.{append_assoc, append-nil}
 use Rattle.std.proofs.lemmas.Bool.{cases_Bool, true≢false}
 use Rattle.std.specs.Io.KnownBytes.{Appends}
@@ -10,60 +10,50 @@ use Rattle.bot_machine.specs.StartFaults.{StartFault}
 use Rattle.spec.specs.declared.event.Event.{Event}
 use Rattle.spec.specs.declared.event.Answer.{Answer}
 use Rattle.spec.specs.declared.event.Answer.TheVariants.{Off}
-use Rattle.spec.specs.Lives.{Action, arms, fails, starts, plays, cuts}
+use Rattle.spec.specs.Lives.{Action, arms, fails, starts, plays}
 use Rattle.bot_machine.specs.LivesValue.{LivesValue, LivesGoOn, LivesRefuseStart, medium_in}
 use Rattle.bot_machine.proofs.LifeRuns.{rests, lives_go_on}
-use Rattle.console.specs.Streams.{AppendsUpTo, AppendsSome}
+use Rattle.console.specs.Streams.{AppendsSome}
 use Rattle.runner.specs.declared.fault.ScriptFault.{ScriptFault}
-use Rattle.runner.specs.declared.fault.ScriptFault.TheVariants.{Line, TooLong, Start, NoMemory, Reader, Writer}
-use Rattle.runner.specs.Lifetimes.{AnswersFit, fused_after, text_of_lives, comes}
+use Rattle.runner.specs.declared.fault.ScriptFault.TheVariants.{Start, Writer}
+use Rattle.runner.specs.Lifetimes.{AnswersFit, fuse_after, fused_after, text_of_lives, comes}
 use Rattle.runner.specs.PlayedLives.{FuseIs, Acted, TellsLives, EndsBy, BreaksOff}
 use Rattle.runner.specs.Text.{line_for}
 use Rattle.runner.proofs.Known.{AppendsUpTo-more}
 
 AnswersFit-append : (fused : Bool) (first rest : List Action) (told more : List Answer) → AnswersFit fused first told
     → AnswersFit (fused_after fused first) rest more → AnswersFit fused (first ++ rest) (told ++ more)
-AnswersFit-append fused [] rest told more done next = subst (λ (l : List Answer). AnswersFit fused rest (l ++ more)) (sym done) next
-AnswersFit-append fused (arms writes ∷ first) rest told more done next = AnswersFit-append true first rest told more done next
-AnswersFit-append fused (fails call ∷ first) rest told more done next = AnswersFit-append fused first rest told more done next
-AnswersFit-append fused (starts ∷ first) rest told more done next = AnswersFit-append fused first rest told more done next
-AnswersFit-append fused (cuts keeps ∷ first) rest told more done next = AnswersFit-append false first rest told more done next
+AnswersFit-append fused [] rest told more done next = rw done next
 AnswersFit-append fused (plays event ∷ first) rest [] more done next = absurd done
 AnswersFit-append fused (plays event ∷ first) rest (answer ∷ told) more done next =
     (done.0, AnswersFit-append fused first rest told more done.1 next)
+AnswersFit-append fused (action ∷ first) rest told more done next =
+    AnswersFit-append (fuse_after fused action) first rest told more done next
 
 fused_after-append : (fused : Bool) (first rest : List Action)
     → fused_after fused (first ++ rest) ≡ fused_after (fused_after fused first) rest
 fused_after-append fused [] rest = refl
-fused_after-append fused (arms writes ∷ first) rest = fused_after-append true first rest
-fused_after-append fused (fails call ∷ first) rest = fused_after-append fused first rest
-fused_after-append fused (starts ∷ first) rest = fused_after-append fused first rest
-fused_after-append fused (cuts keeps ∷ first) rest = fused_after-append false first rest
-fused_after-append fused (plays event ∷ first) rest = fused_after-append fused first rest
+fused_after-append fused (action ∷ first) rest = fused_after-append (fuse_after fused action) first rest
 
 text_of_lives-append : (fused : Bool) (first rest : List Action) (told more : List Answer) → AnswersFit fused first told
     → text_of_lives (first ++ rest) (told ++ more) ≡ text_of_lives first told ++ text_of_lives rest more
 text_of_lives-append fused [] rest told more done = ap (λ (l : List Answer). text_of_lives rest (l ++ more)) done
-text_of_lives-append fused (arms writes ∷ first) rest told more done = text_of_lives-append true first rest told more done
-text_of_lives-append fused (fails call ∷ first) rest told more done = text_of_lives-append fused first rest told more done
-text_of_lives-append fused (starts ∷ first) rest told more done = text_of_lives-append fused first rest told more done
-text_of_lives-append fused (cuts keeps ∷ first) rest told more done = text_of_lives-append false first rest told more done
 text_of_lives-append fused (plays event ∷ first) rest [] more done = absurd done
 text_of_lives-append fused (plays event ∷ first) rest (answer ∷ told) more done =
     ap (λ (text : List ℕ). line_for event answer ++ text) (text_of_lives-append fused first rest told more done.1)
     ∙ sym (append_assoc (line_for event answer) (text_of_lives first told) (text_of_lives rest more))
+text_of_lives-append fused (action ∷ first) rest told more done = text_of_lives-append (fuse_after fused action) first rest told more done
 
 acted-none : (lives : LivesValue) → Acted lives [] [] lives
 acted-none lives = record { goes_on = rests lives; fits = λ fused is. refl; fuse = λ fused is. is }
 
-acted-more : (old mid new : LivesValue) (first rest : List Action) (told more : List Answer)
+acted-more : {old mid new : LivesValue} {first rest : List Action} {told more : List Answer}
     → Acted old first told mid → Acted mid rest more new → Acted old (first ++ rest) (told ++ more) new
-acted-more old mid new first rest told more done next = record {
+acted-more {old} {mid} {new} {first} {rest} {told} {more} done next = record {
   goes_on = lives_go_on old mid new first rest told more done.goes_on next.goes_on;
   fits = λ fused is.
       AnswersFit-append fused first rest told more (done.fits fused is) (next.fits (fused_after fused first) (done.fuse fused is));
-  fuse = λ fused is. subst (λ (b : Bool). FuseIs b new) (sym (fused_after-append fused first rest))
-      (next.fuse (fused_after fused first) (done.fuse fused is));
+  fuse = λ fused is. rw (fused_after-append fused first rest) (next.fuse (fused_after fused first) (done.fuse fused is));
 }
 
 -- a fuse is armed
@@ -110,98 +100,72 @@ acted-event old new event answer on off after = record {
         let so = is refl in
         (λ is_off. absurd (true≢false (sym (off.0 is_off) ∙ stays_on (medium_in old.state) (medium_in new.state) after so.0 so.1)), refl)
 
--- each event has one answer
-fits_any : (old new : LivesValue) (actions : List Action) (answers : List Answer) → Acted old actions answers new
-    → AnswersFit true actions answers
-fits_any old new actions answers acted = acted.fits true (λ never. absurd (true≢false never))
-
 pub tells-none : (was : Option (List ℕ)) (lives : LivesValue) → TellsLives was was lives [] lives
 tells-none was lives = record { answers = []; acted = acted-none lives; written = Appends-nil was }
 
 -- what has no answer has no text
-pub tells-silently : (was : Option (List ℕ)) (old new : LivesValue) (actions : List Action) → Acted old actions [] new
+pub tells-silently : (was : Option (List ℕ)) {old new : LivesValue} {actions : List Action} → Acted old actions [] new
     → text_of_lives actions [] ≡ [] → TellsLives was was old actions new
-tells-silently was old new actions acted none = record {
-  answers = [];
-  acted = acted;
-  written = subst (λ (text : List ℕ). Appends was was text) (sym none) (Appends-nil was);
-}
+tells-silently was acted none = record { answers = []; acted = acted; written = rw none (Appends-nil was) }
 
-module _ (was mid now : Option (List ℕ)) (old between new : LivesValue) (first : List Action)
-    (done : TellsLives was mid old first between) where
+module _ {was mid : Option (List ℕ)} {old between : LivesValue} {first : List Action} (done : TellsLives was mid old first between) where
   -- what was told, and then more
   told_more : (rest : List Action) (more : List Answer)
       → text_of_lives (first ++ rest) (done.answers ++ more) ≡ text_of_lives first done.answers ++ text_of_lives rest more
-  told_more rest more = text_of_lives-append true first rest done.answers more (fits_any old between first done.answers done.acted)
+  told_more rest more =
+      text_of_lives-append true first rest done.answers more (done.acted.fits true (λ never. absurd (true≢false never)))
 
-  written_more : (rest : List Action) (more : List Answer) → Appends mid now (text_of_lives rest more)
+  written_more : (now : Option (List ℕ)) (rest : List Action) (more : List Answer) → Appends mid now (text_of_lives rest more)
       → Appends was now (text_of_lives (first ++ rest) (done.answers ++ more))
-  written_more rest more written = subst (λ (text : List ℕ). Appends was now text) (sym (told_more rest more))
-      (Appends-trans was mid now (text_of_lives first done.answers) (text_of_lives rest more) done.written written)
+  written_more now rest more written =
+      rw (told_more rest more) (Appends-trans was mid now (text_of_lives first done.answers) (text_of_lives rest more) done.written written)
 
-  pub tells-more : (rest : List Action) → TellsLives mid now between rest new → TellsLives was now old (first ++ rest) new
-  tells-more rest next = record {
+  pub tells-more : {now : Option (List ℕ)} {new : LivesValue} {rest : List Action} → TellsLives mid now between rest new
+      → TellsLives was now old (first ++ rest) new
+  tells-more {now} {new} {rest} next = record {
     answers = done.answers ++ next.answers;
-    acted = acted-more old between new first rest done.answers next.answers done.acted next.acted;
-    written = written_more rest next.answers next.written;
+    acted = acted-more done.acted next.acted;
+    written = written_more now rest next.answers next.written;
   }
 
-  ends-more : (rest : List Action) (last : Action) (more : List Answer) (fault : ScriptFault)
+  ends-more : (now : Option (List ℕ)) (new : LivesValue) (rest : List Action) (last : Action) (more : List Answer) (fault : ScriptFault)
       → EndsBy mid now between rest more last new fault → EndsBy was now old (first ++ rest) (done.answers ++ more) last new fault
-  ends-more rest last more (Start fault) ends = record {
+  ends-more now new rest last more (Start fault) ends = record {
     mid = ends.mid;
-    acted = acted-more old between ends.mid first rest done.answers more done.acted ends.acted;
+    acted = acted-more done.acted ends.acted;
     is = ends.is;
     refused = ends.refused;
-    written = written_more rest more ends.written;
+    written = written_more now rest more ends.written;
   }
-  ends-more rest last more Writer ends = record {
+  ends-more now new rest last more Writer ends = record {
     event = ends.event;
     is = ends.is;
     answer = ends.answer;
-    acted = subst (λ (l : List Action). Acted old l ((done.answers ++ more) ++ ends.answer ∷ []) new)
-        (sym (append_assoc first rest (plays ends.event ∷ [])))
-        (subst (λ (l : List Answer). Acted old (first ++ (rest ++ plays ends.event ∷ [])) l new)
-        (sym (append_assoc done.answers more (ends.answer ∷ [])))
-        (acted-more old between new first (rest ++ plays ends.event ∷ []) done.answers (more ++ ends.answer ∷ []) done.acted
-        ends.acted));
-    written = subst (λ (text : List ℕ). AppendsUpTo was now text (line_for ends.event ends.answer)) (sym (told_more rest more))
+    acted = rw (append_assoc first rest (plays ends.event ∷ []), append_assoc done.answers more (ends.answer ∷ []))
+        (acted-more done.acted ends.acted);
+    written = rw (told_more rest more)
         (AppendsUpTo-more was mid now (text_of_lives first done.answers) (text_of_lives rest more) (line_for ends.event ends.answer)
         done.written ends.written);
   }
-  ends-more rest last more (Line number) ends = absurd ends
-  ends-more rest last more TooLong ends = absurd ends
-  ends-more rest last more NoMemory ends = absurd ends
-  ends-more rest last more Reader ends = absurd ends
+  ends-more now new rest last more _ ends = absurd ends
 
   -- some actions were done, and others broke off
-  pub breaks-more : (rest : List Action) (fault : ScriptFault) → BreaksOff mid now between rest new fault
-      → BreaksOff was now old (first ++ rest) new fault
-  breaks-more rest fault breaks = record {
-    first = first ++ breaks.first;
-    last = breaks.last;
-    rest = breaks.rest;
-    parts = ap (λ (l : List Action). first ++ l) breaks.parts ∙ sym (append_assoc first breaks.first (breaks.last ∷ breaks.rest));
-    answers = done.answers ++ breaks.answers;
-    ends = ends-more breaks.first breaks.last breaks.answers fault breaks.ends;
-  }
+  module _ {now : Option (List ℕ)} {new : LivesValue} {rest : List Action} {fault : ScriptFault}
+      (breaks : BreaksOff mid now between rest new fault) where
+    pub ends-behind : EndsBy was now old (first ++ breaks.first) (done.answers ++ breaks.answers) breaks.last new fault
+    ends-behind = ends-more now new breaks.first breaks.last breaks.answers fault breaks.ends
 
-  -- some lines were done, and another broke off
-  pub ends-behind : (fault : ScriptFault) (rest : List Action) (breaks : BreaksOff mid now between rest new fault)
-      → EndsBy was now old (first ++ breaks.first) (done.answers ++ breaks.answers) breaks.last new fault
-  ends-behind fault rest breaks = ends-more breaks.first breaks.last breaks.answers fault breaks.ends
-
--- actions broke off before others came
-pub breaks-before : (was now : Option (List ℕ)) (old new : LivesValue) (actions others : List Action) (fault : ScriptFault)
-    → BreaksOff was now old actions new fault → BreaksOff was now old (actions ++ others) new fault
-breaks-before was now old new actions others fault breaks = record {
-  first = breaks.first;
-  last = breaks.last;
-  rest = breaks.rest ++ others;
-  parts = ap (λ (l : List Action). l ++ others) breaks.parts ∙ append_assoc breaks.first (breaks.last ∷ breaks.rest) others;
-  answers = breaks.answers;
-  ends = breaks.ends;
-}
+    -- and further ones were left
+    pub breaks-more : (others : List Action) → BreaksOff was now old (first ++ (rest ++ others)) new fault
+    breaks-more others = record {
+      first = first ++ breaks.first;
+      last = breaks.last;
+      rest = breaks.rest ++ others;
+      parts = rw breaks.parts (let all : first ++ ((breaks.first ++ breaks.last ∷ breaks.rest) ++ others)
+          ≡ (first ++ breaks.first) ++ (breaks.last ∷ (breaks.rest ++ others)) = simp append_assoc in all);
+      answers = done.answers ++ breaks.answers;
+      ends = ends-behind;
+    }
 
 -- the start before an event was refused
 pub breaks-start : (was : Option (List ℕ)) (old new : LivesValue) (event : Event) (fault : StartFault) → LivesRefuseStart old fault new
@@ -216,10 +180,10 @@ breaks-start was old new event fault refused = record {
 }
 
 -- the answer to an event was not written
-pub breaks-writer : (was now : Option (List ℕ)) (old new : LivesValue) (event : Event) (answer : Answer)
+pub breaks-writer : (was now : Option (List ℕ)) {old new : LivesValue} {event : Event} {answer : Answer}
     → Acted old (comes event) (answer ∷ []) new → AppendsSome was now (line_for event answer)
     → BreaksOff was now old (comes event) new Writer
-breaks-writer was now old new event answer acted written = record {
+breaks-writer was now {old} {new} {event} {answer} acted written = record {
   first = starts ∷ [];
   last = plays event;
   rest = [];
@@ -229,10 +193,7 @@ breaks-writer was now old new event answer acted written = record {
 }
 
 -- an event was answered, and the answer written
-pub tells-event : (was now : Option (List ℕ)) (old new : LivesValue) (event : Event) (answer : Answer)
+pub tells-event : (was now : Option (List ℕ)) {old new : LivesValue} {event : Event} {answer : Answer}
     → Acted old (comes event) (answer ∷ []) new → Appends was now (line_for event answer) → TellsLives was now old (comes event) new
-tells-event was now old new event answer acted written = record {
-  answers = answer ∷ [];
-  acted = acted;
-  written = subst (λ (text : List ℕ). Appends was now text) (sym (append-nil (line_for event answer))) written;
-}
+tells-event was now {old} {new} {event} {answer} acted written =
+    record { answers = answer ∷ []; acted = acted; written = rw (append-nil (line_for event answer)) written }

@@ -9,7 +9,7 @@ use Rattle.std.proofs.lemmas.Fmt.{length-decimal-le}
 use Rattle.hex.proofs.HexLemmas.{decode_of-ok}
 use Rattle.runner.specs.declared.line.ScriptKind.TheVariants.{OneLife}
 use Rattle.runner.specs.declared.line.ScriptLine.{ScriptLine}
-use Rattle.runner.specs.declared.line.ScriptLine.TheVariants.{Skipped, Out, Fill, In, Setup, Tick, Fuse, Fail, Cut}
+use Rattle.runner.specs.declared.line.ScriptLine.TheVariants.{Skipped, Out, Fill, In, Setup, Tick}
 use Rattle.spec.specs.declared.event.Event.{Event}
 use Rattle.runner.specs.Events.{events_of}
 use Rattle.runner.specs.Line.{Spells, Allows, IsScriptLine}
@@ -68,9 +68,7 @@ comment_skips most comment (Setup packet) spelled allowed =
     let e : 35 ≡ 115 = ap (λ (l : List ℕ). slice_index l 0) spelled.parts in absurd (omega (arith, e))
 comment_skips most comment (Tick count) spelled allowed =
     let e : 35 ≡ 116 = ap (λ (l : List ℕ). slice_index l 0) spelled.parts in absurd (omega (arith, e))
-comment_skips most comment (Fuse writes) spelled allowed = absurd allowed
-comment_skips most comment (Fail call) spelled allowed = absurd allowed
-comment_skips most comment (Cut kept) spelled allowed = absurd allowed
+comment_skips most comment _ spelled allowed = absurd allowed
 
 -- what is held of a line plays what the line does
 pub plays_line : (most : ℕ) (held line : List ℕ) (events : List Event) → StandsFor held line → LinePlays most held events
@@ -133,6 +131,4 @@ too_long most line small long none (Tick count) spelled allowed =
     let number = ap length spelled.counted.digits in
     let few = length-decimal-le 7 count (omega arith) (omega (arith, spelled.counted.not_more)) (omega (arith, spelled.counted.not_more)) in
     omega (arith, long, ap length spelled.parts, length-append (codes "tick ") spelled.number, number, few)
-too_long most line small long none (Fuse writes) spelled allowed = allowed
-too_long most line small long none (Fail call) spelled allowed = allowed
-too_long most line small long none (Cut kept) spelled allowed = allowed
+too_long most line small long none _ spelled allowed = allowed

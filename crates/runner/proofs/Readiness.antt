@@ -23,9 +23,9 @@ use Rattle.spec.specs.declared.event.Answer.{Answer}
 use Rattle.bot_machine.specs.declared.lives.life.Life.{Life}
 use Rattle.spec.specs.Conversation.{Conversation, Begins, OpensExchange, OutStep}
 use Rattle.spec.specs.UnitConversation.{UnitStep, Intends}
-use Rattle.spec.specs.Exchange.{Script, finished, taking, sending, Moment, at_once, after_data, never, moment_of}
-use Rattle.spec.specs.Lives.{Action, arms, fails, starts, plays, cuts, Remains, Place, before_first, between, runs, off, Standing, Opens}
-use Rattle.spec.specs.Lives.{LifeBegins, PowerGoes, LivesStep, LivesRun, after_cut}
+use Rattle.spec.specs.Exchange.{Script, finished, taking, Moment, at_once, moment_of}
+use Rattle.spec.specs.Lives.{Action, starts, plays, cuts, Place, before_first, between, runs, off, Standing, Opens}
+use Rattle.spec.specs.Lives.{LifeBegins, LivesStep, LivesRun, after_cut}
 use Rattle.bot_machine.specs.LivesValue.{OpensOn, HasLimit, book_at, FoundAt}
 use Rattle.spec.specs.Promise.{first_standing}
 use Rattle.bot_machine.specs.Lifetimes.{actions_of_all, armed_by}
@@ -71,14 +71,11 @@ module _ (blocks next : ℕ) (array : Array) (made cut : Sim) (keep : ℕ → Bo
   content_same = λ i x. content_at x i
 
   stands_cut : StandsAs (state_of cut).size blocks (state_of cut).content array next
-  stands_cut =
-      subst (λ (n : ℕ). StandsAs n blocks (state_of cut).content array next) (sym size_same)
-      (subst (λ (image : Image). StandsAs (state_of made).size blocks image array next) (sym content_same) s)
+  stands_cut = rw size_same (subst (λ (image : Image). StandsAs (state_of made).size blocks image array next) (sym content_same) s)
 
   -- the contents have the limit of the format
   limited_cut : HasLimit (state_of cut).size (limit_of s.0.format) (state_of cut).content
-  limited_cut =
-      subst (λ (n : ℕ). HasLimit n (limit_of s.0.format) (state_of cut).content) (sym size_same)
+  limited_cut = rw size_same
       (subst (HasLimit (state_of made).size (limit_of s.0.format)) (sym content_same)
       (record { shape = s.0; array = array; next = next; stands = s.2.stands; limit_is = refl }))
 
@@ -110,36 +107,27 @@ module _ (refused : Bool) where
   unit_ours : (old new : Conversation UnitState) → new.unit ≡ old.unit → ours_in new ≡ ours_in old
   unit_ours old new same = ap (λ (u : UnitState). u.book.ours) same
 
-  whole_ours : (old new : Conversation UnitState) → new ≡ old → ours_in new ≡ ours_in old
-  whole_ours old new same = ap ours_in same
-
   carried_ours : (block bytes : List ℕ) (old new : Conversation UnitState) (answer : Result (List ℕ) Sense)
       → CarriesOut refused block bytes old.unit answer new.unit → ours_in new ≡ ours_in old
   carried_ours block bytes old new answer effect = ours_stay refused block bytes old.unit new.unit answer effect
 
   opens_ours : (packet : List ℕ) (old new : Conversation UnitState) → OpensExchange Intends CarriesOut Ticks refused packet old new
       → ours_in new ≡ ours_in old
-  opens_ours packet old new o =
-      let begun : Begins Intends CarriesOut Ticks refused (moment_of o.case) o.case o.command o.intended old new
-      → ours_in new ≡ ours_in old =
-      elim (moment_of o.case) as
-      (λ (m : Moment). Begins Intends CarriesOut Ticks refused m o.case o.command o.intended old new → ours_in new ≡ ours_in old) [
-        | at_once ↦ λ h. carried_ours _ _ old new h.answer h.effect
-        | after_data ↦ λ h. unit_ours old new h.0
-        | never ↦ λ h. unit_ours old new h.0
-      ] in
-      begun o.begins
+  opens_ours packet old new o = by_moment (moment_of o.case) o.begins
+    where
+      by_moment : (m : Moment) → Begins Intends CarriesOut Ticks refused m o.case o.command o.intended old new → ours_in new ≡ ours_in old
+      by_moment at_once h = carried_ours _ _ old new h.answer h.effect
+      by_moment _ h = unit_ours old new h.0
 
   out_ours : (halted : Bool) (left : Script) (packet : List ℕ) (old new : Conversation UnitState) (answer : Answer)
       → OutStep Intends CarriesOut Ticks refused halted left packet old answer new → ours_in new ≡ ours_in old
-  out_ours true left packet old new answer h = whole_ours old new h.1
-  out_ours false finished packet old new answer h =
-      ⊎_elim (λ o. opens_ours packet old new o) (λ l. unit_ours old new l.unit) h.1
-  out_ours false (taking case command intended bytes due) packet old new answer h =
-      ⊎_elim (λ more. unit_ours old new more.unit)
-      (λ rest. ⊎_elim (λ last. carried_ours _ _ old new last.carried_out.answer last.carried_out.effect) (λ b. unit_ours old new b.unit)
-      rest) h.1
-  out_ours false (sending packets halt status) packet old new answer h = whole_ours old new h.1
+  out_ours false finished packet old new answer (told, inl opens) = opens_ours packet old new opens
+  out_ours false finished packet old new answer (told, inr left) = unit_ours old new left.unit
+  out_ours false (taking case command intended bytes due) packet old new answer (told, inl more) = unit_ours old new more.unit
+  out_ours false (taking case command intended bytes due) packet old new answer (told, inr (inl last)) =
+      carried_ours _ _ old new last.carried_out.answer last.carried_out.effect
+  out_ours false (taking case command intended bytes due) packet old new answer (told, inr (inr bad)) = unit_ours old new bad.unit
+  out_ours _ left packet old new answer h = ap ours_in h.1
 
   -- in an event
   step_ours : (happens : Event) (old new : Conversation UnitState) (answer : Answer) → UnitStep refused old happens answer new
@@ -152,122 +140,91 @@ module _ (refused : Bool) where
 
 -- ---- where lives stand
 
--- lives that began with this book stand here: no first life has been only where it is the book still
-abbrev IsFirst : Book → Place → Type 0
-IsFirst book (before_first other) = other ≡ book
-IsFirst book (between remains) = Unit {0}
-IsFirst book (runs conversation) = Unit {0}
-IsFirst book (off remains) = Unit {0}
-
-record IsFrom (book : Book) (place : Place) : Type 0 where
-  first : IsFirst book place
-  ours : (book_at place).ours ≡ book.ours
+-- lives that began with this book stand here: before a first life it is the book still, and whether it is ours stays
+abbrev IsFrom : Book → Place → Type 0
+IsFrom book (before_first other) = other ≡ book
+IsFrom book place = (book_at place).ours ≡ book.ours
 
 module _ (device : Device) (book : Book) where
-  -- power goes
-  from_off : (refused : Bool) (old new : Standing) (remains : Remains) → PowerGoes refused remains old new → remains.book.ours ≡ book.ours
-      → IsFrom book new.place
-  from_off refused old new remains goes ours =
-      subst (λ (s : Standing). IsFrom book s.place) (sym goes.after) (record { first = tt; ours = ours })
-
   from_begun : (refused : Bool) (old new : Standing) (begins : LifeBegins (presented device) refused old new) → begins.book.ours ≡ book.ours
       → IsFrom book new.place
-  from_begun refused old new begins ours = ⊎_elim
-      (λ is. subst (λ (s : Standing). IsFrom book s.place) (sym is) (record { first = tt; ours = ours }))
-      (λ goes. from_off refused old new _ goes ours) begins.begins
+  from_begun refused old new begins ours = ⊎_elim (λ is. rw is ours) (λ goes. rw goes.after ours) begins.begins
 
   from_start : (refused : Bool) (place : Place) (armed : Bool) (limit : ℕ) (new : Standing) (told : List Answer) → IsFrom book place
       → LivesStep (presented device) refused (record { place = place; armed = armed; limit = limit }) starts told new
       → IsFrom book new.place
   from_start refused (before_first other) armed limit new told from h =
-      from_begun refused _ new h.1 (ap (λ (b : Book). b.ours) h.1.opens ∙ from.ours)
+      from_begun refused _ new h.1 (ap (λ (b : Book). b.ours) (h.1.opens ∙ from))
   from_start refused (between remains) armed limit new told from h =
-      from_begun refused _ new h.1 (ap (λ (b : Book). b.ours) h.1.opens.opens ∙ from.ours)
-  from_start refused (runs conversation) armed limit new told from h = subst (λ (s : Standing). IsFrom book s.place) (sym h.1) from
-  from_start refused (off remains) armed limit new told from h = subst (λ (s : Standing). IsFrom book s.place) (sym h.1) from
+      from_begun refused _ new h.1 (ap (λ (b : Book). b.ours) h.1.opens.opens ∙ from)
+  from_start refused _ armed limit new told from h = rw h.1 from
 
   from_event : (refused : Bool) (place : Place) (armed : Bool) (limit : ℕ) (new : Standing) (happens : Event) (told : List Answer)
       → IsFrom book place
       → LivesStep (presented device) refused (record { place = place; armed = armed; limit = limit }) (plays happens) told new
       → IsFrom book new.place
-  from_event refused (before_first other) armed limit new happens told from h = absurd h.2
-  from_event refused (between remains) armed limit new happens told from h = absurd h.2
   from_event refused (runs conversation) armed limit new happens told from h = ⊎_elim
-      (λ ends. subst (λ (s : Standing). IsFrom book s.place) (sym ends.after)
-      (record { first = tt; ours = step_ours refused happens conversation ends.later h.0 ends.step ∙ from.ours }))
-      (λ cut. from_off refused _ new _ cut.goes from.ours) h.2
-  from_event refused (off remains) armed limit new happens told from h = subst (λ (s : Standing). IsFrom book s.place) (sym h.2.1) from
+      (λ ends. rw ends.after (step_ours refused happens conversation ends.later h.0 ends.step ∙ from))
+      (λ cut. rw cut.goes.after from) h.2
+  from_event refused (off remains) armed limit new happens told from h = rw h.2.1 from
+  from_event refused _ armed limit new happens told from h = absurd h.2
 
   from_cut : (place : Place) → IsFrom book place → IsFrom book (after_cut place)
   from_cut (before_first other) from = from
-  from_cut (between remains) from = from
-  from_cut (runs conversation) from = record { first = tt; ours = from.ours }
-  from_cut (off remains) from = record { first = tt; ours = from.ours }
+  from_cut _ from = from
 
   from_step : (refused : Bool) (old new : Standing) (action : Action) (told : List Answer) → IsFrom book old.place
       → LivesStep (presented device) refused old action told new → IsFrom book new.place
-  from_step refused old new (arms writes) told from h = subst (λ (s : Standing). IsFrom book s.place) (sym h.1) from
-  from_step refused old new (fails call) told from h = subst (λ (s : Standing). IsFrom book s.place) (sym h.1) from
   from_step refused old new starts told from h = from_start refused old.place old.armed old.limit new told from h
   from_step refused old new (plays happens) told from h = from_event refused old.place old.armed old.limit new happens told from h
-  from_step refused old new (cuts keep) told from h = subst (λ (s : Standing). IsFrom book s.place) (sym h.1) (from_cut old.place from)
+  from_step refused old new (cuts keep) told from h = rw h.1 (from_cut old.place from)
+  from_step refused old new _ told from h = rw h.1 from
 
   from_run : (actions : List Action) (old new : Standing) (told : List Answer) (refusals : List Bool) → IsFrom book old.place
       → LivesRun (presented device) old actions told refusals new → IsFrom book new.place
-  from_run [] old new told [] from run = subst (λ (s : Standing). IsFrom book s.place) (sym run.1) from
+  from_run [] old new told [] from run = rw run.1 from
   from_run (action ∷ actions) old new told (refused ∷ refusals) from run =
       from_run actions run.0 new run.2 refusals (from_step refused old run.0 action run.1 from run.4) run.5
-  from_run [] old new told (refused ∷ refusals) from run = absurd run
-  from_run (action ∷ actions) old new told [] from run = absurd run
+  from_run _ old new told _ from run = absurd run
 
 -- no disk runs here, and the power is on
 abbrev IsBetween : Place → Type 0
-IsBetween (before_first book) = Unit {0}
-IsBetween (between remains) = Unit {0}
 IsBetween (runs conversation) = ⊥
 IsBetween (off remains) = ⊥
+IsBetween place = Unit {0}
 
 cut_between : (place : Place) → IsBetween (after_cut place)
 cut_between (before_first book) = tt
-cut_between (between remains) = tt
-cut_between (runs conversation) = tt
-cut_between (off remains) = tt
+cut_between _ = tt
 
--- the second part of a run
-record RunsOn (device : Device) (actions : List Action) (new : Standing) : Type 0 where
-  mid : Standing
-  told : List Answer
-  refusals : List Bool
-  run : LivesRun (presented device) mid actions told refusals new
+module _ (device : Device) where
+  -- the second part of a run
+  runs_on : (first rest : List Action) (old new : Standing) (told : List Answer) (refusals : List Bool)
+      → LivesRun (presented device) old (first ++ rest) told refusals new
+      → (mid : Standing) × (more : List Answer) × (others : List Bool) × LivesRun (presented device) mid rest more others new
+  runs_on [] rest old new told refusals run = (old, told, refusals, run)
+  runs_on (action ∷ first) rest old new told (refused ∷ refusals) run = runs_on first rest run.0 new run.2 refusals run.5
+  runs_on (action ∷ first) rest old new told [] run = absurd run
 
-runs_on : (device : Device) (first rest : List Action) (old new : Standing) (told : List Answer) (refusals : List Bool)
-    → LivesRun (presented device) old (first ++ rest) told refusals new → RunsOn device rest new
-runs_on device [] rest old new told refusals run = record { mid = old; told = told; refusals = refusals; run = run }
-runs_on device (action ∷ first) rest old new told (refused ∷ refusals) run = runs_on device first rest run.0 new run.2 refusals run.5
-runs_on device (action ∷ first) rest old new told [] run = absurd run
+  -- behind a cut no disk runs
+  behind_cut : (keep : ℕ → Bool) (rest : List Action) (old new : Standing) (told : List Answer) (refusals : List Bool)
+      → LivesRun (presented device) old (cuts keep ∷ rest) told refusals new
+      → (mid : Standing) × (more : List Answer) × (others : List Bool) × IsBetween mid.place
+      × LivesRun (presented device) mid rest more others new
+  behind_cut keep rest old new told (refused ∷ refusals) run = (run.0, run.2, refusals, rw run.4.1 (cut_between old.place), run.5)
+  behind_cut keep rest old new told [] run = absurd run
 
--- behind a cut no disk runs
-behind_cut : (device : Device) (keep : ℕ → Bool) (rest : List Action) (old new : Standing) (told : List Answer) (refusals : List Bool)
-    → LivesRun (presented device) old (cuts keep ∷ rest) told refusals new
-    → (mid : Standing) × (more : List Answer) × (others : List Bool) × IsBetween mid.place
-    × LivesRun (presented device) mid rest more others new
-behind_cut device keep rest old new told (refused ∷ refusals) run =
-    (run.0, run.2, refusals, subst (λ (s : Standing). IsBetween s.place) (sym run.4.1) (cut_between old.place), run.5)
-behind_cut device keep rest old new told [] run = absurd run
-
-all_between : (device : Device) (lives : List Life) (old new : Standing) (told : List Answer) (refusals : List Bool) → IsBetween old.place
-    → LivesRun (presented device) old (actions_of_all lives) told refusals new → IsBetween new.place
-all_between device [] old new told [] rests run = subst (λ (s : Standing). IsBetween s.place) (sym run.1) rests
-all_between device [] old new told (refused ∷ refusals) rests run = absurd run
-all_between device (life ∷ lives) old new told refusals rests run =
-    let before : List Action = armed_by life.fuse ++ starts ∷ map plays life.events.items in
-    let cut : Action = cuts (keeps life.kept) in
-    let whole : LivesRun (presented device) old (before ++ (cut ∷ actions_of_all lives)) told refusals new =
-    subst (λ (l : List Action). LivesRun (presented device) old l told refusals new)
-    (append_assoc before (cut ∷ []) (actions_of_all lives)) run in
-    let last = runs_on device before (cut ∷ actions_of_all lives) old new told refusals whole in
-    let b = behind_cut device (keeps life.kept) (actions_of_all lives) last.mid new last.told last.refusals last.run in
-    all_between device lives b.0 new b.1 b.2 b.3 b.4
+  all_between : (lives : List Life) (old new : Standing) (told : List Answer) (refusals : List Bool) → IsBetween old.place
+      → LivesRun (presented device) old (actions_of_all lives) told refusals new → IsBetween new.place
+  all_between [] old new told [] rests run = rw run.1 rests
+  all_between [] old new told (refused ∷ refusals) rests run = absurd run
+  all_between (life ∷ lives) old new told refusals rests run =
+      let before : List Action = armed_by life.fuse ++ starts ∷ map plays life.events.items in
+      let cut : Action = cuts (keeps life.kept) in
+      let whole = rw (append_assoc before (cut ∷ []) (actions_of_all lives)) at run in
+      let last = runs_on before (cut ∷ actions_of_all lives) old new told refusals whole in
+      let b = behind_cut (keeps life.kept) (actions_of_all lives) last.0 new last.1 last.2 last.3 in
+      all_between lives b.0 new b.1 b.2 b.3 b.4
 
 -- a life opens where no disk runs
 opens_next : (m : Sim) (book : Book) (place : Place) → m.unflushed ≡ [] → book ≡ opened book.blocks book.opening book.stamp book.ours
@@ -277,29 +234,27 @@ opens_next m book (before_first other) none is ours from rests found =
     let stands : StandsAs (state_of m).size other.blocks (state_of m).content other.opening other.stamp =
     content_has (FoundAt (state_of m).size (before_first other)) (state_of m) (is_sound m) found in
     let same : book ≡ opened book.blocks book.opening book.stamp true = is ∙ ap (opened book.blocks book.opening book.stamp) ours in
-    let here = rw from.first at stands in (
+    let here = rw from at stands in (
       other,
-      subst (OpensOn (state_of m)) (sym (from.first ∙ same)) (opens_at_rest m book.blocks book.opening book.stamp none here),
-      from.ours ∙ ours,
+      subst (OpensOn (state_of m)) (sym (from ∙ same)) (opens_at_rest m book.blocks book.opening book.stamp none here),
+      ap (λ (b : Book). b.ours) from ∙ ours,
       refl,
     )
 opens_next m book (between remains) none is ours from rests found =
     let w = next_opens m remains (λ is_ours. found) in
-    let next_ours : w.book.ours ≡ true = w.ours ∙ from.ours ∙ ours in
+    let next_ours : w.book.ours ≡ true = w.ours ∙ from ∙ ours in
     (w.book, w.on next_ours, next_ours, w.opens)
-opens_next m book (runs conversation) none is ours from rests found = absurd rests
-opens_next m book (off remains) none is ours from rests found = absurd rests
+opens_next m book _ none is ours from rests found = absurd rests
 
 pub lives_are_ready : LivesAreReady
 lives_are_ready = λ before after device lives told lived limit book opens has ours.
     let ends = lived.kept.lives limit book opens has in
+    let size = lived.size_stays in
     let here : EachCut (FoundAt (state_of after).size ends.last.place) (state_of after) =
-    λ image cut. subst (λ (n : ℕ). FoundAt n ends.last.place image) (sym lived.size_stays) (ends.found ours image cut) in
-    let limits : EachCut (HasLimit (state_of after).size limit) (state_of after) =
-    λ image cut. subst (λ (n : ℕ). HasLimit n limit image) (sym lived.size_stays) (ends.limited ours image cut) in
+    λ image cut. rw size (ends.found ours image cut) in
+    let limits : EachCut (HasLimit (state_of after).size limit) (state_of after) = λ image cut. rw size (ends.limited ours image cut) in
     let first : Standing = first_standing limit book in
-    let from =
-    from_run device book (actions_of_all lives) first ends.last told lived.kept.refusals (record { first = refl; ours = refl }) ends.run in
+    let from = from_run device book (actions_of_all lives) first ends.last told lived.kept.refusals refl ends.run in
     let rests = all_between device lives first ends.last told lived.kept.refusals tt ends.run in
     let next = opens_next after book ends.last.place lived.rests.flushed opens.opens ours from rests here in (
       next.0,

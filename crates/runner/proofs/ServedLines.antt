@@ -2,22 +2,23 @@
 use Rattle.std.proofs.Common.{◌≡◌, ◌==◌, ◌<◌, ◌≤◌, ◌⊎◌, ℕ, ◌+◌, min, take, false, List, [], ◌∷◌, ◌++◌, length, Option, None, Some, codes}
 use Rattle.std.proofs.Common.{inl, inr, refl, sym, ap, subst, ◌∙◌, arith, length-append, append_assoc, append-nil}
 use Rattle.std.proofs.lemmas.List.Elements.{All-nil}
-use Rattle.std.proofs.KnownBytes.{Consumes-trans, Appends-nil, Appends-trans, Appends-kept}
+use Rattle.std.proofs.KnownBytes.{Consumes-trans, Appends-kept}
 use Rattle.std.specs.Io.KnownBytes.{Consumes, IsAtEnd}
 use Rattle.spec.specs.declared.event.Event.{Event}
 use Rattle.spec.specs.declared.event.Answer.{Answer}
 use Rattle.runner.specs.declared.player.ServeFault.{ServeFault}
-use Rattle.runner.specs.declared.player.ServeFault.TheVariants.{Line, Reader, Writer, Player}
+use Rattle.runner.specs.declared.player.ServeFault.TheVariants.{Line, Reader}
 use Rattle.runner.specs.Players.{IsPlayer}
 use Rattle.runner.specs.Lines.{lines_of}
 use Rattle.runner.specs.Script.{LinePlays}
 use Rattle.runner.specs.Streams.{IsAll}
+use Rattle.runner.specs.Text.{text_of}
 use Rattle.runner.specs.Served.{line_number, AreAnswered, IsAnswered, IsLineStopped, StopsIn, StopsAtBadLine, StopsUnread, IsServedBy}
 use Rattle.runner.specs.Served.{IsStoppedBy, HasServed, IsTooLong, IsUnended, StandsFor}
 use Rattle.runner.proofs.InTurn.{InTurn-append}
 use Rattle.runner.proofs.LineEnds.{unended-through, ended_line, last_line, begins, plays_line, holds_line, stands-through, first_is}
 use Rattle.runner.proofs.LineEnds.{too_long}
-use Rattle.runner.proofs.ToldEvents.{tells-none, tells-more, breaks-more, gives-more, most_stays}
+use Rattle.runner.proofs.ToldEvents.{tells-none, tells-more, ends-behind, most_stays}
 
 -- the whole script, of which these bytes were taken
 whole_of : (left after : Option (List ℕ)) (read : List ℕ) → Consumes left after read → (more : List ℕ) × IsAll left (read ++ more)
@@ -46,38 +47,29 @@ taken-nothing left mid after read first next =
 next_number : (before : ℕ) → min (line_number before + 1) 18446744073709551615 ≡ line_number (before + 1)
 next_number before = omega arith
 
-module _ {D : Type 0} (Goes : D → List Event → List Answer → D → Type 0) (Stops : D → Event → D → Type 0) (packet : D → ℕ)
-    (laws : IsPlayer Goes packet) (most : ℕ) where
-  answered-none : (was : Option (List ℕ)) (disk : D) → AreAnswered Goes Stops most was was disk disk []
-  answered-none was disk = record {
-    events = [];
-    plays = refl;
-    text = [];
-    tells = tells-none Goes packet laws disk;
-    written = Appends-nil was;
-  }
-
-  pub served-none : (was : Option (List ℕ)) (disk : D) → HasServed Goes Stops most was was disk disk [] 1 []
-  served-none was disk = record {
+module _ {D : Type 0} {Goes : D → List Event → List Answer → D → Type 0} {packet : D → ℕ} (laws : IsPlayer Goes packet) where
+  pub served-none : (Stops : D → Event → D → Type 0) (most : ℕ) (was : Option (List ℕ)) (disk : D)
+      → HasServed Goes Stops most was was disk disk [] 1 []
+  served-none Stops most was disk = record {
     before = [];
     line = [];
     parts = λ more. refl;
     unended = All-nil (λ byte. (byte == 10) ≡ false);
     stands = inl refl;
     counted = refl;
-    answered = answered-none was disk;
+    answered = record { events = []; plays = refl; tells = tells-none laws was disk };
   }
 
-  module _ (was mid : Option (List ℕ)) (old between : D) (held : List ℕ) (number : ℕ) (read : List ℕ)
-      (so : HasServed Goes Stops most was mid old between held number read) where
+  module _ {Stops : D → Event → D → Type 0} {most : ℕ} {was mid : Option (List ℕ)} {old between : D} {held : List ℕ} {number : ℕ}
+      {read : List ℕ} (so : HasServed Goes Stops most was mid old between held number read) where
     -- the size of packets stays
     pub served-packets : packet between ≡ packet old
-    served-packets = most_stays Goes packet laws old between so.answered.events so.answered.text so.answered.tells
+    served-packets = most_stays laws so.answered.tells
 
     -- more bytes of the line
-    pub served-part : (new : List ℕ) (next : ℕ) (part all : List ℕ) → IsUnended part → StandsFor new (held ++ part)
+    pub served-part : (new part : List ℕ) {next : ℕ} {all : List ℕ} → IsUnended part → StandsFor new (held ++ part)
         → next ≡ number → all ≡ read ++ part → HasServed Goes Stops most was mid old between new next all
-    served-part new next part all unended holds same is = record {
+    served-part new part {next} {all} unended holds same is = record {
       before = so.before;
       line = so.line ++ part;
       parts = λ more. ap (λ (l : List ℕ). lines_of (l ++ more)) is ∙ ap lines_of (append_assoc read part more) ∙ so.parts (part ++ more)
@@ -91,16 +83,12 @@ module _ {D : Type 0} (Goes : D → List Event → List Answer → D → Type 0)
     -- one line more
     answered-more : (now : Option (List ℕ)) (new : D) → IsAnswered Goes Stops most mid now between new held
         → AreAnswered Goes Stops most was now old new (so.before ++ so.line ∷ [])
-    answered-more now new next =
-        let done = so.answered in
-        record {
-          events = done.events ++ next.events;
-          plays = InTurn-append (LinePlays most) so.before (so.line ∷ []) done.events next.events done.plays
-              (next.events, [], plays_line most held so.line next.events so.stands next.plays, refl, sym (append-nil next.events));
-          text = done.text ++ next.text;
-          tells = tells-more Goes packet laws old between new done.events next.events done.text next.text done.tells next.tells;
-          written = Appends-trans was mid now done.text next.text done.written next.written;
-        }
+    answered-more now new (events, plays, tells) = record {
+      events = so.answered.events ++ events;
+      plays = InTurn-append (LinePlays most) so.before (so.line ∷ []) so.answered.events events so.answered.plays
+          (events, [], plays_line most held so.line events so.stands plays, refl, sym (append-nil events));
+      tells = tells-more laws so.answered.tells tells;
+    }
 
     -- a line feed ends the line
     parts-ended : (more : List ℕ) → lines_of (read ++ 10 ∷ more) ≡ so.before ++ so.line ∷ lines_of more
@@ -111,10 +99,10 @@ module _ {D : Type 0} (Goes : D → List Event → List Answer → D → Type 0)
     parts-last = ap lines_of (sym (append-nil read)) ∙ so.parts [] ∙ ap (λ (l : List ℕ). so.before ++ lines_of l) (append-nil so.line)
         ∙ ap (λ (l : List (List ℕ)). so.before ++ l) (last_line so.line so.unended)
 
-    pub served-line : (now : Option (List ℕ)) (new : D) → IsAnswered Goes Stops most mid now between new held
-        → (none : List ℕ) (next : ℕ) (all : List ℕ) → none ≡ [] → next ≡ min (number + 1) 18446744073709551615 → all ≡ read ++ 10 ∷ []
+    pub served-line : {now : Option (List ℕ)} {new : D} → IsAnswered Goes Stops most mid now between new held
+        → {none : List ℕ} {next : ℕ} {all : List ℕ} → none ≡ [] → next ≡ min (number + 1) 18446744073709551615 → all ≡ read ++ 10 ∷ []
         → HasServed Goes Stops most was now old new none next all
-    served-line now new answered none next all empty counts is = record {
+    served-line {now} {new} answered empty counts is = record {
       before = so.before ++ so.line ∷ [];
       line = [];
       parts = λ more. ap (λ (l : List ℕ). lines_of (l ++ more)) is ∙ ap lines_of (append_assoc read (10 ∷ []) more) ∙ parts-ended more
@@ -135,47 +123,31 @@ module _ {D : Type 0} (Goes : D → List Event → List Answer → D → Type 0)
         line = so.line;
         after = after;
         parts = parts;
-        answered = record {
-          events = so.answered.events;
-          plays = so.answered.plays;
-          text = so.answered.text;
-          tells = rw stopped.2 so.answered.tells;
-          written = Appends-kept was mid now so.answered.text so.answered.written stopped.3;
-        };
-        bad = λ is. stopped.1 (holds_line most held so.line so.stands is);
+        answered =
+            let tells = so.answered.tells in record {
+              events = so.answered.events;
+              plays = so.answered.plays;
+              tells = rw stopped.2 (record {
+                answers = tells.answers;
+                goes = tells.goes;
+                written = Appends-kept was mid now (text_of so.answered.events tells.answers) tells.written stopped.3;
+              });
+            };
+        bad = λ line. stopped.1 (holds_line most held so.line so.stands line);
         counted = stopped.0 ∙ so.counted;
       }
-      stops-at script after parts Reader stopped = absurd stopped
-      stops-at script after parts Writer stopped = record {
+      stops-at script after parts fault (asked, plays, part) = record {
         before = so.before;
         line = so.line;
         after = after;
         parts = parts;
         first = so.answered.events;
         whole = so.answered.plays;
-        part = stopped.part;
-        event = stopped.event;
-        rest = stopped.rest;
-        here = plays_line most held so.line (stopped.part ++ stopped.event ∷ stopped.rest) so.stands stopped.plays;
-        breaks =
-            breaks-more Goes packet laws was mid now old between new so.answered.events stopped.part so.answered.text stopped.event
-            so.answered.tells
-            so.answered.written stopped.breaks;
-      }
-      stops-at script after parts Player stopped = record {
-        before = so.before;
-        line = so.line;
-        after = after;
-        parts = parts;
-        first = so.answered.events;
-        whole = so.answered.plays;
-        part = stopped.part;
-        event = stopped.event;
-        rest = stopped.rest;
-        here = plays_line most held so.line (stopped.part ++ stopped.event ∷ stopped.rest) so.stands stopped.plays;
-        gives_up =
-            gives-more Goes packet laws Stops was mid now old between new so.answered.events stopped.part so.answered.text stopped.event
-            so.answered.tells so.answered.written stopped.gives_up;
+        part = part.part;
+        event = part.event;
+        rest = part.rest;
+        here = plays_line most held so.line (part.part ++ part.event ∷ part.rest) so.stands (rw part.parts at plays);
+        ends = ends-behind laws so.answered.tells part;
       }
 
       pub stops-ended : (more : List ℕ) (fault : ServeFault) → IsLineStopped Goes Stops most mid now between new held number fault
@@ -183,9 +155,22 @@ module _ {D : Type 0} (Goes : D → List Event → List Answer → D → Type 0)
       stops-ended more fault stopped = stops-at (read ++ 10 ∷ more) (lines_of more) (parts-ended more) fault stopped
 
       -- at the end of the input
-      stops-last : (fault : ServeFault) → IsLineStopped Goes Stops most mid now between new held number fault
-          → StopsIn Goes Stops most was now old new read fault
-      stops-last fault stopped = stops-at read [] parts-last fault stopped
+      pub stopped-last : (left after : Option (List ℕ)) → Consumes left after read → IsAtEnd after → (fault : ServeFault)
+          → IsLineStopped Goes Stops most mid now between new held number fault
+          → IsStoppedBy Goes Stops most was now old new left after fault
+      stopped-last left after taken end Reader stopped = absurd stopped.2.ends
+      stopped-last left after taken end fault stopped =
+          (read, all_of left after read taken end, stops-at read [] parts-last fault stopped)
+
+      -- the input was read to its end
+      pub served-all : (left after : Option (List ℕ)) → Consumes left after read → IsAtEnd after
+          → IsAnswered Goes Stops most mid now between new held → IsServedBy Goes Stops most was now old new left after
+      served-all left after taken end answered = record {
+        script = read;
+        all = all_of left after read taken end;
+        at_end = end;
+        answered = rw parts-last (answered-more now new answered);
+      }
 
     -- a line is too long
     pub stops-long : (part more : List ℕ) → most ≤ 512 → IsUnended part → IsTooLong (held ++ part)
@@ -220,35 +205,11 @@ module _ {D : Type 0} (Goes : D → List Event → List Answer → D → Type 0)
     pub served-unread : StopsUnread Goes Stops most was mid old between read
     served-unread = record { before = so.before; line = so.line; parts = parts-last; answered = so.answered }
 
-    -- the input was read to its end
-    pub served-all : (left after : Option (List ℕ)) → Consumes left after read → IsAtEnd after
-        → (now : Option (List ℕ)) (new : D) → IsAnswered Goes Stops most mid now between new held
-        → IsServedBy Goes Stops most was now old new left after
-    served-all left after taken end now new answered = record {
-      script = read;
-      all = all_of left after read taken end;
-      at_end = end;
-      answered = subst (λ (l : List (List ℕ)). AreAnswered Goes Stops most was now old new l) (sym parts-last) (answered-more now new
-          answered);
-    }
-
-    pub stopped-last : (left after : Option (List ℕ)) → Consumes left after read → IsAtEnd after
-        → (now : Option (List ℕ)) (new : D) (fault : ServeFault) → IsLineStopped Goes Stops most mid now between new held number fault
-        → IsStoppedBy Goes Stops most was now old new left after fault
-    stopped-last left after taken end now new (Line told) stopped =
-        (read, all_of left after read taken end, stops-last now new (Line told) stopped)
-    stopped-last left after taken end now new Reader stopped = absurd stopped
-    stopped-last left after taken end now new Writer stopped = (read, all_of left after read taken end, stops-last now new Writer stopped)
-    stopped-last left after taken end now new Player stopped = (read, all_of left after read taken end, stops-last now new Player stopped)
-
-  -- the serving stopped, whatever stands behind what was read
-  pub stopped-in : (was now : Option (List ℕ)) (old new : D) (left after : Option (List ℕ)) (read : List ℕ)
-      → Consumes left after read → (fault : ServeFault) → ((more : List ℕ) → StopsIn Goes Stops most was now old new (read ++ more) fault)
-      → IsStoppedBy Goes Stops most was now old new left after fault
-  stopped-in was now old new left after read taken (Line number) stops =
-      let all = whole_of left after read taken in (read ++ all.0, all.1, stops all.0)
-  stopped-in was now old new left after read taken Reader stops = absurd (stops [])
-  stopped-in was now old new left after read taken Writer stops =
-      let all = whole_of left after read taken in (read ++ all.0, all.1, stops all.0)
-  stopped-in was now old new left after read taken Player stops =
-      let all = whole_of left after read taken in (read ++ all.0, all.1, stops all.0)
+-- the serving stopped, whatever stands behind what was read
+pub stopped-in : {D : Type 0} (Goes : D → List Event → List Answer → D → Type 0) (Stops : D → Event → D → Type 0) (most : ℕ)
+    (was now : Option (List ℕ)) (old new : D) (left after : Option (List ℕ)) (read : List ℕ) → Consumes left after read
+    → (fault : ServeFault) → ((more : List ℕ) → StopsIn Goes Stops most was now old new (read ++ more) fault)
+    → IsStoppedBy Goes Stops most was now old new left after fault
+stopped-in Goes Stops most was now old new left after read taken Reader stops = absurd (stops []).ends
+stopped-in Goes Stops most was now old new left after read taken fault stops =
+    let all = whole_of left after read taken in (read ++ all.0, all.1, stops all.0)

@@ -1,12 +1,12 @@
 -- Lives of a disk over a medium in memory, from the first on.
-use Rattle.std.proofs.Common.{◌≡◌, ℕ, ◌+◌, ◌≤◌, Bool, false, List, [], ◌∷◌, ◌++◌, None, Option, refl, ap, subst, ◌∙◌, arith}
+use Rattle.std.proofs.Common.{◌≡◌, ℕ, ◌+◌, ◌≤◌, Bool, false, List, [], ◌∷◌, ◌++◌, None, Option, refl, ap, ◌∙◌, arith}
 use Rattle.medium.specs.Medium.{CutLeaves}
 use Rattle.medium.specs.Sim.{Sim, state_of}
 use Rattle.bot_machine.specs.StartFaults.{StartFault}
 use Rattle.bot_machine.specs.StartFaults as start
 use Rattle.bot_machine.specs.Device.{presented, Device, Late}
 use Rattle.spec.specs.Identification.{Identification}
-use Rattle.bot_machine.specs.Books.{StandsAs, MayFind}
+use Rattle.bot_machine.specs.Books.{StandsAs}
 use Rattle.bot_machine.specs.Starting.{StandsForSome}
 use Rattle.spec.specs.Book.{Book}
 use Rattle.spec.specs.declared.event.Answer.{Answer}
@@ -15,14 +15,14 @@ use Rattle.bot_machine.specs.declared.lives.disk_state.DiskState.TheVariants.{St
 use Rattle.spec.specs.Conversation.{refused_events}
 use Rattle.spec.specs.Promise.{first_standing, AreKept, AreKeptUpTo}
 use Rattle.bot_machine.specs.Lifetimes.{KeepsPromise, KeepsPromiseUpTo, IsRefusedFor}
-use Rattle.spec.specs.Lives.{Action, plays, Standing, Opens, LivesRun}
-use Rattle.bot_machine.specs.LivesValue.{LivesValue, MayRefuse, LivesRefuseStart, HasLimit, LeavesLimit, FitsLives, OpensOn}
-use Rattle.bot_machine.specs.LivesValue.{IsAtRest, FoundAt, faults_armed}
-use Rattle.bot_machine.specs.Moving.{medium_in, has_refused, MovesBy, IsRefusedStart}
+use Rattle.spec.specs.Lives.{Action, plays, Standing, LivesRun}
+use Rattle.bot_machine.specs.LivesValue.{LivesValue, MayRefuse, LivesRefuseStart, HasLimit, FitsLives, OpensOn}
+use Rattle.bot_machine.specs.LivesValue.{IsAtRest, faults_armed}
+use Rattle.bot_machine.specs.Moving.{medium_in, has_refused, MovesBy}
 use Rattle.bot_machine.proofs.Caused.{few_causes, refused_events-append}
 use Rattle.runner.specs.declared.fault.ScriptError.{ScriptError as ErrorOf}
 use Rattle.runner.specs.declared.fault.ScriptFault.{ScriptFault}
-use Rattle.runner.specs.declared.fault.ScriptFault.TheVariants.{Line, TooLong, Start, NoMemory, Reader, Writer}
+use Rattle.runner.specs.declared.fault.ScriptFault.TheVariants.{Line, TooLong, Start, Writer}
 use Rattle.runner.specs.Lifetimes.{LineActs, AreMoved, AreStopped}
 use Rattle.runner.specs.Lines.{lines_of}
 use Rattle.std.specs.Io.KnownBytes.{IsAtEnd}
@@ -47,16 +47,10 @@ stays disk (refused ∷ refusals) old new run = absurd run
 -- what is a cause where more refusals are counted before is one where fewer are
 may_refuse : (book : Book) (fewer counted failures : ℕ) (fault : StartFault) → fewer ≤ counted
     → MayRefuse book counted failures fault → MayRefuse book fewer failures fault
-may_refuse book fewer counted failures start.NoMemory le h = h
 may_refuse book fewer counted failures start.Read le h = omega (arith, le, h)
 may_refuse book fewer counted failures start.Write le h = omega (arith, le, h)
 may_refuse book fewer counted failures start.Flush le h = omega (arith, le, h)
-may_refuse book fewer counted failures start.BadSuper le h = h
-may_refuse book fewer counted failures start.BadVersion le h = h
-may_refuse book fewer counted failures start.BadSize le h = h
-may_refuse book fewer counted failures start.BadHead le h = h
-may_refuse book fewer counted failures start.StampsUsedUp le h = h
-may_refuse book fewer counted failures start.LogTooSmall le h = h
+may_refuse book fewer counted failures _ le h = h
 
 module _ (most : ℕ) (medium : Sim) (rest : IsAtRest medium) (unfused : medium.power.fuse ≡ None)
     (fits : (limit : ℕ) (book : Book) → OpensOn (state_of medium) book → HasLimit (state_of medium).size limit (state_of medium).content
@@ -68,15 +62,13 @@ module _ (most : ℕ) (medium : Sim) (rest : IsAtRest medium) (unfused : medium.
         (presented (device most)) limit book actions answers acted.goes_on.refusals
         (CutLeaves (state_of (medium_in new.state)).may_leave)
     kept_from limit book opens has =
-        let g = acted.goes_on.goes (first_standing limit book) (fits limit book opens has) in
+        let on = acted.goes_on in
+        let g = on.goes (first_standing limit book) (fits limit book opens has) in
         record {
           last = g.there;
-          run = subst (λ (i : Device). LivesRun (presented i) (first_standing limit book) actions answers acted.goes_on.refusals g.there)
-              acted.goes_on.device_stays g.run;
-          limited = λ ours image cut. subst (λ (n : ℕ). HasLimit n limit image) acted.goes_on.size_stays
-              (subst (λ (n : ℕ). LeavesLimit n new.state) (g.limit_stays ours) (g.fits.limited (g.ours ∙ ours)) image cut);
-          found = λ ours image cut. subst (λ (n : ℕ). FoundAt n g.there.place image) acted.goes_on.size_stays
-              (g.fits.found (g.ours ∙ ours) image cut);
+          run = rw on.device_stays at g.run;
+          limited = λ ours image cut. rw (← on.size_stays, ← g.limit_stays ours) (g.fits.limited (g.ours ∙ ours) image cut);
+          found = λ ours image cut. rw (← on.size_stays) (g.fits.found (g.ours ∙ ours) image cut);
         }
 
     keep : KeepsPromise medium (device most) actions answers (medium_in new.state)
@@ -114,13 +106,11 @@ module _ (most : ℕ) (medium : Sim) (rest : IsAtRest medium) (unfused : medium.
         let l = refused.stops.goes g.there g.fits in
         record {
           last = g.there;
-          run = subst (λ (i : Device). LivesRun (presented i) (first_standing limit book) actions answers on.refusals g.there)
-              on.device_stays g.run;
+          run = rw on.device_stays at g.run;
           next = l.book;
-          opens = subst (λ (s : Standing). Opens s.place l.book) (stays new.device refused.stops.refusals g.there l.there l.run) l.opens;
-          limited = λ ours image cut. subst (λ (n : ℕ). HasLimit n limit image) size_stays
-              (subst (λ (n : ℕ). LeavesLimit n new.state) (g.limit_stays ours) (l.limited (l.ours ∙ g.ours ∙ ours)) image cut);
-          found = λ ours image cut. subst (λ (n : ℕ). MayFind n l.book image) size_stays (l.found (l.ours ∙ g.ours ∙ ours) image cut);
+          opens = rw (stays new.device refused.stops.refusals g.there l.there l.run) at l.opens;
+          limited = λ ours image cut. rw (← size_stays, ← g.limit_stays ours) (l.limited (l.ours ∙ g.ours ∙ ours) image cut);
+          found = λ ours image cut. rw (← size_stays) (l.found (l.ours ∙ g.ours ∙ ours) image cut);
         }
 
     keeps : KeepsPromiseUpTo medium (device most) actions answers (medium_in new.state)
@@ -164,8 +154,8 @@ module _ (most : ℕ) (medium : Sim) (rest : IsAtRest medium) (unfused : medium.
           same = refl;
           in_start_is = stop.counted ∙ ap (λ (s : DiskState). has_refused (state_of (medium_in s)) (state_of (medium_in new.state))) same;
           moved = moved actions answers mid acted;
-          rests = subst (λ (s : DiskState). s ≡ Stopped (medium_in s)) same refl;
-          start = subst (λ (s : DiskState). IsRefusedStart (medium_in s) fault (medium_in new.state)) same stop.start;
+          rests = rw (← same) refl;
+          start = rw (← same) stop.start;
           refused = refused_for;
           size_stays = size_stays;
         }
@@ -173,7 +163,7 @@ module _ (most : ℕ) (medium : Sim) (rest : IsAtRest medium) (unfused : medium.
   module _ (left was now : Option (List ℕ)) (script : List ℕ) (read : IsRead left script) where
     are_played : (after : Sim) → PlaysAll was now (first_over most medium) most (lines_of script) after
         → ArePlayed most left was now medium after
-    are_played after all = subst (λ (m : Sim). ArePlayed most left was now medium m) all.left (record {
+    are_played after all = rw (← all.left) (record {
       promise = record {
         script = script;
         read = read;
@@ -196,7 +186,7 @@ module _ (most : ℕ) (medium : Sim) (rest : IsAtRest medium) (unfused : medium.
         read = read;
         first = first;
         part = part;
-        stops = subst (λ (a : Action). StopsAt (LineActs most) (lines_of script) first part a) ends.is stops;
+        stops = rw ends.is at stops;
         answers = answers;
         written = ends.written;
         kept = keeps (first ++ part) answers ends.mid new fault ends.acted ends.refused;
@@ -210,7 +200,7 @@ module _ (most : ℕ) (medium : Sim) (rest : IsAtRest medium) (unfused : medium.
         first = first;
         part = part;
         event = ends.event;
-        stops = subst (λ (a : Action). StopsAt (LineActs most) (lines_of script) first part a) ends.is stops;
+        stops = rw ends.is at stops;
         answers = answers;
         answer = ends.answer;
         written = ends.written;
@@ -218,15 +208,11 @@ module _ (most : ℕ) (medium : Sim) (rest : IsAtRest medium) (unfused : medium.
       };
       moved = moved ((first ++ part) ++ plays ends.event ∷ []) (answers ++ ends.answer ∷ []) new ends.acted;
     }
-    ended first part last answers new (Line number) stops ends = absurd ends
-    ended first part last answers new TooLong stops ends = absurd ends
-    ended first part last answers new NoMemory stops ends = absurd ends
-    ended first part last answers new Reader stops ends = absurd ends
+    ended first part last answers new _ stops ends = absurd ends
 
     are_refused : (fault : ScriptFault) (back : Sim) → PlaysUpTo was now (first_over most medium) most (lines_of script) fault back
         → AreRefused most left was now medium fault back
-    are_refused fault back up_to =
-        subst (λ (m : Sim). AreRefused most left was now medium fault m) up_to.left
+    are_refused fault back up_to = rw (← up_to.left)
         (ended up_to.first up_to.part up_to.last up_to.answers up_to.new fault up_to.stops up_to.ends)
 
 module _ (most : ℕ) (medium : Sim) (rest : IsAtRest medium) (unfused : medium.power.fuse ≡ None) (identity : Identification)
@@ -240,18 +226,16 @@ module _ (most : ℕ) (medium : Sim) (rest : IsAtRest medium) (unfused : medium.
 
   fits : (limit : ℕ) (book : Book) → OpensOn (state_of medium) book → HasLimit (state_of medium).size limit (state_of medium).content
       → FitsLives (first_over most medium) (first_standing limit book)
-  fits limit book on has = subst (λ (l : LivesValue). FitsLives l (first_standing limit book)) same (opens limit book rest unfused on has)
+  fits limit book on has = rw (← same) (opens limit book rest unfused on has)
 
   -- a script that was played whole
   pub is_played : (after : Sim) → PlaysAll was now lives most (lines_of script) after → ArePlayed most left was now medium after
-  is_played after all = are_played most medium rest unfused fits left was now script read after
-      (subst (λ (l : LivesValue). PlaysAll was now l most (lines_of script) after) same all)
+  is_played after all = are_played most medium rest unfused fits left was now script read after (rw same at all)
 
   -- a script that was played up to a fault
   pub is_refused : (error : ErrorOf Sim) → PlaysUpTo was now lives most (lines_of script) error.fault error.medium
       → AreRefused most left was now medium error.fault error.medium
-  is_refused error up_to = are_refused most medium rest unfused fits left was now script read error.fault error.medium
-      (subst (λ (l : LivesValue). PlaysUpTo was now l most (lines_of script) error.fault error.medium) same up_to)
+  is_refused error up_to = are_refused most medium rest unfused fits left was now script read error.fault error.medium (rw same at up_to)
 
 -- what is told of a script that was refused tells of the promise
 pub until : (most : ℕ) (left was now : Option (List ℕ)) (medium back : Sim) (fault : ScriptFault)
@@ -260,8 +244,7 @@ until most left was now medium back (Start fault) refused = refused.promise
 until most left was now medium back Writer refused = refused.promise
 until most left was now medium back (Line number) refused = refused.0
 until most left was now medium back TooLong refused = refused.0
-until most left was now medium back NoMemory refused = refused
-until most left was now medium back Reader refused = refused
+until most left was now medium back _ refused = refused
 
 -- a script that was played up to a fault was read to its end
 pub taken_up_to : (most : ℕ) (was now : Option (List ℕ)) (lives : LivesValue) (lines : List (List ℕ)) (error : ErrorOf Sim)
@@ -274,7 +257,4 @@ taken_up_to most was now lives lines error all rest up_to ended =
         → EndsBy was now lives actions answers last new fault → HasTaken fault all rest
     by_fault (Start fault) actions answers last new ends = ended
     by_fault Writer actions answers last new ends = ended
-    by_fault (Line number) actions answers last new ends = absurd ends
-    by_fault TooLong actions answers last new ends = absurd ends
-    by_fault NoMemory actions answers last new ends = absurd ends
-    by_fault Reader actions answers last new ends = absurd ends
+    by_fault _ actions answers last new ends = absurd ends

@@ -23,12 +23,7 @@ module _ {M : Type 0} (state : M → State) where
         done.1,
         steps-append first rest told more refused others done.0 mid new done.2 next,
       )
-  steps-append [] rest [] more (r ∷ refused) others old mid new done next = absurd done
-  steps-append [] rest (a ∷ told) more [] others old mid new done next = absurd done
-  steps-append [] rest (a ∷ told) more (r ∷ refused) others old mid new done next = absurd done
-  steps-append (e ∷ first) rest [] more [] others old mid new done next = absurd done
-  steps-append (e ∷ first) rest [] more (r ∷ refused) others old mid new done next = absurd done
-  steps-append (e ∷ first) rest (a ∷ told) more [] others old mid new done next = absurd done
+  steps-append _ rest _ more _ others old mid new done next = absurd done
 
   -- the size of packets stays
   pub packets_stay : (events : List Event) (answers : List Answer) (refusals : List Bool)
@@ -37,12 +32,7 @@ module _ {M : Type 0} (state : M → State) where
   packets_stay [] [] [] old new steps = ap (λ (d : DiskValue M). d.line.packet_size) steps
   packets_stay (event ∷ events) (answer ∷ answers) (refused ∷ refusals) old new steps =
       packets_stay events answers refusals steps.0 new steps.2 ∙ steps.1.0.packets_stay
-  packets_stay [] [] (r ∷ refusals) old new steps = absurd steps
-  packets_stay [] (a ∷ answers) [] old new steps = absurd steps
-  packets_stay [] (a ∷ answers) (r ∷ refusals) old new steps = absurd steps
-  packets_stay (e ∷ events) [] [] old new steps = absurd steps
-  packets_stay (e ∷ events) [] (r ∷ refusals) old new steps = absurd steps
-  packets_stay (e ∷ events) (a ∷ answers) [] old new steps = absurd steps
+  packets_stay _ _ _ old new steps = absurd steps
 
   pub one_each : (events : List Event) (answers : List Answer) (refusals : List Bool)
       (old new : DiskValue M) → StepsThrough state old events answers refusals new
@@ -50,12 +40,7 @@ module _ {M : Type 0} (state : M → State) where
   one_each [] [] [] old new steps = refl
   one_each (event ∷ events) (answer ∷ answers) (refused ∷ refusals) old new steps =
       ap suc (one_each events answers refusals steps.0 new steps.2)
-  one_each [] [] (r ∷ refusals) old new steps = absurd steps
-  one_each [] (a ∷ answers) [] old new steps = absurd steps
-  one_each [] (a ∷ answers) (r ∷ refusals) old new steps = absurd steps
-  one_each (e ∷ events) [] [] old new steps = absurd steps
-  one_each (e ∷ events) [] (r ∷ refusals) old new steps = absurd steps
-  one_each (e ∷ events) (a ∷ answers) [] old new steps = absurd steps
+  one_each _ _ _ old new steps = absurd steps
 
   pub disk_plays : (Follows : M → M → Type 0) → ((m : M) → Follows m m)
       → ((a b c : M) → Follows a b → Follows b c → Follows a c)

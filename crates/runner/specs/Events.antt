@@ -4,8 +4,7 @@ use Rattle.spec.specs.declared.event.Event.{Event}
 use Rattle.spec.specs.declared.event.Event.TheVariants as event
 use Rattle.spec.specs.Packets.{bytes_of, packets_of}
 use Rattle.runner.specs.declared.line.ScriptLine.{ScriptLine}
-use Rattle.runner.specs.declared.line.ScriptLine.TheVariants.{Skipped, Out, Fill, In, Setup, Tick}
-use Rattle.runner.specs.declared.line.ScriptLine.TheVariants.{Fuse, Fail, Cut}
+use Rattle.runner.specs.declared.line.ScriptLine.TheVariants.{Out, Fill, In, Setup, Tick}
 
 -- a packet to Bulk-Out
 abbrev pub packet_out : List ℕ → Event
@@ -13,13 +12,10 @@ packet_out packet = event.Out (record { items = packet })
 
 -- the events that a line plays, one after another
 abbrev pub events_of : ScriptLine → List Event
-events_of Skipped = []
 events_of (Out packet) = event.Out packet ∷ []
 events_of (Fill byte count size) =
     map packet_out (packets_of (bytes_of size) (replicate count byte))
 events_of In = event.In ∷ []
 events_of (Setup packet) = event.Setup packet ∷ []
 events_of (Tick count) = replicate count event.Tick
-events_of (Fuse writes) = []
-events_of (Fail call) = []
-events_of (Cut kept) = []
+events_of asked = []

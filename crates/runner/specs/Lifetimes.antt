@@ -15,7 +15,6 @@ use Rattle.bot_machine.specs.declared.lives.disk_state.DiskState.TheVariants.{St
 use Rattle.runner.specs.declared.kept.KeptWrites.{KeptWrites}
 use Rattle.runner.specs.declared.kept.KeptWrites.TheVariants as kept
 use Rattle.runner.specs.declared.line.ScriptLine.{ScriptLine}
-use Rattle.runner.specs.declared.line.ScriptLine.TheVariants.{Skipped, Out, Fill, In, Setup, Tick}
 use Rattle.runner.specs.declared.line.ScriptLine.TheVariants.{Fuse, Fail, Cut}
 use Rattle.runner.specs.Line.{Spells}
 use Rattle.runner.specs.Events.{events_of}
@@ -37,12 +36,7 @@ abbrev pub actions_of : ScriptLine → List Action
 actions_of (Fuse writes) = arms writes ∷ []
 actions_of (Fail call) = fails call ∷ []
 actions_of (Cut kept) = cuts (is_kept kept) ∷ []
-actions_of Skipped = []
-actions_of (Out packet) = flat_map comes (events_of (Out packet))
-actions_of (Fill byte count size) = flat_map comes (events_of (Fill byte count size))
-actions_of In = flat_map comes (events_of In)
-actions_of (Setup packet) = flat_map comes (events_of (Setup packet))
-actions_of (Tick count) = flat_map comes (events_of (Tick count))
+actions_of asked = flat_map comes (events_of asked)
 
 -- the line does this, in a script of several lives, where packets have at most `most` bytes
 pub record LineActs (most : ℕ) (line : List ℕ) (actions : List Action) : Type 0 where
@@ -56,35 +50,31 @@ Acts most lines actions = InTurn (LineActs most) lines actions
 
 -- the lines of the events among these actions and of their answers, one after another
 abbrev pub text_of_lives : List Action → List Answer → List ℕ
-text_of_lives [] answers = []
-text_of_lives (arms writes ∷ actions) answers = text_of_lives actions answers
-text_of_lives (fails call ∷ actions) answers = text_of_lives actions answers
-text_of_lives (starts ∷ actions) answers = text_of_lives actions answers
-text_of_lives (cuts keeps ∷ actions) answers = text_of_lives actions answers
-text_of_lives (plays event ∷ actions) [] = []
 text_of_lives (plays event ∷ actions) (answer ∷ answers) =
     line_for event answer ++ text_of_lives actions answers
+text_of_lives (plays event ∷ actions) [] = []
+text_of_lives (action ∷ actions) answers = text_of_lives actions answers
+text_of_lives [] answers = []
+
+-- whether a fuse is armed after an action
+abbrev pub fuse_after : Bool → Action → Bool
+fuse_after fused (arms writes) = true
+fuse_after fused (cuts keeps) = false
+fuse_after fused action = fused
 
 -- Each event has one answer, which is Off only behind a fuse of the same life. The truth value says
 -- that one is armed before; a failure of a call lets no power go.
 abbrev pub AnswersFit : Bool → List Action → List Answer → Type 0
-AnswersFit fused [] answers = answers ≡ []
-AnswersFit fused (arms writes ∷ actions) answers = AnswersFit true actions answers
-AnswersFit fused (fails call ∷ actions) answers = AnswersFit fused actions answers
-AnswersFit fused (starts ∷ actions) answers = AnswersFit fused actions answers
-AnswersFit fused (cuts keeps ∷ actions) answers = AnswersFit false actions answers
-AnswersFit fused (plays event ∷ actions) [] = ⊥
 AnswersFit fused (plays event ∷ actions) (answer ∷ answers) = (answer ≡ Off → fused ≡ true)
     × AnswersFit fused actions answers
+AnswersFit fused (plays event ∷ actions) [] = ⊥
+AnswersFit fused (action ∷ actions) answers = AnswersFit (fuse_after fused action) actions answers
+AnswersFit fused [] answers = answers ≡ []
 
 -- whether a fuse is armed after these actions
 abbrev pub fused_after : Bool → List Action → Bool
 fused_after fused [] = fused
-fused_after fused (arms writes ∷ actions) = fused_after true actions
-fused_after fused (fails call ∷ actions) = fused_after fused actions
-fused_after fused (starts ∷ actions) = fused_after fused actions
-fused_after fused (cuts keeps ∷ actions) = fused_after false actions
-fused_after fused (plays event ∷ actions) = fused_after fused actions
+fused_after fused (action ∷ actions) = fused_after (fuse_after fused action) actions
 
 -- Actions of a disk with packets of at most `most` bytes, over a medium in memory, and their
 -- answers. They move the disk and its medium one after another, and leave this medium. A fuse, a

@@ -45,20 +45,17 @@ pub record HasBadLine (kind : ScriptKind) (most : ℕ) (left : Option (List ℕ)
 abbrev pub IsNoScript : ScriptKind → ℕ → Option (List ℕ) → ScriptFault → Type 0
 IsNoScript kind most left (Line number) = HasBadLine kind most left number
 IsNoScript kind most left TooLong = IfSome left (λ all. script_limit < length all)
-IsNoScript kind most left (Start fault) = ⊥
 IsNoScript kind most left NoMemory = ⊤
 IsNoScript kind most left Reader = ⊤
-IsNoScript kind most left Writer = ⊥
+IsNoScript kind most left fault = ⊥
 
 -- How much of the script was taken from its reader, where it was refused: a first part where it was
 -- not read to its end, and else all of it.
 abbrev pub HasTaken : ScriptFault → Option (List ℕ) → Option (List ℕ) → Type 0
-HasTaken (Line number) was now = IsAtEnd now
 HasTaken TooLong was now = IsReadSoFar read.TooLong script_limit was now
-HasTaken (Start fault) was now = IsAtEnd now
 HasTaken NoMemory was now = IsReadSoFar read.NoMemory script_limit was now
 HasTaken Reader was now = IsReadSoFar read.Reader script_limit was now
-HasTaken Writer was now = IsAtEnd now
+HasTaken fault was now = IsAtEnd now
 
 module _ {M : Type 0} (state : M → State) (most : ℕ) (left : Option (List ℕ))
     (was now : Option (List ℕ)) (medium : M) where
@@ -108,6 +105,5 @@ module _ {M : Type 0} (state : M → State) (most : ℕ) (left : Option (List �
   IsRefused TooLong back = IsLeftAlone medium back was now
       × IfSome left (λ all. script_limit < length all)
   IsRefused (Start fault) back = IsNotStarted fault back
-  IsRefused NoMemory back = IsLeftAlone medium back was now
-  IsRefused Reader back = IsLeftAlone medium back was now
   IsRefused Writer back = IsCutShort back
+  IsRefused fault back = IsLeftAlone medium back was now

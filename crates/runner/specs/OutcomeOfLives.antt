@@ -9,8 +9,7 @@ use Rattle.spec.specs.declared.event.Answer.{Answer}
 use Rattle.spec.specs.Lives.{Action, starts, plays}
 use Rattle.console.specs.Streams.{AppendsUpTo}
 use Rattle.runner.specs.declared.fault.ScriptFault.{ScriptFault}
-use Rattle.runner.specs.declared.fault.ScriptFault.TheVariants.{Line, TooLong, Start, NoMemory}
-use Rattle.runner.specs.declared.fault.ScriptFault.TheVariants.{Reader, Writer}
+use Rattle.runner.specs.declared.fault.ScriptFault.TheVariants.{Line, TooLong, Start, Writer}
 use Rattle.runner.specs.declared.line.ScriptKind.TheVariants.{Lives}
 use Rattle.runner.specs.Lifetimes.{LineActs, Acts, AreMoved, AreStopped, text_of_lives}
 use Rattle.runner.specs.Lines.{lines_of}
@@ -88,6 +87,5 @@ module _ (most : ℕ) (left was now : Option (List ℕ)) (medium : Sim) where
   AreRefused TooLong back = IsLeftAlone medium back was now
       × IfSome left (λ all. script_limit < length all)
   AreRefused (Start fault) back = AreRefusedAStart fault back
-  AreRefused NoMemory back = IsLeftAlone medium back was now
-  AreRefused Reader back = IsLeftAlone medium back was now
   AreRefused Writer back = AreCutShort back
+  AreRefused fault back = IsLeftAlone medium back was now

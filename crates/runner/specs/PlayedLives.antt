@@ -9,8 +9,7 @@ use Rattle.spec.specs.Lives.{Action, starts, plays}
 use Rattle.bot_machine.specs.LivesValue.{LivesValue, LivesGoOn, LivesRefuseStart, medium_in}
 use Rattle.console.specs.Streams.{AppendsUpTo}
 use Rattle.runner.specs.declared.fault.ScriptFault.{ScriptFault}
-use Rattle.runner.specs.declared.fault.ScriptFault.TheVariants.{Line, TooLong, Start, NoMemory}
-use Rattle.runner.specs.declared.fault.ScriptFault.TheVariants.{Reader, Writer}
+use Rattle.runner.specs.declared.fault.ScriptFault.TheVariants.{Start, Writer}
 use Rattle.runner.specs.Lifetimes.{LineActs, Acts, AnswersFit, fused_after, text_of_lives}
 use Rattle.runner.specs.Script.{StopsAt}
 use Rattle.runner.specs.Text.{line_for}
@@ -57,10 +56,7 @@ module _ (was now : Option (List ℕ)) (old : LivesValue) where
   abbrev pub EndsBy : List Action → List Answer → Action → LivesValue → ScriptFault → Type 0
   EndsBy actions answers last new (Start fault) = EndsUnstarted actions answers last new fault
   EndsBy actions answers last new Writer = EndsUnwritten actions answers last new
-  EndsBy actions answers last new (Line number) = ⊥
-  EndsBy actions answers last new TooLong = ⊥
-  EndsBy actions answers last new NoMemory = ⊥
-  EndsBy actions answers last new Reader = ⊥
+  EndsBy actions answers last new fault = ⊥
 
   -- the first of these actions were done, and at the next one lives ended for a fault
   pub record BreaksOff (actions : List Action) (new : LivesValue) (fault : ScriptFault)

@@ -16,17 +16,17 @@ use Rattle.recovery.specs.Recovered.{IsMigrationBy, IsMigrationCause, MigrationL
 use Rattle.recovery.specs.declared.recovered.Recovered.{Recovered}
 use Rattle.spec.specs.Packets.{bytes_of}
 use Rattle.bot_machine.specs.StartFaults.{StartFault}
-use Rattle.spec.specs.declared.packet_size.PacketSize.{PacketSize}
 use Rattle.console.specs.Streams.{AppendsSome}
 use Rattle.console.specs.declared.words.ArgumentFault.{ArgumentFault}
 use Rattle.runner.specs.declared.fault.ScriptFault.{ScriptFault}
 use Rattle.runner.specs.declared.refusal.Refusal.{Refusal}
 use Rattle.runner.specs.declared.refusal.Refusal.TheVariants as refused
+use Rattle.runner.specs.declared.task.Task.{Task}
+use Rattle.runner.specs.declared.task.Task.TheVariants.{Format, Migrate, Run, Sim as InMemory}
 use Rattle.runner.specs.Outcome.{IsPlayed, IsRefused}
 use Rattle.runner.specs.OutcomeOfLives.{ArePlayed, AreRefused}
 use Rattle.runner.specs.Status.{refusal_of_argument, refusal_of_fault, refusal_of_start}
-use Rattle.runner.specs.Task.{AreFormatWords, AreMigrateWords, AreScriptWords, IsCommandLine}
-use Rattle.runner.specs.Task.{IsScriptCommand}
+use Rattle.runner.specs.Task.{SpellsTask, IsCommandLine}
 use Rattle.runner.specs.Text.{ended}
 
 -- `blocks` blocks and `slots` log slots of this format make an image of at most 65,536 sectors
@@ -77,17 +77,37 @@ pub record IsJustOpened (path : List ℕ) (opened : Copied) : Type 0 where
 abbrev pub IsBack : {M : Type 0} → (M → Type 0) → Option M → Type 0
 IsBack {M} Holds back = (after : M) × (back ≡ Some after) × Holds after
 
--- What was written then, and now.
+-- the image file at this path was opened, and comes back as work on it has left it
+pub record ComesBack (back : Option Copied) (path : List ℕ) (Work : Copied → Copied → Type 0)
+    : Type 0 where
+  pub opened : Copied
+  pub is_opened : IsJustOpened path opened
+  pub after : Copied
+  pub given : back ≡ Some after
+  pub path_is : after.file.path ≡ path
+  pub work : Work opened after
+
+-- playing a script on a medium was refused, and this is why
+abbrev pub IsPlayRefused : {M : Type 0} → (M → State) → ℕ → Option (List ℕ) → Option (List ℕ)
+    → Option (List ℕ) → M → M → Refusal → Type 0
+IsPlayRefused state most left was now medium back refusal = (fault : ScriptFault)
+    × IsRefused state most left was now medium fault back × (refusal ≡ refusal_of_fault fault)
+
+-- What was written then, and now. A text was appended, or some of it: `Appends` or `AppendsSome`.
 module _ (was now : Option (List ℕ)) where
   module _ {M : Type 0} (state : M → State) (medium : M) where
-    -- The medium was brought to format 2, exactly what is told of it was appended, and nothing was
-    -- done to it afterwards. The truth value says that it was of format 1; else it was recovered.
-    pub record IsMigrated (back : M) : Type 0 where
+    -- The medium was brought to format 2, what is told of it was appended, and nothing was done to
+    -- it afterwards. The truth value says that it was of format 1; else it was recovered.
+    pub record IsMigratedBy (Writes : Option (List ℕ) → Option (List ℕ) → List ℕ → Type 0)
+        (back : M) : Type 0 where
       pub was_one : Bool
       pub answer : Recovered
       pub migrated : IsMigrationBy was_one (state medium) (state back) answer
       pub leaves : MigrationLeaves (state medium) (state back)
-      pub written : Appends was now (migration_text was_one)
+      pub written : Writes was now (migration_text was_one)
+
+    abbrev pub IsMigrated : M → Type 0
+    IsMigrated back = IsMigratedBy Appends back
 
     -- It was not: the device refused a call, or the image has a fault, and then nothing was written
     -- to it.
@@ -98,48 +118,38 @@ module _ (was now : Option (List ℕ)) where
       pub told : refusal ≡ refusal_of_start fault
       pub kept : Keeps was now
 
-    -- it was, but not all of what is told of it was written
-    pub record IsMigrationUntold (back : M) (refusal : Refusal) : Type 0 where
-      pub was_one : Bool
-      pub answer : Recovered
-      pub migrated : IsMigrationBy was_one (state medium) (state back) answer
-      pub leaves : MigrationLeaves (state medium) (state back)
-      pub failed : refusal ≡ refused.File
-      pub written : AppendsSome was now (migration_text was_one)
-
+    -- it was not, or not all of what is told of it was written
     abbrev pub IsNotMigrated : M → Refusal → Type 0
-    IsNotMigrated back refusal = IsMigrationStopped back refusal ⊎ IsMigrationUntold back refusal
+    IsNotMigrated back refusal = IsMigrationStopped back refusal
+        ⊎ ((refusal ≡ refused.File) × IsMigratedBy AppendsSome back)
 
   -- The medium of the image file comes back, where one was opened or made: with exactly what the
   -- work on it has left.
   module _ (back : Option Copied) where
-    -- an image file of this format and these sizes was made at this path, and exactly this was
-    -- appended
-    pub record IsFormat (path : List ℕ) (format : LogFormat) (blocks slots : ℕ) : Type 0 where
+    -- there is none, and nothing was written
+    abbrev pub IsUntouched : Type 0
+    IsUntouched = (back ≡ None) × Keeps was now
+
+    -- an image file of this format and these sizes was made at this path, and this was appended
+    pub record IsFormatBy (Writes : Option (List ℕ) → Option (List ℕ) → List ℕ → Type 0)
+        (path : List ℕ) (format : LogFormat) (blocks slots : ℕ) : Type 0 where
       pub made : Copied
       pub given : back ≡ Some made
       pub is_made : IsMade path format blocks slots made
-      pub written : Appends was now (ended (codes "formatted"))
+      pub written : Writes was now (ended (codes "formatted"))
+
+    abbrev pub IsFormat : List ℕ → LogFormat → ℕ → ℕ → Type 0
+    IsFormat path format blocks slots = IsFormatBy Appends path format blocks slots
 
     -- the image file at this path is of format 2 now, and exactly what is told of it was appended
-    pub record IsMigration (path : List ℕ) : Type 0 where
-      pub opened : Copied
-      pub is_opened : IsJustOpened path opened
-      pub after : Copied
-      pub given : back ≡ Some after
-      pub path_is : after.file.path ≡ path
-      pub migrated : IsMigrated file.state_of opened after
+    abbrev pub IsMigration : List ℕ → Type 0
+    IsMigration path = ComesBack back path (λ opened after. IsMigrated file.state_of opened after)
 
     -- exactly the text of a life of some script's events on the image file at this path was
     -- appended, with packets of at most `most` bytes
-    pub record IsRun (path : List ℕ) (most : ℕ) : Type 0 where
-      pub opened : Copied
-      pub is_opened : IsJustOpened path opened
-      pub left : Option (List ℕ)
-      pub after : Copied
-      pub given : back ≡ Some after
-      pub path_is : after.file.path ≡ path
-      pub played : IsPlayed file.state_of most left was now opened after
+    abbrev pub IsRun : List ℕ → ℕ → Type 0
+    IsRun path most = ComesBack back path (λ opened after.
+        (left : Option (List ℕ)) × IsPlayed file.state_of most left was now opened after)
 
     -- exactly the text of lives by some script's lines over a copy of some image was appended, with
     -- packets of at most `most` bytes
@@ -151,73 +161,41 @@ module _ (was now : Option (List ℕ)) where
       pub after : Sim
       pub played : ArePlayed most left was now (simulated image) after
 
-    -- what the words ask for was done
-    abbrev pub HasDone : List (List ℕ) → Type 0
-    HasDone words = (
-        (image : List ℕ) × (format : LogFormat) × (blocks : ℕ) × (slots : ℕ)
-        × AreFormatWords words image format blocks slots × IsFormat image format blocks slots)
-        ⊎ (((image : List ℕ) × AreMigrateWords words image × IsMigration image)
-        ⊎ (((image : List ℕ) × (script : List ℕ) × (size : PacketSize)
-        × AreScriptWords (codes "run") words image script size × IsRun image (bytes_of size))
-        ⊎ ((size : PacketSize) × IsScriptCommand (codes "sim") words size
-        × IsSim (bytes_of size))))
+    -- what is asked for was done
+    abbrev pub IsDone : Task → Type 0
+    IsDone (Format image format blocks slots) = IsFormat image.now format blocks slots
+    IsDone (Migrate image) = IsMigration image.now
+    IsDone (Run image script size) = IsRun image.now (bytes_of size)
+    IsDone (InMemory image script size) = IsSim (bytes_of size)
 
-    -- an image was made, but not all of what is told of it was written
-    pub record IsFormatUntold (path : List ℕ) (format : LogFormat) (blocks slots : ℕ)
-        : Type 0 where
-      pub made : Copied
-      pub given : back ≡ Some made
-      pub is_made : IsMade path format blocks slots made
-      pub written : AppendsSome was now (ended (codes "formatted"))
+    abbrev pub HasDone : List (List ℕ) → Type 0
+    HasDone words = (task : Task) × SpellsTask words task × IsDone task
 
     -- No image file was made: the sizes are out of their limits. Or they are not, and there was no
     -- memory, or a file failed, the output perhaps.
     abbrev pub IsFormatRefused : List ℕ → LogFormat → ℕ → ℕ → Refusal → Type 0
     IsFormatRefused path format blocks slots refusal =
-        ((refusal ≡ refused.ImageSize) × (¬ AreImageSizes format blocks slots)
-        × (back ≡ None) × Keeps was now)
+        ((refusal ≡ refused.ImageSize) × (¬ AreImageSizes format blocks slots) × IsUntouched)
         ⊎ ((¬ (¬ AreImageSizes format blocks slots))
-        × (((refusal ≡ refused.NoMemory) × (back ≡ None) × Keeps was now)
-        ⊎ ((refusal ≡ refused.File)
-        × (((back ≡ None) × Keeps was now) ⊎ IsFormatUntold path format blocks slots))))
+        × (((refusal ≡ refused.NoMemory) × IsUntouched) ⊎ ((refusal ≡ refused.File)
+        × (IsUntouched ⊎ IsFormatBy AppendsSome path format blocks slots))))
 
     -- no image file was opened, and nothing was written
-    pub record NoImage (refusal : Refusal) : Type 0 where
-      pub unread : IsUnread refusal
-      pub none : back ≡ None
-      pub kept : Keeps was now
+    abbrev pub NoImage : Refusal → Type 0
+    NoImage refusal = IsUnread refusal × IsUntouched
 
     -- the image file at this path was not brought to format 2, or not all was told of it
-    pub record IsNotMigration (path : List ℕ) (refusal : Refusal) : Type 0 where
-      pub opened : Copied
-      pub is_opened : IsJustOpened path opened
-      pub after : Copied
-      pub given : back ≡ Some after
-      pub path_is : after.file.path ≡ path
-      pub refused : IsNotMigrated file.state_of opened after refusal
-
     abbrev pub IsMigrationRefused : List ℕ → Refusal → Type 0
-    IsMigrationRefused path refusal = NoImage refusal ⊎ IsNotMigration path refusal
+    IsMigrationRefused path refusal = NoImage refusal
+        ⊎ ComesBack back path (λ opened after. IsNotMigrated file.state_of opened after refusal)
 
-    -- a script file was not opened: the image file is as it was
-    pub record IsWithoutScript (path : List ℕ) (refusal : Refusal) : Type 0 where
-      pub opened : Copied
-      pub is_opened : IsJustOpened path opened
-      pub given : back ≡ Some opened
-      pub failed : refusal ≡ refused.File
-      pub kept : Keeps was now
-
-    -- a script on the image file at this path was refused, and this is why
-    pub record IsPlayRefused (path : List ℕ) (most : ℕ) (refusal : Refusal) : Type 0 where
-      pub opened : Copied
-      pub is_opened : IsJustOpened path opened
-      pub left : Option (List ℕ)
-      pub fault : ScriptFault
-      pub after : Copied
-      pub given : back ≡ Some after
-      pub path_is : after.file.path ≡ path
-      pub refused : IsRefused file.state_of most left was now opened fault after
-      pub told : refusal ≡ refusal_of_fault fault
+    -- a script file was not opened: the image file is as it was; or its script was refused, and
+    -- this is why
+    abbrev pub IsRunRefused : List ℕ → ℕ → Refusal → Type 0
+    IsRunRefused path most refusal = NoImage refusal ⊎ ComesBack back path (λ opened after.
+        ((refusal ≡ refused.File) × (after ≡ opened) × Keeps was now)
+        ⊎ ((left : Option (List ℕ))
+        × IsPlayRefused file.state_of most left was now opened after refusal))
 
     -- a script over a copy of an image was refused, and this is why
     pub record ArePlaysRefused (most : ℕ) (refusal : Refusal) : Type 0 where
@@ -230,35 +208,24 @@ module _ (was now : Option (List ℕ)) where
       pub refused : AreRefused most left was now (simulated image) fault after
       pub told : refusal ≡ refusal_of_fault fault
 
-    abbrev pub IsRunRefused : List ℕ → ℕ → Refusal → Type 0
-    IsRunRefused path most refusal =
-        NoImage refusal ⊎ (IsWithoutScript path refusal ⊎ IsPlayRefused path most refusal)
-
     abbrev pub IsSimRefused : ℕ → Refusal → Type 0
     IsSimRefused most refusal = NoImage refusal ⊎ ArePlaysRefused most refusal
 
-    -- what the words ask for was not done
-    abbrev pub HasNotDone : List (List ℕ) → Refusal → Type 0
-    HasNotDone words refusal =
-        ((image : List ℕ) × (format : LogFormat) × (blocks : ℕ) × (slots : ℕ)
-        × AreFormatWords words image format blocks slots
-        × IsFormatRefused image format blocks slots refusal)
-        ⊎ (((image : List ℕ) × AreMigrateWords words image × IsMigrationRefused image refusal)
-        ⊎ (((image : List ℕ) × (script : List ℕ) × (size : PacketSize)
-        × AreScriptWords (codes "run") words image script size
-        × IsRunRefused image (bytes_of size) refusal)
-        ⊎ ((size : PacketSize) × IsScriptCommand (codes "sim") words size
-        × IsSimRefused (bytes_of size) refusal)))
+    -- what is asked for was not done
+    abbrev pub IsNotDone : Task → Refusal → Type 0
+    IsNotDone (Format image format blocks slots) refusal =
+        IsFormatRefused image.now format blocks slots refusal
+    IsNotDone (Migrate image) refusal = IsMigrationRefused image.now refusal
+    IsNotDone (Run image script size) refusal = IsRunRefused image.now (bytes_of size) refusal
+    IsNotDone (InMemory image script size) refusal = IsSimRefused (bytes_of size) refusal
 
     -- why words were refused: there was no memory to read them; or they are no command line; or
     -- what they ask for was not done
     abbrev pub IsRefusedFor : List (List ℕ) → Refusal → Type 0
-    IsRefusedFor words refusal = ((refusal ≡ refused.NoMemory) × (back ≡ None) × Keeps was now)
-        ⊎ (((refusal ≡ refused.Words) × (¬ IsCommandLine words) × (back ≡ None) × Keeps was now)
-        ⊎ HasNotDone words refusal)
+    IsRefusedFor words refusal = ((refusal ≡ refused.NoMemory) × IsUntouched)
+        ⊎ (((refusal ≡ refused.Words) × (¬ IsCommandLine words) × IsUntouched)
+        ⊎ ((task : Task) × SpellsTask words task × IsNotDone task refusal))
 
     -- no words were had, for this cause: an argument is no text, or memory ran out
-    pub record HasNoWords (cause : ArgumentFault) (refusal : Refusal) : Type 0 where
-      pub none : back ≡ None
-      pub refused_is : refusal ≡ refusal_of_argument cause
-      pub kept : Keeps was now
+    abbrev pub HasNoWords : ArgumentFault → Refusal → Type 0
+    HasNoWords cause refusal = (refusal ≡ refusal_of_argument cause) × IsUntouched

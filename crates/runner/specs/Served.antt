@@ -1,7 +1,7 @@
 -- What serving lines leaves: the player of their events, and what was written.
 use Rattle.std.specs.Prelude.{◌≡◌, ◌⊎◌, ◌==◌, ℕ, ◌+◌, min, false, List, [], ◌∷◌, ◌++◌, All, codes}
 use Rattle.std.specs.Prelude.{length, take, slice_index, ◌<◌, Option}
-use Rattle.std.specs.Io.KnownBytes.{Appends, Keeps, Consumes, IsAtEnd}
+use Rattle.std.specs.Io.KnownBytes.{Keeps, Consumes, IsAtEnd}
 use Rattle.spec.specs.declared.event.Event.{Event}
 use Rattle.spec.specs.declared.event.Answer.{Answer}
 use Rattle.console.specs.Streams.{AppendsSome}
@@ -49,59 +49,42 @@ module _ {D : Type 0} (Goes : D → List Event → List Answer → D → Type 0)
   pub record AreAnswered (lines : List (List ℕ)) : Type 0 where
     pub events : List Event
     pub plays : Plays most lines events
-    pub text : List ℕ
-    pub tells : TellsBy Goes old events text new
-    pub written : Appends was now text
+    pub tells : TellsBy Goes was now old events new
 
   -- an event had no answer, and nothing was written; or it had one, which was not written whole
   abbrev pub IsUnanswered : Event → ServeFault → Type 0
-  IsUnanswered event (Line number) = ⊥
-  IsUnanswered event Reader = ⊥
   IsUnanswered event Writer = (answer : Answer) × Goes old (event ∷ []) (answer ∷ []) new
       × AppendsSome was now (line_for event answer)
   IsUnanswered event Player = Stops old event new × Keeps was now
+  IsUnanswered event fault = ⊥
+
+  -- Events were played, whose answers were written, and then came one more: its answer was not
+  -- written whole, or it has none.
+  abbrev pub EndsBy : ServeFault → List Event → Event → Type 0
+  EndsBy Writer events event = BreaksOffBy Goes was now old events event new
+  EndsBy Player events event = GivesUpBy Goes was now Stops old events event new
+  EndsBy fault events event = ⊥
 
   -- of these events a first part was played, and why no more
-  abbrev pub IsPlayedInPart : List Event → ServeFault → Type 0
-  IsPlayedInPart asked (Line number) = ⊥
-  IsPlayedInPart asked Reader = ⊥
-  IsPlayedInPart asked Writer = (events : List Event) × (event : Event) × (rest : List Event)
-      × (asked ≡ events ++ event ∷ rest) × BreaksOffBy Goes was now old events event new
-  IsPlayedInPart asked Player = (events : List Event) × (event : Event) × (rest : List Event)
-      × (asked ≡ events ++ event ∷ rest) × GivesUpBy Goes Stops was now old events event new
-
-  -- One line was played, and exactly the text of its answers was appended.
-  pub record IsAnswered (line : List ℕ) : Type 0 where
-    pub events : List Event
-    pub plays : LinePlays most line events
-    pub text : List ℕ
-    pub tells : TellsBy Goes old events text new
-    pub written : Appends was now text
-
-  -- Of one line events were played, all of whose answers were written but the last one's: a first
-  -- part of that was, and at least one byte of it is missing.
-  pub record IsBrokenOff (line : List ℕ) : Type 0 where
+  pub record IsPlayedInPart (asked : List Event) (fault : ServeFault) : Type 0 where
     pub part : List Event
     pub event : Event
     pub rest : List Event
-    pub plays : LinePlays most line (part ++ event ∷ rest)
-    pub breaks : BreaksOffBy Goes was now old part event new
+    pub parts : asked ≡ part ++ event ∷ rest
+    pub ends : EndsBy fault part event
 
-  -- Of one line events were played, whose answers were all written, and the next one has no answer.
-  pub record IsGivenUp (line : List ℕ) : Type 0 where
-    pub part : List Event
-    pub event : Event
-    pub rest : List Event
-    pub plays : LinePlays most line (part ++ event ∷ rest)
-    pub gives_up : GivesUpBy Goes Stops was now old part event new
+  -- one line was played, and exactly the text of its answers was appended
+  abbrev pub IsAnswered : List ℕ → Type 0
+  IsAnswered line = (events : List Event) × LinePlays most line events
+      × TellsBy Goes was now old events new
 
-  -- how one line, which has this number, stops the serving
+  -- how one line, which has this number, stops the serving: it is none of a script, or its events
+  -- were played in part
   abbrev pub IsLineStopped : List ℕ → ℕ → ServeFault → Type 0
   IsLineStopped line number (Line told) = (told ≡ number) × (¬ IsScriptLine OneLife most line)
       × (new ≡ old) × Keeps was now
-  IsLineStopped line number Reader = ⊥
-  IsLineStopped line number Writer = IsBrokenOff line
-  IsLineStopped line number Player = IsGivenUp line
+  IsLineStopped line number fault = (asked : List Event) × LinePlays most line asked
+      × IsPlayedInPart asked fault
 
   -- the lines before one that is none of a script were answered, and this is its number
   pub record StopsAtBadLine (script : List ℕ) (number : ℕ) : Type 0 where
@@ -114,7 +97,7 @@ module _ {D : Type 0} (Goes : D → List Event → List Answer → D → Type 0)
     pub counted : number ≡ line_number (length before)
 
   -- the lines before one were answered, and that one in part
-  pub record StopsUnwritten (script : List ℕ) : Type 0 where
+  pub record StopsWithin (script : List ℕ) (fault : ServeFault) : Type 0 where
     pub before : List (List ℕ)
     pub line : List ℕ
     pub after : List (List ℕ)
@@ -125,21 +108,7 @@ module _ {D : Type 0} (Goes : D → List Event → List Answer → D → Type 0)
     pub event : Event
     pub rest : List Event
     pub here : LinePlays most line (part ++ event ∷ rest)
-    pub breaks : BreaksOffBy Goes was now old (first ++ part) event new
-
-  -- the lines before one were answered, and that one in part: its next event has no answer
-  pub record StopsUnplayed (script : List ℕ) : Type 0 where
-    pub before : List (List ℕ)
-    pub line : List ℕ
-    pub after : List (List ℕ)
-    pub parts : lines_of script ≡ before ++ line ∷ after
-    pub first : List Event
-    pub whole : Plays most before first
-    pub part : List Event
-    pub event : Event
-    pub rest : List Event
-    pub here : LinePlays most line (part ++ event ∷ rest)
-    pub gives_up : GivesUpBy Goes Stops was now old (first ++ part) event new
+    pub ends : EndsBy fault (first ++ part) event
 
   -- All lines of which the line feed was read were answered; behind them stands at most a part of
   -- another.
@@ -152,9 +121,7 @@ module _ {D : Type 0} (Goes : D → List Event → List Answer → D → Type 0)
   -- how serving these lines of a script stops early
   abbrev pub StopsIn : List ℕ → ServeFault → Type 0
   StopsIn script (Line number) = StopsAtBadLine script number
-  StopsIn script Reader = ⊥
-  StopsIn script Writer = StopsUnwritten script
-  StopsIn script Player = StopsUnplayed script
+  StopsIn script fault = StopsWithin script fault
 
   -- the input was read to its end, and each of its lines was answered
   pub record IsServedBy (left after : Option (List ℕ)) : Type 0 where
@@ -166,11 +133,8 @@ module _ {D : Type 0} (Goes : D → List Event → List Answer → D → Type 0)
   -- How serving stops early. At any moment at which more is read, all lines of which the line feed
   -- is there were answered: it shows where the reader fails then.
   abbrev pub IsStoppedBy : Option (List ℕ) → Option (List ℕ) → ServeFault → Type 0
-  IsStoppedBy left after (Line number) =
-      (script : List ℕ) × IsAll left script × StopsAtBadLine script number
   IsStoppedBy left after Reader = (read : List ℕ) × Consumes left after read × StopsUnread read
-  IsStoppedBy left after Writer = (script : List ℕ) × IsAll left script × StopsUnwritten script
-  IsStoppedBy left after Player = (script : List ℕ) × IsAll left script × StopsUnplayed script
+  IsStoppedBy left after fault = (script : List ℕ) × IsAll left script × StopsIn script fault
 
   -- These bytes were read, and all whole lines of them were answered. So much is held of the line
   -- behind them, which has this number.

@@ -72,21 +72,5 @@ SpellsTask words (Sim image script size) =
     AreScriptWords (codes "sim") words image.now script.now size
 
 -- the words ask for something
-abbrev pub IsFormatLine : List (List ℕ) → Type 0
-IsFormatLine words =
-    (image : List ℕ) × (format : LogFormat) × (blocks : ℕ) × (slots : ℕ)
-    × AreFormatWords words image format blocks slots
-
-abbrev pub IsMigrateLine : List (List ℕ) → Type 0
-IsMigrateLine words = (image : List ℕ) × AreMigrateWords words image
-
-abbrev pub IsScriptCommand : List ℕ → List (List ℕ) → PacketSize → Type 0
-IsScriptCommand verb words size = (image : List ℕ) × (script : List ℕ)
-    × AreScriptWords verb words image script size
-
-abbrev pub IsPlayLine : List ℕ → List (List ℕ) → Type 0
-IsPlayLine verb words = (size : PacketSize) × IsScriptCommand verb words size
-
 abbrev pub IsCommandLine : List (List ℕ) → Type 0
-IsCommandLine words = IsFormatLine words ⊎ (IsMigrateLine words
-    ⊎ (IsPlayLine (codes "run") words ⊎ IsPlayLine (codes "sim") words))
+IsCommandLine words = (task : Task) × SpellsTask words task

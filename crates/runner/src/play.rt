@@ -9,7 +9,7 @@ ghost use Rattle.runner.specs.Events.{events_of};
 ghost use Rattle.runner.specs.Line.{IsScriptLine};
 ghost use Rattle.runner.specs.Lines.{lines_of};
 ghost use Rattle.runner.specs.Script.{LinePlays, Plays};
-ghost use Rattle.runner.specs.Played.{Tells, TellsBy, Leaves, BreaksOff, BreaksOffAt};
+ghost use Rattle.runner.specs.Played.{StepsOn, TellsBy, Leaves, BreaksOffBy, BreaksOffAt};
 ghost use Rattle.runner.specs.Served.{IsPlayedInPart, IsUnanswered};
 ghost use Rattle.runner.specs.Text.{line_for};
 
@@ -32,10 +32,9 @@ pub(crate) fn play<M: Medium, W: Write>(
 ) -> Result<M, ScriptError<M>>
     requires good { All (IsScriptLine ScriptKind.OneLife (bytes_of size)) (lines_of script.now) }
     requires packets { disk.line.packet_size ≡ bytes_of size }
-    ensures played { IfOk result (λ after. (events : List Event) × (text : List ℕ)
+    ensures played { IfOk result (λ after. (events : List Event)
         × Plays (bytes_of size) (lines_of script.now) events
-        × Leaves M.state M.follows disk events text after
-        × Appends (W.contents out.old) (W.contents out.new) text) }
+        × Leaves M.state M.follows (W.contents out.old) (W.contents out.new) disk events after) }
     ensures cut_short { IfErr result (λ error. (error.fault ≡ ScriptFault.Writer)
         × BreaksOffAt M.state M.follows (W.contents out.old) (W.contents out.new) disk
         (bytes_of size) (lines_of script.now) error.medium) }
@@ -58,10 +57,10 @@ fn play_lines<M: Medium, W: Write>(
 ) -> Result<(), ScriptFault>
     requires good { All (IsScriptLine ScriptKind.OneLife (bytes_of size)) (lines_of script.now) }
     requires packets { disk.old.line.packet_size ≡ bytes_of size }
-    ensures played { OnOk result ((events : List Event) × (text : List ℕ)
+    ensures played { OnOk result ((events : List Event)
         × Plays (bytes_of size) (lines_of script.now) events
-        × Tells M.state M.follows disk.old events text disk.new
-        × Appends (W.contents out.old) (W.contents out.new) text) }
+        × TellsBy (StepsOn M.state M.follows) (W.contents out.old) (W.contents out.new) disk.old
+        events disk.new) }
     ensures cut_short { IfErr result (λ fault. (fault ≡ ScriptFault.Writer)
         × BreaksOffAt M.state M.follows (W.contents out.old) (W.contents out.new) disk.old
         (bytes_of size) (lines_of script.now) disk.new.unit.store.medium) }
@@ -83,14 +82,13 @@ fn play_line<M: Medium, W: Write>(
 ) -> Result<(), ServeFault>
     requires good { IsScriptLine ScriptKind.OneLife (bytes_of size) line.now }
     requires packets { disk.old.line.packet_size ≡ bytes_of size }
-    ensures played { OnOk result ((events : List Event) × (text : List ℕ)
-        × LinePlays (bytes_of size) line.now events
-        × Tells M.state M.follows disk.old events text disk.new
-        × Appends (W.contents out.old) (W.contents out.new) text) }
+    ensures played { OnOk result ((events : List Event) × LinePlays (bytes_of size) line.now events
+        × TellsBy (StepsOn M.state M.follows) (W.contents out.old) (W.contents out.new) disk.old
+        events disk.new) }
     ensures cut_short { OnErr result ((events : List Event) × (event : Event) × (rest : List Event)
         × LinePlays (bytes_of size) line.now (events ++ event ∷ rest)
-        × BreaksOff M.state M.follows (W.contents out.old) (W.contents out.new) disk.old events
-        event disk.new) }
+        × BreaksOffBy (StepsOn M.state M.follows) (W.contents out.old) (W.contents out.new)
+        disk.old events event disk.new) }
 {
     let asked = read_line(ScriptKind::OneLife, size, line).unwrap();
     play_asked(disk, asked, out)
@@ -103,9 +101,8 @@ pub(crate) fn play_asked<P: Player, W: Write>(
     out: &mut W,
 ) -> Result<(), ServeFault>
     requires within { AreWithin (P.most player.old) (events_of asked) }
-    ensures played { OnOk result ((text : List ℕ)
-        × TellsBy P.goes player.old (events_of asked) text player.new
-        × Appends (W.contents out.old) (W.contents out.new) text) }
+    ensures played { OnOk result (TellsBy P.goes (W.contents out.old) (W.contents out.new)
+        player.old (events_of asked) player.new) }
     ensures cut_short { IfErr result (IsPlayedInPart P.goes P.stops (P.most player.old)
         (W.contents out.old) (W.contents out.new) player.old player.new (events_of asked)) }
 {

@@ -14,7 +14,8 @@ ghost use Rattle.runner.specs.Task.{IsCommandLine};
 ghost use Rattle.runner.specs.Program.{HasDone, HasNoWords, IsBack, IsFormat, IsFormatRefused};
 ghost use Rattle.runner.specs.Program.{IsMigrated};
 ghost use Rattle.runner.specs.Program.{IsMigration, IsMigrationRefused, IsNotMigrated};
-ghost use Rattle.runner.specs.Program.{IsRefusedFor, IsRun};
+ghost use Rattle.runner.specs.Outcome.{IsPlayed};
+ghost use Rattle.runner.specs.Program.{IsPlayRefused, IsRefusedFor, IsRun};
 ghost use Rattle.runner.specs.Program.{IsRunRefused, IsSim, IsSimRefused, migration_text};
 
 use crate::ended::{Ended, Stopped, stopped_with};
@@ -128,7 +129,10 @@ fn dispatch<R: Files<File = File> + AllocGlobal, O: Write>(
     ensures refused { IfErr result (λ stopped. IsRefusedFor (O.contents out.old)
         (O.contents out.new) stopped.medium (map (λ word. word.now) words.now) stopped.refusal) }
 {
-    match read_words(rt.alloc(), words)? {
+    let Some(task) = read_words(words) else {
+        return Err(Stopped::from(Refusal::Words));
+    };
+    match task {
         Task::Format {
             image,
             format,
@@ -253,15 +257,25 @@ fn run<R: Files<File = File> + AllocGlobal, O: Write>(
     let Ok(mut script) = fs::open(rt, script) else {
         return Err(stopped_with(Refusal::File, medium));
     };
-    left_by(run_script(rt.alloc(), medium, &mut script, out, size))
+    play_on(rt.alloc(), medium, &mut script, out, size)
 }
 
-// What playing a script has left, as a command tells it.
-fn left_by<M: Medium>(played: Result<M, ScriptError<M>>) -> Result<Option<M>, Stopped<Option<M>>>
-    ensures { MatchResult played (λ medium. result ≡ Ok (Some medium)) (λ error. result ≡ Err
-        (record { refusal = refusal_of_fault error.fault; medium = Some error.medium })) }
+// Plays a script on a disk over a medium, and gives the medium back.
+fn play_on<M: Medium, R: Read, O: Write>(
+    alloc: Global,
+    medium: M,
+    script: &mut R,
+    out: &mut O,
+    size: PacketSize,
+) -> Result<Option<M>, Stopped<Option<M>>>
+    ensures done { IfOk result (IsBack (λ back. IsPlayed M.state (bytes_of size)
+        (R.remaining script.old) (O.contents out.old) (O.contents out.new) medium back
+        × M.follows medium back)) }
+    ensures refused { IfErr result (λ stopped. IsBack (λ back. IsPlayRefused M.state
+        (bytes_of size) (R.remaining script.old) (O.contents out.old) (O.contents out.new) medium
+        back stopped.refusal × M.follows medium back) stopped.medium) }
 {
-    match played {
+    match run_script(alloc, medium, script, out, size) {
         Ok(medium) => Ok(Some(medium)),
         Err(ScriptError { fault, medium }) => Err(stopped_with(Refusal::from(fault), medium)),
     }

@@ -1,8 +1,20 @@
-use Rattle.std.proofs.Common.{◌∙◌, sym, ap, ◌++◌, map}
-use Rattle.std.specs.Prelude.{decimal}
+use Rattle.std.proofs.Common.{◌≡◌, ◌≤◌, ℕ, suc, List, [], ◌∷◌, ◌++◌, map, arith, ◌∙◌, sym, ap}
+use Rattle.std.specs.Prelude.{All, decimal}
+use Rattle.console.specs.Numbers.{SpellsNumber}
 use Rattle.runner.specs.Left.{parts_left}
-use Rattle.runner.proofs.Numbered.{number_behind}
 use Rattle.runner.proofs.kept.read_numbers.Goals as goal
+
+-- where all words are numbers of such a size, the one behind those read is too
+number_behind : (read numbers : List ℕ) (word : List ℕ) (left : List (List ℕ)) (most : ℕ)
+    → map decimal read ++ word ∷ left ≡ map decimal numbers → All (λ number. number ≤ most) numbers
+    → (number : ℕ) × SpellsNumber 0 most word number
+number_behind [] (number ∷ numbers) word left most same small =
+    (number, record { digits = cc; not_less = omega arith; not_more = small 0 0 (omega arith) })
+number_behind (first ∷ read) (number ∷ numbers) word left most same small =
+    let rest : map decimal read ++ word ∷ left ≡ map decimal numbers = cc in
+    number_behind read numbers word left most rest (λ k d lt. small (suc k) d (omega arith))
+number_behind [] [] word left most same small = absurd (cc)
+number_behind (first ∷ read) [] word left most same small = absurd (cc)
 
 pub returns-in_err-number-clause-refused : goal.returns-in_err-number-clause-refused
 returns-in_err-number-clause-refused c =

@@ -1,17 +1,14 @@
-use Rattle.std.proofs.Common.{◌≡◌, ◌∷◌, [], ◌++◌, ◌∙◌, ap, sym, subst, append_assoc, append-nil, List, Option, ℕ}
+use Rattle.std.proofs.Common.{◌≡◌, ◌∷◌, [], ◌++◌, ◌∙◌, ap, sym, subst, append_assoc, append-nil, List, ℕ}
 use Rattle.std.specs.Prelude.{flat_map}
 use Rattle.std.proofs.lemmas.List.Concat.{flat_map-cons}
+use Rattle.std.proofs.lemmas.Result.{err_from_is_err_and}
 use Rattle.bot_machine.specs.Device.{Device}
 use Rattle.bot_machine.specs.Fitting.{IsWithin, AreWithin}
-use Rattle.bot_machine.specs.LivesValue.{LivesValue}
 use Rattle.spec.specs.declared.event.Event.{Event}
 use Rattle.spec.specs.Lives.{Action}
 use Rattle.runner.specs.Events.{events_of}
 use Rattle.runner.specs.Lifetimes.{comes}
-use Rattle.runner.specs.PlayedLives.{BreaksOff, TellsLives}
-use Rattle.runner.specs.declared.fault.ScriptFault.{ScriptFault}
-use Rattle.runner.proofs.LifeActions.{tells-none, tells-more, breaks-more, breaks-before}
-use Rattle.runner.proofs.Taken.{if-err}
+use Rattle.runner.proofs.LifeActions.{tells-none, tells-more, breaks-more}
 use Rattle.runner.proofs.Within.{first_within, rest_within}
 use Rattle.runner.proofs.lifetimes.play_events.Goals as goal
 
@@ -21,25 +18,17 @@ parted : (all before : List Action) (events left : List Event) (event : Event) �
 parted all before events left event so next =
     so ∙ ap (λ (l : List Action). before ++ l) (ap (flat_map comes) next ∙ flat_map-cons comes event left)
 
--- an event broke off behind others
-broken : (was mid now : Option (List ℕ)) (old between new : LivesValue) (all before : List Action) (left : List Event) (event : Event)
-    (fault : ScriptFault) → all ≡ before ++ (comes event ++ flat_map comes left) → TellsLives was mid old before between
-    → BreaksOff mid now between (comes event) new fault → BreaksOff was now old all new fault
-broken was mid now old between new all before left event fault parts done breaks =
-    subst (λ (l : List Action). BreaksOff was now old l new fault) (sym parts)
-    (breaks-more was mid now old between new before done (comes event ++ flat_map comes left) fault
-    (breaks-before mid now between new (comes event) (flat_map comes left) fault breaks))
-
 pub loop-event-init : goal.loop-event-init
-loop-event-init g c = record {
-  so_far = (
-    [],
-    ap (λ asked. flat_map comes (events_of asked)) (sym c.into_iter-event-iterator.ensures.into_iter_gives),
-    tells-none (g.W.Write.contents c.args.out.now) c.args.lives.now,
-  );
-  within = subst (λ asked. AreWithin c.args.lives.now.device.packet_size (events_of asked))
-      (sym c.into_iter-event-iterator.ensures.into_iter_gives) c.requires;
-}
+loop-event-init g c =
+    let same = c.into_iter-event-iterator.ensures.into_iter_gives in
+    record {
+      so_far = (
+        [],
+        ap (λ asked. flat_map comes (events_of asked)) (sym same),
+        tells-none (g.W.Write.contents c.args.out.now) c.args.lives.now,
+      );
+      within = subst (λ asked. AreWithin c.args.lives.now.device.packet_size (events_of asked)) (sym same) c.requires;
+    }
 
 pub play_event-requires : goal.play_event-requires
 play_event-requires g c =
@@ -50,7 +39,6 @@ play_event-requires g c =
 
 pub loop-event-preserved : goal.loop-event-preserved
 loop-event-preserved g c =
-    let contents = g.W.Write.contents in
     let so = c.loop-event.invariant.so_far in
     let event = c.in-Some.event in
     let left = events_of c.next.new.self in
@@ -58,10 +46,8 @@ loop-event-preserved g c =
       so_far = (
         so.0 ++ comes event,
         parted (flat_map comes (events_of c.args.asked)) so.0 (events_of c.loop-event.event-iterator) left event so.1
-            c.in-Some.ensures.steps
-            ∙ sym (append_assoc so.0 (comes event) (flat_map comes left)),
-        tells-more (contents c.args.out.now) (contents c.loop-event.out) (contents c.play_event.new.out) c.args.lives.now
-            c.loop-event.lives c.play_event.new.lives so.0 so.2 (comes event) c.in_ok-play_event.ensures.played,
+            c.in-Some.ensures.steps ∙ sym (append_assoc so.0 (comes event) (flat_map comes left)),
+        tells-more so.2 c.in_ok-play_event.ensures.played,
       );
       within = rest_within c.args.lives.now.device.packet_size event left (events_of c.loop-event.event-iterator) c.in-Some.ensures.steps
           c.loop-event.invariant.within;
@@ -69,25 +55,14 @@ loop-event-preserved g c =
 
 pub returns-in_err-play_event-clause-broken : goal.returns-in_err-play_event-clause-broken
 returns-in_err-play_event-clause-broken g c =
-    let contents = g.W.Write.contents in
     let so = c.loop-event.invariant.so_far in
-    let event = c.in-Some.event in
     let left = events_of c.next.new.self in
-    let all = flat_map comes (events_of c.args.asked) in
-    let fault = c.in_err-play_event.field-0.0 in
-    if-err c.from_residual.result (λ told. told ≡ fault)
-    (BreaksOff (contents c.args.out.now) (contents c.play_event.new.out) c.args.lives.now all c.play_event.new.lives)
-    c.from_residual.ensures.1
-    (λ told is. rw is
-    (broken (contents c.args.out.now) (contents c.loop-event.out) (contents c.play_event.new.out) c.args.lives.now c.loop-event.lives
-    c.play_event.new.lives all so.0 left event fault
-    (parted all so.0 (events_of c.loop-event.event-iterator) left event so.1 c.in-Some.ensures.steps) so.2
-    c.in_err-play_event.ensures.broken))
+    let all = parted (flat_map comes (events_of c.args.asked)) so.0 (events_of c.loop-event.event-iterator) left c.in-Some.event so.1
+    c.in-Some.ensures.steps in
+    let p = err_from_is_err_and c.from_residual.result c.from_residual.ensures.1 in
+    rw (p.1, p.2, all) (breaks-more so.2 c.in_err-play_event.ensures.broken (flat_map comes left))
 
 pub returns-clause-played : goal.returns-clause-played
 returns-clause-played g c =
-    let contents = g.W.Write.contents in
     let so = c.loop-event.invariant.so_far in
-    let all = so.1 ∙ ap (λ (l : List Event). so.0 ++ flat_map comes l) c.in-None.ensures.steps.0 ∙ append-nil so.0 in
-    subst (λ (l : List Action). TellsLives (contents c.args.out.now) (contents c.loop-event.out) c.args.lives.now l c.loop-event.lives)
-    (sym all) so.2
+    rw (so.1 ∙ ap (λ (l : List Event). so.0 ++ flat_map comes l) c.in-None.ensures.steps.0 ∙ append-nil so.0) so.2

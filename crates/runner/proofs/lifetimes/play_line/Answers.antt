@@ -35,8 +35,7 @@ returns-in-Cut-clause-played g c =
       rw (sym c.cut.ensures.room) at c.requires.room,
       cuts (is_kept kept) ∷ [],
       line_acts (bytes_of c.args.size) c.args.line.now (Cut kept) spelled.0,
-      tells-silently (g.W.Write.contents c.args.out.now) c.args.lives.now c.cut.new.lives (cuts (is_kept kept) ∷ []) c.cut.ensures.acted
-          refl,
+      tells-silently (g.W.Write.contents c.args.out.now) c.cut.ensures.acted refl,
     )
 
 pub returns-in-Fuse-clause-played : goal.returns-in-Fuse-clause-played
@@ -46,7 +45,7 @@ returns-in-Fuse-clause-played g c =
       c.requires.room,
       arms writes ∷ [],
       line_acts (bytes_of c.args.size) c.args.line.now (Fuse writes) spelled.0,
-      tells-silently (g.W.Write.contents c.args.out.now) c.args.lives.now c.fuse.new.self (arms writes ∷ [])
+      tells-silently (g.W.Write.contents c.args.out.now)
           (acted-fuse c.args.lives.now c.fuse.new.self writes c.fuse.ensures.goes_on) refl,
     )
 
@@ -57,7 +56,7 @@ returns-in-Fail-clause-played g c =
       c.requires.room,
       fails call ∷ [],
       line_acts (bytes_of c.args.size) c.args.line.now (Fail call) spelled.0,
-      tells-silently (g.W.Write.contents c.args.out.now) c.args.lives.now c.fail.new.self (fails call ∷ [])
+      tells-silently (g.W.Write.contents c.args.out.now)
           (acted-fail c.args.lives.now c.fail.new.self call c.fail.ensures.goes_on c.fail.ensures.failing) refl,
     )
 

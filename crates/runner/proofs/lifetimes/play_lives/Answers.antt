@@ -1,8 +1,6 @@
 use Rattle.std.proofs.Common.{[], ◌∙◌, suc, ap, sym, arith}
 use Rattle.bot_machine.specs.Device.{Device}
-use Rattle.spec.specs.Packets.{bytes_of}
 use Rattle.runner.specs.Left.{parts_left}
-use Rattle.runner.specs.Lines.{lines_of}
 use Rattle.runner.proofs.ActingLines.{lines-none, lines-all, lines-more, lines-break}
 use Rattle.runner.proofs.lifetimes.play_lives.Goals as goal
 
@@ -12,45 +10,31 @@ loop-line-init g c =
     record {
       left = rw same c.requires.good;
       room = c.requires.room;
-      so_far = lines-none (bytes_of c.args.size) (g.W.Write.contents c.args.out.now) c.args.lives (lines_of c.args.script.now)
-          (parts_left c.into_iter-line-iterator.result) same;
+      so_far = lines-none (g.W.Write.contents c.args.out.now) c.args.lives same;
     }
 
 pub play_line-requires : goal.play_line-requires
 play_line-requires g c =
     let left = rw c.in-Some.ensures.steps at c.loop-line.invariant.left in
     let stays = ap (λ (d : Device). d.packet_size) c.loop-line.invariant.so_far.tells.acted.goes_on.device_stays in
-    record {
-      good = left 0 [] (omega arith);
-      room = c.loop-line.invariant.room;
-      packets = stays ∙ c.requires.packets;
-    }
+    record { good = left 0 [] (omega arith); room = c.loop-line.invariant.room; packets = stays ∙ c.requires.packets }
 
 pub loop-line-preserved : goal.loop-line-preserved
 loop-line-preserved g c =
-    let contents = g.W.Write.contents in
     let here = c.in-Ok.ensures.played in
     let left = rw c.in-Some.ensures.steps at c.loop-line.invariant.left in
     record {
       left = λ k d lt. left (suc k) d (omega (arith, lt));
       room = here.0;
-      so_far = lines-more (bytes_of c.args.size) (contents c.args.out.now) (contents c.loop-line.out) (contents c.play_line.new.out)
-          c.args.lives c.loop-line.lives c.play_line.new.lives (lines_of c.args.script.now) (parts_left c.loop-line.line-iterator)
-          (parts_left c.next.new.self) c.in-Some.line.now c.in-Some.ensures.steps c.loop-line.invariant.so_far here.1 here.2 here.3;
+      so_far = lines-more c.loop-line.invariant.so_far c.in-Some.ensures.steps here.2 here.3;
     }
 
 pub returns-in-Err-clause-broken : goal.returns-in-Err-clause-broken
 returns-in-Err-clause-broken g c =
-    let contents = g.W.Write.contents in
     let here = c.in-Err.ensures.broken in
     let left = rw c.in-Some.ensures.steps at c.loop-line.invariant.left in
-    lines-break (bytes_of c.args.size) (contents c.args.out.now) (contents c.loop-line.out) (contents c.play_line.new.out) c.args.lives
-    c.loop-line.lives c.play_line.new.lives (lines_of c.args.script.now) (parts_left c.loop-line.line-iterator)
-    (parts_left c.next.new.self) c.in-Some.line.now c.in-Some.ensures.steps c.loop-line.invariant.so_far here.0 here.1
-    c.in-Err.fault c.into_medium.result here.2 (λ k d lt. left (suc k) d (omega (arith, lt))) (sym c.into_medium.ensures)
+    lines-break c.loop-line.invariant.so_far c.in-Some.ensures.steps here.1 here.2 (λ k d lt. left (suc k) d (omega (arith, lt)))
+    (sym c.into_medium.ensures)
 
 pub returns-clause-played : goal.returns-clause-played
-returns-clause-played g c =
-    lines-all (bytes_of c.args.size) (g.W.Write.contents c.args.out.now) (g.W.Write.contents c.loop-line.out) c.args.lives c.loop-line.lives
-    (lines_of c.args.script.now) (parts_left c.loop-line.line-iterator) c.into_medium-2.result c.loop-line.invariant.so_far
-    c.in-None.ensures.steps.0 (sym c.into_medium-2.ensures)
+returns-clause-played g c = lines-all c.loop-line.invariant.so_far c.in-None.ensures.steps.0 (sym c.into_medium-2.ensures)

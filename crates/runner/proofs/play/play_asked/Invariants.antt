@@ -1,5 +1,4 @@
-use Rattle.std.proofs.Common.{◌≡◌, ◌++◌, ℕ, List}
-use Rattle.std.specs.Io.KnownBytes.{Appends}
+use Rattle.std.proofs.Common.{◌≡◌, ◌++◌, List}
 use Rattle.spec.specs.declared.event.Event.{Event}
 use Rattle.runner.specs.Events.{events_of}
 use Rattle.runner.specs.Played.{TellsBy}
@@ -7,8 +6,6 @@ use Rattle.runner.proofs.play.play_asked.Given as goal
 
 abbrev pub invariant-loop-event : goal.invariant-loop-event
 invariant-loop-event g l = record {
-  so_far : (events : List Event) × (text : List ℕ)
-      × (events_of l.fn.asked ≡ events ++ events_of l.event-iterator)
-      × TellsBy g.P.Player.goes l.fn.player events text l.player
-      × Appends (g.W.Write.contents l.fn.out) (g.W.Write.contents l.out) text;
+  so_far : (events : List Event) × (events_of l.fn.asked ≡ events ++ events_of l.event-iterator)
+      × TellsBy g.P.Player.goes (g.W.Write.contents l.fn.out) (g.W.Write.contents l.out) l.fn.player events l.player;
 }

@@ -1,57 +1,41 @@
-use Rattle.std.proofs.Common.{◌≡◌, ◌⊎◌, ◌↔◌, ℕ, List, Option, None, Result, Err, refl, ap, inl, inr}
-use Rattle.std.proofs.KnownBytes.{Keeps-refl}
+use Rattle.std.proofs.Common.{◌≡◌, ◌⊎◌, ◌↔◌, ℕ, List, Option, None, Result, Err, ap, inl, inr}
+use Rattle.std.proofs.lemmas.Result.{err_from_is_err_and}
 use Rattle.runner.specs.declared.refusal.Refusal.{Refusal}
 use Rattle.runner.specs.declared.refusal.Refusal.TheVariants.{ImageSize, File, NoMemory}
 use Rattle.journal.specs.declared.log_format.LogFormat.{LogFormat}
 use Rattle.runner.specs.Program.{AreImageSizes, IsFormatRefused}
 use Rattle.runner.proofs.Options.{if_ok, if_err}
-use Rattle.runner.proofs.Taken.{if-err}
+use Rattle.runner.proofs.Refusals.{untouched}
 use Rattle.runner.proofs.program.make.Goals as goal
 
 -- why no image was made, where nothing was written
 not_made : {M : Type 0} (was : Option (List ℕ)) (path : List ℕ) (format : LogFormat) (blocks slots : ℕ) (refusal : Refusal)
     → (◌≡◌ {A = Result M Refusal} (Err refusal) (Err ImageSize)) ↔ ¬ AreImageSizes format blocks slots
     → (refusal ≡ ImageSize) ⊎ ((refusal ≡ File) ⊎ (refusal ≡ NoMemory)) → IsFormatRefused was was None path format blocks slots refusal
-not_made was path format blocks slots refusal size (inl is) = inl (is, size.0 (ap Err is), refl, Keeps-refl was)
+not_made was path format blocks slots refusal size (inl is) = inl (is, size.0 (ap Err is), untouched was)
 not_made was path format blocks slots refusal size (inr (inl is)) =
-    inr (λ none. (let same = size.1 none in absurd (cc)), inr (is, inl (refl, Keeps-refl was)))
+    inr (λ none. (let same = size.1 none in absurd (cc)), inr (is, inl (untouched was)))
 not_made was path format blocks slots refusal size (inr (inr is)) =
-    inr (λ none. (let same = size.1 none in absurd (cc)), inl (is, refl, Keeps-refl was))
+    inr (λ none. (let same = size.1 none in absurd (cc)), inl (is, untouched was))
 
 pub returns-in_err-medium-clause-refused : goal.returns-in_err-medium-clause-refused
 returns-in_err-medium-clause-refused g c =
     let made = c.in_err-medium.ensures in
-    let out = g.O.Write.contents c.args.out.now in
-    if-err c.from_residual.result (λ stopped. stopped ≡ record { refusal = c.in_err-medium.field-0.0; medium = None })
-    (λ stopped. IsFormatRefused out out stopped.medium c.args.image.now c.args.format c.args.blocks c.args.slots stopped.refusal)
-    c.from_residual.ensures.1
-    (λ stopped same. rw same (not_made out c.args.image.now c.args.format c.args.blocks c.args.slots c.in_err-medium.field-0.0 made.size
-    made.refused))
+    let p = err_from_is_err_and c.from_residual.result c.from_residual.ensures.1 in
+    rw (p.1, p.2) (not_made _ _ _ _ _ _ made.size made.refused)
 
 pub returns-clause-done : goal.returns-clause-done
 returns-clause-done g c =
     if_ok c.tell_of.result
-    (λ back told. record {
-      made = c.in_ok-medium.medium;
-      given = told.0;
-      is_made = c.in_ok-medium.ensures.made;
-      written = told.1;
-    })
+    (λ back told. record { made = c.in_ok-medium.medium; given = told.0; is_made = c.in_ok-medium.ensures.made; written = told.1 })
     c.tell_of.ensures.done
 
 pub returns-clause-refused : goal.returns-clause-refused
 returns-clause-refused g c =
+    let made = c.in_ok-medium.ensures.made in
     if_err c.tell_of.result
     (λ stopped told. inr (
-      (λ never. never c.in_ok-medium.ensures.made.sizes),
-      inr (
-        told.1,
-        inr (record {
-          made = c.in_ok-medium.medium;
-          given = told.0;
-          is_made = c.in_ok-medium.ensures.made;
-          written = told.2;
-        }),
-      ),
+      (λ never. never made.sizes),
+      inr (told.1, inr (record { made = c.in_ok-medium.medium; given = told.0; is_made = made; written = told.2 })),
     ))
     c.tell_of.ensures.refused

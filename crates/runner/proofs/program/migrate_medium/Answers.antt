@@ -5,6 +5,7 @@ use Rattle.runner.proofs.program.migrate_medium.Goals as goal
 
 pub returns-in-Ok-clause-done : goal.returns-in-Ok-clause-done
 returns-in-Ok-clause-done g c =
+    let made = c.in-Ok.ensures in
     if_ok c.tell_of.result
     (λ back told. (
       c.migrate.new.m,
@@ -13,47 +14,53 @@ returns-in-Ok-clause-done g c =
         record {
           was_one = c.in-Ok.was_one;
           answer = c.in-Ok.field-0-0;
-          migrated = c.in-Ok.ensures.ok;
-          leaves = c.in-Ok.ensures.leaves;
+          migrated = made.ok;
+          leaves = made.leaves;
           written = rw c.migration_line.ensures at told.1;
         },
-        c.in-Ok.ensures.follows,
+        made.follows,
       ),
     ))
     c.tell_of.ensures.done
 
 pub returns-in-Ok-clause-refused : goal.returns-in-Ok-clause-refused
 returns-in-Ok-clause-refused g c =
+    let made = c.in-Ok.ensures in
     if_err c.tell_of.result
     (λ stopped told. (
       c.migrate.new.m,
       told.0,
       (
-        inr (record {
-          was_one = c.in-Ok.was_one;
-          answer = c.in-Ok.field-0-0;
-          migrated = c.in-Ok.ensures.ok;
-          leaves = c.in-Ok.ensures.leaves;
-          failed = told.1;
-          written = rw c.migration_line.ensures at told.2;
-        }),
-        c.in-Ok.ensures.follows,
+        inr (
+          told.1,
+          record {
+            was_one = c.in-Ok.was_one;
+            answer = c.in-Ok.field-0-0;
+            migrated = made.ok;
+            leaves = made.leaves;
+            written = rw c.migration_line.ensures at told.2;
+          },
+        ),
+        made.follows,
       ),
     ))
     c.tell_of.ensures.refused
 
 pub returns-in-Err-clause-refused : goal.returns-in-Err-clause-refused
-returns-in-Err-clause-refused g c = rw c.stopped_with.ensures (
-  c.migrate.new.m,
-  refl,
-  (
-    inl (record {
-      fault = c.in-Err.fault;
-      cause = c.in-Err.ensures.err.cause;
-      leaves = c.in-Err.ensures.leaves;
-      told = c.from.ensures;
-      kept = Keeps-refl (g.O.Write.contents c.args.out.now);
-    }),
-    c.in-Err.ensures.follows,
-  ),
-)
+returns-in-Err-clause-refused g c =
+    let why = c.in-Err.ensures in
+    let kept = Keeps-refl (g.O.Write.contents c.args.out.now) in
+    rw c.stopped_with.ensures (
+      c.migrate.new.m,
+      refl,
+      (
+        inl (record {
+          fault = c.in-Err.fault;
+          cause = why.err.cause;
+          leaves = why.leaves;
+          told = c.from.ensures;
+          kept = kept;
+        }),
+        why.follows,
+      ),
+    )

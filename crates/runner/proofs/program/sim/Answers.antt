@@ -1,27 +1,21 @@
-use Rattle.std.proofs.Common.{◌≡◌, ◌∙◌, refl, inl, inr}
-use Rattle.std.proofs.KnownBytes.{Keeps-refl}
-use Rattle.spec.specs.Packets.{bytes_of}
-use Rattle.runner.specs.Program.{IsSimRefused}
+use Rattle.std.proofs.Common.{refl, inl, inr}
+use Rattle.std.proofs.lemmas.Result.{err_from_is_err_and}
 use Rattle.runner.proofs.Options.{if_err, on_ok_weaker}
-use Rattle.runner.proofs.Refusals.{no_image}
-use Rattle.runner.proofs.Taken.{if-err}
+use Rattle.runner.proofs.Refusals.{untouched}
 use Rattle.runner.proofs.program.sim.Goals as goal
 
 pub returns-in_err-_streams-clause-refused : goal.returns-in_err-_streams-clause-refused
 returns-in_err-_streams-clause-refused g c =
-    let out = g.O.Write.contents c.args.out.now in
-    if-err c.from_residual.result (λ refusal. refusal ≡ c.in_err-_streams.field-0.0) _ c.from_residual.ensures.1
-    (λ refusal same. inl (no_image out refusal (inr (inl (same ∙ c.in_err-_streams.ensures)))))
+    let p = err_from_is_err_and c.from_residual.result c.from_residual.ensures.1 in
+    rw (p.1, p.2) (inl (inr (inl c.in_err-_streams.ensures), untouched (g.O.Write.contents c.args.out.now)))
 
 pub returns-in_err-medium-clause-refused : goal.returns-in_err-medium-clause-refused
 returns-in_err-medium-clause-refused g c =
-    let out = g.O.Write.contents c.args.out.now in
-    if-err c.from_residual-in_err-medium.result (λ refusal. refusal ≡ c.in_err-medium.field-0.0) _
-    c.from_residual-in_err-medium.ensures.1
-    (λ refusal same. inl (no_image out refusal (rw same c.in_err-medium.ensures)))
+    let p = err_from_is_err_and c.from_residual-in_err-medium.result c.from_residual-in_err-medium.ensures.1 in
+    rw (p.1, p.2) (inl (c.in_err-medium.ensures, untouched (g.O.Write.contents c.args.out.now)))
 
 pub returns-in_default-clause-refused : goal.returns-in_default-clause-refused
-returns-in_default-clause-refused g c = inl (no_image (g.O.Write.contents c.args.out.now) _ (inr (inl refl)))
+returns-in_default-clause-refused g c = inl (inr (inl refl), untouched (g.O.Write.contents c.args.out.now))
 
 pub play_in_memory-requires-clause-rests : goal.play_in_memory-requires-clause-rests
 play_in_memory-requires-clause-rests g c = rw c.in_ok-medium.ensures.2 (record { on = refl; flushed = refl })
@@ -33,14 +27,7 @@ pub returns-clause-done : goal.returns-clause-done
 returns-clause-done g c =
     let image = c.in_ok-medium.ensures in
     on_ok_weaker c.play_in_memory.result
-    (λ so. record {
-      none = refl;
-      image = image.0;
-      is_image = image.1;
-      left = _;
-      after = so.0;
-      played = rw image.2 at so.1;
-    })
+    (λ so. record { none = refl; image = image.0; is_image = image.1; left = _; after = so.0; played = rw image.2 at so.1 })
     c.play_in_memory.ensures.done
 
 pub returns-clause-refused : goal.returns-clause-refused

@@ -49,7 +49,7 @@ returns-in-Ok-clause-follows g c =
     let begun = c.in-Ok.ensures.medium.follows in
     both c.play.result (g.M.Medium.follows c.args.medium) (λ error. g.M.Medium.follows c.args.medium error.medium)
     (if_ok c.play.result
-    (λ after so. subst (g.M.Medium.follows c.args.medium) so.3.medium (on _ begun so.3.tells.goes.2))
+    (λ after so. subst (g.M.Medium.follows c.args.medium) so.2.medium (on _ begun so.2.tells.goes.2))
     c.play.ensures.played)
     (if_err c.play.result
     (λ error so. subst (g.M.Medium.follows c.args.medium) so.1.medium (on _ begun so.1.breaks.goes.2))
