@@ -115,9 +115,7 @@ module _ {D : Type 0} where
       → (s < first_home_of old.unit) ⊎ ReadsAt old event s → is_in_sight (window_of old) s ≡ true
   named_in_sight old event ready home s (inl low) = near_in_sight (window_of old) s (omega (arith, low, ready.log))
   named_in_sight old (event.Out packet) ready home s (inr at) = home at.0 at.1 s at.2.0 at.2.1
-  named_in_sight old event.In ready home s (inr at) = absurd at
-  named_in_sight old (event.Setup packet) ready home s (inr at) = absurd at
-  named_in_sight old event.Tick ready home s (inr at) = absurd at
+  named_in_sight old _ ready home s (inr at) = absurd at
 
   pub event_kept : (old played : DiskOn D) (event : Event) (answer : Answer)
       → IsStep (state_of (window_of old)) (state_of (window_of played)) old event answer played
@@ -206,13 +204,10 @@ module _ {D : Type 0} where
 
     pub ready_prepared : (old : DiskOn D) (event : Event) (new : DiskOn D) → Prepares told holds refuses old event new
         → IsReady old → IsReady new
-    ready_prepared old (event.Out packet) new (inl (none, same)) ready = subst (λ (d : DiskOn D). IsReady d) (sym same) ready
+    ready_prepared old (event.Out packet) new (inl (none, same)) ready = rw same ready
     ready_prepared old (event.Out packet) new (inr (first, count, wants, inl sees)) ready = ready_shown old new first count sees ready
-    ready_prepared old (event.Out packet) new (inr (first, count, wants, inr misses)) ready =
-        subst (λ (d : DiskOn D). IsReady d) (sym misses.1) ready
-    ready_prepared old event.In new same ready = subst (λ (d : DiskOn D). IsReady d) (sym same) ready
-    ready_prepared old (event.Setup packet) new same ready = subst (λ (d : DiskOn D). IsReady d) (sym same) ready
-    ready_prepared old event.Tick new same ready = subst (λ (d : DiskOn D). IsReady d) (sym same) ready
+    ready_prepared old (event.Out packet) new (inr (first, count, wants, inr misses)) ready = rw misses.1 ready
+    ready_prepared old _ new same ready = rw same ready
 
     module _ (old : DiskOn D) (event : Event) (answer : Answer) (ready new : DiskOn D)
         (plays : PlaysReady told holds refuses ready event answer new) (was : IsReady ready) where
@@ -223,18 +218,10 @@ module _ {D : Type 0} where
         → Prepares told holds refuses old event ready → (plays : PlaysReady told holds refuses ready event answer new) → IsReady old
         → MissesNothing told holds refuses old event ready plays.played
     misses_nothing old (event.Out packet) answer ready new (inl (none, same)) plays was =
-        sees_all old (event.Out packet) answer ready new plays (subst (λ (d : DiskOn D). IsReady d) (sym same) was)
-        (subst (λ (d : DiskOn D). WantsNone d packet.items) (sym same) none)
+        sees_all old (event.Out packet) answer ready new plays (rw same was) (rw same none)
     misses_nothing old (event.Out packet) answer ready new (inr (first, count, wants, inl sees)) plays was =
         sees_all old (event.Out packet) answer ready new plays (ready_shown old ready first count sees was)
         (shown_sees old ready packet.items first count was wants sees)
-    misses_nothing old (event.Out packet) answer ready new (inr (first, count, wants, inr misses)) plays was = record {
-      kept = plays.kept (subst (λ (d : DiskOn D). IsReady d) (sym misses.1) was);
-      seen = inr (first, count, wants, misses);
-    }
-    misses_nothing old event.In answer ready new same plays was =
-        sees_all old event.In answer ready new plays (subst (λ (d : DiskOn D). IsReady d) (sym same) was) tt
-    misses_nothing old (event.Setup packet) answer ready new same plays was =
-        sees_all old (event.Setup packet) answer ready new plays (subst (λ (d : DiskOn D). IsReady d) (sym same) was) tt
-    misses_nothing old event.Tick answer ready new same plays was =
-        sees_all old event.Tick answer ready new plays (subst (λ (d : DiskOn D). IsReady d) (sym same) was) tt
+    misses_nothing old (event.Out packet) answer ready new (inr (first, count, wants, inr misses)) plays was =
+        record { kept = plays.kept (rw misses.1 was); seen = inr (first, count, wants, misses) }
+    misses_nothing old other answer ready new same plays was = sees_all old other answer ready new plays (rw same was) tt

@@ -36,16 +36,9 @@ pub record IsStatus (status : ℕ) : Type 0 where
   pub no_words : status ≡ 2 → ⊥
 
 start_status : (fault : StartFault) → IsStatus (status_of_start fault)
-start_status start.NoMemory = record { most = omega arith; some = λ is. omega (arith, is); no_words = λ is. omega (arith, is) }
-start_status start.Read = record { most = omega arith; some = λ is. omega (arith, is); no_words = λ is. omega (arith, is) }
-start_status start.Write = record { most = omega arith; some = λ is. omega (arith, is); no_words = λ is. omega (arith, is) }
-start_status start.Flush = record { most = omega arith; some = λ is. omega (arith, is); no_words = λ is. omega (arith, is) }
-start_status start.BadSuper = record { most = omega arith; some = λ is. omega (arith, is); no_words = λ is. omega (arith, is) }
-start_status start.BadVersion = record { most = omega arith; some = λ is. omega (arith, is); no_words = λ is. omega (arith, is) }
-start_status start.BadSize = record { most = omega arith; some = λ is. omega (arith, is); no_words = λ is. omega (arith, is) }
-start_status start.BadHead = record { most = omega arith; some = λ is. omega (arith, is); no_words = λ is. omega (arith, is) }
-start_status start.StampsUsedUp = record { most = omega arith; some = λ is. omega (arith, is); no_words = λ is. omega (arith, is) }
-start_status start.LogTooSmall = record { most = omega arith; some = λ is. omega (arith, is); no_words = λ is. omega (arith, is) }
+start_status start.NoMemory =
+    record { most = omega arith; some = λ is. omega (arith, is); no_words = λ is. omega (arith, is) }
+start_status _ = record { most = omega arith; some = λ is. omega (arith, is); no_words = λ is. omega (arith, is) }
 
 three_or_four : (kind : FileCall) (cause : ErrorKind) → (status_at kind cause ≡ 3) ⊎ (status_at kind cause ≡ 4)
 three_or_four call.Length causes.InvalidData = inl refl
@@ -60,45 +53,29 @@ file_status fault = three_or_four_status _ (three_or_four fault.call fault.cause
 
 -- a status is at most 5, and that of a refusal is never 0
 pub most_status : (refusal : Refusal) → status_of refusal ≤ 5
-most_status refused.Words = omega arith
-most_status (refused.Line number) = omega arith
 most_status (refused.Image fault) = (start_status fault).most
 most_status (refused.File fault) = (file_status fault).most
-most_status refused.Streams = omega arith
-most_status refused.Input = omega arith
-most_status refused.Output = omega arith
-most_status refused.NoMemory = omega arith
+most_status _ = omega arith
 
 pub some_status : (refusal : Refusal) → status_of refusal ≡ 0 → ⊥
-some_status refused.Words is = omega (arith, is)
-some_status (refused.Line number) is = omega (arith, is)
 some_status (refused.Image fault) is = (start_status fault).some is
 some_status (refused.File fault) is = (file_status fault).some is
-some_status refused.Streams is = omega (arith, is)
-some_status refused.Input is = omega (arith, is)
-some_status refused.Output is = omega (arith, is)
-some_status refused.NoMemory is = omega (arith, is)
+some_status _ is = omega (arith, is)
 
 status_of_words : (refusal : Refusal) → status_of refusal ≡ 2 → refusal ≡ refused.Words
 status_of_words refused.Words is = refl
-status_of_words (refused.Line number) is = absurd (omega (arith, is))
 status_of_words (refused.Image fault) is = absurd ((start_status fault).no_words is)
 status_of_words (refused.File fault) is = absurd ((file_status fault).no_words is)
-status_of_words refused.Streams is = absurd (omega (arith, is))
-status_of_words refused.Input is = absurd (omega (arith, is))
-status_of_words refused.Output is = absurd (omega (arith, is))
-status_of_words refused.NoMemory is = absurd (omega (arith, is))
+status_of_words _ is = absurd (omega (arith, is))
 
 open_not_words : (fault : OpenFault) → refusal_of_open fault ≡ refused.Words → ⊥
-open_not_words (opening.File why) is = cc
 open_not_words opening.NoMemory is = cc
+open_not_words _ is = cc
 
 serving_not_words : (fault : ServeFault) (why : Option FileFault) → refusal_of_serving fault why ≡ refused.Words → ⊥
-serving_not_words (serve.Line number) why is = cc
-serving_not_words serve.Reader why is = cc
-serving_not_words serve.Writer why is = cc
 serving_not_words serve.Player (Some why) is = cc
 serving_not_words serve.Player None is = cc
+serving_not_words _ why is = cc
 
 unopened_not_words : (refusal : Refusal) → IsUnopened refusal → refusal ≡ refused.Words → ⊥
 unopened_not_words refusal (inl is) words = cc
@@ -132,8 +109,8 @@ module _ (device : List ℕ) (was now left after : Option (List ℕ)) (back : Op
 
 -- the file refused the last of these calls that waited
 kind_not_three : (last : DeviceCall) (cause : ErrorKind) → status_at (kind_of last) cause ≡ 3 → ⊥
-kind_not_three (Write w) cause is = omega (arith, is)
 kind_not_three Flush cause is = omega (arith, is)
+kind_not_three _ cause is = omega (arith, is)
 
 waiting_not_three : (calls : List DeviceCall) (fault : FileFault) → EndIn calls fault.call → status_of_fault fault ≡ 3 → ⊥
 waiting_not_three calls fault (before, last, parts, kind) is =
@@ -141,8 +118,7 @@ waiting_not_three calls fault (before, last, parts, kind) is =
 
 part_not_three : (calls : List DeviceCall) (why : Option FileFault) (fault : FileFault) → why ≡ Some fault
     → IfSome why (λ fault. EndIn calls fault.call) → status_of_fault fault ≡ 3 → ⊥
-part_not_three calls why fault same named is =
-    waiting_not_three calls fault (subst (λ (o : Option FileFault). IfSome o (λ fault. EndIn calls fault.call)) same named) is
+part_not_three calls why fault same named is = waiting_not_three calls fault (rw same at named) is
 
 player_not_three : (calls : List DeviceCall) (why : Option FileFault) → IfSome why (λ fault. EndIn calls fault.call)
     → status_of (refusal_of_serving serve.Player why) ≡ 3 → ⊥
@@ -153,12 +129,10 @@ serving_not_three : {D : Type 0} (told : D → Told) (holds : D → ℕ → List
     (was now left after : Option (List ℕ)) (first last : DiskOn D) (fault : ServeFault)
     → IsStoppedBy (AnswersThrough told holds refuses) (IsUnanswered told holds refuses) most was now first last left after fault
     → status_of (refusal_of_serving fault (medium_of last).fault) ≡ 3 → ⊥
-serving_not_three told holds refuses most was now left after first last (serve.Line number) stops is = omega (arith, is)
-serving_not_three told holds refuses most was now left after first last serve.Reader stops is = omega (arith, is)
-serving_not_three told holds refuses most was now left after first last serve.Writer stops is = omega (arith, is)
 serving_not_three told holds refuses most was now left after first last serve.Player (script, all, stops) is =
-    player_not_three stops.gives_up.stops.1.plays.carried.carried.part (medium_of last).fault
-    stops.gives_up.stops.1.plays.carried.named is
+    let carried = stops.ends.stops.1.plays.carried in
+    player_not_three carried.carried.part (medium_of last).fault carried.named is
+serving_not_three told holds refuses most was now left after first last _ stops is = omega (arith, is)
 
 abbrev Unasked : Option FileValue → Type 0
 Unasked back = IfSome back IsUnasked
@@ -167,9 +141,8 @@ module _ (device : List ℕ) (was now left after : Option (List ℕ)) (back : Op
   stopped_unasked : (image : List ℕ) (most : ℕ) (refusal : Refusal) → IsLiveStopped device was now left after back image most refusal
       → status_of refusal ≡ 3 → Unasked back
   stopped_unasked image most refusal (opened, is, stopped) three =
-      let same : stopped.last ≡ opened → Unasked back
-      = λ same. subst Unasked (sym stopped.given) (subst IsUnasked (sym same)
-      (subst (λ (path : List ℕ). IsOpened path Change opened) (sym is.path_is) is)) in
+      let same : stopped.last ≡ opened → Unasked back = λ same. rw (stopped.given, same)
+      (subst (λ (path : List ℕ). IsOpened path Change opened) (sym is.path_is) is) in
       elim stopped.refused [
         | inl (inl (none, given), unread, kept) ↦ same given
         | inl (inr on, unread, kept) ↦ elim on.refused [
@@ -185,6 +158,6 @@ module _ (device : List ℕ) (was now left after : Option (List ℕ)) (back : Op
   -- at status 3 the file was asked for nothing, where one was opened
   pub three_unasked : (words : List (List ℕ)) (refusal : Refusal) → IsLiveRefusedFor device was now left after back words refusal
       → status_of refusal ≡ 3 → Unasked back
-  three_unasked words refusal (inl (is, none, untouched)) three = subst Unasked (sym untouched.none) tt
-  three_unasked words refusal (inr (image, size, are, inl (unopened, untouched))) three = subst Unasked (sym untouched.none) tt
+  three_unasked words refusal (inl (is, none, untouched)) three = rw untouched.none tt
+  three_unasked words refusal (inr (image, size, are, inl (unopened, untouched))) three = rw untouched.none tt
   three_unasked words refusal (inr (image, size, are, inr stopped)) three = stopped_unasked image _ refusal stopped three

@@ -50,11 +50,7 @@ grew before after kind.Read not = elim not.cause [
   | inl cause ↦ elim cause [ inl refused ↦ refused.grew | inr none ↦ cc ]
   | inr none ↦ cc
 ]
-grew before after kind.Write not = elim not.cause [
-  | inl cause ↦ elim cause [ inl refused ↦ refused.grew | inr none ↦ cc ]
-  | inr none ↦ cc
-]
-grew before after kind.Flush not = elim not.cause [
+grew before after _ not = elim not.cause [
   | inl cause ↦ elim cause [ inl refused ↦ refused.grew | inr none ↦ cc ]
   | inr none ↦ cc
 ]
@@ -62,5 +58,5 @@ grew before after kind.Flush not = elim not.cause [
 pub by_image : (first after : Window) (fault : StartFault) → RefusesNone first after
     → IsNotOpened (state_of first) (state_of after) fault → ¬ IsDeviceFault fault
 by_image first after fault misses not (why, is) =
-    let named = subst (IsNotOpened (state_of first) (state_of after)) is not in
+    let named = rw is at not in
     absurd (omega (arith, misses, grew (state_of first) (state_of after) why named))

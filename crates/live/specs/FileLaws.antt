@@ -22,8 +22,7 @@ module _ {D : Type 0} (told : D → Told) (holds : D → ℕ → List ℕ → Ty
       subst (λ (d : DiskOn D). Through d rest more new) done next
   through-append (event ∷ first) rest (answer ∷ said) more old mid new done next =
       (done.0, done.1, through-append first rest said more done.0 mid new done.2 next)
-  through-append [] rest (a ∷ said) more old mid new done next = absurd done
-  through-append (e ∷ first) rest [] more old mid new done next = absurd done
+  through-append _ rest _ more old mid new done next = absurd done
 
   packet_keeps : (old : DiskOn D) (packet : List ℕ) (new : DiskOn D)
       → PreparesPacket told holds refuses old packet new → packets_of new ≡ packets_of old
@@ -37,9 +36,7 @@ module _ {D : Type 0} (told : D → Told) (holds : D → ℕ → List ℕ → Ty
   pub prepared_keeps : (old : DiskOn D) (event : Event) (new : DiskOn D)
       → Prepares told holds refuses old event new → packets_of new ≡ packets_of old
   prepared_keeps old (event.Out packet) new prepared = packet_keeps old packet.items new prepared
-  prepared_keeps old event.In new same = ap (λ (d : DiskOn D). d.line.packet_size) same
-  prepared_keeps old (event.Setup packet) new same = ap (λ (d : DiskOn D). d.line.packet_size) same
-  prepared_keeps old event.Tick new same = ap (λ (d : DiskOn D). d.line.packet_size) same
+  prepared_keeps old _ new same = ap (λ (d : DiskOn D). d.line.packet_size) same
 
   plays_keeps : (old : DiskOn D) (event : Event) (answer : Answer) (good : Bool) (new : DiskOn D)
       → Plays told holds refuses old event answer good new → packets_of new ≡ packets_of old
@@ -53,16 +50,14 @@ module _ {D : Type 0} (told : D → Told) (holds : D → ℕ → List ℕ → Ty
   through_keeps (event ∷ events) (answer ∷ answers) old new done =
       through_keeps events answers done.0 new done.2
       ∙ plays_keeps old event answer true done.0 done.1
-  through_keeps [] (a ∷ answers) old new done = absurd done
-  through_keeps (e ∷ events) [] old new done = absurd done
+  through_keeps _ _ old new done = absurd done
 
   one_each : (events : List Event) (answers : List Answer) (old new : DiskOn D)
       → Through old events answers new → length answers ≡ length events
   one_each [] [] old new done = refl
   one_each (event ∷ events) (answer ∷ answers) old new done =
       ap suc (one_each events answers done.0 new done.2)
-  one_each [] (a ∷ answers) old new done = absurd done
-  one_each (e ∷ events) [] old new done = absurd done
+  one_each _ _ old new done = absurd done
 
   pub file_plays : IsPlayer Through packets_of
   file_plays = record {

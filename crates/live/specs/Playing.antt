@@ -54,9 +54,7 @@ module _ {D : Type 0} (told : D → Told) (holds : D → ℕ → List ℕ → Ty
   -- before any other event nothing happens
   abbrev pub Prepares : DiskOn D → Event → DiskOn D → Type 0
   Prepares old (event.Out packet) new = PreparesPacket old packet.items new
-  Prepares old event.In new = new ≡ old
-  Prepares old (event.Setup packet) new = new ≡ old
-  Prepares old event.Tick new = new ≡ old
+  Prepares old other new = new ≡ old
 
   -- An event is played, in which the file is asked for nothing. Then it is asked for exactly what
   -- waits, in order: it carries that out, or refuses a call, behind which it is asked for nothing.
@@ -83,9 +81,7 @@ module _ {D : Type 0} (told : D → Told) (holds : D → ℕ → List ℕ → Ty
   abbrev pub IsUnread : DiskOn D → Event → DiskOn D → Type 0
   IsUnread old (event.Out packet) new = (first : ℕ) × (count : ℕ)
       × Wants old packet.items first count × MissesRead old first count new
-  IsUnread old event.In new = ⊥
-  IsUnread old (event.Setup packet) new = ⊥
-  IsUnread old event.Tick new = ⊥
+  IsUnread old other new = ⊥
 
   -- No event misses: no write and no flush of it is refused, and no read where the file gave the
   -- blocks that it reads.

@@ -62,6 +62,4 @@ module _ {D : Type 0} where
   -- has any read
   abbrev pub SeesHome : DiskOn D → Event → Type 0
   SeesHome disk (event.Out packet) = WantsNone disk packet.items
-  SeesHome disk event.In = ⊤
-  SeesHome disk (event.Setup packet) = ⊤
-  SeesHome disk event.Tick = ⊤
+  SeesHome disk other = ⊤

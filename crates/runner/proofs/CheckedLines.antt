@@ -2,7 +2,7 @@
 use Rattle.std.proofs.Common.{◌≡◌, ◌≤◌, ℕ, ◌+◌, List, [], ◌∷◌, ◌++◌, length, sym, ap, ◌∙◌, arith, append_assoc, append-nil}
 use Rattle.std.proofs.Common.{length-append}
 use Rattle.std.specs.Prelude.{All, ◌==◌}
-use Rattle.std.proofs.lemmas.List.Elements.{All-append, All-cons, All-nil}
+use Rattle.std.proofs.lemmas.List.Elements.{All-push}
 use Rattle.std.proofs.lemmas.List.Splits.{length-slice_split}
 use Rattle.std.proofs.lemmas.List.Sums.{count_by-le-length}
 use Rattle.runner.specs.declared.line.ScriptKind.{ScriptKind}
@@ -21,8 +21,7 @@ module _ (kind : ScriptKind) (most : ℕ) (all old left : List (List ℕ)) (line
   pub read-more : (number : ℕ) → IsReadTo kind most all old number → IsScriptLine kind most line → IsReadTo kind most all left (number + 1)
   read-more number so is_line = record {
     before = so.before ++ line ∷ [];
-    good = All-append (IsScriptLine kind most) so.before (line ∷ []) so.good
-        (All-cons (IsScriptLine kind most) line [] is_line (All-nil (IsScriptLine kind most)));
+    good = All-push (IsScriptLine kind most) so.before line so.good is_line;
     counted = omega (arith, length-append so.before (line ∷ []), so.counted);
     parts = so.parts ∙ ap (λ l. so.before ++ l) next ∙ sym (append_assoc so.before (line ∷ []) left);
   }

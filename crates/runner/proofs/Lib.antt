@@ -2,7 +2,6 @@ pub mod CheckedLines
 pub mod Runs
 pub mod ToldEvents
 pub mod Known
-pub mod OneLife
 pub mod Packets
 pub mod Options
 pub mod InTurn

@@ -57,17 +57,12 @@ differ a b xs ys is = ap (λ (l : List ℕ). slice_index l 0) is
 pub comment_skips : (most : ℕ) (comment : List ℕ) (asked : ScriptLine) → Spells most (codes "#" ++ comment) asked → Allows OneLife asked
     → events_of asked ≡ []
 comment_skips most comment Skipped spelled allowed = refl
-comment_skips most comment (Out packet) (inl (is, none)) allowed =
-    let e : 35 ≡ 111 = ap (λ (l : List ℕ). slice_index l 0) is in absurd (omega (arith, e))
-comment_skips most comment (Out packet) (inr (digits, is, spelled)) allowed =
-    let e : 35 ≡ 111 = ap (λ (l : List ℕ). slice_index l 0) is in absurd (omega (arith, e))
-comment_skips most comment (Fill byte count size) spelled allowed =
-    let e : 35 ≡ 102 = ap (λ (l : List ℕ). slice_index l 0) spelled.0.parts in absurd (omega (arith, e))
-comment_skips most comment In spelled allowed = let e : 35 ≡ 105 = ap (λ (l : List ℕ). slice_index l 0) spelled in absurd (omega (arith, e))
-comment_skips most comment (Setup packet) spelled allowed =
-    let e : 35 ≡ 115 = ap (λ (l : List ℕ). slice_index l 0) spelled.parts in absurd (omega (arith, e))
-comment_skips most comment (Tick count) spelled allowed =
-    let e : 35 ≡ 116 = ap (λ (l : List ℕ). slice_index l 0) spelled.parts in absurd (omega (arith, e))
+comment_skips most comment (Out packet) (inl (is, none)) allowed = absurd (omega (arith, differ 35 111 _ _ is))
+comment_skips most comment (Out packet) (inr (digits, is, spelled)) allowed = absurd (omega (arith, differ 35 111 _ _ is))
+comment_skips most comment (Fill byte count size) spelled allowed = absurd (omega (arith, differ 35 102 _ _ spelled.0.parts))
+comment_skips most comment In spelled allowed = absurd (omega (arith, differ 35 105 _ _ spelled))
+comment_skips most comment (Setup packet) spelled allowed = absurd (omega (arith, differ 35 115 _ _ spelled.parts))
+comment_skips most comment (Tick count) spelled allowed = absurd (omega (arith, differ 35 116 _ _ spelled.parts))
 comment_skips most comment _ spelled allowed = absurd allowed
 
 -- what is held of a line plays what the line does

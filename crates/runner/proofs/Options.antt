@@ -1,26 +1,11 @@
 -- Facts on options and results.
-use Rattle.std.proofs.Common.{◌≡◌, refl, Option, Some, None, Result, Ok, Err, true, false}
-use Rattle.std.specs.Prelude.{IfNone, IsSome, IfOk, IfErr, OnOk, OnErr, MatchResult, is_err}
+use Rattle.std.proofs.Common.{refl, Option, Some, None, Result, Ok, Err}
+use Rattle.std.specs.Prelude.{IfNone, IsSome, IfOk, IfErr, MatchResult}
 
 -- what follows where there is no value
 pub none_weaker : {T P Q : Type 0} (r : Option T) → (P → Q) → IfNone r P → IfNone r Q
 none_weaker None weaker holds = weaker holds
 none_weaker (Some x) weaker holds = tt
-
--- what holds at an `Ok`
-pub on_ok : {T E P : Type 0} (r : Result T E) → false ≡ is_err r → OnOk r P → P
-on_ok (Ok x) good holds = holds
-on_ok (Err e) good holds = absurd (cc)
-
--- what holds at an `Err`
-pub on_err : {T E P : Type 0} (r : Result T E) → true ≡ is_err r → OnErr r P → P
-on_err (Ok x) bad holds = absurd (cc)
-on_err (Err e) bad holds = holds
-
--- what follows at an `Ok`
-pub on_ok_weaker : {T E P Q : Type 0} (r : Result T E) → (P → Q) → OnOk r P → OnOk r Q
-on_ok_weaker (Ok x) weaker holds = weaker holds
-on_ok_weaker (Err e) weaker holds = tt
 
 -- what follows for each value, and for each error
 pub if_ok : {T E : Type 0} {P Q : T → Type 0} (r : Result T E) → ((x : T) → P x → Q x) → IfOk r P → IfOk r Q

@@ -4,8 +4,7 @@ use Rattle.medium.specs.Medium.{CutLeaves}
 use Rattle.medium.specs.Sim.{Sim, state_of}
 use Rattle.bot_machine.specs.StartFaults.{StartFault}
 use Rattle.bot_machine.specs.StartFaults as start
-use Rattle.bot_machine.specs.Device.{presented, Device, Late}
-use Rattle.spec.specs.Identification.{Identification}
+use Rattle.bot_machine.specs.Device.{presented, Device}
 use Rattle.bot_machine.specs.Books.{StandsAs}
 use Rattle.bot_machine.specs.Starting.{StandsForSome}
 use Rattle.spec.specs.Book.{Book}
@@ -29,10 +28,10 @@ use Rattle.std.specs.Io.KnownBytes.{IsAtEnd}
 use Rattle.runner.specs.Outcome.{IsRead, HasTaken}
 use Rattle.runner.specs.OutcomeOfLives.{ArePlayed, AreRefused, KeepsUntil}
 use Rattle.runner.specs.PlayedLives.{Acted, EndsBy, PlaysAll, PlaysUpTo}
-use Rattle.runner.specs.Script.{StopsAt, identification, device}
+use Rattle.runner.specs.Script.{StopsAt, device}
 
 -- no life has been yet
-abbrev first_over : ℕ → Sim → LivesValue
+abbrev pub first_over : ℕ → Sim → LivesValue
 first_over most medium = record { device = device most; state = Stopped medium }
 
 -- where nothing is done, nothing moves, and lives stand where they stood
@@ -161,7 +160,7 @@ module _ (most : ℕ) (medium : Sim) (rest : IsAtRest medium) (unfused : medium.
         }
 
   module _ (left was now : Option (List ℕ)) (script : List ℕ) (read : IsRead left script) where
-    are_played : (after : Sim) → PlaysAll was now (first_over most medium) most (lines_of script) after
+    pub are_played : (after : Sim) → PlaysAll was now (first_over most medium) most (lines_of script) after
         → ArePlayed most left was now medium after
     are_played after all = rw (← all.left) (record {
       promise = record {
@@ -210,32 +209,10 @@ module _ (most : ℕ) (medium : Sim) (rest : IsAtRest medium) (unfused : medium.
     }
     ended first part last answers new _ stops ends = absurd ends
 
-    are_refused : (fault : ScriptFault) (back : Sim) → PlaysUpTo was now (first_over most medium) most (lines_of script) fault back
+    pub are_refused : (fault : ScriptFault) (back : Sim) → PlaysUpTo was now (first_over most medium) most (lines_of script) fault back
         → AreRefused most left was now medium fault back
     are_refused fault back up_to = rw (← up_to.left)
         (ended up_to.first up_to.part up_to.last up_to.answers up_to.new fault up_to.stops up_to.ends)
-
-module _ (most : ℕ) (medium : Sim) (rest : IsAtRest medium) (unfused : medium.power.fuse ≡ None) (identity : Identification)
-    (is : identity ≡ identification) (lives : LivesValue)
-    (value : lives ≡ record { device = record { identity = identity; packet_size = most; retiring = Late }; state = Stopped medium })
-    (opens : (limit : ℕ) (book : Book) → IsAtRest medium → medium.power.fuse ≡ None → OpensOn (state_of medium) book
-    → HasLimit (state_of medium).size limit (state_of medium).content → FitsLives lives (first_standing limit book))
-    (left was now : Option (List ℕ)) (script : List ℕ) (read : IsRead left script) where
-  same : lives ≡ first_over most medium
-  same = rw is at value
-
-  fits : (limit : ℕ) (book : Book) → OpensOn (state_of medium) book → HasLimit (state_of medium).size limit (state_of medium).content
-      → FitsLives (first_over most medium) (first_standing limit book)
-  fits limit book on has = rw (← same) (opens limit book rest unfused on has)
-
-  -- a script that was played whole
-  pub is_played : (after : Sim) → PlaysAll was now lives most (lines_of script) after → ArePlayed most left was now medium after
-  is_played after all = are_played most medium rest unfused fits left was now script read after (rw same at all)
-
-  -- a script that was played up to a fault
-  pub is_refused : (error : ErrorOf Sim) → PlaysUpTo was now lives most (lines_of script) error.fault error.medium
-      → AreRefused most left was now medium error.fault error.medium
-  is_refused error up_to = are_refused most medium rest unfused fits left was now script read error.fault error.medium (rw same at up_to)
 
 -- what is told of a script that was refused tells of the promise
 pub until : (most : ℕ) (left was now : Option (List ℕ)) (medium back : Sim) (fault : ScriptFault)

@@ -2,21 +2,18 @@
 use Rattle.std.proofs.Common.{◌≡◌, ◌≤◌, ℕ, suc, List, [], ◌∷◌, ◌++◌, length, map, ap, subst, inl, inr, refl, ◌∙◌, arith}
 use Rattle.std.specs.Prelude.{replicate, zero, take, drop}
 use Rattle.std.proofs.lemmas.List.{length-take}
-use Rattle.std.proofs.lemmas.List.Elements.{All-cons, All-nil}
+use Rattle.std.proofs.lemmas.List.Elements.{All-cons, All-head, All-nil, All-replicate, All-rest}
 use Rattle.spec.specs.Packets.{bytes_of, packets_of, cut_into}
 use Rattle.bot_machine.specs.Fitting.{IsWithin, AreWithin}
 use Rattle.spec.specs.declared.event.Event.{Event}
 use Rattle.spec.specs.declared.event.Event.TheVariants as event
 use Rattle.runner.specs.declared.line.ScriptLine.{ScriptLine}
-use Rattle.runner.specs.declared.line.ScriptLine.TheVariants.{Skipped, Out, Fill, In, Setup, Tick, Fuse, Fail, Cut}
+use Rattle.runner.specs.declared.line.ScriptLine.TheVariants.{Out, Fill, In, Setup, Tick}
 use Rattle.runner.specs.Events.{packet_out, events_of}
 use Rattle.runner.specs.Line.{Spells, SpellsOut}
 
-none_within : (most : ℕ) → AreWithin most []
-none_within most = All-nil (IsWithin most)
-
 one_within : (most : ℕ) (happens : Event) → IsWithin most happens → AreWithin most (happens ∷ [])
-one_within most happens is = All-cons (IsWithin most) happens [] is (none_within most)
+one_within most happens is = All-cons (IsWithin most) happens [] is (All-nil (IsWithin most))
 
 out_fits : (most : ℕ) (line packet : List ℕ) → SpellsOut most line packet → length packet ≤ most
 out_fits most line packet (inl (alone, is)) = omega (arith, ap length is)
@@ -24,7 +21,7 @@ out_fits most line packet (inr (digits, parts, spelled)) = spelled.fits
 
 -- the packets of data
 cut_within : (most count : ℕ) (bytes : List ℕ) → AreWithin most (map packet_out (cut_into most count bytes))
-cut_within most zero bytes = none_within most
+cut_within most zero bytes = All-nil (IsWithin most)
 cut_within most (suc count) bytes =
     All-cons (IsWithin most) (packet_out (take most bytes)) (map packet_out (cut_into most count (drop most bytes)))
     (λ less. omega (arith, length-take most bytes)) (cut_within most count (drop most bytes))
@@ -33,34 +30,24 @@ packets_within : (most : ℕ) (bytes : List ℕ) → AreWithin most (map packet_
 unfolding packets_of
 packets_within most bytes = cut_within most _ bytes
 
-ticks_within : (most count : ℕ) → AreWithin most (replicate count event.Tick)
-ticks_within most zero = none_within most
-ticks_within most (suc count) = All-cons (IsWithin most) event.Tick (replicate count event.Tick) tt (ticks_within most count)
-
 -- the events of a line that spells what it asks for
 pub events_within : (most : ℕ) (line : List ℕ) (asked : ScriptLine) → Spells most line asked → AreWithin most (events_of asked)
-events_within most line Skipped spelled = none_within most
 events_within most line (Out packet) spelled = one_within most (event.Out packet) (λ less. out_fits most line packet.items spelled)
 events_within most line (Fill byte count size) spelled =
     subst (λ (n : ℕ). AreWithin n (map packet_out (packets_of (bytes_of size) (replicate count byte)))) spelled.1
     (packets_within (bytes_of size) (replicate count byte))
 events_within most line In spelled = one_within most event.In tt
 events_within most line (Setup packet) spelled = one_within most (event.Setup packet) tt
-events_within most line (Tick count) spelled = ticks_within most count
-events_within most line (Fuse writes) spelled = none_within most
-events_within most line (Fail call) spelled = none_within most
-events_within most line (Cut kept) spelled = none_within most
+events_within most line (Tick count) spelled = All-replicate (IsWithin most) count event.Tick tt
+events_within most line _ spelled = All-nil (IsWithin most)
 
--- the first of events, and the rest of them
+-- the first of events
 pub first_within : (most : ℕ) (event : Event) (events all : List Event) → all ≡ event ∷ events → AreWithin most all → IsWithin most event
-first_within most event events all is are = (subst (AreWithin most) is are) 0 event (omega arith)
-
-pub rest_within : (most : ℕ) (event : Event) (events all : List Event) → all ≡ event ∷ events → AreWithin most all → AreWithin most events
-rest_within most event events all is are = λ k d lt. (subst (AreWithin most) is are) (suc k) d (omega (arith, lt))
+first_within most event events all is are = All-head (IsWithin most) event events (rw is at are)
 
 -- one that comes behind others
 pub next_within : (most : ℕ) (before events all left : List Event) (event : Event) → all ≡ before ++ events → events ≡ event ∷ left
     → AreWithin most all → IsWithin most event
 next_within most [] events all left event is next are = first_within most event left all (is ∙ next) are
 next_within most (first ∷ before) events all left event is next are =
-    next_within most before events (before ++ events) left event refl next (rest_within most first (before ++ events) all is are)
+    next_within most before events (before ++ events) left event refl next (All-rest (IsWithin most) first (before ++ events) all is are)

@@ -66,9 +66,9 @@ fn play_lines<M: Medium, W: Write>(
         (bytes_of size) (lines_of script.now) disk.new.unit.store.medium) }
 {
     for line in Parts::lines(script) {
-        if play_line(disk, size, line, out).is_err() {
+        let Ok(()) = play_line(disk, size, line, out) else {
             return Err(ScriptFault::Writer);
-        }
+        };
     }
     Ok(())
 }

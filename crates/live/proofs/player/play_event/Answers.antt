@@ -6,9 +6,7 @@ use Rattle.live.proofs.player.play_event.Goals as goal
 
 pub returns-in-Some-clause-stopped : goal.returns-in-Some-clause-stopped
 returns-in-Some-clause-stopped g c =
-    let told = g.D.DeviceFile.told in
-    let holds = g.D.DeviceFile.holds in
-    let refuses = g.D.DeviceFile.refuses in
+    let file = g.D.DeviceFile in
     let fault = sym (ap (λ (m : FileWindow g.row.D.Denot). m.fault) c.medium.ensures.is) ∙ sym c.fault.ensures ∙ c.in-Some.is in (
       c.play_ready-answer.result,
       record {
@@ -16,24 +14,24 @@ returns-in-Some-clause-stopped g c =
         prepares = c.prepare.ensures;
         plays = c.play_ready-answer.ensures;
         is_good = ap is_well fault;
-        misses = misses_nothing told holds refuses c.args.disk.now c.args.event.now c.play_ready-answer.result c.prepare.new.disk
-            c.play_ready-answer.new.disk c.prepare.ensures c.play_ready-answer.ensures;
+        misses = misses_nothing file.told file.holds file.refuses c.args.disk.now c.args.event.now c.play_ready-answer.result
+            c.prepare.new.disk c.play_ready-answer.new.disk c.prepare.ensures c.play_ready-answer.ensures;
         again = λ ready good. cc;
       },
     )
 
 pub returns-clause-played : goal.returns-clause-played
 returns-clause-played g c =
-    let told = g.D.DeviceFile.told in
-    let holds = g.D.DeviceFile.holds in
-    let refuses = g.D.DeviceFile.refuses in
-    let fault = sym (ap (λ (m : FileWindow g.row.D.Denot). m.fault) c.medium.ensures.is) ∙ sym c.fault.ensures ∙ c.in_default.is in record {
+    let file = g.D.DeviceFile in
+    let fault = sym (ap (λ (m : FileWindow g.row.D.Denot). m.fault) c.medium.ensures.is) ∙ sym c.fault.ensures ∙ c.in_default.is in
+    record {
       ready = c.prepare.new.disk;
       prepares = c.prepare.ensures;
       plays = c.play_ready-answer.ensures;
       is_good = ap is_well fault;
-      misses = misses_nothing told holds refuses c.args.disk.now c.args.event.now c.play_ready-answer.result c.prepare.new.disk
-          c.play_ready-answer.new.disk c.prepare.ensures c.play_ready-answer.ensures;
+      misses = misses_nothing file.told file.holds file.refuses c.args.disk.now c.args.event.now c.play_ready-answer.result
+          c.prepare.new.disk c.play_ready-answer.new.disk c.prepare.ensures c.play_ready-answer.ensures;
       again = λ ready good. c.play_ready-answer.ensures.again
-          (ready_prepared told holds refuses c.args.disk.now c.args.event.now c.prepare.new.disk c.prepare.ensures ready) fault;
+          (ready_prepared file.told file.holds file.refuses c.args.disk.now c.args.event.now c.prepare.new.disk c.prepare.ensures ready)
+          fault;
     }

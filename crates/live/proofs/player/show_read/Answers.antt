@@ -1,6 +1,4 @@
-use Rattle.std.proofs.Common.{◌≡◌, ◌*◌, ◌/◌, ◌∙◌, ℕ, inl, inr, refl, subst, length, arith}
-use Rattle.device_file.specs.Reads.{AreRead}
-use Rattle.live.specs.declared.file.FileWindow.{FileWindow}
+use Rattle.std.proofs.Common.{◌≡◌, ◌*◌, ◌/◌, ◌∙◌, ℕ, inl, inr, refl, length, arith}
 use Rattle.live.proofs.player.show_read.Goals as goal
 
 -- the bytes of count sectors are count whole ones
@@ -11,8 +9,7 @@ pub returns-in-Ok : goal.returns-in-Ok
 returns-in-Ok g c = inl (record {
   bytes = c.read_file.new.to;
   whole = c.read_file.auto.to ∙ c.requires;
-  read = subst (λ (m : FileWindow g.row.D.Denot). AreRead (g.D.DeviceFile.holds m.file) c.args.first c.read_file.new.to)
-      c.medium.ensures.is c.in-Ok.ensures.read;
+  read = rw c.medium.ensures.is at c.in-Ok.ensures.read;
   taken = c.show.result;
   shown = c.show.ensures.shown;
   others = c.show.ensures.others;
@@ -21,8 +18,7 @@ returns-in-Ok g c = inl (record {
 
 pub returns-in-Err : goal.returns-in-Err
 returns-in-Err g c = inr (
-  subst (λ (m : FileWindow g.row.D.Denot). g.D.DeviceFile.refuses m.file c.args.first c.args.count) c.medium.ensures.is
-      (subst (λ (n : ℕ). g.D.DeviceFile.refuses c.medium.result.now.file c.args.first n)
-      (counted (length c.read_file.new.to) c.args.count (c.read_file.auto.to ∙ c.requires)) c.in-Err.ensures.unread),
+  rw (c.medium.ensures.is, counted (length c.read_file.new.to) c.args.count (c.read_file.auto.to ∙ c.requires))
+      at c.in-Err.ensures.unread,
   refl,
 )

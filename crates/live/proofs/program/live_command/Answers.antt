@@ -11,32 +11,19 @@ pub returns-in-Ok-clause-statuses : goal.returns-in-Ok-clause-statuses
 returns-in-Ok-clause-statuses g c = record { most = omega arith; unasked = λ three. absurd (omega (arith, three)) }
 
 pub returns-in-Err-clause-statuses : goal.returns-in-Err-clause-statuses
-returns-in-Err-clause-statuses g c =
-    let contents = g.O.Write.contents in
-    let remaining = g.I.Read.remaining in
-    let words = map (λ word. word.now) c.args.words.now in
-    let stopped = c.in-Err.stopped in
-    record {
-      most = rw c.status.ensures (most_status stopped.refusal);
-      unasked = λ three. three_unasked c.args.device.now.bytes (contents c.args.out.now) (contents c.serve_image.new.out)
-          (remaining c.args.input.now) (remaining c.serve_image.new.input) stopped.file words stopped.refusal c.in-Err.ensures.refused
-          (sym c.status.ensures ∙ three);
-    }
+returns-in-Err-clause-statuses g c = record {
+  most = rw c.status.ensures (most_status c.in-Err.stopped.refusal);
+  unasked = λ three. three_unasked _ _ _ _ _ _ (map (λ word. word.now) c.args.words.now) c.in-Err.stopped.refusal c.in-Err.ensures.refused
+      (sym c.status.ensures ∙ three);
+}
 
 pub returns-in-Err-clause-done : goal.returns-in-Err-clause-done
 returns-in-Err-clause-done g c zero = absurd (some_status c.in-Err.stopped.refusal (sym c.status.ensures ∙ zero))
 
 pub returns-in-Err-clause-words : goal.returns-in-Err-clause-words
 returns-in-Err-clause-words g c =
-    let contents = g.O.Write.contents in
-    let remaining = g.I.Read.remaining in
     let words = map (λ word. word.now) c.args.words.now in
-    let stopped = c.in-Err.stopped in (
-      λ two. no_line_at_two c.args.device.now.bytes (contents c.args.out.now) (contents c.serve_image.new.out)
-          (remaining c.args.input.now) (remaining c.serve_image.new.input) stopped.file words stopped.refusal c.in-Err.ensures.refused
-          (sym c.status.ensures ∙ two),
-      λ never. c.status.ensures
-          ∙ two_without_line c.args.device.now.bytes (contents c.args.out.now) (contents c.serve_image.new.out)
-          (remaining c.args.input.now) (remaining c.serve_image.new.input) stopped.file words stopped.refusal c.in-Err.ensures.refused
-          never,
+    let refusal = c.in-Err.stopped.refusal in (
+      λ two. no_line_at_two _ _ _ _ _ _ words refusal c.in-Err.ensures.refused (sym c.status.ensures ∙ two),
+      λ never. c.status.ensures ∙ two_without_line _ _ _ _ _ _ words refusal c.in-Err.ensures.refused never,
     )

@@ -1,5 +1,5 @@
 use Rattle.std.proofs.Common.{◌∙◌, inl, inr, refl}
-use Rattle.images.proofs.Options.{if_ok, if_err}
+use Rattle.runner.proofs.Options.{if_ok, if_err}
 use Rattle.live.proofs.Ready.{ready_started}
 use Rattle.live.proofs.Rooms.{start_misses, by_image}
 use Rattle.live.proofs.starting.start_disk.Goals as goal
@@ -8,18 +8,20 @@ pub returns-in-Err-clause-refused : goal.returns-in-Err-clause-refused
 returns-in-Err-clause-refused g c =
     let first = c.args.medium.window in
     let after = c.in-Err.error.medium.window in
-    let follows = c.in-Err.ensures.leaves.medium.follows.follows in
-    let misses = start_misses first after c.requires c.in-Err.ensures.leaves.leaves follows c.in-Err.ensures.leaves.medium.looks
-    (c.foresee_window.ensures.served after follows) in inl (record {
+    let leaves = c.in-Err.ensures.leaves in
+    let follows = leaves.medium.follows.follows in
+    let misses = start_misses first after c.requires leaves.leaves follows leaves.medium.looks
+    (c.foresee_window.ensures.served after follows) in
+    inl (record {
       after = c.in-Err.error.medium;
       fault = c.in-Err.error.fault;
       cause = c.in-Err.ensures.cause;
       by_image = by_image first after c.in-Err.error.fault misses c.in-Err.ensures.cause;
       misses = misses;
-      leaves = c.in-Err.ensures.leaves.leaves;
-      follows = c.in-Err.ensures.leaves.medium.follows;
+      leaves = leaves.leaves;
+      follows = leaves.medium.follows;
       refused_is = refl;
-      unasked = c.into_file.ensures ∙ c.in-Err.ensures.leaves.medium.follows.file_stays;
+      unasked = c.into_file.ensures ∙ leaves.medium.follows.file_stays;
     })
 
 pub returns-in-Ok-clause-started : goal.returns-in-Ok-clause-started

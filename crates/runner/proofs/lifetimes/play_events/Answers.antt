@@ -1,6 +1,7 @@
 use Rattle.std.proofs.Common.{◌≡◌, ◌∷◌, [], ◌++◌, ◌∙◌, ap, sym, subst, append_assoc, append-nil, List, ℕ}
 use Rattle.std.specs.Prelude.{flat_map}
 use Rattle.std.proofs.lemmas.List.Concat.{flat_map-cons}
+use Rattle.std.proofs.lemmas.List.Elements.{All-rest}
 use Rattle.std.proofs.lemmas.Result.{err_from_is_err_and}
 use Rattle.bot_machine.specs.Device.{Device}
 use Rattle.bot_machine.specs.Fitting.{IsWithin, AreWithin}
@@ -9,7 +10,7 @@ use Rattle.spec.specs.Lives.{Action}
 use Rattle.runner.specs.Events.{events_of}
 use Rattle.runner.specs.Lifetimes.{comes}
 use Rattle.runner.proofs.LifeActions.{tells-none, tells-more, breaks-more}
-use Rattle.runner.proofs.Within.{first_within, rest_within}
+use Rattle.runner.proofs.Within.{first_within}
 use Rattle.runner.proofs.lifetimes.play_events.Goals as goal
 
 -- what all events do, where these have come, this one comes, and these are left
@@ -49,7 +50,7 @@ loop-event-preserved g c =
             c.in-Some.ensures.steps ∙ sym (append_assoc so.0 (comes event) (flat_map comes left)),
         tells-more so.2 c.in_ok-play_event.ensures.played,
       );
-      within = rest_within c.args.lives.now.device.packet_size event left (events_of c.loop-event.event-iterator) c.in-Some.ensures.steps
+      within = All-rest (IsWithin c.args.lives.now.device.packet_size) event left (events_of c.loop-event.event-iterator) c.in-Some.ensures.steps
           c.loop-event.invariant.within;
     }
 

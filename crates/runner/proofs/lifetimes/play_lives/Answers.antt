@@ -1,6 +1,10 @@
-use Rattle.std.proofs.Common.{[], ◌∙◌, suc, ap, sym, arith}
+use Rattle.std.proofs.Common.{[], ◌∙◌, ap, sym, arith}
+use Rattle.std.proofs.lemmas.List.Elements.{All-rest}
 use Rattle.bot_machine.specs.Device.{Device}
+use Rattle.spec.specs.Packets.{bytes_of}
 use Rattle.runner.specs.Left.{parts_left}
+use Rattle.runner.specs.Line.{IsScriptLine}
+use Rattle.runner.specs.declared.line.ScriptKind.TheVariants.{Lives}
 use Rattle.runner.proofs.ActingLines.{lines-none, lines-all, lines-more, lines-break}
 use Rattle.runner.proofs.lifetimes.play_lives.Goals as goal
 
@@ -22,9 +26,8 @@ play_line-requires g c =
 pub loop-line-preserved : goal.loop-line-preserved
 loop-line-preserved g c =
     let here = c.in-Ok.ensures.played in
-    let left = rw c.in-Some.ensures.steps at c.loop-line.invariant.left in
     record {
-      left = λ k d lt. left (suc k) d (omega (arith, lt));
+      left = All-rest (IsScriptLine Lives (bytes_of c.args.size)) _ _ _ c.in-Some.ensures.steps c.loop-line.invariant.left;
       room = here.0;
       so_far = lines-more c.loop-line.invariant.so_far c.in-Some.ensures.steps here.2 here.3;
     }
@@ -32,8 +35,8 @@ loop-line-preserved g c =
 pub returns-in-Err-clause-broken : goal.returns-in-Err-clause-broken
 returns-in-Err-clause-broken g c =
     let here = c.in-Err.ensures.broken in
-    let left = rw c.in-Some.ensures.steps at c.loop-line.invariant.left in
-    lines-break c.loop-line.invariant.so_far c.in-Some.ensures.steps here.1 here.2 (λ k d lt. left (suc k) d (omega (arith, lt)))
+    lines-break c.loop-line.invariant.so_far c.in-Some.ensures.steps here.1 here.2
+    (All-rest (IsScriptLine Lives (bytes_of c.args.size)) _ _ _ c.in-Some.ensures.steps c.loop-line.invariant.left)
     (sym c.into_medium.ensures)
 
 pub returns-clause-played : goal.returns-clause-played

@@ -9,7 +9,6 @@ use Rattle.runner.specs.Script.{LinePlays}
 use Rattle.runner.specs.DiskLaws.{disk_plays}
 use Rattle.runner.specs.Played.{HasNoAnswer}
 use Rattle.runner.proofs.InTurn.{given-start, given-more, given-all, given-part, gives_some}
-use Rattle.runner.proofs.Options.{on_ok, on_err}
 use Rattle.runner.proofs.ToldEvents.{most_stays, tells-none, tells-more, ends-more}
 use Rattle.runner.proofs.play.play_lines.Goals as goal
 
@@ -45,7 +44,7 @@ loop-line-preserved g c =
     let met = g.met.M.Medium in
     let so = c.loop-line.invariant.so_far in
     let left = rw c.in-Some.ensures.steps at c.loop-line.invariant.left in
-    let here = on_ok c.play_line.result c.if-is_err.ensures.value c.play_line.ensures.played in
+    let here = c.in-Ok.ensures.played in
     record {
       left = λ k d lt. left (suc k) d (omega (arith, lt));
       so_far = (
@@ -60,12 +59,12 @@ returns-clause-played g c =
     let so = c.loop-line.invariant.so_far in
     (so.0, given-all (LinePlays (bytes_of c.args.size)) c.in-None.ensures.steps.0 so.1, so.2)
 
-pub returns-then-is_err-clause-cut_short : goal.returns-then-is_err-clause-cut_short
-returns-then-is_err-clause-cut_short g c =
+pub returns-in_default-clause-cut_short : goal.returns-in_default-clause-cut_short
+returns-in_default-clause-cut_short g c =
     let m = g.M.Medium in
     let met = g.met.M.Medium in
     let so = c.loop-line.invariant.so_far in
-    let here = on_err c.play_line.result c.if-is_err.ensures.value c.play_line.ensures.cut_short in
+    let here = c.in_default.ensures.cut_short in
     let left = rw c.in-Some.ensures.steps at c.loop-line.invariant.left in (
       refl,
       record {

@@ -1,6 +1,6 @@
 use Rattle.std.proofs.Common.{refl, inl, inr}
-use Rattle.std.proofs.lemmas.Result.{err_from_is_err_and}
-use Rattle.runner.proofs.Options.{if_err, on_ok_weaker}
+use Rattle.std.proofs.lemmas.Result.{err_from_is_err_and, on_ok_weaker}
+use Rattle.runner.proofs.Options.{if_err}
 use Rattle.runner.proofs.Refusals.{untouched}
 use Rattle.runner.proofs.program.sim.Goals as goal
 

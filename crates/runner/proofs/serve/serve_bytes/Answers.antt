@@ -3,11 +3,11 @@ use Rattle.std.proofs.Common.{subst, refl, arith, length-drop}
 use Rattle.std.proofs.lemmas.List.{take-append-drop, take_more, take_rest}
 use Rattle.std.proofs.Math.Seq.{split_at, take-add}
 use Rattle.runner.specs.Served.{IsLineEnd, IsUnended}
-use Rattle.std.proofs.lemmas.Result.{err_from_is_err_and}
+use Rattle.std.proofs.lemmas.Result.{err_from_is_err_and, on_ok_weaker}
 use Rattle.spec.specs.Packets.{bytes_of}
 use Rattle.spec.specs.declared.packet_size.PacketSize.{PacketSize}
 use Rattle.spec.specs.declared.packet_size.PacketSize.TheVariants.{Full64, High512}
-use Rattle.runner.proofs.Options.{on_ok_weaker, if_err}
+use Rattle.runner.proofs.Options.{if_err}
 use Rattle.runner.proofs.ToldEvents.{most_stays}
 use Rattle.runner.proofs.ServedLines.{served-part, served-line, stops-ended, stops-long}
 use Rattle.runner.proofs.serve.serve_bytes.Goals as goal

@@ -1,9 +1,9 @@
 use Rattle.std.proofs.Common.{◌++◌, ◌∙◌, [], take, sym, rules}
 use Rattle.std.proofs.KnownBytes.{Consumes-nil, Consumes-trans}
-use Rattle.std.proofs.lemmas.Result.{err_from_is_err_and}
+use Rattle.std.proofs.lemmas.Result.{err_from_is_err_and, on_ok_weaker}
 use Rattle.std.specs.Io.KnownBytes.{IsAtEnd}
 use Rattle.spec.specs.Packets.{bytes_of}
-use Rattle.runner.proofs.Options.{on_ok_weaker, if_err}
+use Rattle.runner.proofs.Options.{if_err}
 use Rattle.runner.proofs.ServedLines.{taken-none, taken-nothing, served-none}
 use Rattle.runner.proofs.ServedLines.{served-packets, served-all, served-unread, stopped-last, stopped-in}
 use Rattle.runner.proofs.serve.serve_player.Goals as goal
