@@ -50,8 +50,8 @@ loop-event-preserved g c =
             c.in-Some.ensures.steps ∙ sym (append_assoc so.0 (comes event) (flat_map comes left)),
         tells-more so.2 c.in_ok-play_event.ensures.played,
       );
-      within = All-rest (IsWithin c.args.lives.now.device.packet_size) event left (events_of c.loop-event.event-iterator) c.in-Some.ensures.steps
-          c.loop-event.invariant.within;
+      within = All-rest (IsWithin c.args.lives.now.device.packet_size) event left (events_of c.loop-event.event-iterator)
+          c.in-Some.ensures.steps c.loop-event.invariant.within;
     }
 
 pub returns-in_err-play_event-clause-broken : goal.returns-in_err-play_event-clause-broken
