@@ -3,6 +3,7 @@ ghost use Rattle.std.specs.Prelude.{◌≡◌, ◌↔◌, ◌+◌, false, IsTrue
 ghost use Rattle.journal.specs.Places.{limit_of};
 ghost use Rattle.redo_log.specs.Value.{IsAway};
 ghost use Rattle.blocks.specs.StoreValue.{layout_of, is_dead};
+ghost use Rattle.blocks.specs.Work.{IsIdle};
 ghost use Rattle.blocks.specs.Passing.{PassesPaid};
 ghost use Rattle.blocks.specs.Ahead.{counted, gone_home, going_calls, passed, passed_calls};
 ghost use Rattle.blocks.specs.Ahead.{sent_home, sent_calls};
@@ -25,8 +26,7 @@ impl<M: Medium> Store<M> {
 
     /// Writes the head past the oldest record, where that is flushed at home.
     pub(crate) fn pass_head(&mut self) -> Result<(), StoreFault>
-        requires live { is_dead self.old.cached ≡ false }
-        requires idle { self.old.cached.log.steps_left ≡ 0 }
+        requires { IsIdle self.old.cached }
         ensures { GoesPast M.state M.follows result self.old self.new }
     {
         // The log says here that it owes no step where no record waits.
@@ -52,8 +52,7 @@ impl<M: Medium> Store<M> {
 
     // Brings the blocks of the oldest record home that are away.
     fn go_home(&mut self) -> Result<(), StoreFault>
-        requires live { is_dead self.old.cached ≡ false }
-        requires idle { self.old.cached.log.steps_left ≡ 0 }
+        requires { IsIdle self.old.cached }
         ensures passes { PassesPaid M.state M.follows
             (limit_of (layout_of self.old.cached).format) self.old self.new }
         ensures going { GoesAhead result (gone_home self.old.cached.log)
@@ -84,8 +83,7 @@ impl<M: Medium> Store<M> {
     /// home, and where they are still fewer, the oldest one goes home. Nothing is done where that
     /// is done already.
     pub(crate) fn go_ahead(&mut self) -> Result<(), StoreFault>
-        requires live { is_dead self.old.cached ≡ false }
-        requires idle { self.old.cached.log.steps_left ≡ 0 }
+        requires { IsIdle self.old.cached }
         ensures passes { PassesPaid M.state M.follows
             (limit_of (layout_of self.old.cached).format + 1) self.old self.new }
         ensures going { GoesAhead result (sent_home (passed self.old.cached.log))

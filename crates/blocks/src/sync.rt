@@ -10,6 +10,7 @@ ghost use Rattle.blocks.specs.Finishing.{WritesRecord, RetiresRoom, MakesReady, 
 ghost use Rattle.blocks.specs.Finishing.{FinishesBoth, CostsSync};
 ghost use Rattle.blocks.specs.Retiring.{finish_calls};
 ghost use Rattle.blocks.specs.Flushing.{finish_flushes};
+ghost use Rattle.blocks.specs.Work.{IsIdle};
 
 use crate::{Store, StoreFault};
 use medium::Medium;
@@ -80,8 +81,7 @@ impl<M: Medium> Store<M> {
 
     // Makes room for one more record: where the store goes ahead and a slot is free, as that does.
     fn make_ready(&mut self) -> Result<(), StoreFault>
-        requires live { is_dead self.old.cached ≡ false }
-        requires idle { self.old.cached.log.steps_left ≡ 0 }
+        requires { IsIdle self.old.cached }
         ensures ready { MakesReady M.state M.follows result self.old self.new }
     {
         if !self.goes_ahead {
@@ -95,8 +95,7 @@ impl<M: Medium> Store<M> {
 
     // Retires records until the log has room.
     fn make_room(&mut self) -> Result<(), StoreFault>
-        requires live { is_dead self.old.cached ≡ false }
-        requires idle { self.old.cached.log.steps_left ≡ 0 }
+        requires { IsIdle self.old.cached }
         ensures { RetiresRoom M.state M.follows result self.old self.new }
     {
         // The log says here how many writes and flushes retire its oldest record at most.

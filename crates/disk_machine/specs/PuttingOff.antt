@@ -14,10 +14,14 @@ use Rattle.disk_machine.specs.Machine.{Machine}
 use Rattle.disk_machine.specs.Moves.{ServesOn, KeepsGoing}
 use Rattle.disk_machine.specs.Steps.{StepsWhile}
 
+-- it promises nothing, where that is told
+abbrev pub MayBePlain : Machine → List ℕ → Bool → Type 0
+MayBePlain s packet promises = promises ≡ false → (book : Book) → IsOfSize s.disk.unit book
+    → PromisesNone (over s.disk book) (event.Out (record { items = packet }))
+
 -- whether a packet has a command carried out that promises, as `Disk::promises` tells
 pub record IsPromise (s : Machine) (packet : List ℕ) (promises : Bool) : Type 0 where
-  pub none : promises ≡ false → (book : Book) → IsOfSize s.disk.unit book
-      → PromisesNone (over s.disk book) (event.Out (record { items = packet }))
+  pub none : MayBePlain s packet promises
   pub some : promises ≡ true → (book : Book) → IsOfSize s.disk.unit book
       → PromisesIn (over s.disk book) (event.Out (record { items = packet }))
 

@@ -1,6 +1,6 @@
 //! What a machine does with a packet that asks the medium for writes, before it is played.
 ghost use Rattle.std.specs.Prelude.{◌≡◌, ◌↔◌, IsTrue};
-ghost use Rattle.disk_machine.specs.PuttingOff.{HasWrittenOn, IsPromise, MayGoOn, WritesOn};
+ghost use Rattle.disk_machine.specs.PuttingOff.{HasWrittenOn, MayBePlain, MayGoOn, WritesOn};
 ghost use Rattle.disk_machine.specs.PuttingOff.{TellsNext, TellsPutOff};
 
 use crate::machine::DiskMachine;
@@ -16,7 +16,7 @@ impl DiskMachine {
     // Whether a packet is put off, of which is known whether it promises: it asks for writes, and
     // what is before them is not written, or calls wait. Steps that write it are made.
     pub(crate) fn puts_off(&mut self, packet: &[u8], promises: bool) -> bool
-        requires { IsPromise self.old packet.now promises }
+        requires { MayBePlain self.old packet.now promises }
         ensures { TellsPutOff promises packet.now result self.old self.new }
     {
         if self.disk.is_quiet(packet) {

@@ -17,7 +17,7 @@ same : (c : Else-puts_off) → c.puts_off.new.self ≡ c.args.self.now
 same c = (c.puts_off.ensures.ready c.if-puts_off.false).1
 
 pub puts_off-requires : goal.puts_off-requires
-puts_off-requires c = told (goal.at.puts_off-requires c).After-promises-promises
+puts_off-requires c = (told (goal.at.puts_off-requires c).After-promises-promises).none
 
 pub play-code-requires-clause-told : goal.play-code-requires-clause-told
 play-code-requires-clause-told c =

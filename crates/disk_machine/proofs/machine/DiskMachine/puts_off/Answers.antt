@@ -56,7 +56,7 @@ returns-in-None c =
       ready = λ no. (
         elim (cases_Bool c.args.promises) [
           | inl forced ↦ inr (rw forced at next, grind (arith, no, empty, c.waiting.ensures, c.medium.ensures))
-          | inr plain ↦ absurd (loud else (none (c.requires.none plain) (rw plain at next)))
+          | inr plain ↦ absurd (loud else (none (c.requires plain) (rw plain at next)))
         ],
         refl,
       );
