@@ -96,14 +96,9 @@ module _ {M : Type 0} {state : M → State} {at : ImageStage} {plan : ImagePlan}
       → (next ≡ stage.Made → IsFlushed (state n))
       → ((k : M) → AreMade state (calls_ahead next plan.end) n k → AreMade state (calls_ahead at plan.end) m k)
       → HoldsImage state next plan view n
-  moved one shows flushed ahead = record {
-    plan_is = held.plan_is;
-    shows = shows;
-    flushed = flushed;
-    calls = λ still. omega (arith, held.calls live, passes.calls_are, one);
-    order = λ still k rest. held.order live k (ahead k rest);
-    after_flush = since_on shows.cuts;
-  }
+  moved one shows flushed ahead =
+      let order = λ (k : M) (rest : AreMade state (calls_ahead next plan.end) n k). held.order live k (ahead k rest) in
+      grind (arith, held.plan_is, held.calls live, passes.calls_are, since_on shows.cuts, order)
 
   -- one was refused
   stopped : EachCut (MidwayImage plan view.under next (state view.start)) (state n) → HoldsImage state stage.Refused plan view n

@@ -7,6 +7,7 @@ use Rattle.medium.specs.declared.medium_call.Call.TheVariants.{Write, Flush}
 use Rattle.medium.specs.declared.fault.MediumFault.{MediumFault}
 use Rattle.medium.proofs.Moments.{at_exit, after_write, one_call}
 use Rattle.journal.specs.Sectors.{IsHead}
+use Rattle.journal.specs.Standing.{IsOurs}
 use Rattle.recovery.specs.Calls.{HasNewHead, Writes}
 use Rattle.recovery.specs.Recovered.{LeavesAtLeast}
 use Rattle.recovery.specs.Starting.{answer_of}
@@ -104,10 +105,7 @@ module _ {M : Type 0} (state : M → State) (sound : (m : M) → IsSound (state 
             copied = at.copied;
             has = at.has;
             moves = head_written at head performed;
-            now = record {
-              head = rw performed.done.here head;
-              elsewhere = λ x not. performed.done.elsewhere x not ∙ at.now.0 x;
-            };
+            now = grind (arith, performed.done, head, at.now);
           };
         }
 
@@ -120,19 +118,12 @@ module _ {M : Type 0} (state : M → State) (sound : (m : M) → IsSound (state 
         let stays = performed.done.0 in
         let leaves = head_flush_leaves held performed in
         let both = recovery_done least (surveyed_by has.surveyed.flushed has.surveyed.reads) has.surveyed.is has.sound has.copies has.done
-        (state n) (record {
-          head = rw (stays 1) at.now.head;
-          elsewhere = λ x not. stays x ∙ at.now.elsewhere x not;
-        }) (λ s c left. performed.done.1 s c left ∙ sym (stays s)) (head_flushed at performed).exact in
+        (state n) (grind (arith, stays, at.now)) (λ s c left. performed.done.1 s c left ∙ sym (stays s))
+        (head_flushed at performed).exact in
+        let clean = λ (shape : _) (array : _) (next : ℕ) (ours : IsOurs (state start).size shape (state start).content array next).
+        none_waits (both.2 shape array next ours (state n).content (sound n).holds_content) in
         record {
           leaves = leaves;
           well = λ live. absurd live;
-          midway = record {
-            ok = (both.0, both.1);
-            fresh = both.2;
-            clean = λ shape array next ours.
-                none_waits (both.2 shape array next ours (state n).content (sound n).holds_content);
-            err = tt;
-            leaves = leaves;
-          };
+          midway = search (rules, both, leaves, clean);
         }
