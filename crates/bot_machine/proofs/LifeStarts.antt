@@ -121,7 +121,7 @@ module _ (m : Sim) (remains : Remains) where
     left = λ is_ours. absurd (false≢true (sym ours ∙ is_ours));
   }
 
-  next_opens : (remains.book.ours ≡ true → EachCut (FoundAt (state_of m).size (between remains)) (state_of m))
+  pub next_opens : (remains.book.ours ≡ true → EachCut (FoundAt (state_of m).size (between remains)) (state_of m))
       → WouldOpen (state_of m) (between remains)
   next_opens found = elim (cases_Bool remains.book.ours) [
     | inl ours ↦ next_opens_ours ours (found ours)
