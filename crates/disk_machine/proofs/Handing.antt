@@ -2,7 +2,6 @@
 use Rattle.std.proofs.Common.{◌≡◌, ◌≤◌, ◌<◌, ◌+◌, ◌++◌, ◌∷◌, [], ℕ, zero, suc, length, List, inl, refl, sym, ◌∙◌, ap, subst, arith}
 use Rattle.std.proofs.Common.{append_assoc, length-append}
 use Rattle.std.specs.Prelude.{Some, None}
-use Rattle.medium.specs.Medium.{Image}
 use Rattle.medium.specs.Writes.{sector_of}
 use Rattle.window.specs.OutboxMedium.{sent, first_of}
 use Rattle.window.specs.declared.call.DeviceCall.{DeviceCall}
@@ -14,36 +13,43 @@ use Rattle.store_calls.specs.Outbox.{without, writes_of, IsRun}
 use Rattle.bot_machine.specs.Disk.{FitsDisk, IsRearmed}
 use Rattle.disk_machine.specs.Plays.{Disk, medium_of}
 use Rattle.disk_machine.specs.Asking.{AsksFor, HandsOut}
-use Rattle.disk_machine.specs.Machine.{Machine, LeavesOf, MayLeave, carried, under_way, has_refused}
-use Rattle.disk_machine.specs.Moves.{ServesOn, LeavesNoMore}
+use Rattle.disk_machine.specs.Machine.{Machine, LeavesOf, carried, under_way, has_refused}
+use Rattle.disk_machine.specs.Moves.{StaysSafe, LeavesNoMore, is_behind}
+use Rattle.disk_machine.specs.declared.lack.Lack.{Lack}
 use Rattle.window.specs.declared.ask.DeviceAsk.{DeviceAsk}
 use Rattle.window.specs.declared.ask.DeviceAsk.TheVariants as ask
 use Rattle.disk_machine.specs.declared.asked.Asked.{Asked}
 use Rattle.disk_machine.specs.declared.asked.Asked.TheVariants as asked
-use Rattle.disk_machine.proofs.Standing.{Stands, serves_still}
+use Rattle.disk_machine.proofs.Standing.{Stands, stays_safe}
 
 -- what was sent stays, however much of it has left the outbox
 pub record IsSentStill (old new : Window) : Type 0 where
   pub opening : new.seen.told.opening ≡ old.seen.told.opening
   pub sent : sent (mirror_of new) ≡ sent (mirror_of old)
   pub size : (state_of new).size ≡ (state_of old).size
+  pub room : new.room ≡ old.room
+
+pub still : (w : Window) → IsSentStill w w
+still w = record { opening = refl; sent = refl; size = refl; room = refl }
 
 one_goes : (calls : List DeviceCall) (w : Window) → w.outbox ≡ calls → IsSentStill w (take_first calls w)
-one_goes [] w is = record { opening = refl; sent = refl; size = refl }
+one_goes [] w is = still w
 one_goes (call ∷ calls) w is = record {
   opening = refl;
   sent = append_assoc w.seen.told.taken (call ∷ []) calls ∙ ap (λ (l : List DeviceCall). w.seen.told.taken ++ l) (sym is);
   size = refl;
+  room = refl;
 }
 
 pub some_go : (count : ℕ) (w : Window) → IsSentStill w (without count w)
-some_go zero w = record { opening = refl; sent = refl; size = refl }
+some_go zero w = still w
 some_go (suc count) w =
     let before = some_go count w in
     let last = one_goes (without count w).outbox (without count w) refl in record {
       opening = last.opening ∙ before.opening;
       sent = last.sent ∙ before.sent;
       size = last.size ∙ before.size;
+      room = last.room ∙ before.room;
     }
 
 one_fewer : (calls : List DeviceCall) (w : Window) → w.outbox ≡ calls → 0 < length calls
@@ -70,7 +76,7 @@ taken_by count w le = omega (
 
 -- a device that told no fewer done leaves no more
 pub leaves_no_more : (old new : Machine) → IsSentStill (medium_of old.disk) (medium_of new.disk) → carried old ≤ carried new
-    → (image : Image) → MayLeave new image → MayLeave old image
+    → LeavesNoMore old new
 leaves_no_more old new same reaches image left =
     subst (λ (bytes : List ℕ). LeavesOf bytes (sent (mirror_of (medium_of old.disk))) (carried old) image) same.opening
     (subst (λ (calls : List DeviceCall). LeavesOf (medium_of new.disk).seen.told.opening calls (carried old) image) same.sent (record {
@@ -84,37 +90,48 @@ leaves_no_more old new same reaches image left =
 abbrev FitsOver : Book → Disk → Type 0
 FitsOver book d = FitsDisk (state_of (medium_of d)) d book
 
--- the disk stays, and the device told no fewer done
-pub stays : (old new : Machine) → new.disk ≡ old.disk → carried old ≤ carried new → Stands old new
-stays old new same reaches = record {
-  others = subst (λ (d : Disk). IsRearmed old.disk d) (sym same) refl;
-  fits = λ book fits. subst (λ (d : Disk). FitsOver book d) (sym same) fits;
-  size = ap (λ (d : Disk). (state_of (medium_of d)).size) same;
-  leaves = leaves_no_more old new (subst (λ (w : Window). IsSentStill (medium_of old.disk) w) (sym (ap (λ (d : Disk). medium_of d) same))
-      (record { opening = refl; sent = refl; size = refl })) reaches;
+-- a disk that is as it was but for its medium
+pub sent_stands : (old new : Machine) → IsRearmed old.disk new.disk
+    → ((book : Book) → FitsOver book old.disk → FitsOver book new.disk) → IsSentStill (medium_of old.disk) (medium_of new.disk)
+    → carried old ≤ carried new → Stands old new
+sent_stands old new others fits same reaches = record {
+  others = others;
+  fits = fits;
+  size = same.size;
+  room = same.room;
+  leaves = leaves_no_more old new same reaches;
 }
 
--- calls that left the outbox are under way
-handed_stands : (old new : Machine) (count : ℕ) → HandsOut old count new → count ≤ length (medium_of old.disk).outbox → Stands old new
-handed_stands old new count hands le =
-    let same = subst (λ (w : Window). IsSentStill (medium_of old.disk) w) (sym hands.gone) (some_go count (medium_of old.disk)) in record {
-      others = hands.rest.others;
-      fits = hands.rest.fits;
-      size = same.size;
-      leaves = leaves_no_more old new same (omega (
-        arith,
-        ap under_way hands.free,
-        ap (λ (s : Machine). under_way s.asked) hands.others,
-        taken_by count (medium_of old.disk) le,
-        ap (λ (w : Window). length w.seen.told.taken) hands.gone,
-      ));
-    }
+-- the disk stays, and the device told no fewer done
+pub stays : (old new : Machine) → new.disk ≡ old.disk → carried old ≤ carried new → Stands old new
+stays old new same reaches = sent_stands old new (subst (λ (d : Disk). IsRearmed old.disk d) (sym same) refl)
+    (λ book fits. subst (λ (d : Disk). FitsOver book d) (sym same) fits)
+    (subst (λ (w : Window). IsSentStill (medium_of old.disk) w) (sym (ap (λ (d : Disk). medium_of d) same)) (still (medium_of old.disk)))
+    reaches
 
-handed_serves : (old new : Machine) (count : ℕ) → HandsOut old count new → count ≤ length (medium_of old.disk).outbox → ServesOn old new
-handed_serves old new count hands le =
-    serves_still old new (handed_stands old new count hands le)
-    (λ none. inl (sym (ap (λ (s : Machine). s.waiting) hands.others) ∙ none))
+-- what is to be read changes nothing else
+pub reading_safe : (s : Machine) (lacks : Lack) → StaysSafe s (record s { lack = lacks })
+reading_safe s lacks = stays_safe s (record s { lack = lacks }) (stays s (record s { lack = lacks }) refl (omega arith))
+    (λ none. inl none) refl refl (λ waits. waits)
+
+pub same_safe : (old new : Machine) → new ≡ old → StaysSafe old new
+same_safe old new same = subst (λ (s : Machine). StaysSafe old s) (sym same) (reading_safe old old.lack)
+
+-- calls that left the outbox are under way
+handed_safe : (old new : Machine) (count : ℕ) → HandsOut old count new → count ≤ length (medium_of old.disk).outbox → StaysSafe old new
+handed_safe old new count hands le =
+    let same = subst (λ (w : Window). IsSentStill (medium_of old.disk) w) (sym hands.gone) (some_go count (medium_of old.disk)) in
+    let stands = sent_stands old new hands.rest.others hands.rest.fits same (omega (
+      arith,
+      ap under_way hands.free,
+      ap (λ (s : Machine). under_way s.asked) hands.others,
+      taken_by count (medium_of old.disk) le,
+      ap (λ (w : Window). length w.seen.told.taken) hands.gone,
+    )) in
+    stays_safe old new stands (λ none. inl (sym (ap (λ (s : Machine). s.waiting) hands.others) ∙ none))
     (ap (λ (s : Machine). has_refused s.asked) hands.others ∙ sym (ap (λ (a : Asked). has_refused a) hands.free))
+    (ap (λ (s : Machine). s.most) hands.others)
+    (λ waits some. ap (λ (s : Machine). is_behind s.asked (medium_of s.disk).outbox) hands.others)
 
 some_first : (calls : List DeviceCall) (call : DeviceCall) → first_of calls ≡ Some call → 1 ≤ length calls
 some_first [] call is = cc
@@ -141,36 +158,26 @@ run_waits old new sector count room filled run = omega (
   length_of_writes count sector filled,
 )
 
+-- a device that reads is as far behind as one that is at no call
+pub read_behind : (home : DeviceRead) (calls : List DeviceCall) → is_behind (asked.Read home) calls ≡ is_behind asked.Nothing calls
+read_behind home [] = refl
+read_behind home (call ∷ calls) = refl
+
 -- the device is asked to read
-reads_stand : (old new : Machine) (home : DeviceRead) → old.asked ≡ asked.Nothing → new ≡ record old { asked = asked.Read home }
-    → Stands old new
-reads_stand old new home free is = stays old new (ap (λ (s : Machine). s.disk) is) (omega (
-  arith,
-  ap under_way free,
-  ap (λ (s : Machine). under_way s.asked) is,
-  ap (λ (s : Machine). length (medium_of s.disk).seen.told.taken) is,
-))
+reads_safe : (old new : Machine) (home : DeviceRead) → old.asked ≡ asked.Nothing → new ≡ record old { asked = asked.Read home }
+    → StaysSafe old new
+reads_safe old new home free is = subst (λ (s : Machine). StaysSafe old s) (sym is)
+    (stays_safe old (record old { asked = asked.Read home })
+    (stays old (record old { asked = asked.Read home }) refl (omega (arith, ap under_way free)))
+    (λ none. inl none) (sym (ap (λ (a : Asked). has_refused a) free)) refl
+    (λ waits some. read_behind home (medium_of old.disk).outbox
+    ∙ ap (λ (a : Asked). is_behind a (medium_of old.disk).outbox) (sym free) ∙ waits some))
 
 -- the device is asked for the next
-pub asks_serves : (old new : Machine) (room : List ℕ) (what : DeviceAsk) (filled : List ℕ) → AsksFor old room what new filled
-    → ServesOn old new
-asks_serves old new room ask.Nothing filled asks =
-    subst (λ (s : Machine). ServesOn old s) (sym asks.1) (λ told book serves. serves)
-asks_serves old new room (ask.Write first count) filled asks =
-    handed_serves old new count asks.0
-    (run_waits (medium_of old.disk) (medium_of new.disk) first count room filled asks.2.run)
-asks_serves old new room ask.Flush filled asks = handed_serves old new 1 asks.0 (some_first (medium_of old.disk).outbox Flush asks.1)
-asks_serves old new room (ask.Read home) filled asks =
-    serves_still old new (reads_stand old new home asks.0 asks.3)
-    (λ none. inl (sym (ap (λ (s : Machine). s.waiting) asks.3) ∙ none))
-    (ap (λ (s : Machine). has_refused s.asked) asks.3 ∙ sym (ap (λ (a : Asked). has_refused a) asks.0))
-
-pub asks_leave : (old new : Machine) (room : List ℕ) (what : DeviceAsk) (filled : List ℕ) → AsksFor old room what new filled
-    → LeavesNoMore old new
-asks_leave old new room ask.Nothing filled asks = subst (λ (s : Machine). LeavesNoMore old s) (sym asks.1) (λ image left. left)
-asks_leave old new room (ask.Write first count) filled asks =
-    (handed_stands old new count asks.0
-    (run_waits (medium_of old.disk) (medium_of new.disk) first count room filled asks.2.run)).leaves
-asks_leave old new room ask.Flush filled asks =
-    (handed_stands old new 1 asks.0 (some_first (medium_of old.disk).outbox Flush asks.1)).leaves
-asks_leave old new room (ask.Read home) filled asks = (reads_stand old new home asks.0 asks.3).leaves
+pub asks_safe : (old new : Machine) (room : List ℕ) (what : DeviceAsk) (filled : List ℕ) → AsksFor old room what new filled
+    → StaysSafe old new
+asks_safe old new room ask.Nothing filled asks = same_safe old new asks.1
+asks_safe old new room (ask.Write first count) filled asks =
+    handed_safe old new count asks.0 (run_waits (medium_of old.disk) (medium_of new.disk) first count room filled asks.2.run)
+asks_safe old new room ask.Flush filled asks = handed_safe old new 1 asks.0 (some_first (medium_of old.disk).outbox Flush asks.1)
+asks_safe old new room (ask.Read home) filled asks = reads_safe old new home asks.0 asks.3

@@ -1,5 +1,5 @@
 -- What the device was asked for has ended.
-use Rattle.std.proofs.Common.{◌≡◌, ◌⊎◌, ◌≤◌, ◌/◌, inl, inr, [], ◌∷◌, List, ℕ, Bool, true, false, length, refl, sym, ◌∙◌}
+use Rattle.std.proofs.Common.{◌≡◌, ◌≢◌, ◌⊎◌, ◌≤◌, ◌/◌, inl, inr, [], ◌∷◌, List, ℕ, Bool, true, false, length, refl, sym, ◌∙◌}
 use Rattle.std.proofs.Common.{ap, subst, arith}
 use Rattle.std.specs.Prelude.{Result}
 use Rattle.std.proofs.lemmas.Bool.{false≢true}
@@ -10,17 +10,19 @@ use Rattle.spec.specs.Book.{Book}
 use Rattle.scsi_unit.specs.UnitValue.{state_of as unit_state}
 use Rattle.window.specs.declared.ask.DeviceRead.{DeviceRead}
 use Rattle.store_calls.specs.Outbox.{without}
-use Rattle.disk_machine.specs.Plays.{Disk, medium_of, Sees}
-use Rattle.disk_machine.specs.Asking.{counted, waits_behind, IsGivenUp, IsShownTo, IsDone, HasRead, HasEnded, IsHonest}
+use Rattle.disk_machine.specs.Plays.{Disk, medium_of, layout_on, Sees}
+use Rattle.disk_machine.specs.Room.{room_for}
+use Rattle.scsi_unit.specs.Background.{is_dead}
+use Rattle.disk_machine.specs.Asking.{counted, waits_behind, read_over, IsGivenUp, IsShownTo, IsDone, IsHonest}
 use Rattle.disk_machine.specs.Machine.{Machine, Finds, has_refused, under_way, carried}
-use Rattle.disk_machine.specs.Moves.{ServesAtRest, ServesOn, LeavesNoMore}
+use Rattle.disk_machine.specs.Moves.{ServesAtRest, ServesOn, StaysSafe, is_behind}
 use Rattle.disk_machine.specs.declared.asked.Asked.{Asked}
 use Rattle.disk_machine.specs.declared.asked.Asked.TheVariants as asked
 use Rattle.window.specs.declared.done_fault.DoneFault.{DoneFault}
 use Rattle.disk_machine.specs.declared.waiting.Waiting.{Waiting}
 use Rattle.disk_machine.specs.declared.waiting.Waiting.TheVariants as waiting
-use Rattle.disk_machine.proofs.Standing.{Stands, keeps_all, serves_still}
-use Rattle.disk_machine.proofs.Handing.{IsSentStill, some_go, taken_by, leaves_no_more, stays}
+use Rattle.disk_machine.proofs.Standing.{Stands, keeps_all, stays_safe}
+use Rattle.disk_machine.proofs.Handing.{IsSentStill, some_go, taken_by, leaves_no_more, sent_stands, stays, same_safe, read_behind}
 use Rattle.disk_machine.proofs.StepLaws.{finds_same}
 
 -- ---- calls are carried out
@@ -30,21 +32,23 @@ waits_or_none : (calls : List DeviceCall) (was : Waiting) → waits_behind calls
 waits_or_none [] was is = inr refl
 waits_or_none (call ∷ calls) was is = inl is
 
-pub counted_serves : (old : Machine) (count : ℕ) → old.asked ≡ asked.Calls count → ServesAtRest (counted old) → ServesOn old (counted old)
-counted_serves old count was rest =
-    serves_still old (counted old) (stays old (counted old) refl (omega arith))
+counted_behind : (calls : List DeviceCall) (was : Waiting) → waits_behind calls was ≢ waiting.Nothing
+    → is_behind asked.Nothing calls ≡ true
+counted_behind [] was some = absurd (some refl)
+counted_behind (call ∷ calls) was some = refl
+
+counted_safe : (old : Machine) (count : ℕ) → old.asked ≡ asked.Calls count → ServesAtRest (counted old) → StaysSafe old (counted old)
+counted_safe old count was rest =
+    stays_safe old (counted old) (stays old (counted old) refl (omega arith))
     (λ none. elim (waits_or_none (medium_of old.disk).outbox old.waiting none) [
       | inl before ↦ inl before
       | inr empty ↦ inr (keeps_all (counted old) rest (record { none_waits = empty; none_under_way = refl; none_refused = refl }))
     ])
-    (sym (ap (λ (a : Asked). has_refused a) was))
+    (sym (ap (λ (a : Asked). has_refused a) was)) refl (λ waits. counted_behind (medium_of old.disk).outbox old.waiting)
 
 -- ---- calls are refused
 
 module _ (old new : Machine) (count : ℕ) (was : old.asked ≡ asked.Calls count) (given_up : IsGivenUp old count new) where
-  behind : ℕ
-  behind = length (medium_of old.disk).outbox
-
   now : new.asked ≡ asked.Refused count (length (medium_of old.disk).outbox)
   now = ap (λ (s : Machine). s.asked) given_up.others
 
@@ -70,10 +74,7 @@ module _ (old new : Machine) (count : ℕ) (was : old.asked ≡ asked.Calls coun
   dead : (book : Book) → (unit_state new.disk.unit book).faulted ≡ true
   dead book = ap (λ s. s.unit.faulted) (given_up.refused.by_rules book)
 
-  pub given_up_leaves : LeavesNoMore old new
-  given_up_leaves = leaves_no_more old new same reaches
-
-  pub given_up_serves : ServesOn old new
+  given_up_serves : ServesOn old new
   given_up_serves told book serves = record {
     fits = given_up.refused.fits book serves.fits;
     fewer = serves.fewer;
@@ -85,22 +86,33 @@ module _ (old new : Machine) (count : ℕ) (was : old.asked ≡ asked.Calls coun
     faulted = λ refused. dead book;
   }
 
+  given_up_safe : StaysSafe old new
+  given_up_safe = record {
+    serves = given_up_serves;
+    leaves = leaves_no_more old new same reaches;
+    goes_on = record {
+      room = λ fits. record {
+        steps = omega (arith, ap (λ (s : Machine). s.most) given_up.others, same.room, fits.steps);
+        alone = omega (arith, same.room, ap (λ (d : Disk). room_for (layout_on d)) given_up.refused.others, fits.alone);
+      };
+      waits = λ waits some. absurd (some (ap (λ (s : Machine). s.waiting) given_up.others));
+      dead = λ was. (leaves_no_more old new same reaches, ap (λ (d : Disk). is_dead d.unit.store.cached) given_up.refused.others);
+    };
+  }
+
 -- ---- a read has ended
 
 module _ (old new : Machine) (home : DeviceRead) (was : old.asked ≡ asked.Read home) (now : new.asked ≡ asked.Nothing) where
   as_far : (medium_of new.disk).seen.told.taken ≡ (medium_of old.disk).seen.told.taken → carried old ≤ carried new
   as_far taken = omega (arith, ap under_way was, ap under_way now, ap (λ (l : List DeviceCall). length l) taken)
 
-  same_refused : has_refused new.asked ≡ has_refused old.asked
-  same_refused = ap (λ (a : Asked). has_refused a) now ∙ sym (ap (λ (a : Asked). has_refused a) was)
-
-  pub unread_leaves : new.disk ≡ old.disk → LeavesNoMore old new
-  unread_leaves disk = (stays old new disk (as_far (ap (λ (d : Disk). (medium_of d).seen.told.taken) disk))).leaves
-
-  pub unread_serves : new.disk ≡ old.disk → new.waiting ≡ old.waiting → ServesOn old new
-  unread_serves disk waits =
-      serves_still old new (stays old new disk (as_far (ap (λ (d : Disk). (medium_of d).seen.told.taken) disk)))
-      (λ none. inl (sym waits ∙ none)) same_refused
+  over_safe : Stands old new → new.waiting ≡ old.waiting → new.most ≡ old.most
+      → (medium_of new.disk).outbox ≡ (medium_of old.disk).outbox → StaysSafe old new
+  over_safe stands waiting most outbox =
+      stays_safe old new stands (λ none. inl (sym waiting ∙ none))
+      (ap (λ (a : Asked). has_refused a) now ∙ sym (ap (λ (a : Asked). has_refused a) was)) most
+      (λ waits some. (λ i. is_behind (now i) (outbox i)) ∙ sym (read_behind home (medium_of old.disk).outbox)
+      ∙ ap (λ (a : Asked). is_behind a (medium_of old.disk).outbox) (sym was) ∙ waits (λ none. some (waiting ∙ none)))
 
 -- the bytes that an honest device read
 abbrev AreRead : Machine → DeviceRead → List ℕ → Type 0
@@ -110,7 +122,7 @@ AreRead s home bytes = AreHeld (device_so_far (medium_of s.disk)).content home.f
 same_sent : (old new : Window) (first count : ℕ) → new ≡ moved old first count
     → IsSentStill old new × (new.seen.told.taken ≡ old.seen.told.taken)
 same_sent old new first count moves = (
-  subst (λ (w : Window). IsSentStill old w) (sym moves) (record { opening = refl; sent = refl; size = refl }),
+  subst (λ (w : Window). IsSentStill old w) (sym moves) (record { opening = refl; sent = refl; size = refl; room = refl }),
   ap (λ (w : Window). w.seen.told.taken) moves,
 )
 
@@ -128,74 +140,32 @@ taken_stands old new home bytes false was now sees read =
 taken_stands old new home bytes true was now sees read =
     let sent = same_sent (medium_of old.disk) (medium_of new.disk) home.first (length bytes / 512)
     (sees.shown.honest refl (inl read)) in
-    record {
-      others = sees.others;
-      fits = sees.fits (inl read);
-      size = sent.0.size;
-      leaves = leaves_no_more old new sent.0 (as_far old new home was now sent.1);
-    }
+    sent_stands old new sees.others (sees.fits (inl read)) sent.0 (as_far old new home was now sent.1)
 
-shown_stands : (old new : Machine) (home : DeviceRead) (bytes : List ℕ) → old.asked ≡ asked.Read home → IsShownTo old home bytes new
-    → AreRead old home bytes → Stands old new
-shown_stands old new home bytes was shown read =
-    taken_stands old new home bytes shown.taken was (ap (λ (s : Machine). s.asked) shown.others) shown.sees read
+shown_safe : (old new : Machine) (home : DeviceRead) (bytes : List ℕ) → old.asked ≡ asked.Read home → IsShownTo old home bytes new
+    → AreRead old home bytes → StaysSafe old new
+shown_safe old new home bytes was shown read =
+    let now = ap (λ (s : Machine). s.asked) shown.others in
+    over_safe old new home was now (taken_stands old new home bytes shown.taken was now shown.sees read)
+    (ap (λ (s : Machine). s.waiting) shown.others) (ap (λ (s : Machine). s.most) shown.others)
+    (ap (λ (w : Window). w.outbox) shown.sees.shown.others)
 
-pub shown_serves : (old new : Machine) (home : DeviceRead) (bytes : List ℕ) → old.asked ≡ asked.Read home → IsShownTo old home bytes new
-    → AreRead old home bytes → ServesOn old new
-shown_serves old new home bytes was shown read =
-    serves_still old new (shown_stands old new home bytes was shown read)
-    (λ none. inl (sym (ap (λ (s : Machine). s.waiting) shown.others) ∙ none))
-    (same_refused old new home was (ap (λ (s : Machine). s.asked) shown.others))
+unread_safe : (old new : Machine) (home : DeviceRead) → old.asked ≡ asked.Read home → new ≡ read_over old home false → StaysSafe old new
+unread_safe old new home was is = subst (λ (s : Machine). StaysSafe old s) (sym is)
+    (over_safe old (read_over old home false) home was refl
+    (stays old (read_over old home false) refl (as_far old (read_over old home false) home was refl refl)) refl refl refl)
 
 -- ---- what the device was asked for last
 
-nothing_changes : (old new : Machine) → new ≡ old → ServesOn old new
-nothing_changes old new same = subst (λ (s : Machine). ServesOn old s) (sym same) (λ told book serves. serves)
-
-read_serves : (home : DeviceRead) (ok : Bool) (old new : Machine) (bytes : List ℕ) (result : Result (Unit {0}) DoneFault)
-    → old.asked ≡ asked.Read home → HasRead home ok old bytes result new → IsHonest old ok bytes → ServesOn old new
-read_serves home true old new bytes result was (inl bad) honest = nothing_changes old new bad.1.1
-read_serves home true old new bytes result was (inr good) honest = shown_serves old new home bytes was good.2 (honest refl home was)
-read_serves home false old new bytes result was read honest =
-    unread_serves old new home was (ap (λ (s : Machine). s.asked) read.1) (ap (λ (s : Machine). s.disk) read.1)
-    (ap (λ (s : Machine). s.waiting) read.1)
-
-calls_serve : (count : ℕ) (ok : Bool) (old new : Machine) (result : Result (Unit {0}) DoneFault)
-    → old.asked ≡ asked.Calls count → HasEnded count ok old result new → ServesAtRest new → ServesOn old new
-calls_serve count true old new result was ended rest =
-    subst (λ (s : Machine). ServesOn old s) (sym ended.1)
-    (counted_serves old count was (subst (λ (s : Machine). ServesAtRest s) ended.1 rest))
-calls_serve count false old new result was ended rest = given_up_serves old new count was ended.1
-
-pub done_serves : (a : Asked) (ok : Bool) (old new : Machine) (bytes : List ℕ) (result : Result (Unit {0}) DoneFault)
-    → old.asked ≡ a → IsDone a ok old bytes result new → ServesAtRest new → IsHonest old ok bytes → ServesOn old new
-done_serves asked.Nothing ok old new bytes result was done rest honest = nothing_changes old new done.1
-done_serves (asked.Calls count) ok old new bytes result was done rest honest = calls_serve count ok old new result was done rest
-done_serves (asked.Read home) ok old new bytes result was done rest honest = read_serves home ok old new bytes result was done honest
-done_serves (asked.Refused count left) ok old new bytes result was done rest honest = nothing_changes old new done.1
-
--- ---- and what a loss of power leaves
-
-nothing_more : (old new : Machine) → new ≡ old → LeavesNoMore old new
-nothing_more old new same = subst (λ (s : Machine). LeavesNoMore old s) (sym same) (λ image left. left)
-
-read_leaves : (home : DeviceRead) (ok : Bool) (old new : Machine) (bytes : List ℕ) (result : Result (Unit {0}) DoneFault)
-    → old.asked ≡ asked.Read home → HasRead home ok old bytes result new → IsHonest old ok bytes → LeavesNoMore old new
-read_leaves home true old new bytes result was (inl bad) honest = nothing_more old new bad.1.1
-read_leaves home true old new bytes result was (inr good) honest =
-    (shown_stands old new home bytes was good.2 (honest refl home was)).leaves
-read_leaves home false old new bytes result was read honest =
-    unread_leaves old new home was (ap (λ (s : Machine). s.asked) read.1) (ap (λ (s : Machine). s.disk) read.1)
-
-calls_leave : (count : ℕ) (ok : Bool) (old new : Machine) (result : Result (Unit {0}) DoneFault)
-    → old.asked ≡ asked.Calls count → HasEnded count ok old result new → LeavesNoMore old new
-calls_leave count true old new result was ended =
-    subst (λ (s : Machine). LeavesNoMore old s) (sym ended.1) (stays old (counted old) refl (omega arith)).leaves
-calls_leave count false old new result was ended = given_up_leaves old new count was ended.1
-
-pub done_leaves : (a : Asked) (ok : Bool) (old new : Machine) (bytes : List ℕ) (result : Result (Unit {0}) DoneFault)
-    → old.asked ≡ a → IsDone a ok old bytes result new → IsHonest old ok bytes → LeavesNoMore old new
-done_leaves asked.Nothing ok old new bytes result was done honest = nothing_more old new done.1
-done_leaves (asked.Calls count) ok old new bytes result was done honest = calls_leave count ok old new result was done
-done_leaves (asked.Read home) ok old new bytes result was done honest = read_leaves home ok old new bytes result was done honest
-done_leaves (asked.Refused count left) ok old new bytes result was done honest = nothing_more old new done.1
+pub done_safe : (a : Asked) (ok : Bool) (old new : Machine) (bytes : List ℕ) (result : Result (Unit {0}) DoneFault)
+    → old.asked ≡ a → IsDone a ok old bytes result new → ServesAtRest new → IsHonest old ok bytes → StaysSafe old new
+done_safe asked.Nothing ok old new bytes result was done rest honest = same_safe old new done.1
+done_safe (asked.Calls count) true old new bytes result was done rest honest =
+    subst (λ (s : Machine). StaysSafe old s) (sym done.1)
+    (counted_safe old count was (subst (λ (s : Machine). ServesAtRest s) done.1 rest))
+done_safe (asked.Calls count) false old new bytes result was done rest honest = given_up_safe old new count was done.1
+done_safe (asked.Read home) true old new bytes result was (inl bad) rest honest = same_safe old new bad.1.1
+done_safe (asked.Read home) true old new bytes result was (inr good) rest honest =
+    shown_safe old new home bytes was good.2 (honest refl home was)
+done_safe (asked.Read home) false old new bytes result was done rest honest = unread_safe old new home was done.1
+done_safe (asked.Refused count left) ok old new bytes result was done rest honest = same_safe old new done.1

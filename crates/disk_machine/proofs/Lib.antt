@@ -11,8 +11,6 @@ pub mod StepLaws
 pub mod Playing
 pub mod PutOff
 pub mod Staying
-pub mod Lagging
-pub mod Dying
 pub mod Living
 pub mod Turning
 pub mod Transferring

@@ -15,20 +15,22 @@ use Rattle.scsi_unit.specs.Laws.{IsSameLife}
 use Rattle.bot_machine.specs.BookLaws.{GrowsBy}
 use Rattle.bot_machine.specs.Disk.{over}
 use Rattle.disk_machine.specs.Ahead.{LooksAhead}
-use Rattle.disk_machine.specs.Idling.{IsShort, HasGoneAhead, HasStepped}
+use Rattle.disk_machine.specs.Idling.{HasGoneAhead, HasStepped}
 use Rattle.disk_machine.specs.Lives.{Call, next, done, bulk_out, bulk_in, take_transfer, send_transfer, setup, idle, work_ahead}
 use Rattle.disk_machine.specs.Lives.{look_ahead}
 use Rattle.disk_machine.specs.Lives.{IsMade, turns_of, ServesLater, ServesThroughout, turns_in_all}
 use Rattle.disk_machine.specs.Machine.{Machine, Serves, has_refused}
 use Rattle.disk_machine.specs.Moves.{ServesOn, ServesEvent, ServesToken}
 use Rattle.disk_machine.specs.Packets.{TakesOne, SendsIn}
-use Rattle.disk_machine.specs.PuttingOff.{MayGoOn, WaitsForSteps, WaitsForCalls}
+use Rattle.disk_machine.specs.PuttingOff.{WaitsForSteps, WaitsForCalls}
 use Rattle.disk_machine.specs.Transfers.{packet_at, TakesFirst, EndsTaking, TakesTransfer, SendsAt, SendsFirst}
 use Rattle.disk_machine.specs.Transfers.{EndsSending, SendsTransfer, SendsInto}
 use Rattle.disk_machine.specs.Turns.{Turn, played, ticks, TurnsRun, turns_one, turns_in, turns_ahead, turns_idle, turns_taken}
 use Rattle.disk_machine.specs.Turns.{turns_not_taken, turns_before}
 use Rattle.disk_machine.specs.Turns.{turns_of_taking, turns_at, turns_sent, turns_last, turns_of_sending, turns_into}
-use Rattle.scsi_unit.specs.Background.{Settle, Ahead}
+use Rattle.scsi_unit.specs.Background.{Work, Settle, Ahead}
+use Rattle.disk_machine.specs.Plays.{Disk}
+use Rattle.disk_machine.specs.Steps.{StepsWhile}
 use Rattle.disk_machine.proofs.StepLaws.{opening_stays, writes_grow}
 use Rattle.disk_machine.proofs.Turning.{runs_through, same_over, asks_say, done_says, steps_run}
 
@@ -127,13 +129,17 @@ nothing_changes : (old new : Machine) → new ≡ old → LivesOn old [] new
 nothing_changes old new same = subst (λ (s : Machine). LivesOn old [] s) (sym same)
     (served_on old old [] (λ told book serves. serves) (λ book. refl))
 
+-- steps
+stepped : (Holds : Disk → Type 0) (work : Work) (count : ℕ) (old new : Machine) → StepsWhile Holds work count old.disk new.disk
+    → ServesOn old new → LivesOn old (ticks count) new
+stepped Holds work count old new steps on told book serves = with_book old new (ticks count) told told book (omega arith)
+    (on told book serves) (steps_run Holds work count old new.disk steps told book serves)
+
 -- a packet that is put off
 put_off : (promises : Bool) (old new : Machine) (waits : WaitsForSteps promises old new ⊎ WaitsForCalls promises old new)
     → LivesOn old (turns_before promises old new waits) new
-put_off promises old new (inl steps) = λ told book serves.
-    let writes = steps.goes.writes in
-    with_book old new (ticks writes.count) told told book (omega arith) (steps.serves told book serves)
-    (steps_run (MayGoOn old.most promises steps.work) steps.work writes.count old new.disk writes.steps told book serves)
+put_off promises old new (inl steps) =
+    let writes = steps.goes.writes in stepped _ steps.work writes.count old new writes.steps steps.serves
 put_off promises old new (inr calls) = nothing_changes old new calls.2
 
 taken_one : (old new : Machine) (packet : List ℕ) (code : ℕ) (takes : TakesOne old packet new code)
@@ -153,15 +159,11 @@ sent_in old new room filled size code (inr (none, sends)) = served_token old new
 
 idled : (old new : Machine) (stepped : HasStepped old new) → ServesOn old new → LivesOn old (turns_idle old new stepped) new
 idled old new (inl held) on = nothing_changes old new held.1
-idled old new (inr (free, makes, others)) on = λ told book serves.
-    with_book old new (turns_idle old new (inr (free, makes, others))) told told book (omega arith) (on told book serves)
-    (steps_run (IsShort Settle old.most) Settle makes.count old new.disk makes.steps told book serves)
+idled old new (inr (free, makes, others)) on = stepped _ Settle makes.count old new makes.steps on
 
 gone_ahead : (old new : Machine) (gone : HasGoneAhead old new) → ServesOn old new → LivesOn old (turns_ahead old new gone) new
 gone_ahead old new (inl busy) on = nothing_changes old new busy.1
-gone_ahead old new (inr (rests, makes, others)) on = λ told book serves.
-    with_book old new (turns_ahead old new (inr (rests, makes, others))) told told book (omega arith) (on told book serves)
-    (steps_run (IsShort Ahead old.most) Ahead makes.count old new.disk makes.steps told book serves)
+gone_ahead old new (inr (rests, makes, others)) on = stepped _ Ahead makes.count old new makes.steps on
 
 looked : (old new : Machine) (first count : ℕ) (reads : Bool) → LooksAhead old first count new reads → LivesOn old [] new
 looked old new first count true looks =

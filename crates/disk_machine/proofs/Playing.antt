@@ -20,8 +20,8 @@ use Rattle.disk_machine.specs.Plays.{Disk, medium_of, PlaysBy, Plays, AnswersReq
 use Rattle.disk_machine.proofs.Rooms.{none_sent_by}
 use Rattle.disk_machine.specs.Refusals.{HasRoomFor}
 use Rattle.disk_machine.specs.Machine.{Machine, Serves, has_refused, under_way}
-use Rattle.disk_machine.specs.Idling.{IsShort, HasGoneAhead, HasStepped}
-use Rattle.disk_machine.specs.Moves.{is_behind, HasRoomBeside, ServesAtRest, LeavesNoMore, ServesOn, ServesEvent, ServesToken}
+use Rattle.disk_machine.specs.Idling.{HasGoneAhead, HasStepped}
+use Rattle.disk_machine.specs.Moves.{is_behind, HasRoomBeside, ServesAtRest, LeavesNoMore, ServesOn, KeepsGoing, ServesEvent, ServesToken}
 use Rattle.disk_machine.specs.Packets.{AnswersSetup, PlaysOut, ServesOut, waits_for}
 use Rattle.disk_machine.specs.PuttingOff.{IsReady}
 use Rattle.disk_machine.specs.Steps.{StepsWhile}
@@ -29,7 +29,7 @@ use Rattle.disk_machine.specs.declared.asked.Asked.{Asked}
 use Rattle.disk_machine.specs.declared.asked.Asked.TheVariants as asked
 use Rattle.disk_machine.specs.declared.waiting.Waiting.{Waiting}
 use Rattle.disk_machine.specs.declared.waiting.Waiting.TheVariants as waiting
-use Rattle.disk_machine.proofs.Handing.{IsSentStill, leaves_no_more}
+use Rattle.disk_machine.proofs.Handing.{IsSentStill, still, leaves_no_more}
 use Rattle.disk_machine.proofs.Standing.{keeps_all}
 use Rattle.disk_machine.proofs.Events.{serves_event}
 use Rattle.disk_machine.proofs.Staying.{event_goes_on, out_goes_on}
@@ -106,7 +106,7 @@ module _ {work : Work} (old new : Machine) (event : Event) (answer : Answer) (pl
   quiet_leaves book fits rests =
       let same : medium_of new.disk ≡ medium_of old.disk = ap (λ u. u.store.medium) (plays.step.rests book fits rests) in
       leaves_no_more old new
-      (subst (λ (w : Window). IsSentStill (medium_of old.disk) w) (sym same) (record { opening = refl; sent = refl; size = refl }))
+      (subst (λ (w : Window). IsSentStill (medium_of old.disk) w) (sym same) (still (medium_of old.disk)))
       (omega (arith, ap (λ (w : Window). length w.seen.told.taken) same, ap (λ (s : Machine). under_way s.asked) others))
 
 -- a request
@@ -184,23 +184,47 @@ module _ {work : Work} (old new : Machine) (plays : PlaysBy work old.disk event.
 abbrev pub with_disk : Machine → Disk → Machine
 with_disk s disk = record s { disk = disk }
 
--- steps, one by one
-pub steps_serve : (Holds : Disk → Type 0) (work : Work) (count : ℕ) (old : Machine) (new : Disk)
-    → StepsWhile Holds work count old.disk new → ServesOn old (with_disk old new)
-steps_serve Holds work zero old new same =
-    subst (λ (d : Disk). ServesOn old (with_disk old d)) (sym same) (λ told book serves. serves)
-steps_serve Holds work (suc count) old new steps = λ told book serves.
-    tick_serves (with_disk old steps.0) (with_disk old new) steps.3 refl told book
-    (steps_serve Holds work count old steps.0 steps.1 told book serves)
+-- ---- steps, one by one
 
-pub idle_serves : (old new : Machine) → HasStepped old new → ServesOn old new
-idle_serves old new (inl held) = subst (λ (s : Machine). ServesOn old s) (sym held.1) (λ told book serves. serves)
-idle_serves old new (inr made) =
-    subst (λ (s : Machine). ServesOn old s) (sym made.2)
-    (steps_serve (IsShort Settle old.most) Settle made.1.count old new.disk made.1.steps)
+abbrev GoesOn : Machine → Machine → Type 0
+GoesOn old new = ServesOn old new × KeepsGoing old new
 
-pub ahead_serves : (old new : Machine) → HasGoneAhead old new → ServesOn old new
-ahead_serves old new (inl busy) = subst (λ (s : Machine). ServesOn old s) (sym busy.1) (λ told book serves. serves)
-ahead_serves old new (inr made) =
-    subst (λ (s : Machine). ServesOn old s) (sym made.2)
-    (steps_serve (IsShort Ahead old.most) Ahead made.1.count old new.disk made.1.steps)
+itself : (s : Machine) → GoesOn s s
+itself s = (
+  λ told book serves. serves,
+  record { room = λ fits. fits; waits = λ waits. waits; dead = λ dead. (λ image left. left, dead) },
+)
+
+further : (old mid new : Machine) → GoesOn old mid → GoesOn mid new → GoesOn old new
+further old mid new first last = (
+  λ told book serves. last.0 told book (first.0 told book serves),
+  record {
+    room = λ fits. last.1.room (first.1.room fits);
+    waits = λ waits. last.1.waits (first.1.waits waits);
+    dead = λ dead.
+        let before = first.1.dead dead in
+        let behind = last.1.dead before.1 in (λ image left. before.0 image (behind.0 image left), behind.1);
+  },
+)
+
+pub steps_go_on : (Holds : Disk → Type 0) (work : Work) (count : ℕ) (old : Machine) (new : Disk)
+    → StepsWhile Holds work count old.disk new → GoesOn old (with_disk old new)
+steps_go_on Holds work zero old new same = subst (λ (d : Disk). GoesOn old (with_disk old d)) (sym same) (itself old)
+steps_go_on Holds work (suc count) old new (mid, steps, holds, plays) =
+    further old (with_disk old mid) (with_disk old new) (steps_go_on Holds work count old mid steps) (
+      tick_serves (with_disk old mid) (with_disk old new) plays refl,
+      event_goes_on (with_disk old mid) (with_disk old new) _ _ plays refl,
+    )
+
+pub made_goes_on : (Holds : Disk → Type 0) (work : Work) (count : ℕ) (old new : Machine)
+    → StepsWhile Holds work count old.disk new.disk → new ≡ record old { disk = new.disk } → GoesOn old new
+made_goes_on Holds work count old new steps others =
+    subst (λ (s : Machine). GoesOn old s) (sym others) (steps_go_on Holds work count old new.disk steps)
+
+pub idle_goes_on : (old new : Machine) → HasStepped old new → GoesOn old new
+idle_goes_on old new (inl held) = subst (λ (s : Machine). GoesOn old s) (sym held.1) (itself old)
+idle_goes_on old new (inr made) = made_goes_on _ Settle made.1.count old new made.1.steps made.2
+
+pub ahead_goes_on : (old new : Machine) → HasGoneAhead old new → GoesOn old new
+ahead_goes_on old new (inl busy) = subst (λ (s : Machine). GoesOn old s) (sym busy.1) (itself old)
+ahead_goes_on old new (inr made) = made_goes_on _ Ahead made.1.count old new made.1.steps made.2

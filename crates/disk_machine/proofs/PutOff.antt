@@ -14,11 +14,8 @@ use Rattle.bot_machine.proofs.UnitLaws.{ahead_fewer, both_empty, plain_quiet}
 use Rattle.window.specs.Window.{state_of}
 use Rattle.disk_machine.specs.Plays.{Disk, medium_of, PlaysBy}
 use Rattle.disk_machine.specs.Refusals.{HasWritten, IsQuietPacket}
-use Rattle.disk_machine.specs.Machine.{Machine}
-use Rattle.disk_machine.specs.Moves.{ServesOn}
-use Rattle.disk_machine.specs.PuttingOff.{HasWrittenOn, MayGoOn, TellsNext, WritesOn}
+use Rattle.disk_machine.specs.PuttingOff.{MayGoOn, TellsNext, WritesOn}
 use Rattle.disk_machine.specs.Steps.{StepsWhile}
-use Rattle.disk_machine.proofs.Playing.{steps_serve}
 
 -- a store that lives behind a step lived before it
 still_live : (old new : Disk) → (is_dead old.unit.store.cached ≡ true → is_dead new.unit.store.cached ≡ true)
@@ -96,12 +93,6 @@ some_made most promises work old new writes may = at writes.count writes.steps w
     at (suc count) steps ends = omega arith
     at zero same (inl all) = omega (arith, all)
     at zero same (inr none) = absurd (none (subst (λ (d : Disk). MayGoOn most promises work d) (sym same) may))
-
-pub writing_serves : (promises : Bool) (work : Work) (old new : Machine) → HasWrittenOn promises work old new → ServesOn old new
-writing_serves promises work old new goes =
-    let writes = goes.writes in
-    subst (λ (s : Machine). ServesOn old s) (sym goes.others)
-    (steps_serve (MayGoOn old.most promises work) work writes.count old new.disk writes.steps)
 
 -- a packet that promises nothing is quiet where the frozen batch is empty
 pub plain_is_quiet : (disk : Disk) (packet : List ℕ)

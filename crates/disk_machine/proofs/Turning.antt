@@ -19,7 +19,7 @@ use Rattle.disk_machine.specs.Machine.{Machine, Serves}
 use Rattle.disk_machine.specs.Turns.{Turn, played, refusal, TurnsRun, TurnsAreRun, turns_done, ticks}
 use Rattle.disk_machine.specs.declared.asked.Asked.{Asked}
 use Rattle.disk_machine.specs.declared.asked.Asked.TheVariants as asked
-use Rattle.disk_machine.proofs.Playing.{with_disk, steps_serve, tick_step}
+use Rattle.disk_machine.proofs.Playing.{with_disk, steps_go_on, tick_step}
 
 pub runs_through : (a b c : Conversation UnitState) (first last : List Turn) → TurnsRun a first b → TurnsRun b last c
     → TurnsRun a (first ++ last) c
@@ -68,6 +68,6 @@ pub steps_run : (Holds : Disk → Type 0) (work : Work) (count : ℕ) (old : Mac
 steps_run Holds work zero old new same told book serves = ap (λ (d : Disk). over d book) same
 steps_run Holds work (suc count) old new (mid, steps, holds, plays) told book serves =
     let tick = tick_step (with_disk old mid) (with_disk old new) plays refl told book
-    (steps_serve Holds work count old mid steps told book serves) in
+    ((steps_go_on Holds work count old mid steps).0 told book serves) in
     runs_through (over old.disk book) (over mid book) (over new book) (ticks count) (played event.Tick answer.Ticked ∷ [])
     (steps_run Holds work count old mid steps told book serves) (tick.0, over new book, tick.1, refl)

@@ -3,7 +3,7 @@ use Rattle.std.proofs.lemmas.Bool.{false≢true}
 use Rattle.disk_machine.specs.Packets.{HoldsBack}
 use Rattle.disk_machine.specs.PuttingOff.{IsPromise}
 use Rattle.disk_machine.proofs.Playing.{out_serves}
-use Rattle.disk_machine.proofs.Staying.{reading_safe}
+use Rattle.disk_machine.proofs.Handing.{reading_safe}
 use Rattle.disk_machine.proofs.machine.DiskMachine.bulk_out.Goals as goal
 use Rattle.disk_machine.proofs.machine.DiskMachine.bulk_out.Goals.{Else-holds_back, Else-puts_off, After-promises-promises}
 

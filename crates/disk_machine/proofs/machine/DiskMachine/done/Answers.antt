@@ -1,5 +1,5 @@
 use Rattle.std.proofs.Common.{refl}
-use Rattle.disk_machine.proofs.Staying.{done_safe}
+use Rattle.disk_machine.proofs.Hearing.{done_safe}
 use Rattle.disk_machine.proofs.machine.DiskMachine.done.Goals as goal
 
 pub returns-clause-stays : goal.returns-clause-stays

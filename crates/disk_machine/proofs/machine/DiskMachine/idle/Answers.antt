@@ -1,7 +1,6 @@
 use Rattle.std.proofs.Common.{◌↔◌, ◌≡◌, Bool, true, false, not, IsTrue, refl, sym}
 use Rattle.std.proofs.lemmas.Bool.{false≢true}
-use Rattle.disk_machine.proofs.Playing.{idle_serves}
-use Rattle.disk_machine.proofs.Staying.{idle_goes_on}
+use Rattle.disk_machine.proofs.Playing.{idle_goes_on}
 use Rattle.disk_machine.proofs.machine.DiskMachine.idle.Goals as goal
 
 -- some are left where not all is settled
@@ -18,6 +17,6 @@ returns c = record {
   stepped = c.step.ensures;
   none_left = told _ _ c.is_settled.ensures.steps;
   at_home = λ none. c.is_settled.ensures.settled (settled _ none);
-  serves = idle_serves _ _ c.step.ensures;
-  goes_on = idle_goes_on _ _ c.step.ensures;
+  serves = (idle_goes_on _ _ c.step.ensures).0;
+  goes_on = (idle_goes_on _ _ c.step.ensures).1;
 }

@@ -1,4 +1,4 @@
-use Rattle.disk_machine.proofs.Staying.{asks_safe}
+use Rattle.disk_machine.proofs.Handing.{asks_safe}
 use Rattle.disk_machine.proofs.machine.DiskMachine.next.Goals as goal
 
 pub returns-in-Nothing-clause-asks : goal.returns-in-Nothing-clause-asks

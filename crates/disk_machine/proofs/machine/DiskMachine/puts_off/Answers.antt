@@ -1,14 +1,13 @@
 use Rattle.std.specs.Prelude.{None}
-use Rattle.std.proofs.Common.{◌≡◌, ◌≢◌, ◌∙◌, Bool, true, false, [], List, length, inl, inr, refl, sym, ap, arith}
+use Rattle.std.proofs.Common.{◌∙◌, true, false, inl, inr, refl, sym, arith}
 use Rattle.std.proofs.lemmas.Bool.{cases_Bool, false≢true}
 use Rattle.std.proofs.lemmas.List.{nil_from_length}
-use Rattle.window.specs.declared.call.DeviceCall.{DeviceCall}
 use Rattle.disk_machine.specs.Plays.{medium_of}
-use Rattle.disk_machine.specs.PuttingOff.{IsReady, TellsNext, WaitsForSteps, WaitsForCalls, MayGoOn}
+use Rattle.disk_machine.specs.PuttingOff.{TellsNext, WaitsForSteps}
 use Rattle.disk_machine.specs.Refusals.{IsQuietPacket}
-use Rattle.disk_machine.proofs.PutOff.{plain_is_quiet, some_made, steps_fewer, writing_serves}
+use Rattle.disk_machine.proofs.PutOff.{plain_is_quiet, some_made, steps_fewer}
 use Rattle.disk_machine.proofs.Rooms.{some_book}
-use Rattle.disk_machine.proofs.Staying.{writing_goes_on}
+use Rattle.disk_machine.proofs.Playing.{made_goes_on}
 use Rattle.disk_machine.proofs.machine.DiskMachine.puts_off.Goals as goal
 use Rattle.disk_machine.proofs.machine.DiskMachine.puts_off.Goals.{Else-is_quiet}
 
@@ -31,14 +30,15 @@ returns-in-Some c =
     let promises = c.args.promises in
     let work = c.in-Some.work in
     let goes = c.write_on.ensures in
+    let on = made_goes_on _ work goes.writes.count old new goes.writes.steps goes.others in
     let waits : WaitsForSteps promises old new = record {
       work = work;
       next = c.in-Some.ensures;
       goes = goes;
       some = λ short. some_made old.most promises work old.disk new.disk goes.writes (record { next = c.in-Some.ensures; short = short });
       fewer = steps_fewer old.most promises work goes.writes.count old.disk new.disk goes.writes.steps;
-      serves = writing_serves promises work old new goes;
-      goes_on = writing_goes_on promises work old new goes;
+      serves = on.0;
+      goes_on = on.1;
     } in
     record {
       ready = λ no. absurd (false≢true (sym no));
