@@ -100,9 +100,9 @@ impl<M: Medium> Disk<M> {
         }
     }
 
-    /// Whether this packet to Bulk-Out would ask the medium for no write and no flush: no command is
-    /// carried out, or one that reads alone. That is a WRITE that promises nothing and is taken at
-    /// once, or another command that promises nothing or finds no record left to write.
+    /// Whether this packet to Bulk-Out would ask the medium for no write and no flush: no command
+    /// is carried out, or one that reads alone. That is a WRITE that promises nothing and is taken
+    /// at once, or another command that promises nothing or finds no record left to write.
     pub fn is_quiet(&self, packet: &[u8]) -> bool
         ensures { (book : Book) → IsOfSize self.now.unit book
             → IsTrue result ↔ QuietIn (over self.now book) self.now.unit.store.cached

@@ -86,7 +86,7 @@ fn disk_on(
     let _waiting = medium.waiting();
     device_laws();
     match Disk::start_by(alloc, medium, identity, size, Retiring::Ahead) {
-        Ok(disk) => Ok(DiskMachine::new(disk, reserve.room.saturating_sub(STEP))),
+        Ok(disk) => Ok(DiskMachine::new(disk, reserve.room - STEP)),
         Err(error) => Err(error.fault),
     }
 }

@@ -1,5 +1,5 @@
 //! What a disk on an image takes of the memory.
-ghost use Rattle.std.specs.Prelude.{◌≡◌, MatchOption};
+ghost use Rattle.std.specs.Prelude.{◌≡◌, ◌≤◌, MatchOption};
 ghost use Rattle.calls.specs.Reserve.{IsReserve, HasSuper, IsTheSuper};
 ghost use Rattle.journal.specs.Formats.{shape_of};
 
@@ -21,7 +21,8 @@ pub(crate) struct Reserve {
 
 /// What a disk on an image of these first sectors takes.
 pub(crate) fn reserve_for(near: &[u8]) -> Reserve
-    ensures { IsReserve near.now result.span result.room }
+    ensures is { IsReserve near.now result.span result.room }
+    ensures least { 2 ≤ result.room }
 {
     match super_of(near) {
         Some(sizes) => Reserve {

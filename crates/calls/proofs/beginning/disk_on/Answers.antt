@@ -11,7 +11,12 @@ use Rattle.calls.proofs.beginning.disk_on.Goals as goal
 
 -- the medium is one with the room that the image wants
 on : (g : Over) (c : In_ok-medium g) → IsMediumOn c.args.near.items c.args.sectors g.content c.in_ok-medium.medium
-on g c = (c.reserve_for-reserve.result.span, c.reserve_for-reserve.result.room, c.reserve_for-reserve.ensures, c.in_ok-medium.ensures.ok)
+on g c = (
+  c.reserve_for-reserve.result.span,
+  c.reserve_for-reserve.result.room,
+  rw c.deref.ensures.value at c.reserve_for-reserve.ensures.is,
+  c.in_ok-medium.ensures.ok,
+)
 
 pub returns-in-Err : goal.returns-in-Err
 returns-in-Err g c =
