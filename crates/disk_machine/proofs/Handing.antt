@@ -13,7 +13,7 @@ use Rattle.store_calls.specs.Outbox.{without, writes_of, IsRun}
 use Rattle.bot_machine.specs.Disk.{FitsDisk, IsRearmed}
 use Rattle.disk_machine.specs.Plays.{Disk, medium_of}
 use Rattle.disk_machine.specs.Asking.{AsksFor, HandsOut}
-use Rattle.disk_machine.specs.Machine.{Machine, LeavesOf, carried, under_way, has_refused}
+use Rattle.disk_machine.specs.Machine.{Machine, carried, under_way, has_refused}
 use Rattle.disk_machine.specs.Moves.{StaysSafe, LeavesNoMore, is_behind}
 use Rattle.disk_machine.specs.declared.lack.Lack.{Lack}
 use Rattle.window.specs.declared.ask.DeviceAsk.{DeviceAsk}
@@ -77,15 +77,13 @@ taken_by count w le = omega (
 -- a device that told no fewer done leaves no more
 pub leaves_no_more : (old new : Machine) → IsSentStill (medium_of old.disk) (medium_of new.disk) → carried old ≤ carried new
     → LeavesNoMore old new
-leaves_no_more old new same reaches image left =
-    subst (λ (bytes : List ℕ). LeavesOf bytes (sent (mirror_of (medium_of old.disk))) (carried old) image) same.opening
-    (subst (λ (calls : List DeviceCall). LeavesOf (medium_of new.disk).seen.told.opening calls (carried old) image) same.sent (record {
-      count = left.count;
-      done = left.done;
-      reaches = omega (arith, left.reaches, reaches);
-      are = left.are;
-      cut = left.cut;
-    }))
+leaves_no_more old new same reaches image left = record {
+  count = left.count;
+  done = left.done;
+  reaches = omega (arith, left.reaches, reaches);
+  are = rw (sym same.sent) left.are;
+  cut = rw (sym same.opening) left.cut;
+}
 
 abbrev FitsOver : Book → Disk → Type 0
 FitsOver book d = FitsDisk (state_of (medium_of d)) d book

@@ -16,8 +16,7 @@ use Rattle.bot_machine.specs.BookLaws.{GrowsBy}
 use Rattle.bot_machine.specs.Disk.{over}
 use Rattle.disk_machine.specs.Ahead.{LooksAhead}
 use Rattle.disk_machine.specs.Idling.{HasGoneAhead, HasStepped}
-use Rattle.disk_machine.specs.Lives.{Call, next, done, bulk_out, bulk_in, take_transfer, send_transfer, setup, idle, work_ahead}
-use Rattle.disk_machine.specs.Lives.{look_ahead}
+use Rattle.disk_machine.specs.Lives.{Call, next, done, bulk_out, bulk_in, take_transfer, send_transfer, setup, idle, work_ahead, look_ahead}
 use Rattle.disk_machine.specs.Lives.{IsMade, turns_of, ServesLater, ServesThroughout, turns_in_all}
 use Rattle.disk_machine.specs.Machine.{Machine, Serves, has_refused}
 use Rattle.disk_machine.specs.Moves.{ServesOn, ServesEvent, ServesToken}

@@ -1,5 +1,5 @@
 -- Packets, tokens, requests and steps, wherever the device is.
-use Rattle.std.proofs.Common.{◌≡◌, ◌⊎◌, inl, inr, [], ◌∷◌, List, ℕ, zero, suc, Bool, true, false, ◌&&◌, length}
+use Rattle.std.proofs.Common.{◌≡◌, ◌⊎◌, inl, inr, [], List, ℕ, zero, suc, Bool, false, ◌&&◌, length}
 use Rattle.std.proofs.Common.{refl, sym, ◌∙◌, ap, subst, arith}
 use Rattle.window.specs.declared.call.DeviceCall.{DeviceCall}
 use Rattle.window.specs.Window.{Window, state_of}
@@ -26,7 +26,6 @@ use Rattle.disk_machine.specs.Packets.{AnswersSetup, PlaysOut, ServesOut, waits_
 use Rattle.disk_machine.specs.PuttingOff.{IsReady}
 use Rattle.disk_machine.specs.Steps.{StepsWhile}
 use Rattle.disk_machine.specs.declared.asked.Asked.{Asked}
-use Rattle.disk_machine.specs.declared.asked.Asked.TheVariants as asked
 use Rattle.disk_machine.specs.declared.waiting.Waiting.{Waiting}
 use Rattle.disk_machine.specs.declared.waiting.Waiting.TheVariants as waiting
 use Rattle.disk_machine.proofs.Handing.{IsSentStill, still, leaves_no_more}
@@ -39,17 +38,10 @@ use Rattle.disk_machine.proofs.Staying.{event_goes_on, out_goes_on}
 -- nothing waits since nothing promises, or since the device is not behind
 not_waiting : (promises behind : Bool) (was : Waiting) → waits_for (promises && behind) was ≡ waiting.Nothing
     → ((promises ≡ false) × (was ≡ waiting.Nothing)) ⊎ (behind ≡ false)
-not_waiting false behind was none = inl (refl, none)
-not_waiting true false was none = inr refl
-not_waiting true true was none = cc
+not_waiting promises behind was none = grind (arith, none)
 
 not_behind : (a : Asked) (calls : List DeviceCall) → is_behind a calls ≡ false → has_refused a ≡ false → (calls ≡ []) × (under_way a ≡ 0)
-not_behind asked.Nothing [] is fine = (refl, refl)
-not_behind asked.Nothing (call ∷ calls) is fine = cc
-not_behind (asked.Calls count) calls is fine = cc
-not_behind (asked.Read home) [] is fine = (refl, refl)
-not_behind (asked.Read home) (call ∷ calls) is fine = cc
-not_behind (asked.Refused count left) calls is fine = cc
+not_behind a calls is fine = grind (arith, is, fine)
 
 -- a packet that is not put off makes one batch durable at most
 plays_few : (old new : Machine) (packet : List ℕ) (code : ℕ) → IsReady old packet → PlaysOut old packet new code

@@ -1,7 +1,6 @@
 -- A packet that is put off comes to be taken: each step that writes leaves fewer of them.
 use Rattle.std.specs.Prelude.{Some}
 use Rattle.std.proofs.Common.{◌≡◌, ◌⊎◌, ◌<◌, ◌≤◌, ◌+◌, ◌∙◌, ℕ, zero, suc, Bool, true, false, List, [], inl, inr, ap, sym, subst, arith}
-use Rattle.std.proofs.lemmas.Bool.{cases_Bool, false≢true}
 use Rattle.spec.specs.Book.{Book}
 use Rattle.spec.specs.Rules.{checked}
 use Rattle.spec.specs.declared.event.Event.TheVariants as event
@@ -20,20 +19,14 @@ use Rattle.disk_machine.specs.Steps.{StepsWhile}
 -- a store that lives behind a step lived before it
 still_live : (old new : Disk) → (is_dead old.unit.store.cached ≡ true → is_dead new.unit.store.cached ≡ true)
     → is_dead new.unit.store.cached ≡ false → is_dead old.unit.store.cached ≡ false
-still_live old new stays live = elim (cases_Bool (is_dead old.unit.store.cached)) [
-  | inl dead ↦ absurd (false≢true (sym live ∙ stays dead))
-  | inr before ↦ before
-]
+still_live old new stays live = grind (arith, stays, live)
 
 -- a step before a packet leaves fewer of them
 module _ (mid new : Disk) (live : is_dead new.unit.store.cached ≡ false) where
   -- one that writes back, while a record is left to write
   fewer_back : PlaysBy WriteBack mid event.Tick answer.Ticked new → ¬ HasWritten mid
       → steps_left new.unit.store.cached < steps_left mid.unit.store.cached
-  fewer_back plays some = elim (plays.step.ticks.0.left live) [
-    | inl done ↦ absurd (some done)
-    | inr fewer ↦ fewer
-  ]
+  fewer_back plays some = grind (arith, plays.step.ticks.0.left live, some)
 
   -- one that goes ahead, while something is to be done ahead
   fewer_ahead : PlaysBy Ahead mid event.Tick answer.Ticked new → is_dead mid.unit.store.cached ≡ false
@@ -46,10 +39,7 @@ module _ (mid new : Disk) (live : is_dead new.unit.store.cached ≡ false) where
   fewer_settled : PlaysBy Settle mid event.Tick answer.Ticked new
       → 0 < mid.unit.store.cached.log.steps_left + mid.unit.store.cached.log.retire_steps_left
       → steps_left new.unit.store.cached < steps_left mid.unit.store.cached
-  fewer_settled plays some = elim (plays.step.ticks.0.left live) [
-    | inl fewer ↦ fewer
-    | inr none ↦ absurd (omega (arith, none, some))
-  ]
+  fewer_settled plays some = grind (arith, plays.step.ticks.0.left live, some)
 
   fewer_for_room : (work : Work) → PlaysBy work mid event.Tick answer.Ticked new → is_dead mid.unit.store.cached ≡ false
       → TellsWork mid.unit.store.goes_ahead mid.unit.store.cached.log (Some work)

@@ -23,18 +23,9 @@ module _ (first after : Window) (empty : length first.outbox ≡ 0) (leaves : St
   -- the call of this kind that the fault names was refused
   grew : (why : MediumFault) → IsNotOpened (state_of first) (state_of after) (start_fault_of why)
       → (state_of first).refused why < (state_of after).refused why
-  grew kind.Read not = elim not.cause [
-    | inl cause ↦ elim cause [ inl refused ↦ refused.kind_grew | inr none ↦ cc ]
-    | inr none ↦ cc
-  ]
-  grew kind.Write not = elim not.cause [
-    | inl cause ↦ elim cause [ inl refused ↦ refused.kind_grew | inr none ↦ cc ]
-    | inr none ↦ cc
-  ]
-  grew kind.Flush not = elim not.cause [
-    | inl cause ↦ elim cause [ inl refused ↦ refused.kind_grew | inr none ↦ cc ]
-    | inr none ↦ cc
-  ]
+  grew kind.Read not = grind (arith, not.cause)
+  grew kind.Write not = grind (arith, not.cause)
+  grew kind.Flush not = grind (arith, not.cause)
 
   no_room : kept_out first.seen.told.refused < kept_out after.seen.told.refused
       → sent (state_of first) + first.room < sent (state_of after)

@@ -10,13 +10,17 @@ use Rattle.medium.specs.Sent.{sent}
 use Rattle.medium.specs.Writes.{sector_of}
 use Rattle.window.specs.Story.{given}
 use Rattle.window.specs.declared.call.DeviceCall.{DeviceCall}
-use Rattle.window.specs.Window.{Window, fresh, state_of, is_in_sight, ComesAfter, IsServed}
+use Rattle.window.specs.Window.{Window, fresh, state_of, mirror_of, is_in_sight, ComesAfter, IsServed, CoversDevice}
+use Rattle.window.specs.Parts.{PartsFollow}
+use Rattle.window.specs.WindowLaws.{is_sound, comes_after_itself}
 use Rattle.window.specs.Looks.{near_in_sight, none_refused, none_missed, none_kept_out}
 use Rattle.scsi_unit.specs.Background.{Work}
 use Rattle.scsi_unit.specs.Calls.{SendsOneBatch}
 use Rattle.scsi_unit.specs.Reading.{first_home_of}
 use Rattle.scsi_unit.specs.Starting.{blocks_of}
 use Rattle.spec.specs.Book.{Book, opened}
+use Rattle.bot_machine.proofs.OutPackets.{token}
+use Rattle.spec.specs.Exchange.{in_answer, after_in}
 use Rattle.bot_machine.specs.Device.{Device}
 use Rattle.bot_machine.specs.Disk.{IsStepBy}
 use Rattle.bot_machine.specs.Opening.{IsOpened, StartLeaves, LeavesMedium}
@@ -24,10 +28,9 @@ use Rattle.bot_machine.specs.Reading.{ReadsAt}
 use Rattle.spec.specs.declared.event.Event.{Event}
 use Rattle.spec.specs.declared.event.Event.TheVariants as event
 use Rattle.spec.specs.declared.event.Answer.{Answer}
-use Rattle.disk_machine.specs.Plays.{Disk, medium_of, layout_on, Foresees, PlaysBy}
+use Rattle.disk_machine.specs.Plays.{Disk, medium_of, layout_on, Foresees, Plays, PlaysBy}
 use Rattle.disk_machine.specs.Refusals.{RefusesNothing, HasRoomFor, HasRoomOnce, IsQuietPacket, MakesOneBatch, IsRoomy, HoldsLog, SeesHome}
-use Rattle.disk_machine.specs.Refusals.{HasRoomToStart, HoldsImageLog}
-use Rattle.disk_machine.specs.Refusals.{StartRefusesNothing}
+use Rattle.disk_machine.specs.Refusals.{HasRoomToStart, HoldsImageLog, StartRefusesNothing}
 use Rattle.store_calls.proofs.Served.{fits_start}
 use Rattle.disk_machine.specs.Room.{room_for}
 use Rattle.window.proofs.Kept.{opened_front}
@@ -131,6 +134,24 @@ played old event answer new sees step follows = record {
   faulted = λ dead. (asks_nothing (medium_of old) (medium_of new) follows (step.few.faulted dead).0, (step.few.faulted dead).1);
   roomy = stays_roomy old new step.few.layout_stays follows.room_stays;
 }
+
+-- what a window says of all that may come
+pub foreseen : (m n : Window) → n ≡ m → length n.outbox ≤ n.room → PartsFollow
+    → ((new : Window) → ComesAfter n new → CoversDevice n new) → ((new : Window) → ComesAfter n new → IsServed n new) → Foresees m
+foreseen m n same held law covers served = subst Foresees same (record {
+  held = held;
+  covers = covers;
+  parts = λ new follows. law (mirror_of n) (mirror_of new) (covers new follows);
+  served = served;
+})
+
+-- a token is one step, over a medium that stays as it is
+pub taken : (old new : Disk) (answer : Answer) → Foresees (medium_of old) → new ≡ record old { line = after_in old.line }
+    → answer ≡ in_answer old.line → Plays old event.In answer new
+taken old new answer sees after answered =
+    subst (λ (d : Disk). Plays old event.In answer d) (sym after)
+    (subst (λ (a : Answer). Plays old event.In a (record old { line = after_in old.line })) (sym answered)
+    (played _ _ _ _ sees (token (state_of (medium_of old)) old (is_sound (medium_of old))) (comes_after_itself (medium_of old))))
 
 -- ---- a start, good or refused, on a medium that was asked nothing yet
 

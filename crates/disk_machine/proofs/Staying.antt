@@ -1,6 +1,5 @@
 -- What an event keeps.
-use Rattle.std.proofs.Common.{◌≡◌, ◌≢◌, ◌⊎◌, inl, inr, [], ◌∷◌, ◌++◌, ◌&&◌, List, ℕ, Bool, true, false, length}
-use Rattle.std.proofs.Common.{refl, ◌∙◌, ap, arith}
+use Rattle.std.proofs.Common.{◌≡◌, ◌≢◌, ◌⊎◌, inl, inr, ◌++◌, ◌&&◌, List, ℕ, Bool, true, length, ◌∙◌, ap, arith}
 use Rattle.journal.specs.Places.{Shape}
 use Rattle.window.specs.Story.{given}
 use Rattle.window.specs.declared.call.DeviceCall.{DeviceCall}
@@ -13,7 +12,6 @@ use Rattle.disk_machine.specs.Machine.{Machine, under_way}
 use Rattle.disk_machine.specs.Moves.{KeepsGoing, HasRoomBeside, WaitsForDevice, LeavesNoMore, IsDead, is_behind}
 use Rattle.disk_machine.specs.Packets.{PlaysOut, waits_for}
 use Rattle.disk_machine.specs.declared.asked.Asked.{Asked}
-use Rattle.disk_machine.specs.declared.asked.Asked.TheVariants as asked
 use Rattle.disk_machine.specs.declared.waiting.Waiting.{Waiting}
 use Rattle.disk_machine.specs.declared.waiting.Waiting.TheVariants as waiting
 use Rattle.disk_machine.proofs.Handing.{IsSentStill, leaves_no_more}
@@ -21,12 +19,7 @@ use Rattle.disk_machine.proofs.Handing.{IsSentStill, leaves_no_more}
 -- ---- nothing waits for a device that is not behind
 
 more_behind : (a : Asked) (calls more : List DeviceCall) → is_behind a calls ≡ true → is_behind a (calls ++ more) ≡ true
-more_behind asked.Nothing [] more is = cc
-more_behind asked.Nothing (call ∷ calls) more is = refl
-more_behind (asked.Calls count) calls more is = refl
-more_behind (asked.Read home) [] more is = cc
-more_behind (asked.Read home) (call ∷ calls) more is = refl
-more_behind (asked.Refused count left) calls more is = is
+more_behind a calls more is = grind (arith, is)
 
 module _ {work : Work} (old new : Machine) (event : Event) (answer : Answer) (plays : PlaysBy work old.disk event answer new.disk)
     (same : new.asked ≡ old.asked) where
@@ -39,9 +32,7 @@ module _ {work : Work} (old new : Machine) (event : Event) (answer : Answer) (pl
 
 some_waits : (promises behind : Bool) (was : Waiting) → waits_for (promises && behind) was ≢ waiting.Nothing
     → (behind ≡ true) ⊎ (was ≢ waiting.Nothing)
-some_waits false behind was some = inr some
-some_waits true false was some = inr some
-some_waits true true was some = inl refl
+some_waits promises behind was some = grind (arith, some)
 
 out_waits : (old new : Machine) (packet : List ℕ) (code : ℕ) → PlaysOut old packet new code → (WaitsForDevice old → WaitsForDevice new)
 out_waits old new packet code plays waits some =

@@ -50,15 +50,10 @@ module _ (size : ℕ) (image : Image) where
   -- with the same book, and faulted where it was so, a unit has the same found of it
   pub finds_same : (told : ℕ) (old new : UnitState) → (old.faulted ≡ true → new.faulted ≡ true) → new.book ≡ old.book
       → Finds size told old image → Finds size told new image
-  finds_same told old new faulted same found =
-      let as_book = λ (P : Book → Type 0) (p : P old.book). subst P (sym same) p in
-      ⊎_elim
-      (λ found. inl (as_book (λ b. MayFind size (promising told b) image) found))
-      (λ found. inr (
-        faulted found.0,
-        (found.1.0, as_book (λ b. MayFind size (with_write (promising told b) found.1.0) image) found.1.1),
-      ))
-      found
+  finds_same told old new faulted same found = rw same (elim found [
+    | inl found ↦ inl found
+    | inr found ↦ inr (faulted found.0, found.1)
+  ])
 
   module _ (told : ℕ) (old new : UnitState) (life : IsSameLife old.book new.book) where
     -- the book behind an event, by its writes

@@ -1,12 +1,10 @@
 -- The packets of a transfer, one by one.
 use Rattle.std.proofs.Common.{◌≡◌, ◌⊎◌, ◌≤◌, ◌<◌, ◌+◌, ◌-◌, ◌*◌, ◌/◌, ◌++◌, inl, inr, ℕ, List, length, take, drop, min}
-use Rattle.std.proofs.Common.{sym, ◌∙◌, ap, subst, arith, add-one, length-drop}
-use Rattle.std.proofs.lemmas.Bool.{cases_lt}
+use Rattle.std.proofs.Common.{sym, ◌∙◌, ap, arith, add-one, length-drop}
 use Rattle.std.proofs.lemmas.List.{take_min, take_all, drop_all, append-nil, length-take}
 use Rattle.std.proofs.Math.Nat.{mul-le-mul_right, div-mul-le_self}
 use borrow.Rule.Slice.PartMut.{put_mid}
 use Rattle.spec.specs.declared.event.Answer.{Answer}
-use Rattle.spec.specs.declared.event.Answer.TheVariants as answer
 use Rattle.disk_machine.specs.Codes.{code_of}
 use Rattle.disk_machine.specs.Machine.{Machine}
 use Rattle.disk_machine.specs.Packets.{TakesOne, TakesOut, SendsIn}
@@ -31,14 +29,7 @@ size_stays old new packet code (inr (few, inr (free, inr (inr puts)))) = elim pu
 ]
 
 few_codes : (told : Answer) → code_of told ≤ 2
-few_codes answer.Ack = omega arith
-few_codes answer.Nak = omega arith
-few_codes answer.Stall = omega arith
-few_codes (answer.Data packet) = omega arith
-few_codes (answer.Byte byte) = omega arith
-few_codes (answer.Two bytes) = omega arith
-few_codes answer.Ticked = omega arith
-few_codes answer.Off = omega arith
+few_codes told = grind arith
 
 -- a packet that is not too long is answered ACK, NAK or STALL
 pub answers : (old new : Machine) (packet : List ℕ) (code : ℕ) → length packet ≤ old.disk.line.packet_size
@@ -64,15 +55,13 @@ pub next_taken : (most result size code number : ℕ) (bytes : List ℕ) (mid ne
     → TakesOut mid (take ((number * result + size) - number * result) (drop (number * result) bytes)) new code
     → TakesOut mid (packet_at most bytes number) new code
 next_taken most result size code number bytes mid new is size_is takes =
-    subst (λ (m : ℕ). TakesOut mid (packet_at m bytes number) new code) is
-    (subst (λ (l : List ℕ). TakesOut mid l new code) (packet_is result (number * result) size bytes size_is) takes)
+    rw (sym is, sym (packet_is result (number * result) size bytes size_is)) takes
 
 pub taken_more : (most number code : ℕ) (bytes : List ℕ) (old mid new : Machine) → TakesFirst most bytes number old mid
     → HasPacket most bytes number → code ≡ 0 → TakesOut mid (packet_at most bytes number) new code
     → TakesFirst most bytes (number + 1) old new
 taken_more most number code bytes old mid new first has zero takes =
-    subst (λ (n : ℕ). TakesFirst most bytes n old new) (sym (add-one number))
-    (mid, first, has, subst (λ (n : ℕ). TakesOut mid (packet_at most bytes number) new n) zero takes)
+    rw add-one (mid, first, has, rw (sym zero) takes)
 
 -- it is answered NAK or STALL, where not ACK
 pub refused : (most number code : ℕ) (bytes : List ℕ) (mid new : Machine) → mid.disk.line.packet_size ≡ most
@@ -81,10 +70,7 @@ refused most number code bytes mid new size takes some =
     let fits : length (packet_at most bytes number) ≤ mid.disk.line.packet_size =
     omega (arith, size, length-take most (drop (number * most) bytes)) in
     let few : code ≤ 2 = answers mid new (packet_at most bytes number) code fits takes.one in
-    elim (cases_lt 1 code) [
-      | inl more ↦ inr (omega (arith, more, few))
-      | inr low ↦ inl (omega (arith, low, some))
-    ]
+    grind (arith, few, some)
 
 -- ---- from Bulk-In
 
@@ -114,10 +100,4 @@ pub sent_more : (most number size code : ℕ) (room before rest : List ℕ) (old
     → SendsFirst most (number + 1) old room new (put_mid (number * most) (length before - number * most) before rest)
 sent_more most number size code room before rest old mid new first fits whole zero sends =
     let at = number * most in
-    let place : SendsIn mid (drop at before) new rest size code =
-    subst (λ (l : List ℕ). SendsIn mid l new rest size code) (rest_of at before) sends in
-    let greatest : SendsIn mid (drop at before) new rest most 0 =
-    subst (λ (n : ℕ). SendsIn mid (drop at before) new rest most n) zero
-    (subst (λ (n : ℕ). SendsIn mid (drop at before) new rest n code) whole place) in
-    subst (λ (n : ℕ). SendsFirst most n old room new (put_mid at (length before - at) before rest)) (sym (add-one number))
-    (mid, before, first, (fits, rest, greatest, put_rest at before rest))
+    rw add-one (mid, before, first, (fits, rest, rw (zero, whole, rest_of at before) at sends, put_rest at before rest))

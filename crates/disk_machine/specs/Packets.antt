@@ -1,6 +1,5 @@
 -- What packets do to a machine.
-use Rattle.std.specs.Prelude.{◌≡◌, ◌≢◌, ◌⊎◌, ℕ, ◌<◌, ◌≤◌, Bool, true, false, ◌&&◌}
-use Rattle.std.specs.Prelude.{List, length}
+use Rattle.std.specs.Prelude.{◌≡◌, ◌≢◌, ◌⊎◌, ℕ, ◌<◌, ◌≤◌, Bool, true, false, ◌&&◌, List, length}
 use Rattle.window.specs.Window.{state_of}
 use Rattle.spec.specs.Book.{Book}
 use Rattle.spec.specs.declared.event.Event.TheVariants as event

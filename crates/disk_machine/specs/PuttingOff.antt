@@ -3,8 +3,7 @@ use Rattle.std.specs.Prelude.{◌≡◌, ◌≢◌, ◌⊎◌, ℕ, ◌+◌, ◌
 use Rattle.std.specs.Prelude.{Option, Some, None}
 use Rattle.spec.specs.Book.{Book}
 use Rattle.spec.specs.declared.event.Event.TheVariants as event
-use Rattle.scsi_unit.specs.Background.{Work, WriteBack, TellsWork, is_dead}
-use Rattle.scsi_unit.specs.Background.{steps_left}
+use Rattle.scsi_unit.specs.Background.{Work, WriteBack, TellsWork, is_dead, steps_left}
 use Rattle.scsi_unit.specs.UnitValue.{IsOfSize}
 use Rattle.bot_machine.specs.Disk.{over}
 use Rattle.bot_machine.specs.Promising.{PromisesIn, PromisesNone}

@@ -14,9 +14,8 @@ use Rattle.disk_machine.specs.Idling.{HasGoneAhead, HasStepped}
 use Rattle.disk_machine.specs.Machine.{Machine}
 use Rattle.disk_machine.specs.Packets.{TakesOne, TakesOut, SendsIn}
 use Rattle.disk_machine.specs.PuttingOff.{WaitsForSteps, WaitsForCalls}
-use Rattle.disk_machine.specs.Transfers.{packet_at, TakesFirst, EndsTaking, TakesTransfer}
-use Rattle.disk_machine.specs.Transfers.{SendsAt, SendsFirst, EndsSending, SendsTransfer}
-use Rattle.disk_machine.specs.Transfers.{SendsInto}
+use Rattle.disk_machine.specs.Transfers.{packet_at, TakesFirst, EndsTaking, TakesTransfer, SendsAt}
+use Rattle.disk_machine.specs.Transfers.{SendsFirst, EndsSending, SendsTransfer, SendsInto}
 use Rattle.disk_machine.specs.declared.asked.Asked.{Asked}
 use Rattle.disk_machine.specs.declared.asked.Asked.TheVariants as asked
 

@@ -1,5 +1,5 @@
 use Rattle.std.specs.Prelude.{None}
-use Rattle.std.proofs.Common.{◌∙◌, true, false, inl, inr, refl, sym, arith}
+use Rattle.std.proofs.Common.{◌∙◌, inl, inr, refl, sym, arith}
 use Rattle.std.proofs.lemmas.Bool.{cases_Bool, false≢true}
 use Rattle.std.proofs.lemmas.List.{nil_from_length}
 use Rattle.disk_machine.specs.Plays.{medium_of}
