@@ -25,7 +25,7 @@ use Rattle.disk_machine.specs.Machine.{Machine, MayLeave, Finds, Keeps, has_refu
 use Rattle.disk_machine.specs.Moves.{ServesEvent}
 use Rattle.disk_machine.specs.declared.asked.Asked.{Asked}
 use Rattle.disk_machine.specs.declared.waiting.Waiting.TheVariants as waiting
-use Rattle.disk_machine.proofs.Standing.{KeepsAll}
+use Rattle.disk_machine.proofs.Handing.{KeepsAll}
 use Rattle.disk_machine.proofs.StepLaws.{faulted_stays, mark_stays, mark_grows, finds_on, finds_with}
 
 module _ {work : Work} (old new : Machine) (event : Event) (answer : Answer) (plays : PlaysBy work old.disk event answer new.disk)

@@ -1,26 +1,88 @@
--- Calls leave the outbox, and are under way.
-use Rattle.std.proofs.Common.{◌≡◌, ◌≤◌, ◌<◌, ◌+◌, ◌++◌, ◌∷◌, [], ℕ, zero, suc, length, List, inl, refl, sym, ◌∙◌, ap, subst, arith}
-use Rattle.std.proofs.Common.{append_assoc, length-append}
+-- A machine whose disk is as it was but for its medium: calls leave the outbox, and are under way.
+use Rattle.std.proofs.Common.{◌≡◌, ◌⊎◌, ℕ, sym, ◌∙◌, ap, subst, inl, inr, arith, ◌≤◌, ◌<◌, ◌+◌, ◌++◌, ◌∷◌, [], zero, suc, length, List}
+use Rattle.std.proofs.Common.{refl, append_assoc, length-append}
+use Rattle.window.specs.Window.{state_of, Window, mirror_of, take_first}
+use Rattle.spec.specs.Book.{Book}
+use Rattle.spec.specs.Rules.{UnitState}
+use Rattle.scsi_unit.specs.UnitValue.{state_of as unit_state}
+use Rattle.scsi_unit.specs.Background.{is_dead}
+use Rattle.bot_machine.specs.Disk.{FitsDisk, IsRearmed}
+use Rattle.disk_machine.specs.Plays.{Disk, medium_of, layout_on}
+use Rattle.disk_machine.specs.Room.{room_for}
+use Rattle.disk_machine.specs.Machine.{Machine, Finds, Keeps, IsCaughtUp, has_refused, carried, under_way}
+use Rattle.disk_machine.specs.Moves.{ServesAtRest, ServesOn, LeavesNoMore, WaitsForDevice, StaysSafe, is_behind}
+use Rattle.disk_machine.specs.declared.waiting.Waiting.TheVariants as waiting
 use Rattle.std.specs.Prelude.{Some, None}
 use Rattle.medium.specs.Writes.{sector_of}
 use Rattle.window.specs.OutboxMedium.{sent, first_of}
 use Rattle.window.specs.declared.call.DeviceCall.{DeviceCall}
 use Rattle.window.specs.declared.call.DeviceCall.TheVariants.{Write, Flush}
-use Rattle.window.specs.Window.{Window, state_of, mirror_of, take_first}
-use Rattle.spec.specs.Book.{Book}
 use Rattle.window.specs.declared.ask.DeviceRead.{DeviceRead}
 use Rattle.store_calls.specs.Outbox.{without, writes_of, IsRun}
-use Rattle.bot_machine.specs.Disk.{FitsDisk, IsRearmed}
-use Rattle.disk_machine.specs.Plays.{Disk, medium_of}
 use Rattle.disk_machine.specs.Asking.{AsksFor, HandsOut}
-use Rattle.disk_machine.specs.Machine.{Machine, carried, under_way, has_refused}
-use Rattle.disk_machine.specs.Moves.{StaysSafe, LeavesNoMore, is_behind}
 use Rattle.disk_machine.specs.declared.lack.Lack.{Lack}
 use Rattle.window.specs.declared.ask.DeviceAsk.{DeviceAsk}
 use Rattle.window.specs.declared.ask.DeviceAsk.TheVariants as ask
 use Rattle.disk_machine.specs.declared.asked.Asked.{Asked}
 use Rattle.disk_machine.specs.declared.asked.Asked.TheVariants as asked
-use Rattle.disk_machine.proofs.Standing.{Stands, stays_safe}
+
+pub record Stands (old new : Machine) : Type 0 where
+  pub others : IsRearmed old.disk new.disk
+  pub fits : (book : Book) → FitsDisk (state_of (medium_of old.disk)) old.disk book
+      → FitsDisk (state_of (medium_of new.disk)) new.disk book
+  pub size : (state_of (medium_of new.disk)).size ≡ (state_of (medium_of old.disk)).size
+  pub room : (medium_of new.disk).room ≡ (medium_of old.disk).room
+  pub leaves : LeavesNoMore old new
+
+-- all that each book promises is kept
+abbrev pub KeepsAll : Machine → Type 0
+KeepsAll s = (book : Book) → FitsDisk (state_of (medium_of s.disk)) s.disk book → Keeps s book.mark book
+
+pub keeps_all : (s : Machine) → ServesAtRest s → IsCaughtUp s → KeepsAll s
+keeps_all s rest up book fits = (rest up book fits).keeps
+
+module _ (old new : Machine) (stands : Stands old new) where
+  same_unit : (book : Book) → unit_state new.disk.unit book ≡ unit_state old.disk.unit book
+  same_unit book = ap (λ (d : Disk). unit_state d.unit book) stands.others
+
+  pub keeps_still : (told : ℕ) (book : Book) → Keeps old told book → Keeps new told book
+  keeps_still told book keeps ours image left =
+      subst (λ (n : ℕ). Finds n told (unit_state new.disk.unit book) image) (sym stands.size)
+      (subst (λ (u : UnitState). Finds (state_of (medium_of old.disk)).size told u image) (sym (same_unit book))
+      (keeps ours image (stands.leaves image left)))
+
+  -- what waited waits still, or all is kept
+  serves_still : (new.waiting ≡ waiting.Nothing → (old.waiting ≡ waiting.Nothing) ⊎ KeepsAll new)
+      → has_refused new.asked ≡ has_refused old.asked → ServesOn old new
+  serves_still waits same told book serves = record {
+    fits = stands.fits book serves.fits;
+    fewer = serves.fewer;
+    keeps = keeps_still told book serves.keeps;
+    all = λ none fine. elim (waits none) [
+      | inl before ↦ keeps_still book.mark book (serves.all before (sym same ∙ fine))
+      | inr kept ↦ kept book (stands.fits book serves.fits)
+    ];
+    faulted = λ refused. ap (λ (u : UnitState). u.faulted) (same_unit book) ∙ serves.faulted (sym same ∙ refused);
+  }
+
+  -- a call that is no event, and tells no promise
+  pub stays_safe : (new.waiting ≡ waiting.Nothing → (old.waiting ≡ waiting.Nothing) ⊎ KeepsAll new)
+      → has_refused new.asked ≡ has_refused old.asked → new.most ≡ old.most → (WaitsForDevice old → WaitsForDevice new)
+      → StaysSafe old new
+  stays_safe waits same most behind = record {
+    serves = serves_still waits same;
+    leaves = stands.leaves;
+    goes_on = record {
+      room = λ fits. record {
+        steps = omega (arith, most, stands.room, fits.steps);
+        alone = omega (arith, stands.room, ap (λ (d : Disk). room_for (layout_on d)) stands.others, fits.alone);
+      };
+      waits = behind;
+      dead = λ dead. (stands.leaves, ap (λ (d : Disk). is_dead d.unit.store.cached) stands.others ∙ dead);
+    };
+  }
+
+-- ---- calls leave the outbox
 
 -- what was sent stays, however much of it has left the outbox
 pub record IsSentStill (old new : Window) : Type 0 where
@@ -54,8 +116,7 @@ some_go (suc count) w =
 
 one_fewer : (calls : List DeviceCall) (w : Window) → w.outbox ≡ calls → 0 < length calls
     → length (take_first calls w).outbox + 1 ≡ length w.outbox
-one_fewer [] w is some = absurd (omega (arith, some))
-one_fewer (call ∷ calls) w is some = omega (arith, ap (λ (l : List DeviceCall). length l) is)
+one_fewer calls w is some = grind (arith, is, some)
 
 pub fewer_wait : (count : ℕ) (w : Window) → count ≤ length w.outbox → length (without count w).outbox + count ≡ length w.outbox
 fewer_wait zero w le = omega arith
@@ -132,12 +193,10 @@ handed_safe old new count hands le =
     (λ waits some. ap (λ (s : Machine). is_behind s.asked (medium_of s.disk).outbox) hands.others)
 
 some_first : (calls : List DeviceCall) (call : DeviceCall) → first_of calls ≡ Some call → 1 ≤ length calls
-some_first [] call is = cc
-some_first (first ∷ calls) call is = omega arith
+some_first calls call is = grind (arith, is)
 
 pub none_first : (calls : List DeviceCall) → first_of calls ≡ None → calls ≡ []
-none_first [] is = refl
-none_first (call ∷ calls) is = cc
+none_first calls is = grind (arith, is)
 
 length_of_writes : (count sector : ℕ) (bytes : List ℕ) → length (writes_of count sector bytes) ≡ count
 length_of_writes zero sector bytes = refl
@@ -158,8 +217,7 @@ run_waits old new sector count room filled run = omega (
 
 -- a device that reads is as far behind as one that is at no call
 pub read_behind : (home : DeviceRead) (calls : List DeviceCall) → is_behind (asked.Read home) calls ≡ is_behind asked.Nothing calls
-read_behind home [] = refl
-read_behind home (call ∷ calls) = refl
+read_behind home calls = grind arith
 
 -- the device is asked to read
 reads_safe : (old new : Machine) (home : DeviceRead) → old.asked ≡ asked.Nothing → new ≡ record old { asked = asked.Read home }

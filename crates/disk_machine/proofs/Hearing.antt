@@ -21,7 +21,7 @@ use Rattle.disk_machine.specs.declared.asked.Asked.TheVariants as asked
 use Rattle.window.specs.declared.done_fault.DoneFault.{DoneFault}
 use Rattle.disk_machine.specs.declared.waiting.Waiting.{Waiting}
 use Rattle.disk_machine.specs.declared.waiting.Waiting.TheVariants as waiting
-use Rattle.disk_machine.proofs.Standing.{Stands, keeps_all, stays_safe}
+use Rattle.disk_machine.proofs.Handing.{Stands, keeps_all, stays_safe}
 use Rattle.disk_machine.proofs.Handing.{IsSentStill, some_go, taken_by, leaves_no_more, sent_stands, stays, same_safe, read_behind}
 use Rattle.disk_machine.proofs.StepLaws.{finds_same}
 
@@ -29,13 +29,11 @@ use Rattle.disk_machine.proofs.StepLaws.{finds_same}
 
 waits_or_none : (calls : List DeviceCall) (was : Waiting) → waits_behind calls was ≡ waiting.Nothing
     → (was ≡ waiting.Nothing) ⊎ (calls ≡ [])
-waits_or_none [] was is = inr refl
-waits_or_none (call ∷ calls) was is = inl is
+waits_or_none calls was is = grind (arith, is)
 
 counted_behind : (calls : List DeviceCall) (was : Waiting) → waits_behind calls was ≢ waiting.Nothing
     → is_behind asked.Nothing calls ≡ true
-counted_behind [] was some = absurd (some refl)
-counted_behind (call ∷ calls) was some = refl
+counted_behind calls was some = grind (arith, some)
 
 counted_safe : (old : Machine) (count : ℕ) → old.asked ≡ asked.Calls count → ServesAtRest (counted old) → StaysSafe old (counted old)
 counted_safe old count was rest =

@@ -2,7 +2,6 @@ pub mod Refusals
 pub mod Rooms
 pub mod OutboxTaken
 pub mod Shown
-pub mod Standing
 pub mod AtRest
 pub mod Handing
 pub mod Hearing
@@ -10,7 +9,5 @@ pub mod Events
 pub mod StepLaws
 pub mod Playing
 pub mod PutOff
-pub mod Staying
 pub mod Living
-pub mod Turning
 pub mod Transferring

@@ -1,37 +1,101 @@
 -- A life is served on through all calls, and what is said in them is by the rules.
-use Rattle.std.proofs.Common.{◌≡◌, ◌⊎◌, inl, inr, ◌++◌, ◌*◌, [], ◌∷◌, List, ℕ, zero, suc, Bool, true, false, ◌≤◌}
-use Rattle.std.proofs.Common.{refl, sym, ◌∙◌, ap, subst, arith, append_assoc, drop}
-use Rattle.std.specs.Prelude.{Option, Some, None}
+use Rattle.std.proofs.Common.{◌≡◌, ◌++◌, inl, inr, [], ◌∷◌, List, ℕ, zero, suc, Bool, true, false, refl, ap, subst, ◌⊎◌, ◌*◌, ◌≤◌, sym, ◌∙◌}
+use Rattle.std.proofs.Common.{arith, append_assoc, drop}
+use Rattle.std.specs.Prelude.{Result, Option, Some, None}
+use Rattle.window.specs.declared.ask.DeviceAsk.{DeviceAsk}
+use Rattle.window.specs.declared.ask.DeviceAsk.TheVariants as ask
+use Rattle.window.specs.declared.done_fault.DoneFault.{DoneFault}
+use Rattle.spec.specs.Book.{Book}
+use Rattle.spec.specs.Conversation.{Conversation}
+use Rattle.spec.specs.Rules.{UnitState}
+use Rattle.spec.specs.declared.event.Event.TheVariants as event
+use Rattle.spec.specs.declared.event.Answer.TheVariants as answer
+use Rattle.bot_machine.specs.Disk.{over}
+use Rattle.bot_machine.specs.Faulting.{faulted_over}
+use Rattle.scsi_unit.specs.Background.{Work, Settle, Ahead}
+use Rattle.disk_machine.specs.Plays.{Disk}
+use Rattle.disk_machine.specs.Asking.{AsksFor, IsDone}
+use Rattle.disk_machine.specs.Steps.{StepsWhile}
+use Rattle.disk_machine.specs.Machine.{Machine, Serves, has_refused}
+use Rattle.disk_machine.specs.Turns.{Turn, played, refusal, TurnsRun, TurnsAreRun, turns_done, ticks, turns_one, turns_in, turns_ahead}
+use Rattle.disk_machine.specs.Turns.{turns_idle, turns_taken, turns_not_taken, turns_before, turns_of_taking, turns_at, turns_sent}
+use Rattle.disk_machine.specs.Turns.{turns_last, turns_of_sending, turns_into}
+use Rattle.disk_machine.specs.declared.asked.Asked.{Asked}
+use Rattle.disk_machine.specs.declared.asked.Asked.TheVariants as asked
+use Rattle.disk_machine.proofs.Playing.{with_disk, steps_go_on, tick_step}
 use Rattle.std.proofs.lemmas.Bool.{cases_Bool}
 use Rattle.std.proofs.lemmas.List.{append-nil}
 use Rattle.spec.specs.Blocks.{Write}
-use Rattle.spec.specs.Book.{Book}
-use Rattle.spec.specs.Rules.{UnitState}
 use Rattle.spec.specs.UnitConversation.{write_of_event}
 use Rattle.spec.specs.declared.event.Event.{Event}
-use Rattle.spec.specs.declared.event.Event.TheVariants as event
 use Rattle.spec.specs.declared.event.Answer.{Answer}
 use Rattle.scsi_unit.specs.Laws.{IsSameLife}
 use Rattle.bot_machine.specs.BookLaws.{GrowsBy}
-use Rattle.bot_machine.specs.Disk.{over}
 use Rattle.disk_machine.specs.Ahead.{LooksAhead}
 use Rattle.disk_machine.specs.Idling.{HasGoneAhead, HasStepped}
 use Rattle.disk_machine.specs.Lives.{Call, next, done, bulk_out, bulk_in, take_transfer, send_transfer, setup, idle, work_ahead, look_ahead}
 use Rattle.disk_machine.specs.Lives.{IsMade, turns_of, ServesLater, ServesThroughout, turns_in_all}
-use Rattle.disk_machine.specs.Machine.{Machine, Serves, has_refused}
 use Rattle.disk_machine.specs.Moves.{ServesOn, ServesEvent, ServesToken}
 use Rattle.disk_machine.specs.Packets.{TakesOne, SendsIn}
 use Rattle.disk_machine.specs.PuttingOff.{WaitsForSteps, WaitsForCalls}
-use Rattle.disk_machine.specs.Transfers.{packet_at, TakesFirst, EndsTaking, TakesTransfer, SendsAt, SendsFirst}
-use Rattle.disk_machine.specs.Transfers.{EndsSending, SendsTransfer, SendsInto}
-use Rattle.disk_machine.specs.Turns.{Turn, played, ticks, TurnsRun, turns_one, turns_in, turns_ahead, turns_idle, turns_taken}
-use Rattle.disk_machine.specs.Turns.{turns_not_taken, turns_before}
-use Rattle.disk_machine.specs.Turns.{turns_of_taking, turns_at, turns_sent, turns_last, turns_of_sending, turns_into}
-use Rattle.scsi_unit.specs.Background.{Work, Settle, Ahead}
-use Rattle.disk_machine.specs.Plays.{Disk}
-use Rattle.disk_machine.specs.Steps.{StepsWhile}
+use Rattle.disk_machine.specs.Transfers.{packet_at, TakesFirst, EndsTaking, TakesTransfer, SendsAt, SendsFirst, EndsSending, SendsTransfer}
+use Rattle.disk_machine.specs.Transfers.{SendsInto}
 use Rattle.disk_machine.proofs.StepLaws.{opening_stays, writes_grow}
-use Rattle.disk_machine.proofs.Turning.{runs_through, same_over, asks_say, done_says, steps_run}
+
+-- ---- turns, one after the other, by the rules
+
+pub runs_through : (a b c : Conversation UnitState) (first last : List Turn) → TurnsRun a first b → TurnsRun b last c
+    → TurnsRun a (first ++ last) c
+runs_through a b c [] last same run = subst (λ (s : Conversation UnitState). TurnsRun s last c) same run
+runs_through a b c (played event answer ∷ turns) last (refused, mid, step, rest) run =
+    (refused, mid, step, runs_through mid b c turns last rest run)
+runs_through a b c (refusal ∷ turns) last first run = runs_through (faulted_over a) b c turns last first run
+
+pub events_run : TurnsAreRun
+events_run old [] new same all = ([], same)
+events_run old (played event answer ∷ turns) new (refused, mid, step, rest) all =
+    let more = events_run mid turns new rest all in (refused ∷ more.0, (mid, step, more.1))
+events_run old (refusal ∷ turns) new run all = absurd all
+
+-- ---- calls that are no event
+
+pub same_over : (old new : Machine) → new.disk ≡ old.disk → (book : Book) → over new.disk book ≡ over old.disk book
+same_over old new same book = ap (λ (d : Disk). over d book) same
+
+pub asks_say : (old new : Machine) (room : List ℕ) (what : DeviceAsk) (filled : List ℕ) → AsksFor old room what new filled
+    → (book : Book) → over new.disk book ≡ over old.disk book
+asks_say old new room ask.Nothing filled asks book = same_over old new (ap (λ (s : Machine). s.disk) asks.1) book
+asks_say old new room (ask.Write first count) filled asks book = ap (λ (d : Disk). over d book) asks.0.rest.others
+asks_say old new room ask.Flush filled asks book = ap (λ (d : Disk). over d book) asks.0.rest.others
+asks_say old new room (ask.Read home) filled asks book = same_over old new (ap (λ (s : Machine). s.disk) asks.3) book
+
+module _ (old new : Machine) (bytes : List ℕ) (result : Result (Unit {0}) DoneFault) (book : Book) where
+  stays_over : new ≡ old → over new.disk book ≡ over old.disk book
+  stays_over same = same_over old new (ap (λ (s : Machine). s.disk) same) book
+
+  pub done_says : (a : Asked) (ok : Bool) → IsDone a ok old bytes result new
+      → TurnsRun (over old.disk book) (turns_done a ok) (over new.disk book)
+  done_says asked.Nothing ok ended = stays_over ended.1
+  done_says (asked.Calls count) true ended = same_over old new (ap (λ (s : Machine). s.disk) ended.1) book
+  done_says (asked.Calls count) false ended = ended.1.refused.by_rules book
+  done_says (asked.Read home) true (inl bad) = stays_over bad.1.1
+  done_says (asked.Read home) true (inr good) = ap (λ (d : Disk). over d book) good.2.sees.others
+  done_says (asked.Read home) false ended = same_over old new (ap (λ (s : Machine). s.disk) ended.1) book
+  done_says (asked.Refused count behind) ok ended = stays_over ended.1
+
+-- ---- steps in the background
+
+pub steps_run : (Holds : Disk → Type 0) (work : Work) (count : ℕ) (old : Machine) (new : Disk)
+    → StepsWhile Holds work count old.disk new
+    → (told : ℕ) (book : Book) → Serves old told book → TurnsRun (over old.disk book) (ticks count) (over new book)
+steps_run Holds work zero old new same told book serves = ap (λ (d : Disk). over d book) same
+steps_run Holds work (suc count) old new (mid, steps, holds, plays) told book serves =
+    let tick = tick_step (with_disk old mid) (with_disk old new) plays refl told book
+    ((steps_go_on Holds work count old mid steps).0 told book serves) in
+    runs_through (over old.disk book) (over mid book) (over new book) (ticks count) (played event.Tick answer.Ticked ∷ [])
+    (steps_run Holds work count old mid steps told book serves) (tick.0, over new book, tick.1, refl)
+
+-- ---- lives
 
 abbrev LivesOn : Machine → List Turn → Machine → Type 0
 LivesOn old turns new = (told : ℕ) (book : Book) → Serves old told book → ServesLater told book old turns new

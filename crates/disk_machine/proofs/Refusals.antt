@@ -33,25 +33,13 @@ module _ (first after : Window) (empty : length first.outbox ≡ 0) (leaves : St
 
   full : (why : StartFault) → IsNotOpened (state_of first) (state_of after) why → (why ≡ fault.Write) ⊎ (why ≡ fault.Flush)
       → sent (state_of first) + first.room < sent (state_of after)
-  full why not (inl is) = no_room (omega (
-    arith,
-    grew kind.Write (subst (IsNotOpened (state_of first) (state_of after)) is not),
-    leaves.bounded.moments.refused_stay kind.Flush,
-  ))
-  full why not (inr is) = no_room (omega (
-    arith,
-    grew kind.Flush (subst (IsNotOpened (state_of first) (state_of after)) is not),
-    leaves.bounded.moments.refused_stay kind.Write,
-  ))
+  full why not (inl is) = no_room (omega (arith, grew kind.Write (rw is at not), leaves.bounded.moments.refused_stay kind.Flush))
+  full why not (inr is) = no_room (omega (arith, grew kind.Flush (rw is at not), leaves.bounded.moments.refused_stay kind.Write))
 
   unseen : (why : StartFault) → IsNotOpened (state_of first) (state_of after) why → why ≡ fault.Read
       → list_all (is_in_sight first) follows.looks ≡ false
   unseen why not is = elim (cases_Bool (list_all (is_in_sight first) follows.looks)) [
-    | inl all ↦ absurd (omega (
-      arith,
-      grew kind.Read (subst (IsNotOpened (state_of first) (state_of after)) is not),
-      follows.in_sight all,
-    ))
+    | inl all ↦ absurd (omega (arith, grew kind.Read (rw is at not), follows.in_sight all))
     | inr some ↦ some
   ]
 
@@ -59,7 +47,7 @@ module _ (first after : Window) (empty : length first.outbox ≡ 0) (leaves : St
   sighted : (why : StartFault) → IsNotOpened (state_of first) (state_of after) why → HoldsImageLog first → why ≢ fault.Read
   sighted why not log is = absurd (omega (
     arith,
-    grew kind.Read (subst (IsNotOpened (state_of first) (state_of after)) is not),
+    grew kind.Read (rw is at not),
     none_missed (λ s. s < first.near) first after follows (near_in_sight first) (medium.looks first.near log),
   ))
 

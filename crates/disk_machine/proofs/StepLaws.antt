@@ -114,9 +114,7 @@ module _ (refused : Bool) (old new : Conversation UnitState) (event : Event) (an
 
   -- there are as many writes as before, or one more
   some_more : (write : Option Write) → GrowsBy write old.unit new.unit → length old.unit.book.writes ≤ length new.unit.book.writes
-  some_more None same = let e = ap length same in omega arith
-  some_more (Some write) (inl more) = let e = ap length more in omega (arith, length-append old.unit.book.writes (write ∷ []))
-  some_more (Some write) (inr refused) = let e = ap length refused.1 in omega arith
+  some_more write grows = grind (arith, grows, length-append)
 
   pub mark_grows : old.unit.book.mark ≤ length old.unit.book.writes
       → (old.unit.book.mark ≤ new.unit.book.mark) × (new.unit.book.mark ≤ length new.unit.book.writes)

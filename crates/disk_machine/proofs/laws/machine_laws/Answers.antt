@@ -1,5 +1,4 @@
-use Rattle.disk_machine.proofs.Living.{serves_throughout}
-use Rattle.disk_machine.proofs.Turning.{events_run}
+use Rattle.disk_machine.proofs.Living.{serves_throughout, events_run}
 use Rattle.disk_machine.proofs.laws.machine_laws.Goals as goal
 
 pub returns-clause-serves : goal.returns-clause-serves

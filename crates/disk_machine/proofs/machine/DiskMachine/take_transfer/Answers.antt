@@ -1,38 +1,36 @@
-use Rattle.std.proofs.Common.{◌∙◌, ◌*◌, ℕ, inr, ap, subst, arith}
-use Rattle.disk_machine.specs.Transfers.{HasPacket}
+use Rattle.std.proofs.Common.{◌∙◌, ◌*◌, ℕ, inr, ap, sym, arith}
+use Rattle.disk_machine.specs.Packets.{TakesOut}
+use Rattle.disk_machine.specs.Transfers.{HasPacket, packet_at}
 use Rattle.disk_machine.proofs.Transferring.{size_stays, next_taken, taken_more, refused}
 use Rattle.disk_machine.proofs.machine.DiskMachine.take_transfer.Goals as goal
+use Rattle.disk_machine.proofs.machine.DiskMachine.take_transfer.Goals.{After-bulk_out-code}
+
+-- the packet of this number is taken
+taken : (c : After-bulk_out-code) → TakesOut c.loop-number.self
+    (packet_at c.args.self.now.disk.line.packet_size c.args.bytes.now c.loop-number.number) c.bulk_out-code.new.self c.bulk_out-code.result
+taken c = next_taken _ _ _ _ _ _ _ _ c.packet_size-most.ensures.is c.min-size.ensures c.bulk_out-code.ensures
+
+-- and it is there
+has : (c : After-bulk_out-code) → HasPacket c.args.self.now.disk.line.packet_size c.args.bytes.now c.loop-number.number
+has c = rw (sym c.packet_size-most.ensures.is) ((c.count_of-number-end.ensures c.loop-number.number).0 c.loop-number-test.true)
 
 pub loop-number-preserved : goal.loop-number-preserved
 loop-number-preserved c =
-    let number = c.loop-number.number in
-    let bytes = c.args.bytes.now in
-    let is = c.packet_size-most.ensures.is in
-    let has = (c.count_of-number-end.ensures number).0 c.loop-number-test.true in
-    let takes = next_taken c.args.self.now.disk.line.packet_size c.packet_size-most.result c.min-size.result c.bulk_out-code.result number
-    bytes c.loop-number.self c.bulk_out-code.new.self is c.min-size.ensures c.bulk_out-code.ensures in record {
-      first = taken_more c.args.self.now.disk.line.packet_size number c.bulk_out-code.result bytes c.args.self.now c.loop-number.self
-          c.bulk_out-code.new.self c.loop-number.invariant.first (subst (λ (m : ℕ). HasPacket m bytes number) is has)
-          (omega (arith, c.if-code-ne-ACK.false)) takes;
+    let at = (goal.at.loop-number-preserved c).After-bulk_out-code in record {
+      first = taken_more _ _ _ _ _ _ _ c.loop-number.invariant.first (has at) (omega (arith, c.if-code-ne-ACK.false)) (taken at);
       packets_stay = size_stays _ _ _ _ c.bulk_out-code.ensures.one ∙ c.loop-number.invariant.packets_stay;
     }
 
 pub returns-then-code-ne-ACK : goal.returns-then-code-ne-ACK
 returns-then-code-ne-ACK c =
-    let number = c.loop-number.number in
-    let bytes = c.args.bytes.now in
-    let is = c.packet_size-most.ensures.is in
-    let has = (c.count_of-number-end.ensures number).0 c.loop-number-test.true in
-    let takes = next_taken c.args.self.now.disk.line.packet_size c.packet_size-most.result c.min-size.result c.bulk_out-code.result number
-    bytes c.loop-number.self c.bulk_out-code.new.self is c.min-size.ensures c.bulk_out-code.ensures in record {
-      count = number;
+    let at = (goal.at.returns-then-code-ne-ACK c).After-bulk_out-code in record {
+      count = c.loop-number.number;
       mid = c.loop-number.self;
       first = c.loop-number.invariant.first;
       ends = inr (
-        subst (λ (m : ℕ). HasPacket m bytes number) is has,
-        takes,
-        ap (λ (m : ℕ). number * m) is,
-        refused c.args.self.now.disk.line.packet_size number c.bulk_out-code.result bytes c.loop-number.self c.bulk_out-code.new.self
-            c.loop-number.invariant.packets_stay takes c.if-code-ne-ACK.true,
+        has at,
+        taken at,
+        ap (λ (m : ℕ). c.loop-number.number * m) c.packet_size-most.ensures.is,
+        refused _ _ _ _ _ _ c.loop-number.invariant.packets_stay (taken at) c.if-code-ne-ACK.true,
       );
     }

@@ -1,7 +1,6 @@
 use Rattle.std.proofs.Common.{inr, refl}
 use Rattle.disk_machine.specs.Machine.{Machine}
-use Rattle.disk_machine.proofs.Playing.{token_serves}
-use Rattle.disk_machine.proofs.Staying.{event_goes_on}
+use Rattle.disk_machine.proofs.Playing.{token_serves, event_goes_on}
 use Rattle.disk_machine.proofs.machine.DiskMachine.token.Goals as goal
 
 pub returns-in-Nothing : goal.returns-in-Nothing
