@@ -1,8 +1,6 @@
 pub mod Refusals
 pub mod Rooms
 pub mod OutboxTaken
-pub mod Shown
-pub mod AtRest
 pub mod Handing
 pub mod Hearing
 pub mod Events
