@@ -205,8 +205,8 @@ module _ (old new : Machine) (answer : Answer) (plays : Plays old.disk event.In 
   one_token told book serves =
       let played = quiet_serves old new event.In answer plays others (λ book block taken carried_out. carried_out) told book serves in
       let same : played.1 ≡ book = ap (λ (s : Conversation UnitState). s.unit.book) played.2.1 in (
-        subst (λ (b : Book). UnitStep false (over old.disk book) event.In answer (over new.disk b)) same played.2,
-        subst (λ (b : Book). Serves new told b) same played.3,
+        rw same at played.2,
+        rw same at played.3,
       )
 
   pub token_serves : old.waiting ≡ waiting.Nothing → ServesToken old answer new

@@ -119,19 +119,16 @@ module _ (refused : Bool) (old new : Conversation UnitState) (event : Event) (an
   pub mark_grows : old.unit.book.mark ≤ length old.unit.book.writes
       → (old.unit.book.mark ≤ new.unit.book.mark) × (new.unit.book.mark ≤ length new.unit.book.writes)
   mark_grows most =
-      let more = some_more (write_of_event old event) writes_grow in
-      ⊎_elim (λ same. (omega arith, omega arith)) (λ moved. let all = moved.1 in (omega arith, omega arith))
-      (book_laws.mark refused old new event answer step)
+      grind (arith, most, some_more (write_of_event old event) writes_grow, book_laws.mark refused old new event answer step)
 
   -- ---- what a start finds
 
   module _ (size told : ℕ) (image : Image) where
     -- before the event, and so behind it
     pub finds_on : Finds size told old.unit image → Finds size told new.unit image
-    finds_on found = ⊎_elim
-        (λ found. inl (found_before size image told old.unit new.unit opening_stays (write_of_event old event) writes_grow found))
-        (λ found. finds_same size image told old.unit new.unit (λ faulted. (faulted_stays faulted).0) (faulted_stays found.0).1 (inr found))
-        found
+    finds_on (inl found) = inl (found_before size image told old.unit new.unit opening_stays (write_of_event old event) writes_grow found)
+    finds_on (inr found) =
+        finds_same size image told old.unit new.unit (λ faulted. (faulted_stays faulted).0) (faulted_stays found.0).1 (inr found)
 
     -- amid the event, and so behind it
     pub finds_with : told ≤ old.unit.book.mark → FoundWith size old.unit.book (write_of_event old event) image
