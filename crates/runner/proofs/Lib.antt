@@ -5,6 +5,10 @@ pub mod Known
 pub mod Packets
 pub mod Options
 pub mod InTurn
+pub mod WordWalks
+pub mod FormatWords
+pub mod PlayWords
+pub mod Taken
 pub mod LifeActions
 pub mod ActingLines
 pub mod SeveralLives

@@ -82,3 +82,9 @@ comes_back opened is_opened (after, given, (work, follows)) = record {
 -- no image file was opened, and nothing was written
 pub untouched : (was : Option (List ℕ)) → IsUntouched was was None
 untouched was = (refl, Keeps-refl was)
+
+-- nor where the words were not read
+pub not_read : (was : Option (List ℕ)) (words : List (List ℕ)) (refusal : Refusal)
+    → (refusal ≡ refused.NoMemory) ⊎ ((refusal ≡ refused.Words) × (IsCommandLine words → ⊥)) → IsRefusedFor was was None words refusal
+not_read was words refusal (inl is) = inl (is, untouched was)
+not_read was words refusal (inr is) = inr (inl (is.0, is.1, untouched was))

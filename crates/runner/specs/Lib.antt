@@ -18,4 +18,5 @@ pub mod Task
 pub mod Status
 pub mod Program
 pub mod Live
+pub mod Parser
 pub mod Laws

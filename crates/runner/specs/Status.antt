@@ -1,5 +1,7 @@
 -- The exit status of a command that was refused.
 use Rattle.std.specs.Prelude.{ℕ}
+use Rattle.clap.specs.declared.error.kind.ErrorKind.{ErrorKind}
+use Rattle.clap.specs.declared.error.kind.ErrorKind.TheVariants.{OutOfMemory}
 use Rattle.medium.specs.declared.file.FileError.{FileError}
 use Rattle.medium.specs.declared.file.FileError.TheVariants as file
 use Rattle.bot_machine.specs.StartFaults.{StartFault}
@@ -25,6 +27,11 @@ status_of refused.NoMemory = 5
 abbrev pub refusal_of_argument : ArgumentFault → Refusal
 refusal_of_argument argument.NoText = refused.Words
 refusal_of_argument argument.NoMemory = refused.NoMemory
+
+-- words that a parser refuses, but for want of memory, are none of a command
+abbrev pub refusal_of_kind : ErrorKind → Refusal
+refusal_of_kind OutOfMemory = refused.NoMemory
+refusal_of_kind _ = refused.Words
 
 -- an image file that is no medium
 abbrev pub refusal_of_file : FileError → Refusal

@@ -129,10 +129,7 @@ fn dispatch<R: Files<File = File> + AllocGlobal, O: Write>(
     ensures refused { IfErr result (λ stopped. IsRefusedFor (O.contents out.old)
         (O.contents out.new) stopped.medium (map (λ word. word.now) words.now) stopped.refusal) }
 {
-    let Some(task) = read_words(words) else {
-        return Err(Stopped::from(Refusal::Words));
-    };
-    match task {
+    match read_words(rt.alloc(), words)? {
         Task::Format {
             image,
             format,

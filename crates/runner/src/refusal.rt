@@ -1,10 +1,14 @@
 //! The refusals of the commands, each with its exit status and its text.
 ghost use Rattle.std.specs.Prelude.{◌≡◌};
+ghost use Rattle.clap.specs.Words.{kind_of};
+ghost use Rattle.runner.specs.declared.refusal.Refusal.TheVariants as refused;
 
 use crate::fault::ScriptFault;
 use bot_machine::StartFault;
+use clap::error::ErrorKind;
 use console::ArgumentFault;
 use medium::FileError;
+use std::alloc::AllocError;
 use thiserror::Error;
 
 /// Why a command was refused. Its text is what standard error gets.
@@ -56,6 +60,14 @@ impl Refusal {
     }
 }
 
+impl From<AllocError> for Refusal {
+    ghost from_gives = { λ _ e. e ≡ refused.NoMemory };
+
+    fn from(_error: AllocError) -> Refusal {
+        Refusal::NoMemory
+    }
+}
+
 impl From<ArgumentFault> for Refusal {
     ghost use Rattle.runner.specs.Status.{refusal_of_argument};
 
@@ -65,6 +77,19 @@ impl From<ArgumentFault> for Refusal {
         match fault {
             ArgumentFault::NoText => Refusal::Words,
             ArgumentFault::NoMemory => Refusal::NoMemory,
+        }
+    }
+}
+
+impl From<clap::Error> for Refusal {
+    ghost use Rattle.runner.specs.Status.{refusal_of_kind};
+
+    ghost from_gives = { λ error e. e ≡ refusal_of_kind (kind_of error) };
+
+    fn from(error: clap::Error) -> Refusal {
+        match error.kind() {
+            ErrorKind::OutOfMemory => Refusal::NoMemory,
+            _ => Refusal::Words,
         }
     }
 }

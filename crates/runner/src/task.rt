@@ -1,10 +1,18 @@
 //! The words of a command line.
-ghost use Rattle.std.specs.Prelude.{◌≤◌, [], ◌∷◌, IfSome, IfNone, map, length};
+ghost use Rattle.std.specs.Prelude.{◌≡◌, ◌≤◌, ◌⊎◌, [], ◌∷◌, IfOk, IfErr, IfSome, IfNone};
+ghost use Rattle.std.specs.Prelude.{map, length};
+ghost use Rattle.clap.specs.Words.{App, Rule, app_of, with_rule, with_subcommand};
+ghost use Rattle.runner.specs.Parser.{IsArgOf, IsParserOf, word_rule, option_rule};
+ghost use Rattle.runner.specs.Parser.{free_option_rule, bare_app};
+ghost use Rattle.runner.specs.Parser.{usbdisk_app, format_app, migrate_app, script_app};
 ghost use Rattle.runner.specs.Task.{SpellsTask, IsCommandLine, IsFormatEnding, IsPacketEnding};
 
+use crate::refusal::Refusal;
 use bot_machine::PacketSize;
+use clap::{Arg, Command};
 use console::{is_file_word, read_number};
 use journal::LogFormat;
+use std::alloc::{AllocError, Global};
 
 // The greatest size that a word may tell.
 const MOST: u64 = 4_294_967_295;
@@ -41,7 +49,114 @@ pub(crate) enum Task<'a> {
 /// `--format 1` or `--format 2` may stand, `migrate IMAGE`, `run IMAGE SCRIPT` or
 /// `sim IMAGE SCRIPT`, behind which `--packet 64` or `--packet 512` may stand. No file word begins
 /// with a hyphen.
-pub(crate) fn read_words<'a>(words: &'a [&'a str]) -> Option<Task<'a>>
+#[inline(never)]
+pub(crate) fn read_words<'a>(alloc: Global, words: &'a [&'a str]) -> Result<Task<'a>, Refusal>
+    ensures spelled { IfOk result (SpellsTask (map (λ word. word.now) words.entry.now)) }
+    ensures refused { IfErr result (λ refusal. (refusal ≡ Refusal.NoMemory)
+        ⊎ ((refusal ≡ Refusal.Words)
+        × (IsCommandLine (map (λ word. word.now) words.entry.now) → ⊥))) }
+{
+    parser(alloc)?.try_get_matches_from(words)?;
+    exactly(words).ok_or(Refusal::Words)
+}
+
+// The command line, as a parser knows it. It also takes a hyphen alone for a file, `--`, options in
+// any order, and any text for a number.
+fn parser<'a>(alloc: Global) -> Result<Command<'a>, AllocError>
+    ensures { IfOk result (λ command. app_of command ≡ usbdisk_app) }
+{
+    let formats = with_parser(bare_parser(alloc), format_parser(alloc))?;
+    let migrates = with_parser(formats, migrate_parser(alloc))?;
+    let runs = with_parser(migrates, script_parser(alloc, "run"))?;
+    with_parser(runs, script_parser(alloc, "sim"))
+}
+
+// The program with no subcommand yet.
+fn bare_parser<'a>(alloc: Global) -> Command<'a>
+    ensures { app_of result ≡ bare_app }
+{
+    Command::new(alloc, "usbdisk")
+        .no_binary_name(true)
+        .subcommand_required(true)
+}
+
+// A command with one more subcommand, where there was memory for that one.
+fn with_parser<'a>(
+    command: Command<'a>,
+    part: Result<Command<'a>, AllocError>,
+) -> Result<Command<'a>, AllocError>
+    ensures { (app : App) → IfOk part.entry (IsParserOf app)
+        → IfOk result (λ more. app_of more ≡ with_subcommand (app_of command.entry) app.top) }
+{
+    match part {
+        Ok(part) => command.subcommand(part),
+        Err(error) => Err(error),
+    }
+}
+
+// `format IMAGE --blocks N --slots K [--format F]`.
+fn format_parser<'a>(alloc: Global) -> Result<Command<'a>, AllocError>
+    ensures { IfOk result (IsParserOf format_app) }
+{
+    let image = with_arg(Ok(Command::new(alloc, "format")), word(alloc, "IMAGE"));
+    let blocks = with_arg(image, option(alloc, "blocks"));
+    let slots = with_arg(blocks, option(alloc, "slots"));
+    with_arg(slots, free_option(alloc, "format"))
+}
+
+// `migrate IMAGE`.
+fn migrate_parser<'a>(alloc: Global) -> Result<Command<'a>, AllocError>
+    ensures { IfOk result (IsParserOf migrate_app) }
+{
+    with_arg(Ok(Command::new(alloc, "migrate")), word(alloc, "IMAGE"))
+}
+
+// `run IMAGE SCRIPT [--packet P]` or `sim IMAGE SCRIPT [--packet P]`.
+fn script_parser<'a>(alloc: Global, verb: &'a str) -> Result<Command<'a>, AllocError>
+    ensures { IfOk result (IsParserOf (script_app verb.entry.now)) }
+{
+    let image = with_arg(Ok(Command::new(alloc, verb)), word(alloc, "IMAGE"));
+    let script = with_arg(image, word(alloc, "SCRIPT"));
+    with_arg(script, free_option(alloc, "packet"))
+}
+
+// A word that must be there.
+fn word<'a>(alloc: Global, name: &'a str) -> Arg<'a>
+    ensures { IsArgOf (word_rule name.entry.now) result }
+{
+    Arg::new(alloc, name).required(true)
+}
+
+// An option that must be there.
+fn option<'a>(alloc: Global, name: &'a str) -> Arg<'a>
+    ensures { IsArgOf (option_rule name.entry.now) result }
+{
+    Arg::new(alloc, name).long(name).required(true)
+}
+
+// An option that may be there.
+fn free_option<'a>(alloc: Global, name: &'a str) -> Arg<'a>
+    ensures { IsArgOf (free_option_rule name.entry.now) result }
+{
+    Arg::new(alloc, name).long(name)
+}
+
+// A command with one more word or option, where there was memory for it so far.
+fn with_arg<'a>(
+    command: Result<Command<'a>, AllocError>,
+    arg: Arg<'a>,
+) -> Result<Command<'a>, AllocError>
+    ensures { (app : App) (rule : Rule) → IfOk command.entry (IsParserOf app)
+        → IsArgOf rule arg.entry → IfOk result (IsParserOf (with_rule app rule)) }
+{
+    match command {
+        Ok(command) => command.arg(arg),
+        Err(error) => Err(error),
+    }
+}
+
+// What the words ask for, if they are exactly as shown.
+fn exactly<'a>(words: &'a [&'a str]) -> Option<Task<'a>>
     ensures task { IfSome result (SpellsTask (map (λ word. word.now) words.entry.now)) }
     ensures none { IfNone result (IsCommandLine (map (λ word. word.now) words.entry.now) → ⊥) }
 {

@@ -1,39 +1,45 @@
-use Rattle.std.proofs.Common.{inl, inr, refl}
+use Rattle.std.proofs.Common.{◌≡◌, None, inr, map}
+use Rattle.runner.specs.Program.{IsRefusedFor}
 use Rattle.runner.proofs.Options.{if_ok, if_err}
-use Rattle.runner.proofs.Refusals.{untouched}
+use Rattle.runner.proofs.Refusals.{not_read}
+use Rattle.runner.proofs.Taken.{if-err}
 use Rattle.runner.proofs.program.dispatch.Goals as goal
 
 pub returns-in-Format-clause-done : goal.returns-in-Format-clause-done
 returns-in-Format-clause-done g c =
-    if_ok c.make.result (λ back done. (_, c.in-Some.ensures.task, rw c.in-Format.is done)) c.make.ensures.done
+    if_ok c.make.result (λ back done. (_, c.in_ok-image.ensures.spelled, rw c.in-Format.is done)) c.make.ensures.done
 
 pub returns-in-Migrate-clause-done : goal.returns-in-Migrate-clause-done
 returns-in-Migrate-clause-done g c =
-    if_ok c.migrate.result (λ back done. (_, c.in-Some.ensures.task, rw c.in-Migrate.is done)) c.migrate.ensures.done
+    if_ok c.migrate.result (λ back done. (_, c.in_ok-image.ensures.spelled, rw c.in-Migrate.is done)) c.migrate.ensures.done
 
 pub returns-in-Run-clause-done : goal.returns-in-Run-clause-done
 returns-in-Run-clause-done g c =
-    if_ok c.run.result (λ back done. (_, c.in-Some.ensures.task, rw c.in-Run.is done)) c.run.ensures.done
+    if_ok c.run.result (λ back done. (_, c.in_ok-image.ensures.spelled, rw c.in-Run.is done)) c.run.ensures.done
 
 pub returns-in-Ok-clause-done : goal.returns-in-Ok-clause-done
-returns-in-Ok-clause-done g c = (_, c.in-Some.ensures.task, rw c.in-Sim.is c.in-Ok.ensures.done)
+returns-in-Ok-clause-done g c = (_, c.in_ok-image.ensures.spelled, rw c.in-Sim.is c.in-Ok.ensures.done)
 
 pub returns-in-Format-clause-refused : goal.returns-in-Format-clause-refused
 returns-in-Format-clause-refused g c =
-    if_err c.make.result (λ stopped why. inr (inr (_, c.in-Some.ensures.task, rw c.in-Format.is why))) c.make.ensures.refused
+    if_err c.make.result (λ stopped why. inr (inr (_, c.in_ok-image.ensures.spelled, rw c.in-Format.is why))) c.make.ensures.refused
 
 pub returns-in-Migrate-clause-refused : goal.returns-in-Migrate-clause-refused
 returns-in-Migrate-clause-refused g c =
-    if_err c.migrate.result (λ stopped why. inr (inr (_, c.in-Some.ensures.task, rw c.in-Migrate.is why))) c.migrate.ensures.refused
+    if_err c.migrate.result (λ stopped why. inr (inr (_, c.in_ok-image.ensures.spelled, rw c.in-Migrate.is why))) c.migrate.ensures.refused
 
 pub returns-in-Run-clause-refused : goal.returns-in-Run-clause-refused
 returns-in-Run-clause-refused g c =
-    if_err c.run.result (λ stopped why. inr (inr (_, c.in-Some.ensures.task, rw c.in-Run.is why))) c.run.ensures.refused
+    if_err c.run.result (λ stopped why. inr (inr (_, c.in_ok-image.ensures.spelled, rw c.in-Run.is why))) c.run.ensures.refused
 
 pub returns-in-Err-clause-refused : goal.returns-in-Err-clause-refused
 returns-in-Err-clause-refused g c =
-    rw c.from-in-Err.ensures (inr (inr (_, c.in-Some.ensures.task, rw c.in-Sim.is c.in-Err.ensures.refused)))
+    rw c.from.ensures (inr (inr (_, c.in_ok-image.ensures.spelled, rw c.in-Sim.is c.in-Err.ensures.refused)))
 
-pub returns-in_default-clause-refused : goal.returns-in_default-clause-refused
-returns-in_default-clause-refused g c =
-    rw c.from.ensures (inr (inl (refl, c.in_default.ensures.none, untouched (g.O.Write.contents c.args.out.now))))
+pub returns-in_err-image-clause-refused : goal.returns-in_err-image-clause-refused
+returns-in_err-image-clause-refused g c =
+    let out = g.O.Write.contents c.args.out.now in
+    let words = map (λ word. word.now) c.args.words.now in
+    if-err c.from_residual.result (λ stopped. stopped ≡ record { refusal = c.in_err-image.field-0.0; medium = None })
+    (λ stopped. IsRefusedFor out out stopped.medium words stopped.refusal) c.from_residual.ensures.1
+    (λ stopped same. rw same (not_read out words c.in_err-image.field-0.0 c.in_err-image.ensures.refused))

@@ -1,53 +1,40 @@
-use Rattle.std.proofs.Common.{◌≡◌, ◌≤◌, ◌-◌, ℕ, List, ◌∷◌, ap, sym, subst, map, take, drop, length, arith}
-use Rattle.std.specs.Prelude.{get_or}
-use Rattle.std.specs.Borrow.{Bor}
-use Rattle.std.proofs.lemmas.List.{take_all}
-use Rattle.std.specs.Prelude.{IfSome}
-use Rattle.runner.specs.Task.{IsCommandLine, SpellsTask}
-use Rattle.runner.proofs.Options.{none_weaker}
+use Rattle.std.proofs.Common.{◌≡◌, ◌∙◌, Option, None, Some, ap, map, inl, inr, refl}
+use Rattle.std.specs.Prelude.{IfNone, IfSome, IfOk, IfErr}
+use Rattle.std.specs.Option.{ok_or}
+use Rattle.clap.specs.Words.{App, kind_of, takes}
+use Rattle.runner.specs.Status.{refusal_of_kind}
+use Rattle.runner.specs.declared.refusal.Refusal.TheVariants.{NoMemory, Words}
+use Rattle.runner.proofs.Options.{if_err}
+use Rattle.runner.proofs.Taken.{refused-by, if-err}
 use Rattle.runner.proofs.task.read_words.Goals as goal
 
-abbrev Word : Type 0
-Word = Bor (List ℕ)
+-- what holds of a value holds where it is had, and else there is this error
+ok_where : {T E : Type 0} (P : T → Type 0) (r : Option T) (e : E) → IfSome r P → IfOk (ok_or r e) P
+ok_where P None e holds = tt
+ok_where P (Some x) e holds = holds
 
-abbrev texts : List Word → List (List ℕ)
-texts = map (λ word. word.now)
+err_where : {T E : Type 0} (Q : Type 0) (r : Option T) (e : E) → IfNone r Q → IfErr (ok_or r e) (λ is. (is ≡ e) × Q)
+err_where Q None e holds = (refl, holds)
+err_where Q (Some x) e holds = tt
 
--- six words, and those behind them
-six : (words : List Word) (other : Word) → 6 ≤ length words
-    → texts words
-    ≡ (get_or words 0 other).now ∷ (get_or words 1 other).now ∷ (get_or words 2 other).now ∷ (get_or words 3 other).now
-    ∷ (get_or words 4 other).now ∷ (get_or words 5 other).now ∷ texts (take (length words - 6) (drop 6 words))
-six (a ∷ b ∷ c ∷ d ∷ e ∷ f ∷ rest) other many =
-    let all : take (length (a ∷ b ∷ c ∷ d ∷ e ∷ f ∷ rest) - 6) rest ≡ rest = take_all _ rest (omega arith) in
-    ap (λ behind. a.now ∷ b.now ∷ c.now ∷ d.now ∷ e.now ∷ f.now ∷ texts behind) (sym all)
-six _ other few = absurd (omega (arith, few))
+pub returns-clause-spelled : goal.returns-clause-spelled
+returns-clause-spelled c = rw c.ok_or.ensures.value (ok_where _ c.exactly.result Words c.exactly.ensures.task)
 
--- three words, and those behind them
-three : (words : List Word) (other : Word) → 3 ≤ length words
-    → texts words
-    ≡ (get_or words 0 other).now ∷ (get_or words 1 other).now ∷ (get_or words 2 other).now ∷ texts (take (length words - 3) (drop 3 words))
-three (a ∷ b ∷ c ∷ rest) other many =
-    let all : take (length (a ∷ b ∷ c ∷ rest) - 3) rest ≡ rest = take_all _ rest (omega arith) in
-    ap (λ behind. a.now ∷ b.now ∷ c.now ∷ texts behind) (sym all)
-three _ other few = absurd (omega (arith, few))
+pub returns-clause-refused : goal.returns-clause-refused
+returns-clause-refused c =
+    rw c.ok_or.ensures.value
+    (if_err (ok_or c.exactly.result Words) (λ refusal is. inr is) (err_where _ c.exactly.result Words c.exactly.ensures.none))
 
-pub returns-in-len3-up-clause-none : goal.returns-in-len3-up-clause-none
-returns-in-len3-up-clause-none c =
-    none_weaker c.script_task.result (λ never line. never (subst IsCommandLine (three c.args.words.now _ c.in-len3-up.len_at_least) line))
-    c.script_task.ensures.none
+pub returns-in_err-parser-clause-refused : goal.returns-in_err-parser-clause-refused
+returns-in_err-parser-clause-refused c =
+    if-err c.from_residual.result (λ refusal. refusal ≡ NoMemory) _ c.from_residual.ensures.1 (λ refusal is. inl is)
 
-pub returns-in-len6-up-clause-none : goal.returns-in-len6-up-clause-none
-returns-in-len6-up-clause-none c =
-    none_weaker c.format_task.result (λ never line. never (subst IsCommandLine (six c.args.words.now _ c.in-len6-up.len_at_least) line))
-    c.format_task.ensures.none
-
-pub returns-in-len3-up-clause-task : goal.returns-in-len3-up-clause-task
-returns-in-len3-up-clause-task c =
-    subst (λ (words : List (List ℕ)). IfSome c.script_task.result (SpellsTask words))
-    (sym (three c.args.words.now _ c.in-len3-up.len_at_least)) c.script_task.ensures.task
-
-pub returns-in-len6-up-clause-task : goal.returns-in-len6-up-clause-task
-returns-in-len6-up-clause-task c =
-    subst (λ (words : List (List ℕ)). IfSome c.format_task.result (SpellsTask words))
-    (sym (six c.args.words.now _ c.in-len6-up.len_at_least)) c.format_task.ensures.task
+pub returns-in_err-try_get_matches_from-clause-refused : goal.returns-in_err-try_get_matches_from-clause-refused
+returns-in_err-try_get_matches_from-clause-refused c =
+    let passes = c.in_err-try_get_matches_from.ensures.passes in
+    let words = map (λ word. word.now) c.args.words.now in
+    let parser_is = c.in_ok-parser.ensures in
+    let kind = kind_of c.in_err-try_get_matches_from.field-0.0 in
+    if-err c.from_residual-in_err-try_get_matches_from.result (λ refusal. refusal ≡ refusal_of_kind kind) _
+    c.from_residual-in_err-try_get_matches_from.ensures.1
+    (λ refusal is. refused-by words kind refusal is (λ taken. passes (ap (λ (a : App). takes a words) parser_is ∙ taken)))
