@@ -50,9 +50,9 @@
 extern "C" {
 #endif
 
-/* The version, 1.5.0: two bytes hold the first number, and one byte each of the others. The library
+/* The version, 1.6.0: two bytes hold the first number, and one byte each of the others. The library
  * tells its own. Where the two differ, header and library are not of one version. */
-#define USBDISK_VERSION 0x010500u
+#define USBDISK_VERSION 0x010600u
 
 uint32_t usbdisk_version(void);
 
@@ -195,9 +195,10 @@ uint32_t usbdisk_stop(struct usbdisk *disk);
  * over what the device gives. The buffer is the program's, who may have the device read it until
  * usbdisk_done: the library writes it in this call alone, and never keeps its address.
  *
- * Where nothing else is to be done, and no status is still to be told, it also tells WRITEs that
- * bring blocks of a disk home, 241 sectors at a time at most, so that the next forced WRITE finds
- * that done. None is a FLUSH.
+ * Where nothing else is to be done, and no status is still to be told, it also tells the WRITEs
+ * and the FLUSH that make a full batch of a disk durable, while the host fills the next one; and
+ * where none is full, WRITEs that bring blocks home, 241 sectors at a time at most, so that the next
+ * forced WRITE finds that done. None of these is a FLUSH.
  *
  * size: 512 for each sector that there is room for; 122,880 is enough for each run and each READ.
  *

@@ -12,7 +12,7 @@ use Rattle.spec.specs.declared.event.Event.TheVariants as event
 use Rattle.spec.specs.declared.event.Answer.TheVariants as answer
 use Rattle.bot_machine.specs.Disk.{over}
 use Rattle.bot_machine.specs.Faulting.{faulted_over}
-use Rattle.scsi_unit.specs.Background.{Work, Settle, Ahead}
+use Rattle.scsi_unit.specs.Background.{Work, Settle, Ahead, WriteBack}
 use Rattle.disk_machine.specs.Plays.{Disk}
 use Rattle.disk_machine.specs.Asking.{AsksFor, IsDone}
 use Rattle.disk_machine.specs.Steps.{StepsWhile}
@@ -226,7 +226,9 @@ idled old new (inr (free, makes, others)) on = stepped _ Settle makes.count old 
 
 gone_ahead : (old new : Machine) (gone : HasGoneAhead old new) → ServesOn old new → LivesOn old (turns_ahead old new gone) new
 gone_ahead old new (inl busy) on = nothing_changes old new busy.1
-gone_ahead old new (inr (rests, makes, others)) on = stepped _ Ahead makes.count old new makes.steps on
+gone_ahead old new (inr (rests, inl (some, writes), others)) on =
+    stepped _ WriteBack writes.count old new writes.steps on
+gone_ahead old new (inr (rests, inr (none, makes), others)) on = stepped _ Ahead makes.count old new makes.steps on
 
 looked : (old new : Machine) (first count : ℕ) (reads : Bool) → LooksAhead old first count new reads → LivesOn old [] new
 looked old new first count true looks =

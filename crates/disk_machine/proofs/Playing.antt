@@ -6,7 +6,7 @@ use Rattle.window.specs.Story.{given}
 use Rattle.window.specs.declared.call.DeviceCall.{DeviceCall}
 use Rattle.spec.specs.declared.event.Event.{Event}
 use Rattle.spec.specs.declared.event.Answer.{Answer}
-use Rattle.scsi_unit.specs.Background.{Work, Settle, Ahead}
+use Rattle.scsi_unit.specs.Background.{Work, Settle, Ahead, WriteBack}
 use Rattle.disk_machine.specs.Plays.{medium_of, PlaysBy, Disk, Plays, AnswersRequest}
 use Rattle.disk_machine.specs.Room.{room_for}
 use Rattle.disk_machine.specs.Machine.{Machine, under_way, Serves, has_refused}
@@ -289,4 +289,6 @@ idle_goes_on old new (inr made) = made_goes_on _ Settle made.1.count old new mad
 
 pub ahead_goes_on : (old new : Machine) → HasGoneAhead old new → GoesOn old new
 ahead_goes_on old new (inl busy) = subst (λ (s : Machine). GoesOn old s) (sym busy.1) (itself old)
-ahead_goes_on old new (inr made) = made_goes_on _ Ahead made.1.count old new made.1.steps made.2
+ahead_goes_on old new (inr (rests, inl (some, writes), others)) =
+    made_goes_on _ WriteBack writes.count old new writes.steps others
+ahead_goes_on old new (inr (rests, inr (none, makes), others)) = made_goes_on _ Ahead makes.count old new makes.steps others

@@ -1,5 +1,6 @@
 -- What a machine does in the background.
-use Rattle.std.specs.Prelude.{◌≡◌, ◌⊎◌, ◌↔◌, ℕ, zero, suc, ◌<◌, ◌≤◌, Bool, true, false, [], length}
+use Rattle.std.specs.Prelude.{◌≡◌, ◌≢◌, ◌⊎◌, ◌↔◌, ℕ, zero, suc, ◌<◌, ◌≤◌, Bool, true, false}
+use Rattle.std.specs.Prelude.{[], length}
 use Rattle.window.specs.Window.{state_of}
 use Rattle.scsi_unit.specs.Background.{Work, Settle, Ahead, WriteBack, is_dead, steps_left}
 use Rattle.scsi_unit.specs.Background.{IsSettled}
@@ -8,6 +9,7 @@ use Rattle.disk_machine.specs.Plays.{Disk, medium_of}
 use Rattle.disk_machine.specs.Machine.{Machine}
 use Rattle.disk_machine.specs.Moves.{ServesOn, KeepsGoing}
 use Rattle.disk_machine.specs.Packets.{is_reading}
+use Rattle.disk_machine.specs.PuttingOff.{WritesOn}
 use Rattle.disk_machine.specs.Steps.{StepsWhile}
 use Rattle.disk_machine.specs.declared.asked.Asked.TheVariants as asked
 use Rattle.disk_machine.specs.declared.lack.Lack.{Lack}
@@ -99,10 +101,16 @@ pub record IsResting (s : Machine) : Type 0 where
   pub nothing : is_waiting s.waiting ≡ false
   pub none_owed : owes_status s.disk.line.left ≡ false
 
--- steps ahead are made where the device rests
+-- The record of a frozen batch is written; where none is frozen, steps ahead are made.
+abbrev pub WorksAtRest : ℕ → Disk → Disk → Type 0
+WorksAtRest most old new =
+    ((old.unit.store.cached.frozen.numbers ≢ []) × WritesOn most false WriteBack old new)
+    ⊎ ((old.unit.store.cached.frozen.numbers ≡ []) × MakesAhead most old new)
+
+-- so it does where the device rests
 abbrev pub HasGoneAhead : Machine → Machine → Type 0
 HasGoneAhead old new = ((¬ IsResting old) × (new ≡ old))
-    ⊎ (IsResting old × MakesAhead old.most old.disk new.disk
+    ⊎ (IsResting old × WorksAtRest old.most old.disk new.disk
     × (new ≡ record old { disk = new.disk }))
 
 pub record WorksAhead (old new : Machine) : Type 0 where

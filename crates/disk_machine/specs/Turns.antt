@@ -10,9 +10,10 @@ use Rattle.spec.specs.declared.event.Event.TheVariants as event
 use Rattle.spec.specs.declared.event.Answer.{Answer}
 use Rattle.spec.specs.declared.event.Answer.TheVariants as answer
 use Rattle.bot_machine.specs.Faulting.{faulted_over}
-use Rattle.disk_machine.specs.Idling.{HasGoneAhead, HasStepped}
+use Rattle.disk_machine.specs.Idling.{HasGoneAhead, HasStepped, WorksAtRest}
 use Rattle.disk_machine.specs.Machine.{Machine}
 use Rattle.disk_machine.specs.Packets.{TakesOne, TakesOut, SendsIn}
+use Rattle.disk_machine.specs.Plays.{Disk}
 use Rattle.disk_machine.specs.PuttingOff.{WaitsForSteps, WaitsForCalls}
 use Rattle.disk_machine.specs.Transfers.{packet_at, TakesFirst, EndsTaking, TakesTransfer, SendsAt}
 use Rattle.disk_machine.specs.Transfers.{SendsFirst, EndsSending, SendsTransfer, SendsInto}
@@ -100,9 +101,14 @@ abbrev pub turns_idle : (old new : Machine) → HasStepped old new → List Turn
 turns_idle old new (inl held) = []
 turns_idle old new (inr (free, makes, others)) = ticks makes.count
 
+abbrev pub ticks_at_rest : (most : ℕ) (old new : Disk) → WorksAtRest most old new → List Turn
+ticks_at_rest most old new (inl (some, writes)) = ticks writes.count
+ticks_at_rest most old new (inr (none, makes)) = ticks makes.count
+
 abbrev pub turns_ahead : (old new : Machine) → HasGoneAhead old new → List Turn
 turns_ahead old new (inl busy) = []
-turns_ahead old new (inr (rests, makes, others)) = ticks makes.count
+turns_ahead old new (inr (rests, works, others)) =
+    ticks_at_rest old.most old.disk new.disk works
 
 -- ---- the turns of a transfer
 

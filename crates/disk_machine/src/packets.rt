@@ -33,7 +33,7 @@ impl DiskMachine {
             return NAK;
         }
         let promises = self.disk.promises(packet);
-        if self.puts_off(packet, promises) {
+        if self.put_off(packet, promises) {
             return NAK;
         }
         match self.lacks(packet) {

@@ -13,9 +13,10 @@ use window::WindowMedium;
 const MOST_WRITTEN: u32 = 256;
 
 impl DiskMachine {
-    // Whether a packet is put off, of which is known whether it promises: it asks for writes, and
-    // what is before them is not written, or calls wait. Steps that write it are made.
-    pub(crate) fn puts_off(&mut self, packet: &[u8], promises: bool) -> bool
+    // Puts a packet off, of which is known whether it promises, where it asks for writes and what
+    // is before them is not written, or calls wait: steps that write it are made. Whether it is put
+    // off.
+    pub(crate) fn put_off(&mut self, packet: &[u8], promises: bool) -> bool
         requires { MayBePlain self.old packet.now promises }
         ensures { TellsPutOff promises packet.now result self.old self.new }
     {
@@ -56,8 +57,8 @@ fn next_work(disk: &Disk<WindowMedium>, promises: bool) -> Option<Work>
     disk.work_for_room()
 }
 
-// Steps that work towards this, as long as the next one does and few calls wait.
-fn write_records(disk: &mut Disk<WindowMedium>, most: usize, promises: bool, work: Work)
+/// Steps that work towards this, as long as the next one does and few calls wait.
+pub(crate) fn write_records(disk: &mut Disk<WindowMedium>, most: usize, promises: bool, work: Work)
     ensures { WritesOn most promises work disk.old disk.new }
 {
     for _made in 0..MOST_WRITTEN {

@@ -1,10 +1,12 @@
 //! What a machine does while its device rests.
 ghost use Rattle.std.specs.Prelude.{◌≡◌, ◌↔◌, IsTrue};
-ghost use Rattle.disk_machine.specs.Idling.{HasGoneAhead, IsResting, MakesAhead, WorksAhead};
+ghost use Rattle.disk_machine.specs.Idling.{HasGoneAhead, IsResting, MakesAhead};
+ghost use Rattle.disk_machine.specs.Idling.{WorksAhead, WorksAtRest};
 
 use crate::asked::Asked;
 use crate::machine::DiskMachine;
 use crate::play::make_step;
+use crate::putting_off::write_records;
 use bot_machine::{Disk, Work};
 use medium::Medium;
 use window::WindowMedium;
@@ -14,10 +16,12 @@ use window::WindowMedium;
 const MOST_AHEAD: u32 = 241;
 
 impl DiskMachine {
-    /// Steps ahead of the next record, for when the device has nothing else to do: without a flush
-    /// the head goes past the oldest record that is flushed at home, and the blocks of the next go
-    /// home. None is made while the device is at a call, one waits for it, it is to read, a status
-    /// is still to be told, or something waits until it has carried out all.
+    /// Steps for when the device has nothing else to do. The record of a frozen batch is written,
+    /// so that the device is at work while the host fills the other batch. Where none is frozen the
+    /// steps go ahead of the next record: without a flush the head goes past the oldest record that
+    /// is flushed at home, and the blocks of the next go home. No step is made while the device is
+    /// at a call, one waits for it, it is to read, a status is still to be told, or something waits
+    /// until it has carried out all.
     pub fn work_ahead(&mut self)
         ensures { WorksAhead self.old self.new }
     {
@@ -29,7 +33,7 @@ impl DiskMachine {
         ensures { HasGoneAhead self.old self.new }
     {
         if self.is_resting() {
-            steps_ahead(&mut self.disk, self.most);
+            work_at_rest(&mut self.disk, self.most);
         }
     }
 
@@ -42,6 +46,17 @@ impl DiskMachine {
             && !self.is_wanted()
             && !self.is_waiting()
             && !self.disk.owes_status()
+    }
+}
+
+// The record of a frozen batch is written, and where none is frozen, steps ahead are made.
+fn work_at_rest(disk: &mut Disk<WindowMedium>, most: usize)
+    ensures { WorksAtRest most disk.old disk.new }
+{
+    if disk.has_free_batch() {
+        steps_ahead(disk, most);
+    } else {
+        write_records(disk, most, false, Work::WriteBack);
     }
 }
 

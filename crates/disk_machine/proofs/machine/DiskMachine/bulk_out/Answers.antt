@@ -5,7 +5,7 @@ use Rattle.disk_machine.specs.PuttingOff.{IsPromise}
 use Rattle.disk_machine.proofs.Playing.{out_serves}
 use Rattle.disk_machine.proofs.Handing.{reading_safe}
 use Rattle.disk_machine.proofs.machine.DiskMachine.bulk_out.Goals as goal
-use Rattle.disk_machine.proofs.machine.DiskMachine.bulk_out.Goals.{Else-holds_back, Else-puts_off, After-promises-promises}
+use Rattle.disk_machine.proofs.machine.DiskMachine.bulk_out.Goals.{Else-holds_back, Else-put_off, After-promises-promises}
 
 free : (c : Else-holds_back) → ¬ HoldsBack c.args.self.now
 free c held = false≢true (sym c.if-holds_back.false ∙ c.holds_back.ensures.1 held)
@@ -13,21 +13,21 @@ free c held = false≢true (sym c.if-holds_back.false ∙ c.holds_back.ensures.1
 told : (c : After-promises-promises) → IsPromise c.args.self.now c.args.packet.now c.promises-promises.result
 told c = record { none = c.promises-promises.ensures.no; some = c.promises-promises.ensures.yes }
 
-same : (c : Else-puts_off) → c.puts_off.new.self ≡ c.args.self.now
-same c = (c.puts_off.ensures.ready c.if-puts_off.false).1
+same : (c : Else-put_off) → c.put_off.new.self ≡ c.args.self.now
+same c = (c.put_off.ensures.ready c.if-put_off.false).1
 
-pub puts_off-requires : goal.puts_off-requires
-puts_off-requires c = (told (goal.at.puts_off-requires c).After-promises-promises).none
+pub put_off-requires : goal.put_off-requires
+put_off-requires c = (told (goal.at.put_off-requires c).After-promises-promises).none
 
 pub play-code-requires-clause-told : goal.play-code-requires-clause-told
 play-code-requires-clause-told c =
-    rw (same (goal.at.play-code-requires-clause-told c).Else-puts_off)
+    rw (same (goal.at.play-code-requires-clause-told c).Else-put_off)
     (told (goal.at.play-code-requires-clause-told c).After-promises-promises)
 
 pub returns-in-None : goal.returns-in-None
 returns-in-None c =
-    let is = same (goal.at.returns-in-None c).Else-puts_off in
-    let ready = (c.puts_off.ensures.ready c.if-puts_off.false).0 in
+    let is = same (goal.at.returns-in-None c).Else-put_off in
+    let ready = (c.put_off.ensures.ready c.if-put_off.false).0 in
     record {
       one = inr (
         omega arith,
@@ -40,7 +40,7 @@ returns-in-None c =
 
 pub returns-in-Some : goal.returns-in-Some
 returns-in-Some c =
-    let is = same (goal.at.returns-in-Some c).Else-puts_off in
+    let is = same (goal.at.returns-in-Some c).Else-put_off in
     let home = c.in-Some.home in
     record {
       one = inr (
@@ -52,17 +52,17 @@ returns-in-Some c =
       );
     }
 
-pub returns-then-puts_off : goal.returns-then-puts_off
-returns-then-puts_off c =
-    let off = c.puts_off.ensures.put_off c.if-puts_off.true in
+pub returns-then-put_off : goal.returns-then-put_off
+returns-then-put_off c =
+    let off = c.put_off.ensures.put_off c.if-put_off.true in
     record {
       one = inr (
         omega arith,
         inr (
-          free (goal.at.returns-then-puts_off c).Else-holds_back,
+          free (goal.at.returns-then-put_off c).Else-holds_back,
           inr (inr (record {
             promises = c.promises-promises.result;
-            told = told (goal.at.returns-then-puts_off c).After-promises-promises;
+            told = told (goal.at.returns-then-put_off c).After-promises-promises;
             loud = off.0;
             code_is = refl;
             waits = off.1;

@@ -8,8 +8,8 @@ use Rattle.disk_machine.specs.Refusals.{IsQuietPacket}
 use Rattle.disk_machine.proofs.PutOff.{plain_is_quiet, some_made, steps_fewer}
 use Rattle.disk_machine.proofs.Rooms.{some_book}
 use Rattle.disk_machine.proofs.Playing.{made_goes_on}
-use Rattle.disk_machine.proofs.machine.DiskMachine.puts_off.Goals as goal
-use Rattle.disk_machine.proofs.machine.DiskMachine.puts_off.Goals.{Else-is_quiet}
+use Rattle.disk_machine.proofs.machine.DiskMachine.put_off.Goals as goal
+use Rattle.disk_machine.proofs.machine.DiskMachine.put_off.Goals.{Else-is_quiet}
 
 -- the packet asks for writes
 loud : (c : Else-is_quiet) → ¬ IsQuietPacket c.args.self.now.disk c.args.packet.now
