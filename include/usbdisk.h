@@ -196,9 +196,9 @@ uint32_t usbdisk_stop(struct usbdisk *disk);
  * usbdisk_done: the library writes it in this call alone, and never keeps its address.
  *
  * Where nothing else is to be done, and no status is still to be told, it also tells the WRITEs
- * and the FLUSH that make a full batch of a disk durable, while the host fills the next one; and
- * where none is full, WRITEs that bring blocks home, 241 sectors at a time at most, so that the next
- * forced WRITE finds that done. None of these is a FLUSH.
+ * and the FLUSH that make a full batch durable, of a disk or a store, while the next one is filled;
+ * and where none is full, of a disk, WRITEs that bring blocks home, 241 sectors at a time at most,
+ * so that the next forced WRITE finds that done. None of these is a FLUSH.
  *
  * size: 512 for each sector that there is room for; 122,880 is enough for each run and each READ.
  *
@@ -351,10 +351,11 @@ uint32_t usbdisk_store_sizes(struct usbdisk *store, uint64_t *blocks, uint32_t *
 uint32_t usbdisk_store_read(struct usbdisk *store, uint64_t block, uint8_t *bytes, size_t size);
 
 /* Writes whole blocks, from `block` on: one write, of which a cut leaves all or nothing. The next
- * good sync promises it.
+ * good sync promises it. It is no call of the device, and is accepted while that works, as long as
+ * memory has room for it.
  *
- * Answers 0 where it is accepted; BUSY, and it is not; DEAD, and none of it is written: the store
- * was dead, or died in this call; a number from 1 to 10 where the start failed. Errors: EMPTY,
+ * Answers 0 where it is accepted; BUSY, and it is not: the batch before has to be written first;
+ * DEAD, and none of it is written: the store was dead, or died in this call; a number from 1 to 10 where the start failed. Errors: EMPTY,
  * OTHER_KIND, BAD_LENGTH and BAD_RANGE, as of usbdisk_store_read. */
 uint32_t usbdisk_store_write(struct usbdisk *store, uint64_t block, const uint8_t *bytes,
                              size_t size);

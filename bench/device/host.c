@@ -117,10 +117,12 @@ void start_disk(struct host *host)
         fail("no image");
     host->limit = host->format == 1 ? 48 : MOST;
     options.sectors = host->sectors;
-    if (usbdisk_start(&host->disk, &options))
+    if (host->is_store ? usbdisk_store_start(&host->disk, &options)
+                       : usbdisk_start(&host->disk, &options))
         fail("no disk");
     let_device_work(host);
-    request_sense(host);
+    if (!host->is_store)
+        request_sense(host);
 }
 
 void stop_disk(struct host *host)

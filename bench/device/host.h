@@ -11,6 +11,7 @@ struct host {
     uint8_t *device; /* the device's bytes */
     uint64_t sectors, slots;
     uint32_t format, limit;
+    bool is_store; /* it is a store, for a stack that has SCSI in it */
     void (*note)(struct host *host,
                  const struct usbdisk_call *call); /* of each call that is told */
 };
@@ -18,8 +19,8 @@ struct host {
 /* Says what is wrong, and ends the program. */
 void fail(const char *what);
 
-/* A disk on a fresh image of this format, whose unit attention was told, and whose device is at
- * rest. */
+/* A disk on a fresh image of this format, whose unit attention was told, or a store; its device is
+ * at rest. */
 void start_disk(struct host *host);
 
 void stop_disk(struct host *host);

@@ -105,7 +105,47 @@ static void receive_packet(struct linked *linked, size_t size)
     work_until(linked, linked->now + PACKET_TIME * (double)size / PACKET);
 }
 
-void play_linked(struct linked *linked, const struct command *command)
+static uint32_t call_store(struct host *host, const struct command *command)
+{
+    static uint8_t data[512 * MOST];
+    switch (command->code) {
+    case READ_10:
+        return usbdisk_store_read(&host->disk, command->address, data, 512 * command->blocks);
+    case WRITE_10:
+        return usbdisk_store_write(&host->disk, command->address, data, 512 * command->blocks);
+    default:
+        return usbdisk_store_sync(&host->disk);
+    }
+}
+
+/* A stack asks the store, as often as it is told BUSY. */
+static void ask_store(struct linked *linked, const struct command *command)
+{
+    uint32_t code;
+    while ((code = call_store(&linked->host, command)) == USBDISK_BUSY)
+        wait_for_device(linked);
+    if (code)
+        fail("a store fails");
+}
+
+/* The same command where a stack plays it on a store: data come before the store is asked for a
+ * write, and go behind a read. */
+static void play_stored(struct linked *linked, const struct command *command)
+{
+    static const struct command synchronize = { .code = SYNCHRONIZE_10 };
+    double began = linked->now + TURN, data = PACKET_TIME * command->blocks;
+    bool is_read = command->code == READ_10;
+    work_until(linked, began + (is_read ? 0 : data));
+    ask_store(linked, command);
+    if (command->is_forced)
+        ask_store(linked, &synchronize);
+    if (is_read) {
+        work_until(linked, linked->now + data);
+        linked->reads[linked->reads_played++] = linked->now - began;
+    }
+}
+
+static void play_wrapped(struct linked *linked, const struct command *command)
 {
     static const uint8_t data[PACKET];
     uint8_t wrapper[WRAPPER];
@@ -121,4 +161,12 @@ void play_linked(struct linked *linked, const struct command *command)
     receive_packet(linked, 13);
     if (is_read)
         linked->reads[linked->reads_played++] = linked->now - began;
+}
+
+void play_linked(struct linked *linked, const struct command *command)
+{
+    if (linked->host.is_store)
+        play_stored(linked, command);
+    else
+        play_wrapped(linked, command);
 }

@@ -35,7 +35,7 @@ struct linked {
     bool is_eager; /* steps in the background whenever the device has nothing to do */
 };
 
-/* Plays a command, from its wrapper to its status. */
+/* Plays a command, from its wrapper to its status; of a store what it asks for. */
 void play_linked(struct linked *linked, const struct command *command);
 
 /* Whatever waits for the device is carried out. */

@@ -1,6 +1,7 @@
 /* Prints how fast a host writes through a disk over a link, while its device works: by a model of a
- * link of 35 MB/s, and of an SD card and an eMMC. Beside it the same by a plain disk that promises
- * no order, written through, and written back as fast as link and device allow.
+ * link of 35 MB/s, and of an SD card and an eMMC; then the same of a store behind a stack that has
+ * SCSI in it. Beside it the same by a plain disk that promises no order, written through, and
+ * written back as fast as link and device allow.
  *
  * traffic [FORMAT [SLOTS]] */
 #include "draw.h"
@@ -98,36 +99,42 @@ static double slowest_read(struct linked *linked)
 }
 
 static void measure(const struct device_costs *costs, const struct traffic *traffic,
-                    uint32_t format, uint64_t slots)
+                    const struct host *host)
 {
     double reads[4000];
-    struct linked linked = { .host = { .format = format, .slots = slots },
-                             .costs = costs,
-                             .reads = reads };
+    struct linked linked = { .host = *host, .costs = costs, .reads = reads };
     seed = 88172645463325252u;
     start_disk(&linked.host);
-    play(&linked, traffic, 3 * (unsigned)slots + 40);
+    play(&linked, traffic, 3 * (unsigned)host->slots + 40);
     linked.worked = 0;
     linked.reads_played = 0;
     double began = linked.now;
     double blocks = play(&linked, traffic, traffic->commands);
     double took = linked.now - began;
-    printf("| %s | %s | %.2f | %.0f | %.2f | %.2f | %.1f |\n", costs->name, traffic->name,
-           512 * blocks / took, PERCENT * linked.worked / took, plain(costs, traffic, false),
+    printf("| %s | %s%s | %.2f | %.0f | %.2f | %.2f | %.1f |\n", costs->name,
+           host->is_store ? "store: " : "", traffic->name, 512 * blocks / took,
+           PERCENT * linked.worked / took, plain(costs, traffic, false),
            plain(costs, traffic, true), slowest_read(&linked));
     end_linked(&linked);
     stop_disk(&linked.host);
 }
 
+static void measure_all(const struct host *host)
+{
+    for (size_t i = 0; i < sizeof devices / sizeof *devices; i++)
+        for (size_t j = 0; j < sizeof traffics / sizeof *traffics; j++)
+            measure(&devices[i], &traffics[j], host);
+}
+
 int main(int count, char **words)
 {
-    uint32_t format = count > 1 ? (uint32_t)atoi(words[1]) : 2;
-    uint64_t slots = count > 2 ? (uint64_t)atoi(words[2]) : 6;
+    struct host host = { .format = count > 1 ? (uint32_t)atoi(words[1]) : 2,
+                         .slots = count > 2 ? (uint64_t)atoi(words[2]) : 6 };
     puts("| Device | Traffic | MB/s | The device works, in 100 | MB/s, a plain disk, through "
          "| MB/s, written back | READ, 99 of 100, ms |");
     puts("|---|---|---|---|---|---|---|");
-    for (size_t i = 0; i < sizeof devices / sizeof *devices; i++)
-        for (size_t j = 0; j < sizeof traffics / sizeof *traffics; j++)
-            measure(&devices[i], &traffics[j], format, slots);
+    measure_all(&host);
+    host.is_store = true;
+    measure_all(&host);
     return 0;
 }

@@ -37,7 +37,7 @@ static struct {
 } book;
 
 static struct {
-    uint64_t cuts, starting, stops, unflushed, writes, reads, syncs, busy, refused;
+    uint64_t cuts, starting, stops, unflushed, writes, behind, reads, syncs, busy, refused;
 } counts;
 
 /* ---- the device */
@@ -176,6 +176,7 @@ static void note_write(uint32_t number)
     history.writes[history.accepted++] = write;
     put(book.blocks, &write);
     counts.writes++;
+    counts.behind += device.call.kind != USBDISK_NOTHING;
 }
 
 static bool judge_good(const uint8_t *bytes, uint32_t number)
@@ -334,8 +335,9 @@ static bool play_lives(uint32_t format, uint64_t lives)
     printf(
         "  %lu cuts, %lu of a start; %lu stops with no cut, %lu of them with unflushed sectors\n",
         counts.cuts, counts.starting, counts.stops, counts.unflushed);
-    printf("  %lu writes, %lu reads, %lu syncs, %lu answers BUSY, %lu refusals\n", counts.writes,
-           counts.reads, counts.syncs, counts.busy, counts.refused);
+    printf("  %lu writes, %lu of them while the device worked; %lu reads, %lu syncs, %lu answers BUSY, "
+           "%lu refusals\n",
+           counts.writes, counts.behind, counts.reads, counts.syncs, counts.busy, counts.refused);
     return true;
 }
 

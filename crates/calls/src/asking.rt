@@ -36,7 +36,7 @@ impl Held {
         ACK
     }
 
-    // What the device is to do next. A disk works ahead before it is asked.
+    // What the device is to do next. A disk and a store work ahead before they are asked.
     fn ask(&mut self, buffer: &mut [u8]) -> DeviceAsk
         requires { ¬ IsNoRoom (length buffer.old) }
         ensures { Asks self.old.stage buffer.old result self.old self.new buffer.new }
@@ -48,7 +48,10 @@ impl Held {
                 disk.work_ahead();
                 disk.next(buffer)
             }
-            Stage::Store(store) => store.next(buffer),
+            Stage::Store(store) => {
+                store.work_ahead();
+                store.next(buffer)
+            }
             Stage::Image(image) => image.next(buffer),
             Stage::Failed(_) => DeviceAsk::Nothing,
         }

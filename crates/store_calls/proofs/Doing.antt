@@ -1,15 +1,16 @@
 -- What is done to a store whose device has carried out all.
-use Rattle.std.proofs.Common.{◌≡◌, ◌++◌, ℕ, true, false, List, [], ◌∷◌, length, inl, inr, refl, sym, ◌∙◌, ap, subst}
+use Rattle.std.proofs.Common.{◌≡◌, ◌++◌, ◌-◌, ℕ, true, false, List, [], ◌∷◌, length, inl, inr, refl, sym, ◌∙◌, ap, subst}
 use Rattle.std.proofs.Common.{arith, length-append}
 use Rattle.std.proofs.lemmas.List.{take-append-le, append-nil}
 use Rattle.medium.specs.Medium.{Image}
+use Rattle.window.specs.OutboxMedium.{sent}
 use Rattle.window.specs.Story.{given}
 use Rattle.window.specs.declared.call.DeviceCall.{DeviceCall}
 use Rattle.window.specs.Window as window
 use Rattle.window.specs.Window.{Window, mirror_of, ComesAfter, kept_out}
 use Rattle.spec.specs.Blocks.{Write, after}
 use Rattle.spec.specs.Book.{Book, with_write, promised}
-use Rattle.blocks.specs.Finding.{MayFind, Found, StandsAs}
+use Rattle.blocks.specs.Finding.{MayFind, StandsAs}
 use Rattle.blocks.specs.StoreValue.{Cached, is_dead, layout_of, unwritten, FitsBook}
 use Rattle.blocks.proofs.BookTurns.{settles}
 use Rattle.blocks.proofs.EmptyBatches.{none_of}
@@ -19,8 +20,8 @@ use Rattle.store_calls.specs.Idling.{IsShort}
 use Rattle.store_calls.specs.Rooms.{Appends, Foresees}
 use Rattle.store_calls.specs.WritingBack.{IsLeft, WritesBack}
 use Rattle.store_calls.specs.declared.writing_back.Aim.{Aim}
-use Rattle.store_calls.specs.Serving.{StaysSafe, LeavesSince, ServesAtRest, ServesOn, WaitsForDevice}
-use Rattle.store_calls.specs.StoreMachine.{Machine, IsCaughtUp, is_behind, under_way}
+use Rattle.store_calls.specs.Serving.{StaysSafe, LeavesNoMore, LeavesSince, ServesAtRest, ServesOn, WaitsForDevice}
+use Rattle.store_calls.specs.StoreMachine.{Machine, IsCaughtUp, LeavesOf, is_behind, under_way}
 use Rattle.store_calls.specs.Stores.{Store}
 use Rattle.window.specs.declared.ask.DeviceRead.{DeviceRead}
 use Rattle.store_calls.specs.Transfers.{IsDoneFree, Accepts, Waits, Promises, PutsOff}
@@ -84,24 +85,36 @@ more_found size book write image found = record {
   bound = omega (arith, found.bound, length-append book.writes (write ∷ []));
 }
 
-found_by : (size : ℕ) (book : Book) (write : Write) (image : Image) → Found size book write image
-    → MayFind size (with_write book write) image
-found_by size book write image (inl found) = more_found size book write image found
-found_by size book write image (inr found) = found
+-- what a loss of power leaves, by the medium and by what the device was asked
+abbrev LeavesBy : Window → Asked → Image → Type 0
+LeavesBy w a image = LeavesOf w.seen.told.opening (sent (mirror_of w)) (length w.seen.told.taken - under_way a) image
 
-pub accepts : (write : Write) (old new : Machine) → IsCaughtUp old → new ≡ record old { store = new.store }
-    → IsWritten write old.store new.store → Accepts write old new
-accepts write old new free others written =
-    let turn = written.keeps.turn in record {
-      done = done_free old new free others written.appends turn.goes_on.layout_stays;
-      written = written;
-      serves = λ book serves. record {
-        fits = turn.fits book serves.fits;
-        keeps = λ ours image left. subst (λ (n : ℕ). MayFind n (with_write book write) image) (sym turn.goes_on.size_stays)
-            (found_by (window.state_of old.store.medium).size book write image
-            ((turn.cuts book serves.fits ours).each image (since old new free others written.appends image left)));
-      };
-    }
+module _ (write : Write) (old new : Machine) (others : new ≡ record old { store = new.store })
+    (written : IsWritten write old.store new.store) (same : new.store.medium ≡ old.store.medium) where
+  asked_stays : new.asked ≡ old.asked
+  asked_stays = ap (λ (s : Machine). s.asked) others
+
+  no_more : LeavesNoMore old new
+  no_more image left = subst (λ (w : Window). LeavesBy w old.asked image) same
+      (subst (λ (a : Asked). LeavesBy new.store.medium a image) asked_stays left)
+
+  pub accepts : old.starting ≡ false → Accepts write old new
+  accepts started =
+      let turn = written.keeps.turn in record {
+        started = started;
+        others = others;
+        written = written;
+        leaves = no_more;
+        since = λ first since image left. subst (λ (w : Window). (window.state_of w).left_since (window.state_of first).calls image)
+            (sym same) (since image (no_more image left));
+        goes_on = keeps_going old new turn.goes_on.layout_stays (ap (λ (w : Window). w.room) same) (ap (λ (w : Window). w.near) same)
+            (λ before is. (λ i. is_behind (asked_stays i) (same i).outbox) ∙ before (sym (ap (λ (s : Machine). s.starting) others) ∙ is));
+        serves = λ book serves. record {
+          fits = turn.fits book serves.fits;
+          keeps = λ ours image left. subst (λ (n : ℕ). MayFind n (with_write book write) image) (sym turn.goes_on.size_stays)
+              (more_found (window.state_of old.store.medium).size book write image (serves.keeps ours image (no_more image left)));
+        };
+      }
 
 -- ---- a read
 

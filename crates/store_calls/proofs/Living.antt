@@ -2,7 +2,7 @@
 use Rattle.std.proofs.Common.{◌≡◌, inl, inr, [], ◌∷◌, List, ℕ, sym, subst}
 use Rattle.std.specs.Prelude.{Result, Ok, Err}
 use Rattle.spec.specs.Book.{Book}
-use Rattle.store_calls.specs.StoreLives.{Call, next, done, read, write, sync, idle, IsMade, book_after, LivesThrough}
+use Rattle.store_calls.specs.StoreLives.{Call, next, done, read, write, sync, idle, work_ahead, IsMade, book_after, LivesThrough}
 use Rattle.store_calls.specs.StoreMachine.{Machine, Serves}
 use Rattle.store_calls.specs.Serving.{ServesOn}
 use Rattle.store_calls.specs.Transfers.{Reads, Writes, Syncs}
@@ -24,10 +24,9 @@ write_on : (address : ℕ) (bytes : List ℕ) (result : Result (Unit {0}) StoreF
     → Writes address bytes old new result → (book : Book) → Serves old book → Serves new (book_after (write address bytes result) book)
 write_on address bytes (Ok tells) old new writes = writes.1.serves
 write_on address bytes (Err why) old new (inl not) = same old new not.1
-write_on address bytes (Err why) old new (inr may) = elim may.1 [
-  | inl busy ↦ same old new busy.2
-  | inr off ↦ off.2.serves
-]
+write_on address bytes (Err why) old new (inr (may, busy, inl starts)) = same old new starts.1
+write_on address bytes (Err why) old new (inr (may, busy, inr (started, wants, inl behind))) = same old new behind.1
+write_on address bytes (Err why) old new (inr (may, busy, inr (started, wants, inr off))) = off.serves
 
 sync_on : (result : Result (Unit {0}) StoreFault) (old new : Machine) → Syncs old new result
     → (book : Book) → Serves old book → Serves new (book_after (sync result) book)
@@ -51,6 +50,8 @@ one (read address room) old new made = read_on address old room new made.0 made.
 one (write address bytes result) old new made = write_on address bytes result old new made
 one (sync result) old new made = sync_on result old new made
 one idle old new made = idle_on old new made
+one work_ahead old new (inl busy) = same old new busy.1
+one work_ahead old new (inr (rests, free, writes, serves)) = serves
 
 pub serves_throughout : LivesThrough
 serves_throughout [] old new is = same old new is

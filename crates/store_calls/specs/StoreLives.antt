@@ -5,7 +5,7 @@ use Rattle.window.specs.declared.ask.DeviceAsk.{DeviceAsk}
 use Rattle.window.specs.declared.done_fault.DoneFault.{DoneFault}
 use Rattle.store_calls.specs.Asking.{TellsNext, Ends, IsHonest}
 use Rattle.store_calls.specs.StoreMachine.{Machine, Serves}
-use Rattle.store_calls.specs.Transfers.{Reads, Writes, Syncs, IdlesStore}
+use Rattle.store_calls.specs.Transfers.{Reads, Writes, Syncs, IdlesStore, WorksAhead}
 use Rattle.store_calls.specs.declared.store_fault.StoreFault.{StoreFault}
 
 -- a call, with what it is given, and how a write and a sync are answered
@@ -16,6 +16,7 @@ pub data Call : Type 0 where
   write : ℕ → List ℕ → Result (Unit {0}) StoreFault → Call
   sync : Result (Unit {0}) StoreFault → Call
   idle : Call
+  work_ahead : Call
 
 -- the call is made, as its contract says; what the device read is told as it is
 abbrev pub IsMade : Call → Machine → Machine → Type 0
@@ -28,6 +29,7 @@ IsMade (read address room) old new = (filled : List ℕ)
 IsMade (write address bytes result) old new = Writes address bytes old new result
 IsMade (sync result) old new = Syncs old new result
 IsMade idle old new = (left : Bool) × IdlesStore old new left
+IsMade work_ahead old new = WorksAhead old new
 
 abbrev pub AreMade : List Call → Machine → Machine → Type 0
 AreMade [] old new = new ≡ old
@@ -43,6 +45,7 @@ book_after (write address bytes (Err why)) book = book
 book_after (sync (Ok tells)) book = promised book
 book_after (sync (Err why)) book = book
 book_after idle book = book
+book_after work_ahead book = book
 
 abbrev pub books_after : List Call → Book → Book
 books_after [] book = book

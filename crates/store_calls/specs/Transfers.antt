@@ -1,7 +1,7 @@
 -- What reads, writes and syncs do to a machine, and the work in the background.
 use Rattle.std.specs.Prelude.{◌≡◌, ◌≢◌, ◌⊎◌, ℕ, ◌+◌, ◌/◌, ◌<◌, Bool, true, false, List, length}
 use Rattle.std.specs.Prelude.{None, Result, Ok, Err}
-use Rattle.window.specs.Window.{state_of}
+use Rattle.window.specs.Window.{Window, state_of}
 use Rattle.spec.specs.Blocks.{Write}
 use Rattle.spec.specs.Book.{Book, with_write, write_of, promised}
 use Rattle.blocks.specs.Book.{IsTransfer}
@@ -15,7 +15,8 @@ use Rattle.store_calls.specs.Asking.{to_read}
 use Rattle.store_calls.specs.Idling.{TellsLeft}
 use Rattle.store_calls.specs.WritingBack.{IsLeft, WritesBack}
 use Rattle.store_calls.specs.Rooms.{AreInSight, AreMissing}
-use Rattle.store_calls.specs.Serving.{LeavesSince, ServesOn, KeepsGoing, StaysSafe}
+use Rattle.store_calls.specs.Serving.{LeavesNoMore, LeavesSince, ServesOn, KeepsGoing}
+use Rattle.store_calls.specs.Serving.{StaysSafe}
 use Rattle.store_calls.specs.StoreMachine.{Machine, IsCaughtUp, Serves}
 use Rattle.store_calls.specs.declared.asked.Asked.{Asked}
 use Rattle.store_calls.specs.declared.asked.Asked.TheVariants as asked
@@ -108,25 +109,35 @@ pub record PutsOff (aim : Aim) (old new : Machine) : Type 0 where
 
 -- ---- a write
 
--- one write was accepted, whole
+-- One write was accepted, whole, wherever the device is: it has no more to do, and a loss of power
+-- leaves no more than before. The device has carried out what the start made.
 pub record Accepts (write : Write) (old new : Machine) : Type 0 where
-  pub done : IsDoneFree old new
+  pub started : old.starting ≡ false
+  pub others : new ≡ record old { store = new.store }
   pub written : IsWritten write old.store new.store
+  pub leaves : LeavesNoMore old new
+  pub since : (first : Window) → LeavesSince first old → LeavesSince first new
+  pub goes_on : KeepsGoing old new
   pub serves : (book : Book) → Serves old book → Serves new (with_write book write)
 
--- One write was accepted, by no call of the device. Or nothing has changed; or the store does not
--- take it at once, and steps are made that write the batch before it.
+-- A write that the store does not take at once waits for a device that is behind; else steps are
+-- made that write the batch before it.
+abbrev pub WaitsForBatch : Machine → Machine → Type 0
+WaitsForBatch old new = ((¬ IsCaughtUp old) × (new ≡ old)) ⊎ PutsOff aim.Batch old new
+
+-- One write was accepted, by no call of the device. Or nothing has changed: it may not be moved, or
+-- the device has not carried out what the start made. Or the store does not take it at once.
 abbrev pub Writes : ℕ → List ℕ → Machine → Machine → Result (Unit {0}) StoreFault → Type 0
 Writes address bytes old new (Ok done) = MayMove old.store.cached address (length bytes)
     × Accepts (write_of address bytes) old new
     × CostsWrite address (length bytes / 512) old.store new.store
 Writes address bytes old new (Err why) =
     (MayNot old.store.cached address (length bytes) why × (new ≡ old))
-    ⊎ (MayMove old.store.cached address (length bytes)
-    × (IsBusy old new why
-    ⊎ ((why ≡ fault.Busy)
+    ⊎ (MayMove old.store.cached address (length bytes) × (why ≡ fault.Busy)
+    × (((old.starting ≡ true) × (new ≡ old))
+    ⊎ ((old.starting ≡ false)
     × (¬ IsTakenAtOnce old.store.cached address (length bytes / 512))
-    × PutsOff aim.Batch old new)))
+    × WaitsForBatch old new)))
 
 -- ---- a sync
 
@@ -162,3 +173,10 @@ pub record IsIdle (s : Machine) : Type 0 where
 abbrev pub IdlesStore : Machine → Machine → Bool → Type 0
 IdlesStore old new left = ((¬ IsIdle old) × (left ≡ true) × (new ≡ old))
     ⊎ (IsIdle old × IsDoneFree old new × TellsLeft old.store new.store left × ServesOn old new)
+
+-- Where the device rests the record of the frozen batch is written, so that it is at work while the
+-- next writes come; else nothing changes.
+abbrev pub WorksAhead : Machine → Machine → Type 0
+WorksAhead old new = ((¬ IsIdle old) × (new ≡ old))
+    ⊎ (IsIdle old × IsDoneFree old new × WritesBack aim.Batch old.store new.store
+    × ServesOn old new)

@@ -18,6 +18,7 @@ mod outbox;
 mod parts;
 mod reading;
 mod refused;
+mod resting;
 mod room;
 mod run;
 mod sizes;

@@ -42,27 +42,29 @@ impl StoreMachine {
         }
     }
 
-    /// Writes 1 to `limit` blocks from a block on, as one write, by no call of the device. The next
-    /// good sync promises it.
+    /// Writes 1 to `limit` blocks from a block on, as one write, by no call of the device, which may
+    /// be behind. The next good sync promises it.
     ///
     /// # Errors
     /// `Length`, `Range` and `Dead` as `read`, and `Busy` where the device has not carried out all
-    /// that it was told: nothing changes at these. `Busy` also where the batch before has to become
-    /// a record: steps are made that write it, and each leaves fewer, so that the same call comes
-    /// to be taken once the device has carried them out.
+    /// that the start made: nothing changes at these. `Busy` also where the batch before has to
+    /// become a record. Where the device has carried out all that it was told, steps are made then
+    /// that write it, and each leaves fewer, so that the same call comes to be taken.
     pub fn write(&mut self, block: u64, bytes: &[u8]) -> Result<(), StoreFault>
         ensures { Writes block bytes.now self.old self.new result }
     {
         self.may_move(block, bytes.len())?;
-        if !self.is_caught_up() {
+        if self.starting {
             return Err(StoreFault::Busy);
         }
-        if !self.store.takes_at_once(block, bytes.len() / BLOCK) {
+        if self.store.takes_at_once(block, bytes.len() / BLOCK) {
+            put_blocks(&mut self.store, block, bytes);
+            return Ok(());
+        }
+        if self.is_caught_up() {
             write_records(&mut self.store, Aim::Batch);
-            return Err(StoreFault::Busy);
         }
-        put_blocks(&mut self.store, block, bytes);
-        Ok(())
+        Err(StoreFault::Busy)
     }
 
     /// Promises every accepted write, where each of them is durable and the device has nothing to
@@ -103,7 +105,7 @@ impl StoreMachine {
     }
 
     // Whether the device has carried out all, and no read waits for it.
-    fn is_idle(&self) -> bool
+    pub(crate) fn is_idle(&self) -> bool
         ensures { IsTrue result ↔ IsIdle self.now }
     {
         match self.lack {

@@ -1,0 +1,17 @@
+use Rattle.std.proofs.Common.{inr, refl, rules}
+use Rattle.store_calls.specs.StoreMachine.{Machine}
+use Rattle.store_calls.specs.Transfers.{IsIdle}
+use Rattle.store_calls.proofs.Doing.{done_free, turn_serves}
+use Rattle.store_calls.proofs.machine.StoreMachine.work_ahead.Goals as goal
+
+pub returns-then-is_idle : goal.returns-then-is_idle
+returns-then-is_idle c =
+    let rests : IsIdle c.args.self.now = search rules in
+    let writes = c.write_records.ensures in
+    let turn = writes.made.passes.turn in
+    let new : Machine = record c.args.self.now { store = c.write_records.new.store } in inr (
+      rests,
+      done_free c.args.self.now new rests.caught_up refl writes.appends turn.goes_on.layout_stays,
+      writes,
+      turn_serves c.args.self.now new rests.caught_up refl writes.appends turn,
+    )
